@@ -1,0 +1,9 @@
+pub mod Register
+pub mod Codes
+pub mod Opcode
+pub mod Fields
+pub mod Encoding
+pub mod Refusal
+pub mod Forms
+pub mod Words
+pub use Rattle.byteorder.specs.Endian

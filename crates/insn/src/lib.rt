@@ -1,0 +1,25 @@
+//! Instructions of the BPF instruction set and their encoding (RFC 9669, sections 3 to 5).
+#![tactic(auto)]
+
+mod condition;
+mod decoding;
+mod encoding;
+mod fields;
+mod instruction;
+mod opcode;
+mod operator;
+mod refusal;
+mod register;
+mod size;
+mod text;
+mod word;
+
+pub use condition::Condition;
+pub use decoding::{MAX_SLOTS, decode, refusals_are_unique, refused_bytes_encode_nothing};
+pub use encoding::{encode, encodings_are_unique, read_back};
+pub use instruction::{Insn, Operand};
+pub use operator::AluOp;
+pub use refusal::DecodeError;
+pub use register::Reg;
+pub use size::Size;
+pub use word::{alu, extended, holds, little_endian};

@@ -1,0 +1,4 @@
+pub mod Contents
+pub mod Walking
+pub mod Tracing
+pub mod Keeping

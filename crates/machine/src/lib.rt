@@ -1,0 +1,17 @@
+//! The frame that a datagram lies in, and the tagged run over it.
+#![tactic(auto)]
+
+mod context;
+mod frame;
+mod helpers;
+mod outcome;
+mod sink;
+mod tracing;
+mod walk;
+
+pub use context::{Addr, Context, Side};
+pub use frame::{Frame, HEADROOM, ROOM, TAILROOM};
+pub use helpers::{Helpers, NoAllocation};
+pub use outcome::{Outcome, Stuck};
+pub use sink::{KEPT, Kept, Lines, Silent, Sink};
+pub use tracing::trace;

@@ -1,0 +1,9 @@
+pub mod Fallible
+pub mod Machine
+pub mod Loading
+pub mod Effects
+pub mod Slots
+pub mod SlotLaws
+pub mod Runs
+pub mod LooseRuns
+pub mod Views

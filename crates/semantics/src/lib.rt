@@ -1,0 +1,16 @@
+//! What a program means: the tagged machine, in which each register knows what it holds, and a step
+//! that may not be taken is stuck, with its reason.
+#![tactic(auto)]
+
+mod effect;
+mod fetching;
+mod loading;
+mod memory;
+mod reason;
+mod value;
+
+pub use effect::{Effect, Registers, effect_of};
+pub use fetching::{Place, Visit, last_slot, place_at, target};
+pub use memory::Memory;
+pub use reason::Reason;
+pub use value::Value;

@@ -1,0 +1,122 @@
+//! What a load reads (RFC 9669, section 5.1).
+
+ghost use Rattle.std.specs.Prelude.{◌≡◌, ◌≤◌, ◌<◌, ◌+◌, ◌^◌, ℤ, ◌≤ℤ◌, ◌+ℤ◌, pos, negsuc, length, IfSome};
+ghost use Rattle.semantics.specs.Loading.{load, field, cells_number, index_within, part};
+ghost use Rattle.semantics.specs.Views.{memory_of};
+
+use crate::memory::Memory;
+use crate::reason::Reason;
+use crate::value::Value;
+use insn::{Size, little_endian};
+
+/// The first place of the stack.
+const STACK_FIRST: i64 = -512;
+/// The first place of the headroom.
+const HEADROOM_FIRST: i64 = -64;
+/// How many bytes follow the datagram.
+const TAILROOM: i64 = 3;
+
+/// The index of `n` items from the place `base + displacement` on, in a list that begins at the place
+/// `first`, where they lie at the places from `low` up to, and without, `high`.
+fn index_of(
+    base: i64,
+    displacement: i16,
+    n: usize,
+    first: i64,
+    low: i64,
+    high: i64,
+) -> Option<usize>
+    requires small { n ≤ 8 }
+    requires first { first ≤ℤ low }
+    requires low { negsuc 65535 ≤ℤ first }
+    requires lower { negsuc 65535 ≤ℤ high }
+    requires high { high ≤ℤ pos 131072 }
+    ensures { result ≡ index_within (base +ℤ displacement) n first low high }
+{
+    let place = base.checked_add(i64::from(displacement))?;
+    if low <= place && place <= high - n as i64 {
+        Some((place - first) as usize)
+    } else {
+        None
+    }
+}
+
+/// `n` items from an index on.
+fn part_of<T>(items: &[T], index: usize, n: usize) -> &[T]
+    requires { index + n ≤ length items.now }
+    ensures { result.now ≡ part n index items.now }
+{
+    let (_, rest) = items.split_at(index);
+    let (front, _) = rest.split_at(n);
+    front
+}
+
+/// The number in at most eight stack cells, the lowest first, if each holds a byte.
+fn number_of_cells(cells: &[Option<u8>]) -> Option<u64>
+    requires { length cells.now ≤ 8 }
+    ensures value { result ≡ cells_number cells.now }
+    ensures bound { IfSome result (λ n. n < 256 ^ length cells.now) }
+{
+    match cells {
+        [] => Some(0),
+        [first, rest @ ..] => {
+            let low = (*first)?;
+            let high = number_of_cells(rest)?;
+            Some(u64::from(low) + 256 * high)
+        }
+    }
+}
+
+/// The context's fields.
+fn field_of(displacement: i16, size: Size) -> Result<Value, Reason>
+    ensures { result ≡ field displacement size }
+{
+    match (displacement, size) {
+        (0, Size::Double) => Ok(Value::Data(0)),
+        (8, Size::Double) => Ok(Value::End),
+        _ => Err(Reason::ContextAccess),
+    }
+}
+
+/// The value that a load through `base` gives.
+///
+/// # Errors
+/// The reason for which the load is stuck.
+pub fn load(
+    memory: &Memory<'_>,
+    base: Value,
+    displacement: i16,
+    size: Size,
+) -> Result<Value, Reason>
+    ensures { result ≡ load (memory_of memory.now) base displacement size }
+{
+    let n = size.bytes();
+    match base {
+        Value::Nothing => Err(Reason::UninitRegister),
+        Value::Scalar(_) => Err(Reason::NotAPointer),
+        Value::Ctx => field_of(displacement, size),
+        Value::Stack(k) => {
+            let index = index_of(k, displacement, n, STACK_FIRST, STACK_FIRST, 0).ok_or(
+                Reason::StackBounds,
+            )?;
+            let number = number_of_cells(part_of(memory.stack, index, n)).ok_or(
+                Reason::UninitStack,
+            )?;
+            Ok(Value::Scalar(number))
+        }
+        Value::Data(k) => {
+            let end = memory.length as i64;
+            let index = index_of(k, displacement, n, HEADROOM_FIRST, HEADROOM_FIRST, end).ok_or(
+                Reason::DatagramBounds,
+            )?;
+            Ok(Value::Scalar(little_endian(part_of(memory.bytes, index, n))))
+        }
+        Value::End => {
+            let end = memory.length as i64;
+            let index = index_of(end, displacement, n, HEADROOM_FIRST, end, end + TAILROOM).ok_or(
+                Reason::DatagramBounds,
+            )?;
+            Ok(Value::Scalar(little_endian(part_of(memory.bytes, index, n))))
+        }
+    }
+}

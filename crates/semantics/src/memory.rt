@@ -1,0 +1,18 @@
+//! The memory of the tagged machine.
+
+ghost use Rattle.std.specs.Prelude.{◌≡◌, ◌≤◌, ◌+◌};
+ghost use Rattle.std.specs.Prelude.{length as count};
+
+/// What a program reaches by pointers.
+#[derive(Drop)]
+pub struct Memory<'a> {
+    /// The 512 cells of the stack, each a byte or nothing. The first is at place -512.
+    pub stack: &'a [Option<u8>],
+    /// Headroom, datagram and tailroom. The first byte is at place -64.
+    pub bytes: &'a [u8],
+    /// The datagram's length, at most 65,507.
+    pub length: usize,
+    ghost cells: { count stack.now ≡ 512 },
+    ghost surrounded: { count bytes.now ≡ 64 + length + 3 },
+    ghost short: { length ≤ 65507 },
+}

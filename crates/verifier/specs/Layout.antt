@@ -1,0 +1,88 @@
+-- The layout of a program: each jump leads to an instruction ahead, and the last instruction is the exit.
+use Rattle.std.specs.Prelude.{◌≡◌, ℕ, ◌<◌, ◌⊎◌, ℤ, List, Option, Some, None, Result, Ok, Err}
+use Rattle.insn.specs.declared.instruction.Insn.{Insn}
+use Rattle.insn.specs.declared.instruction.Insn.TheVariants.{Alu, Jump, JumpIf, Load, Exit}
+use Rattle.semantics.specs.Fallible.{◌>>=◌}
+use Rattle.semantics.specs.Slots.{place_at, target, last_slot}
+use Rattle.semantics.specs.declared.reason.Reason.{Reason}
+use Rattle.semantics.specs.declared.reason.Reason.TheVariants as reasons
+use Rattle.semantics.specs.declared.fetching.Place.{Place}
+use Rattle.semantics.specs.declared.fetching.Place.TheVariants.{Begins, Inside, Past}
+use Rattle.verifier.specs.declared.refusal.Refusal.{Refusal}
+use Rattle.verifier.specs.declared.refusal.Refusal.TheVariants as refusal
+
+-- the distance of a jump
+abbrev pub distance_of : Insn → Option ℤ
+distance_of (Alu op dst o) = None
+distance_of (Jump offset) = Some offset
+distance_of (JumpIf c dst o offset) = Some offset
+distance_of (Load z dst base d) = None
+distance_of Exit = None
+
+-- whether a jump of a distance leads to an instruction ahead
+abbrev pub distance_checked : List Insn → ℕ → Option ℤ → Result (Unit {0}) Reason
+distance_checked code slot None = Ok tt
+distance_checked code slot (Some d) = target code slot d >>= λ goal. Ok tt
+
+abbrev pub jump_checked : List Insn → ℕ → Insn → Result (Unit {0}) Reason
+jump_checked code slot i = distance_checked code slot (distance_of i)
+
+abbrev pub place_checked : List Insn → ℕ → Place → Result (Unit {0}) Reason
+place_checked code slot (Begins i) = jump_checked code slot i
+place_checked code slot Inside = Ok tt
+place_checked code slot Past = Ok tt
+
+-- the instruction that begins at a slot, if one does, is no faulty jump; or why it is
+abbrev pub slot_checked : List Insn → ℕ → Result (Unit {0}) Reason
+slot_checked code slot = place_checked code slot (place_at code slot)
+
+-- no jump is faulty
+abbrev pub HasGoodJumps : List Insn → Type 0
+HasGoodJumps code = (slot : ℕ) → slot_checked code slot ≡ Ok tt
+
+abbrev pub EndsInExit : List Insn → Type 0
+EndsInExit code = place_at code (last_slot code) ≡ Begins Exit
+
+pub record IsLaidOut (code : List Insn) : Type 0 where
+  pub jumps : HasGoodJumps code
+  pub exit : EndsInExit code
+
+-- the first faulty jump, in the order of slots
+pub record IsFirstFaultyJump (code : List Insn) (reason : Reason) (slot : ℕ) : Type 0 where
+  pub faulty : slot_checked code slot ≡ Err reason
+  pub first : (k : ℕ) → k < slot → slot_checked code k ≡ Ok tt
+
+-- no jump is faulty, and the program goes on past its last instruction
+pub record FallsOff (code : List Insn) (reason : Reason) (slot : ℕ) : Type 0 where
+  pub reason_is : reason ≡ reasons.FallsOffEnd
+  pub slot_is : slot ≡ last_slot code
+  pub jumps : HasGoodJumps code
+  pub no_exit : EndsInExit code → ⊥
+
+abbrev pub IsLayoutFault : List Insn → Reason → ℕ → Type 0
+IsLayoutFault code reason slot = IsFirstFaultyJump code reason slot ⊎ FallsOff code reason slot
+
+abbrev pub IsLayoutRefusal : List Insn → Refusal → Type 0
+IsLayoutRefusal code (refusal.Stuck reason slot) = IsLayoutFault code reason slot
+IsLayoutRefusal code (refusal.Budget slot) = ⊥
+IsLayoutRefusal code (refusal.Memory slot) = ⊥
+
+-- the reasons of the layout, and those of the steps on a path
+abbrev pub IsStepReason : Reason → Type 0
+IsStepReason reasons.JumpBackward = ⊥
+IsStepReason reasons.JumpOutside = ⊥
+IsStepReason reasons.JumpIntoWide = ⊥
+IsStepReason reasons.FallsOffEnd = ⊥
+IsStepReason reasons.UninitRegister = Unit {0}
+IsStepReason reasons.UninitStack = Unit {0}
+IsStepReason reasons.WritesFramePointer = Unit {0}
+IsStepReason reasons.StackBounds = Unit {0}
+IsStepReason reasons.ContextAccess = Unit {0}
+IsStepReason reasons.DatagramBounds = Unit {0}
+IsStepReason reasons.PointerArithmetic = Unit {0}
+IsStepReason reasons.PointerCompare = Unit {0}
+IsStepReason reasons.PointerStored = Unit {0}
+IsStepReason reasons.UnknownHelper = Unit {0}
+IsStepReason (reasons.HelperArgument k) = Unit {0}
+IsStepReason reasons.ExitNotScalar = Unit {0}
+IsStepReason reasons.NotAPointer = Unit {0}

@@ -1,0 +1,3 @@
+pub mod Layout
+pub mod Ways
+pub mod Walk

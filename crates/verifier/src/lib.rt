@@ -1,0 +1,13 @@
+//! The walk over all paths of a program, which accepts it or names the refusal.
+#![tactic(auto)]
+
+mod abstract_state;
+mod abstract_step;
+mod layout;
+mod refusal;
+mod steps;
+mod walk;
+
+pub use refusal::Refusal;
+pub use steps::Steps;
+pub use walk::{Verified, verify};
