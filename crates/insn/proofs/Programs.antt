@@ -1,7 +1,7 @@
 -- Whole programs: their encodings, and the first fault of bytes.
 use Rattle.std.proofs.Common.{◌≡◌, ℕ, ◌+◌, ◌*◌, ◌/◌, ◌%◌, ◌<◌, ◌≤◌, ◌⊎◌, inl, inr, List, [], ◌∷◌, ◌++◌, length, take, drop, get_or, slice_index, refl, sym, ap, ◌∙◌, subst, arith, append_assoc, pos, FitsSigned}
 use Rattle.std.specs.Int.{w16, w32}
-use Rattle.std.specs.Prelude.{IfOk, IfErr, MatchResult, Result, Ok, Err}
+use Rattle.std.specs.Prelude.{IfOk, IfErr, IsErrAnd, MatchResult, Result, Ok, Err}
 use Rattle.std.specs.Global.{Vec}
 use Rattle.std.proofs.lemmas.List.{length-append, length-drop, append-nil, get_or-take, take-append-drop, take_more, nil_from_length}
 use Rattle.insn.specs.Codes.{alu_code, condition_code, size_code}
@@ -263,6 +263,13 @@ pub only_program : (bytes : List ℕ) (r : Result (Vec Insn) DecodeError) → If
 only_program bytes (Ok v) found refused code encodes = encodings-injective v.items code found.fit encodes.fit (sym found.spelled ∙ encodes.spelled)
 only_program bytes (Err e) found (inl memory) code encodes = memory
 only_program bytes (Err e) found (inr refused) code encodes = absurd (refused_is_no_program bytes e code refused encodes)
+
+-- and its refusal is theirs, if they have one
+pub exact_refusal : (bytes : List ℕ) (r : Result (Vec Insn) DecodeError) → IfOk r (λ v. Encodes v.items bytes) → IfErr r (λ e. (e ≡ error.Memory) ⊎ IsRefused bytes e)
+    → (e : DecodeError) → IsRefused bytes e → IsErrAnd r (λ f. (f ≡ e) ⊎ (f ≡ error.Memory))
+exact_refusal bytes (Ok v) found refused e is = refused_is_no_program bytes e v.items is found
+exact_refusal bytes (Err f) found (inl memory) e is = inr memory
+exact_refusal bytes (Err f) found (inr refused) e is = inl (refusal_unique bytes f e refused is)
 
 -- ---- one slot, and the loop over all
 

@@ -7,3 +7,4 @@ pub mod Refusal
 pub mod Forms
 pub mod Words
 pub use Rattle.byteorder.specs.Endian
+pub use Rattle.byteorder.specs.Numbers

@@ -1,6 +1,6 @@
 //! From bytes to instructions.
 
-ghost use Rattle.std.specs.Prelude.{◌≡◌, ℕ, ◌≤◌, ◌%◌, ◌⊎◌, List, length, take, IfOk, IfErr, MatchResult};
+ghost use Rattle.std.specs.Prelude.{◌≡◌, ℕ, ◌≤◌, ◌%◌, ◌⊎◌, List, length, take, IfOk, IfErr, IsErrAnd, MatchResult};
 ghost use Rattle.insn.specs.Fields.{HaveRoom};
 ghost use Rattle.insn.specs.Encoding.{encoding, encodings, fields_of, Fits, AllFit, Encodes};
 ghost use Rattle.insn.specs.Refusal.{HasFault, IsFaulty, IsRefused};
@@ -110,6 +110,7 @@ pub fn decode(alloc: Global, bytes: &[u8]) -> Result<Vec<Insn>, DecodeError>
     ensures only { (code : List Insn) → Encodes code bytes.now
         → MatchResult result (λ v. v.items ≡ code) (λ e. e ≡ Memory) }
     ensures refused { IfErr result (λ e. (e ≡ Memory) ⊎ IsRefused bytes.now e) }
+    ensures exact { (e : DecodeError) → IsRefused bytes.now e → IsErrAnd result (λ f. (f ≡ e) ⊎ (f ≡ Memory)) }
 {
     if bytes.is_empty() {
         return Err(DecodeError::Empty);

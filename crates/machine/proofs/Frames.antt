@@ -1,16 +1,13 @@
 -- The bytes of a frame that was started.
 use Rattle.std.proofs.Common.{◌≡◌, ℕ, ◌+◌, ◌-◌, ◌≤◌, true, false, List, [], ◌∷◌, ◌++◌, length, take, drop, replicate, Option, None, refl, sym, ap, ◌∙◌, arith, append_assoc}
-use Rattle.std.proofs.lemmas.List.{length-append, length-take-le, length-drop, length-replicate, take_at, drop_at, take-append-drop}
+use Rattle.std.proofs.lemmas.List.{length-append, length-take-le, length-drop, take_at, drop_at, take-append-drop}
 use Rattle.std.proofs.lemmas.Slice.{drop-append-drop}
 use Rattle.std.proofs.Math.Seq.{take-append-add}
 use Rattle.semantics.specs.Machine.{Memory, Plan, headroom, surrounded, empty_stack, start, no_plan}
 use Rattle.semantics.specs.Runs.{Run}
+use Rattle.semantics.specs.StartLaws.{length-headroom, length-surrounded}
 use Rattle.machine.specs.Contents.{Contents, IsFrame, datagram_of}
 use Rattle.machine.specs.Tracing.{left_by}
-
-length-headroom : length headroom ≡ 64
-unfolding headroom
-length-headroom = let zero_byte : ℕ = 0 in length-replicate 64 zero_byte
 
 -- zeros before the datagram, and then behind it
 surround_is : (h z old middle new : List ℕ) (n : ℕ) → length h ≡ 64 → length z ≡ 3 → 67 + n ≤ length old → middle ≡ take 0 old ++ h ++ drop (0 + 64) old → new ≡ take (64 + n) middle ++ z ++ drop (64 + n + 3) middle
@@ -28,9 +25,6 @@ pub surrounded_is : (old middle new : List ℕ) (n : ℕ) → 67 + n ≤ length 
     → new ≡ surrounded (take n (drop 64 old)) ++ drop (67 + n) old
 unfolding headroom
 surrounded_is old middle new n long e f = surround_is headroom (0 ∷ 0 ∷ 0 ∷ []) old middle new n length-headroom refl long e f
-
-length-surrounded : (d : List ℕ) → length (surrounded d) ≡ 67 + length d
-length-surrounded d = omega (arith, length-append (headroom ++ d) (0 ∷ 0 ∷ 0 ∷ []), length-append headroom d, length-headroom)
 
 frame_long : (a b n all : ℕ) → all ≡ a + b → a ≡ 67 + n → b ≡ 65574 - (67 + n) → n ≤ 65507 → all ≡ 65574
 frame_long a b n all e f g short = omega arith
@@ -54,12 +48,12 @@ is_frame old area stack n long short empty e =
       inside = tt;
     }
 
-pub length-empty_stack : length empty_stack ≡ 512
-unfolding empty_stack
-length-empty_stack = let cell : Option ℕ = None in length-replicate 512 cell
-
 abbrev pub record_of : List (Option ℕ) → List ℕ → ℕ → Memory
 record_of cells bytes n = record { stack = cells; bytes = bytes; length = n }
+
+-- the datagram has the bytes that were told
+pub datagram_length : (area : List ℕ) (n : ℕ) → length area ≡ 65574 → n ≤ 65507 → length (take n (drop 64 area)) ≡ n
+datagram_length area n long short = length-take-le n (drop 64 area) (omega (arith, length-drop 64 area))
 
 -- the memory of a started frame is that of the start with its datagram
 pub memory_is : (area bytes : List ℕ) (stack cells : List (Option ℕ)) (n : ℕ) (window : Option (ℕ × ℕ)) → IsFrame area stack n true window → cells ≡ stack → bytes ≡ take (64 + n + 3) area

@@ -37,6 +37,10 @@ surroundings_of f answer = record { context = context_of f.context; answer = ans
 abbrev pub run_of : List Insn → Contents → (ℕ → ℕ → AddressRecord → ℕ × AddressRecord) → Run
 run_of code f answer = run (surroundings_of f answer) code (length code + 1) (start (datagram_of f))
 
+-- the run of a started frame, of at most as many steps as the program has instructions
+abbrev pub safe_run_of : List Insn → Contents → (ℕ → ℕ → AddressRecord → ℕ × AddressRecord) → Run
+safe_run_of code f answer = run (surroundings_of f answer) code (length code) (start (datagram_of f))
+
 -- an outcome tells a run that came to its exit
 pub record Tells (o : Outcome) (r : Run) : Type 0 where
   pub verdict : r.ending ≡ Exited o.verdict

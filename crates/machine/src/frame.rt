@@ -1,6 +1,6 @@
 //! The frame of a run.
 
-ghost use Rattle.std.specs.Prelude.{◌≡◌, ◌≤◌, ◌+◌, ◌++◌, None, length, take, drop, replicate, IfOk};
+ghost use Rattle.std.specs.Prelude.{◌≡◌, ◌≤◌, ◌+◌, ◌++◌, None, length, take, drop, replicate, IfOk, All, ◌<◌};
 ghost use Rattle.semantics.specs.Machine.{empty_stack, surrounded};
 
 use crate::context::{Addr, Context, Side};
@@ -72,8 +72,20 @@ fn surround(bytes: &mut [u8], n: usize)
     write_zeros(bytes, HEADROOM + n, TAILROOM);
 }
 
+/// The datagram of `n` bytes in an area.
+fn datagram_in(area: &[u8], n: usize) -> &[u8]
+    requires { 64 + n ≤ length area.now }
+    ensures bytes { result.now ≡ take n (drop 64 area.now) }
+    ensures fit { All (λ b. b < 256) result.now }
+{
+    let (_, bytes) = area.split_at(HEADROOM);
+    let (datagram, _) = bytes.split_at(n);
+    datagram
+}
+
 impl Frame {
     ghost use Rattle.std.specs.Prelude.{◌≡◌, ◌≤◌, false, None, length, IfOk, option_map, option_copied};
+    ghost use Rattle.semantics.specs.Runs.{IsDatagram};
     ghost use Rattle.machine.specs.Contents.{room_of, datagram_of, window_of, IsStartedOver};
 
     /// A frame with room for the longest datagram, not started.
@@ -113,13 +125,12 @@ impl Frame {
         self.is_started
     }
 
-    /// The datagram, as the last run left it.
+    /// The datagram, as the last run left it: at most 65,507 bytes.
     pub fn datagram(&self) -> &[u8]
-        ensures { result.now ≡ datagram_of self.now }
+        ensures bytes { result.now ≡ datagram_of self.now }
+        ensures short { IsDatagram (datagram_of self.now) }
     {
-        let (_, bytes) = self.area.split_at(HEADROOM);
-        let (datagram, _) = bytes.split_at(self.length);
-        datagram
+        datagram_in(&self.area, self.length)
     }
 
     /// The bytes of the window that the last run set, if it set one.

@@ -1,10 +1,12 @@
-//! The frame that a datagram lies in, and the tagged run over it.
+//! The frame that a datagram lies in, and the runs over it: of any program, which may be stuck, and of a
+//! verified one, which exits.
 #![tactic(auto)]
 
 mod context;
 mod frame;
 mod helpers;
 mod outcome;
+mod running;
 mod sink;
 mod tracing;
 mod walk;
@@ -13,5 +15,6 @@ pub use context::{Addr, Context, Side};
 pub use frame::{Frame, HEADROOM, ROOM, TAILROOM};
 pub use helpers::{Helpers, NoAllocation};
 pub use outcome::{Outcome, Stuck};
+pub use running::run;
 pub use sink::{KEPT, Kept, Lines, Silent, Sink};
 pub use tracing::trace;

@@ -4,6 +4,7 @@ ghost use Rattle.std.specs.Prelude.{◌≡◌, ◌≤◌, ◌+◌, ◌++◌, tru
 ghost use Rattle.insn.specs.Encoding.{slot_count};
 ghost use Rattle.semantics.specs.Machine.{start, surrounded};
 ghost use Rattle.semantics.specs.Runs as runs;
+ghost use Rattle.semantics.specs.Runs.{IsDatagram};
 ghost use Rattle.machine.specs.Contents.{datagram_of};
 ghost use Rattle.machine.specs.Tracing.{run_of, Tells, left_by};
 ghost use Rattle.machine.specs.Walking.{IsWholeRun};
@@ -17,17 +18,19 @@ use insn::Insn;
 use semantics::Memory;
 
 /// The run over a started frame's memory.
-fn walk_frame<S: Sink>(code: &[Insn], frame: &Frame, sink: &mut S) -> Walked
+pub(crate) fn walk_frame<S: Sink>(code: &[Insn], frame: &Frame, sink: &mut S) -> Walked
     requires few { length code.now ≤ 4096 }
     requires started { frame.now.is_started ≡ true }
+    ensures datagram { IsDatagram (datagram_of frame.now) }
     ensures around { frame.now.area ≡ surrounded (datagram_of frame.now) ++ drop (67 + frame.now.length) frame.now.area }
     ensures walked { IsWholeRun S.hears code.now (start (datagram_of frame.now)).memory (S.told sink.old) (S.told sink.new) result }
 {
-    let (bytes, _) = frame.area.split_at(HEADROOM + frame.length + TAILROOM);
+    let length = frame.datagram().len();
+    let (bytes, _) = frame.area.split_at(HEADROOM + length + TAILROOM);
     let memory = Memory {
         stack: frame.stack.as_slice(),
         bytes,
-        length: frame.length,
+        length,
     };
     walk(code, &memory, sink)
 }

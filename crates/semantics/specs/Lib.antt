@@ -1,9 +1,11 @@
 pub mod Fallible
 pub mod Machine
+pub mod StartLaws
 pub mod Loading
 pub mod Effects
 pub mod Slots
 pub mod SlotLaws
 pub mod Runs
+pub mod RunLaws
 pub mod LooseRuns
 pub mod Views

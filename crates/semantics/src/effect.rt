@@ -48,7 +48,11 @@ fn operand_value(registers: &Registers, operand: Operand) -> Result<Value, Reaso
     }
 }
 
-fn writable(dst: Reg) -> Result<(), Reason>
+/// Whether a register may be written: all but the frame pointer may.
+///
+/// # Errors
+/// `WritesFramePointer` for `r10`.
+pub fn writable(dst: Reg) -> Result<(), Reason>
     ensures { result ≡ writable dst }
 {
     if dst == Reg::R10 {
@@ -59,7 +63,7 @@ fn writable(dst: Reg) -> Result<(), Reason>
 }
 
 /// A place moved by a number that is read with its sign, if it stays near.
-fn moved_place(place: i64, by: u64) -> Option<i64>
+pub fn moved_place(place: i64, by: u64) -> Option<i64>
     ensures { result ≡ near_place (place +ℤ cast_signed w64 by) }
 {
     let moved = place.checked_add(by.cast_signed())?;

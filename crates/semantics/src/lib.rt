@@ -9,8 +9,9 @@ mod memory;
 mod reason;
 mod value;
 
-pub use effect::{Effect, Registers, effect_of};
+pub use effect::{Effect, Registers, effect_of, moved_place, writable};
 pub use fetching::{Place, Visit, last_slot, place_at, target};
+pub use loading::{HEADROOM_FIRST, TAILROOM, index_in_stack, is_within};
 pub use memory::Memory;
 pub use reason::Reason;
 pub use value::Value;

@@ -1,7 +1,7 @@
 //! What a load reads (RFC 9669, section 5.1).
 
 ghost use Rattle.std.specs.Prelude.{◌≡◌, ◌≤◌, ◌<◌, ◌+◌, ◌^◌, ℤ, ◌≤ℤ◌, ◌+ℤ◌, pos, negsuc, length, IfSome};
-ghost use Rattle.semantics.specs.Loading.{load, field, cells_number, index_within, part};
+ghost use Rattle.semantics.specs.Loading.{load, field, cells_number, is_within, index_within, stack_first, part};
 ghost use Rattle.semantics.specs.Views.{memory_of};
 
 use crate::memory::Memory;
@@ -10,11 +10,26 @@ use crate::value::Value;
 use insn::{Size, little_endian};
 
 /// The first place of the stack.
-const STACK_FIRST: i64 = -512;
+pub const STACK_FIRST: i64 = -512;
 /// The first place of the headroom.
-const HEADROOM_FIRST: i64 = -64;
+pub const HEADROOM_FIRST: i64 = -64;
 /// How many bytes follow the datagram.
-const TAILROOM: i64 = 3;
+pub const TAILROOM: i64 = 3;
+
+/// Whether `n` bytes from the place `base + displacement` on lie at the places from `low` up to, and
+/// without, `high`. Places are whole numbers: nothing wraps.
+pub fn is_within(base: i64, displacement: i16, n: usize, low: i64, high: i64) -> bool
+    requires { n ≤ 8 }
+    ensures { result ≡ is_within (base +ℤ displacement) n low high }
+{
+    let Some(place) = base.checked_add(i64::from(displacement)) else {
+        return false;
+    };
+    let Some(end) = place.checked_add(n as i64) else {
+        return false;
+    };
+    low <= place && end <= high
+}
 
 /// The index of `n` items from the place `base + displacement` on, in a list that begins at the place
 /// `first`, where they lie at the places from `low` up to, and without, `high`.
@@ -39,6 +54,15 @@ fn index_of(
     } else {
         None
     }
+}
+
+/// The index, among the 512 stack cells, of `n` bytes from the place `base + displacement` on, if they lie
+/// in the stack.
+pub fn index_in_stack(base: i64, displacement: i16, n: usize) -> Option<usize>
+    requires { n ≤ 8 }
+    ensures { result ≡ index_within (base +ℤ displacement) n stack_first stack_first (pos 0) }
+{
+    index_of(base, displacement, n, STACK_FIRST, STACK_FIRST, 0)
 }
 
 /// `n` items from an index on.
@@ -96,9 +120,7 @@ pub fn load(
         Value::Scalar(_) => Err(Reason::NotAPointer),
         Value::Ctx => field_of(displacement, size),
         Value::Stack(k) => {
-            let index = index_of(k, displacement, n, STACK_FIRST, STACK_FIRST, 0).ok_or(
-                Reason::StackBounds,
-            )?;
+            let index = index_in_stack(k, displacement, n).ok_or(Reason::StackBounds)?;
             let number = number_of_cells(part_of(memory.stack, index, n)).ok_or(
                 Reason::UninitStack,
             )?;

@@ -1,1 +1,12 @@
 pub mod Points
+pub mod Agreement
+pub mod Bounds
+pub mod LoadValues
+pub mod Ways
+pub mod Members
+pub mod Simulation
+pub mod Advancing
+pub mod Safety
+pub mod Reaching
+pub mod Counting
+pub mod Walking

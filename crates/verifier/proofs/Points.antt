@@ -16,7 +16,7 @@ use Rattle.verifier.specs.Walk.{IsInside}
 use Rattle.verifier.specs.declared.walk.Pending.{Pending}
 use Rattle.verifier.specs.Ways.{Ways, One, Two, Ends, ways_of}
 
-landing_ok : (p : Place) (g n : ℕ) → landing p g ≡ Ok n → (i : Insn) × (p ≡ Begins i) × (g ≡ n)
+pub landing_ok : (p : Place) (g n : ℕ) → landing p g ≡ Ok n → (i : Insn) × (p ≡ Begins i) × (g ≡ n)
 landing_ok (Begins i) g n e = (i, refl, cc)
 landing_ok Inside g n e = absurd cc
 landing_ok Past g n e = absurd cc

@@ -1,3 +1,8 @@
+pub mod AbstractStates
+pub mod AbstractSteps
+pub mod Membership
 pub mod Layout
 pub mod Ways
 pub mod Walk
+pub mod Refusing
+pub mod Goodness

@@ -1,9 +1,15 @@
--- What the walk keeps, and its refusals.
-use Rattle.std.specs.Prelude.{◌≡◌, ℕ, List}
+-- The walk over all paths: how it goes on from a step, and its refusals.
+use Rattle.std.specs.Prelude.{◌≡◌, ℕ, Bool, true, false, List, [], ◌∷◌, ◌++◌, Option, Some, None, Ok, Err}
+use Rattle.insn.specs.Encoding.{Fits}
 use Rattle.insn.specs.declared.instruction.Insn.{Insn}
 use Rattle.semantics.specs.Slots.{place_at}
+use Rattle.semantics.specs.LooseRuns.{way_slot}
+use Rattle.semantics.specs.declared.reason.Reason.{Reason}
 use Rattle.semantics.specs.declared.fetching.Place.TheVariants.{Begins}
-use Rattle.verifier.specs.Layout.{IsStepReason}
+use Rattle.verifier.specs.AbstractSteps.{step}
+use Rattle.verifier.specs.declared.abstract_state.AbstractState.{AbstractState}
+use Rattle.verifier.specs.declared.abstract_step.Next.{Next}
+use Rattle.verifier.specs.declared.abstract_step.Next.TheVariants as answer
 use Rattle.verifier.specs.declared.refusal.Refusal.{Refusal}
 use Rattle.verifier.specs.declared.refusal.Refusal.TheVariants as refusal
 use Rattle.verifier.specs.declared.walk.Pending.{Pending}
@@ -16,17 +22,49 @@ StartsAt code slot = (i : Insn) × (place_at code slot ≡ Begins i)
 abbrev pub IsInside : List Insn → Pending → Type 0
 IsInside code p = StartsAt code p.slot
 
--- a refusal of one step: the path's, or want of memory
-abbrev pub IsStepRefusal : Refusal → Type 0
-IsStepRefusal (refusal.Stuck reason slot) = IsStepReason reason
-IsStepRefusal (refusal.Budget slot) = ⊥
-IsStepRefusal (refusal.Memory slot) = Unit {0}
+-- the point that a way of the instruction at a slot leads to, with what is known there
+pub record IsPoint (code : List Insn) (here : ℕ) (i : Insn) (taken : Bool) (known : AbstractState) (p : Pending) : Type 0 where
+  pub leads : way_slot code here i taken ≡ Ok p.slot
+  pub state : p.state ≡ known
 
--- a refusal of the walk
-abbrev pub IsWalkRefusal : Refusal → Type 0
-IsWalkRefusal (refusal.Stuck reason slot) = IsStepReason reason
-IsWalkRefusal (refusal.Budget slot) = Unit {0}
-IsWalkRefusal (refusal.Memory slot) = Unit {0}
+-- what is followed next, and what is left pending: the way not taken comes first
+abbrev pub GoesOn : List Insn → ℕ → Insn → Next → Option Pending → List Pending → Type 0
+GoesOn code here i (answer.On known) (Some p) left = IsPoint code here i false known p × (left ≡ [])
+GoesOn code here i (answer.On known) None left = ⊥
+GoesOn code here i (answer.Fork not_taken taken) (Some p) left = IsPoint code here i false not_taken p × (q : Pending) × IsPoint code here i true taken q × (left ≡ q ∷ [])
+GoesOn code here i (answer.Fork not_taken taken) None left = ⊥
+GoesOn code here i answer.Exit (Some p) left = ⊥
+GoesOn code here i answer.Exit None left = left ≡ []
+
+-- one step of a path: its instruction is accepted, and the walk goes on so
+pub record Advances (code : List Insn) (here : Pending) (old : List Pending) (next : Option Pending) (new : List Pending) : Type 0 where
+  pub insn : Insn
+  pub begins : place_at code here.slot ≡ Begins insn
+  pub fits : Fits insn
+  pub accepted : Next
+  pub step_is : step here.state insn ≡ Ok accepted
+  pub left : List Pending
+  pub new_is : new ≡ old ++ left
+  pub goes_on : GoesOn code here.slot insn accepted next left
+
+-- the step at a point is refused for a reason
+pub record IsRefusedAt (code : List Insn) (here : Pending) (reason : Reason) : Type 0 where
+  pub insn : Insn
+  pub begins : place_at code here.slot ≡ Begins insn
+  pub fits : Fits insn
+  pub step_is : step here.state insn ≡ Err reason
+
+-- a refusal of one step: the path's, or want of memory
+abbrev pub IsStepRefusal : List Insn → Pending → Refusal → Type 0
+IsStepRefusal code here (refusal.Stuck reason slot) = (slot ≡ here.slot) × IsRefusedAt code here reason
+IsStepRefusal code here (refusal.Budget slot) = ⊥
+IsStepRefusal code here (refusal.Memory slot) = Unit {0}
+
+-- the point that is followed: the path at hand, or behind its exit the last one left pending
+abbrev pub Picks : Option Pending → List Pending → Option Pending → List Pending → Type 0
+Picks (Some p) old picked new = (picked ≡ Some p) × (new ≡ old)
+Picks None old (Some p) new = old ≡ new ++ p ∷ []
+Picks None old None new = (old ≡ []) × (new ≡ [])
 
 -- what holds where the budget was the refusal
 abbrev pub IfBudget : Refusal → Type 0 → Type 0

@@ -1,5 +1,8 @@
 //! What the verifier knows at a point of a path.
 
+ghost use Rattle.std.specs.Prelude.{◌≡◌, ◌+◌, ◌≤◌};
+ghost use Rattle.verifier.specs.AbstractStates.{number_alu, no_marks, is_marked, are_marked, first_known, with_known, with_proved};
+
 use insn::{AluOp, Reg, alu};
 
 /// What is known of a number: its value, or nothing. The interval domain takes its place.
@@ -11,7 +14,9 @@ pub enum Number {
 
 impl Number {
     /// What is known of the result of an operator.
-    pub fn alu(op: AluOp, a: Number, b: Number) -> Number {
+    pub fn alu(op: AluOp, a: Number, b: Number) -> Number
+        ensures { result ≡ number_alu op a b }
+    {
         match (a, b) {
             (Number::Exactly(a), Number::Exactly(b)) => Number::Exactly(alu(op, a, b)),
             _ => Number::Any,
@@ -32,8 +37,8 @@ pub enum Known {
     Nothing,
     Scalar(Number),
     Ctx,
-    Stack(i64),
-    Data { anchor: Anchor, offset: i64 },
+    Stack(i32),
+    Data { anchor: Anchor, offset: i32 },
     End,
 }
 
@@ -45,16 +50,33 @@ pub struct Marks {
 
 impl Marks {
     /// No byte is set.
-    pub fn none() -> Marks {
+    pub fn none() -> Marks
+        ensures { result ≡ no_marks }
+    {
         Marks { words: [0; 8] }
     }
 
     /// Whether a byte is set, by its index from the stack's first one; past the last none is.
-    pub fn is_set(&self, index: usize) -> bool {
+    pub fn is_set(&self, index: usize) -> bool
+        ensures { result ≡ is_marked self.now index }
+    {
         match self.words.get(index / 64) {
-            Some(word) => (*word >> (index % 64)) & 1 == 1,
+            Some(word) => (*word >> (index % 64)) % 2 == 1,
             None => false,
         }
+    }
+
+    /// Whether `n` bytes from an index on are set.
+    pub fn are_set(&self, index: usize, n: usize) -> bool
+        requires { index + n ≤ 512 }
+        ensures { result ≡ are_marked self.now index n }
+    {
+        for i in index..index + n {
+            if !self.is_set(i) {
+                return false;
+            }
+        }
+        true
     }
 }
 
@@ -69,7 +91,9 @@ pub struct AbstractState {
 
 impl AbstractState {
     /// What is known before the first instruction.
-    pub fn start() -> AbstractState {
+    pub fn start() -> AbstractState
+        ensures { result ≡ first_known }
+    {
         let mut registers = [Known::Nothing; 11];
         registers[1] = Known::Ctx;
         registers[10] = Known::Stack(0);
@@ -81,7 +105,9 @@ impl AbstractState {
     }
 
     /// The state with a register written.
-    pub fn with(self, reg: Reg, known: Known) -> AbstractState {
+    pub fn with(self, reg: Reg, known: Known) -> AbstractState
+        ensures { result ≡ with_known self reg known }
+    {
         let mut registers = self.registers;
         registers[reg.number() as usize] = known;
         AbstractState {
@@ -92,12 +118,19 @@ impl AbstractState {
     }
 
     /// The state where the datagram is known to have at least `bytes` bytes.
-    pub fn with_proved(self, bytes: i64) -> AbstractState {
+    pub fn with_proved(self, bytes: i64) -> AbstractState
+        ensures { result ≡ with_proved self bytes }
+    {
         let registers = self.registers;
+        let proved = if self.proved < bytes {
+            bytes
+        } else {
+            self.proved
+        };
         AbstractState {
             registers,
             marks: self.marks,
-            proved: self.proved.max(bytes),
+            proved,
         }
     }
 }

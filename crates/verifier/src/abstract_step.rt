@@ -1,12 +1,14 @@
 //! One step of what is known. The tests come in the order in which the tagged machine makes them.
 
-ghost use Rattle.std.specs.Prelude.{◌≡◌, IfOk, IfErr};
-ghost use Rattle.verifier.specs.Layout.{IsStepReason};
-ghost use Rattle.verifier.specs.Ways.{One, Two, Ends, ways_of, ways_on};
+ghost use Rattle.std.specs.Prelude.{◌≡◌};
+ghost use Rattle.semantics.specs.LooseRuns as loose;
+ghost use Rattle.verifier.specs.AbstractSteps.{read, operand_known, moved, sum_of, alu_step, order_told, compared, branch_step, field, load, load_step, exit_step, step};
 
 use crate::abstract_state::{AbstractState, Anchor, Known, Number};
 use insn::{AluOp, Condition, Insn, Operand, Reg, Size, extended};
-use semantics::Reason;
+use semantics::{
+    HEADROOM_FIRST, Reason, TAILROOM, index_in_stack, is_within, moved_place, writable,
+};
 
 /// What follows an accepted step.
 #[derive(Clone, Copy, Debug, PartialEq, Eq)]
@@ -22,17 +24,8 @@ pub enum Next {
     Exit,
 }
 
-/// The greatest offset of a pointer, to either side.
-const REACH: i64 = 1_048_576;
-
-const STACK_FIRST: i64 = -512;
-
-const HEADROOM_FIRST: i64 = -64;
-
-const TAILROOM: i64 = 3;
-
 fn read(state: &AbstractState, reg: Reg) -> Result<Known, Reason>
-    ensures { IfErr result IsStepReason }
+    ensures { result ≡ read state.now reg }
 {
     match state.registers[reg.number() as usize] {
         Known::Nothing => Err(Reason::UninitRegister),
@@ -41,7 +34,7 @@ fn read(state: &AbstractState, reg: Reg) -> Result<Known, Reason>
 }
 
 fn operand_known(state: &AbstractState, operand: Operand) -> Result<Known, Reason>
-    ensures { IfErr result IsStepReason }
+    ensures { result ≡ operand_known state.now operand }
 {
     match operand {
         Operand::Reg(reg) => read(state, reg),
@@ -49,28 +42,16 @@ fn operand_known(state: &AbstractState, operand: Operand) -> Result<Known, Reaso
     }
 }
 
-fn writable(dst: Reg) -> Result<(), Reason>
-    ensures { IfErr result IsStepReason }
-{
-    if dst == Reg::R10 {
-        Err(Reason::WritesFramePointer)
-    } else {
-        Ok(())
-    }
-}
-
 /// An offset moved by a known number, if it stays near.
-fn moved(offset: i64, by: u64) -> Result<i64, Reason>
-    ensures { IfErr result IsStepReason }
+fn moved(offset: i32, by: u64) -> Result<i32, Reason>
+    ensures { result ≡ moved offset by }
 {
-    match offset.checked_add(by.cast_signed()) {
-        Some(moved) if -REACH <= moved && moved <= REACH => Ok(moved),
-        _ => Err(Reason::PointerArithmetic),
-    }
+    let place = moved_place(i64::from(offset), by).ok_or(Reason::PointerArithmetic)?;
+    Ok(place as i32)
 }
 
 fn sum_of(a: Known, b: Known) -> Result<Known, Reason>
-    ensures { IfErr result IsStepReason }
+    ensures { result ≡ sum_of a b }
 {
     match (a, b) {
         (Known::Scalar(a), Known::Scalar(b)) => Ok(Known::Scalar(Number::alu(AluOp::Add, a, b))),
@@ -87,8 +68,7 @@ fn sum_of(a: Known, b: Known) -> Result<Known, Reason>
 }
 
 fn alu_step(state: &AbstractState, op: AluOp, dst: Reg, operand: Operand) -> Result<Next, Reason>
-    ensures ways { IfOk result (λ next. ways_on next ≡ One) }
-    ensures refused { IfErr result IsStepReason }
+    ensures { result ≡ alu_step state.now op dst operand }
 {
     match op {
         AluOp::Mov => {
@@ -114,11 +94,11 @@ struct Told {
 }
 
 /// What the ways of `offset CONDITION End` tell.
-fn told_first(condition: Condition, offset: i64) -> Result<Told, Reason>
-    ensures { IfErr result IsStepReason }
+fn told_first(condition: Condition, offset: i32) -> Result<Told, Reason>
+    ensures { result ≡ order_told condition (loose.told_first condition offset) }
 {
-    let at_most = offset;
-    let below = offset.saturating_add(1);
+    let at_most = i64::from(offset);
+    let below = at_most + 1;
     match condition {
         Condition::Gt => Ok(Told {
             not_taken: at_most,
@@ -141,8 +121,8 @@ fn told_first(condition: Condition, offset: i64) -> Result<Told, Reason>
 }
 
 /// What the ways of `End CONDITION offset` tell.
-fn told_second(condition: Condition, offset: i64) -> Result<Told, Reason>
-    ensures { IfErr result IsStepReason }
+fn told_second(condition: Condition, offset: i32) -> Result<Told, Reason>
+    ensures { result ≡ order_told condition (loose.told_second condition offset) }
 {
     match condition {
         Condition::Gt => told_first(Condition::Lt, offset),
@@ -154,7 +134,7 @@ fn told_second(condition: Condition, offset: i64) -> Result<Told, Reason>
 }
 
 fn compared(condition: Condition, a: Known, b: Known) -> Result<Told, Reason>
-    ensures { IfErr result IsStepReason }
+    ensures { result ≡ compared condition a b }
 {
     match (a, b) {
         (Known::Scalar(_), Known::Scalar(_)) => Ok(Told {
@@ -185,8 +165,7 @@ fn branch_step(
     dst: Reg,
     operand: Operand,
 ) -> Result<Next, Reason>
-    ensures ways { IfOk result (λ next. ways_on next ≡ Two) }
-    ensures refused { IfErr result IsStepReason }
+    ensures { result ≡ branch_step state.now condition dst operand }
 {
     let a = read(state, dst)?;
     let b = operand_known(state, operand)?;
@@ -197,22 +176,9 @@ fn branch_step(
     })
 }
 
-/// Whether `n` bytes from `base + displacement` on lie at the places from `low` up to, and without,
-/// `high`.
-fn is_within(base: i64, displacement: i16, n: usize, low: i64, high: i64) -> bool {
-    let end = base
-        .checked_add(i64::from(displacement))
-        .filter(|place| low <= *place)
-        .and_then(|place| place.checked_add(i64::try_from(n).ok()?));
-    match end {
-        Some(end) => end <= high,
-        None => false,
-    }
-}
-
 /// The context's fields.
 fn field(displacement: i16, size: Size) -> Result<Known, Reason>
-    ensures { IfErr result IsStepReason }
+    ensures { result ≡ field displacement size }
 {
     match (displacement, size) {
         (0, Size::Double) => Ok(Known::Data {
@@ -224,47 +190,42 @@ fn field(displacement: i16, size: Size) -> Result<Known, Reason>
     }
 }
 
-/// A load from the stack, where each byte has to be set.
-fn load_stack(
-    state: &AbstractState,
-    offset: i64,
-    displacement: i16,
-    n: usize,
-) -> Result<Known, Reason>
-    ensures { IfErr result IsStepReason }
-{
-    if !is_within(offset, displacement, n, STACK_FIRST, 0) {
-        return Err(Reason::StackBounds);
-    }
-    let place = offset.saturating_add(i64::from(displacement));
-    let index = usize::try_from(place.saturating_sub(STACK_FIRST)).unwrap_or(0);
-    for i in 0..n {
-        if !state.marks.is_set(index.saturating_add(i)) {
-            return Err(Reason::UninitStack);
-        }
-    }
-    Ok(Known::Scalar(Number::Any))
-}
-
 fn load(state: &AbstractState, base: Known, displacement: i16, size: Size) -> Result<Known, Reason>
-    ensures { IfErr result IsStepReason }
+    ensures { result ≡ load state.now base displacement size }
 {
     let n = size.bytes();
-    let (offset, low, high) = match base {
-        Known::Nothing => return Err(Reason::UninitRegister),
-        Known::Scalar(_) => return Err(Reason::NotAPointer),
+    let (is_good, reason) = match base {
+        Known::Nothing => (false, Reason::UninitRegister),
+        Known::Scalar(_) => (false, Reason::NotAPointer),
         Known::Ctx => return field(displacement, size),
-        Known::Stack(offset) => return load_stack(state, offset, displacement, n),
+        Known::Stack(offset) => {
+            let index = index_in_stack(i64::from(offset), displacement, n).ok_or(
+                Reason::StackBounds,
+            )?;
+            (state.marks.are_set(index, n), Reason::UninitStack)
+        }
         Known::Data {
             anchor: Anchor::First,
             offset,
-        } => (offset, HEADROOM_FIRST, state.proved),
-        Known::End => (0, 0, TAILROOM),
+        } => {
+            let is_inside = is_within(
+                i64::from(offset),
+                displacement,
+                n,
+                HEADROOM_FIRST,
+                state.proved,
+            );
+            (is_inside, Reason::DatagramBounds)
+        }
+        Known::End => (
+            is_within(0, displacement, n, 0, TAILROOM),
+            Reason::DatagramBounds,
+        ),
     };
-    if is_within(offset, displacement, n, low, high) {
+    if is_good {
         Ok(Known::Scalar(Number::Any))
     } else {
-        Err(Reason::DatagramBounds)
+        Err(reason)
     }
 }
 
@@ -275,8 +236,7 @@ fn load_step(
     base: Reg,
     displacement: i16,
 ) -> Result<Next, Reason>
-    ensures ways { IfOk result (λ next. ways_on next ≡ One) }
-    ensures refused { IfErr result IsStepReason }
+    ensures { result ≡ load_step state.now size dst base displacement }
 {
     let pointer = read(state, base)?;
     writable(dst)?;
@@ -285,8 +245,7 @@ fn load_step(
 }
 
 fn exit_step(state: &AbstractState) -> Result<Next, Reason>
-    ensures ways { IfOk result (λ next. ways_on next ≡ Ends) }
-    ensures refused { IfErr result IsStepReason }
+    ensures { result ≡ exit_step state.now }
 {
     match read(state, Reg::R0)? {
         Known::Scalar(_) => Ok(Next::Exit),
@@ -299,8 +258,7 @@ fn exit_step(state: &AbstractState) -> Result<Next, Reason>
 /// # Errors
 /// The reason for which some step from here could be stuck.
 pub fn step(state: &AbstractState, insn: &Insn) -> Result<Next, Reason>
-    ensures ways { IfOk result (λ next. ways_on next ≡ ways_of insn.now) }
-    ensures refused { IfErr result IsStepReason }
+    ensures { result ≡ step state.now insn.now }
 {
     match *insn {
         Insn::Alu { op, dst, operand } => alu_step(state, op, dst, operand),

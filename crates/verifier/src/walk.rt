@@ -1,12 +1,13 @@
 //! The walk: every path is followed from the first slot, the way not taken first.
 
-ghost use Rattle.std.specs.Prelude.{◌≡◌, ◌≤◌, ◌<◌, ◌+◌, ◌⊎◌, ℕ, List, length, IfOk, IfErr, OnOk, IsOk, IfSome, All};
+ghost use Rattle.std.specs.Prelude.{◌≡◌, ◌≤◌, ◌<◌, ◌+◌, ℕ, length, IfOk, IfErr, OnOk, IsOk};
 ghost use Rattle.insn.specs.Encoding.{slot_count};
-ghost use Rattle.insn.specs.declared.instruction.Insn.{Insn};
-ghost use Rattle.semantics.specs.Slots.{target};
+ghost use Rattle.semantics.specs.Runs.{IsSafe};
+ghost use Rattle.semantics.specs.LooseRuns.{way_slot};
 ghost use Rattle.semantics.specs.declared.reason.Reason.{Reason};
-ghost use Rattle.verifier.specs.Layout.{IsLaidOut, IsLayoutFault, IsStepReason};
-ghost use Rattle.verifier.specs.Walk.{IsStepRefusal, IsWalkRefusal, StartsAt, IsInside, IfBudget};
+ghost use Rattle.verifier.specs.Layout.{IsLaidOut, IsLayoutFault};
+ghost use Rattle.verifier.specs.Refusing.{MayRefuse};
+ghost use Rattle.verifier.specs.Walk.{IsStepRefusal, IsInside, IfBudget, Advances, Picks};
 
 use crate::abstract_state::AbstractState;
 use crate::abstract_step::{Next, step};
@@ -26,7 +27,7 @@ pub struct Pending {
     pub state: AbstractState,
 }
 
-/// A program that `verify` accepted. Nothing else can make one.
+/// A program that `verify` accepted: every run of it exits. Nothing else can make one.
 #[derive(Drop)]
 pub struct Verified {
     code: Vec<Insn>,
@@ -35,34 +36,42 @@ pub struct Verified {
 impl Model for Verified {
     ghost use Rattle.std.specs.Prelude.{List};
     ghost use Rattle.insn.specs.declared.instruction.Insn.{Insn};
-    ghost use Rattle.verifier.specs.Layout.{IsLaidOut};
+    ghost use Rattle.verifier.specs.Goodness.{IsVerified};
 
     ghost Value = { List Insn };
 
     ghost view = { λ v. v.code.items };
 
-    ghost invariant = { λ v. IsLaidOut v.code.items };
+    ghost invariant = { λ v. IsVerified v.code.items };
 }
 
 impl Verified {
-    ghost use Rattle.std.specs.Prelude.{◌≡◌};
+    ghost use Rattle.std.specs.Prelude.{◌≡◌, ◌≤◌};
+    ghost use Rattle.insn.specs.Encoding.{slot_count};
+    ghost use Rattle.semantics.specs.Runs.{IsSafe};
 
-    /// The program's instructions.
+    /// The program's instructions: from every start, a run of them exits within as many steps as they are.
     pub fn code(&self) -> &[Insn]
-        ensures { result.now ≡ self.now }
+        ensures code { result.now ≡ self.now }
+        ensures safe { IsSafe self.now }
+        ensures few { slot_count self.now ≤ 4096 }
     {
         self.code.as_slice()
     }
 }
 
-/// Where a jump of a program whose jumps are good leads.
-fn goal_of(code: &[Insn], slot: usize, offset: i16) -> usize
+/// The slot that a way of an instruction leads to, in a program whose jumps are good.
+fn slot_after(code: &[Insn], slot: usize, insn: Insn, taken: bool) -> usize
     requires few { length code.now ≤ 4096 }
     requires inside { slot < length code.now }
-    requires good { IsOk (target code.now slot offset) }
-    ensures { StartsAt code.now result }
+    requires good { IsOk (way_slot code.now slot insn taken) }
+    ensures { way_slot code.now slot insn taken ≡ Ok result }
 {
-    target(code, slot, offset).unwrap()
+    match insn {
+        Insn::Jump { offset } => target(code, slot, offset).unwrap(),
+        Insn::JumpIf { offset, .. } if taken => target(code, slot, offset).unwrap(),
+        _ => slot + insn.slots(),
+    }
 }
 
 /// One step of a path: what to follow next, or `None` at its exit. The way taken of a conditional jump
@@ -75,46 +84,37 @@ fn advance(
     requires few { length code.now ≤ 4096 }
     requires laid_out { IsLaidOut code.now }
     requires inside { IsInside code.now here }
-    requires pending { All (IsInside code.now) pending.old.items }
-    ensures next { IfOk result (λ next. IfSome next (IsInside code.now)) }
-    ensures pending { OnOk result (All (IsInside code.now) pending.new.items) }
-    ensures refused { IfErr result IsStepRefusal }
+    ensures advanced { IfOk result (λ next. Advances code.now here pending.old.items next pending.new.items) }
+    ensures refused { IfErr result (IsStepRefusal code.now here) }
 {
     let slot = here.slot;
     let Place::Begins(insn) = place_at(code, slot) else {
         unreachable!()
     };
     let next = step(&here.state, &insn).map_err(|reason| Refusal::Stuck { reason, slot })?;
-    match (next, insn) {
-        (Next::Exit, _) => Ok(None),
-        (Next::On(state), Insn::Jump { offset }) => {
-            let slot = goal_of(code, slot, offset);
+    match next {
+        Next::Exit => Ok(None),
+        Next::On(state) => {
+            let slot = slot_after(code, slot, insn, false);
             Ok(Some(Pending { slot, state }))
         }
-        (Next::On(state), _) => {
-            let slot = slot + insn.slots();
-            Ok(Some(Pending { slot, state }))
-        }
-        (Next::Fork { not_taken, taken }, Insn::JumpIf { offset, .. }) => {
-            let goal = Pending {
-                slot: goal_of(code, slot, offset),
+        Next::Fork { not_taken, taken } => {
+            let goal = slot_after(code, slot, insn, true);
+            let left = Pending {
+                slot: goal,
                 state: taken,
             };
-            pending.push(goal).map_err(|_| Refusal::Memory { slot })?;
-            let slot = slot + insn.slots();
-            Ok(Some(Pending {
-                slot,
-                state: not_taken,
-            }))
+            pending.push(left).map_err(|_| Refusal::Memory { slot })?;
+            let slot = slot_after(code, slot, insn, false);
+            let state = not_taken;
+            Ok(Some(Pending { slot, state }))
         }
-        (Next::Fork { .. }, _) => unreachable!(),
     }
 }
 
 /// What is followed next: the path at hand, or behind its exit the last way left pending.
 fn following(next: Option<Pending>, pending: &mut Vec<Pending>) -> Option<Pending>
-    ensures inside { (code : List Insn) → IfSome next (IsInside code) → All (IsInside code) pending.old.items
-        → IfSome result (IsInside code) × All (IsInside code) pending.new.items }
+    ensures { Picks next pending.old.items result pending.new.items }
 {
     match next {
         Some(next) => Some(next),
@@ -131,9 +131,10 @@ fn walk<L: Ledger>(
 ) -> Result<(), Refusal>
     requires few { length code.now ≤ 4096 }
     requires laid_out { IsLaidOut code.now }
+    ensures safe { OnOk result (IsSafe code.now) }
+    ensures refused { IfErr result (MayRefuse code.now budget) }
     ensures bound { steps.new ≤ steps.old + budget }
     ensures budget { IfErr result (λ e. IfBudget e (steps.new ≡ steps.old + budget)) }
-    ensures refused { IfErr result IsWalkRefusal }
 {
     let mut pending = Vec::new(alloc);
     let mut here = Pending {
@@ -166,13 +167,17 @@ pub fn verify<L: Ledger>(
     steps: &mut Steps<L>,
 ) -> Result<Verified, Refusal>
     requires { slot_count code.now ≤ 4096 }
-    ensures code { IfOk result (λ v. v ≡ code.now) }
 
-    // V1 to V4 come exactly where the layout has that fault.
+    // Accepted code is safe: from every start, every run exits.
+    ensures code { IfOk result (λ v. v ≡ code.now) }
+    ensures safe { OnOk result (IsSafe code.now) }
+
+    // V1 to V4 come exactly where the layout has that fault. Of the others, each that is claimed is a loose run
+    // stuck at that slot for that reason, and V17 comes only where the code has more beginnings of paths than
+    // the budget.
     ensures laid_out { OnOk result (IsLaidOut code.now) }
     ensures layout { (reason : Reason) (slot : ℕ) → IsLayoutFault code.now reason slot → result ≡ Err (Refusal.Stuck reason slot) }
-    ensures layout_only { (reason : Reason) (slot : ℕ) → result ≡ Err (Refusal.Stuck reason slot)
-        → IsStepReason reason ⊎ IsLayoutFault code.now reason slot }
+    ensures refused { IfErr result (MayRefuse code.now budget) }
 
     // At most `budget` steps are made, and V17 comes only after all of them.
     ensures bound { steps.new ≤ steps.old + budget }

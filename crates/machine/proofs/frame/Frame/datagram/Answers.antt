@@ -1,0 +1,15 @@
+use Rattle.std.proofs.Common.{◌≡◌, ◌<◌, ℕ, List, length, take, drop, sym, ap, ◌∙◌, subst, arith, All}
+use Rattle.machine.specs.Contents.{datagram_of}
+use Rattle.machine.proofs.Frames.{datagram_length}
+use Rattle.machine.proofs.frame.Frame.datagram.Goals as goal
+
+pub returns-clause-short : goal.returns-clause-short
+returns-clause-short c =
+    let shown : c.datagram_in.result.now ≡ datagram_of c.args.self.now =
+    c.datagram_in.ensures.bytes ∙ ap (λ (area : List ℕ). take c.self.inside.length (drop 64 area)) c.deref.ensures.value ∙ ap datagram_of c.self.view_is in
+    let size : length (datagram_of c.args.self.now) ≡ c.self.inside.length =
+    sym (ap (λ f. length (datagram_of f)) c.self.view_is) ∙ datagram_length c.self.inside.area.items c.self.inside.length c.self.invariant.long c.self.invariant.short in
+    record {
+      short = omega (arith, size, c.self.invariant.short);
+      bytes_fit = subst (All (λ b. b < 256)) shown c.datagram_in.ensures.fit;
+    }

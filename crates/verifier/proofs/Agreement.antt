@@ -1,0 +1,31 @@
+-- Answers that agree: what is known is answered where the machine goes on, and refused where it is stuck for the
+-- same reason, as far as that is claimed.
+use Rattle.std.proofs.Common.{◌≡◌, Result, Ok, Err, refl}
+use Rattle.semantics.specs.Fallible.{◌>>=◌}
+use Rattle.semantics.specs.declared.reason.Reason.{Reason}
+
+-- where an answer is known, the machine gives one that is related to it; a claimed refusal is the machine's own
+abbrev pub Agree : {A B : Type 0} → (Reason → Type 0) → (A → B → Type 0) → Result A Reason → Result B Reason → Type 0
+Agree claimed R (Ok x) (Ok y) = R x y
+Agree claimed R (Ok x) (Err e) = ⊥
+Agree claimed R (Err e) (Ok y) = claimed e → ⊥
+Agree claimed R (Err e) (Err f) = claimed e → e ≡ f
+
+-- a refusal that isn't claimed agrees with every answer
+pub unclaimed : {A B : Type 0} (claimed : Reason → Type 0) (R : A → B → Type 0) (e : Reason) (y : Result B Reason) → (claimed e → ⊥) → Agree claimed R (Err e) y
+unclaimed claimed R e (Ok y) free = free
+unclaimed claimed R e (Err f) free = λ c. absurd (free c)
+
+-- steps that agree, one after the other, agree
+pub and_then : {A B C D : Type 0} (claimed : Reason → Type 0) (R : A → B → Type 0) (S : C → D → Type 0) (x : Result A Reason) (y : Result B Reason) (f : A → Result C Reason) (g : B → Result D Reason)
+    → Agree claimed R x y → ((a : A) (b : B) → x ≡ Ok a → y ≡ Ok b → R a b → Agree claimed S (f a) (g b)) → Agree claimed S (x >>= f) (y >>= g)
+and_then claimed R S (Ok a) (Ok b) f g agree on = on a b refl refl agree
+and_then claimed R S (Ok a) (Err e) f g agree on = absurd agree
+and_then claimed R S (Err e) (Ok b) f g agree on = unclaimed claimed S e (g b) agree
+and_then claimed R S (Err e) (Err f') f g agree on = agree
+
+-- the same test on both sides
+pub same_test : {A B : Type 0} (claimed : Reason → Type 0) (S : A → B → Type 0) (x : Result (Unit {0}) Reason) (f : Result A Reason) (g : Result B Reason)
+    → Agree claimed S f g → Agree claimed S (x >>= λ u. f) (x >>= λ u. g)
+same_test claimed S (Ok u) f g agree = agree
+same_test claimed S (Err e) f g agree = λ c. refl

@@ -1,0 +1,210 @@
+-- Members stay members.
+use Rattle.std.proofs.Common.{◌≡◌, ℕ, zero, suc, ◌<◌, ◌^◌, ◌/◌, ◌%◌, Bool, true, false, ℤ, pos, ◌+ℤ◌, ◌≤ℤ◌, List, length, get_or, None, refl, sym, ap, ◌∙◌, subst, arith, All, inl, inr}
+use Rattle.std.specs.Prelude.{is_some, ◌==◌, int_lt, slice_index_or, slice_set, if◌then◌else◌}
+use Rattle.std.proofs.lemmas.Int.{ints}
+use Rattle.std.proofs.lemmas.Bool.{cases_eq, cases_lt}
+use Rattle.std.proofs.Math.Nat.{zero-div}
+use Rattle.std.proofs.lemmas.List.{get_or-set_other, length-set, get_or-replicate, get_or_past}
+use Rattle.std.proofs.lemmas.Grind.{get_or-set_at}
+use Rattle.insn.specs.Register.{number_of}
+use Rattle.insn.specs.declared.register.Reg.{Reg}
+use Rattle.insn.specs.declared.register.Reg.TheVariants as reg
+use Rattle.semantics.specs.Machine.{State, start, empty_stack}
+use Rattle.semantics.specs.StartLaws.{length-empty_stack, empty_cells, nothing_set, surrounded_fit}
+use Rattle.semantics.specs.Effects.{value_at}
+use Rattle.semantics.specs.Runs.{write_register}
+use Rattle.semantics.specs.LooseRuns.{SameKind, Loosens}
+use Rattle.semantics.specs.declared.value.Value.{Value}
+use Rattle.semantics.specs.declared.value.Value.TheVariants as value
+use Rattle.verifier.specs.AbstractStates.{known_at, is_marked, no_marks, first_known, with_known, with_proved}
+use Rattle.verifier.specs.Membership.{Places, IsNumberOf, IsHeld, IsValue, IsPlaceOf, IsMember, value_of}
+use Rattle.verifier.specs.declared.abstract_state.Number.TheVariants.{Exactly, Any}
+use Rattle.verifier.specs.declared.abstract_state.Anchor.{Anchor}
+use Rattle.verifier.specs.declared.abstract_state.Anchor.TheVariants.{First}
+use Rattle.verifier.specs.declared.abstract_state.Known.{Known}
+use Rattle.verifier.specs.declared.abstract_state.Known.TheVariants as known
+use Rattle.verifier.specs.declared.abstract_state.AbstractState.{AbstractState}
+
+-- ---- registers and what is proved
+
+held_value : (strict : Bool) (places : Places) (k : Known) (v : Value) → IsHeld places k v → IsValue strict places k v
+held_value strict places known.Nothing v h = absurd h.1
+held_value strict places (known.Scalar n) v h = h
+held_value strict places known.Ctx v h = h
+held_value strict places (known.Stack n) v h = h
+held_value strict places (known.Data anchor n) v h = h
+held_value strict places known.End v h = h
+
+in_eleven : (r : Reg) → number_of r < 11
+in_eleven reg.R0 = omega arith
+in_eleven reg.R1 = omega arith
+in_eleven reg.R2 = omega arith
+in_eleven reg.R3 = omega arith
+in_eleven reg.R4 = omega arith
+in_eleven reg.R5 = omega arith
+in_eleven reg.R6 = omega arith
+in_eleven reg.R7 = omega arith
+in_eleven reg.R8 = omega arith
+in_eleven reg.R9 = omega arith
+in_eleven reg.R10 = omega arith
+
+reach_more : (p proved n size : ℤ) (b : Bool) → p ≡ pos 0 → (p +ℤ proved) ≤ℤ size → n ≤ℤ size → (p +ℤ (if b then n else proved)) ≤ℤ size
+reach_more p proved n size true e h g = omega (arith, ints)
+reach_more p proved n size false e h g = h
+
+module _ (strict : Bool) (places : Places) (a : AbstractState) (s : State) (member : IsMember strict places a s) where
+  written_at : (r q : Reg) (k : Known) (v : Value) → IsHeld places k v → IsValue strict places (known_at (slice_set a.registers (number_of r) k) q) (value_at (slice_set s.registers (number_of r) v) q)
+  written_at r q k v held =
+      elim (cases_eq (number_of q) (number_of r)) [
+        | inl same ↦
+            let known_is : known_at (slice_set a.registers (number_of r) k) q ≡ k = get_or-set_at a.registers (number_of r) (number_of q) k known.Nothing same (omega (arith, in_eleven r, member.known_count)) in
+            let value_is : value_at (slice_set s.registers (number_of r) v) q ≡ v = get_or-set_at s.registers (number_of r) (number_of q) v value.Nothing same (omega (arith, in_eleven r, member.count)) in
+            subst (λ (x : Known). IsValue strict places x (value_at (slice_set s.registers (number_of r) v) q)) (sym known_is)
+            (subst (IsValue strict places k) (sym value_is) (held_value strict places k v held))
+        | inr other ↦
+            let known_is : known_at (slice_set a.registers (number_of r) k) q ≡ known_at a.registers q = get_or-set_other a.registers (number_of r) (number_of q) k known.Nothing other in
+            let value_is : value_at (slice_set s.registers (number_of r) v) q ≡ value_at s.registers q = get_or-set_other s.registers (number_of r) (number_of q) v value.Nothing other in
+            subst (λ (x : Known). IsValue strict places x (value_at (slice_set s.registers (number_of r) v) q)) (sym known_is)
+            (subst (IsValue strict places (known_at a.registers q)) (sym value_is) (member.registers q))
+      ]
+
+  -- a register is written
+  pub member_written : (r : Reg) (k : Known) (v : Value) (n : ℕ) → IsHeld places k v → IsMember strict places (with_known a r k) (record s { slot = n; registers = write_register s r v })
+  member_written r k v n held = record {
+    anchored = member.anchored;
+    reaches = member.reaches;
+    known_count = length-set a.registers (number_of r) k ∙ member.known_count;
+    count = length-set s.registers (number_of r) v ∙ member.count;
+    registers = λ q. written_at r q k v held;
+    cells = member.cells;
+    memory = member.memory;
+  }
+
+  -- a jump changes no more than the slot
+  pub member_moved : (n : ℕ) → IsMember strict places a (record s { slot = n })
+  member_moved n = record {
+    anchored = member.anchored;
+    reaches = member.reaches;
+    known_count = member.known_count;
+    count = member.count;
+    registers = member.registers;
+    cells = member.cells;
+    memory = member.memory;
+  }
+
+  -- more is known of the datagram's length
+  pub member_proved : (n : ℤ) (to : ℕ) → n ≤ℤ pos s.memory.length → IsMember strict places (with_proved a n) (record s { slot = to })
+  member_proved n to le = record {
+    anchored = member.anchored;
+    reaches = reach_more (places First) a.proved n (pos s.memory.length) (int_lt a.proved n) (member.anchored First) member.reaches le;
+    known_count = member.known_count;
+    count = member.count;
+    registers = member.registers;
+    cells = member.cells;
+    memory = member.memory;
+  }
+
+-- ---- the first state
+
+abbrev pub at_first : Places
+at_first anchor = pos 0
+
+zeros_at : (k : ℕ) → get_or no_marks.words k 0 ≡ 0
+zeros_at k = elim (cases_lt k 8) [
+  | inl lt ↦ let zero_word : ℕ = 0 in get_or-replicate 8 k zero_word 0 lt
+  | inr le ↦ get_or_past no_marks.words k 0 le
+]
+
+no_bit : (n : ℕ) → ((0 / n) % 2 == 1) ≡ false
+no_bit n = ap (λ (k : ℕ). k % 2 == 1) (zero-div n)
+
+unmarked : (i : ℕ) → is_marked no_marks i ≡ false
+unmarked i = ap (λ (w : ℕ). (w / 2 ^ (i % 64)) % 2 == 1) (zeros_at (i / 64)) ∙ no_bit (2 ^ (i % 64))
+
+first_registers_are : (strict : Bool) (d : List ℕ) (r : Reg) → IsValue strict at_first (known_at first_known.registers r) (value_at (start d).registers r)
+first_registers_are strict d reg.R0 = λ e. refl
+first_registers_are strict d reg.R1 = (0, tt, refl)
+first_registers_are strict d reg.R2 = λ e. refl
+first_registers_are strict d reg.R3 = λ e. refl
+first_registers_are strict d reg.R4 = λ e. refl
+first_registers_are strict d reg.R5 = λ e. refl
+first_registers_are strict d reg.R6 = λ e. refl
+first_registers_are strict d reg.R7 = λ e. refl
+first_registers_are strict d reg.R8 = λ e. refl
+first_registers_are strict d reg.R9 = λ e. refl
+first_registers_are strict d reg.R10 = (0, tt, refl)
+
+first_place : (anchor : Anchor) → IsPlaceOf anchor (at_first anchor)
+first_place First = refl
+
+marked_is_not : (marked : Bool) (cell : Bool) → marked ≡ false → marked ≡ true → cell ≡ true
+marked_is_not marked cell e f = let bad : false ≡ true = sym e ∙ f in absurd cc
+
+-- every start is a member of what is known before the first instruction
+pub first_member : (strict : Bool) (d : List ℕ) → All (λ b. b < 256) d → IsMember strict at_first first_known (start d)
+first_member strict d fit = record {
+  anchored = first_place;
+  reaches = omega (arith, ints);
+  known_count = refl;
+  count = refl;
+  registers = first_registers_are strict d;
+  cells = λ i lt. record {
+    held = marked_is_not (is_marked no_marks i) (is_some (get_or empty_stack i None)) (unmarked i);
+    no_other = λ e. nothing_set i lt ∙ sym (unmarked i);
+  };
+  memory = record { count = length-empty_stack; cells = empty_cells; bytes = surrounded_fit d fit };
+}
+
+-- ---- a member is one of its own loosenings
+
+reg_at : (n : ℕ) → n < 11 → (r : Reg) × (number_of r ≡ n)
+reg_at zero lt = (reg.R0, refl)
+reg_at (suc zero) lt = (reg.R1, refl)
+reg_at (suc (suc zero)) lt = (reg.R2, refl)
+reg_at (suc (suc (suc zero))) lt = (reg.R3, refl)
+reg_at (suc (suc (suc (suc zero)))) lt = (reg.R4, refl)
+reg_at (suc (suc (suc (suc (suc zero))))) lt = (reg.R5, refl)
+reg_at (suc (suc (suc (suc (suc (suc zero)))))) lt = (reg.R6, refl)
+reg_at (suc (suc (suc (suc (suc (suc (suc zero))))))) lt = (reg.R7, refl)
+reg_at (suc (suc (suc (suc (suc (suc (suc (suc zero)))))))) lt = (reg.R8, refl)
+reg_at (suc (suc (suc (suc (suc (suc (suc (suc (suc zero))))))))) lt = (reg.R9, refl)
+reg_at (suc (suc (suc (suc (suc (suc (suc (suc (suc (suc zero)))))))))) lt = (reg.R10, refl)
+reg_at (suc (suc (suc (suc (suc (suc (suc (suc (suc (suc (suc n))))))))))) lt = absurd (omega (arith, lt))
+
+kind_of : (places : Places) (k : Known) (n : ℕ) → IsNumberOf k n → SameKind (value_of places k n) (value_of places k n)
+kind_of places known.Nothing n h = refl
+kind_of places (known.Scalar (Exactly m)) n h = (n, h.1.fits, refl)
+kind_of places (known.Scalar Any) n h = (n, h.fits, refl)
+kind_of places known.Ctx n h = refl
+kind_of places (known.Stack k) n h = refl
+kind_of places (known.Data anchor k) n h = refl
+kind_of places known.End n h = refl
+
+held_kind : (places : Places) (k : Known) (v : Value) → IsHeld places k v → SameKind v v
+held_kind places k v h = subst (λ (u : Value). SameKind u u) (sym h.2) (kind_of places k h.0 h.1)
+
+same_kind : (places : Places) (k : Known) (v : Value) → IsValue true places k v → SameKind v v
+same_kind places known.Nothing v h = subst (λ (u : Value). SameKind u u) (sym (h refl)) refl
+same_kind places (known.Scalar n) v h = held_kind places (known.Scalar n) v h
+same_kind places known.Ctx v h = held_kind places known.Ctx v h
+same_kind places (known.Stack n) v h = held_kind places (known.Stack n) v h
+same_kind places (known.Data anchor n) v h = held_kind places (known.Data anchor n) v h
+same_kind places known.End v h = held_kind places known.End v h
+
+kinds_at : (places : Places) (a : AbstractState) (s : State) → IsMember true places a s → (n : ℕ) → n < length s.registers → SameKind (slice_index_or s.registers n value.Nothing) (slice_index_or s.registers n value.Nothing)
+kinds_at places a s member n lt =
+    let r = reg_at n (omega (arith, lt, member.count)) in
+    subst (λ (k : ℕ). SameKind (slice_index_or s.registers k value.Nothing) (slice_index_or s.registers k value.Nothing)) r.1 (same_kind places (known_at a.registers r.0) (value_at s.registers r.0) (member.registers r.0))
+
+pub loosens_itself : (places : Places) (a : AbstractState) (s : State) → IsMember true places a s → Loosens s s
+loosens_itself places a s member = record {
+  slot = refl;
+  count = refl;
+  registers = kinds_at places a s member;
+  cells = refl;
+  cells_fit = member.memory.cells;
+  bytes = refl;
+  bytes_fit = member.memory.bytes;
+  datagram = refl;
+  plan = refl;
+}

@@ -1,0 +1,314 @@
+-- What is known of an instruction agrees with what the machine does at each member.
+use Rattle.std.proofs.Common.{◌≡◌, ℕ, ◌+◌, Bool, true, false, ℤ, pos, negsuc, ◌+ℤ◌, ◌≤ℤ◌, List, Option, Some, None, Result, Ok, refl, sym, ap, ◌∙◌, subst, arith}
+use Rattle.std.specs.Prelude.{FitsSigned, if◌then◌else◌}
+use Rattle.std.specs.Option.{ok_or}
+use Rattle.std.specs.Int.{w32, w64, cast_signed, cast_unsigned}
+use Rattle.std.proofs.lemmas.Int.{ints}
+use Rattle.insn.specs.Codes.{byte_count}
+use Rattle.insn.specs.Encoding.{OperandFits, Fits, slots_of}
+use Rattle.insn.specs.Words.{alu}
+use Rattle.insn.specs.declared.register.Reg.{Reg}
+use Rattle.insn.specs.declared.register.Reg.TheVariants as reg
+use Rattle.insn.specs.declared.size.Size.{Size}
+use Rattle.insn.specs.declared.operator.AluOp.{AluOp}
+use Rattle.insn.specs.declared.operator.AluOp.TheVariants.{Add, Mov}
+use Rattle.insn.specs.declared.condition.Condition.{Condition}
+use Rattle.insn.specs.declared.instruction.Operand.{Operand}
+use Rattle.insn.specs.declared.instruction.Operand.TheVariants as operand
+use Rattle.insn.specs.declared.instruction.Insn.{Insn}
+use Rattle.insn.specs.declared.instruction.Insn.TheVariants as insn
+use Rattle.semantics.specs.Fallible.{◌>>=◌}
+use Rattle.semantics.specs.Machine.{State}
+use Rattle.semantics.specs.Effects as effects
+use Rattle.semantics.specs.Loading as loading
+use Rattle.semantics.specs.Effects.{value_at, near_place, writable}
+use Rattle.semantics.specs.LooseRuns.{told, way_effect, way_slot, IsTrueOf}
+use Rattle.semantics.specs.declared.reason.Reason.{Reason}
+use Rattle.semantics.specs.declared.reason.Reason.TheVariants.{UninitRegister, UninitStack, DatagramBounds, PointerArithmetic}
+use Rattle.semantics.specs.declared.value.Value.{Value}
+use Rattle.semantics.specs.declared.value.Value.TheVariants as value
+use Rattle.semantics.specs.declared.effect.Effect.{Effect}
+use Rattle.semantics.specs.declared.effect.Effect.TheVariants as effect
+use Rattle.verifier.specs.AbstractStates.{known_at, with_known, with_proved}
+use Rattle.verifier.specs.AbstractSteps as abstract
+use Rattle.verifier.specs.Refusing.{AddsRegister}
+use Rattle.verifier.specs.Membership.{Places, IsWord, IsNumberOf, IsHeld, IsValue, IsMember, value_of}
+use Rattle.verifier.specs.declared.abstract_state.Number.TheVariants.{Exactly, Any}
+use Rattle.verifier.specs.declared.abstract_state.Anchor.TheVariants.{First}
+use Rattle.verifier.specs.declared.abstract_state.Known.{Known}
+use Rattle.verifier.specs.declared.abstract_state.Known.TheVariants as known
+use Rattle.verifier.specs.declared.abstract_state.AbstractState.{AbstractState}
+use Rattle.verifier.specs.declared.abstract_step.Told.{Told}
+use Rattle.verifier.specs.declared.abstract_step.Next.{Next}
+use Rattle.verifier.specs.declared.abstract_step.Next.TheVariants as next
+use Rattle.verifier.proofs.Agreement.{Agree, unclaimed, and_then, same_test}
+use Rattle.verifier.proofs.Bounds.{Tells, first_agree, second_agree}
+use Rattle.verifier.proofs.LoadValues.{fields_agree, stack_agrees, datagram_agrees, tailroom_agrees, small_count}
+
+-- ---- words
+
+imm_word : (z : ℤ) → FitsSigned w32 z → IsWord (cast_unsigned w64 z)
+imm_word (pos n) fit = record { fits = omega (arith, ints) }
+imm_word (negsuc n) fit = record { fits = omega (arith, ints) }
+
+sum_word : (a b : ℕ) → IsWord (alu Add w64 a b)
+sum_word a b = record { fits = omega arith }
+
+-- ---- registers and operands
+
+no_scalar : (n : ℕ) → value.Scalar n ≡ value.Nothing → ⊥
+no_scalar n e = absurd cc
+
+no_ctx : value.Ctx ≡ value.Nothing → ⊥
+no_ctx e = absurd cc
+
+no_stack : (k : ℤ) → value.Stack k ≡ value.Nothing → ⊥
+no_stack k e = absurd cc
+
+no_data : (k : ℤ) → value.Data k ≡ value.Nothing → ⊥
+no_data k e = absurd cc
+
+no_end : value.End ≡ value.Nothing → ⊥
+no_end e = absurd cc
+
+module _ (claimed : Reason → Type 0) (strict : Bool) (places : Places) (uninit : claimed UninitRegister → strict ≡ true) where
+  held_agrees : (k : Known) (v : Value) → IsValue strict places k v → Agree claimed (IsHeld places) (abstract.held k) (effects.held v)
+  held_agrees known.Nothing value.Nothing h = λ c. refl
+  held_agrees known.Nothing (value.Scalar n) h = λ c. no_scalar n (h (uninit c))
+  held_agrees known.Nothing value.Ctx h = λ c. no_ctx (h (uninit c))
+  held_agrees known.Nothing (value.Stack k) h = λ c. no_stack k (h (uninit c))
+  held_agrees known.Nothing (value.Data k) h = λ c. no_data k (h (uninit c))
+  held_agrees known.Nothing value.End h = λ c. no_end (h (uninit c))
+  held_agrees (known.Scalar number) v h = subst (λ (u : Value). Agree claimed (IsHeld places) (Ok (known.Scalar number)) (effects.held u)) (sym h.2) (h.0, h.1, refl)
+  held_agrees known.Ctx v h = subst (λ (u : Value). Agree claimed (IsHeld places) (Ok known.Ctx) (effects.held u)) (sym h.2) (h.0, h.1, refl)
+  held_agrees (known.Stack k) v h = subst (λ (u : Value). Agree claimed (IsHeld places) (Ok (known.Stack k)) (effects.held u)) (sym h.2) (h.0, h.1, refl)
+  held_agrees (known.Data anchor k) v h = subst (λ (u : Value). Agree claimed (IsHeld places) (Ok (known.Data anchor k)) (effects.held u)) (sym h.2) (h.0, h.1, refl)
+  held_agrees known.End v h = subst (λ (u : Value). Agree claimed (IsHeld places) (Ok known.End) (effects.held u)) (sym h.2) (h.0, h.1, refl)
+
+  read_agrees : (a : AbstractState) (s : State) → IsMember strict places a s → (r : Reg) → Agree claimed (IsHeld places) (abstract.read a r) (effects.read s.registers r)
+  read_agrees a s member r = held_agrees (known_at a.registers r) (value_at s.registers r) (member.registers r)
+
+  operand_agrees : (a : AbstractState) (s : State) → IsMember strict places a s → (o : Operand) → OperandFits o → Agree claimed (IsHeld places) (abstract.operand_known a o) (effects.operand_value s.registers o)
+  operand_agrees a s member (operand.Reg r) fit = read_agrees a s member r
+  operand_agrees a s member (operand.Imm n) fit = (cast_unsigned w64 n, (refl, imm_word n fit), refl)
+
+-- ---- sums
+
+-- what is known is a single value, as far as numbers go
+abbrev IsSingle : Known → Type 0
+IsSingle (known.Scalar Any) = ⊥
+IsSingle (known.Scalar (Exactly n)) = Unit {0}
+IsSingle known.Nothing = Unit {0}
+IsSingle known.Ctx = Unit {0}
+IsSingle (known.Stack k) = Unit {0}
+IsSingle (known.Data anchor k) = Unit {0}
+IsSingle known.End = Unit {0}
+
+from_first : (p k : ℤ) → p ≡ pos 0 → (p +ℤ k) ≡ k
+from_first p k e = omega (arith, ints)
+
+module _ (claimed : Reason → Type 0) (places : Places) (first : places First ≡ pos 0) where
+  data_moved : (o : Option ℤ) → Agree claimed (IsHeld places) (ok_or o PointerArithmetic >>= λ place. Ok (known.Data First place)) (ok_or o PointerArithmetic >>= λ place. Ok (value.Data place))
+  data_moved None = λ c. refl
+  data_moved (Some place) = (0, tt, ap value.Data (sym (from_first (places First) place first)))
+
+  stack_moved : (o : Option ℤ) → Agree claimed (IsHeld places) (ok_or o PointerArithmetic >>= λ place. Ok (known.Stack place)) (ok_or o PointerArithmetic >>= λ place. Ok (value.Stack place))
+  stack_moved None = λ c. refl
+  stack_moved (Some place) = (0, tt, refl)
+
+  data_sum : (k p : ℤ) (m n : ℕ) → p ≡ k → n ≡ m → Agree claimed (IsHeld places) (abstract.sum_of (known.Data First k) (known.Scalar (Exactly m))) (effects.sum_of (value.Data p) (value.Scalar n))
+  data_sum k p m n e f =
+      let goal : Agree claimed (IsHeld places) (abstract.sum_of (known.Data First k) (known.Scalar (Exactly m))) (effects.sum_of (value.Data k) (value.Scalar m)) = data_moved (near_place (k +ℤ cast_signed w64 m)) in
+      subst (λ (q : ℤ). Agree claimed (IsHeld places) (abstract.sum_of (known.Data First k) (known.Scalar (Exactly m))) (effects.sum_of (value.Data q) (value.Scalar n))) (sym e)
+      (subst (λ (q : ℕ). Agree claimed (IsHeld places) (abstract.sum_of (known.Data First k) (known.Scalar (Exactly m))) (effects.sum_of (value.Data k) (value.Scalar q))) (sym f) goal)
+
+  stack_sum : (k : ℤ) (m n : ℕ) → n ≡ m → Agree claimed (IsHeld places) (abstract.sum_of (known.Stack k) (known.Scalar (Exactly m))) (effects.sum_of (value.Stack k) (value.Scalar n))
+  stack_sum k m n f =
+      let goal : Agree claimed (IsHeld places) (abstract.sum_of (known.Stack k) (known.Scalar (Exactly m))) (effects.sum_of (value.Stack k) (value.Scalar m)) = stack_moved (near_place (k +ℤ cast_signed w64 m)) in
+      subst (λ (q : ℕ). Agree claimed (IsHeld places) (abstract.sum_of (known.Stack k) (known.Scalar (Exactly m))) (effects.sum_of (value.Stack k) (value.Scalar q))) (sym f) goal
+
+  sums_agree : (x y : Known) (m n : ℕ) → IsNumberOf x m → IsNumberOf y n → (claimed PointerArithmetic → IsSingle y) → Agree claimed (IsHeld places) (abstract.sum_of x y) (effects.sum_of (value_of places x m) (value_of places y n))
+  sums_agree (known.Scalar (Exactly p)) (known.Scalar (Exactly q)) m n hx hy single = (alu Add w64 m n, (ap (λ (z : ℕ). alu Add w64 z n) hx.0 ∙ ap (alu Add w64 p) hy.0, sum_word m n), refl)
+  sums_agree (known.Scalar (Exactly p)) (known.Scalar Any) m n hx hy single = (alu Add w64 m n, sum_word m n, refl)
+  sums_agree (known.Scalar Any) (known.Scalar number) m n hx hy single = (alu Add w64 m n, sum_word m n, refl)
+  sums_agree (known.Data First k) (known.Scalar (Exactly q)) m n hx hy single = data_sum k (places First +ℤ k) q n (from_first (places First) k first) hy.0
+  sums_agree (known.Data First k) (known.Scalar Any) m n hx hy single = unclaimed claimed (IsHeld places) PointerArithmetic (effects.sum_of (value.Data (places First +ℤ k)) (value.Scalar n)) single
+  sums_agree (known.Stack k) (known.Scalar (Exactly q)) m n hx hy single = stack_sum k q n hy.0
+  sums_agree (known.Stack k) (known.Scalar Any) m n hx hy single = unclaimed claimed (IsHeld places) PointerArithmetic (effects.sum_of (value.Stack k) (value.Scalar n)) single
+  sums_agree x y m n hx hy single = λ c. refl
+
+  sum_held : (x y : Known) (u v : Value) → IsHeld places x u → IsHeld places y v → (claimed PointerArithmetic → IsSingle y) → Agree claimed (IsHeld places) (abstract.sum_of x y) (effects.sum_of u v)
+  sum_held x y u v hx hy single =
+      subst (λ (u' : Value). Agree claimed (IsHeld places) (abstract.sum_of x y) (effects.sum_of u' v)) (sym hx.2)
+      (subst (λ (v' : Value). Agree claimed (IsHeld places) (abstract.sum_of x y) (effects.sum_of (value_of places x hx.0) v')) (sym hy.2)
+      (sums_agree x y hx.0 hy.0 hx.1 hy.1 single))
+
+ok_is : (x y : Known) → ◌≡◌ {A = Result Known Reason} (Ok x) (Ok y) → x ≡ y
+ok_is x y e = cc
+
+-- ---- comparisons
+
+held_is : (v u : Value) → effects.held v ≡ Ok u → v ≡ u
+held_is value.Nothing u e = absurd cc
+held_is (value.Scalar n) u e = cc
+held_is value.Ctx u e = cc
+held_is (value.Stack k) u e = cc
+held_is (value.Data k) u e = cc
+held_is value.End u e = cc
+
+module _ (claimed : Reason → Type 0) (places : Places) (first : places First ≡ pos 0) (size : ℕ) where
+  comparisons_agree : (c : Condition) (x y : Known) (m n : ℕ) → IsNumberOf x m → IsNumberOf y n
+      → Agree claimed (Tells (told c (value_of places x m) (value_of places y n)) size) (abstract.compared c x y) (effects.compared size c (value_of places x m) (value_of places y n))
+  comparisons_agree c (known.Scalar p) (known.Scalar q) m n hx hy = (refl, tt)
+  comparisons_agree c (known.Data First k) known.End m n hx hy =
+      subst (λ (p : ℤ). Agree claimed (Tells (told c (value.Data p) value.End) size) (abstract.compared c (known.Data First k) known.End) (effects.compared size c (value.Data p) value.End)) (sym (from_first (places First) k first)) (first_agree claimed k size c)
+  comparisons_agree c known.End (known.Data First k) m n hx hy =
+      subst (λ (p : ℤ). Agree claimed (Tells (told c value.End (value.Data p)) size) (abstract.compared c known.End (known.Data First k)) (effects.compared size c value.End (value.Data p))) (sym (from_first (places First) k first)) (second_agree claimed k size c)
+  comparisons_agree c x y m n hx hy = λ claim. refl
+
+  comparison_held : (c : Condition) (x y : Known) (u v : Value) → IsHeld places x u → IsHeld places y v
+      → Agree claimed (Tells (told c u v) size) (abstract.compared c x y) (effects.compared size c u v)
+  comparison_held c x y u v hx hy =
+      subst (λ (u' : Value). Agree claimed (Tells (told c u' v) size) (abstract.compared c x y) (effects.compared size c u' v)) (sym hx.2)
+      (subst (λ (v' : Value). Agree claimed (Tells (told c (value_of places x hx.0) v') size) (abstract.compared c x y) (effects.compared size c (value_of places x hx.0) v')) (sym hy.2)
+      (comparisons_agree c x y hx.0 hy.0 hx.1 hy.1))
+
+-- ---- what follows
+
+-- both ways of a conditional jump, of which the machine takes one
+pub record Forks (a : AbstractState) (s : State) (i : Insn) (not_taken taken : AbstractState) (e : Effect) : Type 0 where
+  pub condition : Condition
+  pub dst : Reg
+  pub operand : Operand
+  pub offset : ℤ
+  pub jump : i ≡ insn.JumpIf condition dst operand offset
+  pub second : Value
+  pub operand_is : effects.operand_value s.registers operand ≡ Ok second
+  pub not_taken_is : not_taken ≡ with_proved a (abstract.bytes_told (told condition (value_at s.registers dst) second false))
+  pub taken_is : taken ≡ with_proved a (abstract.bytes_told (told condition (value_at s.registers dst) second true))
+  pub way : Bool
+  pub effect_is : e ≡ way_effect offset way
+  pub true_of : IsTrueOf (told condition (value_at s.registers dst) second way) s.memory.length
+
+-- each way leads to the next instruction
+abbrev pub GoesPast : Insn → Type 0
+GoesPast i = (code : List Insn) (slot : ℕ) → way_slot code slot i false ≡ Ok (slot + slots_of i)
+
+-- the effect of an instruction, and what is known after it
+abbrev pub Follows : Places → AbstractState → State → Insn → Next → Effect → Type 0
+Follows places a s i (next.On b) (effect.Write r v) = (known : Known) × (b ≡ with_known a r known) × IsHeld places known v × GoesPast i
+Follows places a s i (next.On b) (effect.Jump offset) = (b ≡ a) × (i ≡ insn.Jump offset)
+Follows places a s i (next.On b) effect.Pass = ⊥
+Follows places a s i (next.On b) (effect.Exit verdict) = ⊥
+Follows places a s i (next.Fork not_taken taken) e = Forks a s i not_taken taken e
+Follows places a s i next.Exit (effect.Exit verdict) = Unit {0}
+Follows places a s i next.Exit (effect.Write r v) = ⊥
+Follows places a s i next.Exit (effect.Jump offset) = ⊥
+Follows places a s i next.Exit effect.Pass = ⊥
+
+-- what of the refusals is claimed to be the machine's own
+pub record AreClaims (claimed : Reason → Type 0) (strict : Bool) (a : AbstractState) (s : State) (i : Insn) : Type 0 where
+  pub registers : claimed UninitRegister → strict ≡ true
+  pub cells : claimed UninitStack → strict ≡ true
+  pub bounds : claimed DatagramBounds → pos s.memory.length ≡ a.proved
+  pub arithmetic : claimed PointerArithmetic → AddsRegister i → ⊥
+
+reach_is : (p proved size : ℤ) → p ≡ pos 0 → (p +ℤ proved) ≤ℤ size → proved ≤ℤ size
+reach_is p proved size e h = omega (arith, ints)
+
+module _ (claimed : Reason → Type 0) (strict : Bool) (places : Places) (a : AbstractState) (s : State) (member : IsMember strict places a s) where
+  first : places First ≡ pos 0
+  first = member.anchored First
+
+  single_operand : (o : Operand) (dst : Reg) → AreClaims claimed strict a s (insn.Alu Add dst o) → (y : Known) → abstract.operand_known a o ≡ Ok y → claimed PointerArithmetic → IsSingle y
+  single_operand (operand.Reg r) dst claims y e c = absurd (claims.arithmetic c tt)
+  single_operand (operand.Imm n) dst claims y e c = subst IsSingle (ok_is (known.Scalar (Exactly (cast_unsigned w64 n))) y e) tt
+
+  alu_agrees : (op : AluOp) (dst : Reg) (o : Operand) → OperandFits o → AreClaims claimed strict a s (insn.Alu op dst o)
+      → Agree claimed (Follows places a s (insn.Alu op dst o)) (abstract.alu_step a op dst o) (effects.alu_effect s.registers op dst o)
+  alu_agrees Mov dst o fit claims =
+      and_then claimed (IsHeld places) (Follows places a s (insn.Alu Mov dst o)) (abstract.operand_known a o) (effects.operand_value s.registers o) _ _
+      (operand_agrees claimed strict places claims.registers a s member o fit)
+      (λ k v p q held. same_test claimed (Follows places a s (insn.Alu Mov dst o)) (writable dst) (Ok (next.On (with_known a dst k))) (Ok (effect.Write dst v)) (k, refl, held, λ code slot. refl))
+  alu_agrees Add dst o fit claims =
+      and_then claimed (IsHeld places) (Follows places a s (insn.Alu Add dst o)) (abstract.read a dst) (effects.read s.registers dst) _ _
+      (read_agrees claimed strict places claims.registers a s member dst)
+      (λ x u p q held_x. and_then claimed (IsHeld places) (Follows places a s (insn.Alu Add dst o)) (abstract.operand_known a o) (effects.operand_value s.registers o) _ _
+      (operand_agrees claimed strict places claims.registers a s member o fit)
+      (λ y v p' q' held_y. same_test claimed (Follows places a s (insn.Alu Add dst o)) (writable dst) _ _
+      (and_then claimed (IsHeld places) (Follows places a s (insn.Alu Add dst o)) (abstract.sum_of x y) (effects.sum_of u v) _ _
+      (sum_held claimed places first x y u v held_x held_y (single_operand o dst claims y p'))
+      (λ k w p'' q'' held. (k, refl, held, λ code slot. refl)))))
+
+  forked : (c : Condition) (dst : Reg) (o : Operand) (offset : ℤ) (u v : Value) → effects.read s.registers dst ≡ Ok u → effects.operand_value s.registers o ≡ Ok v → (t : Told) (way : Bool) → Tells (told c u v) s.memory.length t way
+      → Forks a s (insn.JumpIf c dst o offset) (with_proved a t.not_taken) (with_proved a t.taken) (if way then effect.Jump offset else effect.Pass)
+  forked c dst o offset u v q q' t way tells =
+      let there : value_at s.registers dst ≡ u = held_is (value_at s.registers dst) u q in
+      record {
+        condition = c;
+        dst = dst;
+        operand = o;
+        offset = offset;
+        jump = refl;
+        second = v;
+        operand_is = q';
+        not_taken_is = ap (λ (r : Told). with_proved a r.not_taken) tells.0 ∙ ap (λ (w : Value). with_proved a (abstract.bytes_told (told c w v false))) (sym there);
+        taken_is = ap (λ (r : Told). with_proved a r.taken) tells.0 ∙ ap (λ (w : Value). with_proved a (abstract.bytes_told (told c w v true))) (sym there);
+        way = way;
+        effect_is = refl;
+        true_of = subst (λ (w : Value). IsTrueOf (told c w v way) s.memory.length) (sym there) tells.1;
+      }
+
+  branch_agrees : (c : Condition) (dst : Reg) (o : Operand) (offset : ℤ) → OperandFits o → AreClaims claimed strict a s (insn.JumpIf c dst o offset)
+      → Agree claimed (Follows places a s (insn.JumpIf c dst o offset)) (abstract.branch_step a c dst o) (effects.branch_effect s.registers s.memory.length c dst o offset)
+  branch_agrees c dst o offset fit claims =
+      and_then claimed (IsHeld places) (Follows places a s (insn.JumpIf c dst o offset)) (abstract.read a dst) (effects.read s.registers dst) _ _
+      (read_agrees claimed strict places claims.registers a s member dst)
+      (λ x u p q held_x. and_then claimed (IsHeld places) (Follows places a s (insn.JumpIf c dst o offset)) (abstract.operand_known a o) (effects.operand_value s.registers o) _ _
+      (operand_agrees claimed strict places claims.registers a s member o fit)
+      (λ y v p' q' held_y. and_then claimed (Tells (told c u v) s.memory.length) (Follows places a s (insn.JumpIf c dst o offset)) (abstract.compared c x y) (effects.compared s.memory.length c u v) _ _
+      (comparison_held claimed places first s.memory.length c x y u v held_x held_y)
+      (λ t way p'' q'' tells. forked c dst o offset u v q q' t way tells)))
+
+  load_agrees : (x : Known) (m : ℕ) (d : ℤ) (z : Size) (i : Insn) → IsNumberOf x m → AreClaims claimed strict a s i
+      → Agree claimed (IsHeld places) (abstract.load a x d z) (loading.load s.memory (value_of places x m) d z)
+  load_agrees known.Nothing m d z i h claims = λ c. refl
+  load_agrees (known.Scalar n) m d z i h claims = λ c. refl
+  load_agrees known.Ctx m d z i h claims = fields_agree claimed strict places first d z
+  load_agrees (known.Stack k) m d z i h claims = stack_agrees claimed strict places claims.cells a.marks s.memory.stack member.memory.count member.cells member.memory.cells (k +ℤ d) (byte_count z) (small_count z)
+  load_agrees (known.Data First k) m d z i h claims =
+      datagram_agrees claimed strict places s.memory.bytes s.memory.length a.proved member.memory.bytes (reach_is (places First) a.proved (pos s.memory.length) first member.reaches) claims.bounds (k +ℤ d) ((places First +ℤ k) +ℤ d) (byte_count z)
+      (ap (λ (p : ℤ). p +ℤ d) (from_first (places First) k first)) (small_count z)
+  load_agrees known.End m d z i h claims = tailroom_agrees claimed strict places s.memory.bytes s.memory.length member.memory.bytes d (byte_count z) (small_count z)
+
+  load_held : (x : Known) (u : Value) (d : ℤ) (z : Size) (i : Insn) → IsHeld places x u → AreClaims claimed strict a s i
+      → Agree claimed (IsHeld places) (abstract.load a x d z) (loading.load s.memory u d z)
+  load_held x u d z i h claims = subst (λ (u' : Value). Agree claimed (IsHeld places) (abstract.load a x d z) (loading.load s.memory u' d z)) (sym h.2) (load_agrees x h.0 d z i h.1 claims)
+
+  loads_agree : (z : Size) (dst base : Reg) (d : ℤ) → AreClaims claimed strict a s (insn.Load z dst base d)
+      → Agree claimed (Follows places a s (insn.Load z dst base d)) (abstract.load_step a z dst base d) (effects.load_effect s.memory s.registers z dst base d)
+  loads_agree z dst base d claims =
+      and_then claimed (IsHeld places) (Follows places a s (insn.Load z dst base d)) (abstract.read a base) (effects.read s.registers base) _ _
+      (read_agrees claimed strict places claims.registers a s member base)
+      (λ x u p q held_x. same_test claimed (Follows places a s (insn.Load z dst base d)) (writable dst) _ _
+      (and_then claimed (IsHeld places) (Follows places a s (insn.Load z dst base d)) (abstract.load a x d z) (loading.load s.memory u d z) _ _
+      (load_held x u d z (insn.Load z dst base d) held_x claims)
+      (λ k w p' q' held. (k, refl, held, λ code slot. refl))))
+
+  exits_agree : (x : Known) (m : ℕ) → IsNumberOf x m → Agree claimed (Follows places a s insn.Exit) (abstract.exit_with x) (effects.verdict_of (value_of places x m) >>= λ verdict. Ok (effect.Exit verdict))
+  exits_agree (known.Scalar n) m h = tt
+  exits_agree x m h = λ c. refl
+
+  exit_held : (x : Known) (u : Value) → IsHeld places x u → Agree claimed (Follows places a s insn.Exit) (abstract.exit_with x) (effects.verdict_of u >>= λ verdict. Ok (effect.Exit verdict))
+  exit_held x u h = subst (λ (u' : Value). Agree claimed (Follows places a s insn.Exit) (abstract.exit_with x) (effects.verdict_of u' >>= λ verdict. Ok (effect.Exit verdict))) (sym h.2) (exits_agree x h.0 h.1)
+
+  -- what is known of each form agrees with the machine
+  pub steps_agree : (i : Insn) → Fits i → AreClaims claimed strict a s i → Agree claimed (Follows places a s i) (abstract.step a i) (effects.effect s.memory s.registers i)
+  steps_agree (insn.Alu op dst o) fit claims = alu_agrees op dst o fit claims
+  steps_agree (insn.Jump offset) fit claims = (refl, refl)
+  steps_agree (insn.JumpIf c dst o offset) fit claims = branch_agrees c dst o offset fit.0 claims
+  steps_agree (insn.Load z dst base d) fit claims = loads_agree z dst base d claims
+  steps_agree insn.Exit fit claims =
+      and_then claimed (IsHeld places) (Follows places a s insn.Exit) (abstract.read a reg.R0) (effects.read s.registers reg.R0) _ _
+      (read_agrees claimed strict places claims.registers a s member reg.R0)
+      (λ x u p q held. exit_held x u held)

@@ -1,0 +1,51 @@
+-- What the verifier knows at a point of a path.
+use Rattle.std.specs.Prelude.{ℕ, zero, suc, ◌/◌, ◌%◌, ◌^◌, Bool, true, ◌&&◌, ◌==◌, ℤ, pos, int_lt, List, [], ◌∷◌, slice_index_or, slice_set, if◌then◌else◌}
+use Rattle.std.specs.Int.{w64}
+use Rattle.insn.specs.Register.{number_of}
+use Rattle.insn.specs.Words.{alu}
+use Rattle.insn.specs.declared.register.Reg.{Reg}
+use Rattle.insn.specs.declared.operator.AluOp.{AluOp}
+use Rattle.verifier.specs.declared.abstract_state.Number.{Number}
+use Rattle.verifier.specs.declared.abstract_state.Number.TheVariants.{Exactly, Any}
+use Rattle.verifier.specs.declared.abstract_state.Known.{Known}
+use Rattle.verifier.specs.declared.abstract_state.Known.TheVariants.{Nothing, Ctx, Stack}
+use Rattle.verifier.specs.declared.abstract_state.Marks.{Marks}
+use Rattle.verifier.specs.declared.abstract_state.AbstractState.{AbstractState}
+
+-- what is known of the result of an operator
+abbrev pub number_alu : AluOp → Number → Number → Number
+number_alu op (Exactly a) (Exactly b) = Exactly (alu op w64 a b)
+number_alu op (Exactly a) Any = Any
+number_alu op Any b = Any
+
+abbrev pub known_at : List Known → Reg → Known
+known_at registers r = slice_index_or registers (number_of r) Nothing
+
+-- no byte of the stack is set
+abbrev pub no_marks : Marks
+no_marks = record { words = 0 ∷ 0 ∷ 0 ∷ 0 ∷ 0 ∷ 0 ∷ 0 ∷ 0 ∷ [] }
+
+-- whether a stack byte is set, by its index from the stack's first one: a bit of eight words
+abbrev pub is_marked : Marks → ℕ → Bool
+is_marked m i = (slice_index_or m.words (i / 64) 0 / 2 ^ (i % 64)) % 2 == 1
+
+-- whether n of them are, from an index on
+abbrev pub are_marked : Marks → ℕ → ℕ → Bool
+are_marked m i zero = true
+are_marked m i (suc n) = is_marked m i && are_marked m (suc i) n
+
+-- before the first instruction r1 holds the context and r10 the end of the stack
+abbrev pub first_known : AbstractState
+first_known = record {
+  registers = Nothing ∷ Ctx ∷ Nothing ∷ Nothing ∷ Nothing ∷ Nothing ∷ Nothing ∷ Nothing ∷ Nothing ∷ Nothing ∷ Stack (pos 0) ∷ [];
+  marks = no_marks;
+  proved = pos 0;
+}
+
+-- the state with a register written
+abbrev pub with_known : AbstractState → Reg → Known → AbstractState
+with_known a r k = record a { registers = slice_set a.registers (number_of r) k }
+
+-- the state where the datagram is known to have at least so many bytes
+abbrev pub with_proved : AbstractState → ℤ → AbstractState
+with_proved a n = record a { proved = if int_lt a.proved n then n else a.proved }

@@ -1,0 +1,178 @@
+-- One step of what is known: what follows an instruction, or the reason for which some step from here could be
+-- stuck. The tests come in the order in which the tagged machine makes them.
+use Rattle.std.specs.Prelude.{ℕ, Bool, true, false, ℤ, pos, negsuc, ◌+ℤ◌, Result, Ok, Err, ◌==◌, if◌then◌else◌}
+use Rattle.std.specs.Option.{ok_or}
+use Rattle.std.specs.Int.{w64, cast_signed, cast_unsigned}
+use Rattle.insn.specs.Codes.{byte_count}
+use Rattle.insn.specs.declared.register.Reg.{Reg}
+use Rattle.insn.specs.declared.register.Reg.TheVariants as reg
+use Rattle.insn.specs.declared.size.Size.{Size}
+use Rattle.insn.specs.declared.size.Size.TheVariants as size
+use Rattle.insn.specs.declared.operator.AluOp.{AluOp}
+use Rattle.insn.specs.declared.operator.AluOp.TheVariants.{Add, Mov}
+use Rattle.insn.specs.declared.condition.Condition.{Condition}
+use Rattle.insn.specs.declared.condition.Condition.TheVariants as condition
+use Rattle.insn.specs.declared.instruction.Operand.{Operand}
+use Rattle.insn.specs.declared.instruction.Operand.TheVariants as operand
+use Rattle.insn.specs.declared.instruction.Insn.{Insn}
+use Rattle.insn.specs.declared.instruction.Insn.TheVariants as insn
+use Rattle.semantics.specs.Fallible.{◌>>=◌, check}
+use Rattle.semantics.specs.Loading.{is_within, index_within, stack_first, headroom_first}
+use Rattle.semantics.specs.Effects.{writable, near_place}
+use Rattle.semantics.specs.LooseRuns.{Bound, AtMost, Below, Unknown, told_first, told_second}
+use Rattle.semantics.specs.declared.reason.Reason.{Reason}
+use Rattle.semantics.specs.declared.reason.Reason.TheVariants.{UninitRegister, UninitStack, StackBounds, ContextAccess, DatagramBounds, PointerArithmetic, PointerCompare, ExitNotScalar, NotAPointer}
+use Rattle.verifier.specs.AbstractStates.{known_at, number_alu, are_marked, with_known, with_proved}
+use Rattle.verifier.specs.declared.abstract_state.Number.TheVariants.{Exactly, Any}
+use Rattle.verifier.specs.declared.abstract_state.Anchor.TheVariants.{First}
+use Rattle.verifier.specs.declared.abstract_state.Known.{Known}
+use Rattle.verifier.specs.declared.abstract_state.Known.TheVariants.{Nothing, Scalar, Ctx, Stack, Data, End}
+use Rattle.verifier.specs.declared.abstract_state.AbstractState.{AbstractState}
+use Rattle.verifier.specs.declared.abstract_step.Next.{Next}
+use Rattle.verifier.specs.declared.abstract_step.Next.TheVariants as next
+use Rattle.verifier.specs.declared.abstract_step.Told.{Told}
+
+-- ---- what is read
+
+abbrev pub held : Known → Result Known Reason
+held Nothing = Err UninitRegister
+held (Scalar n) = Ok (Scalar n)
+held Ctx = Ok Ctx
+held (Stack k) = Ok (Stack k)
+held (Data anchor k) = Ok (Data anchor k)
+held End = Ok End
+
+abbrev pub read : AbstractState → Reg → Result Known Reason
+read a r = held (known_at a.registers r)
+
+abbrev pub operand_known : AbstractState → Operand → Result Known Reason
+operand_known a (operand.Reg r) = read a r
+operand_known a (operand.Imm n) = Ok (Scalar (Exactly (cast_unsigned w64 n)))
+
+-- ---- arithmetic
+
+-- an offset moved by a number that is read with its sign
+abbrev pub moved : ℤ → ℕ → Result ℤ Reason
+moved k by = ok_or (near_place (k +ℤ cast_signed w64 by)) PointerArithmetic
+
+-- a sum of numbers, or a pointer moved by a known number
+abbrev pub sum_of : Known → Known → Result Known Reason
+sum_of (Scalar a) (Scalar b) = Ok (Scalar (number_alu Add a b))
+sum_of (Data anchor k) (Scalar (Exactly b)) = do
+  place ← moved k b
+  Ok (Data anchor place)
+sum_of (Stack k) (Scalar (Exactly b)) = do
+  place ← moved k b
+  Ok (Stack place)
+sum_of _ _ = Err PointerArithmetic
+
+abbrev pub alu_step : AbstractState → AluOp → Reg → Operand → Result Next Reason
+alu_step a Mov dst o = do
+  known ← operand_known a o
+  allowed ← writable dst
+  Ok (next.On (with_known a dst known))
+alu_step a Add dst o = do
+  x ← read a dst
+  y ← operand_known a o
+  allowed ← writable dst
+  known ← sum_of x y
+  Ok (next.On (with_known a dst known))
+
+-- ---- conditional jumps
+
+-- how many bytes a datagram has at least, where a bound of its length is told
+abbrev pub bytes_told : Bound → ℤ
+bytes_told (AtMost k) = k
+bytes_told (Below k) = k +ℤ pos 1
+bytes_told Unknown = pos 0
+
+abbrev pub told_by : (Bool → Bound) → Told
+told_by bound = record { not_taken = bytes_told (bound false); taken = bytes_told (bound true) }
+
+-- the comparisons of a place with the end: the four orders of numbers without a sign
+abbrev pub is_order : Condition → Bool
+is_order condition.Gt = true
+is_order condition.Ge = true
+is_order condition.Lt = true
+is_order condition.Le = true
+is_order condition.Eq = false
+is_order condition.Set = false
+is_order condition.Ne = false
+is_order condition.SignedGt = false
+is_order condition.SignedGe = false
+is_order condition.SignedLt = false
+is_order condition.SignedLe = false
+
+abbrev pub order_told : Condition → (Bool → Bound) → Result Told Reason
+order_told c bound = do
+  allowed ← check (is_order c) PointerCompare
+  Ok (told_by bound)
+
+-- what the ways of a comparison tell of the datagram's length; the anchor First stands at the place 0
+abbrev pub compared : Condition → Known → Known → Result Told Reason
+compared c (Scalar a) (Scalar b) = Ok (told_by (λ taken. Unknown))
+compared c (Data First k) End = order_told c (told_first c k)
+compared c End (Data First k) = order_told c (told_second c k)
+compared c _ _ = Err PointerCompare
+
+abbrev pub branch_step : AbstractState → Condition → Reg → Operand → Result Next Reason
+branch_step a c dst o = do
+  x ← read a dst
+  y ← operand_known a o
+  told ← compared c x y
+  Ok (next.Fork (with_proved a told.not_taken) (with_proved a told.taken))
+
+-- ---- loads and the end
+
+-- the fields of the context record
+abbrev pub field : ℤ → Size → Result Known Reason
+field (pos n) size.Double = if n == 0 then Ok (Data First (pos 0)) else (if n == 8 then Ok End else Err ContextAccess)
+field (pos n) size.Word = Err ContextAccess
+field (pos n) size.Half = Err ContextAccess
+field (pos n) size.Byte = Err ContextAccess
+field (negsuc n) z = Err ContextAccess
+
+-- the datagram may be read as far as it is known to reach
+abbrev pub load : AbstractState → Known → ℤ → Size → Result Known Reason
+load a Nothing d z = Err UninitRegister
+load a (Scalar n) d z = Err NotAPointer
+load a Ctx d z = field d z
+load a (Stack k) d z = do
+  i ← ok_or (index_within (k +ℤ d) (byte_count z) stack_first stack_first (pos 0)) StackBounds
+  are_set ← check (are_marked a.marks i (byte_count z)) UninitStack
+  Ok (Scalar Any)
+load a (Data First k) d z = do
+  inside ← check (is_within (k +ℤ d) (byte_count z) headroom_first a.proved) DatagramBounds
+  Ok (Scalar Any)
+load a End d z = do
+  inside ← check (is_within d (byte_count z) (pos 0) (pos 3)) DatagramBounds
+  Ok (Scalar Any)
+
+abbrev pub load_step : AbstractState → Size → Reg → Reg → ℤ → Result Next Reason
+load_step a z dst base d = do
+  pointer ← read a base
+  allowed ← writable dst
+  known ← load a pointer d z
+  Ok (next.On (with_known a dst known))
+
+abbrev pub exit_with : Known → Result Next Reason
+exit_with (Scalar n) = Ok next.Exit
+exit_with Nothing = Err ExitNotScalar
+exit_with Ctx = Err ExitNotScalar
+exit_with (Stack k) = Err ExitNotScalar
+exit_with (Data anchor k) = Err ExitNotScalar
+exit_with End = Err ExitNotScalar
+
+abbrev pub exit_step : AbstractState → Result Next Reason
+exit_step a = do
+  known ← read a reg.R0
+  exit_with known
+
+-- ---- every form
+
+abbrev pub step : AbstractState → Insn → Result Next Reason
+step a (insn.Alu op dst o) = alu_step a op dst o
+step a (insn.Jump offset) = Ok (next.On a)
+step a (insn.JumpIf c dst o offset) = branch_step a c dst o
+step a (insn.Load z dst base d) = load_step a z dst base d
+step a insn.Exit = exit_step a

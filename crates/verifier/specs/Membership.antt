@@ -1,0 +1,93 @@
+-- Members of what is known: the tagged states that it speaks of.
+use Rattle.std.specs.Prelude.{◌≡◌, ℕ, ◌<◌, ◌^◌, Bool, true, ℤ, pos, ◌+ℤ◌, ◌≤ℤ◌, length, Option, Some, None, is_some, slice_index_or, All}
+use Rattle.insn.specs.declared.register.Reg.{Reg}
+use Rattle.semantics.specs.Machine.{Memory, State}
+use Rattle.semantics.specs.Effects.{value_at}
+use Rattle.semantics.specs.declared.value.Value.{Value}
+use Rattle.semantics.specs.declared.value.Value.TheVariants as value
+use Rattle.verifier.specs.AbstractStates.{known_at, is_marked}
+use Rattle.verifier.specs.declared.abstract_state.Number.{Number}
+use Rattle.verifier.specs.declared.abstract_state.Number.TheVariants.{Exactly, Any}
+use Rattle.verifier.specs.declared.abstract_state.Anchor.{Anchor}
+use Rattle.verifier.specs.declared.abstract_state.Anchor.TheVariants.{First}
+use Rattle.verifier.specs.declared.abstract_state.Known.{Known}
+use Rattle.verifier.specs.declared.abstract_state.Known.TheVariants.{Nothing, Scalar, Ctx, Stack, Data, End}
+use Rattle.verifier.specs.declared.abstract_state.AbstractState.{AbstractState}
+
+-- ---- numbers and places
+
+-- the words that a number may be
+pub record IsWord (n : ℕ) : Type 0 where
+  pub fits : n < 2 ^ 64
+
+abbrev pub IsNumber : Number → ℕ → Type 0
+IsNumber (Exactly m) n = (n ≡ m) × IsWord n
+IsNumber Any n = IsWord n
+
+-- where the anchors of pointers stand
+abbrev pub Places : Type 0
+Places = Anchor → ℤ
+
+-- the datagram's first byte has the place 0
+abbrev pub IsPlaceOf : Anchor → ℤ → Type 0
+IsPlaceOf First p = p ≡ pos 0
+
+-- ---- registers
+
+-- the number of a Scalar is a member of what is known of it
+abbrev pub IsNumberOf : Known → ℕ → Type 0
+IsNumberOf Nothing n = ⊥
+IsNumberOf (Scalar number) n = IsNumber number n
+IsNumberOf Ctx n = Unit {0}
+IsNumberOf (Stack k) n = Unit {0}
+IsNumberOf (Data anchor k) n = Unit {0}
+IsNumberOf End n = Unit {0}
+
+-- the value of a known kind: a Scalar with a number, and a pointer with its offset, from its anchor's place on
+abbrev pub value_of : Places → Known → ℕ → Value
+value_of places Nothing n = value.Nothing
+value_of places (Scalar number) n = value.Scalar n
+value_of places Ctx n = value.Ctx
+value_of places (Stack k) n = value.Stack k
+value_of places (Data anchor k) n = value.Data (places anchor +ℤ k)
+value_of places End n = value.End
+
+-- a register of a known kind has that kind, with a member
+abbrev pub IsHeld : Places → Known → Value → Type 0
+IsHeld places known v = (n : ℕ) × IsNumberOf known n × (v ≡ value_of places known n)
+
+-- where nothing is known there may be anything; strictly, there is nothing
+abbrev pub IsValue : Bool → Places → Known → Value → Type 0
+IsValue strict places Nothing v = strict ≡ true → v ≡ value.Nothing
+IsValue strict places (Scalar number) v = IsHeld places (Scalar number) v
+IsValue strict places Ctx v = IsHeld places Ctx v
+IsValue strict places (Stack k) v = IsHeld places (Stack k) v
+IsValue strict places (Data anchor k) v = IsHeld places (Data anchor k) v
+IsValue strict places End v = IsHeld places End v
+
+-- ---- memory
+
+-- a marked stack cell holds a byte; strictly, no other one does
+pub record IsCell (strict marked : Bool) (cell : Option ℕ) : Type 0 where
+  pub held : marked ≡ true → is_some cell ≡ true
+  pub no_other : strict ≡ true → is_some cell ≡ marked
+
+-- what memory holds is bytes
+pub record HoldsBytes (m : Memory) : Type 0 where
+  pub count : length m.stack ≡ 512
+  pub cells : All (λ c. (b : ℕ) → c ≡ Some b → b < 256) m.stack
+  pub bytes : All (λ b. b < 256) m.bytes
+
+-- ---- states
+
+-- A tagged state is a member where the anchors' places are such that the datagram reaches as far as is proved, each
+-- register of a known kind has that kind with a member, and each marked stack cell holds a byte. Strictly, no other
+-- register and no other cell holds anything.
+pub record IsMember (strict : Bool) (places : Places) (a : AbstractState) (s : State) : Type 0 where
+  pub anchored : (anchor : Anchor) → IsPlaceOf anchor (places anchor)
+  pub reaches : (places First +ℤ a.proved) ≤ℤ pos s.memory.length
+  pub known_count : length a.registers ≡ 11
+  pub count : length s.registers ≡ 11
+  pub registers : (r : Reg) → IsValue strict places (known_at a.registers r) (value_at s.registers r)
+  pub cells : (i : ℕ) → i < 512 → IsCell strict (is_marked a.marks i) (slice_index_or s.memory.stack i None)
+  pub memory : HoldsBytes s.memory
