@@ -1,8 +1,9 @@
 //! The words of a command line, read.
 #![tactic(auto)]
 
-ghost use Rattle.std.specs.Prelude.{◌≡◌, true, IfOk};
-ghost use Rattle.clap.specs.Words.{has_subcommand};
+ghost use Rattle.std.specs.Prelude.{◌≡◌, true, IfOk, IfSome, IfNone, IsSomeAnd};
+ghost use Rattle.clap.specs.Words.{has_subcommand, subcommand_rows_of};
+ghost use Rattle.command_line.specs.Requests.{Asks, AsksForNone};
 
 use clap::error::ErrorKind;
 use clap::{Arg, ArgAction, ArgMatches, Command, Error};
@@ -74,7 +75,10 @@ pub fn line<'a, S: AsStr>(alloc: Global, words: &'a [S]) -> Result<ArgMatches<'a
 }
 
 /// What matched words ask for: `None` where they name no command that this program has.
-pub fn requested<'a>(matches: &ArgMatches<'a>) -> Option<Request<'a>> {
+pub fn requested<'a>(matches: &ArgMatches<'a>) -> Option<Request<'a>>
+    ensures found { IfSome result (λ r. IsSomeAnd (subcommand_rows_of matches.now) (λ p. Asks p r)) }
+    ensures none { IfNone result (IfSome (subcommand_rows_of matches.now) AsksForNone) }
+{
     let (name, matches) = matches.subcommand()?;
     let file = matches.get_str("file")?;
     match name {

@@ -1,0 +1,45 @@
+-- What the name and the entries of a subcommand that was met say of it.
+use Rattle.std.proofs.Common.{◌≡◌, ◌∙◌, sym, ap, refl, List, Option, Some, None, IfSome, IsSomeAnd, Bor}
+use Rattle.std.specs.Prelude.{option_map, Box}
+use Rattle.std.specs.Box.{box_value}
+use Rattle.std.proofs.lemmas.Option.{none-some, same_Some}
+use Rattle.clap.specs.Words.{Text, Row, first_of, first_value, rows_of, subcommand_name_of, subcommand_rows, subcommand_rows_of}
+use Rattle.clap.specs.declared.parser.matches.ArgMatches.{ArgMatches}
+use Rattle.clap.specs.declared.parser.matches.ArgMatches.TheViews.{out-ArgMatches, out-SubCommand}
+use Rattle.clap.specs.declared.parser.matches.Found.{Found}
+use Rattle.clap.specs.declared.parser.matches.SubCommand.{SubCommand}
+use Rattle.clap.proofs.WalkLemmas.{first_value-rows}
+
+paired : {A B : Type 0} (o : Option (A × B)) (a : A) (b : B) → Some a ≡ option_map (λ p. p.0) o → Some b ≡ option_map (λ p. p.1) o → o ≡ Some (a, b)
+paired None a b h k = absurd (none-some a (sym h))
+paired (Some p) a b h k =
+    let x = same_Some a p.0 h in
+    let y = same_Some b p.1 k in
+    λ i. Some (sym x i, sym y i)
+
+module _ {Z : Type 0} where
+  named : (sub : Option (Box SubCommand Z)) → option_map (λ b. (out-SubCommand (box_value b)).name.now) sub ≡ option_map (λ p. p.0) (subcommand_rows sub)
+  named None = refl
+  named (Some b) = refl
+
+met : (m : ArgMatches) (name : Text) (found : Found) → Some name ≡ subcommand_name_of m → Some (rows_of found) ≡ option_map (λ p. p.1) (subcommand_rows_of m)
+    → subcommand_rows_of m ≡ Some (name, rows_of found)
+met m name found h k = paired (subcommand_rows_of m) name (rows_of found) (h ∙ named (out-ArgMatches m).subcommand) k
+
+-- what holds of the name and the entries holds of the subcommand
+pub one_met : (m : ArgMatches) (name : Text) (found : Found) (P : Text × List Row → Type 0) → Some name ≡ subcommand_name_of m
+    → Some (rows_of found) ≡ option_map (λ p. p.1) (subcommand_rows_of m) → P (name, rows_of found) → IsSomeAnd (subcommand_rows_of m) P
+one_met m name found P h k p = rw (met m name found h k) p
+
+pub any_met : (m : ArgMatches) (name : Text) (found : Found) (P : Text × List Row → Type 0) → Some name ≡ subcommand_name_of m
+    → Some (rows_of found) ≡ option_map (λ p. p.1) (subcommand_rows_of m) → P (name, rows_of found) → IfSome (subcommand_rows_of m) P
+any_met m name found P h k p = rw (met m name found h k) p
+
+-- the value that was read of an argument
+pub read : (found : Found) (id : Text) (value : Option (Bor Text)) → option_map (λ s. s.now) value ≡ first_value found id
+    → first_of id (rows_of found) ≡ option_map (λ s. s.now) value
+read found id value e = sym (first_value-rows found id) ∙ sym e
+
+pub read_as : (found : Found) (id : Text) (value other : Option (Bor Text)) → option_map (λ s. s.now) value ≡ first_value found id → value ≡ other
+    → first_of id (rows_of found) ≡ option_map (λ s. s.now) other
+read_as found id value other e same = read found id value e ∙ ap (option_map (λ s. s.now)) same
