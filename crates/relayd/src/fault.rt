@@ -1,5 +1,8 @@
 //! What keeps a report from its end, with its line and its status.
 
+ghost use Rattle.std.specs.Prelude.{◌≡◌};
+ghost use Rattle.relayd.specs.Statuses.{status_of};
+
 use insn::DecodeError;
 use std::io::Write;
 use thiserror::Error;
@@ -21,7 +24,9 @@ pub enum Fault {
 
 impl Fault {
     /// The exit status: 1 for a refusal, 3 for a fault of a file, 4 for want of memory.
-    pub fn status(self) -> u8 {
+    pub fn status(self) -> u8
+        ensures { result ≡ status_of self }
+    {
         match self {
             Fault::Data | Fault::Program(_) => 1,
             Fault::Output => 3,
@@ -31,7 +36,9 @@ impl Fault {
 }
 
 /// Writes a fault's line, and answers its status. A line that can't be written is let go.
-pub fn fail<E: Write>(err: &mut E, fault: Fault) -> u8 {
+pub fn fail<E: Write>(err: &mut E, fault: Fault) -> u8
+    ensures { result ≡ status_of fault }
+{
     let _ = writeln!(err, "{fault}");
     fault.status()
 }

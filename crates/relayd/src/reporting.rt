@@ -1,7 +1,9 @@
 //! What the commands print of a program file, and their statuses.
 
-ghost use Rattle.std.specs.Prelude.{◌≡◌, ◌≤◌, ◌<◌, IfOk, vec_len};
+ghost use Rattle.std.specs.Prelude.{◌≡◌, ◌≤◌, ◌<◌, ◌⊎◌, IfOk, OnOk, vec_len};
 ghost use Rattle.insn.specs.Encoding.{slot_count};
+ghost use Rattle.verifier.specs.Layout.{IsLaidOut};
+ghost use Rattle.relayd.specs.Statuses.{IsProgram, IsLaidOutProgram, IsVerdict, IsStatus};
 
 use crate::fault::{Fault, fail};
 use insn::{DecodeError, Insn, decode};
@@ -46,6 +48,7 @@ fn verified_by<L: Ledger>(alloc: Global, code: &[Insn], blank: Blank) -> Result<
     requires parts { blank.parts ≡ L.parts }
     requires some { 0 < L.parts }
     requires few { slot_count code.now ≤ 4096 }
+    ensures { OnOk result (IsLaidOut code.now) }
 {
     let mut steps = Steps::<L>::new(blank);
     verify(alloc, code, BUDGET, &mut steps)
@@ -53,12 +56,15 @@ fn verified_by<L: Ledger>(alloc: Global, code: &[Insn], blank: Blank) -> Result<
 
 fn verified(alloc: Global, code: &[Insn]) -> Result<Verified, Refusal>
     requires { slot_count code.now ≤ 4096 }
+    ensures { OnOk result (IsLaidOut code.now) }
 {
     verified_by::<Brand>(alloc, code, Blank::new(1))
 }
 
 /// The line of `verify`, and its status.
-fn report_verify<W: Write>(alloc: Global, file: &[u8], out: &mut W) -> Result<u8, Fault> {
+fn report_verify<W: Write>(alloc: Global, file: &[u8], out: &mut W) -> Result<u8, Fault>
+    ensures { IfOk result (IsVerdict (IsLaidOutProgram file.now)) }
+{
     let code = match decode(alloc, file) {
         Ok(code) => code,
         Err(DecodeError::Memory) => return Err(Fault::Memory),
@@ -98,7 +104,9 @@ fn fill(frame: &mut Frame, hex: Option<&str>) -> Result<usize, Fault>
 }
 
 /// The lines behind the steps of a trace, and its status.
-fn report_end<W: Write>(ended: Result<Outcome, Stuck>, out: &mut W) -> Result<u8, Fault> {
+fn report_end<W: Write>(ended: Result<Outcome, Stuck>, out: &mut W) -> Result<u8, Fault>
+    ensures { IfOk result (λ status. (status ≡ 0) ⊎ (status ≡ 1)) }
+{
     let outcome = match ended {
         Ok(outcome) => outcome,
         Err(stuck) => {
@@ -125,7 +133,9 @@ fn report_trace<W: Write>(
     hex: Option<&str>,
     file: &[u8],
     out: &mut W,
-) -> Result<u8, Fault> {
+) -> Result<u8, Fault>
+    ensures { IfOk result (IsVerdict (IsProgram file.now)) }
+{
     let mut frame = Frame::new(alloc).map_err(|_| Fault::Memory)?;
     let n = fill(&mut frame, hex)?;
     let code = match decode(alloc, file) {
@@ -140,16 +150,18 @@ fn report_trace<W: Write>(
     report_end(ended, out)
 }
 
-/// Writes the lines of what is asked of a program file, and answers the exit status: 0 for success, 1
-/// for a refusal or a stuck trace, 3 where the output can't be written, 4 where memory ran out. A
-/// fault's line goes to `err`.
+/// Writes the lines of what is asked of a program file, and answers the exit status: 0 for success,
+/// which only the bytes of a program have, 1 for a refusal or a stuck trace, 3 where the output can't be
+/// written, 4 where memory ran out. A fault's line goes to `err`.
 pub fn report<W: Write, E: Write>(
     alloc: Global,
     ask: Ask<'_>,
     file: &[u8],
     out: &mut W,
     err: &mut E,
-) -> u8 {
+) -> u8
+    ensures { IsStatus ask.entry file.now result }
+{
     let reported = match ask {
         Ask::Verify => report_verify(alloc, file, out),
         Ask::Trace { hex } => report_trace(alloc, hex, file, out),
