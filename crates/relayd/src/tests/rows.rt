@@ -15,7 +15,7 @@ const FIFTH_BYTE_CHECKED: &str = "7912000000000000 7913080000000000 bf2400000000
      0704000004000000 b700000000000000 3d34010000000000 7120040000000000 9500000000000000";
 
 /// Programs with the line of `verify` and its status.
-const VERIFIED: [(&str, &str, u8); 23] = [
+const VERIFIED: [(&str, &str, u8); 24] = [
     ("", "refused E1\n", 1),
     ("9500000000000000 95000000", "refused E2\n", 1),
     ("9500000000000000", "refused V5 at 0\n", 1),
@@ -51,6 +51,12 @@ const VERIFIED: [(&str, &str, u8); 23] = [
     // `add r1, 1` and `jeq r1, 0, +0`
     ("0701000001000000 9500000000000000", "refused V11 at 0\n", 1),
     ("1501000000000000 9500000000000000", "refused V12 at 0\n", 1),
+    // `ldxb r0, [r0+0]` behind `mov r0, 0`
+    (
+        "b700000000000000 7100000000000000 9500000000000000",
+        "refused V18 at 1\n",
+        1,
+    ),
 ];
 
 #[test]
@@ -84,8 +90,38 @@ fn verify_at_the_greatest_length(rt: HostRuntime) -> Result<(), Fail> {
     Ok(())
 }
 
+/// A program of 44 slots with 20 jumps `jset r3, 1, +1` on a byte that may be anything. Each goes over
+/// an addition of another power of two, so that no two paths come to a slot in one state.
+fn twenty_jumps(rt: &HostRuntime) -> Result<Vec<u8>, Fail> {
+    // `ldxdw r2, [r1+0]`, `ldxb r3, [r2-1]`, `mov r0, 0`
+    let mut file = program(rt, "7912000000000000 7123ffff00000000 b700000000000000")?;
+    let jump = program(rt, "4503010001000000")?;
+    let mut power: u32 = 1;
+    for _ in 0..20 {
+        file.extend_from_slice(&jump)?;
+        file.extend_from_slice(&[0x07, 0, 0, 0])?;
+        file.extend_from_slice(&power.to_le_bytes())?;
+        power = power.wrapping_mul(2);
+    }
+    file.extend_from_slice(&program(rt, "9500000000000000")?)?;
+    Ok(file)
+}
+
+/// A jump with `k` jumps behind it needs `S(k)` steps, its own included: those behind it twice, and one
+/// addition. So `S(k) = 2 + 2 S(k - 1)`, with `S(-1) = 1` for the exit. Three steps stand before the first
+/// jump, and the one that would pass 100,000 is the 99,998th from there on: the exit of the way that
+/// takes the 5th, 11th, 15th, 17th and 20th jump.
+#[test]
+fn verify_gives_up_after_100000_steps(rt: HostRuntime) -> Result<(), Fail> {
+    let said = reported(&rt, Ask::Verify, &twenty_jumps(&rt)?);
+    assert_eq!(rt; said.out.as_slice(), b"refused V17 at 43\n".as_slice());
+    assert_eq!(rt; said.status, 1);
+    assert_eq!(rt; said.err.len(), 0);
+    Ok(())
+}
+
 /// Programs and datagrams with what `trace` prints behind its step lines, and its status.
-const TRACED: [(&str, &str, &str, u8); 13] = [
+const TRACED: [(&str, &str, &str, u8); 21] = [
     (
         FOURTH_BYTE,
         "010203",
@@ -154,6 +190,55 @@ const TRACED: [(&str, &str, &str, u8); 13] = [
         1,
     ),
     ("b700000000000000", "", "0 mov r0, 0\nstuck V4 at 0\n", 1),
+    // so is a step that the verifier refuses
+    (
+        "79a0f8ff00000000 9500000000000000",
+        "",
+        "0 ldxdw r0, [r10-8]\nstuck V6 at 0\n",
+        1,
+    ),
+    (
+        "b70a000000000000 9500000000000000",
+        "",
+        "0 mov r10, 0\nstuck V7 at 0\n",
+        1,
+    ),
+    (
+        "79a0000000000000 9500000000000000",
+        "",
+        "0 ldxdw r0, [r10+0]\nstuck V8 at 0\n",
+        1,
+    ),
+    (
+        "7110000000000000 9500000000000000",
+        "",
+        "0 ldxb r0, [r1+0]\nstuck V9 at 0\n",
+        1,
+    ),
+    (
+        "0701000001000000 9500000000000000",
+        "",
+        "0 add r1, 1\nstuck V11 at 0\n",
+        1,
+    ),
+    (
+        "1501000000000000 9500000000000000",
+        "",
+        "0 jeq r1, 0, +0\nstuck V12 at 0\n",
+        1,
+    ),
+    (
+        "bf10000000000000 9500000000000000",
+        "",
+        "0 mov r0, r1\n1 exit\nstuck V16 at 1\n",
+        1,
+    ),
+    (
+        "b700000000000000 7100000000000000 9500000000000000",
+        "",
+        "0 mov r0, 0\n1 ldxb r0, [r0+0]\nstuck V18 at 1\n",
+        1,
+    ),
     // the headroom and the tailroom may be read: `ldxb r0, [r2-64]` and `ldxb r0, [r3+2]`
     (
         "7912000000000000 7120c0ff00000000 7913080000000000 7130020000000000 9500000000000000",
