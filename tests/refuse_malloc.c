@@ -1,0 +1,71 @@
+/* Preloaded into a program, refuses some of its allocations: those whose numbers, counted from 1, lie
+   in REFUSE_FIRST to REFUSE_LAST. For each it writes a byte to the file descriptor REFUSE_TELL. */
+#define _GNU_SOURCE
+#include <dlfcn.h>
+#include <errno.h>
+#include <stddef.h>
+#include <stdlib.h>
+#include <unistd.h>
+
+static unsigned long first, last, count;
+static int tell;
+
+/* What a variable of the environment says, or 0. */
+static unsigned long told(const char *name) {
+  const char *text = getenv(name);
+  return text ? strtoul(text, NULL, 10) : 0;
+}
+
+/* Runs before `main`: what was allocated till then is not counted. */
+__attribute__((constructor)) static void begin(void) {
+  first = told("REFUSE_FIRST");
+  last = told("REFUSE_LAST");
+  tell = (int)told("REFUSE_TELL");
+  count = 0;
+}
+
+/* Counts an allocation, and says whether it is refused. */
+static int refused(void) {
+  count += 1;
+  if (count < first || count > last)
+    return 0;
+  if (write(tell, "x", 1) != 1)
+    _exit(99);
+  errno = ENOMEM;
+  return 1;
+}
+
+void *malloc(size_t size) {
+  static void *(*real)(size_t);
+  if (!real)
+    real = (void *(*)(size_t))dlsym(RTLD_NEXT, "malloc");
+  return refused() ? NULL : real(size);
+}
+
+void *calloc(size_t number, size_t size) {
+  static void *(*real)(size_t, size_t);
+  if (!real)
+    real = (void *(*)(size_t, size_t))dlsym(RTLD_NEXT, "calloc");
+  return refused() ? NULL : real(number, size);
+}
+
+void *realloc(void *old, size_t size) {
+  static void *(*real)(void *, size_t);
+  if (!real)
+    real = (void *(*)(void *, size_t))dlsym(RTLD_NEXT, "realloc");
+  return refused() ? NULL : real(old, size);
+}
+
+void *aligned_alloc(size_t alignment, size_t size) {
+  static void *(*real)(size_t, size_t);
+  if (!real)
+    real = (void *(*)(size_t, size_t))dlsym(RTLD_NEXT, "aligned_alloc");
+  return refused() ? NULL : real(alignment, size);
+}
+
+int posix_memalign(void **out, size_t alignment, size_t size) {
+  static int (*real)(void **, size_t, size_t);
+  if (!real)
+    real = (int (*)(void **, size_t, size_t))dlsym(RTLD_NEXT, "posix_memalign");
+  return refused() ? ENOMEM : real(out, alignment, size);
+}
