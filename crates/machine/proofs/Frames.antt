@@ -1,12 +1,13 @@
 -- The bytes of a frame that was started.
 use Rattle.std.proofs.Common.{◌≡◌, ℕ, ◌+◌, ◌-◌, ◌≤◌, true, false, List, [], ◌∷◌, ◌++◌, length, take, drop, replicate, Option, None, refl, sym, ap, ◌∙◌, arith, append_assoc}
-use Rattle.std.proofs.lemmas.List.{length-append, length-take-le, length-drop, take_at, drop_at, take-append-drop}
+use Rattle.std.proofs.lemmas.List.{length-append, length-take-le, length-drop, take_at, take-append-drop, drop-drop, drop_all, append-nil}
 use Rattle.std.proofs.lemmas.Slice.{drop-append-drop}
 use Rattle.std.proofs.Math.Seq.{take-append-add}
 use Rattle.semantics.specs.Machine.{Memory, Plan, headroom, surrounded, empty_stack, start, no_plan}
 use Rattle.semantics.specs.Runs.{Run}
 use Rattle.semantics.specs.StartLaws.{length-headroom, length-surrounded}
-use Rattle.machine.specs.Contents.{Contents, IsFrame, datagram_of}
+use Rattle.machine.specs.Contents.{Contents, IsFrame, datagram_of, with_room}
+use Rattle.machine.specs.FrameLaws.{datagram_inside}
 use Rattle.machine.specs.Tracing.{left_by}
 
 -- zeros before the datagram, and then behind it
@@ -37,9 +38,7 @@ is_frame old area stack n long short empty e =
     let rest : List ℕ = drop (67 + n) old in
     let d_long : length d ≡ n = length-take-le n (drop 64 old) (omega (arith, length-drop 64 old)) in
     let front : take (67 + n) area ≡ surrounded d = ap (take (67 + n)) e ∙ take_at (surrounded d) rest (67 + n) (length-surrounded d ∙ ap (λ (k : ℕ). 67 + k) d_long) in
-    let regrouped : area ≡ headroom ++ (d ++ (0 ∷ 0 ∷ 0 ∷ rest)) = e ∙ append_assoc (headroom ++ d) (0 ∷ 0 ∷ 0 ∷ []) rest ∙ append_assoc headroom d (0 ∷ 0 ∷ 0 ∷ rest) in
-    let behind : drop 64 area ≡ d ++ (0 ∷ 0 ∷ 0 ∷ rest) = ap (drop 64) regrouped ∙ drop_at headroom (d ++ (0 ∷ 0 ∷ 0 ∷ rest)) 64 length-headroom in
-    let datagram : take n (drop 64 area) ≡ d = ap (take n) behind ∙ take_at d (0 ∷ 0 ∷ 0 ∷ rest) n d_long in
+    let datagram : take n (drop 64 area) ≡ d = datagram_inside d rest area n d_long e in
     record {
       long = ap length e ∙ frame_long (length (surrounded d)) (length rest) n (length (surrounded d ++ rest)) (length-append (surrounded d) rest) (length-surrounded d ∙ ap (λ (k : ℕ). 67 + k) d_long) (length-drop (67 + n) old ∙ ap (λ (k : ℕ). k - (67 + n)) long) short;
       short = short;
@@ -77,3 +76,19 @@ left_alone f new r area kept planless is =
     let whole : f.area ≡ r.state.memory.bytes ++ drop (67 + f.length) f.area = area ∙ ap (λ (b : List ℕ). b ++ drop (67 + f.length) f.area) (sym bytes) in
     let window : r.state.plan.window ≡ None = ap (λ (p : Plan). p.window) planless in
     is ∙ (λ i. record f { area = whole i; is_started = false; window = sym window i })
+
+-- a vector's bytes behind a slice of them from index 64 on
+pub written_behind : (old bytes : List ℕ) (len : ℕ) → len ≡ length old → 64 ≤ length old
+    → (let new : List ℕ = take 64 old ++ (bytes ++ drop (length bytes) (drop 64 old)) in take len (new ++ drop (length new) old)) ≡ take (length old) (take 64 old ++ bytes ++ drop (64 + length bytes) old)
+written_behind old bytes len e long =
+    let rest : List ℕ = drop (length bytes) (drop 64 old) in
+    let new : List ℕ = take 64 old ++ (bytes ++ rest) in
+    let whole : length old ≤ length new = omega (arith, length-append (take 64 old) (bytes ++ rest), length-append bytes rest, length-take-le 64 old long, length-drop (length bytes) (drop 64 old), length-drop 64 old) in
+    let none : new ++ drop (length new) old ≡ new = ap (λ (l : List ℕ). new ++ l) (drop_all (length new) old whole) ∙ append-nil new in
+    let behind : rest ≡ drop (64 + length bytes) old = drop-drop (length bytes) 64 old in
+    (λ i. take (e i) (none i)) ∙ ap (λ (l : List ℕ). take (length old) (take 64 old ++ (bytes ++ l))) behind
+    ∙ ap (take (length old)) (sym (append_assoc (take 64 old) bytes (drop (64 + length bytes) old)))
+
+-- a frame whose vector is written so has its room written
+pub frame_written : (f now : Contents) (bytes area : List ℕ) → f ≡ now → area ≡ take (length f.area) (take 64 f.area ++ bytes ++ drop (64 + length bytes) f.area) → record f { area = area; is_started = false } ≡ with_room now bytes
+frame_written f now bytes area same e = (λ i. record f { area = e i; is_started = false }) ∙ ap (λ (g : Contents). with_room g bytes) same

@@ -1,5 +1,5 @@
 -- What a frame shows: the datagram with headroom and tailroom round it, in one area of bytes.
-use Rattle.std.specs.Prelude.{◌≡◌, ℕ, ◌+◌, ◌≤◌, Bool, true, List, ◌++◌, length, take, drop, Option, None, IfSome}
+use Rattle.std.specs.Prelude.{◌≡◌, ℕ, ◌+◌, ◌≤◌, Bool, true, false, List, ◌++◌, length, take, drop, Option, None, IfSome}
 use Rattle.semantics.specs.Machine.{surrounded, empty_stack}
 use Rattle.machine.specs.declared.context.Context.{Context}
 
@@ -16,6 +16,10 @@ pub record Contents : Type 0 where
 -- the room for a datagram
 abbrev pub room_of : Contents → List ℕ
 room_of f = take 65507 (drop 64 f.area)
+
+-- the frame, not started, with bytes written over its area from the room on, as far as it goes
+abbrev pub with_room : Contents → List ℕ → Contents
+with_room f bytes = record f { area = take (length f.area) (take 64 f.area ++ bytes ++ drop (64 + length bytes) f.area); is_started = false }
 
 -- the datagram
 abbrev pub datagram_of : Contents → List ℕ

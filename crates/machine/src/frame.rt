@@ -86,7 +86,9 @@ fn datagram_in(area: &[u8], n: usize) -> &[u8]
 impl Frame {
     ghost use Rattle.std.specs.Prelude.{◌≡◌, ◌≤◌, false, None, length, IfOk, option_map, option_copied};
     ghost use Rattle.semantics.specs.Runs.{IsDatagram};
+    ghost use Rattle.std.specs.Borrow.{sem};
     ghost use Rattle.machine.specs.Contents.{room_of, datagram_of, window_of, IsStartedOver};
+    ghost use Rattle.machine.specs.Lends.{lends_room};
 
     /// A frame with room for the longest datagram, not started.
     pub fn new(alloc: Global) -> Result<Frame, AllocError>
@@ -109,13 +111,16 @@ impl Frame {
         })
     }
 
-    /// The room for a datagram, 65,507 bytes, to be written. The frame isn't started then.
+    /// The room for a datagram, 65,507 bytes, to be written. The frame isn't started then, and else stays
+    /// as it was.
+    #[tactic(auto, using(crate::proofs::Frames::frame_written, crate::proofs::Frames::written_behind))]
     pub fn area(&mut self) -> &mut [u8]
         ensures value { result.now ≡ room_of self.old }
         ensures len { length result.now ≡ 65507 }
+        ensures* writes_back { sem 𝓛 (lends_room self.entry result) }
     {
         self.is_started = false;
-        &mut self.area[HEADROOM..HEADROOM + ROOM]
+        self.area.slice_mut(HEADROOM..HEADROOM + ROOM)
     }
 
     /// Whether a run may start.

@@ -6,7 +6,8 @@ use Rattle.relayd.specs.declared.fault.Fault.{Fault}
 use Rattle.relayd.specs.declared.fault.Fault.TheVariants as fault
 use Rattle.relayd.specs.declared.reporting.Ask.{Ask}
 use Rattle.relayd.specs.declared.reporting.Ask.TheVariants as ask
-use Rattle.verifier.specs.Layout.{IsLaidOut}
+use Rattle.loader.specs.Loads.{IsLoaded, IsLoadRefusal}
+use Rattle.loader.specs.declared.refusal.LoadError.{LoadError}
 
 -- the status of a fault: 1 for a refusal, 3 for an output that fails, 4 for want of memory
 abbrev pub status_of : Fault → ℕ
@@ -19,19 +20,39 @@ status_of fault.Memory = 4
 abbrev pub IsProgram : List ℕ → Type 0
 IsProgram bytes = (code : List Insn) × Encodes code bytes
 
--- the bytes encode a program whose jumps lead to instructions ahead, and that ends in an exit
-abbrev pub IsLaidOutProgram : List ℕ → Type 0
-IsLaidOutProgram bytes = (code : List Insn) × Encodes code bytes × IsLaidOut code
+-- the bytes encode a program of which every run exits
+abbrev pub IsSafeProgram : List ℕ → Type 0
+IsSafeProgram bytes = (code : List Insn) × IsLoaded code bytes
+
+-- there is a fault for which the bytes are not loaded
+abbrev pub IsRefusedFile : List ℕ → Type 0
+IsRefusedFile bytes = (e : LoadError) × IsLoadRefusal bytes e
 
 -- what a success says of the file
 abbrev pub Succeeds : Ask → List ℕ → Type 0
-Succeeds ask.Verify file = IsLaidOutProgram file
+Succeeds ask.Verify file = IsSafeProgram file
 Succeeds (ask.Trace hex) file = IsProgram file
 
+-- and what a refusal says
+abbrev pub Refuses : Ask → List ℕ → Type 0
+Refuses ask.Verify file = IsRefusedFile file
+Refuses (ask.Trace hex) file = Unit {0}
+
+-- the faults that come with no refusal
+abbrev pub IsOutputOrMemory : Fault → Type 0
+IsOutputOrMemory fault.Output = Unit {0}
+IsOutputOrMemory fault.Memory = Unit {0}
+IsOutputOrMemory fault.Data = ⊥
+IsOutputOrMemory (fault.Program e) = ⊥
+
+abbrev pub MayFail : Ask → Fault → Type 0
+MayFail ask.Verify f = IsOutputOrMemory f
+MayFail (ask.Trace hex) f = Unit {0}
+
 -- the status of a report that came to its end: 0 for a success, or 1 for a refusal or a stuck trace
-abbrev pub IsVerdict : Type 0 → ℕ → Type 0
-IsVerdict succeeds status = ((status ≡ 0) × succeeds) ⊎ (status ≡ 1)
+abbrev pub IsVerdict : Type 0 → Type 0 → ℕ → Type 0
+IsVerdict succeeds refuses status = ((status ≡ 0) × succeeds) ⊎ ((status ≡ 1) × refuses)
 
 -- the status of a report: one that came to its end, or a fault's
 abbrev pub IsStatus : Ask → List ℕ → ℕ → Type 0
-IsStatus asked file status = IsVerdict (Succeeds asked file) status ⊎ (status ≡ 3) ⊎ (status ≡ 4)
+IsStatus asked file status = IsVerdict (Succeeds asked file) (Refuses asked file) status ⊎ (status ≡ 3) ⊎ (status ≡ 4)

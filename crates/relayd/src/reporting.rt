@@ -1,18 +1,18 @@
 //! What the commands print of a program file, and their statuses.
 
-ghost use Rattle.std.specs.Prelude.{◌≡◌, ◌≤◌, ◌<◌, ◌⊎◌, IfOk, OnOk, vec_len};
-ghost use Rattle.insn.specs.Encoding.{slot_count};
-ghost use Rattle.verifier.specs.Layout.{IsLaidOut};
-ghost use Rattle.relayd.specs.Statuses.{IsProgram, IsLaidOutProgram, IsVerdict, IsStatus};
+ghost use Rattle.std.specs.Prelude.{◌≡◌, ◌≤◌, ◌<◌, ◌⊎◌, IfOk, IfErr, OnOk, Ok, true, [], option_copied};
+ghost use Rattle.std.specs.Option.{unwrap_or};
+ghost use Rattle.hex.specs.Hex.{decode_of};
+ghost use Rattle.machine.specs.Contents.{datagram_of};
+ghost use Rattle.relayd.specs.Statuses.{IsProgram, IsSafeProgram, IsRefusedFile, IsVerdict, IsStatus, IsOutputOrMemory, Succeeds, Refuses, MayFail};
 
 use crate::fault::{Fault, fail};
-use insn::{DecodeError, Insn, decode};
+use insn::{DecodeError, decode};
+use loader::{LoadError, load};
 use machine::{Addr, Context, Frame, Lines, NoAllocation, Outcome, ROOM, Side, Stuck, trace};
 use std::alloc::Global;
 use std::io::Write;
-use std::marker::Brand;
-use std::sync::ledger::{Blank, Ledger};
-use verifier::{Refusal, Steps, Verified, verify};
+use verifier::Refusal;
 
 /// What is asked of a program file.
 #[derive(Clone, Copy, Debug)]
@@ -22,9 +22,6 @@ pub enum Ask<'a> {
     /// What it does over a datagram, given in hexadecimal digits of either case.
     Trace { hex: Option<&'a str> },
 }
-
-/// How many abstract steps `verify` may make.
-const BUDGET: usize = 100_000;
 
 /// The context of a trace: the client's side, 127.0.0.1:9, and a transaction id of zeros.
 const CONTEXT: Context = Context {
@@ -43,43 +40,19 @@ macro_rules! line {
     };
 }
 
-fn verified_by<L: Ledger>(alloc: Global, code: &[Insn], blank: Blank) -> Result<Verified, Refusal>
-    requires name { blank.name ≡ L.name }
-    requires parts { blank.parts ≡ L.parts }
-    requires some { 0 < L.parts }
-    requires few { slot_count code.now ≤ 4096 }
-    ensures { OnOk result (IsLaidOut code.now) }
-{
-    let mut steps = Steps::<L>::new(blank);
-    verify(alloc, code, BUDGET, &mut steps)
-}
-
-fn verified(alloc: Global, code: &[Insn]) -> Result<Verified, Refusal>
-    requires { slot_count code.now ≤ 4096 }
-    ensures { OnOk result (IsLaidOut code.now) }
-{
-    verified_by::<Brand>(alloc, code, Blank::new(1))
-}
-
 /// The line of `verify`, and its status.
 fn report_verify<W: Write>(alloc: Global, file: &[u8], out: &mut W) -> Result<u8, Fault>
-    ensures { IfOk result (IsVerdict (IsLaidOutProgram file.now)) }
+    ensures ok { IfOk result (IsVerdict (IsSafeProgram file.now) (IsRefusedFile file.now)) }
+    ensures err { IfErr result IsOutputOrMemory }
 {
-    let code = match decode(alloc, file) {
-        Ok(code) => code,
-        Err(DecodeError::Memory) => return Err(Fault::Memory),
-        Err(refusal) => {
-            line!(out; "refused {refusal}")?;
-            return Ok(1);
-        }
-    };
-    match verified(alloc, &code) {
-        Ok(verified) => {
-            let count = verified.code().len();
+    match load(alloc, file) {
+        Ok(loaded) => {
+            let count = loaded.program().code().len();
             line!(out; "accepted {count} instructions")?;
             Ok(0)
         }
-        Err(Refusal::Memory { .. }) => Err(Fault::Memory),
+        Err(LoadError::Decode(DecodeError::Memory)) => Err(Fault::Memory),
+        Err(LoadError::Verify(Refusal::Memory { .. })) => Err(Fault::Memory),
         Err(refusal) => {
             line!(out; "refused {refusal}")?;
             Ok(1)
@@ -87,9 +60,10 @@ fn report_verify<W: Write>(alloc: Global, file: &[u8], out: &mut W) -> Result<u8
     }
 }
 
-/// Writes the datagram of the digits into the frame's room, and answers its length.
-fn fill(frame: &mut Frame, hex: Option<&str>) -> Result<usize, Fault>
-    ensures { IfOk result (λ n. n ≤ 65507) }
+/// Writes the datagram of the digits into the frame, and starts it.
+fn fill(frame: &mut Frame, hex: Option<&str>) -> Result<(), Fault>
+    ensures started { OnOk result (frame.new.is_started ≡ true) }
+    ensures datagram { OnOk result (decode_of (unwrap_or (option_copied hex.entry) []) ≡ Ok (datagram_of frame.new)) }
 {
     let digits = hex.unwrap_or("").as_bytes();
     let n = digits.len() / 2;
@@ -98,7 +72,10 @@ fn fill(frame: &mut Frame, hex: Option<&str>) -> Result<usize, Fault>
     }
     let (datagram, _) = frame.area().split_at_mut(n);
     match hex::decode_to_slice(digits, datagram) {
-        Ok(()) => Ok(n),
+        Ok(()) => {
+            frame.start(&CONTEXT, n);
+            Ok(())
+        }
         Err(_) => Err(Fault::Data),
     }
 }
@@ -134,25 +111,39 @@ fn report_trace<W: Write>(
     file: &[u8],
     out: &mut W,
 ) -> Result<u8, Fault>
-    ensures { IfOk result (IsVerdict (IsProgram file.now)) }
+    ensures { IfOk result (IsVerdict (IsProgram file.now) (Unit {0})) }
 {
     let mut frame = Frame::new(alloc).map_err(|_| Fault::Memory)?;
-    let n = fill(&mut frame, hex)?;
+    fill(&mut frame, hex)?;
     let code = match decode(alloc, file) {
         Ok(code) => code,
         Err(DecodeError::Memory) => return Err(Fault::Memory),
         Err(refusal) => return Err(Fault::Program(refusal)),
     };
-    frame.start(&CONTEXT, n);
     let mut lines = Lines::new(&mut *out);
     let ended = trace(&code, &mut frame, &NoAllocation, &mut lines);
     lines.finish().map_err(|_| Fault::Output)?;
     report_end(ended, out)
 }
 
-/// Writes the lines of what is asked of a program file, and answers the exit status: 0 for success,
-/// which only the bytes of a program have, 1 for a refusal or a stuck trace, 3 where the output can't be
-/// written, 4 where memory ran out. A fault's line goes to `err`.
+/// Writes the lines of what is asked of a program file to the end, and answers their status.
+fn answer<W: Write>(alloc: Global, ask: Ask<'_>, file: &[u8], out: &mut W) -> Result<u8, Fault>
+    ensures ok { IfOk result (IsVerdict (Succeeds ask.entry file.now) (Refuses ask.entry file.now)) }
+    ensures err { IfErr result (MayFail ask.entry) }
+{
+    let status = match ask {
+        Ask::Verify => report_verify(alloc, file, out)?,
+        Ask::Trace { hex } => report_trace(alloc, hex, file, out)?,
+    };
+    out.flush().map_err(|_| Fault::Output)?;
+    Ok(status)
+}
+
+/// Writes the lines of what is asked of a program file, and answers the exit status: 0 for success, 1
+/// for a refusal or a stuck trace, 3 where the output can't be written, 4 where memory ran out. A fault's
+/// line goes to `err`. `Verify` succeeds only on the bytes of a program of which every run exits, and
+/// refuses only bytes that may not be loaded.
+#[tactic(auto, using(crate::proofs::Faults::fault_status))]
 pub fn report<W: Write, E: Write>(
     alloc: Global,
     ask: Ask<'_>,
@@ -162,12 +153,7 @@ pub fn report<W: Write, E: Write>(
 ) -> u8
     ensures { IsStatus ask.entry file.now result }
 {
-    let reported = match ask {
-        Ask::Verify => report_verify(alloc, file, out),
-        Ask::Trace { hex } => report_trace(alloc, hex, file, out),
-    };
-    let flushed = out.flush().map_err(|_| Fault::Output);
-    match reported.and_then(|status| flushed.map(|()| status)) {
+    match answer(alloc, ask, file, out) {
         Ok(status) => status,
         Err(fault) => fail(err, fault),
     }
