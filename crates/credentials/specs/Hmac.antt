@@ -1,0 +1,21 @@
+-- HMAC over SHA-1 (RFC 2104, section 2).
+use Rattle.std.specs.Prelude.{ℕ, ◌-◌, List, ◌++◌, length, map, replicate, bit_xor}
+use Rattle.sha1.specs.Sha1.{sha1}
+
+-- a key of at most 64 bytes, filled with zeros to the block of the hash
+abbrev pub block_of : List ℕ → List ℕ
+block_of key = key ++ replicate (64 - length key) 0
+
+-- each byte xored with a pad
+abbrev pub padded : ℕ → List ℕ → List ℕ
+padded pad block = map (λ b. bit_xor b pad) block
+
+abbrev pub inner_pad : ℕ
+inner_pad = 0x36
+
+abbrev pub outer_pad : ℕ
+outer_pad = 0x5c
+
+-- H((K xor opad) || H((K xor ipad) || m))
+abbrev pub hmac : List ℕ → List ℕ → List ℕ
+hmac key m = sha1 (padded outer_pad (block_of key) ++ sha1 (padded inner_pad (block_of key) ++ m))

@@ -1,0 +1,75 @@
+//! HMAC over SHA-1 (RFC 2104).
+
+ghost use Rattle.std.specs.Prelude.{◌≡◌, ◌≤◌, ◌++◌, ℕ, List, length, map, drop};
+ghost use Rattle.std.specs.List.{concat};
+ghost use Rattle.sha1.specs.Sha1.{Holds};
+ghost use Rattle.credentials.specs.Hmac.{block_of, padded, hmac};
+
+use sha1::Sha1;
+
+/// The block of the hash, in bytes.
+const BLOCK: usize = 64;
+
+const INNER_PAD: u8 = 0x36;
+
+const OUTER_PAD: u8 = 0x5c;
+
+/// Writes bytes over the first ones of a slice.
+fn write_front(bytes: &mut [u8], front: &[u8])
+    requires { length front.now ≤ length bytes.old }
+    ensures { bytes.new ≡ front.now ++ drop (length front.now) bytes.old }
+{
+    let (begin, _) = bytes.split_at_mut(front.len());
+    begin.copy_from_slice(front);
+}
+
+/// The key, filled with zeros to a block.
+fn block_of(key: &[u8]) -> [u8; BLOCK]
+    requires { length key.now ≤ 64 }
+    ensures { result ≡ block_of key.now }
+{
+    let mut block = [0; BLOCK];
+    write_front(&mut block, key);
+    block
+}
+
+/// Each byte is xored with a pad.
+fn pad_bytes(bytes: &mut [u8], pad: u8)
+    ensures { bytes.new ≡ padded pad bytes.old }
+{
+    for byte in bytes.iter_mut() {
+        *byte ^= pad;
+    }
+}
+
+/// A block, each byte xored with a pad.
+fn padded(pad: u8, mut block: [u8; BLOCK]) -> [u8; BLOCK]
+    ensures { result ≡ padded pad block }
+{
+    pad_bytes(&mut block, pad);
+    block
+}
+
+/// Feeds pieces to a hash, one after the other.
+fn update_all(hash: &mut Sha1, pieces: &[&[u8]])
+    ensures { (m : List ℕ) → Holds hash.old m → Holds hash.new (m ++ concat (map (λ piece. piece.now) pieces.now)) }
+{
+    for piece in pieces {
+        hash.update(piece);
+    }
+}
+
+/// The code of a message, which is handed in as pieces, under a key of at most 64 bytes.
+pub fn hmac_sha1(key: &[u8], pieces: &[&[u8]]) -> [u8; 20]
+    requires { length key.now ≤ 64 }
+    ensures { result ≡ hmac key.now (concat (map (λ piece. piece.now) pieces.now)) }
+{
+    let block = block_of(key);
+    let mut inner = Sha1::new();
+    inner.update(&padded(INNER_PAD, block));
+    update_all(&mut inner, pieces);
+    let mut outer = Sha1::new();
+    outer.update(&padded(OUTER_PAD, block));
+    outer.update(&inner.finalize());
+    outer.finalize()
+}
