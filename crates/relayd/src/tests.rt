@@ -4,6 +4,7 @@ mod calls;
 mod faults;
 mod help;
 mod rows;
+mod running;
 mod texts;
 
 use crate::reporting::{Ask, report};

@@ -5,17 +5,17 @@ use crate::reporting::Ask;
 use std::test::Fail;
 
 /// The program that checks four bytes and answers the fourth.
-const FOURTH_BYTE: &str = "7912000000000000 7913080000000000 bf24000000000000 0704000004000000 \
+pub const FOURTH_BYTE: &str = "7912000000000000 7913080000000000 bf24000000000000 0704000004000000 \
      b700000000000000 2d34010000000000 7120030000000000 9500000000000000";
 /// The same, answering the fifth byte, which was not checked.
 const FIFTH_BYTE: &str = "7912000000000000 7913080000000000 bf24000000000000 0704000004000000 \
      b700000000000000 2d34010000000000 7120040000000000 9500000000000000";
 /// The same, with `jge`, which does check it.
-const FIFTH_BYTE_CHECKED: &str = "7912000000000000 7913080000000000 bf24000000000000 \
+pub const FIFTH_BYTE_CHECKED: &str = "7912000000000000 7913080000000000 bf24000000000000 \
      0704000004000000 b700000000000000 3d34010000000000 7120040000000000 9500000000000000";
 
 /// Programs with the line of `verify` and its status.
-const VERIFIED: [(&str, &str, u8); 24] = [
+pub const VERIFIED: [(&str, &str, u8); 24] = [
     ("", "refused E1\n", 1),
     ("9500000000000000 95000000", "refused E2\n", 1),
     ("9500000000000000", "refused V5 at 0\n", 1),
@@ -110,7 +110,7 @@ fn twenty_jumps(rt: &HostRuntime) -> Result<Vec<u8>, Fail> {
 /// A jump with `k` jumps behind it needs `S(k)` steps, its own included: those behind it twice, and one
 /// addition. So `S(k) = 2 + 2 S(k - 1)`, with `S(-1) = 1` for the exit. Three steps stand before the first
 /// jump, and the one that would pass 100,000 is the 99,998th from there on: the exit of the way that
-/// takes the 5th, 11th, 15th, 17th and 20th jump.
+/// takes the 5th, 11th, 15th, 17th, 19th and 20th jump.
 #[test]
 fn verify_gives_up_after_100000_steps(rt: HostRuntime) -> Result<(), Fail> {
     let said = reported(&rt, Ask::Verify, &twenty_jumps(&rt)?);
