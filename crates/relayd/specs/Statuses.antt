@@ -7,7 +7,10 @@ use Rattle.relayd.specs.declared.fault.Fault.TheVariants as fault
 use Rattle.relayd.specs.declared.reporting.Ask.{Ask}
 use Rattle.relayd.specs.declared.reporting.Ask.TheVariants as ask
 use Rattle.loader.specs.Loads.{IsLoaded, IsLoadRefusal}
+use Rattle.insn.specs.declared.refusal.DecodeError.TheVariants as decoding
+use Rattle.verifier.specs.declared.refusal.Refusal.TheVariants as refusal
 use Rattle.loader.specs.declared.refusal.LoadError.{LoadError}
+use Rattle.loader.specs.declared.refusal.LoadError.TheVariants.{Decode, Verify}
 
 -- the status of a fault: 1 for a refusal, 3 for an output that fails, 4 for want of memory
 abbrev pub status_of : Fault → ℕ
@@ -24,9 +27,23 @@ IsProgram bytes = (code : List Insn) × Encodes code bytes
 abbrev pub IsSafeProgram : List ℕ → Type 0
 IsSafeProgram bytes = (code : List Insn) × IsLoaded code bytes
 
+-- a fault of the bytes or of their program, and no want of memory
+abbrev pub IsFault : LoadError → Type 0
+IsFault (Decode decoding.Empty) = Unit {0}
+IsFault (Decode decoding.NotEights) = Unit {0}
+IsFault (Decode decoding.TooLong) = Unit {0}
+IsFault (Decode (decoding.Opcode slot)) = Unit {0}
+IsFault (Decode (decoding.Register slot)) = Unit {0}
+IsFault (Decode (decoding.UnusedField slot)) = Unit {0}
+IsFault (Decode (decoding.WideCut slot)) = Unit {0}
+IsFault (Decode decoding.Memory) = ⊥
+IsFault (Verify (refusal.Stuck reason slot)) = Unit {0}
+IsFault (Verify (refusal.Budget slot)) = Unit {0}
+IsFault (Verify (refusal.Memory slot)) = ⊥
+
 -- there is a fault for which the bytes are not loaded
 abbrev pub IsRefusedFile : List ℕ → Type 0
-IsRefusedFile bytes = (e : LoadError) × IsLoadRefusal bytes e
+IsRefusedFile bytes = (e : LoadError) × IsFault e × IsLoadRefusal bytes e
 
 -- what a success says of the file
 abbrev pub Succeeds : Ask → List ℕ → Type 0
