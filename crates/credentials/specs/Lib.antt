@@ -1,2 +1,4 @@
 pub mod Hmac
+pub mod Checks
 pub mod Keys
+pub mod Signs

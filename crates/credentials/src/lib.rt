@@ -2,11 +2,15 @@
 //! takes memory.
 #![tactic(auto)]
 
+mod checking;
 mod hmac;
 mod key;
+mod signing;
 
+pub use checking::{AuthError, User, check};
 pub use hmac::hmac_sha1;
 pub use key::Key;
+pub use signing::{sign, what_is_signed_is_right};
 
 #[cfg(test)]
 mod tests;

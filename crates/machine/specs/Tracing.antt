@@ -6,8 +6,8 @@ use Rattle.semantics.specs.Machine as machine
 use Rattle.semantics.specs.Machine.{AddressRecord, Surroundings, State, start}
 use Rattle.semantics.specs.Runs.{Run, Exited, run}
 use Rattle.machine.specs.Contents.{Contents, datagram_of}
-use Rattle.machine.specs.declared.context.Addr.{Addr}
-use Rattle.machine.specs.declared.context.Addr.TheVariants.{V4, V6}
+use Rattle.attributes.specs.declared.address.Addr.{Addr}
+use Rattle.attributes.specs.declared.address.Addr.TheVariants.{V4, V6}
 use Rattle.machine.specs.declared.context.Side.{Side}
 use Rattle.machine.specs.declared.context.Side.TheVariants.{Client, Peer}
 use Rattle.machine.specs.declared.context.Context.{Context}

@@ -3,7 +3,8 @@
 ghost use Rattle.std.specs.Prelude.{◌≡◌, ◌≤◌, ◌+◌, ◌++◌, None, length, take, drop, replicate, IfOk, All, ◌<◌};
 ghost use Rattle.semantics.specs.Machine.{empty_stack, surrounded};
 
-use crate::context::{Addr, Context, Side};
+use crate::context::{Context, Side};
+use attributes::Addr;
 use std::alloc::{AllocError, Global};
 use std::marker::Model;
 

@@ -11,7 +11,8 @@ mod sink;
 mod tracing;
 mod walk;
 
-pub use context::{Addr, Context, Side};
+pub use attributes::Addr;
+pub use context::{Context, Side};
 pub use frame::{Frame, HEADROOM, ROOM, TAILROOM};
 pub use helpers::{Helpers, NoAllocation};
 pub use outcome::{Outcome, Stuck};

@@ -1,6 +1,6 @@
 //! How a run ends.
 
-use crate::context::Addr;
+use attributes::Addr;
 use semantics::Reason;
 use thiserror::Error;
 

@@ -1,0 +1,47 @@
+-- The bytes that a code is made over, from those before it.
+use Rattle.std.proofs.Common.{◌≡◌, ℕ, ◌+◌, ◌/◌, ◌%◌, List, [], ◌∷◌, ◌++◌, length, take, drop, Option, Some, None, refl, sym, ap, ◌∙◌, arith, length-append}
+use Rattle.std.specs.Prelude.{option_map}
+use Rattle.stun.specs.Endian.{big_bytes}
+use Rattle.stun.specs.Messages.{Padded, Parts, AreParts, header, attributes_bytes, before_first, before_integrity}
+use Rattle.credentials.specs.Hmac.{hmac}
+use Rattle.credentials.specs.Checks.{signed_bytes, code_under}
+use Rattle.std.proofs.lemmas.List.{append-nil, drop-drop}
+
+same_length : (n : ℕ) → big_bytes 2 ((n + 4) % 65536) ≡ big_bytes 2 (n + 4)
+same_length n =
+    let high : ((n + 4) % 65536) / 256 % 256 ≡ (n + 4) / 256 % 256 = omega arith in
+    let low : ((n + 4) % 65536) % 256 ≡ (n + 4) % 256 = omega arith in
+    λ i. high i ∷ low i ∷ []
+
+resigned_at : (p : Parts) (attributes : Option (List Padded)) (front : List ℕ) → length p.transaction_id ≡ 12
+    → option_map (λ a. header p.kind (length (attributes_bytes p.attributes)) p.transaction_id ++ attributes_bytes a) attributes ≡ Some front
+    → option_map (λ a. header p.kind (length (attributes_bytes a) + 24) p.transaction_id ++ attributes_bytes a) attributes ≡ Some (take 2 front ++ (big_bytes 2 ((length front + 4) % 65536) ++ drop 4 front))
+resigned_at p None front id e = absurd cc
+resigned_at p (Some a) front id e =
+    let bytes : List ℕ = attributes_bytes a in
+    let whole : List ℕ = header p.kind (length (attributes_bytes p.attributes)) p.transaction_id ++ bytes in
+    let is : whole ≡ front = cc in
+    let size : length whole + 4 ≡ length bytes + 24 = omega (arith, length-append p.transaction_id bytes, id) in
+    let length_is : big_bytes 2 (length bytes + 24) ≡ big_bytes 2 ((length whole + 4) % 65536) = ap (big_bytes 2) (sym size) ∙ sym (same_length (length whole)) in
+    ap (λ (b : List ℕ). Some (take 2 whole ++ (b ++ drop 4 whole))) length_is ∙ ap (λ (f : List ℕ). Some (take 2 f ++ (big_bytes 2 ((length f + 4) % 65536) ++ drop 4 f))) is
+
+no_code : (p : Parts) (attributes : Option (List Padded)) → option_map (λ a. header p.kind (length (attributes_bytes p.attributes)) p.transaction_id ++ attributes_bytes a) attributes ≡ None
+    → ◌≡◌ {A = Option (List ℕ)} (option_map (λ a. header p.kind (length (attributes_bytes a) + 24) p.transaction_id ++ attributes_bytes a) attributes) None
+no_code p None e = refl
+no_code p (Some a) e = absurd cc
+
+pub resigned : (p : Parts) (front : List ℕ) → AreParts p → before_integrity p ≡ Some front → signed_bytes p ≡ Some (take 2 front ++ (big_bytes 2 ((length front + 4) % 65536) ++ drop 4 front))
+resigned p front are e = resigned_at p (before_first p.attributes) front are.transaction_id e
+
+pub unsigned : (p : Parts) → before_integrity p ≡ None → signed_bytes p ≡ None
+unsigned p e = no_code p (before_first p.attributes) e
+
+-- the code over the pieces of which the front was made anew
+pub code_of_pieces : (key front kind length_bytes rest behind : List ℕ) (p : Parts) → AreParts p → Some front ≡ before_integrity p → kind ≡ take 2 front → rest ≡ drop 2 front → behind ≡ drop 2 rest → length_bytes ≡ big_bytes 2 ((length front + 4) % 65536)
+    → Some (hmac key (kind ++ (length_bytes ++ (behind ++ [])))) ≡ code_under key p
+code_of_pieces key front kind length_bytes rest behind p are given kind_is rest_is behind_is length_is =
+    let tail : behind ++ [] ≡ drop 4 front = append-nil behind ∙ behind_is ∙ ap (drop 2) rest_is ∙ drop-drop 2 2 front in
+    (λ i. Some (hmac key (kind_is i ++ (length_is i ++ tail i)))) ∙ sym (ap (option_map (hmac key)) (resigned p front are (sym given)))
+
+pub code_of_none : (key : List ℕ) (p : Parts) → None ≡ before_integrity p → None ≡ code_under key p
+code_of_none key p given = sym (ap (option_map (hmac key)) (unsigned p (sym given)))

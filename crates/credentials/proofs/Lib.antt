@@ -1,0 +1,3 @@
+pub mod CodeBytes
+pub mod Users
+pub mod Signed

@@ -1,0 +1,42 @@
+-- A message that was signed has its code.
+use Rattle.std.proofs.Common.{◌≡◌, ℕ, ◌+◌, Bool, true, false, List, [], ◌∷◌, ◌++◌, length, map, Option, Some, None, refl, sym, ap, ◌∙◌}
+use Rattle.std.specs.Prelude.{option_map, ◌==◌, if◌then◌else◌}
+use Rattle.stun.specs.Registry.{message_integrity}
+use Rattle.stun.specs.Messages.{Padded, Parts, header, attribute_of, attributes_bytes, up_to_integrity, before_first, zero_padded}
+use Rattle.credentials.specs.Hmac.{hmac}
+use Rattle.credentials.specs.Checks.{first_value, value_in, code_under}
+use Rattle.credentials.specs.Signs.{signing_bytes, signed}
+
+some_is_none : {A : Type 0} (x : A) → Some x ≡ None → ⊥
+some_is_none x e = absurd cc
+
+none_mapped : {A B : Type 0} (f : A → B) (o : Option A) → option_map f o ≡ None → o ≡ None
+none_mapped f None e = refl
+none_mapped f (Some x) e = absurd (some_is_none (f x) e)
+
+-- what comes behind attributes of which none is a MESSAGE-INTEGRITY
+front_step : (b : Bool) (a : Padded) (attributes : List Padded) (o o' : Option (List Padded)) → (o ≡ None → o' ≡ Some attributes) → (if b then Some [] else option_map (λ front. a ∷ front) o) ≡ None → (if b then Some [] else option_map (λ front. a ∷ front) o') ≡ Some (a ∷ attributes)
+front_step true a attributes o o' on e = absurd (some_is_none [] e)
+front_step false a attributes o o' on e = ap (option_map (λ front. a ∷ front)) (on (none_mapped (λ front. a ∷ front) o e))
+
+front_is : (attributes : List Padded) (value : List ℕ) → before_first attributes ≡ None → before_first (attributes ++ zero_padded message_integrity value ∷ []) ≡ Some attributes
+front_is [] value e = refl
+front_is (a ∷ attributes) value e = front_step (a.kind == message_integrity) a attributes (before_first attributes) (before_first (attributes ++ zero_padded message_integrity value ∷ [])) (front_is attributes value) e
+
+value_step : (b : Bool) (a : Padded) (value : List ℕ) (o : Option (List Padded)) (rest : List Padded) → (o ≡ None → first_value message_integrity (map attribute_of rest) ≡ Some value) → (if b then Some [] else option_map (λ front. a ∷ front) o) ≡ None
+    → (if b then Some a.value else first_value message_integrity (map attribute_of (if b then [] else rest))) ≡ Some value
+value_step true a value o rest on e = absurd (some_is_none [] e)
+value_step false a value o rest on e = on (none_mapped (λ front. a ∷ front) o e)
+
+value_is : (attributes : List Padded) (value : List ℕ) → before_first attributes ≡ None → first_value message_integrity (map attribute_of (up_to_integrity (attributes ++ zero_padded message_integrity value ∷ []))) ≡ Some value
+value_is [] value e = refl
+value_is (a ∷ attributes) value e = value_step (a.kind == message_integrity) a value (before_first attributes) (up_to_integrity (attributes ++ zero_padded message_integrity value ∷ [])) (value_is attributes value) e
+
+-- the code of a signed message is the right one
+pub sign_is_right : (key : List ℕ) (p q : Parts) → q ≡ signed key p → before_first p.attributes ≡ None → code_under key q ≡ value_in q message_integrity
+sign_is_right key p q is none =
+    let code : List ℕ = hmac key (signing_bytes p) in
+    let right : code_under key (signed key p) ≡ value_in (signed key p) message_integrity =
+    ap (λ (o : Option (List Padded)). option_map (hmac key) (option_map (λ front. header p.kind (length (attributes_bytes front) + 24) p.transaction_id ++ attributes_bytes front) o)) (front_is p.attributes code none)
+    ∙ sym (value_is p.attributes code none) in
+    ap (code_under key) is ∙ right ∙ ap (λ (r : Parts). value_in r message_integrity) (sym is)

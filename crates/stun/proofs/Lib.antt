@@ -1,0 +1,4 @@
+pub mod Grammar
+pub mod Datagrams
+pub mod Integrity
+pub mod Writing

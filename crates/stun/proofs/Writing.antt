@@ -1,0 +1,188 @@
+-- What is written over bytes, and the parts of what stands in a buffer.
+use Rattle.std.proofs.Common.{◌≡◌, ℕ, zero, suc, ◌+◌, ◌<◌, ◌≤◌, List, [], ◌∷◌, ◌++◌, length, take, drop, replicate, subst, refl, sym, ap, ◌∙◌, arith, append_assoc}
+use Rattle.std.specs.List.{AllByRecursion}
+use Rattle.std.proofs.lemmas.List.{length-append, length-drop, length-take-le, take-append-drop, drop-drop, append-nil}
+use Rattle.byteorder.specs.Endian.{big_bytes}
+use Rattle.byteorder.specs.Numbers.{big_number-reads_back}
+use Rattle.stun.specs.Registry.{magic_cookie}
+use Rattle.stun.specs.Messages.{Padded, IsPadded, Parts, AreParts, padding_count, attribute_bytes, attributes_bytes, header, parts_bytes, zero_padded, with_attribute, started, FitIn}
+use Rattle.stun.specs.Refusals.{number_at}
+use Rattle.stun.specs.Building.{IsBuilding, message_in, built, over, patched}
+use Rattle.stun.proofs.Grammar.{piece_take, piece_drop}
+use Rattle.stun.proofs.Datagrams.{parts_are, length_of_parts}
+
+-- ---- pieces written one after the other
+
+pub patched_on : (f r x : List ℕ) (at : ℕ) → at ≡ length f → patched at x (f ++ r) ≡ f ++ (x ++ drop (length x) r)
+patched_on f r x at e =
+    let front = piece_take f r at e in
+    let behind : drop (at + length x) (f ++ r) ≡ drop (length x) r = sym (drop-drop (length x) at (f ++ r)) ∙ ap (drop (length x)) (piece_drop f r at e) in
+    λ i. front i ++ (x ++ behind i)
+
+length_patched : (b x : List ℕ) (at : ℕ) → at + length x ≤ length b → length (patched at x b) ≡ length b
+length_patched b x at room =
+    omega (arith, length-append (take at b) (x ++ drop (at + length x) b), length-append x (drop (at + length x) b), length-take-le at b (omega arith), length-drop (at + length x) b)
+
+-- a second piece right behind the first is one longer piece
+pub patched_twice : (b x y : List ℕ) (at next : ℕ) → next ≡ at + length x → next ≤ length b → patched next y (patched at x b) ≡ patched at (x ++ y) b
+patched_twice b x y at next is room =
+    let f : List ℕ = take at b in
+    let r : List ℕ = drop at b in
+    let f_length : at ≡ length f = sym (length-take-le at b (omega (arith, is, room))) in
+    let whole : b ≡ f ++ r = sym (take-append-drop at b) in
+    let one : patched at x b ≡ (f ++ x) ++ drop (length x) r = ap (patched at x) whole ∙ patched_on f r x at f_length ∙ sym (append_assoc f x (drop (length x) r)) in
+    let two : patched next y (patched at x b) ≡ (f ++ x) ++ (y ++ drop (length y) (drop (length x) r)) =
+    ap (patched next y) one ∙ patched_on (f ++ x) (drop (length x) r) y next (omega (arith, is, f_length, length-append f x)) in
+    let behind : drop (length y) (drop (length x) r) ≡ drop (length (x ++ y)) r = drop-drop (length y) (length x) r ∙ ap (λ n. drop n r) (sym (length-append x y)) in
+    let both : patched at (x ++ y) b ≡ f ++ ((x ++ y) ++ drop (length (x ++ y)) r) = ap (patched at (x ++ y)) whole ∙ patched_on f r (x ++ y) at f_length in
+    two ∙ append_assoc f x (y ++ drop (length y) (drop (length x) r)) ∙ ap (λ l. f ++ l) (sym (append_assoc x y (drop (length y) (drop (length x) r))) ∙ ap (λ l. (x ++ y) ++ l) behind) ∙ sym both
+
+-- four pieces
+pub patched_four : (b b1 b2 b3 b4 x y z w : List ℕ) (at at2 at3 at4 : ℕ) → b1 ≡ patched at x b → b2 ≡ patched at2 y b1 → b3 ≡ patched at3 z b2 → b4 ≡ patched at4 w b3
+    → at2 ≡ at + length x → at3 ≡ at2 + length y → at4 ≡ at3 + length z → at4 + length w ≤ length b
+    → b4 ≡ patched at (x ++ (y ++ (z ++ w))) b
+patched_four b b1 b2 b3 b4 x y z w at at2 at3 at4 e1 e2 e3 e4 n2 n3 n4 room =
+    let two : b2 ≡ patched at (x ++ y) b = e2 ∙ ap (patched at2 y) e1 ∙ patched_twice b x y at at2 n2 (omega (arith, room, n3, n4)) in
+    let three : b3 ≡ patched at ((x ++ y) ++ z) b = e3 ∙ ap (patched at3 z) two ∙ patched_twice b (x ++ y) z at at3 (omega (arith, n2, n3, length-append x y)) (omega (arith, room, n4)) in
+    let four : b4 ≡ patched at (((x ++ y) ++ z) ++ w) b = e4 ∙ ap (patched at4 w) three ∙ patched_twice b ((x ++ y) ++ z) w at at4 (omega (arith, n2, n3, n4, length-append x y, length-append (x ++ y) z)) (omega (arith, room)) in
+    four ∙ ap (λ p. patched at p b) (append_assoc (x ++ y) z w ∙ append_assoc x y (z ++ w))
+
+-- the pieces of an attribute
+pub attribute_written : (b b1 b2 b3 b4 value zeros : List ℕ) (kind n at at2 at3 at4 : ℕ) → b1 ≡ patched at (big_bytes 2 kind) b → b2 ≡ patched at2 (big_bytes 2 n) b1 → b3 ≡ patched at3 value b2 → b4 ≡ patched at4 zeros b3
+    → n ≡ length value → zeros ≡ replicate (padding_count (length value)) 0 → at2 ≡ at + 2 → at3 ≡ at + 4 → at4 ≡ at3 + length value → at4 + length zeros ≤ length b
+    → b4 ≡ patched at (attribute_bytes (zero_padded kind value)) b
+attribute_written b b1 b2 b3 b4 value zeros kind n at at2 at3 at4 e1 e2 e3 e4 n_is zeros_are n2 n3 n4 room =
+    patched_four b b1 b2 b3 b4 (big_bytes 2 kind) (big_bytes 2 n) value zeros at at2 at3 at4 e1 e2 e3 e4 n2 (omega (arith, n2, n3)) n4 room
+    ∙ (λ i. patched at (big_bytes 2 kind ++ (big_bytes 2 (n_is i) ++ (value ++ zeros_are i))) b)
+
+-- ---- what stands in a buffer
+
+pub record Stands (p : Parts) (r b : List ℕ) : Type 0 where
+  pub building : IsBuilding b
+  pub message : message_in b ≡ parts_bytes p
+  pub parts : built b ≡ p
+  pub behind : drop (length (parts_bytes p)) b ≡ r
+
+pub stands : (b : List ℕ) (p : Parts) (r : List ℕ) → AreParts p → b ≡ parts_bytes p ++ r → Stands p r b
+stands b p r are spelled =
+    let whole = parts_bytes p in
+    let x = attributes_bytes p.attributes in
+    let length_is : number_at 2 2 (whole ++ r) ≡ length x = big_number-reads_back 2 (length x) ((big_bytes 4 magic_cookie ++ p.transaction_id) ++ x ++ r) are.short in
+    let end : 20 + number_at 2 2 (whole ++ r) ≡ length whole = omega (arith, length_is, length_of_parts p are) in
+    let front : message_in b ≡ whole = ap message_in spelled ∙ piece_take whole r (20 + number_at 2 2 (whole ++ r)) end in
+    let parts_is : built b ≡ p = parts_are (message_in b) p are front in
+    record {
+      building = record {
+        inside = omega (arith, ap length spelled, ap (number_at 2 2) spelled, end, length-append whole r);
+        message = record {
+          are_parts = subst AreParts (sym parts_is) are;
+          spelled = front ∙ ap parts_bytes (sym parts_is);
+        };
+      };
+      message = front;
+      parts = parts_is;
+      behind = ap (drop (length whole)) spelled ∙ piece_drop whole r (length whole) refl;
+    }
+
+-- a buffer that is being built stands as its message and the rest
+pub split_building : (b : List ℕ) → IsBuilding b → (b ≡ parts_bytes (built b) ++ drop (length (parts_bytes (built b))) b) × (length (parts_bytes (built b)) ≡ 20 + number_at 2 2 b) × (length (attributes_bytes (built b).attributes) ≡ number_at 2 2 b)
+split_building b is =
+    let p = built b in
+    let spelled = is.message.spelled in
+    let front : length (message_in b) ≡ 20 + number_at 2 2 b = length-take-le (20 + number_at 2 2 b) b is.inside in
+    let long : length (parts_bytes p) ≡ 20 + number_at 2 2 b = ap length (sym spelled) ∙ front in
+    let whole = sym (take-append-drop (20 + number_at 2 2 b) b) ∙ (λ i. spelled i ++ drop (sym long i) b) in
+    (whole, long, omega (arith, long, length_of_parts p is.message.are_parts))
+
+-- ---- one attribute more
+
+push_all : (list : List Padded) (a : Padded) → AllByRecursion IsPadded list → IsPadded a → AllByRecursion IsPadded (list ++ a ∷ [])
+push_all [] a all is = (is, tt)
+push_all (b ∷ list) a all is = (all.0, push_all list a all.1 is)
+
+push_bytes : (list : List Padded) (a : Padded) → attributes_bytes (list ++ a ∷ []) ≡ attributes_bytes list ++ attribute_bytes a
+push_bytes [] a = append-nil (attribute_bytes a)
+push_bytes (b ∷ list) a = ap (λ c. attribute_bytes b ++ c) (push_bytes list a) ∙ sym (append_assoc (attribute_bytes b) (attributes_bytes list) (attribute_bytes a))
+
+pub length_replicate : (n : ℕ) → length {A = ℕ} (replicate n 0) ≡ n
+length_replicate zero = refl
+length_replicate (suc n) = ap suc (length_replicate n)
+
+length_zero_padded : (kind : ℕ) (value : List ℕ) → length (attribute_bytes (zero_padded kind value)) ≡ 4 + length value + padding_count (length value)
+length_zero_padded kind value = omega (arith, length-append value (replicate (padding_count (length value)) 0), length_replicate (padding_count (length value)))
+
+pub length_with : (p : Parts) (kind : ℕ) (value : List ℕ) → length (attributes_bytes (with_attribute p kind value).attributes) ≡ length (attributes_bytes p.attributes) + (4 + length value + padding_count (length value))
+length_with p kind value = omega (arith, ap length (push_bytes p.attributes (zero_padded kind value)), length-append (attributes_bytes p.attributes) (attribute_bytes (zero_padded kind value)), length_zero_padded kind value)
+
+pub with_are : (p : Parts) (kind : ℕ) (value : List ℕ) → AreParts p → kind < 0x10000 → length (attributes_bytes (with_attribute p kind value).attributes) < 0x10000 → AreParts (with_attribute p kind value)
+with_are p kind value are small short = record {
+  kind = are.kind;
+  transaction_id = are.transaction_id;
+  attributes = push_all p.attributes (zero_padded kind value) are.attributes (record { kind = small; value = omega (arith, length_with p kind value, short); padding = length_replicate (padding_count (length value)) });
+  short = short;
+}
+
+relength : (p : Parts) (n m : ℕ) (body : List ℕ) → patched 2 (big_bytes 2 m) (header p.kind n p.transaction_id ++ body) ≡ header p.kind m p.transaction_id ++ body
+relength p n m body = refl
+
+length_of_with : (p : Parts) (kind : ℕ) (value : List ℕ) → AreParts p → length (parts_bytes (with_attribute p kind value)) ≡ 20 + length (attributes_bytes (with_attribute p kind value).attributes)
+length_of_with p kind value are = omega (arith, length-append p.transaction_id (attributes_bytes (with_attribute p kind value).attributes), are.transaction_id)
+
+-- an attribute is written behind the message, and the header's length after it
+pub pushed : (b b1 b2 : List ℕ) (kind : ℕ) (value : List ℕ) (at total : ℕ) → IsBuilding b → b1 ≡ patched at (attribute_bytes (zero_padded kind value)) b → b2 ≡ patched 2 (big_bytes 2 total) b1
+    → at ≡ 20 + number_at 2 2 b → total ≡ number_at 2 2 b + (4 + length value + padding_count (length value))
+    → b2 ≡ over (with_attribute (built b) kind value) b
+pushed b b1 b2 kind value at total is e1 e2 at_is total_is =
+    let p = built b in
+    let q = with_attribute p kind value in
+    let a = zero_padded kind value in
+    let x = attributes_bytes p.attributes in
+    let r = drop (length (parts_bytes p)) b in
+    let split = split_building b is in
+    let one : b1 ≡ parts_bytes p ++ (attribute_bytes a ++ drop (length (attribute_bytes a)) r) =
+    e1 ∙ ap (patched at (attribute_bytes a)) split.0 ∙ patched_on (parts_bytes p) r (attribute_bytes a) at (omega (arith, at_is, split.1)) in
+    let ends : length (parts_bytes p) + length (attribute_bytes a) ≡ length (parts_bytes q) = omega (arith, length_of_with p kind value is.message.are_parts, length_with p kind value, length_zero_padded kind value, split.1, split.2) in
+    let rest : drop (length (attribute_bytes a)) r ≡ drop (length (parts_bytes q)) b =
+    drop-drop (length (attribute_bytes a)) (length (parts_bytes p)) b ∙ ap (λ n. drop n b) ends in
+    let joined : parts_bytes p ++ (attribute_bytes a ++ drop (length (attribute_bytes a)) r) ≡ header p.kind (length x) p.transaction_id ++ (attributes_bytes q.attributes ++ drop (length (parts_bytes q)) b) =
+    append_assoc (header p.kind (length x) p.transaction_id) x (attribute_bytes a ++ drop (length (attribute_bytes a)) r)
+    ∙ ap (λ l. header p.kind (length x) p.transaction_id ++ l) (sym (append_assoc x (attribute_bytes a) (drop (length (attribute_bytes a)) r)) ∙ (λ i. sym (push_bytes p.attributes a) i ++ rest i)) in
+    let total_there : total ≡ length (attributes_bytes q.attributes) = omega (arith, total_is, length_with p kind value, split.2) in
+    e2 ∙ ap (patched 2 (big_bytes 2 total)) (one ∙ joined)
+    ∙ (λ i. header p.kind (total_there i) p.transaction_id ++ (attributes_bytes q.attributes ++ drop (length (parts_bytes q)) b))
+    ∙ sym (append_assoc (header p.kind (length (attributes_bytes q.attributes)) p.transaction_id) (attributes_bytes q.attributes) (drop (length (parts_bytes q)) b))
+
+-- the buffer after a push, and its parts
+pub pushed_stands : (b new : List ℕ) (kind : ℕ) (value : List ℕ) → IsBuilding b → new ≡ over (with_attribute (built b) kind value) b → kind < 0x10000 → number_at 2 2 b + (4 + length value + padding_count (length value)) < 0x10000
+    → Stands (with_attribute (built b) kind value) (drop (length (parts_bytes (with_attribute (built b) kind value))) b) new
+pushed_stands b new kind value is spelled small short =
+    let split = split_building b is in
+    let are = with_are (built b) kind value is.message.are_parts small (omega (arith, length_with (built b) kind value, split.2, short)) in
+    stands new (with_attribute (built b) kind value) (drop (length (parts_bytes (with_attribute (built b) kind value))) b) are spelled
+
+-- a push that fits, and one that doesn't
+pub push_fits : (b : List ℕ) (kind : ℕ) (value : List ℕ) → IsBuilding b → number_at 2 2 b + (4 + length value + padding_count (length value)) < 0x10000 → 20 + (number_at 2 2 b + (4 + length value + padding_count (length value))) ≤ length b
+    → FitIn (with_attribute (built b) kind value) (length b)
+push_fits b kind value is short room =
+    let split = split_building b is in
+    record {
+      buffer = omega (arith, length_of_with (built b) kind value is.message.are_parts, length_with (built b) kind value, split.2, room);
+      field = omega (arith, length_with (built b) kind value, split.2, short);
+    }
+
+pub push_fits_not : (b : List ℕ) (kind : ℕ) (value : List ℕ) → IsBuilding b → (number_at 2 2 b + (4 + length value + padding_count (length value)) < 0x10000 → 20 + (number_at 2 2 b + (4 + length value + padding_count (length value))) ≤ length b → ⊥)
+    → FitIn (with_attribute (built b) kind value) (length b) → ⊥
+push_fits_not b kind value is no_room fit =
+    let split = split_building b is in
+    no_room (omega (arith, length_with (built b) kind value, split.2, fit.field)) (omega (arith, length_of_with (built b) kind value is.message.are_parts, length_with (built b) kind value, split.2, fit.buffer))
+
+-- ---- a message with no attributes
+
+pub started_are : (kind : ℕ) (id : List ℕ) → kind < 0x4000 → length id ≡ 12 → AreParts (started kind id)
+started_are kind id small long = record { kind = small; transaction_id = long; attributes = tt; short = omega arith }
+
+zero_first : (n : ℕ) → 0 + n ≡ n
+zero_first n = omega arith
+
+pub started_over : (b new : List ℕ) (kind : ℕ) (id : List ℕ) → new ≡ patched 0 (parts_bytes (started kind id)) b → new ≡ over (started kind id) b
+started_over b new kind id e = e ∙ ap (λ n. parts_bytes (started kind id) ++ drop n b) (zero_first (length (parts_bytes (started kind id))))

@@ -1,0 +1,36 @@
+use Rattle.std.proofs.Common.{arith, rules, sym, ◌∙◌}
+use Rattle.stun.specs.Refusals.{IsRefused}
+use Rattle.stun.specs.Reading.{IsDatagram}
+use Rattle.stun.specs.declared.refusal.StunError.TheVariants.{AttributeOverrun}
+use Rattle.stun.proofs.Datagrams.{refused_is_no_message, overrun, accepted, accepted_has_parts, parts_are}
+use Rattle.stun.proofs.reading.read.Goals as goal
+
+pub returns-in_err-test_header-clause-only : goal.returns-in_err-test_header-clause-only
+returns-in_err-test_header-clause-only c p are spelled =
+    absurd (refused_is_no_message c.args.bytes.now _ p c.in_err-test_header.ensures.refused are spelled)
+
+overruns : (c : goal.Then-not-are_attributes) → IsRefused c.args.bytes.now AttributeOverrun
+overruns c =
+    overrun c.args.bytes.now _ (search rules) c.split_at.ensures.back (λ are. search (rules, sym c.if-not-are_attributes.true ∙ c.are_attributes.ensures.1 are))
+
+pub returns-then-not-are_attributes-clause-only : goal.returns-then-not-are_attributes-clause-only
+returns-then-not-are_attributes-clause-only c p are spelled =
+    absurd (refused_is_no_message c.args.bytes.now AttributeOverrun p (overruns c) are spelled)
+
+pub returns-then-not-are_attributes-clause-refused :
+    goal.returns-then-not-are_attributes-clause-refused
+returns-then-not-are_attributes-clause-refused c = overruns c
+
+is_datagram : (c : goal.Else-not-are_attributes) → IsDatagram c.args.bytes.now
+is_datagram c =
+    accepted_has_parts c.args.bytes.now (λ k. omega (arith, c.type_inv.bytes k))
+    (accepted c.args.bytes.now _ (search rules) c.split_at.ensures.back (c.are_attributes.ensures.0 c.if-not-are_attributes.false))
+
+pub invariant_of-result : goal.invariant_of-result
+invariant_of-result c = is_datagram c
+
+pub returns-clause-found : goal.returns-clause-found
+returns-clause-found c = let d = is_datagram c in (d.are_parts, d.spelled)
+
+pub returns-clause-only : goal.returns-clause-only
+returns-clause-only c p are spelled = parts_are c.args.bytes.now p are spelled

@@ -1,0 +1,49 @@
+-- A buffer that begins with a message, whose header tells the message's length.
+use Rattle.std.specs.Prelude.{ℕ, ◌+◌, ◌≤◌, List, ◌++◌, length, take, drop}
+use Rattle.std.specs.List.{AllByRecursion-prop}
+use Rattle.std.specs.Coded.{Coded-set, coded_ℕ, coded_list, le_prop}
+use Rattle.stun.specs.Messages.{Padded, IsPadded, Parts, AreParts, parts_bytes}
+use Rattle.stun.specs.Refusals.{number_at}
+use Rattle.stun.specs.Reading.{parts_in, IsDatagram}
+
+-- the message that a buffer begins with
+abbrev pub message_in : List ℕ → List ℕ
+message_in bytes = take (20 + number_at 2 2 bytes) bytes
+
+pub record IsBuilding (bytes : List ℕ) : Type 0 where
+  pub inside : 20 + number_at 2 2 bytes ≤ length bytes
+  pub message : IsDatagram (message_in bytes)
+
+-- its parts
+abbrev pub built : List ℕ → Parts
+built bytes = parts_in (message_in bytes)
+
+-- the message of the parts over the first bytes, and the others as they were
+abbrev pub over : Parts → List ℕ → List ℕ
+over p bytes = parts_bytes p ++ drop (length (parts_bytes p)) bytes
+
+-- bytes with others over them from an index on
+abbrev pub patched : ℕ → List ℕ → List ℕ → List ℕ
+patched at piece bytes = take at bytes ++ (piece ++ drop (at + length piece) bytes)
+
+-- ---- each of these facts has at most one proof
+
+IsPadded-prop : (a : Padded) → IsProp (IsPadded a)
+IsPadded-prop a x y = λ i. record { kind = le_prop x.kind y.kind i; value = le_prop x.value y.value i; padding = Coded-set coded_ℕ _ _ x.padding y.padding i }
+
+AreParts-prop : (p : Parts) → IsProp (AreParts p)
+AreParts-prop p x y = λ i. record {
+  kind = le_prop x.kind y.kind i;
+  transaction_id = Coded-set coded_ℕ _ _ x.transaction_id y.transaction_id i;
+  attributes = AllByRecursion-prop IsPadded IsPadded-prop p.attributes x.attributes y.attributes i;
+  short = le_prop x.short y.short i;
+}
+
+IsDatagram-prop : (bytes : List ℕ) → IsProp (IsDatagram bytes)
+IsDatagram-prop bytes x y = λ i. record {
+  are_parts = AreParts-prop (parts_in bytes) x.are_parts y.are_parts i;
+  spelled = Coded-set (coded_list coded_ℕ) _ _ x.spelled y.spelled i;
+}
+
+pub IsBuilding-prop : (bytes : List ℕ) → IsProp (IsBuilding bytes)
+IsBuilding-prop bytes x y = λ i. record { inside = le_prop x.inside y.inside i; message = IsDatagram-prop (message_in bytes) x.message y.message i }

@@ -1,0 +1,15 @@
+-- ChannelData messages and their datagrams (RFC 8656, section 12.4).
+use Rattle.std.specs.Prelude.{◌≡◌, ℕ, ◌<◌, ◌≤◌, List, ◌++◌, length}
+use Rattle.byteorder.specs.Endian.{big_bytes}
+
+pub record ChannelMessage : Type 0 where
+  pub number : ℕ
+  pub bytes : List ℕ
+
+-- Number, length, data, and then what is ignored. A channel's number lies in 0x4000 to 0x7FFF.
+pub record IsChannelMessage (m : ChannelMessage) (bytes : List ℕ) : Type 0 where
+  pub low : 0x4000 ≤ m.number
+  pub high : m.number ≤ 0x7fff
+  pub short : length m.bytes < 0x10000
+  pub rest : List ℕ
+  pub spelled : bytes ≡ big_bytes 2 m.number ++ big_bytes 2 (length m.bytes) ++ m.bytes ++ rest

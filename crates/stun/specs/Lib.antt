@@ -1,0 +1,10 @@
+pub mod Registry
+pub mod Messages
+pub mod Refusals
+pub mod Channels
+pub use Rattle.byteorder.specs.Endian
+pub mod Reading
+pub mod Attributes
+pub mod ChannelData
+pub mod Building
+pub use Rattle.byteorder.specs.Numbers

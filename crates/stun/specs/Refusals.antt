@@ -1,0 +1,25 @@
+-- Why a datagram is no message's: the first of the refusals, in their order.
+use Rattle.std.specs.Prelude.{◌≡◌, ◌≢◌, ℕ, ◌+◌, ◌%◌, ◌<◌, ◌≤◌, List, length, drop}
+use Rattle.std.specs.List.{AllByRecursion}
+use Rattle.byteorder.specs.Endian.{big_number}
+use Rattle.stun.specs.Registry.{magic_cookie}
+use Rattle.stun.specs.Messages.{Padded, IsPadded, attributes_bytes}
+use Rattle.stun.specs.declared.refusal.StunError.{StunError}
+use Rattle.stun.specs.declared.refusal.StunError.TheVariants.{TooShort, NotStun, BadCookie, BadLength, AttributeOverrun}
+
+-- the number in two or four bytes from an index on
+abbrev pub number_at : ℕ → ℕ → List ℕ → ℕ
+number_at n i bytes = big_number n (drop i bytes)
+
+-- the length is a multiple of four, and that of what follows the header
+pub record HasLength (bytes : List ℕ) : Type 0 where
+  pub fours : number_at 2 2 bytes % 4 ≡ 0
+  pub whole : 20 + number_at 2 2 bytes ≡ length bytes
+
+abbrev pub IsRefused : List ℕ → StunError → Type 0
+IsRefused bytes TooShort = length bytes < 20
+IsRefused bytes NotStun = (20 ≤ length bytes) × (0x4000 ≤ number_at 2 0 bytes)
+IsRefused bytes BadCookie = (20 ≤ length bytes) × (number_at 2 0 bytes < 0x4000) × (number_at 4 4 bytes ≢ magic_cookie)
+IsRefused bytes BadLength = (20 ≤ length bytes) × (number_at 2 0 bytes < 0x4000) × (number_at 4 4 bytes ≡ magic_cookie) × (HasLength bytes → ⊥)
+IsRefused bytes AttributeOverrun = (20 ≤ length bytes) × (number_at 2 0 bytes < 0x4000) × (number_at 4 4 bytes ≡ magic_cookie) × HasLength bytes
+    × ((attributes : List Padded) → AllByRecursion IsPadded attributes → drop 20 bytes ≢ attributes_bytes attributes)

@@ -1,0 +1,133 @@
+//! The attributes of a message (RFC 8489, section 14).
+
+ghost use Rattle.std.specs.Prelude.{◌≡◌, ℕ, ◌≤◌, ◌++◌, List, length, take, option_map, IfSome, MatchOption, Decides};
+ghost use Rattle.stun.specs.Messages.{Padded, IsPadded, padding_count, attribute_bytes, attributes_bytes, before_first};
+ghost use Rattle.stun.specs.Reading.{AreAttributes, BeginsWith, attributes_in};
+
+use crate::registry::attribute::MESSAGE_INTEGRITY;
+use byteorder::{BigEndian, ByteOrder};
+use std::marker::Model;
+
+/// How many bytes of an attribute precede its value.
+pub(crate) const ATTRIBUTE_HEADER_BYTES: usize = 4;
+
+/// An attribute: its type, and the bytes of its value.
+#[derive(Clone, Copy, Debug)]
+pub struct Attr<'a> {
+    pub kind: u16,
+    pub value: &'a [u8],
+}
+
+/// How many bytes fill a value up to a multiple of four.
+pub(crate) fn padding_bytes(length: usize) -> usize
+    ensures { result ≡ padding_count length }
+{
+    (4 - length % 4) % 4
+}
+
+/// The attribute that begins the bytes and the bytes that follow its padding, if it doesn't overrun them.
+pub(crate) fn split_attribute(bytes: &[u8]) -> Option<(Attr<'_>, &[u8])>
+    ensures { MatchOption result ((a : Padded) (rest : List ℕ) → IsPadded a → bytes.now ≡ attribute_bytes a ++ rest → ⊥)
+        (λ r. BeginsWith bytes.now r.0.kind r.0.value.now r.1.now) }
+{
+    if bytes.len() < ATTRIBUTE_HEADER_BYTES {
+        return None;
+    }
+    let kind = BigEndian::read_u16(bytes);
+    let (_, body) = bytes.split_at(2);
+    let length = BigEndian::read_u16(body) as usize;
+    let padded = length + padding_bytes(length);
+    let (_, body) = bytes.split_at(ATTRIBUTE_HEADER_BYTES);
+    if body.len() < padded {
+        return None;
+    }
+    let (value, _) = body.split_at(length);
+    let (_, rest) = body.split_at(padded);
+    Some((Attr { kind, value }, rest))
+}
+
+/// Whether the bytes are attributes, none of which overruns.
+pub(crate) fn are_attributes(bytes: &[u8]) -> bool
+    ensures { Decides result (AreAttributes bytes.now) }
+{
+    let mut rest = bytes;
+    while rest.len() > 0 {
+        match split_attribute(rest) {
+            None => return false,
+            Some((_, after)) => rest = after,
+        }
+    }
+    true
+}
+
+/// At which byte of the attributes the first MESSAGE-INTEGRITY begins, if there is one.
+pub(crate) fn before_integrity_at(bytes: &[u8]) -> Option<usize>
+    requires { AreAttributes bytes.now }
+    ensures inside { IfSome result (λ n. n ≤ length bytes.now) }
+    ensures front { option_map (λ n. take n bytes.now) result ≡ option_map attributes_bytes (before_first (attributes_in bytes.now)) }
+{
+    let mut rest = bytes;
+    while rest.len() > 0 {
+        let (attr, after) = split_attribute(rest)?;
+        if attr.kind == MESSAGE_INTEGRITY {
+            return Some(bytes.len() - rest.len());
+        }
+        rest = after;
+    }
+    None
+}
+
+/// An iterator over the attributes of a message up to and including its first MESSAGE-INTEGRITY. Its meaning
+/// is the attributes that are left in the datagram, those after a MESSAGE-INTEGRITY too.
+#[derive(Drop)]
+pub struct Attrs<'a> {
+    rest: &'a [u8],
+}
+
+impl<'a> Model for Attrs<'a> {
+    ghost use Rattle.std.specs.Prelude.{List};
+    ghost use Rattle.std.specs.Coded.{coded_list};
+    ghost use Rattle.stun.specs.Messages.{Padded};
+    ghost use Rattle.stun.specs.Reading.{padded_code};
+
+    ghost Value = { List Padded };
+
+    ghost coded = { coded_list padded_code };
+
+    ghost use Rattle.stun.specs.Reading.{attributes_in, AreAttributes};
+
+    ghost view = { λ a. attributes_in a.rest.now };
+
+    ghost invariant = { λ a. AreAttributes a.rest.now };
+}
+
+impl<'a> Attrs<'a> {
+    /// The iterator over the attributes of these bytes.
+    pub(crate) fn new(bytes: &'a [u8]) -> Attrs<'a>
+        requires { AreAttributes bytes.now }
+        ensures { result ≡ attributes_in bytes.now }
+    {
+        Attrs { rest: bytes }
+    }
+}
+
+impl<'a> Iterator for Attrs<'a> {
+    ghost use Rattle.std.specs.Iterator.{YieldsFirstBy, item_count};
+    ghost use Rattle.stun.specs.Attributes.{attribute_of_attr, attributes_left};
+
+    type Item = Attr<'a>;
+
+    ghost next_gives = { YieldsFirstBy attribute_of_attr attributes_left };
+
+    ghost remaining = { item_count attributes_left };
+
+    fn next(&mut self) -> Option<Attr<'a>> {
+        let (attr, rest) = split_attribute(self.rest)?;
+        self.rest = if attr.kind == MESSAGE_INTEGRITY {
+            &[]
+        } else {
+            rest
+        };
+        Some(attr)
+    }
+}

@@ -1,0 +1,141 @@
+//! From a datagram to a message (RFC 8489, sections 5, 6.3 and 14).
+
+ghost use Rattle.std.specs.Prelude.{◌≡◌, ℕ, List, IfOk, IfErr, OnOk, IsOkAnd, option_copied};
+ghost use Rattle.stun.specs.Messages.{Message as SpecMessage, Parts, AreParts, parts_bytes, before_integrity, IsMessage};
+ghost use Rattle.stun.specs.Reading.{HasHeader};
+ghost use Rattle.stun.specs.Refusals.{IsRefused};
+ghost use Rattle.stun.specs.declared.refusal.StunError.{StunError};
+
+use crate::attributes::{Attrs, are_attributes, before_integrity_at};
+use crate::refusal::StunError;
+use crate::registry::MAGIC_COOKIE;
+use byteorder::{BigEndian, ByteOrder};
+use std::marker::Model;
+
+/// How many bytes a message's header has.
+pub const HEADER_BYTES: usize = 20;
+
+/// A message, as it stands in its datagram. Its meaning is its parts: type, transaction id, and all
+/// attributes with their padding.
+#[derive(Drop)]
+pub struct Message<'a> {
+    bytes: &'a [u8],
+}
+
+impl<'a> Model for Message<'a> {
+    ghost use Rattle.stun.specs.Messages.{Parts};
+    ghost use Rattle.stun.specs.Reading.{parts_code};
+
+    ghost Value = { Parts };
+
+    ghost coded = { parts_code };
+
+    ghost use Rattle.stun.specs.Reading.{parts_in, IsDatagram};
+
+    ghost view = { λ m. parts_in m.bytes.now };
+
+    ghost invariant = { λ m. IsDatagram m.bytes.now };
+}
+
+impl<'a> Message<'a> {
+    ghost use Rattle.stun.specs.Messages.{AreParts, parts_bytes, before_integrity};
+
+    /// The type: 14 bits of method and class (RFC 8489, section 5).
+    pub fn kind(&self) -> u16
+        ensures { result ≡ self.now.kind }
+    {
+        BigEndian::read_u16(self.bytes)
+    }
+
+    /// The transaction id.
+    pub fn tx(&self) -> [u8; 12]
+        ensures { result ≡ self.now.transaction_id }
+    {
+        let mut tx = [0; 12];
+        let (_, id) = self.bytes.split_at(8);
+        let (id, _) = id.split_at(12);
+        tx.copy_from_slice(id);
+        tx
+    }
+
+    /// The attributes up to and including the first MESSAGE-INTEGRITY: what follows it is ignored
+    /// (RFC 8489, section 14.5).
+    pub fn attrs(&self) -> Attrs<'a>
+        ensures { result ≡ self.now.attributes }
+    {
+        let (_, attributes) = self.bytes.split_at(HEADER_BYTES);
+        Attrs::new(attributes)
+    }
+
+    /// The bytes of the datagram before the first MESSAGE-INTEGRITY, if it has one.
+    pub fn before_integrity(&self) -> Option<&'a [u8]>
+        ensures front { option_copied result ≡ before_integrity self.now }
+        ensures are_parts { AreParts self.now }
+    {
+        let (_, attributes) = self.bytes.split_at(HEADER_BYTES);
+        let length = before_integrity_at(attributes)?;
+        let (front, _) = self.bytes.split_at(HEADER_BYTES + length);
+        Some(front)
+    }
+}
+
+/// Tests the header of a datagram (RFC 8489, section 6.3).
+fn test_header(bytes: &[u8]) -> Result<(), StunError>
+    ensures found { OnOk result (HasHeader bytes.now) }
+    ensures refused { IfErr result (IsRefused bytes.now) }
+{
+    if bytes.len() < HEADER_BYTES {
+        return Err(StunError::TooShort);
+    }
+    if BigEndian::read_u16(bytes) >= 0x4000 {
+        return Err(StunError::NotStun);
+    }
+    let (_, body) = bytes.split_at(2);
+    let length = BigEndian::read_u16(body) as usize;
+    let (_, body) = bytes.split_at(4);
+    if BigEndian::read_u32(body) != MAGIC_COOKIE {
+        return Err(StunError::BadCookie);
+    }
+    if length % 4 != 0 || HEADER_BYTES + length != bytes.len() {
+        return Err(StunError::BadLength);
+    }
+    Ok(())
+}
+
+/// The message whose datagram this is. Its time is linear in the bytes; it copies and allocates nothing.
+///
+/// # Errors
+/// The first of the refusals, in their order, where it is no message's. An attribute that overruns is one
+/// after the first MESSAGE-INTEGRITY too.
+pub fn read(bytes: &[u8]) -> Result<Message<'_>, StunError>
+    ensures found { IfOk result (λ m. AreParts m × (bytes.now ≡ parts_bytes m)) }
+    ensures only { (p : Parts) → AreParts p → bytes.now ≡ parts_bytes p → IsOkAnd result (λ m. m ≡ p) }
+    ensures refused { IfErr result (IsRefused bytes.now) }
+{
+    test_header(bytes)?;
+    let (_, attributes) = bytes.split_at(HEADER_BYTES);
+    if !are_attributes(attributes) {
+        return Err(StunError::AttributeOverrun);
+    }
+    Ok(Message { bytes })
+}
+
+/// Bytes have at most one refusal.
+pub fn refusals_are_unique()
+    ensures { (bytes : List ℕ) (d e : StunError) → IsRefused bytes d → IsRefused bytes e → d ≡ e }
+{}
+
+/// Bytes that are refused are no message's datagram.
+pub fn refused_is_no_message()
+    ensures { (bytes : List ℕ) (e : StunError) (p : Parts) → IsRefused bytes e → AreParts p → bytes ≡ parts_bytes p → ⊥ }
+{}
+
+/// A datagram has one list of parts.
+pub fn parts_are_unique()
+    ensures { (p q : Parts) → AreParts p → AreParts q → parts_bytes p ≡ parts_bytes q → p ≡ q }
+{}
+
+/// A datagram is at most one message's.
+pub fn messages_are_unique()
+    ensures { (m n : SpecMessage) (bytes : List ℕ) → IsMessage m bytes → IsMessage n bytes → m ≡ n }
+{}
