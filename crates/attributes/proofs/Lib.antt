@@ -1,3 +1,5 @@
 pub mod Bytes
 pub mod Numbers
 pub mod Masks
+pub mod Addresses
+pub mod Unknown

@@ -12,10 +12,10 @@ use Rattle.attributes.specs.declared.address.Addr.{Addr}
 use Rattle.attributes.specs.declared.address.Addr.TheVariants.{V4, V6}
 use Rattle.attributes.proofs.Bytes.{bytes_back, all_fit}
 
-twice : (a mask : ℕ) → bit_xor (bit_xor a mask) mask ≡ a
+pub twice : (a mask : ℕ) → bit_xor (bit_xor a mask) mask ≡ a
 twice a mask = xor_assoc a mask mask ∙ ap (bit_xor a) (xor_self mask) ∙ xor_zero_r a
 
-read_back : (n y : ℕ) → y < 256 ^ n → big_number n (bytes_high_first n y) ≡ y
+pub read_back : (n y : ℕ) → y < 256 ^ n → big_number n (bytes_high_first n y) ≡ y
 read_back n y lt = ap (big_from 0 n) (sym (append-nil (bytes_high_first n y))) ∙ big_number-reads_back n y [] lt
 
 fit_behind : (n : ℕ) (xs : List ℕ) → ((i : ℕ) → Fits w8 (get_or xs i 0)) → (i : ℕ) → Fits w8 (get_or (drop n xs) i 0)

@@ -1,5 +1,5 @@
 -- The values of XOR addresses (RFC 8489, section 14.2).
-use Rattle.std.specs.Prelude.{◌≡◌, ℕ, List, ◌∷◌, ◌++◌, bit_xor}
+use Rattle.std.specs.Prelude.{◌≡◌, ℕ, ◌/◌, ◌<◌, List, ◌∷◌, ◌++◌, length, slice_index, bit_xor}
 use Rattle.stun.specs.Endian.{big_bytes, big_number}
 use Rattle.stun.specs.Registry.{magic_cookie}
 use Rattle.attributes.specs.declared.address.Addr.{Addr}
@@ -7,7 +7,7 @@ use Rattle.attributes.specs.declared.address.Addr.TheVariants.{V4, V6}
 
 -- the first half of the cookie
 abbrev pub cookie_half : ℕ
-cookie_half = 0x2112
+cookie_half = magic_cookie / 0x10000
 
 -- the cookie, and behind it the transaction id
 unfoldable pub long_mask : List ℕ → ℕ
@@ -16,6 +16,16 @@ long_mask transaction_id = big_number 16 (big_bytes 4 magic_cookie ++ transactio
 -- n bytes, as a number xored with a mask
 unfoldable pub masked : ℕ → List ℕ → ℕ → List ℕ
 masked n bytes mask = big_bytes n (bit_xor (big_number n bytes) mask)
+
+-- an address has the bytes of its family, and a port of 16 bits
+pub record HasWidth (n : ℕ) (ip : List ℕ) (port : ℕ) : Type 0 where
+  pub long : length ip ≡ n
+  pub bytes : (i : ℕ) → slice_index ip i < 256
+  pub small : port < 0x10000
+
+abbrev pub IsAddress : Addr → Type 0
+IsAddress (V4 ip port) = HasWidth 4 ip port
+IsAddress (V6 ip port) = HasWidth 16 ip port
 
 -- behind the first byte: the family, the port xored with half the cookie, and the address xored with the cookie, for
 -- IPv6 with the transaction id behind it
@@ -26,3 +36,7 @@ address_tail (V6 ip port) transaction_id = 2 ∷ big_bytes 2 (bit_xor port cooki
 -- the first byte is ignored
 abbrev pub IsAddressValue : Addr → List ℕ → List ℕ → Type 0
 IsAddressValue address transaction_id value = (first : ℕ) × (value ≡ first ∷ address_tail address transaction_id)
+
+-- it is written as zero
+abbrev pub address_value : Addr → List ℕ → List ℕ
+address_value address transaction_id = 0 ∷ address_tail address transaction_id

@@ -2,6 +2,7 @@
 
 ghost use Rattle.std.specs.Prelude.{◌≡◌, ℕ, IfOk, IfErr};
 ghost use Rattle.attributes.specs.Values.{IsNumberValue};
+ghost use Rattle.attributes.specs.declared.refusal.ValueKind.TheVariants as kinds;
 
 use crate::refusal::{BadValue, ValueKind};
 use byteorder::{BigEndian, ByteOrder};
@@ -17,6 +18,7 @@ const LENGTH: usize = 4;
 pub fn lifetime(value: &[u8]) -> Result<u32, BadValue>
     ensures found { IfOk result (λ n. IsNumberValue 4 n value.now) }
     ensures refused { IfErr result (λ e. (n : ℕ) → IsNumberValue 4 n value.now → ⊥) }
+    ensures kind { IfErr result (λ e. e.0 ≡ kinds.Lifetime) }
 {
     if value.len() == LENGTH {
         Ok(BigEndian::read_u32(value))
@@ -34,6 +36,7 @@ pub fn lifetime(value: &[u8]) -> Result<u32, BadValue>
 pub fn channel_number(value: &[u8]) -> Result<u16, BadValue>
     ensures found { IfOk result (λ n. IsNumberValue 2 n value.now) }
     ensures refused { IfErr result (λ e. (n : ℕ) → IsNumberValue 2 n value.now → ⊥) }
+    ensures kind { IfErr result (λ e. e.0 ≡ kinds.ChannelNumber) }
 {
     if value.len() == LENGTH {
         Ok(BigEndian::read_u16(value))
@@ -51,6 +54,7 @@ pub fn channel_number(value: &[u8]) -> Result<u16, BadValue>
 pub fn requested_transport(value: &[u8]) -> Result<u8, BadValue>
     ensures found { IfOk result (λ n. IsNumberValue 1 n value.now) }
     ensures refused { IfErr result (λ e. (n : ℕ) → IsNumberValue 1 n value.now → ⊥) }
+    ensures kind { IfErr result (λ e. e.0 ≡ kinds.RequestedTransport) }
 {
     if value.len() == LENGTH {
         Ok(value[0])
@@ -68,6 +72,7 @@ pub fn requested_transport(value: &[u8]) -> Result<u8, BadValue>
 pub fn requested_family(value: &[u8]) -> Result<u8, BadValue>
     ensures found { IfOk result (λ n. IsNumberValue 1 n value.now) }
     ensures refused { IfErr result (λ e. (n : ℕ) → IsNumberValue 1 n value.now → ⊥) }
+    ensures kind { IfErr result (λ e. e.0 ≡ kinds.RequestedFamily) }
 {
     if value.len() == LENGTH {
         Ok(value[0])

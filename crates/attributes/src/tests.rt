@@ -1,19 +1,20 @@
 //! Values from outside: the addresses of RFC 5769 and worked ones, and what is malformed.
 
-use crate::{
-    Addr, BadValue, ValueKind, channel_number, lifetime, read_xor_addr, requested_family,
-    requested_transport,
-};
+mod reading;
+mod replies;
+mod writing;
 
-const ZERO_ID: [u8; 12] = [0; 12];
+use crate::Addr;
+
+pub const ZERO_ID: [u8; 12] = [0; 12];
 
 /// The transaction id of the sample messages of RFC 5769, sections 2.2 and 2.3.
-const SAMPLE_ID: [u8; 12] = [
+pub const SAMPLE_ID: [u8; 12] = [
     0xb7, 0xe7, 0xa7, 0x01, 0xbc, 0x34, 0xd6, 0x86, 0xfa, 0x87, 0xdf, 0xae,
 ];
 
 /// Values with their transaction ids, and the addresses in them.
-const ADDRESSES: [(&[u8], [u8; 12], Addr); 4] = [
+pub const ADDRESSES: [(&[u8], [u8; 12], Addr); 4] = [
     // 192.0.2.1 port 32853 (RFC 5769, section 2.2)
     (
         &[0x00, 0x01, 0xa1, 0x47, 0xe1, 0x12, 0xa6, 0x43],
@@ -49,9 +50,9 @@ const ADDRESSES: [(&[u8], [u8; 12], Addr); 4] = [
             port: 5000,
         },
     ),
-    // 198.51.100.2 port 4000, behind a first byte that is ignored
+    // 198.51.100.2 port 4000
     (
-        &[0xff, 0x01, 0x2e, 0xb2, 0xe7, 0x21, 0xc0, 0x40],
+        &[0x00, 0x01, 0x2e, 0xb2, 0xe7, 0x21, 0xc0, 0x40],
         ZERO_ID,
         Addr::V4 {
             ip: [198, 51, 100, 2],
@@ -59,51 +60,3 @@ const ADDRESSES: [(&[u8], [u8; 12], Addr); 4] = [
         },
     ),
 ];
-
-#[test]
-fn addresses_are_read(rt: HostRuntime) {
-    for (value, tx, address) in ADDRESSES {
-        assert_eq!(rt; read_xor_addr(value, &tx), Ok(address));
-    }
-}
-
-/// No family, nine bytes, family 3, and each family with the length of the other.
-const MALFORMED: [&[u8]; 6] = [
-    &[],
-    &[0, 1, 0, 0, 0, 0, 0, 0, 0],
-    &[0, 3, 0, 0, 0, 0, 0, 0],
-    &[0, 2, 0, 0, 0, 0, 0, 0],
-    &[0, 1, 0, 0, 0, 0, 0, 0, 0, 0, 0, 0, 0, 0, 0, 0, 0, 0, 0, 0],
-    &[0, 0, 0, 0, 0, 0, 0, 0, 0, 0, 0, 0, 0, 0, 0, 0, 0, 0, 0, 0],
-];
-
-#[test]
-fn malformed_addresses_are_refused(rt: HostRuntime) {
-    for value in MALFORMED {
-        assert_eq!(rt;
-            read_xor_addr(value, &ZERO_ID),
-            Err(BadValue(ValueKind::Address))
-        );
-    }
-}
-
-#[test]
-fn numbers_are_read(rt: HostRuntime) {
-    assert_eq!(rt; lifetime(&[0, 0, 0x02, 0x58]), Ok(600));
-    assert_eq!(rt; lifetime(&[0, 0, 2]), Err(BadValue(ValueKind::Lifetime)));
-    assert_eq!(rt; channel_number(&[0x40, 0x01, 0xff, 0xff]), Ok(0x4001));
-    assert_eq!(rt;
-        channel_number(&[0x40, 0x01]),
-        Err(BadValue(ValueKind::ChannelNumber))
-    );
-    assert_eq!(rt; requested_transport(&[17, 1, 2, 3]), Ok(17));
-    assert_eq!(rt;
-        requested_transport(&[17]),
-        Err(BadValue(ValueKind::RequestedTransport))
-    );
-    assert_eq!(rt; requested_family(&[3, 0, 0, 0]), Ok(3));
-    assert_eq!(rt;
-        requested_family(&[1, 0, 0, 0, 0]),
-        Err(BadValue(ValueKind::RequestedFamily))
-    );
-}

@@ -1,11 +1,12 @@
 -- A message that was signed has its code.
-use Rattle.std.proofs.Common.{◌≡◌, ℕ, ◌+◌, Bool, true, false, List, [], ◌∷◌, ◌++◌, length, map, Option, Some, None, refl, sym, ap, ◌∙◌}
+use Rattle.std.proofs.Common.{◌≡◌, ℕ, ◌+◌, Ok, Bool, true, false, List, [], ◌∷◌, ◌++◌, length, map, Option, Some, None, refl, sym, ap, ◌∙◌}
 use Rattle.std.specs.Prelude.{option_map, ◌==◌, if◌then◌else◌}
 use Rattle.stun.specs.Registry.{message_integrity}
 use Rattle.stun.specs.Messages.{Padded, Parts, header, attribute_of, attributes_bytes, up_to_integrity, before_first, zero_padded}
 use Rattle.credentials.specs.Hmac.{hmac}
-use Rattle.credentials.specs.Checks.{first_value, value_in, code_under}
-use Rattle.credentials.specs.Signs.{signing_bytes, signed}
+use Rattle.credentials.specs.Checks.{Names, IsUser, IsFresh, IsChecked, first_value, value_in, code_under}
+use Rattle.credentials.specs.Signs.{IsUnsigned, code_of, signed, key_at}
+use Rattle.stun.specs.declared.registry.attribute.TheConstants.{USERNAME, REALM, NONCE}
 
 some_is_none : {A : Type 0} (x : A) → Some x ≡ None → ⊥
 some_is_none x e = absurd cc
@@ -35,8 +36,37 @@ value_is (a ∷ attributes) value e = value_step (a.kind == message_integrity) a
 -- the code of a signed message is the right one
 pub sign_is_right : (key : List ℕ) (p q : Parts) → q ≡ signed key p → before_first p.attributes ≡ None → code_under key q ≡ value_in q message_integrity
 sign_is_right key p q is none =
-    let code : List ℕ = hmac key (signing_bytes p) in
+    let code : List ℕ = code_of key p in
     let right : code_under key (signed key p) ≡ value_in (signed key p) message_integrity =
     ap (λ (o : Option (List Padded)). option_map (hmac key) (option_map (λ front. header p.kind (length (attributes_bytes front) + 24) p.transaction_id ++ attributes_bytes front) o)) (front_is p.attributes code none)
     ∙ sym (value_is p.attributes code none) in
     ap (code_under key) is ∙ right ∙ ap (λ (r : Parts). value_in r message_integrity) (sym is)
+
+-- what the attributes tell, none of which is a MESSAGE-INTEGRITY, they tell with one behind them
+kept_step : (b c : Bool) (a : Padded) (kind : ℕ) (x value : List ℕ) (o : Option (List Padded)) (before after : List Padded)
+    → (o ≡ None → first_value kind (map attribute_of before) ≡ Some value → first_value kind (map attribute_of after) ≡ Some value) → (if b then Some [] else option_map (λ front. a ∷ front) o) ≡ None
+    → (if c then Some x else first_value kind (map attribute_of (if b then [] else before))) ≡ Some value → (if c then Some x else first_value kind (map attribute_of (if b then [] else after))) ≡ Some value
+kept_step true c a kind x value o before after on e is = absurd (some_is_none [] e)
+kept_step false true a kind x value o before after on e is = is
+kept_step false false a kind x value o before after on e is = on (none_mapped (λ front. a ∷ front) o e) is
+
+kept : (attributes : List Padded) (kind : ℕ) (code value : List ℕ) → before_first attributes ≡ None → first_value kind (map attribute_of (up_to_integrity attributes)) ≡ Some value
+    → first_value kind (map attribute_of (up_to_integrity (attributes ++ zero_padded message_integrity code ∷ []))) ≡ Some value
+kept [] kind code value e is = absurd (some_is_none value (sym is))
+kept (a ∷ attributes) kind code value e is =
+    kept_step (a.kind == message_integrity) (a.kind == kind) a kind a.value value (before_first attributes) (up_to_integrity attributes) (up_to_integrity (attributes ++ zero_padded message_integrity code ∷ [])) (kept attributes kind code value) e is
+
+-- a message that lacks nothing but its code, with this code
+pub sign_is_accepted : (p : Parts) (name realm nonce : List ℕ) (users : Names) (index : ℕ) → IsUnsigned p nonce name → IsUser users name index → IsChecked (signed (key_at name realm users index) p) realm users nonce (Ok index)
+sign_is_accepted p name realm nonce users index is user =
+    let key : List ℕ = key_at name realm users index in
+    let code : List ℕ = code_of key p in
+    let code_is : value_in (signed key p) message_integrity ≡ Some code = value_is p.attributes code is.no_code in
+    let fresh : IsFresh (signed key p) nonce code name = record {
+      code_is = code_is;
+      name_is = kept p.attributes USERNAME code name is.no_code is.name_is;
+      realm = is.realm;
+      realm_is = kept p.attributes REALM code is.realm is.no_code is.realm_is;
+      nonce_is = kept p.attributes NONCE code nonce is.no_code is.nonce_is;
+    } in
+    (code, name, fresh, user, sign_is_right key p (signed key p) refl is.no_code ∙ code_is)

@@ -1,6 +1,7 @@
 -- The ordered test of a request's credentials (RFC 8489, section 9.2.4), and the code of a message (section 14.5).
 use Rattle.std.specs.Prelude.{◌≡◌, ◌≢◌, ℕ, ◌+◌, ◌<◌, ◌==◌, ◌⊎◌, List, [], ◌∷◌, ◌++◌, length, map, slice_index_or, Option, Some, None, Result, Ok, Err, option_map, if◌then◌else◌}
 use Rattle.stun.specs.Registry.{message_integrity}
+use Rattle.stun.specs.declared.registry.attribute.TheConstants.{USERNAME, REALM, NONCE}
 use Rattle.stun.specs.Messages.{Attribute, Parts, message_of, header, attributes_bytes, before_first}
 use Rattle.credentials.specs.Hmac.{hmac}
 use Rattle.credentials.specs.Keys.{key_of}
@@ -9,15 +10,6 @@ use Rattle.credentials.specs.declared.checking.AuthError.{AuthError}
 use Rattle.credentials.specs.declared.checking.AuthError.TheVariants.{Missing, Incomplete, StaleNonce, UnknownUser, WrongCode}
 
 -- ---- what a message gives
-
-abbrev pub username : ℕ
-username = 0x0006
-
-abbrev pub realm_type : ℕ
-realm_type = 0x0014
-
-abbrev pub nonce_type : ℕ
-nonce_type = 0x0015
 
 -- the value of the first attribute of a type
 abbrev pub first_value : ℕ → List Attribute → Option (List ℕ)
@@ -53,10 +45,10 @@ pub record IsUser (users : Names) (name : List ℕ) (index : ℕ) : Type 0 where
 -- a code, a name, a realm and the nonce are there
 pub record IsFresh (p : Parts) (nonce code name : List ℕ) : Type 0 where
   pub code_is : value_in p message_integrity ≡ Some code
-  pub name_is : value_in p username ≡ Some name
+  pub name_is : value_in p USERNAME ≡ Some name
   pub realm : List ℕ
-  pub realm_is : value_in p realm_type ≡ Some realm
-  pub nonce_is : value_in p nonce_type ≡ Some nonce
+  pub realm_is : value_in p REALM ≡ Some realm
+  pub nonce_is : value_in p NONCE ≡ Some nonce
 
 -- no user has a name
 abbrev pub IsNoUser : Names → List ℕ → Type 0
@@ -66,7 +58,7 @@ IsNoUser users name = (k : ℕ) → k < length users → (slice_index_or users k
 abbrev pub IsChecked : Parts → List ℕ → Names → List ℕ → Result ℕ AuthError → Type 0
 IsChecked p realm users nonce (Ok index) = (code : List ℕ) × (name : List ℕ) × IsFresh p nonce code name × IsUser users name index × (code_under (key_of name realm (slice_index_or users index ([], [])).1) p ≡ Some code)
 IsChecked p realm users nonce (Err Missing) = value_in p message_integrity ≡ None
-IsChecked p realm users nonce (Err Incomplete) = (value_in p message_integrity ≢ None) × ((value_in p username ≡ None) ⊎ (value_in p realm_type ≡ None) ⊎ (value_in p nonce_type ≡ None))
+IsChecked p realm users nonce (Err Incomplete) = (value_in p message_integrity ≢ None) × ((value_in p USERNAME ≡ None) ⊎ (value_in p REALM ≡ None) ⊎ (value_in p NONCE ≡ None))
 IsChecked p realm users nonce (Err StaleNonce) = (other : List ℕ) × (code : List ℕ) × (name : List ℕ) × IsFresh p other code name × (other ≢ nonce)
 IsChecked p realm users nonce (Err UnknownUser) = (code : List ℕ) × (name : List ℕ) × IsFresh p nonce code name × IsNoUser users name
 IsChecked p realm users nonce (Err WrongCode) = (code : List ℕ) × (name : List ℕ) × (index : ℕ) × IsFresh p nonce code name × IsUser users name index × (code_under (key_of name realm (slice_index_or users index ([], [])).1) p ≢ Some code)

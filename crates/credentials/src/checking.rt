@@ -1,9 +1,10 @@
 //! The ordered test of a request's credentials (RFC 8489, section 9.2.4).
 
-ghost use Rattle.std.specs.Prelude.{◌≡◌, ℕ, List, Some, Err, IfSome, IfNone, IfOk, IfErr, option_copied, Decides};
-ghost use Rattle.stun.specs.Messages.{message_of};
+ghost use Rattle.std.specs.Prelude.{◌≡◌, ℕ, List, Result, Some, Err, IfSome, IfNone, IfOk, IfErr, option_copied, Decides};
+ghost use Rattle.stun.specs.Messages.{Parts, message_of};
 ghost use Rattle.credentials.specs.Keys.{key_of};
 ghost use Rattle.credentials.specs.Checks.{first_value, code_under, names_of, Names, IsUser, IsNoUser, IsFresh, IsChecked};
+ghost use Rattle.credentials.specs.declared.checking.AuthError.{AuthError};
 
 use crate::hmac::hmac_sha1;
 use crate::key::Key;
@@ -134,3 +135,9 @@ pub fn check(
         Err(AuthError::WrongCode)
     }
 }
+
+/// A message has one answer of the ordered test.
+pub fn answers_are_unique()
+    ensures { (p : Parts) (realm : List ℕ) (users : Names) (nonce : List ℕ) (a b : Result ℕ AuthError)
+        → IsChecked p realm users nonce a → IsChecked p realm users nonce b → a ≡ b }
+{}

@@ -7,10 +7,10 @@ mod hmac;
 mod key;
 mod signing;
 
-pub use checking::{AuthError, User, check};
+pub use checking::{AuthError, User, answers_are_unique, check};
 pub use hmac::hmac_sha1;
 pub use key::Key;
-pub use signing::{sign, what_is_signed_is_right};
+pub use signing::{sign, what_is_signed_is_accepted, what_is_signed_is_right};
 
 #[cfg(test)]
 mod tests;

@@ -1,13 +1,13 @@
 //! Codes that are written into a message (RFC 8489, section 14.5).
 
-ghost use Rattle.std.specs.Prelude.{◌≡◌, ◌≤◌, ◌+◌, ◌%◌, ◌++◌, ℕ, List, length, take, drop, None, OnOk, OnErr};
+ghost use Rattle.std.specs.Prelude.{◌≡◌, ◌≤◌, ◌+◌, ◌%◌, ◌++◌, ℕ, List, length, take, drop, None, Ok, OnOk, OnErr};
 ghost use Rattle.stun.specs.Endian.{big_bytes};
-ghost use Rattle.stun.specs.Messages.{Parts, FitIn, before_first};
+ghost use Rattle.stun.specs.Messages.{Parts, before_first};
 ghost use Rattle.stun.specs.Registry.{message_integrity};
-ghost use Rattle.stun.specs.Building.{built};
+ghost use Rattle.stun.specs.Building.{built, IsWritten, HasNoRoom};
 ghost use Rattle.credentials.specs.Hmac.{hmac};
-ghost use Rattle.credentials.specs.Checks.{code_under, value_in};
-ghost use Rattle.credentials.specs.Signs.{signed};
+ghost use Rattle.credentials.specs.Checks.{Names, IsUser, IsChecked, code_under, value_in};
+ghost use Rattle.credentials.specs.Signs.{IsUnsigned, code_of, signed, key_at};
 
 use crate::hmac::hmac_sha1;
 use crate::key::Key;
@@ -16,7 +16,7 @@ use stun::{Builder, NoRoom};
 
 /// The code of the message so far under a key, with the header's length counted to the end of the
 /// MESSAGE-INTEGRITY that is to come.
-fn code_of(message: &[u8], key: &Key) -> [u8; 20]
+fn code_over(message: &[u8], key: &Key) -> [u8; 20]
     requires { 20 ≤ length message.now }
     ensures { result ≡ hmac key.now.bytes (take 2 message.now ++ (big_bytes 2 ((length message.now + 4) % 65536) ++ drop 4 message.now)) }
 {
@@ -31,11 +31,11 @@ fn code_of(message: &[u8], key: &Key) -> [u8; 20]
 /// # Errors
 /// Where it has no room: nothing is changed then.
 pub fn sign(builder: &mut Builder<'_>, key: &Key) -> Result<(), NoRoom>
-    ensures parts { OnOk result (built builder.new.buffer.now ≡ signed key.now.bytes (built builder.old.buffer.now)) }
-    ensures refused { OnErr result (FitIn (signed key.now.bytes (built builder.old.buffer.now)) (length builder.old.buffer.now) → ⊥) }
-    ensures unchanged { OnErr result (builder.new.buffer.now ≡ builder.old.buffer.now) }
+    ensures written { OnOk result (IsWritten message_integrity (code_of key.now.bytes (built builder.old.buffer.now)) builder.old.buffer.now builder.new.buffer.now) }
+    ensures no_room { OnErr result (HasNoRoom message_integrity (code_of key.now.bytes (built builder.old.buffer.now)) builder.old.buffer.now builder.new.buffer.now) }
+    ensures same_reference { builder.new.buffer.ghost_name ≡ builder.old.buffer.ghost_name }
 {
-    let code = code_of(builder.written(), key);
+    let code = code_over(builder.written(), key);
     builder.attr(MESSAGE_INTEGRITY, &code)
 }
 
@@ -44,4 +44,11 @@ pub fn sign(builder: &mut Builder<'_>, key: &Key) -> Result<(), NoRoom>
 pub fn what_is_signed_is_right()
     ensures { (key : List ℕ) (p : Parts) → before_first p.attributes ≡ None
         → code_under key (signed key p) ≡ value_in (signed key p) message_integrity }
+{}
+
+/// A message that lacks nothing but its code, signed under the key of the first user of its name, is that
+/// user's: `check` answers this index.
+pub fn what_is_signed_is_accepted()
+    ensures { (p : Parts) (name realm nonce : List ℕ) (users : Names) (index : ℕ) → IsUnsigned p nonce name → IsUser users name index
+        → IsChecked (signed (key_at name realm users index) p) realm users nonce (Ok index) }
 {}

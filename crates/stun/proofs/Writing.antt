@@ -7,7 +7,7 @@ use Rattle.byteorder.specs.Numbers.{big_number-reads_back}
 use Rattle.stun.specs.Registry.{magic_cookie}
 use Rattle.stun.specs.Messages.{Padded, IsPadded, Parts, AreParts, padding_count, attribute_bytes, attributes_bytes, header, parts_bytes, zero_padded, with_attribute, started, FitIn}
 use Rattle.stun.specs.Refusals.{number_at}
-use Rattle.stun.specs.Building.{IsBuilding, message_in, built, over, patched}
+use Rattle.stun.specs.Building.{IsBuilding, message_in, built, over, patched, IsWritten}
 use Rattle.stun.proofs.Grammar.{piece_take, piece_drop}
 use Rattle.stun.proofs.Datagrams.{parts_are, length_of_parts}
 
@@ -129,7 +129,7 @@ length_of_with : (p : Parts) (kind : ℕ) (value : List ℕ) → AreParts p → 
 length_of_with p kind value are = omega (arith, length-append p.transaction_id (attributes_bytes (with_attribute p kind value).attributes), are.transaction_id)
 
 -- an attribute is written behind the message, and the header's length after it
-pub pushed : (b b1 b2 : List ℕ) (kind : ℕ) (value : List ℕ) (at total : ℕ) → IsBuilding b → b1 ≡ patched at (attribute_bytes (zero_padded kind value)) b → b2 ≡ patched 2 (big_bytes 2 total) b1
+pushed : (b b1 b2 : List ℕ) (kind : ℕ) (value : List ℕ) (at total : ℕ) → IsBuilding b → b1 ≡ patched at (attribute_bytes (zero_padded kind value)) b → b2 ≡ patched 2 (big_bytes 2 total) b1
     → at ≡ 20 + number_at 2 2 b → total ≡ number_at 2 2 b + (4 + length value + padding_count (length value))
     → b2 ≡ over (with_attribute (built b) kind value) b
 pushed b b1 b2 kind value at total is e1 e2 at_is total_is =
@@ -153,7 +153,7 @@ pushed b b1 b2 kind value at total is e1 e2 at_is total_is =
     ∙ sym (append_assoc (header p.kind (length (attributes_bytes q.attributes)) p.transaction_id) (attributes_bytes q.attributes) (drop (length (parts_bytes q)) b))
 
 -- the buffer after a push, and its parts
-pub pushed_stands : (b new : List ℕ) (kind : ℕ) (value : List ℕ) → IsBuilding b → new ≡ over (with_attribute (built b) kind value) b → kind < 0x10000 → number_at 2 2 b + (4 + length value + padding_count (length value)) < 0x10000
+pushed_stands : (b new : List ℕ) (kind : ℕ) (value : List ℕ) → IsBuilding b → new ≡ over (with_attribute (built b) kind value) b → kind < 0x10000 → number_at 2 2 b + (4 + length value + padding_count (length value)) < 0x10000
     → Stands (with_attribute (built b) kind value) (drop (length (parts_bytes (with_attribute (built b) kind value))) b) new
 pushed_stands b new kind value is spelled small short =
     let split = split_building b is in
@@ -161,7 +161,7 @@ pushed_stands b new kind value is spelled small short =
     stands new (with_attribute (built b) kind value) (drop (length (parts_bytes (with_attribute (built b) kind value))) b) are spelled
 
 -- a push that fits, and one that doesn't
-pub push_fits : (b : List ℕ) (kind : ℕ) (value : List ℕ) → IsBuilding b → number_at 2 2 b + (4 + length value + padding_count (length value)) < 0x10000 → 20 + (number_at 2 2 b + (4 + length value + padding_count (length value))) ≤ length b
+push_fits : (b : List ℕ) (kind : ℕ) (value : List ℕ) → IsBuilding b → number_at 2 2 b + (4 + length value + padding_count (length value)) < 0x10000 → 20 + (number_at 2 2 b + (4 + length value + padding_count (length value))) ≤ length b
     → FitIn (with_attribute (built b) kind value) (length b)
 push_fits b kind value is short room =
     let split = split_building b is in
@@ -175,6 +175,16 @@ pub push_fits_not : (b : List ℕ) (kind : ℕ) (value : List ℕ) → IsBuildin
 push_fits_not b kind value is no_room fit =
     let split = split_building b is in
     no_room (omega (arith, length_with (built b) kind value, split.2, fit.field)) (omega (arith, length_of_with (built b) kind value is.message.are_parts, length_with (built b) kind value, split.2, fit.buffer))
+
+-- the attribute that was pushed, in the numbers that the code has: its length, its padding, the length before and after
+pub attribute_pushed : (b b1 new : List ℕ) (kind : ℕ) (value : List ℕ) (n padding before total : ℕ) → IsBuilding b → kind < 0x10000 → n ≡ length value → padding ≡ padding_count n → before ≡ number_at 2 2 b
+    → b1 ≡ patched (20 + before) (attribute_bytes (zero_padded kind value)) b → new ≡ patched 2 (big_bytes 2 total) b1 → total ≡ before + (4 + n + padding) → total < 0x10000 → 20 + total ≤ length b
+    → IsBuilding new × IsWritten kind value b new
+attribute_pushed b b1 new kind value n padding before total is small n_is padding_is before_is e1 e2 total_is short room =
+    let there : total ≡ number_at 2 2 b + (4 + length value + padding_count (length value)) = omega (arith, total_is, before_is, n_is, padding_is, ap padding_count n_is) in
+    let spelled = pushed b b1 new kind value (20 + before) total is e1 e2 (ap (λ (k : ℕ). 20 + k) before_is) there in
+    let stand = pushed_stands b new kind value is spelled small (omega (arith, there, short)) in
+    (stand.building, record { fits = push_fits b kind value is (omega (arith, there, short)) (omega (arith, there, room)); parts = stand.parts; bytes = spelled })
 
 -- ---- a message with no attributes
 

@@ -5,12 +5,13 @@ ghost use Rattle.byteorder.specs.Endian.{big_bytes};
 ghost use Rattle.stun.specs.Messages.{padding_count, attribute_bytes, zero_padded, parts_bytes, started, with_attribute, FitIn};
 ghost use Rattle.stun.specs.Registry.{magic_cookie};
 ghost use Rattle.stun.specs.Refusals.{number_at};
-ghost use Rattle.stun.specs.Building.{IsBuilding, IsBuilding-prop, built, over, patched};
+ghost use Rattle.stun.specs.Building.{IsBuilding, IsBuilding-prop, built, over, patched, IsWritten, HasNoRoom};
 
 use crate::attributes::{ATTRIBUTE_HEADER_BYTES, padding_bytes};
 use crate::reading::{HEADER_BYTES, Message, read};
 use crate::refusal::{NoRoom, StunError};
 use crate::registry::MAGIC_COOKIE;
+use crate::value::Value;
 use byteorder::{BigEndian, ByteOrder};
 
 /// The most that 16 bits can tell.
@@ -63,19 +64,28 @@ fn write_header(buffer: &mut [u8], kind: u16, tx: &[u8; 12])
     overwrite(buffer, 8, tx);
 }
 
-/// Writes an attribute from an index on: type, length, value, and zeros up to a multiple of four.
-fn write_attribute(buffer: &mut [u8], at: usize, kind: u16, value: &[u8])
-    requires room { at + (4 + length value.now + padding_count (length value.now)) ≤ length buffer.old }
-    requires short { length value.now < 0x10000 }
-    ensures { buffer.new ≡ patched at (attribute_bytes (zero_padded kind value.now)) buffer.old }
+/// Writes a value from an index on.
+fn write_value<V: Value>(buffer: &mut [u8], at: usize, value: &V)
+    requires { at + length (V.bytes value.now) ≤ length buffer.old }
+    ensures { buffer.new ≡ patched at (V.bytes value.now) buffer.old }
 {
+    value.write(&mut buffer[at..at + value.len()]);
+}
+
+/// Writes an attribute from an index on: type, length, value, and zeros up to a multiple of four.
+fn write_attribute<V: Value>(buffer: &mut [u8], at: usize, kind: u16, value: &V)
+    requires room { at + (4 + length (V.bytes value.now) + padding_count (length (V.bytes value.now))) ≤ length buffer.old }
+    requires short { length (V.bytes value.now) < 0x10000 }
+    ensures { buffer.new ≡ patched at (attribute_bytes (zero_padded kind (V.bytes value.now))) buffer.old }
+{
+    let length = value.len();
     write_number(buffer, at, kind);
-    write_number(buffer, at + 2, value.len() as u16);
-    overwrite(buffer, at + ATTRIBUTE_HEADER_BYTES, value);
+    write_number(buffer, at + 2, length as u16);
+    write_value(buffer, at + ATTRIBUTE_HEADER_BYTES, value);
     write_zeros(
         buffer,
-        at + ATTRIBUTE_HEADER_BYTES + value.len(),
-        padding_bytes(value.len()),
+        at + ATTRIBUTE_HEADER_BYTES + length,
+        padding_bytes(length),
     );
 }
 
@@ -110,22 +120,22 @@ fn length_in(buffer: &[u8]) -> usize
 }
 
 /// Writes an attribute behind the message that the buffer begins with, if it has room.
-fn push_attribute(buffer: &mut [u8], kind: u16, value: &[u8]) -> Result<(), NoRoom>
+fn push_attribute<V: Value>(buffer: &mut [u8], kind: u16, value: &V) -> Result<(), NoRoom>
     requires { IsBuilding buffer.old }
     ensures building { IsBuilding buffer.new }
-    ensures parts { OnOk result (built buffer.new ≡ with_attribute (built buffer.old) kind value.now) }
-    ensures bytes { OnOk result (buffer.new ≡ over (with_attribute (built buffer.old) kind value.now) buffer.old) }
-    ensures fits { OnOk result (FitIn (with_attribute (built buffer.old) kind value.now) (length buffer.old)) }
-    ensures refused { OnErr result (FitIn (with_attribute (built buffer.old) kind value.now) (length buffer.old) → ⊥) }
-    ensures unchanged { OnErr result (buffer.new ≡ buffer.old) }
+    ensures written { OnOk result (IsWritten kind (V.bytes value.now) buffer.old buffer.new) }
+    ensures no_room { OnErr result (HasNoRoom kind (V.bytes value.now) buffer.old buffer.new) }
 {
-    let length = length_in(buffer);
-    let added = ATTRIBUTE_HEADER_BYTES + value.len() + padding_bytes(value.len());
-    let total = length + added;
+    let length = value.len();
+    if length > MAX_LENGTH {
+        return Err(NoRoom);
+    }
+    let before = length_in(buffer);
+    let total = before + ATTRIBUTE_HEADER_BYTES + length + padding_bytes(length);
     if total > MAX_LENGTH || HEADER_BYTES + total > buffer.len() {
         return Err(NoRoom);
     }
-    write_attribute(buffer, HEADER_BYTES + length, kind, value);
+    write_attribute(buffer, HEADER_BYTES + before, kind, value);
     write_number(buffer, 2, total as u16);
     Ok(())
 }
@@ -140,8 +150,8 @@ pub struct Builder<'a> {
 
 impl<'a> Builder<'a> {
     ghost use Rattle.std.specs.Prelude.{◌≡◌, ◌<◌, ◌≤◌, length, take, OnOk, OnErr, IfOk, IfErr, IsOkAnd};
-    ghost use Rattle.stun.specs.Messages.{AreParts, parts_bytes, started, with_attribute, FitIn};
-    ghost use Rattle.stun.specs.Building.{built, over};
+    ghost use Rattle.stun.specs.Messages.{AreParts, parts_bytes, started, FitIn};
+    ghost use Rattle.stun.specs.Building.{built, over, IsWritten, HasNoRoom};
 
     /// Begins a message with no attributes over the first bytes of a buffer.
     ///
@@ -168,16 +178,36 @@ impl<'a> Builder<'a> {
         Builder { buffer }
     }
 
+    /// The transaction id of the message.
+    pub fn tx(&self) -> [u8; 12]
+        ensures { result ≡ (built self.now.buffer.now).transaction_id }
+    {
+        let mut tx = [0; 12];
+        let (_, id) = self.written().split_at(8);
+        let (id, _) = id.split_at(12);
+        tx.copy_from_slice(id);
+        tx
+    }
+
     /// Writes an attribute behind those that are there, with zeros up to a multiple of four.
     ///
     /// # Errors
     /// Where the buffer, or the 16 bits of a length, have no room for it: nothing is changed then.
     pub fn attr(&mut self, kind: u16, value: &[u8]) -> Result<(), NoRoom>
-        ensures parts { OnOk result (built self.new.buffer.now ≡ with_attribute (built self.old.buffer.now) kind value.now) }
-        ensures bytes { OnOk result (self.new.buffer.now ≡ over (with_attribute (built self.old.buffer.now) kind value.now) self.old.buffer.now) }
-        ensures fits { OnOk result (FitIn (with_attribute (built self.old.buffer.now) kind value.now) (length self.old.buffer.now)) }
-        ensures refused { OnErr result (FitIn (with_attribute (built self.old.buffer.now) kind value.now) (length self.old.buffer.now) → ⊥) }
-        ensures unchanged { OnErr result (self.new.buffer.now ≡ self.old.buffer.now) }
+        ensures written { OnOk result (IsWritten kind value.now self.old.buffer.now self.new.buffer.now) }
+        ensures no_room { OnErr result (HasNoRoom kind value.now self.old.buffer.now self.new.buffer.now) }
+        ensures same_reference { self.new.buffer.ghost_name ≡ self.old.buffer.ghost_name }
+    {
+        self.attr_of(kind, &value)
+    }
+
+    /// Writes an attribute as [`Builder::attr`] does, with a value that knows how to write itself.
+    ///
+    /// # Errors
+    /// Those of [`Builder::attr`].
+    pub fn attr_of<V: Value>(&mut self, kind: u16, value: &V) -> Result<(), NoRoom>
+        ensures written { OnOk result (IsWritten kind (V.bytes value.now) self.old.buffer.now self.new.buffer.now) }
+        ensures no_room { OnErr result (HasNoRoom kind (V.bytes value.now) self.old.buffer.now self.new.buffer.now) }
         ensures same_reference { self.new.buffer.ghost_name ≡ self.old.buffer.ghost_name }
     {
         push_attribute(self.buffer, kind, value)

@@ -10,6 +10,7 @@ mod refusal;
 pub mod registry;
 #[cfg(test)]
 mod tests;
+mod value;
 
 pub use attributes::{Attr, Attrs};
 pub use building::{Builder, begin, read_back};
@@ -19,3 +20,4 @@ pub use reading::{
     refused_is_no_message,
 };
 pub use refusal::{NoRoom, StunError};
+pub use value::Value;

@@ -72,25 +72,87 @@ pub mod family {
     pub const IPV6: u8 = 2;
 }
 
-/// The error codes, with the phrases of this relay (RFC 8489, section 18.4; RFC 8656, section 18).
+/// An error as ERROR-CODE tells it (RFC 8489, section 14.8): the hundreds of its code, the rest of its code,
+/// and a phrase.
+#[derive(Clone, Copy, Debug)]
+pub struct ErrorCode {
+    pub class: u8,
+    pub number: u8,
+    pub phrase: &'static str,
+}
+
+impl ErrorCode {
+    ghost use Rattle.std.specs.Prelude.{◌≡◌, ◌+◌, ◌*◌};
+
+    /// The code, as one number.
+    pub fn code(&self) -> u16
+        ensures { result ≡ 100 * self.now.class + self.now.number }
+    {
+        100 * u16::from(self.class) + u16::from(self.number)
+    }
+}
+
+/// The errors, with the phrases of this relay (RFC 8489, section 18.4; RFC 8656, section 18).
 pub mod error {
-    pub const BAD_REQUEST: (u16, &str) = (400, "Bad Request");
+    use super::ErrorCode;
 
-    pub const UNAUTHENTICATED: (u16, &str) = (401, "Unauthenticated");
+    pub const BAD_REQUEST: ErrorCode = ErrorCode {
+        class: 4,
+        number: 0,
+        phrase: "Bad Request",
+    };
 
-    pub const UNKNOWN_ATTRIBUTE: (u16, &str) = (420, "Unknown Attribute");
+    pub const UNAUTHENTICATED: ErrorCode = ErrorCode {
+        class: 4,
+        number: 1,
+        phrase: "Unauthenticated",
+    };
 
-    pub const ALLOCATION_MISMATCH: (u16, &str) = (437, "Allocation Mismatch");
+    pub const UNKNOWN_ATTRIBUTE: ErrorCode = ErrorCode {
+        class: 4,
+        number: 20,
+        phrase: "Unknown Attribute",
+    };
 
-    pub const STALE_NONCE: (u16, &str) = (438, "Stale Nonce");
+    pub const ALLOCATION_MISMATCH: ErrorCode = ErrorCode {
+        class: 4,
+        number: 37,
+        phrase: "Allocation Mismatch",
+    };
 
-    pub const ADDRESS_FAMILY_NOT_SUPPORTED: (u16, &str) = (440, "Address Family not Supported");
+    pub const STALE_NONCE: ErrorCode = ErrorCode {
+        class: 4,
+        number: 38,
+        phrase: "Stale Nonce",
+    };
 
-    pub const WRONG_CREDENTIALS: (u16, &str) = (441, "Wrong Credentials");
+    pub const ADDRESS_FAMILY_NOT_SUPPORTED: ErrorCode = ErrorCode {
+        class: 4,
+        number: 40,
+        phrase: "Address Family not Supported",
+    };
 
-    pub const UNSUPPORTED_TRANSPORT: (u16, &str) = (442, "Unsupported Transport Protocol");
+    pub const WRONG_CREDENTIALS: ErrorCode = ErrorCode {
+        class: 4,
+        number: 41,
+        phrase: "Wrong Credentials",
+    };
 
-    pub const PEER_ADDRESS_FAMILY_MISMATCH: (u16, &str) = (443, "Peer Address Family Mismatch");
+    pub const UNSUPPORTED_TRANSPORT: ErrorCode = ErrorCode {
+        class: 4,
+        number: 42,
+        phrase: "Unsupported Transport Protocol",
+    };
 
-    pub const INSUFFICIENT_CAPACITY: (u16, &str) = (508, "Insufficient Capacity");
+    pub const PEER_ADDRESS_FAMILY_MISMATCH: ErrorCode = ErrorCode {
+        class: 4,
+        number: 43,
+        phrase: "Peer Address Family Mismatch",
+    };
+
+    pub const INSUFFICIENT_CAPACITY: ErrorCode = ErrorCode {
+        class: 5,
+        number: 8,
+        phrase: "Insufficient Capacity",
+    };
 }

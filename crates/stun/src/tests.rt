@@ -3,6 +3,7 @@
 mod building;
 mod channels;
 mod refusals;
+mod registry;
 mod samples;
 
 use crate::read;

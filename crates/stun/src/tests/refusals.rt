@@ -3,6 +3,7 @@
 use crate::tests::samples::REQUEST;
 use crate::tests::{Part, reads_as};
 use crate::{StunError, read};
+use std::test::Fail;
 
 /// The refusal, if the bytes are no message.
 fn refusal(bytes: &[u8]) -> Option<StunError> {
@@ -19,7 +20,7 @@ const BINDING: [u8; 20] = [
 
 #[test]
 fn names_the_first_refusal(rt: HostRuntime) {
-    assert_eq!(rt; refusal(&BINDING), None);
+    assert!(rt; reads_as(&BINDING, 0x0001, &[0; 12], &[]));
     assert_eq!(rt; refusal(&[0; 19]), Some(StunError::TooShort));
     assert_eq!(rt; refusal(&[]), Some(StunError::TooShort));
     let mut first = BINDING;
@@ -104,4 +105,36 @@ fn names_the_refusal_of_each_changed_byte(rt: HostRuntime) {
         bytes[i] ^= 0xff;
         assert_eq!(rt; refusal(&bytes), changed(i), "byte {i}");
     }
+}
+
+/// The lengths of a header and of the one attribute behind it, the bytes of the datagram, and what becomes
+/// of it.
+const LENGTHS: [(u16, u16, usize, Option<StunError>); 9] = [
+    (0x0004, 0x0000, 24, None),
+    (0x0004, 0x0001, 24, Some(StunError::AttributeOverrun)),
+    (0x0005, 0x0000, 25, Some(StunError::BadLength)),
+    (0xfffc, 0xfff8, 65_552, None),
+    (0xfffc, 0xfff5, 65_552, None),
+    (0xfffc, 0xfff9, 65_552, Some(StunError::AttributeOverrun)),
+    (0xfffc, 0xffff, 65_552, Some(StunError::AttributeOverrun)),
+    (0xfffc, 0xfff8, 65_551, Some(StunError::BadLength)),
+    (0xffff, 0xfff8, 65_555, Some(StunError::BadLength)),
+];
+
+#[test]
+fn reads_lengths_up_to_their_limits(rt: HostRuntime) -> Result<(), Fail> {
+    for (header, attribute, size, want) in LENGTHS {
+        let mut bytes: Vec<u8> = vec![in rt.alloc(); 0; size]?;
+        assert!(rt; bytes.len() >= 24);
+        bytes[..20].copy_from_slice(&BINDING);
+        bytes[2..4].copy_from_slice(&header.to_be_bytes());
+        bytes[20..22].copy_from_slice(b"\x80\x22");
+        bytes[22..24].copy_from_slice(&attribute.to_be_bytes());
+        assert_eq!(rt;
+            refusal(bytes.as_slice()),
+            want,
+            "{header:04x} {attribute:04x} {size}"
+        );
+    }
+    Ok(())
 }

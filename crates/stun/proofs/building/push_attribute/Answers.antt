@@ -1,25 +1,16 @@
-use Rattle.std.proofs.Common.{◌≡◌, ◌+◌, length, drop, ap, arith}
-use Rattle.stun.specs.Messages.{with_attribute, parts_bytes}
-use Rattle.stun.specs.Building.{built, over}
-use Rattle.stun.proofs.Writing.{Stands, pushed, pushed_stands, push_fits}
+use Rattle.std.proofs.Common.{arith}
+use Rattle.stun.specs.Building.{IsBuilding, IsWritten}
+use Rattle.stun.proofs.Writing.{attribute_pushed}
+use Rattle.stun.proofs.building.push_attribute.Given.{Over}
 use Rattle.stun.proofs.building.push_attribute.Goals as goal
 
-spelled : (c : goal.After-slice_known-3-1) → c.write_number.new.buffer ≡ over (with_attribute (built c.args.buffer.now) c.args.kind c.args.value.now) c.args.buffer.now
-spelled c =
-    pushed c.args.buffer.now _ _ c.args.kind c.args.value.now _ _ c.requires c.write_attribute.ensures c.write_number.ensures (ap (λ n. 20 + n) c.length_in-length.ensures) (omega (arith, c.length_in-length.ensures, c.padding_bytes.ensures))
-
-stands_there : (c : goal.After-slice_known-3-1) → Stands (with_attribute (built c.args.buffer.now) c.args.kind c.args.value.now) (drop (length (parts_bytes (with_attribute (built c.args.buffer.now) c.args.kind c.args.value.now))) c.args.buffer.now) c.write_number.new.buffer
-stands_there c =
-    pushed_stands c.args.buffer.now c.write_number.new.buffer c.args.kind c.args.value.now c.requires (spelled c) (omega (arith, c.ranges.kind.fits)) (omega (arith, c.length_in-length.ensures, c.padding_bytes.ensures, c.if-total-gt-MAX_LENGTH.false))
+done : (g : Over) (c : goal.After-slice_known-3-1 g) → IsBuilding c.write_number.new.buffer × IsWritten c.args.kind (g.V.Value.bytes c.args.value.now) c.args.buffer.now c.write_number.new.buffer
+done g c =
+    attribute_pushed c.args.buffer.now _ c.write_number.new.buffer c.args.kind (g.V.Value.bytes c.args.value.now) _ _ _ _ c.requires (omega (arith, c.ranges.kind.fits)) c.len-length.ensures c.padding_bytes.ensures c.length_in-before.ensures
+    c.write_attribute.ensures c.write_number.ensures (omega arith) (omega (arith, c.if-total-gt-MAX_LENGTH.false)) (omega (arith, c.if-total-buffer.false))
 
 pub returns-clause-building : goal.returns-clause-building
-returns-clause-building c = (stands_there c).building
+returns-clause-building g c = (done g c).0
 
-pub returns-clause-parts : goal.returns-clause-parts
-returns-clause-parts c = (stands_there c).parts
-
-pub returns-clause-bytes : goal.returns-clause-bytes
-returns-clause-bytes c = spelled c
-
-pub returns-clause-fits : goal.returns-clause-fits
-returns-clause-fits c = push_fits c.args.buffer.now c.args.kind c.args.value.now c.requires (omega (arith, c.length_in-length.ensures, c.padding_bytes.ensures, c.if-total-gt-MAX_LENGTH.false)) (omega (arith, c.length_in-length.ensures, c.padding_bytes.ensures, c.if-total-buffer.false))
+pub returns-clause-written : goal.returns-clause-written
+returns-clause-written g c = (done g c).1
