@@ -2,7 +2,7 @@
 
 use crate::{AuthError, Key, User, check, sign};
 use std::test::Fail;
-use stun::registry::attribute::{NONCE as NONCE_TYPE, REALM, USERNAME};
+use stun::registry::attribute::{MESSAGE_INTEGRITY, NONCE as NONCE_TYPE, REALM, USERNAME};
 use stun::{Builder, NoRoom, read};
 
 /// The request with long-term credentials of RFC 5769, section 2.4: user `マトリックス` with the password
@@ -56,47 +56,6 @@ fn the_sample_request_is_checked(rt: HostRuntime) -> Result<(), Fail> {
     Ok(())
 }
 
-/// A request with a name, the realm `relay` and a nonce, signed with the password `pass`: its length.
-fn signed(buffer: &mut [u8], nonce: Option<&str>) -> Result<usize, Fail> {
-    let mut builder = Builder::start(buffer, 0x0003, [7; 12])?;
-    builder.attr(USERNAME, b"user")?;
-    builder.attr(REALM, b"relay")?;
-    if let Some(nonce) = nonce {
-        builder.attr(NONCE_TYPE, nonce.as_bytes())?;
-    }
-    sign(&mut builder, &Key::of("user", "relay", "pass"))?;
-    Ok(builder.finish())
-}
-
-#[test]
-fn what_is_signed_is_checked(rt: HostRuntime) -> Result<(), Fail> {
-    let users = [user(&rt, "user", "pass")?];
-    let strangers = [user(&rt, "other", "pass")?];
-    let mut buffer = [0; 200];
-    let n = signed(&mut buffer, Some("n1"))?;
-    assert!(rt; n <= buffer.len());
-    let message = read(&buffer[..n])?;
-    assert_eq!(rt; check(&message, "relay", &users, "n1"), Ok(0));
-    assert_eq!(rt;
-        check(&message, "relay", &strangers, "n2"),
-        Err(AuthError::StaleNonce)
-    );
-    buffer[n - 1] ^= 1;
-    let message = read(&buffer[..n])?;
-    assert_eq!(rt;
-        check(&message, "relay", &users, "n1"),
-        Err(AuthError::WrongCode)
-    );
-    let n = signed(&mut buffer, None)?;
-    assert!(rt; n <= buffer.len());
-    let message = read(&buffer[..n])?;
-    assert_eq!(rt;
-        check(&message, "relay", &users, "n1"),
-        Err(AuthError::Incomplete)
-    );
-    Ok(())
-}
-
 #[test]
 fn the_sample_request_is_signed_byte_for_byte(rt: HostRuntime) -> Result<(), Fail> {
     let mut buffer = [0xff; 116];
@@ -120,5 +79,152 @@ fn a_code_that_has_no_room_changes_nothing(rt: HostRuntime) -> Result<(), Fail> 
     assert_eq!(rt; sign(&mut builder, &Key::of("u", "r", "p")), Err(NoRoom));
     assert_eq!(rt; builder.finish(), 20);
     assert!(rt; buffer[20..] == [0xff; 23]);
+    Ok(())
+}
+
+/// The code of a message.
+#[derive(Clone, Copy)]
+enum Code {
+    Signed,
+    Of19Bytes,
+    None,
+}
+
+const USER: (u16, &[u8]) = (USERNAME, b"user");
+
+const STRANGER: (u16, &[u8]) = (USERNAME, b"other");
+
+const RELAY: (u16, &[u8]) = (REALM, b"relay");
+
+const ELSEWHERE: (u16, &[u8]) = (REALM, b"elsewhere");
+
+const FRESH: (u16, &[u8]) = (NONCE_TYPE, b"n1");
+
+const STALE: (u16, &[u8]) = (NONCE_TYPE, b"n2");
+
+/// The attributes of a message, its code, an attribute behind it, and the answer of the relay `relay` with the
+/// nonce `n1` and the user `user`.
+const CASES: [(
+    &[(u16, &[u8])],
+    Code,
+    Option<(u16, &[u8])>,
+    Result<usize, AuthError>,
+); 13] = [
+    (&[USER, RELAY, FRESH], Code::Signed, None, Ok(0)),
+    (
+        &[FRESH, RELAY, USER, STRANGER],
+        Code::Signed,
+        Some(STRANGER),
+        Ok(0),
+    ),
+    (&[USER, ELSEWHERE, FRESH], Code::Signed, None, Ok(0)),
+    (
+        &[USER, RELAY, FRESH],
+        Code::None,
+        None,
+        Err(AuthError::Missing),
+    ),
+    (&[], Code::None, None, Err(AuthError::Missing)),
+    (
+        &[RELAY, FRESH],
+        Code::Signed,
+        Some(USER),
+        Err(AuthError::Incomplete),
+    ),
+    (
+        &[USER, FRESH],
+        Code::Signed,
+        Some(RELAY),
+        Err(AuthError::Incomplete),
+    ),
+    (
+        &[USER, RELAY],
+        Code::Of19Bytes,
+        Some(FRESH),
+        Err(AuthError::Incomplete),
+    ),
+    (
+        &[STRANGER, RELAY],
+        Code::Signed,
+        None,
+        Err(AuthError::Incomplete),
+    ),
+    (
+        &[STRANGER, RELAY, STALE],
+        Code::Signed,
+        None,
+        Err(AuthError::StaleNonce),
+    ),
+    (
+        &[USER, RELAY, STALE, FRESH],
+        Code::Of19Bytes,
+        None,
+        Err(AuthError::StaleNonce),
+    ),
+    (
+        &[STRANGER, RELAY, FRESH],
+        Code::Of19Bytes,
+        None,
+        Err(AuthError::UnknownUser),
+    ),
+    (
+        &[USER, RELAY, FRESH],
+        Code::Of19Bytes,
+        None,
+        Err(AuthError::WrongCode),
+    ),
+];
+
+/// Writes such a message: its length.
+fn written(
+    buffer: &mut [u8],
+    before: &[(u16, &[u8])],
+    code: Code,
+    after: Option<(u16, &[u8])>,
+) -> Result<usize, NoRoom> {
+    let mut builder = Builder::start(buffer, 0x0003, [7; 12])?;
+    for (kind, value) in before {
+        builder.attr(*kind, value)?;
+    }
+    match code {
+        Code::Signed => sign(&mut builder, &Key::of("user", "relay", "pass"))?,
+        Code::Of19Bytes => builder.attr(MESSAGE_INTEGRITY, &[0; 19])?,
+        Code::None => {}
+    }
+    if let Some((kind, value)) = after {
+        builder.attr(kind, value)?;
+    }
+    Ok(builder.finish())
+}
+
+#[test]
+fn the_first_test_that_fails_is_answered(rt: HostRuntime) -> Result<(), Fail> {
+    let users = [user(&rt, "user", "pass")?];
+    for (before, code, after, want) in CASES {
+        let mut buffer = [0; 200];
+        let n = written(&mut buffer, before, code, after)?;
+        assert!(rt; n <= buffer.len());
+        let message = read(&buffer[..n])?;
+        assert_eq!(rt; check(&message, "relay", &users, "n1"), want);
+    }
+    Ok(())
+}
+
+#[test]
+fn a_changed_byte_is_noticed(rt: HostRuntime) -> Result<(), Fail> {
+    let users = [user(&rt, "user", "pass")?];
+    let mut buffer = [0; 72];
+    let n = written(&mut buffer, &[USER, RELAY, FRESH], Code::Signed, None)?;
+    assert_eq!(rt; n, 72);
+    // a byte of the transaction id, and the first and the last byte of the code
+    for i in [8, 52, 71] {
+        let mut bytes = buffer;
+        bytes[i] ^= 1;
+        let message = read(&bytes)?;
+        assert_eq!(rt;
+            check(&message, "relay", &users, "n1"),
+            Err(AuthError::WrongCode)
+        );
+    }
     Ok(())
 }

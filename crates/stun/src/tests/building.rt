@@ -54,8 +54,9 @@ fn pads_with_zeros_and_tells_the_length_so_far(rt: HostRuntime) -> Result<(), Fa
 
 #[test]
 fn has_no_room_for_a_header(rt: HostRuntime) {
-    let mut out = [0; 19];
+    let mut out = [0xff; 19];
     assert!(rt; Builder::start(&mut out, 1, [0; 12]).is_err());
+    assert!(rt; out == [0xff; 19]);
 }
 
 #[test]
