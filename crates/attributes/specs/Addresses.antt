@@ -2,6 +2,7 @@
 use Rattle.std.specs.Prelude.{◌≡◌, ℕ, ◌/◌, ◌<◌, List, ◌∷◌, ◌++◌, length, slice_index, bit_xor}
 use Rattle.stun.specs.Endian.{big_bytes, big_number}
 use Rattle.stun.specs.Registry.{magic_cookie}
+use Rattle.stun.specs.declared.registry.family.TheConstants.{IPV4, IPV6}
 use Rattle.attributes.specs.declared.address.Addr.{Addr}
 use Rattle.attributes.specs.declared.address.Addr.TheVariants.{V4, V6}
 
@@ -30,8 +31,8 @@ IsAddress (V6 ip port) = HasWidth 16 ip port
 -- behind the first byte: the family, the port xored with half the cookie, and the address xored with the cookie, for
 -- IPv6 with the transaction id behind it
 abbrev pub address_tail : Addr → List ℕ → List ℕ
-address_tail (V4 ip port) transaction_id = 1 ∷ big_bytes 2 (bit_xor port cookie_half) ++ masked 4 ip magic_cookie
-address_tail (V6 ip port) transaction_id = 2 ∷ big_bytes 2 (bit_xor port cookie_half) ++ masked 16 ip (long_mask transaction_id)
+address_tail (V4 ip port) transaction_id = IPV4 ∷ big_bytes 2 (bit_xor port cookie_half) ++ masked 4 ip magic_cookie
+address_tail (V6 ip port) transaction_id = IPV6 ∷ big_bytes 2 (bit_xor port cookie_half) ++ masked 16 ip (long_mask transaction_id)
 
 -- the first byte is ignored
 abbrev pub IsAddressValue : Addr → List ℕ → List ℕ → Type 0

@@ -4,6 +4,7 @@ ghost use Rattle.std.specs.Prelude.{◌≡◌, ℕ, ◌<◌, slice_index, ◌≤
 ghost use Rattle.stun.specs.Endian.{big_bytes};
 ghost use Rattle.stun.specs.Building.{built, IsWritten, HasNoRoom};
 ghost use Rattle.stun.specs.Registry.{magic_cookie};
+ghost use Rattle.stun.specs.declared.registry.family.TheConstants.{IPV4, IPV6};
 ghost use Rattle.attributes.specs.Addresses.{HasWidth, IsAddress, IsAddressValue, address_value, cookie_half, long_mask, masked};
 ghost use Rattle.attributes.specs.declared.address.Addr as addr;
 ghost use Rattle.attributes.specs.declared.refusal.ValueKind.TheVariants as kinds;
@@ -120,7 +121,7 @@ fn write_front(front: &mut [u8], family: u8, port: u16)
 
 /// The value of an IPv4 address.
 fn short_value(ip: &[u8; 4], port: u16) -> [u8; SHORT]
-    ensures { result ≡ 0 ∷ 1 ∷ big_bytes 2 (bit_xor port cookie_half) ++ masked 4 ip.now magic_cookie }
+    ensures { result ≡ 0 ∷ IPV4 ∷ big_bytes 2 (bit_xor port cookie_half) ++ masked 4 ip.now magic_cookie }
 {
     let mut value = [0; SHORT];
     let (front, rest) = value.split_at_mut(FRONT);
@@ -131,7 +132,7 @@ fn short_value(ip: &[u8; 4], port: u16) -> [u8; SHORT]
 
 /// The value of an IPv6 address.
 fn long_value(ip: &[u8; 16], port: u16, tx: &[u8; 12]) -> [u8; LONG]
-    ensures { result ≡ 0 ∷ 2 ∷ big_bytes 2 (bit_xor port cookie_half) ++ masked 16 ip.now (long_mask tx.now) }
+    ensures { result ≡ 0 ∷ IPV6 ∷ big_bytes 2 (bit_xor port cookie_half) ++ masked 16 ip.now (long_mask tx.now) }
 {
     let mut value = [0; LONG];
     let (front, rest) = value.split_at_mut(FRONT);
