@@ -2,6 +2,7 @@
 
 ghost use Rattle.std.specs.Prelude.{◌≡◌, ℕ, ◌<◌, slice_index, ◌≤◌, ◌∷◌, ◌++◌, length, take, drop, IfOk, IfErr, IsOkAnd, OnOk, OnErr, bit_xor};
 ghost use Rattle.stun.specs.Endian.{big_bytes};
+ghost use Rattle.stun.specs.Messages.{with_attribute};
 ghost use Rattle.stun.specs.Building.{built, IsWritten, HasNoRoom};
 ghost use Rattle.stun.specs.Registry.{magic_cookie};
 ghost use Rattle.stun.specs.declared.registry.family.TheConstants.{IPV4, IPV6};
@@ -146,8 +147,8 @@ fn long_value(ip: &[u8; 16], port: u16, tx: &[u8; 12]) -> [u8; LONG]
 /// # Errors
 /// Where it has no room: nothing is changed then.
 pub fn write_xor_addr(builder: &mut Builder<'_>, kind: u16, address: &Addr) -> Result<(), NoRoom>
-    ensures written { OnOk result (IsWritten kind (address_value address.now (built builder.old.buffer.now).transaction_id) builder.old.buffer.now builder.new.buffer.now) }
-    ensures no_room { OnErr result (HasNoRoom kind (address_value address.now (built builder.old.buffer.now).transaction_id) builder.old.buffer.now builder.new.buffer.now) }
+    ensures written { OnOk result (IsWritten (with_attribute (built builder.old.buffer.now) kind (address_value address.now (built builder.old.buffer.now).transaction_id)) builder.old.buffer.now builder.new.buffer.now) }
+    ensures no_room { OnErr result (HasNoRoom (with_attribute (built builder.old.buffer.now) kind (address_value address.now (built builder.old.buffer.now).transaction_id)) builder.old.buffer.now builder.new.buffer.now) }
     ensures same_reference { builder.new.buffer.ghost_name ≡ builder.old.buffer.ghost_name }
 {
     match address {

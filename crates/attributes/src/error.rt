@@ -1,6 +1,7 @@
 //! What an error response tells of its error (RFC 8489, sections 14.8 and 14.9).
 
 ghost use Rattle.std.specs.Prelude.{◌≡◌, OnOk, OnErr};
+ghost use Rattle.stun.specs.Messages.{with_attribute};
 ghost use Rattle.stun.specs.Building.{built, IsWritten, HasNoRoom};
 ghost use Rattle.stun.specs.declared.registry.attribute.TheConstants.{ERROR_CODE, UNKNOWN_ATTRIBUTES};
 ghost use Rattle.attributes.specs.Errors.{error_value, unknown_value};
@@ -58,8 +59,8 @@ impl<'a> Value for UnknownValue<'a> {
 /// # Errors
 /// Where it has no room: nothing is changed then.
 pub fn write_error(builder: &mut Builder<'_>, error: &ErrorCode) -> Result<(), NoRoom>
-    ensures written { OnOk result (IsWritten ERROR_CODE (error_value error.now) builder.old.buffer.now builder.new.buffer.now) }
-    ensures no_room { OnErr result (HasNoRoom ERROR_CODE (error_value error.now) builder.old.buffer.now builder.new.buffer.now) }
+    ensures written { OnOk result (IsWritten (with_attribute (built builder.old.buffer.now) ERROR_CODE (error_value error.now)) builder.old.buffer.now builder.new.buffer.now) }
+    ensures no_room { OnErr result (HasNoRoom (with_attribute (built builder.old.buffer.now) ERROR_CODE (error_value error.now)) builder.old.buffer.now builder.new.buffer.now) }
     ensures same_reference { builder.new.buffer.ghost_name ≡ builder.old.buffer.ghost_name }
 {
     builder.attr_of(ERROR_CODE, &ErrorValue(error))
@@ -70,8 +71,8 @@ pub fn write_error(builder: &mut Builder<'_>, error: &ErrorCode) -> Result<(), N
 /// # Errors
 /// Where it has no room: nothing is changed then.
 pub fn write_unknown(builder: &mut Builder<'_>, kinds: &[u16]) -> Result<(), NoRoom>
-    ensures written { OnOk result (IsWritten UNKNOWN_ATTRIBUTES (unknown_value kinds.now) builder.old.buffer.now builder.new.buffer.now) }
-    ensures no_room { OnErr result (HasNoRoom UNKNOWN_ATTRIBUTES (unknown_value kinds.now) builder.old.buffer.now builder.new.buffer.now) }
+    ensures written { OnOk result (IsWritten (with_attribute (built builder.old.buffer.now) UNKNOWN_ATTRIBUTES (unknown_value kinds.now)) builder.old.buffer.now builder.new.buffer.now) }
+    ensures no_room { OnErr result (HasNoRoom (with_attribute (built builder.old.buffer.now) UNKNOWN_ATTRIBUTES (unknown_value kinds.now)) builder.old.buffer.now builder.new.buffer.now) }
     ensures same_reference { builder.new.buffer.ghost_name ≡ builder.old.buffer.ghost_name }
 {
     builder.attr_of(UNKNOWN_ATTRIBUTES, &UnknownValue(kinds))

@@ -7,7 +7,7 @@ ghost use Rattle.stun.specs.Registry.{message_integrity};
 ghost use Rattle.stun.specs.Building.{built, IsWritten, HasNoRoom};
 ghost use Rattle.credentials.specs.Hmac.{hmac};
 ghost use Rattle.credentials.specs.Checks.{Names, IsUser, IsChecked, code_under, value_in};
-ghost use Rattle.credentials.specs.Signs.{IsUnsigned, code_of, signed, key_at};
+ghost use Rattle.credentials.specs.Signs.{IsUnsigned, signed, key_at};
 
 use crate::hmac::hmac_sha1;
 use crate::key::Key;
@@ -31,8 +31,8 @@ fn code_over(message: &[u8], key: &Key) -> [u8; 20]
 /// # Errors
 /// Where it has no room: nothing is changed then.
 pub fn sign(builder: &mut Builder<'_>, key: &Key) -> Result<(), NoRoom>
-    ensures written { OnOk result (IsWritten message_integrity (code_of key.now.bytes (built builder.old.buffer.now)) builder.old.buffer.now builder.new.buffer.now) }
-    ensures no_room { OnErr result (HasNoRoom message_integrity (code_of key.now.bytes (built builder.old.buffer.now)) builder.old.buffer.now builder.new.buffer.now) }
+    ensures written { OnOk result (IsWritten (signed key.now.bytes (built builder.old.buffer.now)) builder.old.buffer.now builder.new.buffer.now) }
+    ensures no_room { OnErr result (HasNoRoom (signed key.now.bytes (built builder.old.buffer.now)) builder.old.buffer.now builder.new.buffer.now) }
     ensures same_reference { builder.new.buffer.ghost_name ≡ builder.old.buffer.ghost_name }
 {
     let code = code_over(builder.written(), key);

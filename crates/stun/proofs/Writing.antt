@@ -179,7 +179,7 @@ push_fits_not b kind value is no_room fit =
 -- the attribute that was pushed, in the numbers that the code has: its length, its padding, the length before and after
 pub attribute_pushed : (b b1 new : List ℕ) (kind : ℕ) (value : List ℕ) (n padding before total : ℕ) → IsBuilding b → kind < 0x10000 → n ≡ length value → padding ≡ padding_count n → before ≡ number_at 2 2 b
     → b1 ≡ patched (20 + before) (attribute_bytes (zero_padded kind value)) b → new ≡ patched 2 (big_bytes 2 total) b1 → total ≡ before + (4 + n + padding) → total < 0x10000 → 20 + total ≤ length b
-    → IsBuilding new × IsWritten kind value b new
+    → IsBuilding new × IsWritten (with_attribute (built b) kind value) b new
 attribute_pushed b b1 new kind value n padding before total is small n_is padding_is before_is e1 e2 total_is short room =
     let there : total ≡ number_at 2 2 b + (4 + length value + padding_count (length value)) = omega (arith, total_is, before_is, n_is, padding_is, ap padding_count n_is) in
     let spelled = pushed b b1 new kind value (20 + before) total is e1 e2 (ap (λ (k : ℕ). 20 + k) before_is) there in

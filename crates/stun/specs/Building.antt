@@ -2,7 +2,7 @@
 use Rattle.std.specs.Prelude.{◌≡◌, ℕ, ◌+◌, ◌≤◌, List, ◌++◌, length, take, drop}
 use Rattle.std.specs.List.{AllByRecursion-prop}
 use Rattle.std.specs.Coded.{Coded-set, coded_ℕ, coded_list, le_prop}
-use Rattle.stun.specs.Messages.{Padded, IsPadded, Parts, AreParts, parts_bytes, with_attribute, FitIn}
+use Rattle.stun.specs.Messages.{Padded, IsPadded, Parts, AreParts, parts_bytes, FitIn}
 use Rattle.stun.specs.Refusals.{number_at}
 use Rattle.stun.specs.Reading.{parts_in, IsDatagram}
 
@@ -26,17 +26,17 @@ over p bytes = parts_bytes p ++ drop (length (parts_bytes p)) bytes
 abbrev pub patched : ℕ → List ℕ → List ℕ → List ℕ
 patched at piece bytes = take at bytes ++ (piece ++ drop (at + length piece) bytes)
 
--- ---- an attribute is written behind the message that a buffer begins with
+-- ---- a message is written over the first bytes of a buffer: one with no attributes, or that of before with one more
 
--- it fits, and stands there with its padding of zeros; the bytes behind it are as they were
-pub record IsWritten (kind : ℕ) (value old new : List ℕ) : Type 0 where
-  pub fits : FitIn (with_attribute (built old) kind value) (length old)
-  pub parts : built new ≡ with_attribute (built old) kind value
-  pub bytes : new ≡ over (with_attribute (built old) kind value) old
+-- it fits, and stands there; the bytes behind it are as they were
+pub record IsWritten (p : Parts) (old new : List ℕ) : Type 0 where
+  pub fits : FitIn p (length old)
+  pub parts : built new ≡ p
+  pub bytes : new ≡ over p old
 
 -- it doesn't fit, and nothing is changed
-pub record HasNoRoom (kind : ℕ) (value old new : List ℕ) : Type 0 where
-  pub full : FitIn (with_attribute (built old) kind value) (length old) → ⊥
+pub record HasNoRoom (p : Parts) (old new : List ℕ) : Type 0 where
+  pub full : FitIn p (length old) → ⊥
   pub unchanged : new ≡ old
 
 -- ---- each of these facts has at most one proof

@@ -97,11 +97,8 @@ fn write_attribute<V: Value>(buffer: &mut [u8], at: usize, kind: u16, value: &V)
 pub fn begin(buffer: &mut [u8], kind: u16, tx: &[u8; 12]) -> Result<(), NoRoom>
     requires { kind < 0x4000 }
     ensures building { OnOk result (IsBuilding buffer.new) }
-    ensures parts { OnOk result (built buffer.new ≡ started kind tx.now) }
-    ensures bytes { OnOk result (buffer.new ≡ over (started kind tx.now) buffer.old) }
-    ensures fits { OnOk result (FitIn (started kind tx.now) (length buffer.old)) }
-    ensures refused { OnErr result (FitIn (started kind tx.now) (length buffer.old) → ⊥) }
-    ensures unchanged { OnErr result (buffer.new ≡ buffer.old) }
+    ensures written { OnOk result (IsWritten (started kind tx.now) buffer.old buffer.new) }
+    ensures no_room { OnErr result (HasNoRoom (started kind tx.now) buffer.old buffer.new) }
 {
     if buffer.len() < HEADER_BYTES {
         return Err(NoRoom);
@@ -123,8 +120,8 @@ fn length_in(buffer: &[u8]) -> usize
 fn push_attribute<V: Value>(buffer: &mut [u8], kind: u16, value: &V) -> Result<(), NoRoom>
     requires { IsBuilding buffer.old }
     ensures building { IsBuilding buffer.new }
-    ensures written { OnOk result (IsWritten kind (V.bytes value.now) buffer.old buffer.new) }
-    ensures no_room { OnErr result (HasNoRoom kind (V.bytes value.now) buffer.old buffer.new) }
+    ensures written { OnOk result (IsWritten (with_attribute (built buffer.old) kind (V.bytes value.now)) buffer.old buffer.new) }
+    ensures no_room { OnErr result (HasNoRoom (with_attribute (built buffer.old) kind (V.bytes value.now)) buffer.old buffer.new) }
 {
     let length = value.len();
     if length > MAX_LENGTH {
@@ -159,11 +156,9 @@ impl<'a> Builder<'a> {
     /// Where the buffer has less than 20 bytes; it is then as it was.
     pub fn start(buffer: &'a mut [u8], kind: u16, tx: [u8; 12]) -> Result<Builder<'a>, NoRoom>
         requires { kind < 0x4000 }
-        ensures parts { IfOk result (λ b. built b.buffer.now ≡ started kind tx) }
-        ensures bytes { IfOk result (λ b. b.buffer.now ≡ over (started kind tx) buffer.old) }
+        ensures written { IfOk result (λ b. IsWritten (started kind tx) buffer.old b.buffer.now) }
         ensures same_reference { IfOk result (λ b. b.buffer.ghost_name ≡ buffer.entry.ghost_name) }
-        ensures fits { IfOk result (λ b. FitIn (started kind tx) (length buffer.old)) }
-        ensures refused { IfErr result (λ e. FitIn (started kind tx) (length buffer.old) → ⊥) }
+        ensures full { OnErr result (FitIn (started kind tx) (length buffer.old) → ⊥) }
     {
         begin(buffer, kind, &tx)?;
         Ok(Builder::resume(buffer))
@@ -194,8 +189,8 @@ impl<'a> Builder<'a> {
     /// # Errors
     /// Where the buffer, or the 16 bits of a length, have no room for it: nothing is changed then.
     pub fn attr(&mut self, kind: u16, value: &[u8]) -> Result<(), NoRoom>
-        ensures written { OnOk result (IsWritten kind value.now self.old.buffer.now self.new.buffer.now) }
-        ensures no_room { OnErr result (HasNoRoom kind value.now self.old.buffer.now self.new.buffer.now) }
+        ensures written { OnOk result (IsWritten (with_attribute (built self.old.buffer.now) kind value.now) self.old.buffer.now self.new.buffer.now) }
+        ensures no_room { OnErr result (HasNoRoom (with_attribute (built self.old.buffer.now) kind value.now) self.old.buffer.now self.new.buffer.now) }
         ensures same_reference { self.new.buffer.ghost_name ≡ self.old.buffer.ghost_name }
     {
         self.attr_of(kind, &value)
@@ -206,8 +201,8 @@ impl<'a> Builder<'a> {
     /// # Errors
     /// Those of [`Builder::attr`].
     pub fn attr_of<V: Value>(&mut self, kind: u16, value: &V) -> Result<(), NoRoom>
-        ensures written { OnOk result (IsWritten kind (V.bytes value.now) self.old.buffer.now self.new.buffer.now) }
-        ensures no_room { OnErr result (HasNoRoom kind (V.bytes value.now) self.old.buffer.now self.new.buffer.now) }
+        ensures written { OnOk result (IsWritten (with_attribute (built self.old.buffer.now) kind (V.bytes value.now)) self.old.buffer.now self.new.buffer.now) }
+        ensures no_room { OnErr result (HasNoRoom (with_attribute (built self.old.buffer.now) kind (V.bytes value.now)) self.old.buffer.now self.new.buffer.now) }
         ensures same_reference { self.new.buffer.ghost_name ≡ self.old.buffer.ghost_name }
     {
         push_attribute(self.buffer, kind, value)
