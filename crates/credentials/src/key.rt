@@ -12,7 +12,7 @@ pub struct Key {
 }
 
 impl Key {
-    ghost use Rattle.std.specs.Prelude.{◌≡◌, length};
+    ghost use Rattle.std.specs.Prelude.{◌≡◌};
     ghost use Rattle.credentials.specs.Keys.{key_of};
 
     /// MD5 of `user:realm:password`.

@@ -1,11 +1,11 @@
 //! Messages written into a caller's buffer (RFC 8489, sections 5 and 14).
 
-ghost use Rattle.std.specs.Prelude.{◌≡◌, ◌+◌, ◌<◌, ◌≤◌, ◌++◌, length, drop, replicate, OnOk, OnErr, IsOkAnd};
+ghost use Rattle.std.specs.Prelude.{◌≡◌, ◌+◌, ◌<◌, ◌≤◌, length, replicate, OnOk, OnErr, IsOkAnd};
 ghost use Rattle.byteorder.specs.Endian.{big_bytes};
-ghost use Rattle.stun.specs.Messages.{padding_count, attribute_bytes, zero_padded, parts_bytes, started, with_attribute, FitIn};
+ghost use Rattle.stun.specs.Messages.{padding_count, attribute_bytes, zero_padded, parts_bytes, started, with_attribute};
 ghost use Rattle.stun.specs.Registry.{magic_cookie};
 ghost use Rattle.stun.specs.Refusals.{number_at};
-ghost use Rattle.stun.specs.Building.{IsBuilding, IsBuilding-prop, built, over, patched, IsWritten, HasNoRoom};
+ghost use Rattle.stun.specs.Building.{IsBuilding, IsBuilding-prop, built, patched, IsWritten, HasNoRoom};
 
 use crate::attributes::{ATTRIBUTE_HEADER_BYTES, padding_bytes};
 use crate::reading::{HEADER_BYTES, Message, read};
@@ -146,9 +146,9 @@ pub struct Builder<'a> {
 }
 
 impl<'a> Builder<'a> {
-    ghost use Rattle.std.specs.Prelude.{◌≡◌, ◌<◌, ◌≤◌, length, take, OnOk, OnErr, IfOk, IfErr, IsOkAnd};
-    ghost use Rattle.stun.specs.Messages.{AreParts, parts_bytes, started, FitIn};
-    ghost use Rattle.stun.specs.Building.{built, over, IsWritten, HasNoRoom};
+    ghost use Rattle.std.specs.Prelude.{◌≡◌, ◌<◌, ◌≤◌, length, take, OnOk, OnErr, IfOk};
+    ghost use Rattle.stun.specs.Messages.{AreParts, parts_bytes, started, with_attribute, FitIn};
+    ghost use Rattle.stun.specs.Building.{built, IsWritten, HasNoRoom};
 
     /// Begins a message with no attributes over the first bytes of a buffer.
     ///
