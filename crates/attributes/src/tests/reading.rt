@@ -2,8 +2,8 @@
 
 use crate::tests::{ADDRESSES, ZERO_ID};
 use crate::{
-    Addr, BadValue, ValueKind, channel_number, lifetime, read_back, read_xor_addr,
-    requested_family, requested_transport,
+    Addr, BadValue, ValueKind, channel_number, lifetime, read_xor_addr, requested_family,
+    requested_transport,
 };
 
 #[test]
