@@ -196,3 +196,10 @@ zero_first n = omega arith
 
 pub started_over : (b new : List ℕ) (kind : ℕ) (id : List ℕ) → new ≡ patched 0 (parts_bytes (started kind id)) b → new ≡ over (started kind id) b
 started_over b new kind id e = e ∙ ap (λ n. parts_bytes (started kind id) ++ drop n b) (zero_first (length (parts_bytes (started kind id))))
+
+pub started_stands : (b new : List ℕ) (kind : ℕ) (id : List ℕ) → kind < 0x4000 → length id ≡ 12 → new ≡ patched 0 (parts_bytes (started kind id)) b → IsBuilding new
+started_stands b new kind id small long e = (stands new (started kind id) _ (started_are kind id small long) (started_over b new kind id e)).building
+
+-- a header alone has 20 bytes
+pub no_header_fits : (kind : ℕ) (id : List ℕ) (size : ℕ) → kind < 0x4000 → length id ≡ 12 → size < 20 → FitIn (started kind id) size → ⊥
+no_header_fits kind id size small long short fit = omega (arith, length_of_parts (started kind id) (started_are kind id small long), short, fit.buffer)

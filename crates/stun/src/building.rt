@@ -149,6 +149,7 @@ impl<'a> Builder<'a> {
     ghost use Rattle.std.specs.Prelude.{◌≡◌, ◌<◌, ◌≤◌, length, take, OnOk, OnErr, IfOk};
     ghost use Rattle.stun.specs.Messages.{AreParts, parts_bytes, started, with_attribute, FitIn};
     ghost use Rattle.stun.specs.Building.{built, IsWritten, HasNoRoom};
+    ghost use Rattle.std.specs.Borrow.{sem, Array, u8, RestsIfErr};
 
     /// Begins a message with no attributes over the first bytes of a buffer.
     ///
@@ -156,12 +157,27 @@ impl<'a> Builder<'a> {
     /// Where the buffer has less than 20 bytes; it is then as it was.
     pub fn start(buffer: &'a mut [u8], kind: u16, tx: [u8; 12]) -> Result<Builder<'a>, NoRoom>
         requires { kind < 0x4000 }
+        ensures* unchanged { sem 𝓛 (RestsIfErr (Array u8 0) buffer.entry (λ b. b.buffer.ghost_name) result (λ last. last ≡ buffer.old)) }
         ensures written { IfOk result (λ b. IsWritten (started kind tx) buffer.old b.buffer.now) }
         ensures same_reference { IfOk result (λ b. b.buffer.ghost_name ≡ buffer.entry.ghost_name) }
         ensures full { OnErr result (FitIn (started kind tx) (length buffer.old) → ⊥) }
     {
-        begin(buffer, kind, &tx)?;
-        Ok(Builder::resume(buffer))
+        if buffer.len() >= HEADER_BYTES {
+            Ok(Builder::with_header(buffer, kind, tx))
+        } else {
+            Err(NoRoom)
+        }
+    }
+
+    /// The builder of a message with no attributes, whose header it writes.
+    fn with_header(buffer: &'a mut [u8], kind: u16, tx: [u8; 12]) -> Builder<'a>
+        requires kind { kind < 0x4000 }
+        requires room { 20 ≤ length buffer.old }
+        ensures written { IsWritten (started kind tx) buffer.old result.buffer.now }
+        ensures same_reference { result.buffer.ghost_name ≡ buffer.entry.ghost_name }
+    {
+        write_header(buffer, kind, &tx);
+        Builder::resume(buffer)
     }
 
     /// The builder of the message that a buffer begins with.
