@@ -1,7 +1,8 @@
 -- What an exit status says of a program file.
 use Rattle.std.specs.Prelude.{◌≡◌, ◌⊎◌, ℕ, List}
-use Rattle.insn.specs.Encoding.{Encodes}
 use Rattle.insn.specs.declared.instruction.Insn.{Insn}
+use Rattle.insn.specs.Refusal.{IsRefused}
+use Rattle.relayd.specs.Traces.{digits_of, SpellsNothing, TraceEnds, IsExit, IsStuck}
 use Rattle.relayd.specs.declared.fault.Fault.{Fault}
 use Rattle.relayd.specs.declared.fault.Fault.TheVariants as fault
 use Rattle.relayd.specs.declared.reporting.Ask.{Ask}
@@ -18,10 +19,6 @@ status_of fault.Data = 1
 status_of (fault.Program e) = 1
 status_of fault.Output = 3
 status_of fault.Memory = 4
-
--- the bytes encode a program
-abbrev pub IsProgram : List ℕ → Type 0
-IsProgram bytes = (code : List Insn) × Encodes code bytes
 
 -- the bytes encode a program of which every run exits
 abbrev pub IsSafeProgram : List ℕ → Type 0
@@ -48,28 +45,26 @@ IsRefusedFile bytes = (e : LoadError) × IsFault e × IsLoadRefusal bytes e
 -- what a success says of the file
 abbrev pub Succeeds : Ask → List ℕ → Type 0
 Succeeds ask.Verify file = IsSafeProgram file
-Succeeds (ask.Trace hex) file = IsProgram file
+Succeeds (ask.Trace hex) file = TraceEnds (digits_of hex) file IsExit
 
--- and what a refusal says
+-- a report that came to its end all the same: a refusal, or a stuck trace
 abbrev pub Refuses : Ask → List ℕ → Type 0
 Refuses ask.Verify file = IsRefusedFile file
-Refuses (ask.Trace hex) file = Unit {0}
+Refuses (ask.Trace hex) file = TraceEnds (digits_of hex) file IsStuck
 
--- the faults that come with no refusal
-abbrev pub IsOutputOrMemory : Fault → Type 0
-IsOutputOrMemory fault.Output = Unit {0}
-IsOutputOrMemory fault.Memory = Unit {0}
-IsOutputOrMemory fault.Data = ⊥
-IsOutputOrMemory (fault.Program e) = ⊥
+-- the faults that keep a report from its end
+abbrev pub MayFail : Ask → List ℕ → Fault → Type 0
+MayFail asked file fault.Output = Unit {0}
+MayFail asked file fault.Memory = Unit {0}
+MayFail ask.Verify file fault.Data = ⊥
+MayFail (ask.Trace hex) file fault.Data = SpellsNothing (digits_of hex)
+MayFail ask.Verify file (fault.Program e) = ⊥
+MayFail (ask.Trace hex) file (fault.Program e) = IsRefused file e
 
-abbrev pub MayFail : Ask → Fault → Type 0
-MayFail ask.Verify f = IsOutputOrMemory f
-MayFail (ask.Trace hex) f = Unit {0}
-
--- the status of a report that came to its end: 0 for a success, or 1 for a refusal or a stuck trace
+-- the status of a report that came to its end: 0 for a success, or 1
 abbrev pub IsVerdict : Type 0 → Type 0 → ℕ → Type 0
 IsVerdict succeeds refuses status = ((status ≡ 0) × succeeds) ⊎ ((status ≡ 1) × refuses)
 
 -- the status of a report: one that came to its end, or a fault's
 abbrev pub IsStatus : Ask → List ℕ → ℕ → Type 0
-IsStatus asked file status = IsVerdict (Succeeds asked file) (Refuses asked file) status ⊎ (status ≡ 3) ⊎ (status ≡ 4)
+IsStatus asked file status = IsVerdict (Succeeds asked file) (Refuses asked file) status ⊎ ((f : Fault) × MayFail asked file f × (status ≡ status_of f))

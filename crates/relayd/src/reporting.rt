@@ -1,10 +1,11 @@
 //! What the commands print of a program file, and their statuses.
 
-ghost use Rattle.std.specs.Prelude.{◌≡◌, ◌≤◌, ◌<◌, ◌⊎◌, IfOk, IfErr, OnOk, Ok, true, [], option_copied};
-ghost use Rattle.std.specs.Option.{unwrap_or};
-ghost use Rattle.hex.specs.Hex.{decode_of};
+ghost use Rattle.std.specs.Prelude.{◌≡◌, ◌≤◌, ◌<◌, IfOk, IfErr, OnOk, MatchResult, true};
 ghost use Rattle.machine.specs.Contents.{datagram_of};
-ghost use Rattle.relayd.specs.Statuses.{IsProgram, IsSafeProgram, IsRefusedFile, IsVerdict, IsStatus, IsOutputOrMemory, Succeeds, Refuses, MayFail};
+ghost use Rattle.relayd.specs.Traces.{digits_of, Spells, SpellsNothing};
+ghost use Rattle.relayd.specs.declared.fault.Fault.TheVariants.{Data, Output};
+ghost use Rattle.relayd.specs.declared.reporting.Ask.TheVariants.{Trace, Verify};
+ghost use Rattle.relayd.specs.Statuses.{IsVerdict, IsStatus, Succeeds, Refuses, MayFail};
 
 use crate::fault::{Fault, fail};
 use insn::{DecodeError, decode};
@@ -42,8 +43,8 @@ macro_rules! line {
 
 /// The line of `verify`, and its status.
 fn report_verify<W: Write>(alloc: Global, file: &[u8], out: &mut W) -> Result<u8, Fault>
-    ensures ok { IfOk result (IsVerdict (IsSafeProgram file.now) (IsRefusedFile file.now)) }
-    ensures err { IfErr result IsOutputOrMemory }
+    ensures ok { IfOk result (IsVerdict (Succeeds Verify file.now) (Refuses Verify file.now)) }
+    ensures err { IfErr result (MayFail Verify file.now) }
 {
     match load(alloc, file) {
         Ok(loaded) => {
@@ -63,7 +64,9 @@ fn report_verify<W: Write>(alloc: Global, file: &[u8], out: &mut W) -> Result<u8
 /// Writes the datagram of the digits into the frame, and starts it.
 fn fill(frame: &mut Frame, hex: Option<&str>) -> Result<(), Fault>
     ensures started { OnOk result (frame.new.is_started ≡ true) }
-    ensures datagram { OnOk result (decode_of (unwrap_or (option_copied hex.entry) []) ≡ Ok (datagram_of frame.new)) }
+    ensures context { OnOk result (frame.new.context ≡ CONTEXT) }
+    ensures datagram { OnOk result (Spells (digits_of hex.entry) (datagram_of frame.new)) }
+    ensures refused { IfErr result (λ f. (f ≡ Data) × SpellsNothing (digits_of hex.entry)) }
 {
     let digits = hex.unwrap_or("").as_bytes();
     let n = digits.len() / 2;
@@ -82,7 +85,8 @@ fn fill(frame: &mut Frame, hex: Option<&str>) -> Result<(), Fault>
 
 /// The lines behind the steps of a trace, and its status.
 fn report_end<W: Write>(ended: Result<Outcome, Stuck>, out: &mut W) -> Result<u8, Fault>
-    ensures { IfOk result (λ status. (status ≡ 0) ⊎ (status ≡ 1)) }
+    ensures ok { IfOk result (λ status. MatchResult ended (λ o. status ≡ 0) (λ e. status ≡ 1)) }
+    ensures err { IfErr result (λ f. f ≡ Output) }
 {
     let outcome = match ended {
         Ok(outcome) => outcome,
@@ -111,7 +115,8 @@ fn report_trace<W: Write>(
     file: &[u8],
     out: &mut W,
 ) -> Result<u8, Fault>
-    ensures { IfOk result (IsVerdict (IsProgram file.now) (Unit {0})) }
+    ensures ok { IfOk result (IsVerdict (Succeeds (Trace hex.entry) file.now) (Refuses (Trace hex.entry) file.now)) }
+    ensures err { IfErr result (MayFail (Trace hex.entry) file.now) }
 {
     let mut frame = Frame::new(alloc).map_err(|_| Fault::Memory)?;
     fill(&mut frame, hex)?;
@@ -129,7 +134,7 @@ fn report_trace<W: Write>(
 /// Writes the lines of what is asked of a program file to the end, and answers their status.
 fn answer<W: Write>(alloc: Global, ask: Ask<'_>, file: &[u8], out: &mut W) -> Result<u8, Fault>
     ensures ok { IfOk result (IsVerdict (Succeeds ask.entry file.now) (Refuses ask.entry file.now)) }
-    ensures err { IfErr result (MayFail ask.entry) }
+    ensures err { IfErr result (MayFail ask.entry file.now) }
 {
     let status = match ask {
         Ask::Verify => report_verify(alloc, file, out)?,
@@ -142,7 +147,9 @@ fn answer<W: Write>(alloc: Global, ask: Ask<'_>, file: &[u8], out: &mut W) -> Re
 /// Writes the lines of what is asked of a program file, and answers the exit status: 0 for success, 1
 /// for a refusal or a stuck trace, 3 where the output can't be written, 4 where memory ran out. A fault's
 /// line goes to `err`. `Verify` succeeds only on the bytes of a program of which every run exits, and
-/// refuses only bytes that may not be loaded.
+/// refuses only bytes that may not be loaded. `Trace` succeeds only where the program's run over the datagram
+/// of the digits exits; it refuses only digits that spell none, bytes that encode no program, and a run that
+/// gets stuck.
 #[tactic(auto, using(crate::proofs::Faults::fault_status))]
 pub fn report<W: Write, E: Write>(
     alloc: Global,
