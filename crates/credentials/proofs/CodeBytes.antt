@@ -5,7 +5,6 @@ use Rattle.stun.specs.Endian.{big_bytes}
 use Rattle.stun.specs.Messages.{Padded, Parts, AreParts, header, attributes_bytes, before_first, before_integrity}
 use Rattle.credentials.specs.Hmac.{hmac}
 use Rattle.credentials.specs.Checks.{signed_bytes, code_under}
-use Rattle.std.proofs.lemmas.List.{append-nil, drop-drop}
 
 same_length : (n : ℕ) → big_bytes 2 ((n + 4) % 65536) ≡ big_bytes 2 (n + 4)
 same_length n =
@@ -36,12 +35,10 @@ resigned p front are e = resigned_at p (before_first p.attributes) front are.tra
 pub unsigned : (p : Parts) → before_integrity p ≡ None → signed_bytes p ≡ None
 unsigned p e = no_code p (before_first p.attributes) e
 
--- the code over the pieces of which the front was made anew
-pub code_of_pieces : (key front kind length_bytes rest behind : List ℕ) (p : Parts) → AreParts p → Some front ≡ before_integrity p → kind ≡ take 2 front → rest ≡ drop 2 front → behind ≡ drop 2 rest → length_bytes ≡ big_bytes 2 ((length front + 4) % 65536)
-    → Some (hmac key (kind ++ (length_bytes ++ (behind ++ [])))) ≡ code_under key p
-code_of_pieces key front kind length_bytes rest behind p are given kind_is rest_is behind_is length_is =
-    let tail : behind ++ [] ≡ drop 4 front = append-nil behind ∙ behind_is ∙ ap (drop 2) rest_is ∙ drop-drop 2 2 front in
-    (λ i. Some (hmac key (kind_is i ++ (length_is i ++ tail i)))) ∙ sym (ap (option_map (hmac key)) (resigned p front are (sym given)))
+-- the code over the bytes before it, whose front was made anew
+pub code_of_front : (key front : List ℕ) (p : Parts) → AreParts p → Some front ≡ before_integrity p
+    → Some (hmac key (take 2 front ++ (big_bytes 2 ((length front + 4) % 65536) ++ drop 4 front))) ≡ code_under key p
+code_of_front key front p are given = sym (ap (option_map (hmac key)) (resigned p front are (sym given)))
 
 pub code_of_none : (key : List ℕ) (p : Parts) → None ≡ before_integrity p → None ≡ code_under key p
 code_of_none key p given = sym (ap (option_map (hmac key)) (unsigned p (sym given)))

@@ -6,8 +6,8 @@ ghost use Rattle.credentials.specs.Keys.{key_of};
 ghost use Rattle.credentials.specs.Checks.{first_value, code_under, names_of, Names, IsUser, IsNoUser, IsFresh, IsChecked};
 ghost use Rattle.credentials.specs.declared.checking.AuthError.{AuthError};
 
-use crate::hmac::hmac_sha1;
 use crate::key::Key;
+use crate::signing::code_over;
 use stun::Message;
 use stun::registry::attribute::{MESSAGE_INTEGRITY, NONCE, REALM, USERNAME};
 use thiserror::Error;
@@ -56,10 +56,7 @@ fn code_under(key: &Key, message: &Message<'_>) -> Option<[u8; 20]>
     ensures { result ≡ code_under key.now.bytes message.now }
 {
     let front = message.before_integrity()?;
-    let (kind, rest) = front.split_at(2);
-    let (_, rest) = rest.split_at(2);
-    let length = ((front.len() + 4) % 65_536) as u16;
-    Some(hmac_sha1(key.bytes(), &[kind, &length.to_be_bytes(), rest]))
+    Some(code_over(front, key))
 }
 
 /// Whether a user has a name.

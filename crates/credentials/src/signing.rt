@@ -14,9 +14,9 @@ use crate::key::Key;
 use stun::registry::attribute::MESSAGE_INTEGRITY;
 use stun::{Builder, NoRoom};
 
-/// The code of the message so far under a key, with the header's length counted to the end of the
-/// MESSAGE-INTEGRITY that is to come.
-fn code_over(message: &[u8], key: &Key) -> [u8; 20]
+/// The code under a key over what precedes a MESSAGE-INTEGRITY, with the header's length counted to the end
+/// of that attribute.
+pub(crate) fn code_over(message: &[u8], key: &Key) -> [u8; 20]
     requires { 20 ≤ length message.now }
     ensures { result ≡ hmac key.now.bytes (take 2 message.now ++ (big_bytes 2 ((length message.now + 4) % 65536) ++ drop 4 message.now)) }
 {
