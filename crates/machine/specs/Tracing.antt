@@ -1,5 +1,5 @@
 -- What a trace is of a run.
-use Rattle.std.specs.Prelude.{◌≡◌, ℕ, ◌+◌, List, [], ◌∷◌, ◌++◌, length, drop, option_map, false, take}
+use Rattle.std.specs.Prelude.{◌≡◌, ℕ, ◌+◌, List, [], ◌∷◌, ◌++◌, length, drop, option_map, false, take, replicate}
 use Rattle.insn.specs.Endian.{big_bytes, big_number}
 use Rattle.insn.specs.declared.instruction.Insn.{Insn}
 use Rattle.semantics.specs.Machine as machine
@@ -29,13 +29,21 @@ side_number Peer = 1
 abbrev pub context_of : Context → machine.Context
 context_of c = record { side = side_number c.side; source = address_record c.source; transaction_id = c.tx }
 
+-- what the helpers answer where no allocation lives
+abbrev pub finds_nothing : ℕ → ℕ → AddressRecord → ℕ × AddressRecord
+finds_nothing id number address = (0, replicate 8 0)
+
 -- what a run over a frame is given
 abbrev pub surroundings_of : Contents → (ℕ → ℕ → AddressRecord → ℕ × AddressRecord) → Surroundings
 surroundings_of f answer = record { context = context_of f.context; answer = answer }
 
+-- the run over a datagram, to its end
+abbrev pub run_over : Surroundings → List Insn → List ℕ → Run
+run_over w code datagram = run w code (length code + 1) (start datagram)
+
 -- the run of a started frame, to its end
 abbrev pub run_of : List Insn → Contents → (ℕ → ℕ → AddressRecord → ℕ × AddressRecord) → Run
-run_of code f answer = run (surroundings_of f answer) code (length code + 1) (start (datagram_of f))
+run_of code f answer = run_over (surroundings_of f answer) code (datagram_of f)
 
 -- the run of a started frame, of at most as many steps as the program has instructions
 abbrev pub safe_run_of : List Insn → Contents → (ℕ → ℕ → AddressRecord → ℕ × AddressRecord) → Run

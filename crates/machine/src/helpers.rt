@@ -1,6 +1,7 @@
 //! The helpers that a program may call. They stand here until the crate of look-ups comes.
 
-ghost use Rattle.std.specs.Prelude.{◌≡◌, ℕ, List, replicate};
+ghost use Rattle.std.specs.Prelude.{◌≡◌, ℕ, List};
+ghost use Rattle.machine.specs.Tracing.{finds_nothing};
 
 /// The answers to helpers 1 to 3, which look up channels and permissions.
 pub trait Helpers {
@@ -17,7 +18,7 @@ pub trait Helpers {
 pub struct NoAllocation;
 
 impl Helpers for NoAllocation {
-    ghost answers = { λ h id number address. (0, replicate 8 0) };
+    ghost answers = { λ h. finds_nothing };
 
     fn answer(&self, _id: u8, _number: u64, _address: [u8; 8]) -> (u64, [u8; 8]) {
         (0, [0; 8])

@@ -1,13 +1,12 @@
 -- What a trace of a program file is.
-use Rattle.std.specs.Prelude.{◌≡◌, ℕ, ◌+◌, ◌≤◌, List, [], length, replicate, Option, option_copied, Ok}
+use Rattle.std.specs.Prelude.{◌≡◌, ℕ, ◌≤◌, List, [], length, Option, option_copied, Ok}
 use Rattle.std.specs.Option.{unwrap_or}
 use Rattle.std.specs.Borrow.{Bor}
 use Rattle.hex.specs.Hex.{decode_of}
 use Rattle.insn.specs.Encoding.{Encodes}
 use Rattle.insn.specs.declared.instruction.Insn.{Insn}
-use Rattle.semantics.specs.Machine.{start}
-use Rattle.semantics.specs.Runs.{Run, Ending, Exited, Stuck, Running, run}
-use Rattle.machine.specs.Tracing.{context_of}
+use Rattle.semantics.specs.Runs.{Run, Ending, Exited, Stuck, Running}
+use Rattle.machine.specs.Tracing.{context_of, finds_nothing, run_over}
 use Rattle.relayd.specs.declared.reporting.TheConstants.{CONTEXT}
 
 -- the digits that were given; none are those of the empty datagram
@@ -24,7 +23,7 @@ SpellsNothing digits = (datagram : List ℕ) → Spells digits datagram → ⊥
 
 -- the run that is traced: over the datagram, in the context of a trace, where no helper finds anything
 abbrev pub traced : List Insn → List ℕ → Run
-traced code datagram = run (record { context = context_of CONTEXT; answer = λ _ _ _. (0, replicate 8 0) }) code (length code + 1) (start datagram)
+traced code datagram = run_over (record { context = context_of CONTEXT; answer = finds_nothing }) code datagram
 
 -- the bytes encode a program, the digits spell a datagram, and its run has such an ending
 pub record TraceEnds (digits file : List ℕ) (Such : Ending → Type 0) : Type 0 where
