@@ -2,8 +2,8 @@
 
 use crate::tests::{ADDRESSES, ZERO_ID};
 use crate::{
-    Addr, BadValue, ValueKind, channel_number, lifetime, read_xor_addr, requested_family,
-    requested_transport,
+    Addr, BadValue, ValueKind, channel_number, lifetime, read_back, read_xor_addr,
+    requested_family, requested_transport,
 };
 
 #[test]
@@ -21,6 +21,7 @@ fn the_first_byte_of_an_address_is_ignored(rt: HostRuntime) {
     };
     let value = [0xff, 0x01, 0x2e, 0xb2, 0xe7, 0x21, 0xc0, 0x40];
     assert_eq!(rt; read_xor_addr(&value, &ZERO_ID), Ok(address));
+    assert_eq!(rt; read_back(&address, &ZERO_ID, &value), Ok(address));
 }
 
 /// No family, nine bytes, family 3, and each family with the length of the other.
