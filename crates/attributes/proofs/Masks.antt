@@ -1,9 +1,9 @@
 -- Bytes that were unmasked give the masked ones back.
-use Rattle.std.proofs.Common.{◌≡◌, ℕ, ◌<◌, ◌+◌, ◌≤◌, ◌^◌, List, [], ◌∷◌, ◌++◌, length, take, drop, get_or, sym, ap, ◌∙◌, subst, arith, Fits, w8, ◌⊎◌, inl, inr}
+use Rattle.std.proofs.Common.{◌≡◌, ℕ, ◌<◌, ◌+◌, ◌≤◌, ◌^◌, List, [], length, take, drop, get_or, sym, ap, ◌∙◌, subst, arith, Fits, w8, ◌⊎◌, inl, inr}
 use Rattle.std.specs.Prelude.{bit_xor}
 use Rattle.std.specs.Int.{bytes_high_first}
 use Rattle.std.specs.Int.Bits.{xor_assoc, xor_self, xor_zero_r}
-use Rattle.std.proofs.lemmas.List.{append-nil, get_or-drop, length-drop, take_all}
+use Rattle.std.proofs.lemmas.List.{append-nil, get_or-drop, length-drop}
 use Rattle.stun.specs.Endian.{big_from, big_number, big_bytes}
 use Rattle.stun.specs.Numbers.{big_number-reads_back, big_from-lt, length-bytes_high_first}
 use Rattle.stun.specs.Registry.{magic_cookie}
@@ -34,16 +34,6 @@ masked_back n value mask number ip long fit number_is ip_is small =
 
 pub below : (n : ℕ) (value : List ℕ) (number : ℕ) → ((i : ℕ) → Fits w8 (get_or value i 0)) → number ≡ big_number n (drop 4 value) → number < 256 ^ n
 below n value number fit is = subst (λ (k : ℕ). k < 256 ^ n) (sym is) (big_from-lt 0 n (drop 4 value) (λ i. (fit_behind 4 value fit i).fits))
-
--- a value in its parts
-pub address_parts : (n family : ℕ) (value port ip : List ℕ) → length value ≡ 4 + n → get_or value 1 0 ≡ family → port ≡ take 2 (drop 2 value) → ip ≡ take n (drop 4 value) → (first : ℕ) × (value ≡ first ∷ family ∷ port ++ ip)
-address_parts n family [] port ip long at port_is ip_is = absurd (omega (arith, long))
-address_parts n family (a ∷ []) port ip long at port_is ip_is = absurd (omega (arith, long))
-address_parts n family (a ∷ b ∷ []) port ip long at port_is ip_is = absurd (omega (arith, long))
-address_parts n family (a ∷ b ∷ c ∷ []) port ip long at port_is ip_is = absurd (omega (arith, long))
-address_parts n family (a ∷ b ∷ c ∷ d ∷ rest) port ip long at port_is ip_is =
-    let whole : ip ≡ rest = ip_is ∙ take_all n rest (omega (arith, long)) in
-    (a, λ i. a ∷ at i ∷ sym port_is i ++ sym whole i)
 
 length-masked : (n : ℕ) (ip : List ℕ) (mask : ℕ) → length (masked n ip mask) ≡ n
 unfolding masked

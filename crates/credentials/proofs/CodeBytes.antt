@@ -1,5 +1,5 @@
 -- The bytes that a code is made over, from those before it.
-use Rattle.std.proofs.Common.{◌≡◌, ℕ, ◌+◌, ◌/◌, ◌%◌, List, [], ◌∷◌, ◌++◌, length, take, drop, Option, Some, None, refl, sym, ap, ◌∙◌, arith, length-append}
+use Rattle.std.proofs.Common.{◌≡◌, ℕ, ◌+◌, ◌/◌, ◌%◌, List, [], ◌∷◌, ◌++◌, length, take, drop, Option, Some, None, sym, ap, ◌∙◌, arith, length-append}
 use Rattle.std.specs.Prelude.{option_map}
 use Rattle.stun.specs.Endian.{big_bytes}
 use Rattle.stun.specs.Messages.{Padded, Parts, AreParts, header, attributes_bytes, before_first, before_integrity}
@@ -24,21 +24,10 @@ resigned_at p (Some a) front id e =
     let length_is : big_bytes 2 (length bytes + 24) ≡ big_bytes 2 ((length whole + 4) % 65536) = ap (big_bytes 2) (sym size) ∙ sym (same_length (length whole)) in
     ap (λ (b : List ℕ). Some (take 2 whole ++ (b ++ drop 4 whole))) length_is ∙ ap (λ (f : List ℕ). Some (take 2 f ++ (big_bytes 2 ((length f + 4) % 65536) ++ drop 4 f))) is
 
-no_code : (p : Parts) (attributes : Option (List Padded)) → option_map (λ a. header p.kind (length (attributes_bytes p.attributes)) p.transaction_id ++ attributes_bytes a) attributes ≡ None
-    → ◌≡◌ {A = Option (List ℕ)} (option_map (λ a. header p.kind (length (attributes_bytes a) + 24) p.transaction_id ++ attributes_bytes a) attributes) None
-no_code p None e = refl
-no_code p (Some a) e = absurd cc
-
 pub resigned : (p : Parts) (front : List ℕ) → AreParts p → before_integrity p ≡ Some front → signed_bytes p ≡ Some (take 2 front ++ (big_bytes 2 ((length front + 4) % 65536) ++ drop 4 front))
 resigned p front are e = resigned_at p (before_first p.attributes) front are.transaction_id e
-
-pub unsigned : (p : Parts) → before_integrity p ≡ None → signed_bytes p ≡ None
-unsigned p e = no_code p (before_first p.attributes) e
 
 -- the code over the bytes before it, whose front was made anew
 pub code_of_front : (key front : List ℕ) (p : Parts) → AreParts p → Some front ≡ before_integrity p
     → Some (hmac key (take 2 front ++ (big_bytes 2 ((length front + 4) % 65536) ++ drop 4 front))) ≡ code_under key p
 code_of_front key front p are given = sym (ap (option_map (hmac key)) (resigned p front are (sym given)))
-
-pub code_of_none : (key : List ℕ) (p : Parts) → None ≡ before_integrity p → None ≡ code_under key p
-code_of_none key p given = sym (ap (option_map (hmac key)) (unsigned p (sym given)))

@@ -128,10 +128,6 @@ begins_with bytes value rest kind n m long small kind_is n_is m_is room value_is
 pub length_of_attribute : (a : Padded) (r : List ℕ) → IsPadded a → length (attribute_bytes a ++ r) ≡ 4 + length a.value + padding_count (length a.value) + length r
 length_of_attribute a r is = omega (arith, length-append (a.value ++ a.padding) r, length-append a.value a.padding, is.padding)
 
--- no attribute begins bytes that are too short
-pub too_short : (bytes : List ℕ) (a : Padded) (r : List ℕ) → IsPadded a → bytes ≡ attribute_bytes a ++ r → length bytes < 4 → ⊥
-too_short bytes a r is spelled short = omega (arith, ap length spelled, length_of_attribute a r is)
-
 pub overruns : (bytes : List ℕ) (a : Padded) (r : List ℕ) (n m : ℕ) → IsPadded a → bytes ≡ attribute_bytes a ++ r → n ≡ number_at 2 2 bytes → m ≡ n + padding_count n → length (drop 4 bytes) < m → ⊥
 overruns bytes a r n m is spelled n_is m_is short =
     let length_is : number_at 2 2 (attribute_bytes a ++ r) ≡ length a.value = big_number-reads_back 2 (length a.value) ((a.value ++ a.padding) ++ r) (omega (arith, is.value)) in
@@ -196,9 +192,6 @@ attributes_split bytes kind value rest first are =
 pub record Walked (bytes rest : List ℕ) : Type 0 where
   pub back : AreAttributes rest → AreAttributes bytes
   pub forth : AreAttributes bytes → AreAttributes rest
-
-pub walked_start : (bytes : List ℕ) → Walked bytes bytes
-walked_start bytes = record { back = λ a. a; forth = λ a. a }
 
 pub walked_more : (bytes rest : List ℕ) (kind : ℕ) (value after : List ℕ) → Walked bytes rest → BeginsWith rest kind value after → Walked bytes after
 walked_more bytes rest kind value after walked first = record {

@@ -1,14 +1,14 @@
 -- The attributes up to the first MESSAGE-INTEGRITY, and the bytes before it.
-use Rattle.std.proofs.Common.{◌≡◌, ℕ, suc, ◌+◌, ◌-◌, ◌<◌, ◌≤◌, List, [], ◌∷◌, ◌++◌, map, length, take, drop, Bool, true, false, refl, sym, ap, ◌∙◌, arith, append_assoc, Option, Some, None, option_map}
+use Rattle.std.proofs.Common.{◌≡◌, ℕ, suc, ◌+◌, ◌<◌, List, [], ◌∷◌, ◌++◌, map, length, take, drop, Bool, true, false, refl, sym, ap, ◌∙◌, arith, append_assoc, Option, Some, None, option_map}
 use Rattle.std.specs.Prelude.{◌==◌, if◌then◌else◌}
 use Rattle.std.specs.List.{AllByRecursion}
 use Rattle.std.proofs.lemmas.Bool.{eq-eqb, ne_eqb}
-use Rattle.std.proofs.lemmas.List.{length-append, length-drop, append-nil, nil_from_length}
+use Rattle.std.proofs.lemmas.List.{length-drop, append-nil}
 use Rattle.stun.specs.Registry.{message_integrity}
 use Rattle.stun.specs.Messages.{Padded, IsPadded, Parts, AreParts, attribute_of, attribute_bytes, attributes_bytes, header, up_to_integrity, before_first, before_integrity, message_of, parts_bytes, Message, IsMessage}
 use Rattle.stun.specs.Attributes.{attributes_left}
 use Rattle.stun.specs.Reading.{first_padded, attributes_in, parts_in, BeginsWith, AreAttributes, IsDatagram}
-use Rattle.stun.proofs.Grammar.{piece_take, attributes_split, attributes_tail, none_begin}
+use Rattle.stun.proofs.Grammar.{attributes_split, attributes_tail, none_begin}
 use Rattle.stun.proofs.Datagrams.{parts_unique, body_is, length_of_parts}
 
 -- ---- the iterator
@@ -51,13 +51,6 @@ pub record Sought (bytes rest : List ℕ) : Type 0 where
   pub parts : bytes ≡ attributes_bytes front ++ rest
   pub same : before_first (attributes_in bytes) ≡ option_map (λ f. front ++ f) (before_first (attributes_in rest))
 
-same_option : (o : Option (List Padded)) → o ≡ option_map (λ f. [] ++ f) o
-same_option None = refl
-same_option (Some f) = refl
-
-pub sought_start : (bytes : List ℕ) → AreAttributes bytes → Sought bytes bytes
-sought_start bytes are = record { front = []; are = are; parts = refl; same = same_option (before_first (attributes_in bytes)) }
-
 first_if : (bytes : List ℕ) (kind : ℕ) (value rest : List ℕ) (test : Bool) → BeginsWith bytes kind value rest → AreAttributes bytes → ((first_padded bytes).kind == message_integrity) ≡ test
     → before_first (attributes_in bytes) ≡ (if test then Some [] else option_map (λ f. first_padded bytes ∷ f) (before_first (attributes_in rest)))
 first_if bytes kind value rest test first are tested =
@@ -83,20 +76,6 @@ sought_more bytes rest kind value after sought first other =
       parts = sought.parts ∙ ap (λ b. attributes_bytes sought.front ++ b) first.spelled ∙ sym (push_bytes sought.front a after);
       same = sought.same ∙ ap (option_map (λ f. sought.front ++ f)) (first_if rest kind value after false first sought.are tested) ∙ push_option sought.front a (before_first (attributes_in after));
     }
-
-pub sought_here : (bytes rest : List ℕ) (kind : ℕ) (value after : List ℕ) (n : ℕ) → Sought bytes rest → BeginsWith rest kind value after → kind ≡ message_integrity → n ≡ length bytes - length rest
-    → Some (take n bytes) ≡ option_map attributes_bytes (before_first (attributes_in bytes))
-sought_here bytes rest kind value after n sought first is n_is =
-    let tested = eq-eqb (first_padded rest).kind message_integrity (sym first.kind_is ∙ is) in
-    let found = sought.same ∙ ap (option_map (λ f. sought.front ++ f)) (first_if rest kind value after true first sought.are tested) in
-    let long : n ≡ length (attributes_bytes sought.front) = omega (arith, n_is, ap length sought.parts, length-append (attributes_bytes sought.front) rest) in
-    ap Some (ap (take n) sought.parts ∙ piece_take (attributes_bytes sought.front) rest n long ∙ ap attributes_bytes (sym (append-nil sought.front)))
-    ∙ sym (ap (option_map attributes_bytes) found)
-
-pub sought_none : (bytes rest : List ℕ) → Sought bytes rest → length rest ≤ 0 → None ≡ option_map attributes_bytes (before_first (attributes_in bytes))
-sought_none bytes rest sought none =
-    let nothing : rest ≡ [] = nil_from_length rest (omega arith) in
-    sym (ap (option_map attributes_bytes) (sought.same ∙ ap (λ b. option_map (λ f. sought.front ++ f) (before_first (attributes_in b))) nothing))
 
 pub never_none : (bytes rest : List ℕ) → Sought bytes rest → 0 < length rest → ((a : Padded) (r : List ℕ) → IsPadded a → rest ≡ attribute_bytes a ++ r → ⊥) → ⊥
 never_none bytes rest sought some none = none_begin rest some none (attributes_in rest) sought.are.padded sought.are.spelled
@@ -128,9 +107,6 @@ front_is p bytes body n are spelled body_is found =
     let long : length x ≡ 20 = omega (arith, are.transaction_id) in
     ap Some (ap (take (20 + n)) spelled ∙ ap (λ k. take (k + n) (x ++ attributes_bytes p.attributes)) (sym long) ∙ take_more_piece x (attributes_bytes p.attributes) n ∙ ap (λ b. x ++ take n b) (sym body_is))
     ∙ ap (option_map (λ b. x ++ b)) found ∙ in_front x (before_first p.attributes)
-
-pub none_is : (p : Parts) → None ≡ option_map attributes_bytes (before_first p.attributes) → None ≡ before_integrity p
-none_is p found = ap (option_map (λ b. header_of p ++ b)) found ∙ in_front (header_of p) (before_first p.attributes)
 
 pub same_message : (m n : Message) (bytes : List ℕ) → IsMessage m bytes → IsMessage n bytes → m ≡ n
 same_message m n bytes a b = a.3 ∙ ap message_of (parts_unique a.0 b.0 a.1 b.1 (sym a.2 ∙ b.2)) ∙ sym b.3

@@ -1,7 +1,7 @@
 -- What is written over bytes, and the parts of what stands in a buffer.
 use Rattle.std.proofs.Common.{◌≡◌, ℕ, zero, suc, ◌+◌, ◌<◌, ◌≤◌, List, [], ◌∷◌, ◌++◌, length, take, drop, replicate, subst, refl, sym, ap, ◌∙◌, arith, append_assoc}
 use Rattle.std.specs.List.{AllByRecursion}
-use Rattle.std.proofs.lemmas.List.{length-append, length-drop, length-take-le, take-append-drop, drop-drop, append-nil}
+use Rattle.std.proofs.lemmas.List.{length-append, length-take-le, take-append-drop, drop-drop, append-nil}
 use Rattle.byteorder.specs.Endian.{big_bytes}
 use Rattle.byteorder.specs.Numbers.{big_number-reads_back}
 use Rattle.stun.specs.Registry.{magic_cookie}
@@ -18,10 +18,6 @@ patched_on f r x at e =
     let front = piece_take f r at e in
     let behind : drop (at + length x) (f ++ r) ≡ drop (length x) r = sym (drop-drop (length x) at (f ++ r)) ∙ ap (drop (length x)) (piece_drop f r at e) in
     λ i. front i ++ (x ++ behind i)
-
-length_patched : (b x : List ℕ) (at : ℕ) → at + length x ≤ length b → length (patched at x b) ≡ length b
-length_patched b x at room =
-    omega (arith, length-append (take at b) (x ++ drop (at + length x) b), length-append x (drop (at + length x) b), length-take-le at b (omega arith), length-drop (at + length x) b)
 
 -- a second piece right behind the first is one longer piece
 pub patched_twice : (b x y : List ℕ) (at next : ℕ) → next ≡ at + length x → next ≤ length b → patched next y (patched at x b) ≡ patched at (x ++ y) b
@@ -122,9 +118,6 @@ with_are p kind value are small short = record {
   short = short;
 }
 
-relength : (p : Parts) (n m : ℕ) (body : List ℕ) → patched 2 (big_bytes 2 m) (header p.kind n p.transaction_id ++ body) ≡ header p.kind m p.transaction_id ++ body
-relength p n m body = refl
-
 length_of_with : (p : Parts) (kind : ℕ) (value : List ℕ) → AreParts p → length (parts_bytes (with_attribute p kind value)) ≡ 20 + length (attributes_bytes (with_attribute p kind value).attributes)
 length_of_with p kind value are = omega (arith, length-append p.transaction_id (attributes_bytes (with_attribute p kind value).attributes), are.transaction_id)
 
@@ -169,12 +162,6 @@ push_fits b kind value is short room =
       buffer = omega (arith, length_of_with (built b) kind value is.message.are_parts, length_with (built b) kind value, split.2, room);
       field = omega (arith, length_with (built b) kind value, split.2, short);
     }
-
-pub push_fits_not : (b : List ℕ) (kind : ℕ) (value : List ℕ) → IsBuilding b → (number_at 2 2 b + (4 + length value + padding_count (length value)) < 0x10000 → 20 + (number_at 2 2 b + (4 + length value + padding_count (length value))) ≤ length b → ⊥)
-    → FitIn (with_attribute (built b) kind value) (length b) → ⊥
-push_fits_not b kind value is no_room fit =
-    let split = split_building b is in
-    no_room (omega (arith, length_with (built b) kind value, split.2, fit.field)) (omega (arith, length_of_with (built b) kind value is.message.are_parts, length_with (built b) kind value, split.2, fit.buffer))
 
 -- the attribute that was pushed, in the numbers that the code has: its length, its padding, the length before and after
 pub attribute_pushed : (b b1 new : List ℕ) (kind : ℕ) (value : List ℕ) (n padding before total : ℕ) → IsBuilding b → kind < 0x10000 → n ≡ length value → padding ≡ padding_count n → before ≡ number_at 2 2 b
