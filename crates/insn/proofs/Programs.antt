@@ -23,8 +23,8 @@ use Rattle.insn.specs.declared.instruction.Operand.{Operand}
 use Rattle.insn.specs.declared.instruction.Operand.TheVariants as operand
 use Rattle.insn.specs.declared.instruction.Insn.{Insn}
 use Rattle.insn.specs.declared.instruction.Insn.TheVariants.{Alu, Jump, JumpIf, Load, Exit}
-use Rattle.insn.specs.declared.refusal.Fault.{Fault}
-use Rattle.insn.specs.declared.refusal.Fault.TheVariants as fault
+use Rattle.insn.specs.declared.refusal.SlotFault.{SlotFault}
+use Rattle.insn.specs.declared.refusal.SlotFault.TheVariants as fault
 use Rattle.insn.specs.declared.refusal.DecodeError.{DecodeError}
 use Rattle.insn.specs.declared.refusal.DecodeError.TheVariants as error
 use Rattle.insn.proofs.Unique.{are_of, fields_of-injective, bit_at_most_one}
@@ -112,7 +112,7 @@ registers_of i =
 nibbles : (n m b : ℕ) → n ≤ 10 → m ≤ 10 → b ≡ n + 16 * m → (b % 16 ≤ 10) × (b / 16 ≤ 10)
 nibbles n m b p q e = (omega arith, omega arith)
 
-pub fault_is_no_encoding : (f : Fault) (bytes rest : List ℕ) (i : Insn) → HasFault bytes f → Fits i → bytes ≡ encoding i ++ rest → ⊥
+pub fault_is_no_encoding : (f : SlotFault) (bytes rest : List ℕ) (i : Insn) → HasFault bytes f → Fits i → bytes ≡ encoding i ++ rest → ⊥
 fault_is_no_encoding fault.Opcode bytes rest i faulty fits e =
     let a = are_of i in
     faulty (a.opcode, a.opcode_is ∙ sym (ap (λ (b : List ℕ). slice_index b 0) e))
@@ -123,7 +123,7 @@ fault_is_no_encoding fault.Register bytes rest i faulty fits e =
 fault_is_no_encoding fault.WideCut bytes rest i faulty fits e = faulty
 fault_is_no_encoding fault.UnusedField bytes rest i faulty fits e = faulty.2 i rest fits e
 
-fault_unique : (bytes : List ℕ) (f g : Fault) → HasFault bytes f → HasFault bytes g → f ≡ g
+fault_unique : (bytes : List ℕ) (f g : SlotFault) → HasFault bytes f → HasFault bytes g → f ≡ g
 fault_unique bytes fault.Opcode fault.Opcode p q = refl
 fault_unique bytes fault.Opcode fault.Register p q = absurd (p q.0)
 fault_unique bytes fault.Opcode fault.WideCut p q = absurd q
@@ -167,7 +167,7 @@ encodings-injective (i ∷ p) (j ∷ q) all other e =
     λ k. first.0 k ∷ others k
 
 -- two first faults are at one place
-faults_meet : (p q : List Insn) (r s : List ℕ) (f g : Fault) → AllFit p → AllFit q → HasFault r f → HasFault s g → encodings p ++ r ≡ encodings q ++ s → (slot_count p ≡ slot_count q) × (r ≡ s)
+faults_meet : (p q : List Insn) (r s : List ℕ) (f g : SlotFault) → AllFit p → AllFit q → HasFault r f → HasFault s g → encodings p ++ r ≡ encodings q ++ s → (slot_count p ≡ slot_count q) × (r ≡ s)
 faults_meet [] [] r s f g all other hf hg e = (refl, e)
 faults_meet [] (j ∷ q) r s f g all other hf hg e = absurd (fault_is_no_encoding f r (encodings q ++ s) j hf other.0 (e ∙ append_assoc (encoding j) (encodings q) s))
 faults_meet (i ∷ p) [] r s f g all other hf hg e = absurd (fault_is_no_encoding g s (encodings p ++ r) i hg all.0 (sym e ∙ append_assoc (encoding i) (encodings p) r))
@@ -176,7 +176,7 @@ faults_meet (i ∷ p) (j ∷ q) r s f g all other hf hg e =
     let others = faults_meet p q r s f g all.1 other.1 hf hg first.1 in
     (ap (λ (n : ℕ). 1 + n) others.0, others.1)
 
-first_fault_unique : (bytes : List ℕ) (n m : ℕ) (f g : Fault) → FirstFault bytes n f → FirstFault bytes m g → refusal_at f n ≡ refusal_at g m
+first_fault_unique : (bytes : List ℕ) (n m : ℕ) (f g : SlotFault) → FirstFault bytes n f → FirstFault bytes m g → refusal_at f n ≡ refusal_at g m
 first_fault_unique bytes n m f g p q =
     let met = faults_meet p.front q.front p.rest q.rest f g p.fit q.fit p.faulty q.faulty (sym p.parts ∙ q.parts) in
     let slots : n ≡ m = sym p.slots ∙ met.0 ∙ q.slots in
@@ -184,7 +184,7 @@ first_fault_unique bytes n m f g p q =
     λ k. refusal_at (faults k) (slots k)
 
 -- bytes with a first fault are no program
-first_fault_is_no_program : (p q : List Insn) (r : List ℕ) (f : Fault) → AllFit p → AllFit q → HasFault r f → 0 < length r → encodings p ++ r ≡ encodings q → ⊥
+first_fault_is_no_program : (p q : List Insn) (r : List ℕ) (f : SlotFault) → AllFit p → AllFit q → HasFault r f → 0 < length r → encodings p ++ r ≡ encodings q → ⊥
 first_fault_is_no_program [] [] r f all other hf more e = omega (arith, ap length e)
 first_fault_is_no_program [] (j ∷ q) r f all other hf more e = fault_is_no_encoding f r (encodings q) j hf other.0 e
 first_fault_is_no_program (i ∷ p) [] r f all other hf more e = omega (arith, ap length e, length-append (encoding i ++ encodings p) r, length-append (encoding i) (encodings p))
@@ -199,7 +199,7 @@ data Shape (bytes : List ℕ) (e : DecodeError) : Type 0 where
   empty : e ≡ error.Empty → length bytes ≡ 0 → Shape bytes e
   not_eights : e ≡ error.NotEights → (length bytes % 8 ≡ 0 → ⊥) → Shape bytes e
   too_long : e ≡ error.TooLong → length bytes % 8 ≡ 0 → 8 * 4096 < length bytes → Shape bytes e
-  faulty : (n : ℕ) (f : Fault) → e ≡ refusal_at f n → IsWhole bytes → FirstFault bytes n f → Shape bytes e
+  faulty : (n : ℕ) (f : SlotFault) → e ≡ refusal_at f n → IsWhole bytes → FirstFault bytes n f → Shape bytes e
 
 shape_of : (bytes : List ℕ) (e : DecodeError) → IsRefused bytes e → Shape bytes e
 shape_of bytes error.Empty h = empty refl h
@@ -248,7 +248,7 @@ shape_is_no_program bytes e code (faulty n f a p q) encodes =
 pub refused_is_no_program : (bytes : List ℕ) (e : DecodeError) (code : List Insn) → IsRefused bytes e → Encodes code bytes → ⊥
 refused_is_no_program bytes e code refused encodes = shape_is_no_program bytes e code (shape_of bytes e refused) encodes
 
-at_fault : (bytes : List ℕ) (f : Fault) (n : ℕ) → IsWhole bytes → FirstFault bytes n f → IsRefused bytes (refusal_at f n)
+at_fault : (bytes : List ℕ) (f : SlotFault) (n : ℕ) → IsWhole bytes → FirstFault bytes n f → IsRefused bytes (refusal_at f n)
 at_fault bytes fault.Opcode n whole first = (whole, first)
 at_fault bytes fault.Register n whole first = (whole, first)
 at_fault bytes fault.WideCut n whole first = (whole, first)
@@ -276,7 +276,7 @@ exact_refusal bytes (Err f) found (inr refused) e is = inl (refusal_unique bytes
 halves_of : (n m b : ℕ) → n < 16 → n + 16 * m ≡ b → b % 16 ≤ 10 → b / 16 ≤ 10 → (n ≤ 10) × (m ≤ 10)
 halves_of n m b p e q r = (omega arith, omega arith)
 
-as_bytes : (bytes : List ℕ) (f : Fields) (e : Fault) → HaveRoom f → slot_bytes f ≡ take 8 bytes → LacksForm f e → f.opcode ≡ slice_index bytes 0 → f.dst + 16 * f.src ≡ slice_index bytes 1 → HasFault bytes e
+as_bytes : (bytes : List ℕ) (f : Fields) (e : SlotFault) → HaveRoom f → slot_bytes f ≡ take 8 bytes → LacksForm f e → f.opcode ≡ slice_index bytes 0 → f.dst + 16 * f.src ≡ slice_index bytes 1 → HasFault bytes e
 as_bytes bytes f fault.Opcode room are lacks o b = λ is. lacks (is.0, is.1 ∙ sym o)
 as_bytes bytes f fault.Register room are lacks o b =
     ((lacks.0.0, lacks.0.1 ∙ o), λ h. lacks.1 (halves_of f.dst f.src (slice_index bytes 1) room.dst b h.0 h.1))
@@ -288,7 +288,7 @@ as_bytes bytes f fault.UnusedField room are lacks o b = (
 )
 
 -- the fault of the fields of a slot is the fault of its bytes
-pub slot_fault : (bytes : List ℕ) (f : Fields) (e : Fault) → 8 ≤ length bytes → HaveRoom f → slot_bytes f ≡ take 8 bytes → LacksForm f e → HasFault bytes e
+pub slot_fault : (bytes : List ℕ) (f : Fields) (e : SlotFault) → 8 ≤ length bytes → HaveRoom f → slot_bytes f ≡ take 8 bytes → LacksForm f e → HasFault bytes e
 slot_fault bytes f e long room are lacks =
     let opcode_is : f.opcode ≡ slice_index bytes 0 = ap (λ (b : List ℕ). slice_index b 0) are ∙ get_or-take 8 bytes 0 0 (omega arith) in
     let byte_is : f.dst + 16 * f.src ≡ slice_index bytes 1 = ap (λ (b : List ℕ). slice_index b 1) are ∙ get_or-take 8 bytes 1 0 (omega arith) in
@@ -318,7 +318,7 @@ HasRead-push bytes code slot rest after i read fits is after_is long = record {
 }
 
 -- the loop stops at a fault
-pub HasRead-fault : (bytes : List ℕ) (code : List Insn) (slot : ℕ) (rest : List ℕ) (f : Fault) → HasRead bytes code slot rest → 0 < length rest → HasFault rest f → IsFaulty bytes (refusal_at f slot)
+pub HasRead-fault : (bytes : List ℕ) (code : List Insn) (slot : ℕ) (rest : List ℕ) (f : SlotFault) → HasRead bytes code slot rest → 0 < length rest → HasFault rest f → IsFaulty bytes (refusal_at f slot)
 HasRead-fault bytes code slot rest f read more fault =
     (slot, f, refl, record { front = code; rest = rest; fit = read.fit; slots = read.slots; parts = read.parts; more = more; faulty = fault })
 
@@ -350,7 +350,7 @@ refused_whole bytes (Err e) whole (inl memory) = inl memory
 refused_whole bytes (Err e) whole (inr told) = inr (faulty_is_refused bytes e whole told)
 
 -- a fault of the first slot's fields, in the answer of the reader of one slot
-pub refused_slot : (bytes : List ℕ) (f : Fields) (r : Result Insn Fault) → 8 ≤ length bytes → HaveRoom f → slot_bytes f ≡ take 8 bytes → IfErr r (LacksForm f) → IfErr r (HasFault bytes)
+pub refused_slot : (bytes : List ℕ) (f : Fields) (r : Result Insn SlotFault) → 8 ≤ length bytes → HaveRoom f → slot_bytes f ≡ take 8 bytes → IfErr r (LacksForm f) → IfErr r (HasFault bytes)
 refused_slot bytes f (Ok i) long room are lacks = tt
 refused_slot bytes f (Err e) long room are lacks = slot_fault bytes f e long room are lacks
 

@@ -12,8 +12,8 @@ use Rattle.insn.specs.declared.instruction.Operand.{Operand}
 use Rattle.insn.specs.declared.instruction.Operand.TheVariants as operand
 use Rattle.insn.specs.declared.instruction.Insn.{Insn}
 use Rattle.insn.specs.declared.instruction.Insn.TheVariants.{Alu, Jump, JumpIf, Load, Exit}
-use Rattle.insn.specs.declared.refusal.Fault.{Fault}
-use Rattle.insn.specs.declared.refusal.Fault.TheVariants as fault
+use Rattle.insn.specs.declared.refusal.SlotFault.{SlotFault}
+use Rattle.insn.specs.declared.refusal.SlotFault.TheVariants as fault
 
 abbrev pub with_source : Source → Reg → ℤ → Operand
 with_source source.Reg src imm = operand.Reg src
@@ -28,7 +28,7 @@ form opcode.Exit dst src offset imm = Exit
 form (opcode.Load size) dst src offset imm = Load size dst src offset
 
 -- the first fault of the fields of a slot
-abbrev pub LacksForm : Fields → Fault → Type 0
+abbrev pub LacksForm : Fields → SlotFault → Type 0
 LacksForm f fault.Opcode = IsOpcode f.opcode → ⊥
 LacksForm f fault.Register = IsOpcode f.opcode × ((f.dst ≤ 10) × (f.src ≤ 10) → ⊥)
 LacksForm f fault.WideCut = ⊥

@@ -2,9 +2,10 @@
 use Rattle.std.specs.Prelude.{◌≡◌, ◌≢◌, ℕ, ◌*◌, ◌/◌, ◌%◌, ◌<◌, ◌≤◌, List, ◌++◌, length, slice_index}
 use Rattle.insn.specs.Opcode.{IsOpcode}
 use Rattle.insn.specs.Encoding.{encoding, encodings, slot_count, Fits, AllFit}
+use Rattle.insn.specs.declared.decoding.TheConstants.{MAX_SLOTS}
 use Rattle.insn.specs.declared.instruction.Insn.{Insn}
-use Rattle.insn.specs.declared.refusal.Fault.{Fault}
-use Rattle.insn.specs.declared.refusal.Fault.TheVariants as fault
+use Rattle.insn.specs.declared.refusal.SlotFault.{SlotFault}
+use Rattle.insn.specs.declared.refusal.SlotFault.TheVariants as fault
 use Rattle.insn.specs.declared.refusal.DecodeError.{DecodeError}
 use Rattle.insn.specs.declared.refusal.DecodeError.TheVariants.{Empty, NotEights, TooLong, Opcode, Register, UnusedField, WideCut, Memory}
 
@@ -12,17 +13,17 @@ use Rattle.insn.specs.declared.refusal.DecodeError.TheVariants.{Empty, NotEights
 abbrev pub HasRegisters : List ℕ → Type 0
 HasRegisters bytes = (slice_index bytes 1 % 16 ≤ 10) × (slice_index bytes 1 / 16 ≤ 10)
 
--- The fault of the slot that begins the bytes, each told only where those before it are not there. No form
--- takes two slots, so none is cut.
-abbrev pub HasFault : List ℕ → Fault → Type 0
+-- The fault of the slot that begins the bytes: each one where none before it holds. No instruction takes two slots,
+-- so none is cut.
+abbrev pub HasFault : List ℕ → SlotFault → Type 0
 HasFault bytes fault.Opcode = IsOpcode (slice_index bytes 0) → ⊥
 HasFault bytes fault.Register = IsOpcode (slice_index bytes 0) × (HasRegisters bytes → ⊥)
 HasFault bytes fault.WideCut = ⊥
 HasFault bytes fault.UnusedField = IsOpcode (slice_index bytes 0) × HasRegisters bytes
     × ((i : Insn) (rest : List ℕ) → Fits i → bytes ≢ encoding i ++ rest)
 
--- whole instructions of n slots come first, and the slot after them has the fault
-pub record FirstFault (bytes : List ℕ) (n : ℕ) (fault : Fault) : Type 0 where
+-- after whole instructions of n slots comes a slot that has the fault
+pub record FirstFault (bytes : List ℕ) (n : ℕ) (fault : SlotFault) : Type 0 where
   pub front : List Insn
   pub rest : List ℕ
   pub fit : AllFit front
@@ -32,7 +33,7 @@ pub record FirstFault (bytes : List ℕ) (n : ℕ) (fault : Fault) : Type 0 wher
   pub faulty : HasFault rest fault
 
 -- the fault of the slot n, as the refusal of the bytes
-abbrev pub refusal_at : Fault → ℕ → DecodeError
+abbrev pub refusal_at : SlotFault → ℕ → DecodeError
 refusal_at fault.Opcode n = Opcode n
 refusal_at fault.Register n = Register n
 refusal_at fault.WideCut n = WideCut n
@@ -40,19 +41,19 @@ refusal_at fault.UnusedField n = UnusedField n
 
 -- the bytes have a first fault, and this is its refusal
 abbrev pub IsFaulty : List ℕ → DecodeError → Type 0
-IsFaulty bytes e = (n : ℕ) × (f : Fault) × (e ≡ refusal_at f n) × FirstFault bytes n f
+IsFaulty bytes e = (n : ℕ) × (f : SlotFault) × (e ≡ refusal_at f n) × FirstFault bytes n f
 
 -- whole slots, 1 to 4,096 of them
 pub record IsWhole (bytes : List ℕ) : Type 0 where
   pub some : 0 < length bytes
   pub eights : length bytes % 8 ≡ 0
-  pub few : length bytes ≤ 8 * 4096
+  pub few : length bytes ≤ 8 * MAX_SLOTS
 
 -- the refusals in their order
 abbrev pub IsRefused : List ℕ → DecodeError → Type 0
 IsRefused bytes Empty = length bytes ≡ 0
 IsRefused bytes NotEights = length bytes % 8 ≢ 0
-IsRefused bytes TooLong = (length bytes % 8 ≡ 0) × (8 * 4096 < length bytes)
+IsRefused bytes TooLong = (length bytes % 8 ≡ 0) × (8 * MAX_SLOTS < length bytes)
 IsRefused bytes (Opcode n) = IsWhole bytes × FirstFault bytes n fault.Opcode
 IsRefused bytes (Register n) = IsWhole bytes × FirstFault bytes n fault.Register
 IsRefused bytes (UnusedField n) = IsWhole bytes × FirstFault bytes n fault.UnusedField

@@ -3,7 +3,7 @@
 ghost use Rattle.std.specs.Prelude.{◌≡◌, Some, IfSome};
 ghost use Rattle.insn.specs.Codes.{condition_code};
 
-/// What a conditional jump asks of `dst` and its operand.
+/// The condition of a jump, on `dst` and the operand.
 #[derive(Clone, Copy, Debug, PartialEq, Eq)]
 pub enum Condition {
     /// `dst == operand`
@@ -31,7 +31,7 @@ pub enum Condition {
 }
 
 impl Condition {
-    /// The condition's code, the high four bits of the opcode.
+    /// Returns the code of the condition, the high four bits of the opcode.
     pub fn code(self) -> u8
         ensures { result ≡ condition_code self }
     {
@@ -50,7 +50,7 @@ impl Condition {
         }
     }
 
-    /// The condition of a code, if there is one.
+    /// Returns the condition of a code, `None` for a code that no condition has.
     pub fn from_code(code: u8) -> Option<Condition>
         ensures found { IfSome result (λ c. condition_code c ≡ code) }
         ensures only { (c : Condition) → condition_code c ≡ code → result ≡ Some c }

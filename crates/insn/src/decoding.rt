@@ -12,11 +12,11 @@ ghost use Rattle.insn.specs.declared.refusal.DecodeError.TheVariants.{Memory};
 use crate::fields::{Fields, SLOT_BYTES, read_slot};
 use crate::instruction::{Insn, Operand};
 use crate::opcode::{Opcode, Source};
-use crate::refusal::{DecodeError, Fault};
+use crate::refusal::{DecodeError, SlotFault};
 use crate::register::Reg;
 use std::alloc::Global;
 
-/// How many slots a program may have.
+/// The greatest number of slots that a program may have.
 pub const MAX_SLOTS: usize = 4096;
 
 fn operand_of(source: Source, src: Reg, imm: i32) -> Operand
@@ -28,7 +28,7 @@ fn operand_of(source: Source, src: Reg, imm: i32) -> Operand
     }
 }
 
-/// The instruction of an opcode with those of the fields that it uses.
+/// Returns the instruction of an opcode, with the fields that it uses.
 fn insn_of(opcode: Opcode, dst: Reg, src: Reg, offset: i16, imm: i32) -> Insn
     ensures { result ≡ form opcode dst src offset imm }
 {
@@ -55,25 +55,25 @@ fn insn_of(opcode: Opcode, dst: Reg, src: Reg, offset: i16, imm: i32) -> Insn
     }
 }
 
-/// The instruction of a slot's fields, or the first fault in them.
-fn typed(fields: Fields) -> Result<Insn, Fault>
+/// Returns the instruction of a slot's fields, or their first fault.
+fn typed(fields: Fields) -> Result<Insn, SlotFault>
     requires { HaveRoom fields }
     ensures found { IfOk result (λ i. (fields_of i ≡ fields) × Fits i) }
     ensures refused { IfErr result (LacksForm fields) }
 {
-    let opcode = Opcode::from_byte(fields.opcode).ok_or(Fault::Opcode)?;
-    let dst = Reg::from_number(fields.dst).ok_or(Fault::Register)?;
-    let src = Reg::from_number(fields.src).ok_or(Fault::Register)?;
+    let opcode = Opcode::from_byte(fields.opcode).ok_or(SlotFault::Opcode)?;
+    let dst = Reg::from_number(fields.dst).ok_or(SlotFault::Register)?;
+    let src = Reg::from_number(fields.src).ok_or(SlotFault::Register)?;
     let insn = insn_of(opcode, dst, src, fields.offset, fields.imm);
     if insn.fields() == fields {
         Ok(insn)
     } else {
-        Err(Fault::UnusedField)
+        Err(SlotFault::UnusedField)
     }
 }
 
-/// The instruction that begins the bytes, or the fault of its slot.
-fn first(bytes: &[u8]) -> Result<Insn, Fault>
+/// Decodes the instruction at the beginning of the bytes, or returns the fault of its slot.
+fn first(bytes: &[u8]) -> Result<Insn, SlotFault>
     requires { 8 ≤ length bytes.now }
     ensures found { IfOk result (λ i. Fits i × (take 8 bytes.now ≡ encoding i)) }
     ensures refused { IfErr result (HasFault bytes.now) }
@@ -81,7 +81,7 @@ fn first(bytes: &[u8]) -> Result<Insn, Fault>
     typed(read_slot(bytes))
 }
 
-/// The instructions of whole slots, or the first fault among them.
+/// Decodes whole slots, or returns the first fault among them.
 fn instructions(alloc: Global, bytes: &[u8]) -> Result<Vec<Insn>, DecodeError>
     requires { length bytes.now % 8 ≡ 0 }
     ensures found { IfOk result (λ code. AllFit code.items × (bytes.now ≡ encodings code.items)) }
@@ -100,8 +100,8 @@ fn instructions(alloc: Global, bytes: &[u8]) -> Result<Vec<Insn>, DecodeError>
     Ok(code)
 }
 
-/// The program that the bytes encode, of 1 to 4,096 slots. Its time is linear in the bytes, and it
-/// allocates nothing but the list.
+/// Decodes a program of 1 to 4,096 slots (RFC 9669, sections 3 to 5). The time is linear in the bytes, and
+/// nothing but the list of instructions is allocated.
 ///
 /// # Errors
 /// The first fault of the bytes, with its slot, or `Memory`.

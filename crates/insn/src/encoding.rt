@@ -1,18 +1,21 @@
 //! From instructions to bytes.
 
-ghost use Rattle.std.specs.Prelude.{◌≡◌, ◌≤◌, List, IfOk, OnOk, MatchResult};
-ghost use Rattle.insn.specs.Encoding.{encodings, slot_count, AllFit};
+ghost use Rattle.std.specs.Prelude.{◌≡◌, ◌≤◌, ◌++◌, ℕ, List, IfOk, OnOk, MatchResult};
+ghost use Rattle.insn.specs.Encoding.{encoding, encodings, slot_count, Fits, AllFit};
 ghost use Rattle.insn.specs.declared.instruction.Insn.{Insn};
 ghost use Rattle.insn.specs.declared.refusal.DecodeError.TheVariants.{Memory};
 
-use crate::decoding::decode;
+use crate::decoding::{MAX_SLOTS, decode};
 use crate::fields::{SLOT_BYTES, write_slot};
 use crate::instruction::Insn;
 use crate::refusal::DecodeError;
 use std::alloc::{AllocError, Global};
 
-/// The encoding of the instructions, one after the other. `decode` gives them back, where they have 1
-/// to 4,096 slots.
+/// Encodes the instructions, one after the other (RFC 9669, sections 3 to 5). [`decode`] reads a program of
+/// 1 to 4,096 slots back.
+///
+/// # Errors
+/// Where memory runs out.
 pub fn encode(alloc: Global, code: &[Insn]) -> Result<Vec<u8>, AllocError>
     ensures bytes { IfOk result (λ bytes. bytes.items ≡ encodings code.now) }
     ensures fit { OnOk result (AllFit code.now) }
@@ -26,15 +29,22 @@ pub fn encode(alloc: Global, code: &[Insn]) -> Result<Vec<u8>, AllocError>
     Ok(bytes)
 }
 
-/// Two programs with one encoding are one: what `encode` wrote is read back as it was.
+/// Different instructions have encodings of which neither begins the other, so bytes are read as
+/// instructions in at most one way.
+pub fn no_encoding_begins_another()
+    ensures { (i j : Insn) (rest other : List ℕ) → Fits i → Fits j
+        → encoding i ++ rest ≡ encoding j ++ other → i ≡ j }
+{}
+
+/// Different programs have different encodings.
 pub fn encodings_are_unique()
     ensures { (code other : List Insn) → AllFit code → AllFit other → encodings code ≡ encodings other → code ≡ other }
 {}
 
-/// Encodes a program and decodes the bytes again: the program comes back, unless memory runs out.
+/// Encodes a program and decodes the bytes: the result is the same program, unless memory runs out.
 pub fn read_back(alloc: Global, code: &[Insn]) -> Result<Vec<Insn>, DecodeError>
     requires some { 1 ≤ slot_count code.now }
-    requires few { slot_count code.now ≤ 4096 }
+    requires few { slot_count code.now ≤ MAX_SLOTS }
     ensures { MatchResult result (λ v. v.items ≡ code.now) (λ e. e ≡ Memory) }
 {
     let bytes = encode(alloc, code)?;

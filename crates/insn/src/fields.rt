@@ -5,7 +5,7 @@ ghost use Rattle.insn.specs.Fields.{HaveRoom, slot_bytes};
 
 use byteorder::{ByteOrder, LittleEndian};
 
-/// The five fields of a slot. `dst` is the low four bits of the register byte and `src` the high
+/// The five fields of a slot (RFC 9669, section 3). `dst` is the low four bits of the register byte and `src` the high
 /// four; `offset` and `imm` are signed and little-endian.
 #[derive(Clone, Copy, Debug, PartialEq, Eq)]
 pub struct Fields {
@@ -16,10 +16,10 @@ pub struct Fields {
     pub imm: i32,
 }
 
-/// How many bytes a slot has.
+/// The number of bytes of a slot.
 pub const SLOT_BYTES: usize = 8;
 
-/// The fields of the slot that begins the bytes.
+/// Reads the fields of the slot at the beginning of the bytes.
 pub fn read_slot(bytes: &[u8]) -> Fields
     requires { 8 ≤ length bytes.now }
     ensures room { HaveRoom result }
@@ -36,7 +36,7 @@ pub fn read_slot(bytes: &[u8]) -> Fields
     }
 }
 
-/// The eight bytes of the fields, over the first eight of `out`.
+/// Writes the eight bytes of the fields over the first eight of `out`.
 pub fn write_slot(fields: Fields, out: &mut [u8])
     requires fits { HaveRoom fields }
     requires room { 8 ≤ length out.old }

@@ -1,4 +1,4 @@
-//! An instruction as a typed value. Each value has exactly one encoding.
+//! Instructions as typed values: each value has exactly one encoding (RFC 9669, sections 3 to 5).
 
 ghost use Rattle.std.specs.Prelude.{◌≡◌};
 ghost use Rattle.insn.specs.Encoding.{source_of, src_of, imm_of, fields_of, slots_of};
@@ -11,12 +11,12 @@ use crate::operator::AluOp;
 use crate::register::Reg;
 use crate::size::Size;
 
-/// What an instruction works with beside `dst`: a register (source `X`) or a number (source `K`).
+/// The second operand of an instruction: a register (source `X`) or an immediate number (source `K`).
 #[derive(Clone, Copy, Debug, PartialEq, Eq)]
 pub enum Operand {
-    /// The value of a register.
+    /// Source `X`: the value of a register.
     Reg(Reg),
-    /// A number, read with its sign.
+    /// Source `K`: the imm field, a signed 32-bit number.
     Imm(i32),
 }
 
@@ -29,25 +29,25 @@ pub enum Insn {
         dst: Reg,
         operand: Operand,
     },
-    /// `JA` of class `JMP`: goes `offset` slots past the next one.
+    /// `JA` of class `JMP`: jumps to the slot `offset` slots after the next one.
     Jump {
         offset: i16,
     },
-    /// A conditional jump on 64 bits, class `JMP`.
+    /// A conditional jump on 64 bits, class `JMP`. It compares `dst` with the operand.
     JumpIf {
         condition: Condition,
         dst: Reg,
         operand: Operand,
         offset: i16,
     },
-    /// `MEM` of class `LDX`: `dst` becomes the number in `size` bytes from `base + offset`.
+    /// `MEM` of class `LDX`: loads the `size` bytes at `base + offset` into `dst`, zero-extended.
     Load {
         size: Size,
         dst: Reg,
         base: Reg,
         offset: i16,
     },
-    /// Ends the program with `r0` as its verdict.
+    /// `EXIT` of class `JMP`: ends the program with the verdict in `r0`.
     Exit,
 }
 
@@ -81,14 +81,14 @@ impl Operand {
 }
 
 impl Insn {
-    /// How many slots the instruction takes.
+    /// Returns the number of slots that the instruction takes.
     pub fn slots(self) -> usize
         ensures { result ≡ slots_of self }
     {
         1
     }
 
-    /// The fields of the instruction's slot, those that it doesn't use zero.
+    /// Returns the fields of the instruction's slot; those that it doesn't use are zero.
     pub(crate) fn fields(self) -> Fields
         ensures value { result ≡ fields_of self }
         ensures room { HaveRoom result }

@@ -16,7 +16,7 @@ mod word;
 
 pub use condition::Condition;
 pub use decoding::{MAX_SLOTS, decode, refusals_are_unique, refused_bytes_encode_nothing};
-pub use encoding::{encode, encodings_are_unique, read_back};
+pub use encoding::{encode, encodings_are_unique, no_encoding_begins_another, read_back};
 pub use instruction::{Insn, Operand};
 pub use operator::AluOp;
 pub use refusal::DecodeError;

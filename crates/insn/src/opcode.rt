@@ -7,7 +7,7 @@ use crate::condition::Condition;
 use crate::operator::AluOp;
 use crate::size::Size;
 
-/// Where the operand comes from, the bit above the class.
+/// The source of the second operand: the bit above the class.
 #[derive(Clone, Copy, Debug, PartialEq, Eq)]
 pub enum Source {
     /// `K`: the imm field.
@@ -16,7 +16,7 @@ pub enum Source {
     Reg,
 }
 
-/// What a slot's first byte says.
+/// The meaning of a slot's first byte.
 #[derive(Clone, Copy, Debug, PartialEq, Eq)]
 pub enum Opcode {
     /// Class `ALU64`.
@@ -66,7 +66,7 @@ impl Source {
 }
 
 impl Opcode {
-    /// The byte of the opcode.
+    /// Returns the byte of the opcode.
     pub fn byte(self) -> u8
         ensures { result ≡ byte_of self }
     {
@@ -81,7 +81,7 @@ impl Opcode {
         }
     }
 
-    /// The opcode of a byte, if it is one.
+    /// Returns the opcode of a byte, `None` for a byte that is no opcode.
     pub fn from_byte(byte: u8) -> Option<Opcode>
         ensures found { IfSome result (λ o. byte_of o ≡ byte) }
         ensures only { (o : Opcode) → byte_of o ≡ byte → result ≡ Some o }

@@ -3,7 +3,7 @@
 ghost use Rattle.std.specs.Prelude.{◌≡◌, Some, IfSome};
 ghost use Rattle.insn.specs.Codes.{alu_code};
 
-/// What an arithmetic instruction does.
+/// An arithmetic operator.
 #[derive(Clone, Copy, Debug, PartialEq, Eq)]
 pub enum AluOp {
     /// `dst += operand`
@@ -13,7 +13,7 @@ pub enum AluOp {
 }
 
 impl AluOp {
-    /// The operator's code, the high four bits of the opcode.
+    /// Returns the code of the operator, the high four bits of the opcode.
     pub fn code(self) -> u8
         ensures { result ≡ alu_code self }
     {
@@ -23,7 +23,7 @@ impl AluOp {
         }
     }
 
-    /// The operator of a code, if there is one.
+    /// Returns the operator of a code, `None` for a code that no operator has.
     pub fn from_code(code: u8) -> Option<AluOp>
         ensures found { IfSome result (λ op. alu_code op ≡ code) }
         ensures only { (op : AluOp) → alu_code op ≡ code → result ≡ Some op }

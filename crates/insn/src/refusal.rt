@@ -1,4 +1,4 @@
-//! Why bytes are no program.
+//! The refusals of `decode`.
 
 ghost use Rattle.std.specs.Prelude.{◌≡◌};
 ghost use Rattle.insn.specs.Refusal.{refusal_at};
@@ -7,29 +7,29 @@ ghost use Rattle.insn.specs.declared.refusal.DecodeError.TheVariants.{Memory};
 use std::alloc::{AllocError, AllocFailed};
 use thiserror::Error;
 
-/// Why `decode` answers no program: the first of these, in the order of the codes but for `E7`, which
-/// comes before `E6`. A slot counts from 0.
+/// Why `decode` refuses bytes: the first of these that holds, in the order of their codes, but `E7` before
+/// `E6`. Slots count from 0. Each prints its code and slot, as `E4 at 0`.
 #[derive(Clone, Copy, Debug, PartialEq, Eq, Error)]
 pub enum DecodeError {
-    /// There are no bytes.
+    /// The program has no bytes.
     #[error("E1")]
     Empty,
-    /// The number of bytes is no multiple of 8.
+    /// The length is not a multiple of 8.
     #[error("E2")]
     NotEights,
-    /// There are more than 4,096 slots.
+    /// The program has more than 4,096 slots.
     #[error("E3")]
     TooLong,
-    /// The first byte of this slot is no opcode.
+    /// The first byte of this slot is not an opcode of this profile.
     #[error("E4 at {0}")]
     Opcode(usize),
-    /// A register number of this slot is above 10, also one that isn't used.
+    /// A register number of this slot is above 10, in a field that the instruction doesn't use too.
     #[error("E5 at {0}")]
     Register(usize),
     /// A field of this slot that the instruction doesn't use is not zero.
     #[error("E6 at {0}")]
     UnusedField(usize),
-    /// The instruction at this slot takes two slots, and the second is missing.
+    /// The instruction at this slot takes two slots, and the second one is missing.
     #[error("E7 at {0}")]
     WideCut(usize),
     /// Memory ran out.
@@ -37,25 +37,25 @@ pub enum DecodeError {
     Memory,
 }
 
-/// What can be wrong with one slot.
+/// The fault of one slot.
 #[derive(Clone, Copy, Debug, PartialEq, Eq)]
-pub enum Fault {
+pub enum SlotFault {
     Opcode,
     Register,
     WideCut,
     UnusedField,
 }
 
-impl Fault {
-    /// The fault as the refusal of the bytes that have it at this slot.
+impl SlotFault {
+    /// Returns the refusal of bytes whose first fault is this one, at this slot.
     pub fn at(self, slot: usize) -> DecodeError
         ensures { result ≡ refusal_at self slot }
     {
         match self {
-            Fault::Opcode => DecodeError::Opcode(slot),
-            Fault::Register => DecodeError::Register(slot),
-            Fault::WideCut => DecodeError::WideCut(slot),
-            Fault::UnusedField => DecodeError::UnusedField(slot),
+            SlotFault::Opcode => DecodeError::Opcode(slot),
+            SlotFault::Register => DecodeError::Register(slot),
+            SlotFault::WideCut => DecodeError::WideCut(slot),
+            SlotFault::UnusedField => DecodeError::UnusedField(slot),
         }
     }
 }

@@ -3,7 +3,7 @@
 ghost use Rattle.std.specs.Prelude.{◌≡◌, ◌<◌, IfSome, IfNone};
 ghost use Rattle.insn.specs.Register.{number_of};
 
-/// A register. A register out of range can't be written down.
+/// A register, `r0` to `r10`: no other can be represented.
 #[derive(Clone, Copy, Debug, PartialEq, Eq)]
 pub enum Reg {
     R0,
@@ -20,7 +20,7 @@ pub enum Reg {
 }
 
 impl Reg {
-    /// The number that stands for the register in a slot, 0 to 10.
+    /// Returns the number of the register, 0 to 10.
     pub fn number(self) -> u8
         ensures { result ≡ number_of self }
     {
@@ -39,7 +39,7 @@ impl Reg {
         }
     }
 
-    /// The register of a number, `None` above 10.
+    /// Returns the register of a number, `None` above 10.
     pub fn from_number(number: u8) -> Option<Reg>
         ensures found { IfSome result (λ r. number_of r ≡ number) }
         ensures above { IfNone result (10 < number) }

@@ -3,7 +3,7 @@
 ghost use Rattle.std.specs.Prelude.{◌≡◌, Some, IfSome};
 ghost use Rattle.insn.specs.Codes.{size_code, byte_count};
 
-/// How many bytes a load or a store moves.
+/// The size of a memory access.
 #[derive(Clone, Copy, Debug, PartialEq, Eq)]
 pub enum Size {
     /// Four bytes, `W`.
@@ -17,7 +17,7 @@ pub enum Size {
 }
 
 impl Size {
-    /// The number of bytes: 1, 2, 4 or 8.
+    /// Returns the number of bytes: 1, 2, 4 or 8.
     pub fn bytes(self) -> usize
         ensures { result ≡ byte_count self }
     {
@@ -29,7 +29,7 @@ impl Size {
         }
     }
 
-    /// The size's code, two bits of the opcode.
+    /// Returns the code of the size, two bits of the opcode.
     pub fn code(self) -> u8
         ensures { result ≡ size_code self }
     {
@@ -41,7 +41,7 @@ impl Size {
         }
     }
 
-    /// The size of a code, `None` above 3.
+    /// Returns the size of a code, `None` above 3.
     pub fn from_code(code: u8) -> Option<Size>
         ensures found { IfSome result (λ s. size_code s ≡ code) }
         ensures only { (s : Size) → size_code s ≡ code → result ≡ Some s }

@@ -1,5 +1,5 @@
-//! The fixed spelling of an instruction, as a trace prints it: one space after the mnemonic, `, `
-//! between operands, decimal numbers, and a sign before each distance and displacement.
+//! The text of an instruction, as a trace prints it: one space after the mnemonic, `, ` between operands,
+//! decimal numbers, and a sign before each jump distance and each displacement.
 
 use crate::condition::Condition;
 use crate::instruction::{Insn, Operand};
@@ -53,7 +53,7 @@ impl fmt::Display for Condition {
     }
 }
 
-/// The letters that a load or a store of this size ends in.
+/// The suffix of the mnemonic of a load or a store of this size.
 impl fmt::Display for Size {
     fn fmt<W: fmt::Write>(&self, f: &mut fmt::Formatter<W>) -> fmt::Result {
         let letters = match self {

@@ -9,7 +9,7 @@ use crate::condition::Condition;
 use crate::operator::AluOp;
 use byteorder::{ByteOrder, LittleEndian};
 
-/// What an operator makes of two words. It wraps.
+/// Applies an operator to two 64-bit words; the result wraps modulo 2^64.
 pub fn alu(op: AluOp, a: u64, b: u64) -> u64
     ensures { result ≡ alu op w64 a b }
 {
@@ -19,7 +19,7 @@ pub fn alu(op: AluOp, a: u64, b: u64) -> u64
     }
 }
 
-/// Whether a condition holds of two words.
+/// Returns whether a condition holds of two 64-bit words.
 pub fn holds(condition: Condition, a: u64, b: u64) -> bool
     ensures { result ≡ holds condition w64 a b }
 {
@@ -38,14 +38,14 @@ pub fn holds(condition: Condition, a: u64, b: u64) -> bool
     }
 }
 
-/// An imm operand as a word: its sign is extended.
+/// Returns an imm operand as a 64-bit word, sign-extended.
 pub fn extended(imm: i32) -> u64
     ensures { result ≡ cast_unsigned w64 imm }
 {
     i64::from(imm).cast_unsigned()
 }
 
-/// The number in 1 to 8 bytes, the lowest first.
+/// Reads the little-endian number in 1 to 8 bytes.
 pub fn little_endian(bytes: &[u8]) -> u64
     requires some { 1 ≤ length bytes.now }
     requires few { length bytes.now ≤ 8 }
