@@ -140,9 +140,24 @@ fault_unique bytes fault.UnusedField fault.UnusedField p q = refl
 
 -- ---- whole programs
 
+length-encoding : (i : Insn) → length (encoding i) ≡ 8 * slots_of i
+length-encoding (Alu op dst o) = refl
+length-encoding (Jump distance) = refl
+length-encoding (JumpIf condition dst o distance) = refl
+length-encoding (Load size dst base displacement) = refl
+length-encoding Exit = refl
+
+-- an instruction takes one slot or two
+pub slots_small : (i : Insn) → slots_of i ≤ 2
+slots_small (Alu op dst o) = omega arith
+slots_small (Jump distance) = omega arith
+slots_small (JumpIf condition dst o distance) = omega arith
+slots_small (Load size dst base displacement) = omega arith
+slots_small Exit = omega arith
+
 pub length-encodings : (code : List Insn) → length (encodings code) ≡ 8 * slot_count code
 length-encodings [] = refl
-length-encodings (i ∷ code) = omega (arith, length-append (encoding i) (encodings code), length-encodings code)
+length-encodings (i ∷ code) = omega (arith, length-append (encoding i) (encodings code), length-encoding i, length-encodings code)
 
 pub encodings-push : (code : List Insn) (i : Insn) (rest : List ℕ) → encodings (code ++ i ∷ []) ++ rest ≡ encodings code ++ (encoding i ++ rest)
 encodings-push [] i rest = ap (λ (b : List ℕ). b ++ rest) (append-nil (encoding i))
@@ -150,7 +165,7 @@ encodings-push (j ∷ code) i rest =
     append_assoc (encoding j) (encodings (code ++ i ∷ [])) rest ∙ ap (λ (b : List ℕ). encoding j ++ b) (encodings-push code i rest) ∙ sym (append_assoc (encoding j) (encodings code) (encoding i ++ rest))
 
 pub slot_count-push : (code : List Insn) (i : Insn) → slot_count (code ++ i ∷ []) ≡ slot_count code + slots_of i
-slot_count-push [] i = refl
+slot_count-push [] i = omega arith
 slot_count-push (j ∷ code) i = omega (arith, slot_count-push code i)
 
 pub AllFit-push : (code : List Insn) (i : Insn) → AllFit code → Fits i → AllFit (code ++ i ∷ [])
@@ -174,7 +189,7 @@ faults_meet (i ∷ p) [] r s f g all other hf hg e = absurd (fault_is_no_encodin
 faults_meet (i ∷ p) (j ∷ q) r s f g all other hf hg e =
     let first = encoding-injective i j (encodings p ++ r) (encodings q ++ s) all.0 other.0 (sym (append_assoc (encoding i) (encodings p) r) ∙ e ∙ append_assoc (encoding j) (encodings q) s) in
     let others = faults_meet p q r s f g all.1 other.1 hf hg first.1 in
-    (ap (λ (n : ℕ). 1 + n) others.0, others.1)
+    ((λ k. slots_of (first.0 k) + others.0 k), others.1)
 
 first_fault_unique : (bytes : List ℕ) (n m : ℕ) (f g : SlotFault) → FirstFault bytes n f → FirstFault bytes m g → refusal_at f n ≡ refusal_at g m
 first_fault_unique bytes n m f g p q =

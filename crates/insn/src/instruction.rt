@@ -85,7 +85,13 @@ impl Insn {
     pub fn slots(self) -> usize
         ensures { result ≡ slots_of self }
     {
-        1
+        match self {
+            Insn::Alu { .. }
+            | Insn::Jump { .. }
+            | Insn::JumpIf { .. }
+            | Insn::Load { .. }
+            | Insn::Exit => 1,
+        }
     }
 
     /// Returns the fields of the instruction's slot; those that it doesn't use are zero.

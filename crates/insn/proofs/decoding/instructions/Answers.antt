@@ -1,10 +1,10 @@
 use Rattle.std.proofs.Common.{arith, rules, ◌≡◌, ◌++◌, ◌∷◌, [], take}
 use Rattle.insn.specs.Encoding.{encoding, Fits}
-use Rattle.insn.proofs.Programs.{HasRead-push, slots_of_bytes, at_least_eight}
+use Rattle.insn.proofs.Programs.{HasRead-push, slots_of_bytes, slots_small, at_least_eight}
 use Rattle.insn.proofs.decoding.instructions.Goals as goal
 
 pub overflow_add-slot : goal.overflow_add-slot
-overflow_add-slot c = omega (arith, slots_of_bytes _ _ _ _ c.loop-rest.invariant, c.slots.ensures)
+overflow_add-slot c = omega (arith, slots_of_bytes _ _ _ _ c.loop-rest.invariant, c.slots.ensures, slots_small c.in_ok-insn.insn)
 
 pub loop-rest-preserved : goal.loop-rest-preserved
 loop-rest-preserved c =
