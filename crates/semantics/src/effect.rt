@@ -1,10 +1,12 @@
-//! What one instruction does (RFC 9669, sections 4 and 5).
+//! The effect of an instruction (RFC 9669, sections 4 and 5).
 
 ghost use Rattle.std.specs.Prelude.{◌≡◌, ◌≤◌, ◌+ℤ◌};
 ghost use Rattle.std.specs.Int.{w64, cast_signed};
-ghost use Rattle.semantics.specs.Effects.{held, value_at, read, operand_value, is_writable, writable, near_place, sum_of, alu_effect, ordered, compared, branch_effect, load_effect, verdict_of, exit_effect, effect};
+ghost use Rattle.semantics.specs.Effects.{held, value_at, read, operand_value, is_writable, writable, near_place, sum_of, alu_effect, ordered, compared, jump_if_effect, load_effect, verdict_of, exit_effect, effect};
 ghost use Rattle.semantics.specs.Views.{memory_of};
+ghost use Rattle.semantics.specs.declared.limits.TheConstants.{MAX_DATAGRAM};
 
+use crate::limits::MAX_OFFSET;
 use crate::loading::load;
 use crate::memory::Memory;
 use crate::reason::Reason;
@@ -14,21 +16,18 @@ use insn::{AluOp, Condition, Insn, Operand, Reg, Size, alu, extended, holds};
 /// The registers `r0` to `r10`.
 pub type Registers = [Value; 11];
 
-/// What an instruction does, where it isn't stuck.
+/// The effect of an instruction that is not stuck.
 #[derive(Clone, Copy, Debug, PartialEq, Eq)]
 pub enum Effect {
-    /// `dst` gets the value, and the next instruction comes.
+    /// Writes the value to `dst`, and goes on to the next instruction.
     Write { dst: Reg, value: Value },
-    /// A jump by a distance from the next slot on.
+    /// Jumps by a distance in slots, counted from the next slot.
     Jump { offset: i16 },
-    /// A jump that isn't taken.
+    /// Goes on to the next instruction: a conditional jump that is not taken.
     Pass,
-    /// The end, with a verdict.
+    /// Ends the run with a verdict.
     Exit { verdict: u64 },
 }
-
-/// The greatest offset of a pointer, to either side.
-const REACH: i64 = 1_048_576;
 
 fn read(registers: &Registers, reg: Reg) -> Result<Value, Reason>
     ensures { result ≡ read registers.now reg }
@@ -48,7 +47,7 @@ fn operand_value(registers: &Registers, operand: Operand) -> Result<Value, Reaso
     }
 }
 
-/// Whether a register may be written: all but the frame pointer may.
+/// Tests whether a register may be written.
 ///
 /// # Errors
 /// `WritesFramePointer` for `r10`.
@@ -62,12 +61,12 @@ pub fn writable(dst: Reg) -> Result<(), Reason>
     }
 }
 
-/// A place moved by a number that is read with its sign, if it stays near.
+/// Returns a place moved by a signed number, or `None` where it would lie further than [`MAX_OFFSET`] from 0.
 pub fn moved_place(place: i64, by: u64) -> Option<i64>
     ensures { result ≡ near_place (place +ℤ cast_signed w64 by) }
 {
     let moved = place.checked_add(by.cast_signed())?;
-    if -REACH <= moved && moved <= REACH {
+    if -MAX_OFFSET <= moved && moved <= MAX_OFFSET {
         Some(moved)
     } else {
         None
@@ -115,7 +114,10 @@ fn alu_effect(
     }
 }
 
-/// Whether a condition holds of a place and the datagram's end.
+/// Compares a place with the datagram's end, or the end with a place.
+///
+/// # Errors
+/// `PointerCompare` for a condition that is not one of the four unsigned orders.
 fn ordered(condition: Condition, a: i64, b: i64) -> Result<bool, Reason>
     ensures { result ≡ ordered condition a b }
 {
@@ -129,7 +131,7 @@ fn ordered(condition: Condition, a: i64, b: i64) -> Result<bool, Reason>
 }
 
 fn compared(length: usize, condition: Condition, a: Value, b: Value) -> Result<bool, Reason>
-    requires { length ≤ 65507 }
+    requires { length ≤ MAX_DATAGRAM }
     ensures { result ≡ compared length condition a b }
 {
     let end = length as i64;
@@ -141,7 +143,7 @@ fn compared(length: usize, condition: Condition, a: Value, b: Value) -> Result<b
     }
 }
 
-fn branch_effect(
+fn jump_if_effect(
     registers: &Registers,
     length: usize,
     condition: Condition,
@@ -149,8 +151,8 @@ fn branch_effect(
     operand: Operand,
     offset: i16,
 ) -> Result<Effect, Reason>
-    requires { length ≤ 65507 }
-    ensures { result ≡ branch_effect registers.now length condition dst operand offset }
+    requires { length ≤ MAX_DATAGRAM }
+    ensures { result ≡ jump_if_effect registers.now length condition dst operand offset }
 {
     let a = read(registers, dst)?;
     let b = operand_value(registers, operand)?;
@@ -186,10 +188,10 @@ fn exit_effect(registers: &Registers) -> Result<Effect, Reason>
     }
 }
 
-/// What an instruction does to registers and memory.
+/// Returns the effect of an instruction on registers and memory.
 ///
 /// # Errors
-/// The reason for which it is stuck: of its tests, in their order, the first that fails.
+/// The reason for which it is stuck: that of the first of its tests that fails.
 pub fn effect_of(memory: &Memory<'_>, registers: &Registers, insn: &Insn) -> Result<Effect, Reason>
     ensures { result ≡ effect (memory_of memory.now) registers.now insn.now }
 {
@@ -201,7 +203,7 @@ pub fn effect_of(memory: &Memory<'_>, registers: &Registers, insn: &Insn) -> Res
             dst,
             operand,
             offset,
-        } => branch_effect(registers, memory.length, condition, dst, operand, offset),
+        } => jump_if_effect(registers, memory.length, condition, dst, operand, offset),
         Insn::Load {
             size,
             dst,

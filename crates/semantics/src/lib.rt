@@ -1,17 +1,21 @@
-//! What a program means: the tagged machine, in which each register knows what it holds, and a step
-//! that may not be taken is stuck, with its reason.
+//! The meaning of a program: the tagged machine, in which each value carries its kind, and a step that is
+//! not allowed is stuck for a named reason.
 #![tactic(auto)]
 
 mod effect;
 mod fetching;
+mod limits;
+mod listing;
 mod loading;
 mod memory;
 mod reason;
 mod value;
 
 pub use effect::{Effect, Registers, effect_of, moved_place, writable};
-pub use fetching::{Place, Visit, last_slot, place_at, target};
-pub use loading::{HEADROOM_FIRST, TAILROOM, index_in_stack, is_within};
+pub use fetching::{Branch, Fetched, Position, Visit, fetch, last, target};
+pub use limits::{HEADROOM, MAX_DATAGRAM, MAX_OFFSET, STACK_BYTES, TAILROOM};
+pub use listing::Listing;
+pub use loading::{HEADROOM_FIRST, index_in_stack, is_within};
 pub use memory::Memory;
 pub use reason::Reason;
 pub use value::Value;

@@ -1,23 +1,22 @@
-//! What a load reads (RFC 9669, section 5.1).
+//! Loads (RFC 9669, section 5.1).
 
 ghost use Rattle.std.specs.Prelude.{◌≡◌, ◌≤◌, ◌<◌, ◌+◌, ◌^◌, ℤ, ◌≤ℤ◌, ◌+ℤ◌, pos, negsuc, length, IfSome};
 ghost use Rattle.semantics.specs.Loading.{load, field, cells_number, is_within, index_within, stack_first, part};
 ghost use Rattle.semantics.specs.Views.{memory_of};
 
+use crate::limits::{HEADROOM, STACK_BYTES, TAILROOM};
 use crate::memory::Memory;
 use crate::reason::Reason;
 use crate::value::Value;
 use insn::{Size, little_endian};
 
 /// The first place of the stack.
-pub const STACK_FIRST: i64 = -512;
+pub const STACK_FIRST: i64 = -(STACK_BYTES as i64);
 /// The first place of the headroom.
-pub const HEADROOM_FIRST: i64 = -64;
-/// How many bytes follow the datagram.
-pub const TAILROOM: i64 = 3;
+pub const HEADROOM_FIRST: i64 = -(HEADROOM as i64);
 
-/// Whether `n` bytes from the place `base + displacement` on lie at the places from `low` up to, and
-/// without, `high`. Places are whole numbers: nothing wraps.
+/// Returns whether the `n` bytes from the place `base + displacement` on lie at the places `low..high`. Places are
+/// whole numbers: nothing wraps.
 pub fn is_within(base: i64, displacement: i16, n: usize, low: i64, high: i64) -> bool
     requires { n ≤ 8 }
     ensures { result ≡ is_within (base +ℤ displacement) n low high }
@@ -31,8 +30,8 @@ pub fn is_within(base: i64, displacement: i16, n: usize, low: i64, high: i64) ->
     low <= place && end <= high
 }
 
-/// The index of `n` items from the place `base + displacement` on, in a list that begins at the place
-/// `first`, where they lie at the places from `low` up to, and without, `high`.
+/// Returns the index of the `n` items from the place `base + displacement` on, in a list that begins at the place
+/// `first`, or `None` where they don't lie at the places `low..high`.
 fn index_of(
     base: i64,
     displacement: i16,
@@ -56,8 +55,8 @@ fn index_of(
     }
 }
 
-/// The index, among the 512 stack cells, of `n` bytes from the place `base + displacement` on, if they lie
-/// in the stack.
+/// Returns the index, among the stack cells, of the `n` bytes from the place `base + displacement` on, or `None`
+/// where they don't lie in the stack.
 pub fn index_in_stack(base: i64, displacement: i16, n: usize) -> Option<usize>
     requires { n ≤ 8 }
     ensures { result ≡ index_within (base +ℤ displacement) n stack_first stack_first (pos 0) }
@@ -65,7 +64,7 @@ pub fn index_in_stack(base: i64, displacement: i16, n: usize) -> Option<usize>
     index_of(base, displacement, n, STACK_FIRST, STACK_FIRST, 0)
 }
 
-/// `n` items from an index on.
+/// Returns the `n` items from an index on.
 fn part_of<T>(items: &[T], index: usize, n: usize) -> &[T]
     requires { index + n ≤ length items.now }
     ensures { result.now ≡ part n index items.now }
@@ -75,7 +74,7 @@ fn part_of<T>(items: &[T], index: usize, n: usize) -> &[T]
     front
 }
 
-/// The number in at most eight stack cells, the lowest first, if each holds a byte.
+/// Reads the little-endian number in at most eight stack cells, or `None` where one holds nothing.
 fn number_of_cells(cells: &[Option<u8>]) -> Option<u64>
     requires { length cells.now ≤ 8 }
     ensures value { result ≡ cells_number cells.now }
@@ -91,7 +90,7 @@ fn number_of_cells(cells: &[Option<u8>]) -> Option<u64>
     }
 }
 
-/// The context's fields.
+/// Returns the value of a field of the context record.
 fn field_of(displacement: i16, size: Size) -> Result<Value, Reason>
     ensures { result ≡ field displacement size }
 {
@@ -102,7 +101,7 @@ fn field_of(displacement: i16, size: Size) -> Result<Value, Reason>
     }
 }
 
-/// The value that a load through `base` gives.
+/// Returns the value that a load through `base` with a displacement reads.
 ///
 /// # Errors
 /// The reason for which the load is stuck.
@@ -135,9 +134,15 @@ pub fn load(
         }
         Value::End => {
             let end = memory.length as i64;
-            let index = index_of(end, displacement, n, HEADROOM_FIRST, end, end + TAILROOM).ok_or(
-                Reason::DatagramBounds,
-            )?;
+            let index = index_of(
+                end,
+                displacement,
+                n,
+                HEADROOM_FIRST,
+                end,
+                end + TAILROOM as i64,
+            )
+            .ok_or(Reason::DatagramBounds)?;
             Ok(Value::Scalar(little_endian(part_of(memory.bytes, index, n))))
         }
     }

@@ -2,8 +2,9 @@
 
 ghost use Rattle.std.specs.Prelude.{◌≡◌, ◌≤◌, ◌+◌};
 ghost use Rattle.std.specs.Prelude.{length as count};
+ghost use Rattle.semantics.specs.declared.limits.TheConstants.{MAX_DATAGRAM};
 
-/// What a program reaches by pointers.
+/// The memory that a program reaches by pointers.
 #[derive(Drop)]
 pub struct Memory<'a> {
     /// The 512 cells of the stack, each a byte or nothing. The first is at place -512.
@@ -14,5 +15,5 @@ pub struct Memory<'a> {
     pub length: usize,
     ghost cells: { count stack.now ≡ 512 },
     ghost surrounded: { count bytes.now ≡ 64 + length + 3 },
-    ghost short: { length ≤ 65507 },
+    ghost short: { length ≤ MAX_DATAGRAM },
 }

@@ -1,56 +1,56 @@
-//! Why a step is stuck.
+//! The reasons for which a step is stuck.
 
 use thiserror::Error;
 
-/// Why a step is stuck, and so why a program with that step is refused. Each prints its code.
+/// The reason for which a step is stuck, or a program is refused. Each prints its code.
 #[derive(Clone, Copy, Debug, PartialEq, Eq, Error)]
 pub enum Reason {
-    /// A jump goes to its own slot or back.
+    /// A jump to its own slot or an earlier one.
     #[error("V1")]
     JumpBackward,
-    /// A jump leaves the program.
+    /// A jump to a slot outside the program.
     #[error("V2")]
     JumpOutside,
-    /// A jump goes to the second slot of an instruction.
+    /// A jump to the second slot of an instruction.
     #[error("V3")]
     JumpIntoWide,
-    /// The program goes on past its last instruction.
+    /// A step past the last instruction.
     #[error("V4")]
     FallsOffEnd,
-    /// A register is read that holds nothing.
+    /// A read of a register that holds nothing.
     #[error("V5")]
     UninitRegister,
-    /// A byte of the stack is read that was never written.
+    /// A read of a stack byte that was never written.
     #[error("V6")]
     UninitStack,
-    /// `r10` is written.
+    /// A write to `r10`.
     #[error("V7")]
     WritesFramePointer,
-    /// An access leaves the stack.
+    /// An access outside the stack.
     #[error("V8")]
     StackBounds,
-    /// An access to the context is no field of it.
+    /// An access to the context that is not the read of one of its fields.
     #[error("V9")]
     ContextAccess,
-    /// An access leaves headroom, datagram and tailroom.
+    /// An access outside headroom, datagram and tailroom.
     #[error("V10")]
     DatagramBounds,
-    /// Arithmetic on a pointer that isn't allowed, or leads too far.
+    /// Arithmetic on a pointer that is not allowed, or that leads too far.
     #[error("V11")]
     PointerArithmetic,
-    /// A comparison of a pointer that isn't allowed.
+    /// A comparison of a pointer that is not allowed.
     #[error("V12")]
     PointerCompare,
-    /// A pointer is stored.
+    /// A store of a pointer.
     #[error("V13")]
     PointerStored,
-    /// A call of a helper that isn't there.
+    /// A call of a helper that does not exist.
     #[error("V14")]
     UnknownHelper,
-    /// This argument of a helper, counted from 1, has the wrong kind or lies outside the stack.
+    /// A helper's argument, counted from 1, of the wrong kind or outside the stack.
     #[error("V15 argument {0}")]
     HelperArgument(u8),
-    /// The program ends with something that is no number in `r0`.
+    /// An exit where `r0` holds no number.
     #[error("V16")]
     ExitNotScalar,
     /// An access through a number.

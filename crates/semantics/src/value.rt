@@ -1,9 +1,9 @@
-//! What a register of the tagged machine holds.
+//! The values of registers.
 
 /// A tagged value. A pointer is a kind and an offset, never a number.
 #[derive(Clone, Copy, Debug, PartialEq, Eq)]
 pub enum Value {
-    /// Nothing was written here yet.
+    /// Nothing has been written.
     Nothing,
     /// A number.
     Scalar(u64),

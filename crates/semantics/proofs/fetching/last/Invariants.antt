@@ -1,0 +1,12 @@
+use Rattle.std.proofs.Common.{◌≤◌, ◌-◌, length}
+use Rattle.semantics.specs.Slots.{IsAt}
+use Rattle.semantics.proofs.fetching.last.Given as goal
+
+abbrev pub invariant-loop-at : goal.invariant-loop-at
+invariant-loop-at l = record {
+  at : IsAt l.code l.at;
+  inside : l.at.index ≤ length l.code - 1;
+}
+
+abbrev pub decreases-loop-at : goal.decreases-loop-at
+decreases-loop-at l = length l.code - l.at.index
