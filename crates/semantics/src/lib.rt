@@ -5,7 +5,7 @@
 mod effect;
 mod fetching;
 mod limits;
-mod listing;
+mod program;
 mod loading;
 mod memory;
 mod reason;
@@ -14,7 +14,7 @@ mod value;
 pub use effect::{Effect, Registers, effect_of, moved_place, writable};
 pub use fetching::{Branch, Fetched, Position, Visit, fetch, last, target};
 pub use limits::{HEADROOM, MAX_DATAGRAM, MAX_OFFSET, STACK_BYTES, TAILROOM};
-pub use listing::Listing;
+pub use program::Program;
 pub use loading::{HEADROOM_FIRST, index_in_stack, is_within};
 pub use memory::Memory;
 pub use reason::Reason;

@@ -8,11 +8,11 @@ use Rattle.insn.specs.declared.instruction.Insn.{Insn}
 use Rattle.insn.specs.declared.instruction.Insn.TheVariants as insn
 use Rattle.semantics.specs.Machine.{State, Surroundings}
 use Rattle.semantics.specs.Effects as effects
-use Rattle.semantics.specs.Slots.{place_at, target}
+use Rattle.semantics.specs.Slots.{fetch, target}
 use Rattle.semantics.specs.Runs.{Goes, applied, landed, stepped, step, write_register}
-use Rattle.semantics.specs.LooseRuns.{told, way_effect, way_slot, IsTrueOf}
+use Rattle.semantics.specs.LooseRuns.{told, effect_of_branch, branch_slot, HoldsOf}
 use Rattle.semantics.specs.declared.reason.Reason.{Reason}
-use Rattle.semantics.specs.declared.fetching.Place.TheVariants.{Begins}
+use Rattle.semantics.specs.declared.fetching.Fetched.TheVariants.{Begins}
 use Rattle.semantics.specs.declared.effect.Effect.{Effect}
 use Rattle.semantics.specs.declared.effect.Effect.TheVariants as effect
 use Rattle.verifier.specs.AbstractStates.{with_proved}
@@ -52,7 +52,7 @@ accepted_agree strict places a s member i fit answer is =
     agreed (Follows places a s i) (abstract.step a i) (effects.effect s.memory s.registers i) answer (steps_agree none_claimed strict places a s member i fit (no_claims strict a s i)) is
 
 -- the step at an instruction is its effect applied
-pub step_is : (w : Surroundings) (code : List Insn) (s : State) (i : Insn) (r : Result Effect Reason) → place_at code s.slot ≡ Begins i → effects.effect s.memory s.registers i ≡ r → step w code s ≡ applied code s i r
+pub step_is : (w : Surroundings) (code : List Insn) (s : State) (i : Insn) (r : Result Effect Reason) → fetch code s.slot ≡ Begins i → effects.effect s.memory s.registers i ≡ r → step w code s ≡ applied code s i r
 step_is w code s i r here e = ap (stepped w code s) here ∙ ap (applied code s i) e
 
 -- ---- where the machine comes to
@@ -72,7 +72,7 @@ landed_at : (s : State) (r : Result ℕ Reason) (n : ℕ) → r ≡ Ok n → lan
 landed_at s (Ok m) n e = ap (λ (k : ℕ). Goes (record s { slot = k })) (same_slot m n e)
 landed_at s (Err f) n e = absurd cc
 
-module _ (w : Surroundings) (code : List Insn) (strict : Bool) (places : Places) (a : AbstractState) (s : State) (member : IsMember strict places a s) (i : Insn) (here : place_at code s.slot ≡ Begins i) where
+module _ (w : Surroundings) (code : List Insn) (strict : Bool) (places : Places) (a : AbstractState) (s : State) (member : IsMember strict places a s) (i : Insn) (here : fetch code s.slot ≡ Begins i) where
   pub arrives_on : (b : AbstractState) (e : Effect) (p : Pending) → effects.effect s.memory s.registers i ≡ Ok e → Follows places a s i (next.On b) e → IsPoint code s.slot i false b p → Arrives w code strict places s p
   arrives_on b (effect.Write r v) p is follows point =
       let past : s.slot + slots_of i ≡ p.slot = same_slot (s.slot + slots_of i) p.slot (sym (follows.3 code s.slot) ∙ point.leads) in
@@ -84,7 +84,7 @@ module _ (w : Surroundings) (code : List Insn) (strict : Bool) (places : Places)
         memory = refl;
       }
   arrives_on b (effect.Jump offset) p is follows point =
-      let leads : target code s.slot offset ≡ Ok p.slot = sym (ap (λ (j : Insn). way_slot code s.slot j false) follows.1) ∙ point.leads in
+      let leads : target code s.slot offset ≡ Ok p.slot = sym (ap (λ (j : Insn). branch_slot code s.slot j false) follows.1) ∙ point.leads in
       record {
         next = record s { slot = p.slot };
         goes = step_is w code s i (Ok (effect.Jump offset)) here is ∙ landed_at s (target code s.slot offset) p.slot leads;
@@ -97,12 +97,12 @@ module _ (w : Surroundings) (code : List Insn) (strict : Bool) (places : Places)
 
   -- a way of a jump
   pub way_goes : (c : Condition) (dst : Reg) (o : Operand) (offset : ℤ) (taken : Bool) (b : AbstractState) (p : Pending) → i ≡ insn.JumpIf c dst o offset → IsPoint code s.slot i taken b p
-      → applied code s i (Ok (way_effect offset taken)) ≡ Goes (record s { slot = p.slot })
+      → applied code s i (Ok (effect_of_branch offset taken)) ≡ Goes (record s { slot = p.slot })
   way_goes c dst o offset true b p jump point =
-      let leads : target code s.slot offset ≡ Ok p.slot = sym (ap (λ (j : Insn). way_slot code s.slot j true) jump) ∙ point.leads in
+      let leads : target code s.slot offset ≡ Ok p.slot = sym (ap (λ (j : Insn). branch_slot code s.slot j true) jump) ∙ point.leads in
       landed_at s (target code s.slot offset) p.slot leads
   way_goes c dst o offset false b p jump point =
-      let leads : ◌≡◌ {A = Result ℕ Reason} (Ok (s.slot + slots_of (insn.JumpIf c dst o offset))) (Ok p.slot) = sym (ap (λ (j : Insn). way_slot code s.slot j false) jump) ∙ point.leads in
+      let leads : ◌≡◌ {A = Result ℕ Reason} (Ok (s.slot + slots_of (insn.JumpIf c dst o offset))) (Ok p.slot) = sym (ap (λ (j : Insn). branch_slot code s.slot j false) jump) ∙ point.leads in
       let past : s.slot + slots_of i ≡ p.slot = same_slot (s.slot + slots_of (insn.JumpIf c dst o offset)) p.slot leads in
       ap (λ (k : ℕ). Goes (record s { slot = k })) past
 
@@ -112,10 +112,10 @@ module _ (w : Surroundings) (code : List Insn) (strict : Bool) (places : Places)
   pub arrives_way : (not_taken taken : AbstractState) (e : Effect) (f : Forks a s i not_taken taken e) (way : Bool) (b : AbstractState) (p : Pending) → f.way ≡ way → effects.effect s.memory s.registers i ≡ Ok e
       → b ≡ with_proved a (abstract.bytes_told (told f.condition (effects.value_at s.registers f.dst) f.second way)) → IsPoint code s.slot i way b p → Arrives w code strict places s p
   arrives_way not_taken taken e f way b p way_is is told_is point =
-      let true_of = subst (λ (t : Bool). IsTrueOf (told f.condition (effects.value_at s.registers f.dst) f.second t) s.memory.length) way_is f.true_of in
+      let true_of = subst (λ (t : Bool). HoldsOf (told f.condition (effects.value_at s.registers f.dst) f.second t) s.memory.length) way_is f.true_of in
       record {
         next = record s { slot = p.slot };
-        goes = step_is w code s i (Ok e) here is ∙ ap (λ (e' : Effect). applied code s i (Ok e')) (f.effect_is ∙ ap (way_effect f.offset) way_is) ∙ way_goes f.condition f.dst f.operand f.offset way b p f.jump point;
+        goes = step_is w code s i (Ok e) here is ∙ ap (λ (e' : Effect). applied code s i (Ok e')) (f.effect_is ∙ ap (effect_of_branch f.offset) way_is) ∙ way_goes f.condition f.dst f.operand f.offset way b p f.jump point;
         slot = refl;
         member = way_member b (abstract.bytes_told (told f.condition (effects.value_at s.registers f.dst) f.second way)) p point.state told_is (bytes_from_bound (told f.condition (effects.value_at s.registers f.dst) f.second way) s.memory.length true_of);
         memory = refl;

@@ -5,18 +5,18 @@ use Rattle.std.proofs.lemmas.Bool.{cases_lt}
 use Rattle.insn.specs.Encoding.{slots_of}
 use Rattle.insn.specs.declared.instruction.Insn.{Insn}
 use Rattle.insn.specs.declared.instruction.Insn.TheVariants.{Exit}
-use Rattle.semantics.specs.Slots.{place_at, target, landing, last_slot}
+use Rattle.semantics.specs.Slots.{fetch, target, landing, last_slot}
 use Rattle.semantics.specs.SlotLaws.{slots_go_on, place_past}
 use Rattle.semantics.specs.declared.reason.Reason.{Reason}
 use Rattle.semantics.specs.declared.reason.Reason.TheVariants.{JumpBackward, FallsOffEnd}
-use Rattle.semantics.specs.declared.fetching.Place.{Place}
-use Rattle.semantics.specs.declared.fetching.Place.TheVariants.{Begins, Inside, Past}
-use Rattle.verifier.specs.Layout.{place_checked, slot_checked, HasGoodJumps, EndsInExit, IsLayoutFault}
+use Rattle.semantics.specs.declared.fetching.Fetched.{Fetched}
+use Rattle.semantics.specs.declared.fetching.Fetched.TheVariants.{Begins, Inside, Past}
+use Rattle.verifier.specs.Layout.{fetched_checked, slot_checked, HasGoodJumps, EndsInExit, IsLayoutFault}
 use Rattle.verifier.specs.Walk.{IsInside}
 use Rattle.verifier.specs.declared.walk.Pending.{Pending}
 use Rattle.verifier.specs.Ways.{Ways, One, Two, Ends, ways_of}
 
-pub landing_ok : (p : Place) (g n : ℕ) → landing p g ≡ Ok n → (i : Insn) × (p ≡ Begins i) × (g ≡ n)
+pub landing_ok : (p : Fetched) (g n : ℕ) → landing p g ≡ Ok n → (i : Insn) × (p ≡ Begins i) × (g ≡ n)
 landing_ok (Begins i) g n e = (i, refl, cc)
 landing_ok Inside g n e = absurd cc
 landing_ok Past g n e = absurd cc
@@ -26,20 +26,20 @@ passed true r n e = absurd cc
 passed false r n e = e
 
 -- a jump that may be taken leads to an instruction
-pub target_begins : (code : List Insn) (slot n : ℕ) (d : ℤ) → target code slot d ≡ Ok n → (i : Insn) × (place_at code n ≡ Begins i)
+pub target_begins : (code : List Insn) (slot n : ℕ) (d : ℤ) → target code slot d ≡ Ok n → (i : Insn) × (fetch code n ≡ Begins i)
 target_begins code slot n d e =
     let goal : ℕ = unsigned_abs (pos (slot + 1) +ℤ d) in
-    let landed = landing_ok (place_at code goal) goal n (passed (int_le (pos (slot + 1) +ℤ d) (pos slot)) (landing (place_at code goal) goal) n e) in
-    (landed.0, ap (place_at code) (sym landed.2) ∙ landed.1)
+    let landed = landing_ok (fetch code goal) goal n (passed (int_le (pos (slot + 1) +ℤ d) (pos slot)) (landing (fetch code goal) goal) n e) in
+    (landed.0, ap (fetch code) (sym landed.2) ∙ landed.1)
 
 begins_is : (i j : Insn) → Begins i ≡ Begins j → i ≡ j
 begins_is i j e = cc
 
 -- and so does the next slot of an instruction that goes on
-pub next_begins : (code : List Insn) (slot : ℕ) (i : Insn) → EndsInExit code → place_at code slot ≡ Begins i → (ways_of i ≡ Ends → ⊥) → (j : Insn) × (place_at code (slot + slots_of i) ≡ Begins j)
+pub next_begins : (code : List Insn) (slot : ℕ) (i : Insn) → EndsInExit code → fetch code slot ≡ Begins i → (ways_of i ≡ Ends → ⊥) → (j : Insn) × (fetch code (slot + slots_of i) ≡ Begins j)
 next_begins code slot i exit here goes_on =
     elim (slots_go_on code slot i here) [
-      | inl last ↦ absurd (goes_on (ap ways_of (begins_is i Exit (sym here ∙ ap (place_at code) last ∙ exit))))
+      | inl last ↦ absurd (goes_on (ap ways_of (begins_is i Exit (sym here ∙ ap (fetch code) last ∙ exit))))
       | inr next ↦ next
     ]
 
@@ -53,7 +53,7 @@ past_is_not_begins : (i : Insn) → Past ≡ Begins i → ⊥
 past_is_not_begins i e = absurd cc
 
 -- a program that ends in its exit has a first instruction
-pub first_begins : (code : List Insn) → EndsInExit code → (i : Insn) × (place_at code 0 ≡ Begins i)
+pub first_begins : (code : List Insn) → EndsInExit code → (i : Insn) × (fetch code 0 ≡ Begins i)
 first_begins [] exit = absurd (past_is_not_begins Exit exit)
 first_begins (i ∷ code) exit = (i, refl)
 
@@ -62,7 +62,7 @@ pub good_jumps : (code : List Insn) → ((k : ℕ) → k < length code → slot_
 good_jumps code checked k =
     elim (cases_lt k (length code)) [
       | inl lt ↦ checked k lt
-      | inr le ↦ ap (place_checked code k) (place_past code k le)
+      | inr le ↦ ap (fetched_checked code k) (place_past code k le)
     ]
 
 pub falls_off : (code : List Insn) → HasGoodJumps code → (EndsInExit code → ⊥) → IsLayoutFault code FallsOffEnd (last_slot code)

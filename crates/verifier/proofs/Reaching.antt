@@ -8,12 +8,12 @@ use Rattle.insn.specs.Encoding.{Fits}
 use Rattle.insn.specs.declared.instruction.Insn.{Insn}
 use Rattle.semantics.specs.Machine.{State, Surroundings, start}
 use Rattle.semantics.specs.Effects as effects
-use Rattle.semantics.specs.Slots.{place_at}
+use Rattle.semantics.specs.Slots.{fetch}
 use Rattle.semantics.specs.SlotLaws.{begins_inside, place_in}
 use Rattle.semantics.specs.Runs.{Sticks, applied}
-use Rattle.semantics.specs.LooseRuns.{told, way_effect, LooseStep, LooselyReaches, IsLooselyStuck}
+use Rattle.semantics.specs.LooseRuns.{told, effect_of_branch, LooseStep, LooselyReaches, IsLooselyStuck}
 use Rattle.semantics.specs.declared.reason.Reason.{Reason}
-use Rattle.semantics.specs.declared.fetching.Place.TheVariants.{Begins}
+use Rattle.semantics.specs.declared.fetching.Fetched.TheVariants.{Begins}
 use Rattle.semantics.specs.declared.effect.Effect.{Effect}
 use Rattle.semantics.specs.declared.effect.Effect.TheVariants as effect
 use Rattle.verifier.specs.AbstractStates.{first_known, with_proved}
@@ -62,7 +62,7 @@ reached_by code here p n r arrives = record {
 
 -- ---- the points that an accepted step goes on to
 
-module _ (code : List Insn) (i : Insn) (places : Places) (a : AbstractState) (s : State) (here : place_at code s.slot ≡ Begins i) (member : IsMember true places a s) where
+module _ (code : List Insn) (i : Insn) (places : Places) (a : AbstractState) (s : State) (here : fetch code s.slot ≡ Begins i) (member : IsMember true places a s) where
   loosely : (p : Pending) → Arrives some_surroundings code true places s p → ArrivesLoosely code places s p
   loosely p arrives = record {
     next = arrives.next;
@@ -93,7 +93,7 @@ module _ (code : List Insn) (i : Insn) (places : Places) (a : AbstractState) (s 
           not_stuck = ap (effects.effect s.memory s.registers) (sym f.jump) ∙ is;
           operand_is = f.operand_is;
           is_open = bound_from_bytes (told f.condition (effects.value_at s.registers f.dst) f.second way) s.memory.length le;
-          goes = ap (λ (j : Insn). applied code s j (Ok (way_effect f.offset way))) (sym f.jump) ∙ way_goes some_surroundings code true places a s member i here f.condition f.dst f.operand f.offset way b p f.jump point;
+          goes = ap (λ (j : Insn). applied code s j (Ok (effect_of_branch f.offset way))) (sym f.jump) ∙ way_goes some_surroundings code true places a s member i here f.condition f.dst f.operand f.offset way b p f.jump point;
         },
       ),
     );
@@ -146,9 +146,9 @@ after_write places a b s i (effect.Jump offset) follows = equal_at_most a.proved
 after_write places a b s i effect.Pass follows = absurd follows
 after_write places a b s i (effect.Exit verdict) follows = absurd follows
 
-module _ (code : List Insn) (here : Pending) (i : Insn) (begins : place_at code here.slot ≡ Begins i) (fit : Fits i) (reached : IsReached code here) where
-  begins_at : (s : State) → s.slot ≡ here.slot → place_at code s.slot ≡ Begins i
-  begins_at s at = ap (place_at code) at ∙ begins
+module _ (code : List Insn) (here : Pending) (i : Insn) (begins : fetch code here.slot ≡ Begins i) (fit : Fits i) (reached : IsReached code here) where
+  begins_at : (s : State) → s.slot ≡ here.slot → fetch code s.slot ≡ Begins i
+  begins_at s at = ap (fetch code) at ∙ begins
 
   reached_on : (b : AbstractState) → abstract.step here.state i ≡ Ok (next.On b) → (p : Pending) → IsPoint code here.slot i false b p → IsReached code p
   reached_on b is p point =
@@ -220,7 +220,7 @@ refused claimed F (Err f) (Err g) e agree is c =
 begins_same : (i j : Insn) → Begins i ≡ Begins j → i ≡ j
 begins_same i j e = cc
 
-adds_none : (code : List Insn) (slot : ℕ) (i : Insn) → place_at code slot ≡ Begins i → AddsNoRegister code → AddsRegister i → ⊥
+adds_none : (code : List Insn) (slot : ℕ) (i : Insn) → fetch code slot ≡ Begins i → AddsNoRegister code → AddsRegister i → ⊥
 adds_none code slot i begins none adds =
     let inside : slot < length code = begins_inside code slot i begins in
     let same : get_or code slot i ≡ i = begins_same (get_or code slot i) i (sym (place_in code slot i inside) ∙ begins) in
@@ -232,7 +232,7 @@ refusal_is_real code here reason reached refusal claim =
     let n : ℕ = unsigned_abs here.state.proved in
     let same : pos n ≡ here.state.proved = abs_is here.state.proved reached.not_negative in
     let r = reached.over n (equal_at_most here.state.proved (pos n) (sym same)) in
-    let begins : place_at code r.last.slot ≡ Begins refusal.insn = ap (place_at code) r.slot ∙ refusal.begins in
+    let begins : fetch code r.last.slot ≡ Begins refusal.insn = ap (fetch code) r.slot ∙ refusal.begins in
     let claims : AreClaims (λ e. e ≡ reason) true here.state r.last refusal.insn = record {
       registers = λ c. refl;
       cells = λ c. refl;

@@ -5,11 +5,11 @@ use Rattle.insn.specs.Encoding.{Fits}
 use Rattle.insn.specs.declared.instruction.Insn.{Insn}
 use Rattle.semantics.specs.Machine.{State, Surroundings}
 use Rattle.semantics.specs.Effects as effects
-use Rattle.semantics.specs.Slots.{place_at}
+use Rattle.semantics.specs.Slots.{fetch}
 use Rattle.semantics.specs.SlotLaws.{begins_inside}
-use Rattle.semantics.specs.Runs.{Outcome, Exits, Run, onwards, step, run}
+use Rattle.semantics.specs.Runs.{StepResult, Exits, Run, onwards, step, run}
 use Rattle.semantics.specs.RunLaws.{exits_the_same}
-use Rattle.semantics.specs.declared.fetching.Place.TheVariants.{Begins}
+use Rattle.semantics.specs.declared.fetching.Fetched.TheVariants.{Begins}
 use Rattle.semantics.specs.declared.effect.Effect.{Effect}
 use Rattle.semantics.specs.declared.effect.Effect.TheVariants as effect
 use Rattle.verifier.specs.AbstractSteps as abstract
@@ -38,7 +38,7 @@ exits_by w code places s p arrives good inside rises =
     let same = exits_the_same w code (length code - arrives.next.slot) m arrives.next ends.0 (fewer_left (length code) s.slot p.slot arrives.next.slot rises arrives.slot) ends.1 in (
       ends.0,
       ap (λ (k : ℕ). (run w code k s).ending) (one_less (length code) s.slot inside)
-          ∙ ap (λ (o : Outcome). (onwards s o (λ next. run w code m next)).ending) arrives.goes
+          ∙ ap (λ (o : StepResult). (onwards s o (λ next. run w code m next)).ending) arrives.goes
           ∙ ap (λ (r : Run). r.ending) same ∙ ends.1,
     )
 
@@ -47,7 +47,7 @@ exits_now w code s verdict exits inside =
     let m : ℕ = length code - s.slot - 1 in (
       verdict,
       ap (λ (k : ℕ). (run w code k s).ending) (one_less (length code) s.slot inside)
-          ∙ ap (λ (o : Outcome). (onwards s o (λ next. run w code m next)).ending) exits,
+          ∙ ap (λ (o : StepResult). (onwards s o (λ next. run w code m next)).ending) exits,
     )
 
 of_one : (P : Pending → Type 0) (left : List Pending) (q : Pending) → left ≡ q ∷ [] → All P left → P q
@@ -56,7 +56,7 @@ of_one P left q e all = subst (λ (xs : List Pending). All P xs → P q) (sym e)
 pub point_at : (code : List Insn) (m n : ℕ) (i : Insn) (taken : Bool) (b : AbstractState) (p : Pending) → m ≡ n → IsPoint code n i taken b p → IsPoint code m i taken b p
 point_at code m n i taken b p e point = subst (λ (k : ℕ). IsPoint code k i taken b p) (sym e) point
 
-module _ (code : List Insn) (i : Insn) (w : Surroundings) (places : Places) (a : AbstractState) (s : State) (here : place_at code s.slot ≡ Begins i) (member : IsMember false places a s) where
+module _ (code : List Insn) (i : Insn) (w : Surroundings) (places : Places) (a : AbstractState) (s : State) (here : fetch code s.slot ≡ Begins i) (member : IsMember false places a s) where
   inside : s.slot < length code
   inside = begins_inside code s.slot i here
 
@@ -91,7 +91,7 @@ goes_on_at : (code : List Insn) (m n : ℕ) (i : Insn) (answer : Next) (on : Opt
 goes_on_at code m n i answer on left e h = subst (λ (k : ℕ). GoesOn code k i answer on left) (sym e) h
 
 -- every member of what is known at a point exits, where the points that the walk goes on to are good
-pub good_before : (code : List Insn) (here : Pending) (i : Insn) → place_at code here.slot ≡ Begins i → Fits i → (answer : Next) → abstract.step here.state i ≡ Ok answer → (on : Option Pending) (left : List Pending)
+pub good_before : (code : List Insn) (here : Pending) (i : Insn) → fetch code here.slot ≡ Begins i → Fits i → (answer : Next) → abstract.step here.state i ≡ Ok answer → (on : Option Pending) (left : List Pending)
     → GoesOn code here.slot i answer on left → IfSome on (IsGood code) → All (IsGood code) left → IsGood code here
 good_before code here i begins fit answer is on left goes good goods w places s at member =
-    good_from code i w places here.state s (ap (place_at code) at ∙ begins) member fit answer is on left (goes_on_at code s.slot here.slot i answer on left at goes) good goods
+    good_from code i w places here.state s (ap (fetch code) at ∙ begins) member fit answer is on left (goes_on_at code s.slot here.slot i answer on left at goes) good goods

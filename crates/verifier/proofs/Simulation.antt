@@ -22,7 +22,7 @@ use Rattle.semantics.specs.Machine.{State}
 use Rattle.semantics.specs.Effects as effects
 use Rattle.semantics.specs.Loading as loading
 use Rattle.semantics.specs.Effects.{value_at, near_place, writable}
-use Rattle.semantics.specs.LooseRuns.{told, way_effect, way_slot, IsTrueOf}
+use Rattle.semantics.specs.LooseRuns.{told, effect_of_branch, branch_slot, HoldsOf}
 use Rattle.semantics.specs.declared.reason.Reason.{Reason}
 use Rattle.semantics.specs.declared.reason.Reason.TheVariants.{UninitRegister, UninitStack, DatagramBounds, PointerArithmetic}
 use Rattle.semantics.specs.declared.value.Value.{Value}
@@ -187,12 +187,12 @@ pub record Forks (a : AbstractState) (s : State) (i : Insn) (not_taken taken : A
   pub not_taken_is : not_taken ≡ with_proved a (abstract.bytes_told (told condition (value_at s.registers dst) second false))
   pub taken_is : taken ≡ with_proved a (abstract.bytes_told (told condition (value_at s.registers dst) second true))
   pub way : Bool
-  pub effect_is : e ≡ way_effect offset way
-  pub true_of : IsTrueOf (told condition (value_at s.registers dst) second way) s.memory.length
+  pub effect_is : e ≡ effect_of_branch offset way
+  pub true_of : HoldsOf (told condition (value_at s.registers dst) second way) s.memory.length
 
 -- each way leads to the next instruction
 abbrev pub GoesPast : Insn → Type 0
-GoesPast i = (code : List Insn) (slot : ℕ) → way_slot code slot i false ≡ Ok (slot + slots_of i)
+GoesPast i = (code : List Insn) (slot : ℕ) → branch_slot code slot i false ≡ Ok (slot + slots_of i)
 
 -- the effect of an instruction, and what is known after it
 abbrev pub Follows : Places → AbstractState → State → Insn → Next → Effect → Type 0
@@ -256,7 +256,7 @@ module _ (claimed : Reason → Type 0) (strict : Bool) (places : Places) (a : Ab
         taken_is = ap (λ (r : Told). with_proved a r.taken) tells.0 ∙ ap (λ (w : Value). with_proved a (abstract.bytes_told (told c w v true))) (sym there);
         way = way;
         effect_is = refl;
-        true_of = subst (λ (w : Value). IsTrueOf (told c w v way) s.memory.length) (sym there) tells.1;
+        true_of = subst (λ (w : Value). HoldsOf (told c w v way) s.memory.length) (sym there) tells.1;
       }
 
   branch_agrees : (c : Condition) (dst : Reg) (o : Operand) (offset : ℤ) → OperandFits o → AreClaims claimed strict a s (insn.JumpIf c dst o offset)

@@ -5,13 +5,13 @@ use Rattle.std.proofs.lemmas.List.{take_at, drop_at}
 use Rattle.std.proofs.lemmas.List.Elements.{All-take, All-drop, All-append, All-push}
 use Rattle.std.proofs.lemmas.List.Sums.{sum_by-append, sum_by_push}
 use Rattle.insn.specs.declared.instruction.Insn.{Insn}
-use Rattle.semantics.specs.Slots.{place_at}
+use Rattle.semantics.specs.Slots.{fetch}
 use Rattle.semantics.specs.SlotLaws.{begins_inside}
 use Rattle.semantics.specs.Machine.{start}
 use Rattle.semantics.specs.Runs.{IsSafe, run}
 use Rattle.semantics.specs.LooseRuns.{IsLooselyStuck, beginnings, beginnings_from}
 use Rattle.semantics.specs.declared.reason.Reason.{Reason}
-use Rattle.semantics.specs.declared.fetching.Place.TheVariants.{Begins}
+use Rattle.semantics.specs.declared.fetching.Fetched.TheVariants.{Begins}
 use Rattle.verifier.specs.AbstractStates.{first_known}
 use Rattle.verifier.specs.AbstractSteps as abstract
 use Rattle.verifier.specs.Layout.{IsLaidOut, IsStepReason}
@@ -73,7 +73,7 @@ fault_reason (Ok n) reason h e = absurd cc
 fault_reason (Err f) reason h e = subst IsStepReason (let is : f ≡ reason = cc in is) h
 
 module _ (code : List Insn) (here : Pending) (laid_out : IsLaidOut code) where
-  goes_inside : (i : Insn) → place_at code here.slot ≡ Begins i → (answer : Next) → ways_on answer ≡ ways_of i → (on : Option Pending) (left : List Pending) → GoesOn code here.slot i answer on left → IfSome on (IsInside code) × All (IsInside code) left
+  goes_inside : (i : Insn) → fetch code here.slot ≡ Begins i → (answer : Next) → ways_on answer ≡ ways_of i → (on : Option Pending) (left : List Pending) → GoesOn code here.slot i answer on left → IfSome on (IsInside code) × All (IsInside code) left
   goes_inside i at (next.On b) ways (Some p) left goes = (way_begins code here.slot p.slot i false laid_out.exit at (one_goes_on (ways_of i) ways) goes.0.leads, all_none (IsInside code) left goes.1)
   goes_inside i at (next.On b) ways None left goes = absurd goes
   goes_inside i at (next.Fork not_taken taken) ways (Some p) left goes = (

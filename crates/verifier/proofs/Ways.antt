@@ -19,15 +19,15 @@ use Rattle.insn.specs.declared.instruction.Insn.TheVariants as insn
 use Rattle.semantics.specs.Fallible.{◌>>=◌, check}
 use Rattle.semantics.specs.Loading.{is_within, index_within, stack_first, headroom_first}
 use Rattle.semantics.specs.Effects.{is_writable, writable, near_place}
-use Rattle.semantics.specs.Slots.{place_at, target, landing}
-use Rattle.semantics.specs.LooseRuns.{Bound, told_first, told_second, way_slot}
+use Rattle.semantics.specs.Slots.{fetch, target, landing}
+use Rattle.semantics.specs.LooseRuns.{Bound, data_bound, end_bound, branch_slot}
 use Rattle.semantics.specs.declared.reason.Reason.{Reason}
 use Rattle.semantics.specs.declared.reason.Reason.TheVariants as reasons
-use Rattle.semantics.specs.declared.fetching.Place.{Place}
-use Rattle.semantics.specs.declared.fetching.Place.TheVariants.{Begins}
+use Rattle.semantics.specs.declared.fetching.Fetched.{Fetched}
+use Rattle.semantics.specs.declared.fetching.Fetched.TheVariants.{Begins}
 use Rattle.verifier.specs.AbstractStates.{known_at, are_marked}
 use Rattle.verifier.specs.AbstractSteps as abstract
-use Rattle.verifier.specs.Layout.{place_checked, HasGoodJumps, EndsInExit, IsStepReason}
+use Rattle.verifier.specs.Layout.{fetched_checked, HasGoodJumps, EndsInExit, IsStepReason}
 use Rattle.verifier.specs.Ways.{Ends, ways_of, ways_on}
 use Rattle.verifier.specs.declared.abstract_state.AbstractState.{AbstractState}
 use Rattle.verifier.specs.declared.abstract_state.Number.TheVariants.{Exactly}
@@ -45,7 +45,7 @@ passes : (x : Result ℕ Reason) → ◌≡◌ {A = Result (Unit {0}) Reason} (x
 passes (Ok n) e = refl
 passes (Err r) e = absurd cc
 
-way_checked : (code : List Insn) (slot : ℕ) (i : Insn) (taken : Bool) → place_checked code slot (Begins i) ≡ Ok tt → IsOk (way_slot code slot i taken)
+way_checked : (code : List Insn) (slot : ℕ) (i : Insn) (taken : Bool) → fetched_checked code slot (Begins i) ≡ Ok tt → IsOk (branch_slot code slot i taken)
 way_checked code slot (insn.Jump offset) taken e = passes (target code slot offset) e
 way_checked code slot (insn.JumpIf c dst o offset) true e = passes (target code slot offset) e
 way_checked code slot (insn.JumpIf c dst o offset) false e = refl
@@ -54,10 +54,10 @@ way_checked code slot (insn.Load z dst base d) taken e = refl
 way_checked code slot insn.Exit taken e = refl
 
 -- where no jump is faulty, every way leads to a slot
-pub way_is_good : (code : List Insn) (slot : ℕ) (i : Insn) (taken : Bool) → HasGoodJumps code → place_at code slot ≡ Begins i → IsOk (way_slot code slot i taken)
-way_is_good code slot i taken jumps here = way_checked code slot i taken (ap (place_checked code slot) (sym here) ∙ jumps slot)
+pub way_is_good : (code : List Insn) (slot : ℕ) (i : Insn) (taken : Bool) → HasGoodJumps code → fetch code slot ≡ Begins i → IsOk (branch_slot code slot i taken)
+way_is_good code slot i taken jumps here = way_checked code slot i taken (ap (fetched_checked code slot) (sym here) ∙ jumps slot)
 
-ahead : (a : ℤ) (slot n : ℕ) (b : Bool) (p : Place) → int_le a (pos slot) ≡ b → cond b (Err reasons.JumpBackward) (landing p (unsigned_abs a)) ≡ Ok n → slot < n
+ahead : (a : ℤ) (slot n : ℕ) (b : Bool) (p : Fetched) → int_le a (pos slot) ≡ b → cond b (Err reasons.JumpBackward) (landing p (unsigned_abs a)) ≡ Ok n → slot < n
 ahead a slot n true p e f = absurd cc
 ahead a slot n false p e f =
     let landed = landing_ok p (unsigned_abs a) n f in
@@ -66,13 +66,13 @@ ahead a slot n false p e f =
     omega (arith, ints, landed.2)
 
 goes_ahead : (code : List Insn) (slot n : ℕ) (d : ℤ) → target code slot d ≡ Ok n → slot < n
-goes_ahead code slot n d e = ahead (pos (slot + 1) +ℤ d) slot n (int_le (pos (slot + 1) +ℤ d) (pos slot)) (place_at code (unsigned_abs (pos (slot + 1) +ℤ d))) refl e
+goes_ahead code slot n d e = ahead (pos (slot + 1) +ℤ d) slot n (int_le (pos (slot + 1) +ℤ d) (pos slot)) (fetch code (unsigned_abs (pos (slot + 1) +ℤ d))) refl e
 
 goes_by : (slot n : ℕ) (i : Insn) → ◌≡◌ {A = Result ℕ Reason} (Ok (slot + slots_of i)) (Ok n) → slot < n
 goes_by slot n i e = let is : slot + slots_of i ≡ n = cc in omega arith
 
 -- every way leads ahead
-pub way_rises : (code : List Insn) (slot n : ℕ) (i : Insn) (taken : Bool) → way_slot code slot i taken ≡ Ok n → slot < n
+pub way_rises : (code : List Insn) (slot n : ℕ) (i : Insn) (taken : Bool) → branch_slot code slot i taken ≡ Ok n → slot < n
 way_rises code slot n (insn.Jump offset) taken e = goes_ahead code slot n offset e
 way_rises code slot n (insn.JumpIf c dst o offset) true e = goes_ahead code slot n offset e
 way_rises code slot n (insn.JumpIf c dst o offset) false e = goes_by slot n (insn.JumpIf c dst o offset) e
@@ -80,13 +80,13 @@ way_rises code slot n (insn.Alu op dst o) taken e = goes_by slot n (insn.Alu op 
 way_rises code slot n (insn.Load z dst base d) taken e = goes_by slot n (insn.Load z dst base d) e
 way_rises code slot n insn.Exit taken e = goes_by slot n insn.Exit e
 
-next_is : (code : List Insn) (slot n : ℕ) (i : Insn) → EndsInExit code → place_at code slot ≡ Begins i → (ways_of i ≡ Ends → ⊥) → ◌≡◌ {A = Result ℕ Reason} (Ok (slot + slots_of i)) (Ok n) → (j : Insn) × (place_at code n ≡ Begins j)
+next_is : (code : List Insn) (slot n : ℕ) (i : Insn) → EndsInExit code → fetch code slot ≡ Begins i → (ways_of i ≡ Ends → ⊥) → ◌≡◌ {A = Result ℕ Reason} (Ok (slot + slots_of i)) (Ok n) → (j : Insn) × (fetch code n ≡ Begins j)
 next_is code slot n i exit here on e =
     let is : slot + slots_of i ≡ n = cc in
-    subst (λ (k : ℕ). (j : Insn) × (place_at code k ≡ Begins j)) is (next_begins code slot i exit here on)
+    subst (λ (k : ℕ). (j : Insn) × (fetch code k ≡ Begins j)) is (next_begins code slot i exit here on)
 
 -- and to an instruction, where the program ends in its exit
-pub way_begins : (code : List Insn) (slot n : ℕ) (i : Insn) (taken : Bool) → EndsInExit code → place_at code slot ≡ Begins i → (ways_of i ≡ Ends → ⊥) → way_slot code slot i taken ≡ Ok n → (j : Insn) × (place_at code n ≡ Begins j)
+pub way_begins : (code : List Insn) (slot n : ℕ) (i : Insn) (taken : Bool) → EndsInExit code → fetch code slot ≡ Begins i → (ways_of i ≡ Ends → ⊥) → branch_slot code slot i taken ≡ Ok n → (j : Insn) × (fetch code n ≡ Begins j)
 way_begins code slot n (insn.Jump offset) taken exit here on e = target_begins code slot n offset e
 way_begins code slot n (insn.JumpIf c dst o offset) true exit here on e = target_begins code slot n offset e
 way_begins code slot n (insn.JumpIf c dst o offset) false exit here on e = next_is code slot n (insn.JumpIf c dst o offset) exit here on e
@@ -153,8 +153,8 @@ order_reasons c bound = faults IsStepReason (check (abstract.is_order c) reasons
 
 compared_reasons : (c : Condition) (x y : Known) → IfErr (abstract.compared c x y) IsStepReason
 compared_reasons c (known.Scalar m) (known.Scalar n) = tt
-compared_reasons c (known.Data First k) known.End = order_reasons c (told_first c k)
-compared_reasons c known.End (known.Data First k) = order_reasons c (told_second c k)
+compared_reasons c (known.Data First k) known.End = order_reasons c (data_bound c k)
+compared_reasons c known.End (known.Data First k) = order_reasons c (end_bound c k)
 compared_reasons c x y = tt
 
 field_reason : (b b' : Bool) (x y : Known) → IfErr (if b then Ok x else (if b' then Ok y else Err reasons.ContextAccess)) IsStepReason

@@ -1,5 +1,5 @@
--- What the verifier knows at a point of a path.
-use Rattle.std.specs.Prelude.{ℕ, zero, suc, ◌/◌, ◌%◌, ◌^◌, Bool, true, ◌&&◌, ◌==◌, ℤ, pos, int_lt, List, [], ◌∷◌, slice_index_or, slice_set, if◌then◌else◌}
+-- The abstract state at a slot of a path: what the verifier knows of each machine state that can be there.
+use Rattle.std.specs.Prelude.{ℕ, zero, suc, ◌/◌, ◌%◌, ◌^◌, Bool, true, ◌&&◌, ◌==◌, ℤ, pos, int_lt, List, [], ◌∷◌, Option, Some, None, slice_index_or, slice_set, if◌then◌else◌}
 use Rattle.std.specs.Int.{w64}
 use Rattle.insn.specs.Register.{number_of}
 use Rattle.insn.specs.Words.{alu}
@@ -12,7 +12,7 @@ use Rattle.verifier.specs.declared.abstract_state.Known.TheVariants.{Nothing, Ct
 use Rattle.verifier.specs.declared.abstract_state.Marks.{Marks}
 use Rattle.verifier.specs.declared.abstract_state.AbstractState.{AbstractState}
 
--- what is known of the result of an operator
+-- the result of an operator
 abbrev pub number_alu : AluOp → Number → Number → Number
 number_alu op (Exactly a) (Exactly b) = Exactly (alu op w64 a b)
 number_alu op (Exactly a) Any = Any
@@ -21,15 +21,15 @@ number_alu op Any b = Any
 abbrev pub known_at : List Known → Reg → Known
 known_at registers r = slice_index_or registers (number_of r) Nothing
 
--- no byte of the stack is set
+-- no stack byte is set
 abbrev pub no_marks : Marks
 no_marks = record { words = 0 ∷ 0 ∷ 0 ∷ 0 ∷ 0 ∷ 0 ∷ 0 ∷ 0 ∷ [] }
 
--- whether a stack byte is set, by its index from the stack's first one: a bit of eight words
+-- whether a stack byte is set, by its index from the first one: a bit of eight words
 abbrev pub is_marked : Marks → ℕ → Bool
 is_marked m i = (slice_index_or m.words (i / 64) 0 / 2 ^ (i % 64)) % 2 == 1
 
--- whether n of them are, from an index on
+-- whether n bytes from an index on are set
 abbrev pub are_marked : Marks → ℕ → ℕ → Bool
 are_marked m i zero = true
 are_marked m i (suc n) = is_marked m i && are_marked m (suc i) n
@@ -46,6 +46,11 @@ first_known = record {
 abbrev pub with_known : AbstractState → Reg → Known → AbstractState
 with_known a r k = record a { registers = slice_set a.registers (number_of r) k }
 
--- the state where the datagram is known to have at least so many bytes
+-- the state in which the datagram has at least n bytes
 abbrev pub with_proved : AbstractState → ℤ → AbstractState
 with_proved a n = record a { proved = if int_lt a.proved n then n else a.proved }
+
+-- a least length, where a branch implies one
+abbrev pub with_least : AbstractState → Option ℤ → AbstractState
+with_least a None = a
+with_least a (Some n) = with_proved a n

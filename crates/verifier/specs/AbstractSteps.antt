@@ -1,7 +1,7 @@
--- One step of what is known: what follows an instruction, or the reason for which some step from here could be
--- stuck. The tests come in the order in which the tagged machine makes them.
-use Rattle.std.specs.Prelude.{ℕ, Bool, true, false, ℤ, pos, negsuc, ◌+ℤ◌, Result, Ok, Err, ◌==◌, if◌then◌else◌}
-use Rattle.std.specs.Option.{ok_or}
+-- The abstract step: the abstract states behind an instruction, or the reason for which a step from here could be
+-- stuck. The tests come in the order of the tagged machine.
+use Rattle.std.specs.Prelude.{ℕ, Bool, true, false, ℤ, pos, negsuc, ◌+ℤ◌, Option, Some, None, Result, Ok, Err, ◌==◌, if◌then◌else◌}
+use Rattle.std.specs.Option.{ok_or, option_map}
 use Rattle.std.specs.Int.{w64, cast_signed, cast_unsigned}
 use Rattle.insn.specs.Codes.{byte_count}
 use Rattle.insn.specs.declared.register.Reg.{Reg}
@@ -19,10 +19,13 @@ use Rattle.insn.specs.declared.instruction.Insn.TheVariants as insn
 use Rattle.semantics.specs.Fallible.{◌>>=◌, check}
 use Rattle.semantics.specs.Loading.{is_within, index_within, stack_first, headroom_first}
 use Rattle.semantics.specs.Effects.{writable, near_place}
-use Rattle.semantics.specs.LooseRuns.{Bound, AtMost, Below, Unknown, told_first, told_second}
+use Rattle.semantics.specs.LooseRuns.{Bound, AtMost, Below, data_bound, end_bound}
+use Rattle.semantics.specs.declared.fetching.Branch.{Branch}
+use Rattle.semantics.specs.declared.fetching.Branch.TheVariants.{NotTaken, Taken}
+use Rattle.semantics.specs.declared.limits.TheConstants.{TAILROOM}
 use Rattle.semantics.specs.declared.reason.Reason.{Reason}
 use Rattle.semantics.specs.declared.reason.Reason.TheVariants.{UninitRegister, UninitStack, StackBounds, ContextAccess, DatagramBounds, PointerArithmetic, PointerCompare, ExitNotScalar, NotAPointer}
-use Rattle.verifier.specs.AbstractStates.{known_at, number_alu, are_marked, with_known, with_proved}
+use Rattle.verifier.specs.AbstractStates.{known_at, number_alu, are_marked, with_known, with_least}
 use Rattle.verifier.specs.declared.abstract_state.Number.TheVariants.{Exactly, Any}
 use Rattle.verifier.specs.declared.abstract_state.Anchor.TheVariants.{First}
 use Rattle.verifier.specs.declared.abstract_state.Known.{Known}
@@ -30,7 +33,7 @@ use Rattle.verifier.specs.declared.abstract_state.Known.TheVariants.{Nothing, Sc
 use Rattle.verifier.specs.declared.abstract_state.AbstractState.{AbstractState}
 use Rattle.verifier.specs.declared.abstract_step.Next.{Next}
 use Rattle.verifier.specs.declared.abstract_step.Next.TheVariants as next
-use Rattle.verifier.specs.declared.abstract_step.Told.{Told}
+use Rattle.verifier.specs.declared.abstract_step.Implied.{Implied}
 
 -- ---- what is read
 
@@ -80,16 +83,18 @@ alu_step a Add dst o = do
 
 -- ---- conditional jumps
 
--- how many bytes a datagram has at least, where a bound of its length is told
-abbrev pub bytes_told : Bound → ℤ
-bytes_told (AtMost k) = k
-bytes_told (Below k) = k +ℤ pos 1
-bytes_told Unknown = pos 0
+-- the least length of the datagram that a bound implies
+abbrev pub least_length : Bound → ℤ
+least_length (AtMost k) = k
+least_length (Below k) = k +ℤ pos 1
 
-abbrev pub told_by : (Bool → Bound) → Told
-told_by bound = record { not_taken = bytes_told (bound false); taken = bytes_told (bound true) }
+abbrev pub least_of : Option Bound → Option ℤ
+least_of bound = option_map least_length bound
 
--- the comparisons of a place with the end: the four orders of numbers without a sign
+abbrev pub implied_by : (Branch → Option Bound) → Implied
+implied_by bound = record { not_taken = least_of (bound NotTaken); taken = least_of (bound Taken) }
+
+-- a place may be compared with the end by the four unsigned orders
 abbrev pub is_order : Condition → Bool
 is_order condition.Gt = true
 is_order condition.Ge = true
@@ -103,24 +108,24 @@ is_order condition.SignedGe = false
 is_order condition.SignedLt = false
 is_order condition.SignedLe = false
 
-abbrev pub order_told : Condition → (Bool → Bound) → Result Told Reason
-order_told c bound = do
+abbrev pub order_implies : Condition → (Branch → Option Bound) → Result Implied Reason
+order_implies c bound = do
   allowed ← check (is_order c) PointerCompare
-  Ok (told_by bound)
+  Ok (implied_by bound)
 
--- what the ways of a comparison tell of the datagram's length; the anchor First stands at the place 0
-abbrev pub compared : Condition → Known → Known → Result Told Reason
-compared c (Scalar a) (Scalar b) = Ok (told_by (λ taken. Unknown))
-compared c (Data First k) End = order_told c (told_first c k)
-compared c End (Data First k) = order_told c (told_second c k)
+-- what the branches of a comparison imply of the datagram's length; the anchor First stands at the place 0
+abbrev pub compared : Condition → Known → Known → Result Implied Reason
+compared c (Scalar a) (Scalar b) = Ok (implied_by (λ branch. None))
+compared c (Data First k) End = order_implies c (data_bound c k)
+compared c End (Data First k) = order_implies c (end_bound c k)
 compared c _ _ = Err PointerCompare
 
 abbrev pub branch_step : AbstractState → Condition → Reg → Operand → Result Next Reason
 branch_step a c dst o = do
   x ← read a dst
   y ← operand_known a o
-  told ← compared c x y
-  Ok (next.Fork (with_proved a told.not_taken) (with_proved a told.taken))
+  implied ← compared c x y
+  Ok (next.Fork (with_least a implied.not_taken) (with_least a implied.taken))
 
 -- ---- loads and the end
 
@@ -132,7 +137,7 @@ field (pos n) size.Half = Err ContextAccess
 field (pos n) size.Byte = Err ContextAccess
 field (negsuc n) z = Err ContextAccess
 
--- the datagram may be read as far as it is known to reach
+-- the datagram may be read as far as is proved
 abbrev pub load : AbstractState → Known → ℤ → Size → Result Known Reason
 load a Nothing d z = Err UninitRegister
 load a (Scalar n) d z = Err NotAPointer
@@ -145,7 +150,7 @@ load a (Data First k) d z = do
   inside ← check (is_within (k +ℤ d) (byte_count z) headroom_first a.proved) DatagramBounds
   Ok (Scalar Any)
 load a End d z = do
-  inside ← check (is_within d (byte_count z) (pos 0) (pos 3)) DatagramBounds
+  inside ← check (is_within d (byte_count z) (pos 0) (pos TAILROOM)) DatagramBounds
   Ok (Scalar Any)
 
 abbrev pub load_step : AbstractState → Size → Reg → Reg → ℤ → Result Next Reason

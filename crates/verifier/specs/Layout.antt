@@ -3,13 +3,17 @@ use Rattle.std.specs.Prelude.{◌≡◌, ℕ, ◌<◌, ◌⊎◌, ℤ, List, Opt
 use Rattle.insn.specs.declared.instruction.Insn.{Insn}
 use Rattle.insn.specs.declared.instruction.Insn.TheVariants.{Alu, Jump, JumpIf, Load, Exit}
 use Rattle.semantics.specs.Fallible.{◌>>=◌}
-use Rattle.semantics.specs.Slots.{place_at, target, last_slot}
+use Rattle.semantics.specs.Slots.{fetch, target, last_slot}
 use Rattle.semantics.specs.declared.reason.Reason.{Reason}
 use Rattle.semantics.specs.declared.reason.Reason.TheVariants as reasons
-use Rattle.semantics.specs.declared.fetching.Place.{Place}
-use Rattle.semantics.specs.declared.fetching.Place.TheVariants.{Begins, Inside, Past}
+use Rattle.semantics.specs.declared.fetching.Fetched.{Fetched}
+use Rattle.semantics.specs.declared.fetching.Fetched.TheVariants.{Begins, Inside, Past}
 use Rattle.verifier.specs.declared.refusal.Refusal.{Refusal}
 use Rattle.verifier.specs.declared.refusal.Refusal.TheVariants as refusal
+
+-- an instruction begins at a slot
+abbrev pub StartsAt : List Insn → ℕ → Type 0
+StartsAt code slot = (i : Insn) × (fetch code slot ≡ Begins i)
 
 -- the distance of a jump
 abbrev pub distance_of : Insn → Option ℤ
@@ -19,7 +23,7 @@ distance_of (JumpIf c dst o offset) = Some offset
 distance_of (Load z dst base d) = None
 distance_of Exit = None
 
--- whether a jump of a distance leads to an instruction ahead
+-- a jump leads to an instruction ahead
 abbrev pub distance_checked : List Insn → ℕ → Option ℤ → Result (Unit {0}) Reason
 distance_checked code slot None = Ok tt
 distance_checked code slot (Some d) = target code slot d >>= λ goal. Ok tt
@@ -27,21 +31,21 @@ distance_checked code slot (Some d) = target code slot d >>= λ goal. Ok tt
 abbrev pub jump_checked : List Insn → ℕ → Insn → Result (Unit {0}) Reason
 jump_checked code slot i = distance_checked code slot (distance_of i)
 
-abbrev pub place_checked : List Insn → ℕ → Place → Result (Unit {0}) Reason
-place_checked code slot (Begins i) = jump_checked code slot i
-place_checked code slot Inside = Ok tt
-place_checked code slot Past = Ok tt
+abbrev pub fetched_checked : List Insn → ℕ → Fetched → Result (Unit {0}) Reason
+fetched_checked code slot (Begins i) = jump_checked code slot i
+fetched_checked code slot Inside = Ok tt
+fetched_checked code slot Past = Ok tt
 
--- the instruction that begins at a slot, if one does, is no faulty jump; or why it is
+-- an instruction that begins at a slot is no faulty jump, or the reason for which it is one
 abbrev pub slot_checked : List Insn → ℕ → Result (Unit {0}) Reason
-slot_checked code slot = place_checked code slot (place_at code slot)
+slot_checked code slot = fetched_checked code slot (fetch code slot)
 
 -- no jump is faulty
 abbrev pub HasGoodJumps : List Insn → Type 0
 HasGoodJumps code = (slot : ℕ) → slot_checked code slot ≡ Ok tt
 
 abbrev pub EndsInExit : List Insn → Type 0
-EndsInExit code = place_at code (last_slot code) ≡ Begins Exit
+EndsInExit code = fetch code (last_slot code) ≡ Begins Exit
 
 pub record IsLaidOut (code : List Insn) : Type 0 where
   pub jumps : HasGoodJumps code

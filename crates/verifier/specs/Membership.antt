@@ -1,4 +1,4 @@
--- Members of what is known: the tagged states that it speaks of.
+-- The members of an abstract state: the machine states that it describes.
 use Rattle.std.specs.Prelude.{◌≡◌, ℕ, ◌<◌, ◌^◌, Bool, true, ℤ, pos, ◌+ℤ◌, ◌≤ℤ◌, length, Option, Some, None, is_some, slice_index_or, All}
 use Rattle.insn.specs.declared.register.Reg.{Reg}
 use Rattle.semantics.specs.Machine.{Memory, State}
@@ -16,7 +16,7 @@ use Rattle.verifier.specs.declared.abstract_state.AbstractState.{AbstractState}
 
 -- ---- numbers and places
 
--- the words that a number may be
+-- a word
 pub record IsWord (n : ℕ) : Type 0 where
   pub fits : n < 2 ^ 64
 
@@ -24,7 +24,7 @@ abbrev pub IsNumber : Number → ℕ → Type 0
 IsNumber (Exactly m) n = (n ≡ m) × IsWord n
 IsNumber Any n = IsWord n
 
--- where the anchors of pointers stand
+-- the places of the anchors
 abbrev pub Places : Type 0
 Places = Anchor → ℤ
 
@@ -34,7 +34,7 @@ IsPlaceOf First p = p ≡ pos 0
 
 -- ---- registers
 
--- the number of a Scalar is a member of what is known of it
+-- the number of a Scalar is a member of its abstract number
 abbrev pub IsNumberOf : Known → ℕ → Type 0
 IsNumberOf Nothing n = ⊥
 IsNumberOf (Scalar number) n = IsNumber number n
@@ -52,25 +52,30 @@ value_of places (Stack k) n = value.Stack k
 value_of places (Data anchor k) n = value.Data (places anchor +ℤ k)
 value_of places End n = value.End
 
--- a register of a known kind has that kind, with a member
+-- a value of a known kind has that kind, with a member
 abbrev pub IsHeld : Places → Known → Value → Type 0
 IsHeld places known v = (n : ℕ) × IsNumberOf known n × (v ≡ value_of places known n)
 
--- where nothing is known there may be anything; strictly, there is nothing
-abbrev pub IsValue : Bool → Places → Known → Value → Type 0
-IsValue strict places Nothing v = strict ≡ true → v ≡ value.Nothing
-IsValue strict places (Scalar number) v = IsHeld places (Scalar number) v
-IsValue strict places Ctx v = IsHeld places Ctx v
-IsValue strict places (Stack k) v = IsHeld places (Stack k) v
-IsValue strict places (Data anchor k) v = IsHeld places (Data anchor k) v
-IsValue strict places End v = IsHeld places End v
+-- Loose membership says what every run keeps: an abstract Nothing allows any value, and an unmarked cell may hold a
+-- byte. Strict membership, which refusals need, allows neither.
+pub data Mode : Type 0 where
+  Loose : Mode
+  Strict : Mode
+
+abbrev pub IsValue : Mode → Places → Known → Value → Type 0
+IsValue mode places Nothing v = mode ≡ Strict → v ≡ value.Nothing
+IsValue mode places (Scalar number) v = IsHeld places (Scalar number) v
+IsValue mode places Ctx v = IsHeld places Ctx v
+IsValue mode places (Stack k) v = IsHeld places (Stack k) v
+IsValue mode places (Data anchor k) v = IsHeld places (Data anchor k) v
+IsValue mode places End v = IsHeld places End v
 
 -- ---- memory
 
--- a marked stack cell holds a byte; strictly, no other one does
-pub record IsCell (strict marked : Bool) (cell : Option ℕ) : Type 0 where
+-- a marked stack cell holds a byte, in strict membership no other does
+pub record IsCell (mode : Mode) (marked : Bool) (cell : Option ℕ) : Type 0 where
   pub held : marked ≡ true → is_some cell ≡ true
-  pub no_other : strict ≡ true → is_some cell ≡ marked
+  pub no_other : mode ≡ Strict → is_some cell ≡ marked
 
 -- what memory holds is bytes
 pub record HoldsBytes (m : Memory) : Type 0 where
@@ -80,14 +85,17 @@ pub record HoldsBytes (m : Memory) : Type 0 where
 
 -- ---- states
 
--- A tagged state is a member where the anchors' places are such that the datagram reaches as far as is proved, each
--- register of a known kind has that kind with a member, and each marked stack cell holds a byte. Strictly, no other
--- register and no other cell holds anything.
-pub record IsMember (strict : Bool) (places : Places) (a : AbstractState) (s : State) : Type 0 where
+-- how far from an anchor on the datagram is proved to reach
+abbrev pub proved_of : AbstractState → Anchor → ℤ
+proved_of a First = a.proved
+
+-- A machine state is a member where each anchor has a place such that the datagram reaches as far as is proved of the
+-- anchor, each register of a known kind has that kind with a member, and each marked stack cell holds a byte.
+pub record IsMember (mode : Mode) (places : Places) (a : AbstractState) (s : State) : Type 0 where
   pub anchored : (anchor : Anchor) → IsPlaceOf anchor (places anchor)
-  pub reaches : (places First +ℤ a.proved) ≤ℤ pos s.memory.length
+  pub reaches : (anchor : Anchor) → (places anchor +ℤ proved_of a anchor) ≤ℤ pos s.memory.length
   pub known_count : length a.registers ≡ 11
   pub count : length s.registers ≡ 11
-  pub registers : (r : Reg) → IsValue strict places (known_at a.registers r) (value_at s.registers r)
-  pub cells : (i : ℕ) → i < 512 → IsCell strict (is_marked a.marks i) (slice_index_or s.memory.stack i None)
+  pub registers : (r : Reg) → IsValue mode places (known_at a.registers r) (value_at s.registers r)
+  pub cells : (i : ℕ) → i < 512 → IsCell mode (is_marked a.marks i) (slice_index_or s.memory.stack i None)
   pub memory : HoldsBytes s.memory

@@ -1,11 +1,14 @@
 -- The walk over all paths: how it goes on from a step, and its refusals.
-use Rattle.std.specs.Prelude.{◌≡◌, ℕ, Bool, true, false, List, [], ◌∷◌, ◌++◌, Option, Some, None, Ok, Err}
+use Rattle.std.specs.Prelude.{◌≡◌, ℕ, List, [], ◌∷◌, ◌++◌, Option, Some, None, Ok, Err}
 use Rattle.insn.specs.Encoding.{Fits}
 use Rattle.insn.specs.declared.instruction.Insn.{Insn}
-use Rattle.semantics.specs.Slots.{place_at}
-use Rattle.semantics.specs.LooseRuns.{way_slot}
+use Rattle.semantics.specs.Slots.{fetch}
+use Rattle.semantics.specs.LooseRuns.{branch_slot}
 use Rattle.semantics.specs.declared.reason.Reason.{Reason}
-use Rattle.semantics.specs.declared.fetching.Place.TheVariants.{Begins}
+use Rattle.semantics.specs.declared.fetching.Fetched.TheVariants.{Begins}
+use Rattle.semantics.specs.declared.fetching.Branch.{Branch}
+use Rattle.semantics.specs.declared.fetching.Branch.TheVariants.{NotTaken, Taken}
+use Rattle.verifier.specs.Layout.{StartsAt}
 use Rattle.verifier.specs.AbstractSteps.{step}
 use Rattle.verifier.specs.declared.abstract_state.AbstractState.{AbstractState}
 use Rattle.verifier.specs.declared.abstract_step.Next.{Next}
@@ -14,24 +17,20 @@ use Rattle.verifier.specs.declared.refusal.Refusal.{Refusal}
 use Rattle.verifier.specs.declared.refusal.Refusal.TheVariants as refusal
 use Rattle.verifier.specs.declared.walk.Pending.{Pending}
 
--- an instruction begins at a slot
-abbrev pub StartsAt : List Insn → ℕ → Type 0
-StartsAt code slot = (i : Insn) × (place_at code slot ≡ Begins i)
-
--- and at a pending point
+-- an instruction begins at the slot of a pending state
 abbrev pub IsInside : List Insn → Pending → Type 0
 IsInside code p = StartsAt code p.slot
 
--- the point that a way of the instruction at a slot leads to, with what is known there
-pub record IsPoint (code : List Insn) (here : ℕ) (i : Insn) (taken : Bool) (known : AbstractState) (p : Pending) : Type 0 where
-  pub leads : way_slot code here i taken ≡ Ok p.slot
-  pub state : p.state ≡ known
+-- the pending state that a branch of the instruction at a slot leads to
+pub record IsPoint (code : List Insn) (here : ℕ) (i : Insn) (branch : Branch) (state : AbstractState) (p : Pending) : Type 0 where
+  pub leads : branch_slot code here i branch ≡ Ok p.slot
+  pub state_is : p.state ≡ state
 
--- what is followed next, and what is left pending: the way not taken comes first
+-- the state that is followed next, and those that are left pending: the branch not taken comes first
 abbrev pub GoesOn : List Insn → ℕ → Insn → Next → Option Pending → List Pending → Type 0
-GoesOn code here i (answer.On known) (Some p) left = IsPoint code here i false known p × (left ≡ [])
+GoesOn code here i (answer.On known) (Some p) left = IsPoint code here i NotTaken known p × (left ≡ [])
 GoesOn code here i (answer.On known) None left = ⊥
-GoesOn code here i (answer.Fork not_taken taken) (Some p) left = IsPoint code here i false not_taken p × (q : Pending) × IsPoint code here i true taken q × (left ≡ q ∷ [])
+GoesOn code here i (answer.Fork not_taken taken) (Some p) left = IsPoint code here i NotTaken not_taken p × (q : Pending) × IsPoint code here i Taken taken q × (left ≡ q ∷ [])
 GoesOn code here i (answer.Fork not_taken taken) None left = ⊥
 GoesOn code here i answer.Exit (Some p) left = ⊥
 GoesOn code here i answer.Exit None left = left ≡ []
@@ -39,7 +38,7 @@ GoesOn code here i answer.Exit None left = left ≡ []
 -- one step of a path: its instruction is accepted, and the walk goes on so
 pub record Advances (code : List Insn) (here : Pending) (old : List Pending) (next : Option Pending) (new : List Pending) : Type 0 where
   pub insn : Insn
-  pub begins : place_at code here.slot ≡ Begins insn
+  pub begins : fetch code here.slot ≡ Begins insn
   pub fits : Fits insn
   pub accepted : Next
   pub step_is : step here.state insn ≡ Ok accepted
@@ -47,10 +46,10 @@ pub record Advances (code : List Insn) (here : Pending) (old : List Pending) (ne
   pub new_is : new ≡ old ++ left
   pub goes_on : GoesOn code here.slot insn accepted next left
 
--- the step at a point is refused for a reason
+-- the step from a pending state is refused for a reason
 pub record IsRefusedAt (code : List Insn) (here : Pending) (reason : Reason) : Type 0 where
   pub insn : Insn
-  pub begins : place_at code here.slot ≡ Begins insn
+  pub begins : fetch code here.slot ≡ Begins insn
   pub fits : Fits insn
   pub step_is : step here.state insn ≡ Err reason
 
@@ -60,14 +59,8 @@ IsStepRefusal code here (refusal.Stuck reason slot) = (slot ≡ here.slot) × Is
 IsStepRefusal code here (refusal.Budget slot) = ⊥
 IsStepRefusal code here (refusal.Memory slot) = Unit {0}
 
--- the point that is followed: the path at hand, or behind its exit the last one left pending
+-- the state that is followed: the next one of the path, or behind its exit the last one left pending
 abbrev pub Picks : Option Pending → List Pending → Option Pending → List Pending → Type 0
 Picks (Some p) old picked new = (picked ≡ Some p) × (new ≡ old)
 Picks None old (Some p) new = old ≡ new ++ p ∷ []
 Picks None old None new = (old ≡ []) × (new ≡ [])
-
--- what holds where the budget was the refusal
-abbrev pub IfBudget : Refusal → Type 0 → Type 0
-IfBudget (refusal.Stuck reason slot) P = Unit {0}
-IfBudget (refusal.Budget slot) P = P
-IfBudget (refusal.Memory slot) P = Unit {0}

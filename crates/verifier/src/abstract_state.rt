@@ -1,11 +1,11 @@
-//! What the verifier knows at a point of a path.
+//! The abstract state at a slot of a path: what the verifier knows of the machine there.
 
 ghost use Rattle.std.specs.Prelude.{◌≡◌, ◌+◌, ◌≤◌};
-ghost use Rattle.verifier.specs.AbstractStates.{number_alu, no_marks, is_marked, are_marked, first_known, with_known, with_proved};
+ghost use Rattle.verifier.specs.AbstractStates.{number_alu, no_marks, is_marked, are_marked, first_known, with_known, with_least};
 
 use insn::{AluOp, Reg, alu};
 
-/// What is known of a number: its value, or nothing. The interval domain takes its place.
+/// An abstract number: exact, or unknown.
 #[derive(Clone, Copy, Debug, PartialEq, Eq)]
 pub enum Number {
     Exactly(u64),
@@ -13,7 +13,7 @@ pub enum Number {
 }
 
 impl Number {
-    /// What is known of the result of an operator.
+    /// Returns the result of an operator.
     pub fn alu(op: AluOp, a: Number, b: Number) -> Number
         ensures { result ≡ number_alu op a b }
     {
@@ -24,14 +24,14 @@ impl Number {
     }
 }
 
-/// A place of the datagram from which pointers count.
+/// A place of the datagram from which pointers count their offsets.
 #[derive(Clone, Copy, Debug, PartialEq, Eq)]
 pub enum Anchor {
     /// The datagram's first byte.
     First,
 }
 
-/// What is known of a register.
+/// The abstract value of a register.
 #[derive(Clone, Copy, Debug, PartialEq, Eq)]
 pub enum Known {
     Nothing,
@@ -42,21 +42,21 @@ pub enum Known {
     End,
 }
 
-/// Which of the 512 stack bytes are set.
+/// The stack bytes that are set, a bit for each.
 #[derive(Clone, Copy, Debug, PartialEq, Eq)]
 pub struct Marks {
     words: [u64; 8],
 }
 
 impl Marks {
-    /// No byte is set.
+    /// Returns the marks of no byte.
     pub fn none() -> Marks
         ensures { result ≡ no_marks }
     {
         Marks { words: [0; 8] }
     }
 
-    /// Whether a byte is set, by its index from the stack's first one; past the last none is.
+    /// Returns whether a byte is set, by its index from the first one of the stack.
     pub fn is_set(&self, index: usize) -> bool
         ensures { result ≡ is_marked self.now index }
     {
@@ -66,7 +66,7 @@ impl Marks {
         }
     }
 
-    /// Whether `n` bytes from an index on are set.
+    /// Returns whether the `n` bytes from an index on are set.
     pub fn are_set(&self, index: usize, n: usize) -> bool
         requires { index + n ≤ 512 }
         ensures { result ≡ are_marked self.now index n }
@@ -80,8 +80,8 @@ impl Marks {
     }
 }
 
-/// What is known at a point of a path: the registers, the set bytes of the stack, and that the datagram
-/// has at least `proved` bytes.
+/// The abstract state at a slot: the registers, the set bytes of the stack, and a least length of the
+/// datagram, `proved`.
 #[derive(Clone, Copy, Debug, PartialEq, Eq)]
 pub struct AbstractState {
     pub registers: [Known; 11],
@@ -90,7 +90,7 @@ pub struct AbstractState {
 }
 
 impl AbstractState {
-    /// What is known before the first instruction.
+    /// Returns the abstract state before the first instruction.
     pub fn start() -> AbstractState
         ensures { result ≡ first_known }
     {
@@ -104,7 +104,7 @@ impl AbstractState {
         }
     }
 
-    /// The state with a register written.
+    /// Returns the state with a register written.
     pub fn with(self, reg: Reg, known: Known) -> AbstractState
         ensures { result ≡ with_known self reg known }
     {
@@ -117,15 +117,14 @@ impl AbstractState {
         }
     }
 
-    /// The state where the datagram is known to have at least `bytes` bytes.
-    pub fn with_proved(self, bytes: i64) -> AbstractState
-        ensures { result ≡ with_proved self bytes }
+    /// Returns the state in which the datagram has a least length, if there is one.
+    pub fn with_least(self, least: Option<i64>) -> AbstractState
+        ensures { result ≡ with_least self least }
     {
         let registers = self.registers;
-        let proved = if self.proved < bytes {
-            bytes
-        } else {
-            self.proved
+        let proved = match least {
+            Some(least) if self.proved < least => least,
+            _ => self.proved,
         };
         AbstractState {
             registers,

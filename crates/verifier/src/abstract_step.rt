@@ -1,8 +1,8 @@
-//! One step of what is known. The tests come in the order in which the tagged machine makes them.
+//! The abstract step. Its tests come in the order of the tagged machine.
 
 ghost use Rattle.std.specs.Prelude.{◌≡◌};
-ghost use Rattle.semantics.specs.LooseRuns as loose;
-ghost use Rattle.verifier.specs.AbstractSteps.{read, operand_known, moved, sum_of, alu_step, order_told, compared, branch_step, field, load, load_step, exit_step, step};
+ghost use Rattle.semantics.specs.LooseRuns.{data_bound, end_bound};
+ghost use Rattle.verifier.specs.AbstractSteps.{read, operand_known, moved, sum_of, alu_step, order_implies, compared, branch_step, field, load, load_step, exit_step, step};
 
 use crate::abstract_state::{AbstractState, Anchor, Known, Number};
 use insn::{AluOp, Condition, Insn, Operand, Reg, Size, extended};
@@ -10,17 +10,17 @@ use semantics::{
     HEADROOM_FIRST, Reason, TAILROOM, index_in_stack, is_within, moved_place, writable,
 };
 
-/// What follows an accepted step.
+/// The states behind an accepted step.
 #[derive(Clone, Copy, Debug, PartialEq, Eq)]
 pub enum Next {
-    /// The one way on.
+    /// The one state that follows.
     On(AbstractState),
-    /// The two ways of a conditional jump.
+    /// The states of the two branches of a conditional jump.
     Fork {
         not_taken: AbstractState,
         taken: AbstractState,
     },
-    /// The program's end.
+    /// The end of the program.
     Exit,
 }
 
@@ -42,7 +42,10 @@ fn operand_known(state: &AbstractState, operand: Operand) -> Result<Known, Reaso
     }
 }
 
-/// An offset moved by a known number, if it stays near.
+/// Moves an offset by an exact number.
+///
+/// # Errors
+/// `PointerArithmetic` where it would lead too far.
 fn moved(offset: i32, by: u64) -> Result<i32, Reason>
     ensures { result ≡ moved offset by }
 {
@@ -86,60 +89,60 @@ fn alu_step(state: &AbstractState, op: AluOp, dst: Reg, operand: Operand) -> Res
     }
 }
 
-/// How many bytes the datagram has at least, as a way of a jump tells by comparing a place with its end.
+/// The least length of the datagram that each branch of a jump implies, if it implies one.
 #[derive(Clone, Copy, Debug, PartialEq, Eq)]
-struct Told {
-    not_taken: i64,
-    taken: i64,
+struct Implied {
+    not_taken: Option<i64>,
+    taken: Option<i64>,
 }
 
-/// What the ways of `offset CONDITION End` tell.
-fn told_first(condition: Condition, offset: i32) -> Result<Told, Reason>
-    ensures { result ≡ order_told condition (loose.told_first condition offset) }
+/// Returns what the branches of `offset CONDITION End` imply.
+fn data_implies(condition: Condition, offset: i32) -> Result<Implied, Reason>
+    ensures { result ≡ order_implies condition (data_bound condition offset) }
 {
-    let at_most = i64::from(offset);
-    let below = at_most + 1;
+    let at_most = Some(i64::from(offset));
+    let below = Some(i64::from(offset) + 1);
     match condition {
-        Condition::Gt => Ok(Told {
+        Condition::Gt => Ok(Implied {
             not_taken: at_most,
-            taken: 0,
+            taken: None,
         }),
-        Condition::Ge => Ok(Told {
+        Condition::Ge => Ok(Implied {
             not_taken: below,
-            taken: 0,
+            taken: None,
         }),
-        Condition::Lt => Ok(Told {
-            not_taken: 0,
+        Condition::Lt => Ok(Implied {
+            not_taken: None,
             taken: below,
         }),
-        Condition::Le => Ok(Told {
-            not_taken: 0,
+        Condition::Le => Ok(Implied {
+            not_taken: None,
             taken: at_most,
         }),
         _ => Err(Reason::PointerCompare),
     }
 }
 
-/// What the ways of `End CONDITION offset` tell.
-fn told_second(condition: Condition, offset: i32) -> Result<Told, Reason>
-    ensures { result ≡ order_told condition (loose.told_second condition offset) }
+/// Returns what the branches of `End CONDITION offset` imply.
+fn end_implies(condition: Condition, offset: i32) -> Result<Implied, Reason>
+    ensures { result ≡ order_implies condition (end_bound condition offset) }
 {
     match condition {
-        Condition::Gt => told_first(Condition::Lt, offset),
-        Condition::Ge => told_first(Condition::Le, offset),
-        Condition::Lt => told_first(Condition::Gt, offset),
-        Condition::Le => told_first(Condition::Ge, offset),
+        Condition::Gt => data_implies(Condition::Lt, offset),
+        Condition::Ge => data_implies(Condition::Le, offset),
+        Condition::Lt => data_implies(Condition::Gt, offset),
+        Condition::Le => data_implies(Condition::Ge, offset),
         _ => Err(Reason::PointerCompare),
     }
 }
 
-fn compared(condition: Condition, a: Known, b: Known) -> Result<Told, Reason>
+fn compared(condition: Condition, a: Known, b: Known) -> Result<Implied, Reason>
     ensures { result ≡ compared condition a b }
 {
     match (a, b) {
-        (Known::Scalar(_), Known::Scalar(_)) => Ok(Told {
-            not_taken: 0,
-            taken: 0,
+        (Known::Scalar(_), Known::Scalar(_)) => Ok(Implied {
+            not_taken: None,
+            taken: None,
         }),
         (
             Known::Data {
@@ -147,14 +150,14 @@ fn compared(condition: Condition, a: Known, b: Known) -> Result<Told, Reason>
                 offset,
             },
             Known::End,
-        ) => { told_first(condition, offset) }
+        ) => { data_implies(condition, offset) }
         (
             Known::End,
             Known::Data {
                 anchor: Anchor::First,
                 offset,
             },
-        ) => { told_second(condition, offset) }
+        ) => { end_implies(condition, offset) }
         _ => Err(Reason::PointerCompare),
     }
 }
@@ -169,14 +172,14 @@ fn branch_step(
 {
     let a = read(state, dst)?;
     let b = operand_known(state, operand)?;
-    let told = compared(condition, a, b)?;
+    let implied = compared(condition, a, b)?;
     Ok(Next::Fork {
-        not_taken: state.with_proved(told.not_taken),
-        taken: state.with_proved(told.taken),
+        not_taken: state.with_least(implied.not_taken),
+        taken: state.with_least(implied.taken),
     })
 }
 
-/// The context's fields.
+/// Returns the abstract value of a field of the context record.
 fn field(displacement: i16, size: Size) -> Result<Known, Reason>
     ensures { result ≡ field displacement size }
 {
@@ -218,7 +221,7 @@ fn load(state: &AbstractState, base: Known, displacement: i16, size: Size) -> Re
             (is_inside, Reason::DatagramBounds)
         }
         Known::End => (
-            is_within(0, displacement, n, 0, TAILROOM),
+            is_within(0, displacement, n, 0, TAILROOM as i64),
             Reason::DatagramBounds,
         ),
     };
@@ -253,10 +256,10 @@ fn exit_step(state: &AbstractState) -> Result<Next, Reason>
     }
 }
 
-/// What follows an instruction, from what is known before it.
+/// Makes the abstract step of an instruction.
 ///
 /// # Errors
-/// The reason for which some step from here could be stuck.
+/// The reason for which a step from a member of the state could be stuck.
 pub fn step(state: &AbstractState, insn: &Insn) -> Result<Next, Reason>
     ensures { result ≡ step state.now insn.now }
 {

@@ -1,13 +1,16 @@
-//! Jumps and the end of a program, before any path is followed.
+//! The layout of a program, which is tested before any path is followed.
 
-ghost use Rattle.std.specs.Prelude.{◌≡◌, ◌≤◌, ◌<◌, ◌^◌, length, OnOk, IfErr};
-ghost use Rattle.verifier.specs.Layout.{distance_of, jump_checked, IsLaidOut, IsLayoutRefusal};
+ghost use Rattle.std.specs.Prelude.{◌≡◌, ◌≤◌, ◌<◌, length, OnOk, IfErr};
+ghost use Rattle.insn.specs.Encoding.{slot_count};
+ghost use Rattle.insn.specs.declared.decoding.TheConstants.{MAX_SLOTS};
+ghost use Rattle.semantics.specs.Slots.{IsAt};
+ghost use Rattle.verifier.specs.Layout.{distance_of, jump_checked, HasGoodJumps, IsFirstFaultyJump, IsLaidOut, IsLayoutRefusal};
 
 use crate::refusal::Refusal;
 use insn::Insn;
-use semantics::{Place, Reason, last_slot, place_at, target};
+use semantics::{Fetched, Position, Reason, fetch, last, target};
 
-/// The distance of a jump.
+/// Returns the distance of a jump, `None` for an instruction that is no jump.
 fn distance(insn: Insn) -> Option<i16>
     ensures { result ≡ distance_of insn }
 {
@@ -18,43 +21,56 @@ fn distance(insn: Insn) -> Option<i16>
     }
 }
 
-/// Whether the instruction at a slot, if it is a jump, leads to an instruction ahead.
-fn check_jump(code: &[Insn], slot: usize, insn: Insn) -> Result<(), Reason>
-    requires { slot < 2 ^ 32 }
-    ensures { result ≡ jump_checked code.now slot insn }
+/// Tests whether the instruction at a position, if it is a jump, leads to an instruction ahead.
+fn check_jump(code: &[Insn], at: Position, insn: Insn) -> Result<(), Reason>
+    requires at { IsAt code.now at }
+    requires few { slot_count code.now ≤ MAX_SLOTS }
+    ensures { result ≡ jump_checked code.now at.slot insn }
 {
     match distance(insn) {
         None => Ok(()),
         Some(offset) => {
-            target(code, slot, offset)?;
+            target(code, at, offset)?;
             Ok(())
         }
     }
 }
 
-/// Whether each jump leads to an instruction ahead, and the program ends in its exit.
+/// Tests whether each jump leads to an instruction ahead.
 ///
 /// # Errors
-/// The first faulty jump in the order of slots, or else the last instruction, where it isn't an exit.
-#[tactic(auto, using(crate::proofs::Points::good_jumps, crate::proofs::Points::falls_off))]
+/// The first faulty jump, in the order of slots.
+fn check_jumps(code: &[Insn]) -> Result<(), Refusal>
+    requires { slot_count code.now ≤ MAX_SLOTS }
+    ensures ok { OnOk result (HasGoodJumps code.now) }
+    ensures err { IfErr result (IsLayoutRefusal code.now) }
+{
+    let mut at = Position { slot: 0, index: 0 };
+    while at.index < code.len() {
+        let slot = at.slot;
+        check_jump(code, at, code[at.index]).map_err(|reason| Refusal::Stuck { reason, slot })?;
+        at = at.next(code);
+    }
+    Ok(())
+}
+
+/// Tests whether each jump leads to an instruction ahead, and whether the last instruction is the exit.
+///
+/// # Errors
+/// The first faulty jump, in the order of slots; else the last instruction, where it is no exit.
+#[tactic(auto, using(crate::proofs::Points::falls_off))]
 pub fn check_layout(code: &[Insn]) -> Result<(), Refusal>
-    requires { length code.now ≤ 4096 }
+    requires { slot_count code.now ≤ MAX_SLOTS }
     ensures ok { OnOk result (IsLaidOut code.now) }
     ensures err { IfErr result (IsLayoutRefusal code.now) }
 {
-    for slot in 0..code.len() {
-        if let Place::Begins(insn) = place_at(code, slot) {
-            if let Err(reason) = check_jump(code, slot, insn) {
-                return Err(Refusal::Stuck { reason, slot });
-            }
-        }
-    }
-    let slot = last_slot(code);
-    match place_at(code, slot) {
-        Place::Begins(Insn::Exit) => Ok(()),
-        _ => {
-            let reason = Reason::FallsOffEnd;
-            Err(Refusal::Stuck { reason, slot })
-        }
+    check_jumps(code)?;
+    let at = last(code);
+    match fetch(code, at) {
+        Fetched::Begins(Insn::Exit) => Ok(()),
+        _ => Err(Refusal::Stuck {
+            reason: Reason::FallsOffEnd,
+            slot: at.slot,
+        }),
     }
 }
