@@ -16,6 +16,11 @@ pub unclaimed : {A B : Type 0} (claimed : Reason → Type 0) (R : A → B → Ty
 unclaimed claimed R e (Ok y) free = free
 unclaimed claimed R e (Err f) free = λ c. absurd (free c)
 
+-- a refusal agrees with the machine's where that is the same, as far as it is claimed
+pub refused_alike : {A B : Type 0} (claimed : Reason → Type 0) (R : A → B → Type 0) (e : Reason) (y : Result B Reason) → (claimed e → y ≡ Err e) → Agree claimed R (Err e) y
+refused_alike claimed R e (Ok y) same = λ c. let bad = same c in absurd cc
+refused_alike claimed R e (Err f) same = λ c. let is = same c in cc
+
 -- steps that agree, one after the other, agree
 pub and_then : {A B C D : Type 0} (claimed : Reason → Type 0) (R : A → B → Type 0) (S : C → D → Type 0) (x : Result A Reason) (y : Result B Reason) (f : A → Result C Reason) (g : B → Result D Reason)
     → Agree claimed R x y → ((a : A) (b : B) → x ≡ Ok a → y ≡ Ok b → R a b → Agree claimed S (f a) (g b)) → Agree claimed S (x >>= f) (y >>= g)

@@ -10,3 +10,4 @@ pub mod Safety
 pub mod Reaching
 pub mod Counting
 pub mod Walking
+pub mod Verdicts

@@ -15,12 +15,13 @@ use Rattle.insn.specs.declared.size.Size.TheVariants as size
 use Rattle.semantics.specs.Fallible.{◌>>=◌, check}
 use Rattle.semantics.specs.Loading.{is_within, index_within, part, cells_number, stack_first, headroom_first}
 use Rattle.semantics.specs.Loading as loading
+use Rattle.semantics.specs.declared.limits.TheConstants.{TAILROOM}
 use Rattle.semantics.specs.declared.reason.Reason.{Reason}
 use Rattle.semantics.specs.declared.reason.Reason.TheVariants.{UninitStack, DatagramBounds, StackBounds, ContextAccess}
 use Rattle.semantics.specs.declared.value.Value.TheVariants as value
 use Rattle.verifier.specs.AbstractStates.{is_marked, are_marked}
 use Rattle.verifier.specs.AbstractSteps as abstract
-use Rattle.verifier.specs.Membership.{Places, IsWord, IsHeld, IsCell}
+use Rattle.verifier.specs.Membership.{Mode, Strict, Places, IsWord, IsHeld, IsCell}
 use Rattle.verifier.specs.declared.abstract_state.Number.TheVariants.{Any}
 use Rattle.verifier.specs.declared.abstract_state.Anchor.TheVariants.{First}
 use Rattle.verifier.specs.declared.abstract_state.Known.TheVariants as known
@@ -147,8 +148,8 @@ index_short p n i e =
 first_is : (p : ℤ) → p ≡ pos 0 → pos 0 ≡ (p +ℤ pos 0)
 first_is p e = omega (arith, ints)
 
-module _ (claimed : Reason → Type 0) (strict : Bool) (places : Places) where
-  cells_agree : (claimed UninitStack → strict ≡ true) → (b : Bool) (o : Option ℕ) → (b ≡ true → is_some o ≡ true) → (strict ≡ true → is_some o ≡ b) → ((x : ℕ) → o ≡ Some x → IsWord x)
+module _ (claimed : Reason → Type 0) (mode : Mode) (places : Places) where
+  cells_agree : (claimed UninitStack → mode ≡ Strict) → (b : Bool) (o : Option ℕ) → (b ≡ true → is_some o ≡ true) → (mode ≡ Strict → is_some o ≡ b) → ((x : ℕ) → o ≡ Some x → IsWord x)
       → Agree claimed (IsHeld places) (check b UninitStack >>= λ u. Ok (known.Scalar Any)) (ok_or o UninitStack >>= λ x. Ok (value.Scalar x))
   cells_agree unset true None held same word = absurd (let bad : false ≡ true = held refl in cc)
   cells_agree unset true (Some x) held same word = (x, word x refl, refl)
@@ -174,7 +175,7 @@ module _ (claimed : Reason → Type 0) (strict : Bool) (places : Places) where
   fields_agree first (pos n) size.Byte = λ c. refl
   fields_agree first (negsuc n) z = λ c. refl
 
-  pub stack_agrees : (claimed UninitStack → strict ≡ true) → (m : Marks) (stack : List (Option ℕ)) → length stack ≡ 512 → ((i : ℕ) → i < 512 → IsCell strict (is_marked m i) (slice_index_or stack i None))
+  pub stack_agrees : (claimed UninitStack → mode ≡ Strict) → (m : Marks) (stack : List (Option ℕ)) → length stack ≡ 512 → ((i : ℕ) → i < 512 → IsCell mode (is_marked m i) (slice_index_or stack i None))
       → All (λ c. (b : ℕ) → c ≡ Some b → b < 256) stack → (p : ℤ) (n : ℕ) → n ≤ 8
       → Agree claimed (IsHeld places)
       (ok_or (index_within p n stack_first stack_first (pos 0)) StackBounds >>= λ i. check (are_marked m i n) UninitStack >>= λ u. Ok (known.Scalar Any))
@@ -184,7 +185,7 @@ module _ (claimed : Reason → Type 0) (strict : Bool) (places : Places) where
       let short : i + n ≤ 512 = index_short p n i e in
       cells_agree unset (are_marked m i n) (cells_number (part n i stack))
       (marks_hold m stack count (λ k lt. (cells k lt).held) n i short)
-      (λ is_strict. marks_are m stack count (λ k lt. (cells k lt).no_other is_strict) n i short)
+      (λ is_mode. marks_are m stack count (λ k lt. (cells k lt).no_other is_mode) n i short)
       (cells_word stack count fit n i few short))
 
   -- the datagram may be read as far as its known length, which is at most its length
@@ -203,16 +204,16 @@ module _ (claimed : Reason → Type 0) (strict : Bool) (places : Places) where
       (bytes_agree (is_within p n headroom_first proved) (is_within p n headroom_first (pos size)) (unsigned_abs (p -ℤ headroom_first)) (λ i. little_number n (part n i bytes))
       (within_reach p headroom_first proved (pos size) n reach) (λ c. ap (is_within p n headroom_first) (sym (exact c))) (λ i. bytes_word bytes fit n i few))
 
-  end_is : (d : ℤ) (n size : ℕ) → is_within d n (pos 0) (pos 3) ≡ is_within (pos size +ℤ d) n (pos size) (pos (size + 3))
+  end_is : (d : ℤ) (n size : ℕ) → is_within d n (pos 0) (pos TAILROOM) ≡ is_within (pos size +ℤ d) n (pos size) (pos (size + TAILROOM))
   end_is d n size =
       let low : int_le (pos 0) d ≡ int_le (pos size) (pos size +ℤ d) = same_order (pos 0) d (pos size) (pos size +ℤ d) (λ h. omega (arith, ints)) (λ h. omega (arith, ints)) in
-      let high : int_le (d +ℤ pos n) (pos 3) ≡ int_le ((pos size +ℤ d) +ℤ pos n) (pos (size + 3)) = same_order (d +ℤ pos n) (pos 3) ((pos size +ℤ d) +ℤ pos n) (pos (size + 3)) (λ h. omega (arith, ints)) (λ h. omega (arith, ints)) in
-      ap (λ (b : Bool). b && int_le (d +ℤ pos n) (pos 3)) low ∙ ap (λ (b : Bool). int_le (pos size) (pos size +ℤ d) && b) high
+      let high : int_le (d +ℤ pos n) (pos TAILROOM) ≡ int_le ((pos size +ℤ d) +ℤ pos n) (pos (size + TAILROOM)) = same_order (d +ℤ pos n) (pos TAILROOM) ((pos size +ℤ d) +ℤ pos n) (pos (size + TAILROOM)) (λ h. omega (arith, ints)) (λ h. omega (arith, ints)) in
+      ap (λ (b : Bool). b && int_le (d +ℤ pos n) (pos TAILROOM)) low ∙ ap (λ (b : Bool). int_le (pos size) (pos size +ℤ d) && b) high
 
   pub tailroom_agrees : (bytes : List ℕ) (size : ℕ) → All (λ b. b < 256) bytes → (d : ℤ) (n : ℕ) → n ≤ 8
       → Agree claimed (IsHeld places)
-      (check (is_within d n (pos 0) (pos 3)) DatagramBounds >>= λ u. Ok (known.Scalar Any))
-      (ok_or (index_within (pos size +ℤ d) n headroom_first (pos size) (pos (size + 3))) DatagramBounds >>= λ i. Ok (value.Scalar (little_number n (part n i bytes))))
+      (check (is_within d n (pos 0) (pos TAILROOM)) DatagramBounds >>= λ u. Ok (known.Scalar Any))
+      (ok_or (index_within (pos size +ℤ d) n headroom_first (pos size) (pos (size + TAILROOM))) DatagramBounds >>= λ i. Ok (value.Scalar (little_number n (part n i bytes))))
   tailroom_agrees bytes size fit d n few =
-      bytes_agree (is_within d n (pos 0) (pos 3)) (is_within (pos size +ℤ d) n (pos size) (pos (size + 3))) (unsigned_abs ((pos size +ℤ d) -ℤ headroom_first)) (λ i. little_number n (part n i bytes))
+      bytes_agree (is_within d n (pos 0) (pos TAILROOM)) (is_within (pos size +ℤ d) n (pos size) (pos (size + TAILROOM))) (unsigned_abs ((pos size +ℤ d) -ℤ headroom_first)) (λ i. little_number n (part n i bytes))
       (λ e. sym (end_is d n size) ∙ e) (λ c. end_is d n size) (λ i. bytes_word bytes fit n i few)

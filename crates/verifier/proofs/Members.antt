@@ -1,5 +1,5 @@
 -- Members stay members.
-use Rattle.std.proofs.Common.{◌≡◌, ℕ, zero, suc, ◌<◌, ◌^◌, ◌/◌, ◌%◌, Bool, true, false, ℤ, pos, ◌+ℤ◌, ◌≤ℤ◌, List, length, get_or, None, refl, sym, ap, ◌∙◌, subst, arith, All, inl, inr}
+use Rattle.std.proofs.Common.{◌≡◌, ℕ, zero, suc, ◌<◌, ◌^◌, ◌/◌, ◌%◌, Bool, true, false, ℤ, pos, ◌+ℤ◌, ◌≤ℤ◌, List, length, get_or, map, Option, Some, None, refl, sym, ap, ◌∙◌, subst, arith, All, inl, inr}
 use Rattle.std.specs.Prelude.{is_some, ◌==◌, int_lt, slice_index_or, slice_set, if◌then◌else◌}
 use Rattle.std.proofs.lemmas.Int.{ints}
 use Rattle.std.proofs.lemmas.Bool.{cases_eq, cases_lt}
@@ -9,33 +9,34 @@ use Rattle.std.proofs.lemmas.Grind.{get_or-set_at}
 use Rattle.insn.specs.Register.{number_of}
 use Rattle.insn.specs.declared.register.Reg.{Reg}
 use Rattle.insn.specs.declared.register.Reg.TheVariants as reg
-use Rattle.semantics.specs.Machine.{State, start, empty_stack}
+use Rattle.semantics.specs.Machine.{Memory, State, start, empty_stack}
 use Rattle.semantics.specs.StartLaws.{length-empty_stack, empty_cells, nothing_set, surrounded_fit}
 use Rattle.semantics.specs.Effects.{value_at}
 use Rattle.semantics.specs.Runs.{write_register}
 use Rattle.semantics.specs.LooseRuns.{SameKind, Loosens}
 use Rattle.semantics.specs.declared.value.Value.{Value}
 use Rattle.semantics.specs.declared.value.Value.TheVariants as value
-use Rattle.verifier.specs.AbstractStates.{known_at, is_marked, no_marks, first_known, with_known, with_proved}
-use Rattle.verifier.specs.Membership.{Places, IsNumberOf, IsHeld, IsValue, IsPlaceOf, IsMember, value_of}
+use Rattle.verifier.specs.AbstractStates.{known_at, is_marked, no_marks, first_known, with_known, with_proved, with_least}
+use Rattle.verifier.specs.Membership.{Mode, Strict, Places, IsNumberOf, IsHeld, IsValue, IsPlaceOf, IsMember, value_of, proved_of}
 use Rattle.verifier.specs.declared.abstract_state.Number.TheVariants.{Exactly, Any}
 use Rattle.verifier.specs.declared.abstract_state.Anchor.{Anchor}
 use Rattle.verifier.specs.declared.abstract_state.Anchor.TheVariants.{First}
 use Rattle.verifier.specs.declared.abstract_state.Known.{Known}
 use Rattle.verifier.specs.declared.abstract_state.Known.TheVariants as known
 use Rattle.verifier.specs.declared.abstract_state.AbstractState.{AbstractState}
+use Rattle.verifier.proofs.Bounds.{IsLeast}
 
 -- ---- registers and what is proved
 
-held_value : (strict : Bool) (places : Places) (k : Known) (v : Value) → IsHeld places k v → IsValue strict places k v
-held_value strict places known.Nothing v h = absurd h.1
-held_value strict places (known.Scalar n) v h = h
-held_value strict places known.Ctx v h = h
-held_value strict places (known.Stack n) v h = h
-held_value strict places (known.Data anchor n) v h = h
-held_value strict places known.End v h = h
+held_value : (mode : Mode) (places : Places) (k : Known) (v : Value) → IsHeld places k v → IsValue mode places k v
+held_value mode places known.Nothing v h = absurd h.1
+held_value mode places (known.Scalar n) v h = h
+held_value mode places known.Ctx v h = h
+held_value mode places (known.Stack n) v h = h
+held_value mode places (known.Data anchor n) v h = h
+held_value mode places known.End v h = h
 
-in_eleven : (r : Reg) → number_of r < 11
+pub in_eleven : (r : Reg) → number_of r < 11
 in_eleven reg.R0 = omega arith
 in_eleven reg.R1 = omega arith
 in_eleven reg.R2 = omega arith
@@ -52,24 +53,24 @@ reach_more : (p proved n size : ℤ) (b : Bool) → p ≡ pos 0 → (p +ℤ prov
 reach_more p proved n size true e h g = omega (arith, ints)
 reach_more p proved n size false e h g = h
 
-module _ (strict : Bool) (places : Places) (a : AbstractState) (s : State) (member : IsMember strict places a s) where
-  written_at : (r q : Reg) (k : Known) (v : Value) → IsHeld places k v → IsValue strict places (known_at (slice_set a.registers (number_of r) k) q) (value_at (slice_set s.registers (number_of r) v) q)
+module _ (mode : Mode) (places : Places) (a : AbstractState) (s : State) (member : IsMember mode places a s) where
+  written_at : (r q : Reg) (k : Known) (v : Value) → IsHeld places k v → IsValue mode places (known_at (slice_set a.registers (number_of r) k) q) (value_at (slice_set s.registers (number_of r) v) q)
   written_at r q k v held =
       elim (cases_eq (number_of q) (number_of r)) [
         | inl same ↦
             let known_is : known_at (slice_set a.registers (number_of r) k) q ≡ k = get_or-set_at a.registers (number_of r) (number_of q) k known.Nothing same (omega (arith, in_eleven r, member.known_count)) in
             let value_is : value_at (slice_set s.registers (number_of r) v) q ≡ v = get_or-set_at s.registers (number_of r) (number_of q) v value.Nothing same (omega (arith, in_eleven r, member.count)) in
-            subst (λ (x : Known). IsValue strict places x (value_at (slice_set s.registers (number_of r) v) q)) (sym known_is)
-            (subst (IsValue strict places k) (sym value_is) (held_value strict places k v held))
+            subst (λ (x : Known). IsValue mode places x (value_at (slice_set s.registers (number_of r) v) q)) (sym known_is)
+            (subst (IsValue mode places k) (sym value_is) (held_value mode places k v held))
         | inr other ↦
             let known_is : known_at (slice_set a.registers (number_of r) k) q ≡ known_at a.registers q = get_or-set_other a.registers (number_of r) (number_of q) k known.Nothing other in
             let value_is : value_at (slice_set s.registers (number_of r) v) q ≡ value_at s.registers q = get_or-set_other s.registers (number_of r) (number_of q) v value.Nothing other in
-            subst (λ (x : Known). IsValue strict places x (value_at (slice_set s.registers (number_of r) v) q)) (sym known_is)
-            (subst (IsValue strict places (known_at a.registers q)) (sym value_is) (member.registers q))
+            subst (λ (x : Known). IsValue mode places x (value_at (slice_set s.registers (number_of r) v) q)) (sym known_is)
+            (subst (IsValue mode places (known_at a.registers q)) (sym value_is) (member.registers q))
       ]
 
   -- a register is written
-  pub member_written : (r : Reg) (k : Known) (v : Value) (n : ℕ) → IsHeld places k v → IsMember strict places (with_known a r k) (record s { slot = n; registers = write_register s r v })
+  pub member_written : (r : Reg) (k : Known) (v : Value) (n : ℕ) → IsHeld places k v → IsMember mode places (with_known a r k) (record s { slot = n; registers = write_register s r v })
   member_written r k v n held = record {
     anchored = member.anchored;
     reaches = member.reaches;
@@ -81,7 +82,7 @@ module _ (strict : Bool) (places : Places) (a : AbstractState) (s : State) (memb
   }
 
   -- a jump changes no more than the slot
-  pub member_moved : (n : ℕ) → IsMember strict places a (record s { slot = n })
+  pub member_moved : (n : ℕ) → IsMember mode places a (record s { slot = n })
   member_moved n = record {
     anchored = member.anchored;
     reaches = member.reaches;
@@ -92,17 +93,23 @@ module _ (strict : Bool) (places : Places) (a : AbstractState) (s : State) (memb
     memory = member.memory;
   }
 
-  -- more is known of the datagram's length
-  pub member_proved : (n : ℤ) (to : ℕ) → n ≤ℤ pos s.memory.length → IsMember strict places (with_proved a n) (record s { slot = to })
+  -- the datagram has a least length
+  member_proved : (n : ℤ) (to : ℕ) → n ≤ℤ pos s.memory.length → IsMember mode places (with_proved a n) (record s { slot = to })
   member_proved n to le = record {
     anchored = member.anchored;
-    reaches = reach_more (places First) a.proved n (pos s.memory.length) (int_lt a.proved n) (member.anchored First) member.reaches le;
+    reaches = reaches_more n le;
     known_count = member.known_count;
     count = member.count;
     registers = member.registers;
     cells = member.cells;
     memory = member.memory;
-  }
+  } where
+    reaches_more : (n : ℤ) → n ≤ℤ pos s.memory.length → (anchor : Anchor) → (places anchor +ℤ proved_of (with_proved a n) anchor) ≤ℤ pos s.memory.length
+    reaches_more n le First = reach_more (places First) a.proved n (pos s.memory.length) (int_lt a.proved n) (member.anchored First) (member.reaches First) le
+
+  pub member_least : (least : Option ℤ) (to : ℕ) → IsLeast least s.memory.length → IsMember mode places (with_least a least) (record s { slot = to })
+  member_least None to le = member_moved to
+  member_least (Some n) to le = member_proved n to le
 
 -- ---- the first state
 
@@ -121,33 +128,36 @@ no_bit n = ap (λ (k : ℕ). k % 2 == 1) (zero-div n)
 unmarked : (i : ℕ) → is_marked no_marks i ≡ false
 unmarked i = ap (λ (w : ℕ). (w / 2 ^ (i % 64)) % 2 == 1) (zeros_at (i / 64)) ∙ no_bit (2 ^ (i % 64))
 
-first_registers_are : (strict : Bool) (d : List ℕ) (r : Reg) → IsValue strict at_first (known_at first_known.registers r) (value_at (start d).registers r)
-first_registers_are strict d reg.R0 = λ e. refl
-first_registers_are strict d reg.R1 = (0, tt, refl)
-first_registers_are strict d reg.R2 = λ e. refl
-first_registers_are strict d reg.R3 = λ e. refl
-first_registers_are strict d reg.R4 = λ e. refl
-first_registers_are strict d reg.R5 = λ e. refl
-first_registers_are strict d reg.R6 = λ e. refl
-first_registers_are strict d reg.R7 = λ e. refl
-first_registers_are strict d reg.R8 = λ e. refl
-first_registers_are strict d reg.R9 = λ e. refl
-first_registers_are strict d reg.R10 = (0, tt, refl)
+first_registers_are : (mode : Mode) (d : List ℕ) (r : Reg) → IsValue mode at_first (known_at first_known.registers r) (value_at (start d).registers r)
+first_registers_are mode d reg.R0 = λ e. refl
+first_registers_are mode d reg.R1 = (0, tt, refl)
+first_registers_are mode d reg.R2 = λ e. refl
+first_registers_are mode d reg.R3 = λ e. refl
+first_registers_are mode d reg.R4 = λ e. refl
+first_registers_are mode d reg.R5 = λ e. refl
+first_registers_are mode d reg.R6 = λ e. refl
+first_registers_are mode d reg.R7 = λ e. refl
+first_registers_are mode d reg.R8 = λ e. refl
+first_registers_are mode d reg.R9 = λ e. refl
+first_registers_are mode d reg.R10 = (0, tt, refl)
 
 first_place : (anchor : Anchor) → IsPlaceOf anchor (at_first anchor)
 first_place First = refl
+
+reaches_at_first : (n : ℕ) (anchor : Anchor) → (at_first anchor +ℤ proved_of first_known anchor) ≤ℤ pos n
+reaches_at_first n First = omega (arith, ints)
 
 marked_is_not : (marked : Bool) (cell : Bool) → marked ≡ false → marked ≡ true → cell ≡ true
 marked_is_not marked cell e f = let bad : false ≡ true = sym e ∙ f in absurd cc
 
 -- every start is a member of what is known before the first instruction
-pub first_member : (strict : Bool) (d : List ℕ) → All (λ b. b < 256) d → IsMember strict at_first first_known (start d)
-first_member strict d fit = record {
+pub first_member : (mode : Mode) (d : List ℕ) → All (λ b. b < 256) d → IsMember mode at_first first_known (start d)
+first_member mode d fit = record {
   anchored = first_place;
-  reaches = omega (arith, ints);
+  reaches = reaches_at_first (length d);
   known_count = refl;
   count = refl;
-  registers = first_registers_are strict d;
+  registers = first_registers_are mode d;
   cells = λ i lt. record {
     held = marked_is_not (is_marked no_marks i) (is_some (get_or empty_stack i None)) (unmarked i);
     no_other = λ e. nothing_set i lt ∙ sym (unmarked i);
@@ -171,40 +181,69 @@ reg_at (suc (suc (suc (suc (suc (suc (suc (suc (suc zero))))))))) lt = (reg.R9, 
 reg_at (suc (suc (suc (suc (suc (suc (suc (suc (suc (suc zero)))))))))) lt = (reg.R10, refl)
 reg_at (suc (suc (suc (suc (suc (suc (suc (suc (suc (suc (suc n))))))))))) lt = absurd (omega (arith, lt))
 
-kind_of : (places : Places) (k : Known) (n : ℕ) → IsNumberOf k n → SameKind (value_of places k n) (value_of places k n)
-kind_of places known.Nothing n h = refl
-kind_of places (known.Scalar (Exactly m)) n h = (n, h.1.fits, refl)
-kind_of places (known.Scalar Any) n h = (n, h.fits, refl)
-kind_of places known.Ctx n h = refl
-kind_of places (known.Stack k) n h = refl
-kind_of places (known.Data anchor k) n h = refl
-kind_of places known.End n h = refl
+kind_of : (places : Places) (k : Known) (m n : ℕ) → IsNumberOf k m → IsNumberOf k n → SameKind (value_of places k m) (value_of places k n)
+kind_of places known.Nothing m n g h = refl
+kind_of places (known.Scalar (Exactly x)) m n g h = (n, h.1.fits, refl)
+kind_of places (known.Scalar Any) m n g h = (n, h.fits, refl)
+kind_of places known.Ctx m n g h = refl
+kind_of places (known.Stack k) m n g h = refl
+kind_of places (known.Data anchor k) m n g h = refl
+kind_of places known.End m n g h = refl
 
-held_kind : (places : Places) (k : Known) (v : Value) → IsHeld places k v → SameKind v v
-held_kind places k v h = subst (λ (u : Value). SameKind u u) (sym h.2) (kind_of places k h.0 h.1)
+held_kind : (places : Places) (k : Known) (u v : Value) → IsHeld places k u → IsHeld places k v → SameKind u v
+held_kind places k u v g h = subst (λ (u' : Value). SameKind u' v) (sym g.2) (subst (SameKind (value_of places k g.0)) (sym h.2) (kind_of places k g.0 h.0 g.1 h.1))
 
-same_kind : (places : Places) (k : Known) (v : Value) → IsValue true places k v → SameKind v v
-same_kind places known.Nothing v h = subst (λ (u : Value). SameKind u u) (sym (h refl)) refl
-same_kind places (known.Scalar n) v h = held_kind places (known.Scalar n) v h
-same_kind places known.Ctx v h = held_kind places known.Ctx v h
-same_kind places (known.Stack n) v h = held_kind places (known.Stack n) v h
-same_kind places (known.Data anchor n) v h = held_kind places (known.Data anchor n) v h
-same_kind places known.End v h = held_kind places known.End v h
+same_kind : (places : Places) (k : Known) (u v : Value) → IsValue Strict places k u → IsValue Strict places k v → SameKind u v
+same_kind places known.Nothing u v g h = subst (λ (u' : Value). SameKind u' v) (sym (g refl)) (h refl)
+same_kind places (known.Scalar n) u v g h = held_kind places (known.Scalar n) u v g h
+same_kind places known.Ctx u v g h = held_kind places known.Ctx u v g h
+same_kind places (known.Stack n) u v g h = held_kind places (known.Stack n) u v g h
+same_kind places (known.Data anchor n) u v g h = held_kind places (known.Data anchor n) u v g h
+same_kind places known.End u v g h = held_kind places known.End u v g h
 
-kinds_at : (places : Places) (a : AbstractState) (s : State) → IsMember true places a s → (n : ℕ) → n < length s.registers → SameKind (slice_index_or s.registers n value.Nothing) (slice_index_or s.registers n value.Nothing)
-kinds_at places a s member n lt =
-    let r = reg_at n (omega (arith, lt, member.count)) in
-    subst (λ (k : ℕ). SameKind (slice_index_or s.registers k value.Nothing) (slice_index_or s.registers k value.Nothing)) r.1 (same_kind places (known_at a.registers r.0) (value_at s.registers r.0) (member.registers r.0))
+-- two strict members of one abstract state, with one memory, are loosenings of each other
+module _ (places : Places) (a : AbstractState) (s t : State) (member_s : IsMember Strict places a s) (member_t : IsMember Strict places a t) where
+  kinds_at : (n : ℕ) → n < length s.registers → SameKind (slice_index_or s.registers n value.Nothing) (slice_index_or t.registers n value.Nothing)
+  kinds_at n lt =
+      let r = reg_at n (omega (arith, lt, member_s.count)) in
+      subst (λ (k : ℕ). SameKind (slice_index_or s.registers k value.Nothing) (slice_index_or t.registers k value.Nothing)) r.1
+      (same_kind places (known_at a.registers r.0) (value_at s.registers r.0) (value_at t.registers r.0) (member_s.registers r.0) (member_t.registers r.0))
 
-pub loosens_itself : (places : Places) (a : AbstractState) (s : State) → IsMember true places a s → Loosens s s
-loosens_itself places a s member = record {
-  slot = refl;
-  count = refl;
-  registers = kinds_at places a s member;
-  cells = refl;
-  cells_fit = member.memory.cells;
-  bytes = refl;
-  bytes_fit = member.memory.bytes;
-  datagram = refl;
-  plan = refl;
+  pub members_loosen : t.slot ≡ s.slot → t.memory ≡ s.memory → t.plan ≡ s.plan → Loosens s t
+  members_loosen slot memory plan = record {
+    slot = slot;
+    count = member_t.count ∙ sym member_s.count;
+    registers = kinds_at;
+    cells = ap (λ (m : Memory). map is_some m.stack) memory;
+    cells_fit = member_t.memory.cells;
+    bytes = ap (λ (m : Memory). length m.bytes) memory;
+    bytes_fit = member_t.memory.bytes;
+    datagram = ap (λ (m : Memory). m.length) memory;
+    plan = plan;
+  }
+
+pub loosens_itself : (places : Places) (a : AbstractState) (s : State) → IsMember Strict places a s → Loosens s s
+loosens_itself places a s member = members_loosen places a s s member member refl refl refl
+
+-- ---- loosenings, one after the other
+
+same_kinds : (u v w : Value) → SameKind u v → SameKind v w → SameKind u w
+same_kinds value.Nothing v w g h = subst (λ (x : Value). SameKind x w) g h
+same_kinds (value.Scalar n) v w g h = subst (λ (x : Value). SameKind x w) g.2 h
+same_kinds value.Ctx v w g h = subst (λ (x : Value). SameKind x w) g h
+same_kinds (value.Stack k) v w g h = subst (λ (x : Value). SameKind x w) g h
+same_kinds (value.Data k) v w g h = subst (λ (x : Value). SameKind x w) g h
+same_kinds value.End v w g h = subst (λ (x : Value). SameKind x w) g h
+
+pub loosens_then : (s t u : State) → Loosens s t → Loosens t u → Loosens s u
+loosens_then s t u g h = record {
+  slot = h.slot ∙ g.slot;
+  count = h.count ∙ g.count;
+  registers = λ n lt. same_kinds _ _ _ (g.registers n lt) (h.registers n (omega (arith, lt, g.count)));
+  cells = h.cells ∙ g.cells;
+  cells_fit = h.cells_fit;
+  bytes = h.bytes ∙ g.bytes;
+  bytes_fit = h.bytes_fit;
+  datagram = h.datagram ∙ g.datagram;
+  plan = h.plan ∙ g.plan;
 }

@@ -1,38 +1,55 @@
 -- Loose runs come to every point that the walk follows, and are stuck where it refuses.
-use Rattle.std.proofs.Common.{◌≡◌, ℕ, zero, suc, ◌<◌, Bool, true, false, ℤ, pos, ◌≤ℤ◌, ◌<ℤ◌, List, [], ◌∷◌, length, get_or, replicate, Option, Some, None, Result, Ok, Err, refl, sym, ap, ◌∙◌, subst, arith, All, inl, inr}
-use Rattle.std.specs.Prelude.{IfSome, int_lt, unsigned_abs, if◌then◌else◌}
+use Rattle.std.proofs.Common.{◌≡◌, ℕ, zero, suc, ◌<◌, Bool, true, false, ℤ, pos, negsuc, ◌+ℤ◌, ◌≤ℤ◌, ◌<ℤ◌, ◌&&◌, List, [], ◌∷◌, replicate, Option, Some, None, Result, Ok, Err, refl, sym, ap, ◌∙◌, subst, arith, All, inl, inr}
+use Rattle.std.specs.Prelude.{◌⊎◌, IfSome, int_le, int_lt, unsigned_abs, slice_index_or, slice_set, if◌then◌else◌}
 use Rattle.std.proofs.lemmas.Int.{ints}
 use Rattle.std.proofs.lemmas.List.{length-replicate}
 use Rattle.std.proofs.lemmas.List.Elements.{All-replicate}
 use Rattle.insn.specs.Encoding.{Fits}
 use Rattle.insn.specs.declared.instruction.Insn.{Insn}
-use Rattle.semantics.specs.Machine.{State, Surroundings, start}
+use Rattle.semantics.specs.Machine.{Memory, State, AreBytes, Surroundings, start}
 use Rattle.semantics.specs.Effects as effects
 use Rattle.semantics.specs.Slots.{fetch}
-use Rattle.semantics.specs.SlotLaws.{begins_inside, place_in}
-use Rattle.semantics.specs.Runs.{Sticks, applied}
-use Rattle.semantics.specs.LooseRuns.{told, effect_of_branch, LooseStep, LooselyReaches, IsLooselyStuck}
+use Rattle.semantics.specs.Runs.{Goes, Sticks, AreReal, applied, step, write_register}
+use Rattle.semantics.specs.LooseRuns.{Loosens, bound_of, effect_of_branch, TakesBranch, LooseStep, LooselyReaches, IsLooselyStuck}
+use Rattle.semantics.specs.declared.fetching.Branch.{Branch}
+use Rattle.semantics.specs.declared.fetching.Branch.TheVariants.{NotTaken, Taken}
+use Rattle.semantics.specs.declared.value.Value.{Value}
+use Rattle.semantics.specs.declared.value.Value.TheVariants as value
+use Rattle.semantics.specs.Fallible.{◌>>=◌}
+use Rattle.semantics.specs.Effects.{is_near, near_place}
+use Rattle.insn.specs.Register.{number_of}
+use Rattle.insn.specs.declared.register.Reg.{Reg}
+use Rattle.insn.specs.declared.operator.AluOp.TheVariants.{Add}
+use Rattle.insn.specs.declared.instruction.Operand.TheVariants as operand
+use Rattle.insn.specs.declared.instruction.Insn.TheVariants as insn
+use Rattle.std.specs.Option.{ok_or}
+use Rattle.std.specs.Int.{w64, cast_signed}
+use Rattle.std.proofs.lemmas.List.{get_or-set_other, set-get_or}
+use Rattle.std.proofs.lemmas.Grind.{get_or-set_at}
 use Rattle.semantics.specs.declared.reason.Reason.{Reason}
+use Rattle.semantics.specs.declared.reason.Reason.TheVariants.{PointerArithmetic}
 use Rattle.semantics.specs.declared.fetching.Fetched.TheVariants.{Begins}
 use Rattle.semantics.specs.declared.effect.Effect.{Effect}
 use Rattle.semantics.specs.declared.effect.Effect.TheVariants as effect
-use Rattle.verifier.specs.AbstractStates.{first_known, with_proved}
+use Rattle.verifier.specs.AbstractStates.{known_at, first_known, with_known, with_least}
+use Rattle.verifier.specs.declared.abstract_state.Known.{Known}
+use Rattle.verifier.specs.declared.abstract_state.Known.TheVariants as known
+use Rattle.verifier.specs.declared.abstract_state.Number.TheVariants.{Any}
 use Rattle.verifier.specs.AbstractSteps as abstract
-use Rattle.verifier.specs.Membership.{Places, IsMember}
+use Rattle.verifier.specs.Membership.{Strict, Places, IsWord, IsValue, IsMember}
 use Rattle.verifier.specs.Goodness.{some_surroundings, IsReachedOver, IsReached}
-use Rattle.verifier.specs.Refusing.{AddsRegister, AddsNoRegister, IsClaimed}
 use Rattle.verifier.specs.Walk.{IsPoint, GoesOn, IsRefusedAt}
 use Rattle.verifier.specs.declared.abstract_state.AbstractState.{AbstractState}
 use Rattle.verifier.specs.declared.abstract_step.Next.{Next}
 use Rattle.verifier.specs.declared.abstract_step.Next.TheVariants as next
 use Rattle.verifier.specs.declared.walk.Pending.{Pending}
 use Rattle.verifier.proofs.Agreement.{Agree}
-use Rattle.verifier.proofs.Bounds.{bound_from_bytes, lt_of, not_lt}
+use Rattle.verifier.proofs.Bounds.{IsLeast, bound_from_least, le_of, lt_of, not_lt}
 use Rattle.verifier.proofs.LoadValues.{abs_is}
-use Rattle.verifier.proofs.Members.{at_first, first_member, loosens_itself}
-use Rattle.verifier.proofs.Simulation.{Follows, Forks, AreClaims, steps_agree}
+use Rattle.verifier.proofs.Members.{at_first, first_member, member_written, members_loosen, loosens_itself, loosens_then, in_eleven}
+use Rattle.verifier.proofs.Simulation.{StraysBy, Strays, strays_same, Follows, Forks, AreClaims, steps_agree}
 use Rattle.verifier.proofs.Safety.{point_at}
-use Rattle.verifier.proofs.Advancing.{accepted_agree, step_is, Arrives, arrives_on, way_goes, way_member}
+use Rattle.verifier.proofs.Advancing.{accepted_agree, step_is, Arrives, arrives_on, branch_goes, branch_member}
 
 -- ---- one step more
 
@@ -40,75 +57,86 @@ one_more : (w : Surroundings) (code : List Insn) (m : ℕ) (s t u : State) → L
 one_more w code zero s t u reaches on = (u, subst (λ (r : State). LooseStep w code r u) (sym reaches) on, refl)
 one_more w code (suc m) s t u reaches on = (reaches.0, reaches.1, one_more w code m reaches.0 t u reaches.2 on)
 
--- a loose step from a state comes to a point, with a member of what is known there
+-- a step of a loosened state, or either branch of its conditional jump
+abbrev LooselyGoes : List Insn → State → State → Type 0
+LooselyGoes code s next = (step some_surroundings code s ≡ Goes next) ⊎ ((branch : Branch) × TakesBranch code s branch next)
+
+-- such a step reaches a member of a pending state
 record ArrivesLoosely (code : List Insn) (places : Places) (s : State) (p : Pending) : Type 0 where
   next : State
-  goes : LooseStep some_surroundings code s next
+  goes : LooselyGoes code s next
   slot : next.slot ≡ p.slot
   size : next.memory.length ≡ s.memory.length
-  member : IsMember true places p.state next
+  member : IsMember Strict places p.state next
 
-reached_by : (code : List Insn) (here p : Pending) (n : ℕ) → (r : IsReachedOver code here n) → ArrivesLoosely code r.places r.last p → IsReachedOver code p n
+reached_by : (code : List Insn) (here p : Pending) (n : ℕ) → (r : IsReachedOver code here n) → ArrivesLoosely code r.places r.loosened p → IsReachedOver code p n
 reached_by code here p n r arrives = record {
   datagram = r.datagram;
+  bytes_fit = r.bytes_fit;
   steps = suc r.steps;
   last = arrives.next;
+  loosened = arrives.next;
   places = r.places;
-  reaches = one_more some_surroundings code r.steps (start r.datagram) r.last arrives.next r.reaches arrives.goes;
+  reaches = one_more some_surroundings code r.steps (start r.datagram) r.last arrives.next r.reaches (r.loosened, r.loosens, arrives.goes);
+  loosens = loosens_itself r.places p.state arrives.next arrives.member;
   slot = arrives.slot;
   size = arrives.size ∙ r.size;
   member = arrives.member;
 }
 
--- ---- the points that an accepted step goes on to
+-- ---- the pending states behind an accepted step
 
-module _ (code : List Insn) (i : Insn) (places : Places) (a : AbstractState) (s : State) (here : fetch code s.slot ≡ Begins i) (member : IsMember true places a s) where
-  loosely : (p : Pending) → Arrives some_surroundings code true places s p → ArrivesLoosely code places s p
+module _ (code : List Insn) (i : Insn) (places : Places) (a : AbstractState) (s : State) (here : fetch code s.slot ≡ Begins i) (member : IsMember Strict places a s) where
+  loosely : (p : Pending) → Arrives some_surroundings code Strict places s p → ArrivesLoosely code places s p
   loosely p arrives = record {
     next = arrives.next;
-    goes = (s, loosens_itself places a s member, inl arrives.goes);
+    goes = inl arrives.goes;
     slot = arrives.slot;
     size = ap (λ m. m.length) arrives.memory;
     member = arrives.member;
   }
 
-  takes_way : (not_taken taken : AbstractState) (e : Effect) → effects.effect s.memory s.registers i ≡ Ok e → (f : Forks a s i not_taken taken e) (way : Bool) (b : AbstractState) (p : Pending)
-      → b ≡ with_proved a (abstract.bytes_told (told f.condition (effects.value_at s.registers f.dst) f.second way)) → abstract.bytes_told (told f.condition (effects.value_at s.registers f.dst) f.second way) ≤ℤ pos s.memory.length
-      → IsPoint code s.slot i way b p → ArrivesLoosely code places s p
-  takes_way not_taken taken e is f way b p told_is le point = record {
+  takes_branch : (not_taken taken : AbstractState) (e : Effect) → effects.effect s.memory s.registers i ≡ Ok e → (f : Forks a s i not_taken taken e) (branch : Branch) (b : AbstractState) (p : Pending)
+      → b ≡ with_least a (abstract.least_of (bound_of f.condition (effects.value_at s.registers f.dst) f.second branch)) → IsLeast (abstract.least_of (bound_of f.condition (effects.value_at s.registers f.dst) f.second branch)) s.memory.length
+      → IsPoint code s.slot i branch b p → ArrivesLoosely code places s p
+  takes_branch not_taken taken e is f branch b p least_is le point = record {
     next = record s { slot = p.slot };
-    goes = (
-      s,
-      loosens_itself places a s member,
-      inr (
-        way,
-        record {
-          condition = f.condition;
-          dst = f.dst;
-          operand = f.operand;
-          offset = f.offset;
-          value = f.second;
-          here = here ∙ ap Begins f.jump;
-          decided = e;
-          not_stuck = ap (effects.effect s.memory s.registers) (sym f.jump) ∙ is;
-          operand_is = f.operand_is;
-          is_open = bound_from_bytes (told f.condition (effects.value_at s.registers f.dst) f.second way) s.memory.length le;
-          goes = ap (λ (j : Insn). applied code s j (Ok (effect_of_branch f.offset way))) (sym f.jump) ∙ way_goes some_surroundings code true places a s member i here f.condition f.dst f.operand f.offset way b p f.jump point;
-        },
-      ),
+    goes = inr (
+      branch,
+      record {
+        condition = f.condition;
+        dst = f.dst;
+        operand = f.operand;
+        offset = f.offset;
+        value = f.second;
+        here = here ∙ ap Begins f.jump;
+        decided = e;
+        not_stuck = ap (effects.effect s.memory s.registers) (sym f.jump) ∙ is;
+        operand_is = f.operand_is;
+        is_open = bound_from_least (bound_of f.condition (effects.value_at s.registers f.dst) f.second branch) s.memory.length le;
+        goes = ap (λ (j : Insn). applied code s j (Ok (effect_of_branch f.offset branch))) (sym f.jump) ∙ branch_goes some_surroundings code Strict places a s member i here f.condition f.dst f.operand f.offset branch b p f.jump point;
+      },
     );
     slot = refl;
     size = refl;
-    member = way_member some_surroundings code true places a s member i here b (abstract.bytes_told (told f.condition (effects.value_at s.registers f.dst) f.second way)) p point.state told_is le;
+    member = branch_member some_surroundings code Strict places a s member i here b (abstract.least_of (bound_of f.condition (effects.value_at s.registers f.dst) f.second branch)) p point.state_is least_is le;
   }
 
-told_within : (proved n size : ℤ) (b : Bool) → int_lt proved n ≡ b → (if b then n else proved) ≤ℤ size → n ≤ℤ size
-told_within proved n size true e le = le
-told_within proved n size false e le = let above : n ≤ℤ proved = not_lt proved n e in omega (arith, ints)
+proved_within : (proved n size : ℤ) (b : Bool) → int_lt proved n ≡ b → (if b then n else proved) ≤ℤ size → n ≤ℤ size
+proved_within proved n size true e le = le
+proved_within proved n size false e le = let above : n ≤ℤ proved = not_lt proved n e in omega (arith, ints)
 
-told_rises : (proved n : ℤ) (b : Bool) → int_lt proved n ≡ b → proved ≤ℤ (if b then n else proved)
-told_rises proved n true e = let below : proved <ℤ n = lt_of proved n e in omega (arith, ints)
-told_rises proved n false e = omega (arith, ints)
+proved_rises : (proved n : ℤ) (b : Bool) → int_lt proved n ≡ b → proved ≤ℤ (if b then n else proved)
+proved_rises proved n true e = let below : proved <ℤ n = lt_of proved n e in omega (arith, ints)
+proved_rises proved n false e = omega (arith, ints)
+
+least_within : (a : AbstractState) (least : Option ℤ) (size : ℕ) → (with_least a least).proved ≤ℤ pos size → IsLeast least size
+least_within a None size le = tt
+least_within a (Some n) size le = proved_within a.proved n (pos size) (int_lt a.proved n) refl le
+
+least_rises : (a : AbstractState) (least : Option ℤ) → a.proved ≤ℤ (with_least a least).proved
+least_rises a None = omega (arith, ints)
+least_rises a (Some n) = proved_rises a.proved n (int_lt a.proved n) refl
 
 at_most : (a b c : ℤ) → a ≤ℤ b → b ≤ℤ c → a ≤ℤ c
 at_most a b c p q = omega (arith, ints)
@@ -125,19 +153,19 @@ all_one P p h (suc k) d lt = absurd (omega (arith, lt))
 
 -- what is known at a point is reached where each member before it comes there, and no less is proved there
 module _ (code : List Insn) (here p : Pending)
-    (comes : (places : Places) (s : State) → s.slot ≡ here.slot → IsMember true places here.state s → p.state.proved ≤ℤ pos s.memory.length → ArrivesLoosely code places s p)
-    (rises : (places : Places) (s : State) → s.slot ≡ here.slot → IsMember true places here.state s → here.state.proved ≤ℤ p.state.proved) where
+    (comes : (places : Places) (s : State) → s.slot ≡ here.slot → IsMember Strict places here.state s → p.state.proved ≤ℤ pos s.memory.length → ArrivesLoosely code places s p)
+    (rises : (places : Places) (s : State) → s.slot ≡ here.slot → IsMember Strict places here.state s → here.state.proved ≤ℤ p.state.proved) where
   point_reached : IsReached code here → IsReached code p
   point_reached reached =
       let n : ℕ = unsigned_abs here.state.proved in
       let same : pos n ≡ here.state.proved = abs_is here.state.proved reached.not_negative in
       let r = reached.over n (equal_at_most here.state.proved (pos n) (sym same)) in
-      let more : here.state.proved ≤ℤ p.state.proved = rises r.places r.last r.slot r.member in
+      let more : here.state.proved ≤ℤ p.state.proved = rises r.places r.loosened r.slot r.member in
       record {
         not_negative = at_most (pos 0) here.state.proved p.state.proved reached.not_negative more;
         over = λ m le.
             let over = reached.over m (at_most here.state.proved p.state.proved (pos m) more le) in
-            reached_by code here p m over (comes over.places over.last over.slot over.member (subst (λ (k : ℕ). p.state.proved ≤ℤ pos k) (sym over.size) le));
+            reached_by code here p m over (comes over.places over.loosened over.slot over.member (subst (λ (k : ℕ). p.state.proved ≤ℤ pos k) (sym over.size) le));
       }
 
 after_write : (places : Places) (a b : AbstractState) (s : State) (i : Insn) (e : Effect) → Follows places a s i (next.On b) e → a.proved ≤ℤ b.proved
@@ -150,32 +178,32 @@ module _ (code : List Insn) (here : Pending) (i : Insn) (begins : fetch code her
   begins_at : (s : State) → s.slot ≡ here.slot → fetch code s.slot ≡ Begins i
   begins_at s at = ap (fetch code) at ∙ begins
 
-  reached_on : (b : AbstractState) → abstract.step here.state i ≡ Ok (next.On b) → (p : Pending) → IsPoint code here.slot i false b p → IsReached code p
+  reached_on : (b : AbstractState) → abstract.step here.state i ≡ Ok (next.On b) → (p : Pending) → IsPoint code here.slot i NotTaken b p → IsReached code p
   reached_on b is p point =
       point_reached code here p
       (λ places s at member le.
-      let agree = accepted_agree true places here.state s member i fit (next.On b) is in
-      loosely code i places here.state s (begins_at s at) member p (arrives_on some_surroundings code true places here.state s member i (begins_at s at) b agree.0 p agree.1 agree.2 (point_at code s.slot here.slot i false b p at point)))
+      let agree = accepted_agree Strict places here.state s member i fit (next.On b) is in
+      loosely code i places here.state s (begins_at s at) member p (arrives_on some_surroundings code Strict places here.state s member i (begins_at s at) b agree.0 p agree.1 agree.2 (point_at code s.slot here.slot i NotTaken b p at point)))
       (λ places s at member.
-      let agree = accepted_agree true places here.state s member i fit (next.On b) is in
-      subst (λ (c : AbstractState). here.state.proved ≤ℤ c.proved) (sym point.state) (after_write places here.state b s i agree.0 agree.2))
+      let agree = accepted_agree Strict places here.state s member i fit (next.On b) is in
+      subst (λ (c : AbstractState). here.state.proved ≤ℤ c.proved) (sym point.state_is) (after_write places here.state b s i agree.0 agree.2))
       reached
 
-  reached_way : (not_taken taken : AbstractState) → abstract.step here.state i ≡ Ok (next.Fork not_taken taken) → (way : Bool) (b : AbstractState) (p : Pending) → IsPoint code here.slot i way b p
-      → ((s : State) (e : Effect) → (f : Forks here.state s i not_taken taken e) → b ≡ with_proved here.state (abstract.bytes_told (told f.condition (effects.value_at s.registers f.dst) f.second way))) → IsReached code p
-  reached_way not_taken taken is way b p point told_is =
+  reached_branch : (not_taken taken : AbstractState) → abstract.step here.state i ≡ Ok (next.Fork not_taken taken) → (branch : Branch) (b : AbstractState) (p : Pending) → IsPoint code here.slot i branch b p
+      → ((s : State) (e : Effect) → (f : Forks here.state s i not_taken taken e) → b ≡ with_least here.state (abstract.least_of (bound_of f.condition (effects.value_at s.registers f.dst) f.second branch))) → IsReached code p
+  reached_branch not_taken taken is branch b p point least_is =
       point_reached code here p
       (λ places s at member le.
-      let agree = accepted_agree true places here.state s member i fit (next.Fork not_taken taken) is in
-      let n : ℤ = abstract.bytes_told (told agree.2.condition (effects.value_at s.registers agree.2.dst) agree.2.second way) in
-      let proved_is : p.state.proved ≡ (with_proved here.state n).proved = ap (λ (c : AbstractState). c.proved) (point.state ∙ told_is s agree.0 agree.2) in
-      takes_way code i places here.state s (begins_at s at) member not_taken taken agree.0 agree.1 agree.2 way b p (told_is s agree.0 agree.2)
-      (told_within here.state.proved n (pos s.memory.length) (int_lt here.state.proved n) refl (subst (λ (z : ℤ). z ≤ℤ pos s.memory.length) proved_is le))
-      (point_at code s.slot here.slot i way b p at point))
+      let agree = accepted_agree Strict places here.state s member i fit (next.Fork not_taken taken) is in
+      let least : Option ℤ = abstract.least_of (bound_of agree.2.condition (effects.value_at s.registers agree.2.dst) agree.2.second branch) in
+      let proved_is : p.state.proved ≡ (with_least here.state least).proved = ap (λ (c : AbstractState). c.proved) (point.state_is ∙ least_is s agree.0 agree.2) in
+      takes_branch code i places here.state s (begins_at s at) member not_taken taken agree.0 agree.1 agree.2 branch b p (least_is s agree.0 agree.2)
+      (least_within here.state least s.memory.length (subst (λ (z : ℤ). z ≤ℤ pos s.memory.length) proved_is le))
+      (point_at code s.slot here.slot i branch b p at point))
       (λ places s at member.
-      let agree = accepted_agree true places here.state s member i fit (next.Fork not_taken taken) is in
-      let n : ℤ = abstract.bytes_told (told agree.2.condition (effects.value_at s.registers agree.2.dst) agree.2.second way) in
-      subst (λ (c : AbstractState). here.state.proved ≤ℤ c.proved) (sym (point.state ∙ told_is s agree.0 agree.2)) (told_rises here.state.proved n (int_lt here.state.proved n) refl))
+      let agree = accepted_agree Strict places here.state s member i fit (next.Fork not_taken taken) is in
+      let least : Option ℤ = abstract.least_of (bound_of agree.2.condition (effects.value_at s.registers agree.2.dst) agree.2.second branch) in
+      subst (λ (c : AbstractState). here.state.proved ≤ℤ c.proved) (sym (point.state_is ∙ least_is s agree.0 agree.2)) (least_rises here.state least))
       reached
 
   -- each point that an accepted step goes on to is reached
@@ -183,8 +211,8 @@ module _ (code : List Insn) (here : Pending) (i : Insn) (begins : fetch code her
   reached_after (next.On b) is (Some p) left goes = (reached_on b is p goes.0, subst (All (IsReached code)) (sym goes.1) (λ k d lt. absurd (none_below k lt)))
   reached_after (next.On b) is None left goes = absurd goes
   reached_after (next.Fork not_taken taken) is (Some p) left goes = (
-    reached_way not_taken taken is false not_taken p goes.0 (λ s e f. f.not_taken_is),
-    subst (All (IsReached code)) (sym goes.3) (all_one (IsReached code) goes.1 (reached_way not_taken taken is true taken goes.1 goes.2 (λ s e f. f.taken_is))),
+    reached_branch not_taken taken is NotTaken not_taken p goes.0 (λ s e f. f.not_taken_is),
+    subst (All (IsReached code)) (sym goes.3) (all_one (IsReached code) goes.1 (reached_branch not_taken taken is Taken taken goes.1 goes.2 (λ s e f. f.taken_is))),
   )
   reached_after (next.Fork not_taken taken) is None left goes = absurd goes
   reached_after next.Exit is (Some p) left goes = absurd goes
@@ -192,20 +220,145 @@ module _ (code : List Insn) (here : Pending) (i : Insn) (begins : fetch code her
 
 -- ---- the first point
 
+zeros_fit : (n : ℕ) → All (λ b. b < 256) (replicate n 0)
+zeros_fit n = All-replicate (λ (b : ℕ). b < 256) n 0 (omega arith)
+
+zero_bytes : (n : ℕ) → AreBytes n (replicate n 0)
+zero_bytes n = record { count = let zero_byte : ℕ = 0 in length-replicate n zero_byte; fit = zeros_fit n }
+
+surroundings_are_real : AreReal some_surroundings
+surroundings_are_real = record {
+  context = record { side = omega arith; source = zero_bytes 8; transaction_id = zero_bytes 12 };
+  helpers = record {
+    channel_peer = λ n address word bytes. (omega arith, zero_bytes 8);
+    channel_to = λ n address word bytes. omega arith;
+    permitted = λ n address word bytes. omega arith;
+  };
+}
+
 pub first_reached : (code : List Insn) → IsReached code (record { slot = 0; state = first_known })
 first_reached code = record {
   not_negative = omega (arith, ints);
-  over = λ n le. record {
-    datagram = replicate n 0;
-    steps = 0;
-    last = start (replicate n 0);
-    places = at_first;
-    reaches = refl;
-    slot = refl;
-    size = let zero_byte : ℕ = 0 in length-replicate n zero_byte;
-    member = first_member true (replicate n 0) (All-replicate (λ (b : ℕ). b < 256) n 0 (omega arith));
-  };
+  over = λ n le.
+      let member = first_member Strict (replicate n 0) (zeros_fit n) in
+      record {
+        datagram = replicate n 0;
+        bytes_fit = zeros_fit n;
+        steps = 0;
+        last = start (replicate n 0);
+        loosened = start (replicate n 0);
+        places = at_first;
+        reaches = refl;
+        loosens = loosens_itself at_first first_known (start (replicate n 0)) member;
+        slot = refl;
+        size = let zero_byte : ℕ = 0 in length-replicate n zero_byte;
+        member = member;
+      };
 }
+
+-- ---- an unknown number that leads a pointer out of range
+
+and_false : (b : Bool) → (b && false) ≡ false
+and_false true = refl
+and_false false = refl
+
+le_is_false : (a b : ℤ) → b <ℤ a → int_le a b ≡ false
+le_is_false a b h = grind (arith, ints)
+
+is_too_far : (z : ℤ) → pos 1048576 <ℤ z → near_place z ≡ None
+is_too_far z h =
+    ap (λ (b : Bool). if (int_le (negsuc 1048575) z && b) then Some z else None) (le_is_false z (pos 1048576) h)
+    ∙ ap (λ (b : Bool). if b then Some z else None) (and_false (int_le (negsuc 1048575) z))
+
+-- 2^62, or 0 for a place that is out of range already
+abbrev stray_if : Bool → ℕ
+stray_if true = 4611686018427387904
+stray_if false = 0
+
+stray_fits : (b : Bool) → IsWord (stray_if b)
+stray_fits true = record { fits = omega arith }
+stray_fits false = record { fits = omega arith }
+
+first_of_and : (a b : Bool) → (a && b) ≡ true → a ≡ true
+first_of_and true b e = refl
+first_of_and false b e = e
+
+strays_off : (k : ℤ) (b : Bool) → is_near k ≡ b → near_place (k +ℤ cast_signed w64 (stray_if b)) ≡ None
+strays_off k true e =
+    let low : negsuc 1048575 ≤ℤ k = le_of (negsuc 1048575) k (first_of_and (int_le (negsuc 1048575) k) (int_le k (pos 1048576)) e) in
+    is_too_far (k +ℤ pos 4611686018427387904) (omega (arith, ints))
+strays_off k false e =
+    let same : (k +ℤ pos 0) ≡ k = omega (arith, ints) in
+    ap near_place same ∙ ap (λ (b : Bool). if b then Some k else None) e
+
+data_strays : (k : ℤ) → effects.sum_of (value.Data k) (value.Scalar (stray_if (is_near k))) ≡ Err PointerArithmetic
+data_strays k = ap (λ (o : Option ℤ). ok_or o PointerArithmetic >>= λ place. Ok (value.Data place)) (strays_off k (is_near k) refl)
+
+stack_strays : (k : ℤ) → effects.sum_of (value.Stack k) (value.Scalar (stray_if (is_near k))) ≡ Err PointerArithmetic
+stack_strays k = ap (λ (o : Option ℤ). ok_or o PointerArithmetic >>= λ place. Ok (value.Stack place)) (strays_off k (is_near k) refl)
+
+-- a loosening at which an addition of an unknown number to a pointer is stuck
+record StraysFrom (places : Places) (a : AbstractState) (s : State) (i : Insn) : Type 0 where
+  state : State
+  loosens : Loosens s state
+  slot : state.slot ≡ s.slot
+  memory : state.memory ≡ s.memory
+  member : IsMember Strict places a state
+  strays : Strays a state i
+
+module _ (places : Places) (a : AbstractState) (s : State) (member : IsMember Strict places a s) where
+  stays : (i : Insn) → Strays a s i → StraysFrom places a s i
+  stays i strays = record {
+    state = s;
+    loosens = loosens_itself places a s member;
+    slot = refl;
+    memory = refl;
+    member = member;
+    strays = strays;
+  }
+
+  no_stray : (dst r : Reg) (x y : Known) → known_at a.registers dst ≡ x → known_at a.registers r ≡ y → StraysBy x y (effects.value_at s.registers dst) (effects.value_at s.registers r) → StraysFrom places a s (insn.Alu Add dst (operand.Reg r))
+  no_stray dst r x y p q h =
+      stays (insn.Alu Add dst (operand.Reg r))
+      (strays_same x (known_at a.registers dst) y (known_at a.registers r) (effects.value_at s.registers dst) (effects.value_at s.registers dst) (effects.value_at s.registers r) (effects.value_at s.registers r) (sym p) (sym q) refl refl h)
+
+  -- the number of the second register is replaced
+  replaced : (dst r : Reg) (x : Known) (u : Value) (n : ℕ) → known_at a.registers dst ≡ x → known_at a.registers r ≡ known.Scalar Any → (x ≡ known.Scalar Any → ⊥) → effects.value_at s.registers dst ≡ u → IsWord n
+      → StraysBy x (known.Scalar Any) u (value.Scalar n) → StraysFrom places a s (insn.Alu Add dst (operand.Reg r))
+  replaced dst r x u n p q other u_is fits strays =
+      let apart : number_of dst ≡ number_of r → ⊥ = λ same. other (sym p ∙ ap (λ (k : ℕ). slice_index_or a.registers k known.Nothing) same ∙ q) in
+      let new : State = record s { registers = write_register s r (value.Scalar n) } in
+      let kept : slice_set a.registers (number_of r) (known.Scalar Any) ≡ a.registers = ap (slice_set a.registers (number_of r)) (sym q) ∙ set-get_or a.registers (number_of r) known.Nothing in
+      let same_state : with_known a r (known.Scalar Any) ≡ a = λ k. record a { registers = kept k } in
+      let written : IsMember Strict places (with_known a r (known.Scalar Any)) new = member_written Strict places a s member r (known.Scalar Any) (value.Scalar n) s.slot (n, fits, refl) in
+      let now : IsMember Strict places a new = subst (λ (b : AbstractState). IsMember Strict places b new) same_state written in
+      let dst_is : effects.value_at new.registers dst ≡ u = get_or-set_other s.registers (number_of r) (number_of dst) (value.Scalar n) value.Nothing apart ∙ u_is in
+      let r_is : effects.value_at new.registers r ≡ value.Scalar n = get_or-set_at s.registers (number_of r) (number_of r) (value.Scalar n) value.Nothing refl (omega (arith, in_eleven r, member.count)) in
+      record {
+        state = new;
+        loosens = members_loosen places a s new member now refl refl refl;
+        slot = refl;
+        memory = refl;
+        member = now;
+        strays = strays_same x (known_at a.registers dst) (known.Scalar Any) (known_at a.registers r) u (effects.value_at new.registers dst) (value.Scalar n) (effects.value_at new.registers r) (sym p) (sym q) (sym dst_is) (sym r_is) strays;
+      }
+
+  held_as : (dst : Reg) (x : Known) → known_at a.registers dst ≡ x → IsValue Strict places x (effects.value_at s.registers dst)
+  held_as dst x p = subst (λ (k : Known). IsValue Strict places k (effects.value_at s.registers dst)) p (member.registers dst)
+
+  add_strays : (dst r : Reg) (x y : Known) → known_at a.registers dst ≡ x → known_at a.registers r ≡ y → StraysFrom places a s (insn.Alu Add dst (operand.Reg r))
+  add_strays dst r (known.Data anchor k) (known.Scalar Any) p q =
+      let held = held_as dst (known.Data anchor k) p in
+      let place : ℤ = places anchor +ℤ k in
+      replaced dst r (known.Data anchor k) (value.Data place) (stray_if (is_near place)) p q (λ e. absurd cc) held.2 (stray_fits (is_near place)) (data_strays place)
+  add_strays dst r (known.Stack k) (known.Scalar Any) p q =
+      let held = held_as dst (known.Stack k) p in
+      replaced dst r (known.Stack k) (value.Stack k) (stray_if (is_near k)) p q (λ e. absurd cc) held.2 (stray_fits (is_near k)) (stack_strays k)
+  add_strays dst r x y p q = no_stray dst r x y p q tt
+
+  strays_from : (i : Insn) → StraysFrom places a s i
+  strays_from (insn.Alu Add dst (operand.Reg r)) = add_strays dst r (known_at a.registers dst) (known_at a.registers r) refl refl
+  strays_from i = stays i tt
 
 -- ---- refusals
 
@@ -217,38 +370,32 @@ refused claimed F (Err f) (Err g) e agree is c =
     let other : f ≡ g = agree (subst claimed same c) in
     ap Err (sym other ∙ sym same)
 
-begins_same : (i j : Insn) → Begins i ≡ Begins j → i ≡ j
-begins_same i j e = cc
-
-adds_none : (code : List Insn) (slot : ℕ) (i : Insn) → fetch code slot ≡ Begins i → AddsNoRegister code → AddsRegister i → ⊥
-adds_none code slot i begins none adds =
-    let inside : slot < length code = begins_inside code slot i begins in
-    let same : get_or code slot i ≡ i = begins_same (get_or code slot i) i (sym (place_in code slot i inside) ∙ begins) in
-    none slot i inside (subst AddsRegister (sym same) adds)
-
 -- a refused step is one at which a loose run is stuck
-pub refusal_is_real : (code : List Insn) (here : Pending) (reason : Reason) → IsReached code here → IsRefusedAt code here reason → IsClaimed code reason → IsLooselyStuck code reason here.slot
-refusal_is_real code here reason reached refusal claim =
+pub refusal_is_real : (code : List Insn) (here : Pending) (reason : Reason) → IsReached code here → IsRefusedAt code here reason → IsLooselyStuck code reason here.slot
+refusal_is_real code here reason reached refusal =
     let n : ℕ = unsigned_abs here.state.proved in
     let same : pos n ≡ here.state.proved = abs_is here.state.proved reached.not_negative in
     let r = reached.over n (equal_at_most here.state.proved (pos n) (sym same)) in
-    let begins : fetch code r.last.slot ≡ Begins refusal.insn = ap (fetch code) r.slot ∙ refusal.begins in
-    let claims : AreClaims (λ e. e ≡ reason) true here.state r.last refusal.insn = record {
+    let f = strays_from r.places here.state r.loosened r.member refusal.insn in
+    let begins : fetch code f.state.slot ≡ Begins refusal.insn = ap (fetch code) (f.slot ∙ r.slot) ∙ refusal.begins in
+    let claims : AreClaims (λ e. e ≡ reason) Strict here.state f.state refusal.insn = record {
       registers = λ c. refl;
       cells = λ c. refl;
-      bounds = λ c. ap (λ (k : ℕ). pos k) r.size ∙ same;
-      arithmetic = λ c adds. adds_none code here.slot refusal.insn refusal.begins (subst (IsClaimed code) (sym c) claim) adds;
+      bounds = λ c. ap (λ (m : Memory). pos m.length) f.memory ∙ ap (λ (k : ℕ). pos k) r.size ∙ same;
+      arithmetic = λ c. f.strays;
     } in
-    let stuck : effects.effect r.last.memory r.last.registers refusal.insn ≡ Err reason =
-    refused (λ e. e ≡ reason) (Follows r.places here.state r.last refusal.insn) (abstract.step here.state refusal.insn) (effects.effect r.last.memory r.last.registers refusal.insn) reason
-    (steps_agree (λ e. e ≡ reason) true r.places here.state r.last r.member refusal.insn refusal.fits claims) refusal.step_is refl in
+    let stuck : effects.effect f.state.memory f.state.registers refusal.insn ≡ Err reason =
+    refused (λ e. e ≡ reason) (Follows r.places here.state f.state refusal.insn) (abstract.step here.state refusal.insn) (effects.effect f.state.memory f.state.registers refusal.insn) reason
+    (steps_agree (λ e. e ≡ reason) Strict r.places here.state f.state f.member refusal.insn refusal.fits claims) refusal.step_is refl in
     record {
       surroundings = some_surroundings;
+      real = surroundings_are_real;
       datagram = r.datagram;
+      bytes_fit = r.bytes_fit;
       steps = r.steps;
       last = r.last;
-      loosened = r.last;
+      loosened = f.state;
       reaches = r.reaches;
-      loosens = loosens_itself r.places here.state r.last r.member;
-      stuck = step_is some_surroundings code r.last refusal.insn (Err reason) begins stuck ∙ ap (Sticks reason) r.slot;
+      loosens = loosens_then r.last r.loosened f.state r.loosens f.loosens;
+      stuck = step_is some_surroundings code f.state refusal.insn (Err reason) begins stuck ∙ ap (Sticks reason) (f.slot ∙ r.slot);
     }

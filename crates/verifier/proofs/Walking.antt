@@ -1,17 +1,19 @@
 -- What the walk keeps, from the first point to its end.
-use Rattle.std.proofs.Common.{◌≡◌, ℕ, suc, ◌+◌, ◌-◌, ◌<◌, ◌≤◌, true, false, List, [], ◌∷◌, ◌++◌, length, Option, Some, None, Result, Ok, Err, refl, sym, ap, ◌∙◌, subst, arith, All, inr}
+use Rattle.std.proofs.Common.{◌≡◌, ℕ, suc, ◌+◌, ◌-◌, ◌<◌, ◌≤◌, List, [], ◌∷◌, ◌++◌, length, Option, Some, None, Result, Ok, Err, refl, sym, ap, ◌∙◌, subst, arith, All, inr}
 use Rattle.std.specs.Prelude.{IfSome, IfOk, IfErr}
 use Rattle.std.proofs.lemmas.List.{take_at, drop_at}
 use Rattle.std.proofs.lemmas.List.Elements.{All-take, All-drop, All-append, All-push}
 use Rattle.std.proofs.lemmas.List.Sums.{sum_by-append, sum_by_push}
 use Rattle.insn.specs.declared.instruction.Insn.{Insn}
-use Rattle.semantics.specs.Slots.{fetch}
-use Rattle.semantics.specs.SlotLaws.{begins_inside}
+use Rattle.semantics.specs.Slots.{fetch, ahead}
+use Rattle.semantics.specs.SlotLaws.{ahead_start}
 use Rattle.semantics.specs.Machine.{start}
 use Rattle.semantics.specs.Runs.{IsSafe, run}
 use Rattle.semantics.specs.LooseRuns.{IsLooselyStuck, beginnings, beginnings_from}
 use Rattle.semantics.specs.declared.reason.Reason.{Reason}
 use Rattle.semantics.specs.declared.fetching.Fetched.TheVariants.{Begins}
+use Rattle.semantics.specs.declared.fetching.Branch.TheVariants.{NotTaken, Taken}
+use Rattle.verifier.specs.Membership.{Loose}
 use Rattle.verifier.specs.AbstractStates.{first_known}
 use Rattle.verifier.specs.AbstractSteps as abstract
 use Rattle.verifier.specs.Layout.{IsLaidOut, IsStepReason}
@@ -46,9 +48,6 @@ pub record IsWalking (code : List Insn) (made : ℕ) (here : Pending) (pending :
 all_none : (P : Pending → Type 0) (pending : List Pending) → pending ≡ [] → All P pending
 all_none P pending e = subst (All P) (sym e) (λ k d lt. absurd (none_below k lt))
 
-whole : (n : ℕ) → n - 0 ≡ n
-whole n = omega arith
-
 pub begins : (code : List Insn) (pending : List Pending) → IsLaidOut code → pending ≡ [] → IsWalking code 0 first_point pending
 begins code pending laid_out none = record {
   inside = first_begins code laid_out.exit;
@@ -58,7 +57,7 @@ begins code pending laid_out none = record {
   reached_pending = all_none (IsReached code) pending none;
   counted =
       let nothing : counts_from code pending ≡ 0 = ap (counts_from code) none in
-      let all : count_from code first_point ≡ length (beginnings code) = ap (λ (k : ℕ). length (beginnings_from code k 0)) (whole (length code)) in
+      let all : count_from code first_point ≡ length (beginnings code) = ap (λ (k : ℕ). length (beginnings_from code k 0)) (ahead_start code) in
       omega (arith, nothing, all);
 }
 
@@ -74,11 +73,11 @@ fault_reason (Err f) reason h e = subst IsStepReason (let is : f ≡ reason = cc
 
 module _ (code : List Insn) (here : Pending) (laid_out : IsLaidOut code) where
   goes_inside : (i : Insn) → fetch code here.slot ≡ Begins i → (answer : Next) → ways_on answer ≡ ways_of i → (on : Option Pending) (left : List Pending) → GoesOn code here.slot i answer on left → IfSome on (IsInside code) × All (IsInside code) left
-  goes_inside i at (next.On b) ways (Some p) left goes = (way_begins code here.slot p.slot i false laid_out.exit at (one_goes_on (ways_of i) ways) goes.0.leads, all_none (IsInside code) left goes.1)
+  goes_inside i at (next.On b) ways (Some p) left goes = (way_begins code here.slot p.slot i NotTaken laid_out.exit at (one_goes_on (ways_of i) ways) goes.0.leads, all_none (IsInside code) left goes.1)
   goes_inside i at (next.On b) ways None left goes = absurd goes
   goes_inside i at (next.Fork not_taken taken) ways (Some p) left goes = (
-    way_begins code here.slot p.slot i false laid_out.exit at (two_goes_on (ways_of i) ways) goes.0.leads,
-    subst (All (IsInside code)) (sym goes.3) (all_one (IsInside code) goes.1 (way_begins code here.slot goes.1.slot i true laid_out.exit at (two_goes_on (ways_of i) ways) goes.2.leads)),
+    way_begins code here.slot p.slot i NotTaken laid_out.exit at (two_goes_on (ways_of i) ways) goes.0.leads,
+    subst (All (IsInside code)) (sym goes.3) (all_one (IsInside code) goes.1 (way_begins code here.slot goes.1.slot i Taken laid_out.exit at (two_goes_on (ways_of i) ways) goes.2.leads)),
   )
   goes_inside i at (next.Fork not_taken taken) ways None left goes = absurd goes
   goes_inside i at next.Exit ways (Some p) left goes = absurd goes
@@ -147,11 +146,11 @@ module _ (code : List Insn) (made : ℕ) (here : Pending) (old new : List Pendin
 
 -- ---- the ends of the walk
 
--- where the first point is good, the code is safe
+-- where the first pending state is good, the code is safe
 pub safe : (code : List Insn) → IsGood code first_point → IsSafe code
-safe code good w datagram lawful fits =
-    let exits = good w at_first (start datagram) refl (first_member false datagram fits.bytes_fit) in
-    (exits.0, ap (λ (k : ℕ). (run w code k (start datagram)).ending) (sym (whole (length code))) ∙ exits.1)
+safe code good w datagram real fits =
+    let exits = good w at_first (start datagram) real refl (first_member Loose datagram fits.bytes_fit) in
+    (exits.0, ap (λ (k : ℕ). (run w code k (start datagram)).ending) (sym (ahead_start code)) ∙ exits.1)
 
 -- a refused step may be refused
 pub real : (code : List Insn) (budget made : ℕ) (here : Pending) (pending : List Pending) (e : Refusal) → IsLaidOut code → IsWalking code made here pending → IsStepRefusal code here e → MayRefuse code budget e
@@ -159,7 +158,7 @@ real code budget made here pending (refusal.Stuck reason slot) laid_out walking 
     inr (
       laid_out,
       fault_reason (abstract.step here.state refused.1.insn) reason (step_reasons here.state refused.1.insn) refused.1.step_is,
-      λ claim. subst (IsLooselyStuck code reason) (sym refused.0) (refusal_is_real code here reason walking.reached refused.1 claim),
+      subst (IsLooselyStuck code reason) (sym refused.0) (refusal_is_real code here reason walking.reached refused.1),
     )
 real code budget made here pending (refusal.Budget slot) laid_out walking refused = absurd refused
 real code budget made here pending (refusal.Memory slot) laid_out walking refused = laid_out
@@ -167,8 +166,8 @@ real code budget made here pending (refusal.Memory slot) laid_out walking refuse
 some_begins : (code : List Insn) (here : Pending) → IsInside code here → 1 ≤ count_from code here
 some_begins code here inside =
     let i : Insn = inside.0 in
-    let fuel : count_from code here ≡ length (beginnings_from code (suc (length code - here.slot - 1)) here.slot) = ap (λ (k : ℕ). length (beginnings_from code k here.slot)) (fuel_is (length code) here.slot (begins_inside code here.slot i inside.1)) in
-    omega (arith, fuel, counted_at code here.slot (length code - here.slot - 1) i inside.1)
+    let fuel : count_from code here ≡ length (beginnings_from code (suc (ahead code here.slot - 1)) here.slot) = ap (λ (k : ℕ). length (beginnings_from code k here.slot)) (fuel_is code here.slot i inside.1) in
+    omega (arith, fuel, counted_at code here.slot (ahead code here.slot - 1) i inside.1)
 
 -- after the budget's steps there is a beginning of a path more than they
 pub more_paths : (code : List Insn) (made : ℕ) (here : Pending) (pending : List Pending) → IsWalking code made here pending → made < length (beginnings code)

@@ -20,7 +20,11 @@ use Rattle.semantics.specs.Fallible.{◌>>=◌, check}
 use Rattle.semantics.specs.Loading.{is_within, index_within, stack_first, headroom_first}
 use Rattle.semantics.specs.Effects.{is_writable, writable, near_place}
 use Rattle.semantics.specs.Slots.{fetch, target, landing}
+use Rattle.semantics.specs.SlotLaws.{some_slots}
 use Rattle.semantics.specs.LooseRuns.{Bound, data_bound, end_bound, branch_slot}
+use Rattle.semantics.specs.declared.fetching.Branch.{Branch}
+use Rattle.semantics.specs.declared.fetching.Branch.TheVariants.{NotTaken, Taken}
+use Rattle.semantics.specs.declared.limits.TheConstants.{TAILROOM}
 use Rattle.semantics.specs.declared.reason.Reason.{Reason}
 use Rattle.semantics.specs.declared.reason.Reason.TheVariants as reasons
 use Rattle.semantics.specs.declared.fetching.Fetched.{Fetched}
@@ -45,17 +49,17 @@ passes : (x : Result ℕ Reason) → ◌≡◌ {A = Result (Unit {0}) Reason} (x
 passes (Ok n) e = refl
 passes (Err r) e = absurd cc
 
-way_checked : (code : List Insn) (slot : ℕ) (i : Insn) (taken : Bool) → fetched_checked code slot (Begins i) ≡ Ok tt → IsOk (branch_slot code slot i taken)
-way_checked code slot (insn.Jump offset) taken e = passes (target code slot offset) e
-way_checked code slot (insn.JumpIf c dst o offset) true e = passes (target code slot offset) e
-way_checked code slot (insn.JumpIf c dst o offset) false e = refl
-way_checked code slot (insn.Alu op dst o) taken e = refl
-way_checked code slot (insn.Load z dst base d) taken e = refl
-way_checked code slot insn.Exit taken e = refl
+way_checked : (code : List Insn) (slot : ℕ) (i : Insn) (branch : Branch) → fetched_checked code slot (Begins i) ≡ Ok tt → IsOk (branch_slot code slot i branch)
+way_checked code slot (insn.Jump offset) branch e = passes (target code slot offset) e
+way_checked code slot (insn.JumpIf c dst o offset) Taken e = passes (target code slot offset) e
+way_checked code slot (insn.JumpIf c dst o offset) NotTaken e = refl
+way_checked code slot (insn.Alu op dst o) branch e = refl
+way_checked code slot (insn.Load z dst base d) branch e = refl
+way_checked code slot insn.Exit branch e = refl
 
 -- where no jump is faulty, every way leads to a slot
-pub way_is_good : (code : List Insn) (slot : ℕ) (i : Insn) (taken : Bool) → HasGoodJumps code → fetch code slot ≡ Begins i → IsOk (branch_slot code slot i taken)
-way_is_good code slot i taken jumps here = way_checked code slot i taken (ap (fetched_checked code slot) (sym here) ∙ jumps slot)
+pub way_is_good : (code : List Insn) (slot : ℕ) (i : Insn) (branch : Branch) → HasGoodJumps code → fetch code slot ≡ Begins i → IsOk (branch_slot code slot i branch)
+way_is_good code slot i branch jumps here = way_checked code slot i branch (ap (fetched_checked code slot) (sym here) ∙ jumps slot)
 
 ahead : (a : ℤ) (slot n : ℕ) (b : Bool) (p : Fetched) → int_le a (pos slot) ≡ b → cond b (Err reasons.JumpBackward) (landing p (unsigned_abs a)) ≡ Ok n → slot < n
 ahead a slot n true p e f = absurd cc
@@ -69,16 +73,16 @@ goes_ahead : (code : List Insn) (slot n : ℕ) (d : ℤ) → target code slot d 
 goes_ahead code slot n d e = ahead (pos (slot + 1) +ℤ d) slot n (int_le (pos (slot + 1) +ℤ d) (pos slot)) (fetch code (unsigned_abs (pos (slot + 1) +ℤ d))) refl e
 
 goes_by : (slot n : ℕ) (i : Insn) → ◌≡◌ {A = Result ℕ Reason} (Ok (slot + slots_of i)) (Ok n) → slot < n
-goes_by slot n i e = let is : slot + slots_of i ≡ n = cc in omega arith
+goes_by slot n i e = let is : slot + slots_of i ≡ n = cc in omega (arith, some_slots i)
 
 -- every way leads ahead
-pub way_rises : (code : List Insn) (slot n : ℕ) (i : Insn) (taken : Bool) → branch_slot code slot i taken ≡ Ok n → slot < n
-way_rises code slot n (insn.Jump offset) taken e = goes_ahead code slot n offset e
-way_rises code slot n (insn.JumpIf c dst o offset) true e = goes_ahead code slot n offset e
-way_rises code slot n (insn.JumpIf c dst o offset) false e = goes_by slot n (insn.JumpIf c dst o offset) e
-way_rises code slot n (insn.Alu op dst o) taken e = goes_by slot n (insn.Alu op dst o) e
-way_rises code slot n (insn.Load z dst base d) taken e = goes_by slot n (insn.Load z dst base d) e
-way_rises code slot n insn.Exit taken e = goes_by slot n insn.Exit e
+pub way_rises : (code : List Insn) (slot n : ℕ) (i : Insn) (branch : Branch) → branch_slot code slot i branch ≡ Ok n → slot < n
+way_rises code slot n (insn.Jump offset) branch e = goes_ahead code slot n offset e
+way_rises code slot n (insn.JumpIf c dst o offset) Taken e = goes_ahead code slot n offset e
+way_rises code slot n (insn.JumpIf c dst o offset) NotTaken e = goes_by slot n (insn.JumpIf c dst o offset) e
+way_rises code slot n (insn.Alu op dst o) branch e = goes_by slot n (insn.Alu op dst o) e
+way_rises code slot n (insn.Load z dst base d) branch e = goes_by slot n (insn.Load z dst base d) e
+way_rises code slot n insn.Exit branch e = goes_by slot n insn.Exit e
 
 next_is : (code : List Insn) (slot n : ℕ) (i : Insn) → EndsInExit code → fetch code slot ≡ Begins i → (ways_of i ≡ Ends → ⊥) → ◌≡◌ {A = Result ℕ Reason} (Ok (slot + slots_of i)) (Ok n) → (j : Insn) × (fetch code n ≡ Begins j)
 next_is code slot n i exit here on e =
@@ -86,13 +90,13 @@ next_is code slot n i exit here on e =
     subst (λ (k : ℕ). (j : Insn) × (fetch code k ≡ Begins j)) is (next_begins code slot i exit here on)
 
 -- and to an instruction, where the program ends in its exit
-pub way_begins : (code : List Insn) (slot n : ℕ) (i : Insn) (taken : Bool) → EndsInExit code → fetch code slot ≡ Begins i → (ways_of i ≡ Ends → ⊥) → branch_slot code slot i taken ≡ Ok n → (j : Insn) × (fetch code n ≡ Begins j)
-way_begins code slot n (insn.Jump offset) taken exit here on e = target_begins code slot n offset e
-way_begins code slot n (insn.JumpIf c dst o offset) true exit here on e = target_begins code slot n offset e
-way_begins code slot n (insn.JumpIf c dst o offset) false exit here on e = next_is code slot n (insn.JumpIf c dst o offset) exit here on e
-way_begins code slot n (insn.Alu op dst o) taken exit here on e = next_is code slot n (insn.Alu op dst o) exit here on e
-way_begins code slot n (insn.Load z dst base d) taken exit here on e = next_is code slot n (insn.Load z dst base d) exit here on e
-way_begins code slot n insn.Exit taken exit here on e = next_is code slot n insn.Exit exit here on e
+pub way_begins : (code : List Insn) (slot n : ℕ) (i : Insn) (branch : Branch) → EndsInExit code → fetch code slot ≡ Begins i → (ways_of i ≡ Ends → ⊥) → branch_slot code slot i branch ≡ Ok n → (j : Insn) × (fetch code n ≡ Begins j)
+way_begins code slot n (insn.Jump offset) branch exit here on e = target_begins code slot n offset e
+way_begins code slot n (insn.JumpIf c dst o offset) Taken exit here on e = target_begins code slot n offset e
+way_begins code slot n (insn.JumpIf c dst o offset) NotTaken exit here on e = next_is code slot n (insn.JumpIf c dst o offset) exit here on e
+way_begins code slot n (insn.Alu op dst o) branch exit here on e = next_is code slot n (insn.Alu op dst o) exit here on e
+way_begins code slot n (insn.Load z dst base d) branch exit here on e = next_is code slot n (insn.Load z dst base d) exit here on e
+way_begins code slot n insn.Exit branch exit here on e = next_is code slot n insn.Exit exit here on e
 
 -- ---- what an answer of a step says
 
@@ -148,7 +152,7 @@ sum_reasons (known.Data anchor k) (known.Scalar (Exactly n)) = moved_reasons (kn
 sum_reasons (known.Stack k) (known.Scalar (Exactly n)) = moved_reasons known.Stack (near_place (k +ℤ cast_signed w64 n))
 sum_reasons x y = tt
 
-order_reasons : (c : Condition) (bound : Bool → Bound) → IfErr (abstract.order_told c bound) IsStepReason
+order_reasons : (c : Condition) (bound : Branch → Option Bound) → IfErr (abstract.order_implies c bound) IsStepReason
 order_reasons c bound = faults IsStepReason (check (abstract.is_order c) reasons.PointerCompare) _ (checked (abstract.is_order c) reasons.PointerCompare tt) (λ u. tt)
 
 compared_reasons : (c : Condition) (x y : Known) → IfErr (abstract.compared c x y) IsStepReason
@@ -174,7 +178,7 @@ load_reasons a known.Ctx d z = field_reasons d z
 load_reasons a (known.Stack k) d z = faults IsStepReason (ok_or (index_within (k +ℤ d) (byte_count z) stack_first stack_first (pos 0)) reasons.StackBounds) _ (found (index_within (k +ℤ d) (byte_count z) stack_first stack_first (pos 0)) reasons.StackBounds tt)
     (λ i. faults IsStepReason (check (are_marked a.marks i (byte_count z)) reasons.UninitStack) _ (checked (are_marked a.marks i (byte_count z)) reasons.UninitStack tt) (λ u. tt))
 load_reasons a (known.Data First k) d z = faults IsStepReason (check (is_within (k +ℤ d) (byte_count z) headroom_first a.proved) reasons.DatagramBounds) _ (checked (is_within (k +ℤ d) (byte_count z) headroom_first a.proved) reasons.DatagramBounds tt) (λ u. tt)
-load_reasons a known.End d z = faults IsStepReason (check (is_within d (byte_count z) (pos 0) (pos 3)) reasons.DatagramBounds) _ (checked (is_within d (byte_count z) (pos 0) (pos 3)) reasons.DatagramBounds tt) (λ u. tt)
+load_reasons a known.End d z = faults IsStepReason (check (is_within d (byte_count z) (pos 0) (pos TAILROOM)) reasons.DatagramBounds) _ (checked (is_within d (byte_count z) (pos 0) (pos TAILROOM)) reasons.DatagramBounds tt) (λ u. tt)
 
 exit_reasons : (k : Known) → IfErr (abstract.exit_with k) IsStepReason
 exit_reasons (known.Scalar n) = tt

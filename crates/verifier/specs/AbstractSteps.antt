@@ -1,6 +1,6 @@
 -- The abstract step: the abstract states behind an instruction, or the reason for which a step from here could be
 -- stuck. The tests come in the order of the tagged machine.
-use Rattle.std.specs.Prelude.{ℕ, Bool, true, false, ℤ, pos, negsuc, ◌+ℤ◌, Option, Some, None, Result, Ok, Err, ◌==◌, if◌then◌else◌}
+use Rattle.std.specs.Prelude.{ℕ, Bool, true, false, ℤ, pos, negsuc, ◌+ℤ◌, Option, None, Result, Ok, Err, ◌==◌, if◌then◌else◌}
 use Rattle.std.specs.Option.{ok_or, option_map}
 use Rattle.std.specs.Int.{w64, cast_signed, cast_unsigned}
 use Rattle.insn.specs.Codes.{byte_count}

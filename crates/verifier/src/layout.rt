@@ -40,6 +40,7 @@ fn check_jump(code: &[Insn], at: Position, insn: Insn) -> Result<(), Reason>
 ///
 /// # Errors
 /// The first faulty jump, in the order of slots.
+#[tactic(auto, using(crate::proofs::Points::none_passed, crate::proofs::Points::passed_next, crate::proofs::Points::first_faulty, crate::proofs::Points::all_passed))]
 fn check_jumps(code: &[Insn]) -> Result<(), Refusal>
     requires { slot_count code.now ≤ MAX_SLOTS }
     ensures ok { OnOk result (HasGoodJumps code.now) }
@@ -47,8 +48,10 @@ fn check_jumps(code: &[Insn]) -> Result<(), Refusal>
 {
     let mut at = Position { slot: 0, index: 0 };
     while at.index < code.len() {
-        let slot = at.slot;
-        check_jump(code, at, code[at.index]).map_err(|reason| Refusal::Stuck { reason, slot })?;
+        if let Err(reason) = check_jump(code, at, code[at.index]) {
+            let slot = at.slot;
+            return Err(Refusal::Stuck { reason, slot });
+        }
         at = at.next(code);
     }
     Ok(())

@@ -1,13 +1,13 @@
-//! The walk: every path is followed from the first slot, the way not taken first.
+//! The walk: every path is followed from the first slot, the branch that is not taken first.
 
-ghost use Rattle.std.specs.Prelude.{◌≡◌, ◌≤◌, ◌<◌, ◌+◌, ℕ, length, IfOk, IfErr, OnOk, IsOk};
+ghost use Rattle.std.specs.Prelude.{◌≡◌, ◌≤◌, ◌<◌, Ok, IfOk, IfErr, OnOk, IsOk};
 ghost use Rattle.insn.specs.Encoding.{slot_count};
+ghost use Rattle.insn.specs.declared.decoding.TheConstants.{MAX_SLOTS};
 ghost use Rattle.semantics.specs.Runs.{IsSafe};
-ghost use Rattle.semantics.specs.LooseRuns.{way_slot};
-ghost use Rattle.semantics.specs.declared.reason.Reason.{Reason};
-ghost use Rattle.verifier.specs.Layout.{IsLaidOut, IsLayoutFault};
-ghost use Rattle.verifier.specs.Refusing.{MayRefuse};
-ghost use Rattle.verifier.specs.Walk.{IsStepRefusal, IsInside, IfBudget, Advances, Picks};
+ghost use Rattle.semantics.specs.LooseRuns.{branch_slot};
+ghost use Rattle.verifier.specs.Layout.{IsLaidOut};
+ghost use Rattle.verifier.specs.Refusing.{MayRefuse, IsVerdict, CountsSteps};
+ghost use Rattle.verifier.specs.Walk.{IsStepRefusal, IsInside, Advances, Picks};
 
 use crate::abstract_state::AbstractState;
 use crate::abstract_step::{Next, step};
@@ -15,22 +15,22 @@ use crate::layout::check_layout;
 use crate::refusal::Refusal;
 use crate::steps::Steps;
 use insn::Insn;
-use semantics::{Place, place_at, target};
+use semantics::{Branch, Fetched, Program};
 use std::alloc::Global;
 use std::marker::Model;
 use std::sync::ledger::Ledger;
 
-/// A point of a path that is still to be followed.
+/// An abstract state at a slot, from which paths are still to be followed.
 #[derive(Clone, Copy, Debug, PartialEq, Eq)]
 pub struct Pending {
     pub slot: usize,
     pub state: AbstractState,
 }
 
-/// A program that `verify` accepted: every run of it exits. Nothing else can make one.
+/// A program that `verify` accepted: every run of it exits. Only `verify` makes one.
 #[derive(Drop)]
 pub struct Verified {
-    code: Vec<Insn>,
+    program: Program,
 }
 
 impl Model for Verified {
@@ -40,79 +40,81 @@ impl Model for Verified {
 
     ghost Value = { List Insn };
 
-    ghost view = { λ v. v.code.items };
+    ghost view = { λ v. v.program };
 
-    ghost invariant = { λ v. IsVerified v.code.items };
+    ghost invariant = { λ v. IsVerified v.program };
 }
 
 impl Verified {
     ghost use Rattle.std.specs.Prelude.{◌≡◌, ◌≤◌};
     ghost use Rattle.insn.specs.Encoding.{slot_count};
+    ghost use Rattle.insn.specs.declared.decoding.TheConstants.{MAX_SLOTS};
     ghost use Rattle.semantics.specs.Runs.{IsSafe};
 
-    /// The program's instructions: from every start, a run of them exits within as many steps as they are.
+    /// Returns the program's instructions. From every start, a run of them exits within as many steps as there are
+    /// instructions.
     pub fn code(&self) -> &[Insn]
         ensures code { result.now ≡ self.now }
         ensures safe { IsSafe self.now }
-        ensures few { slot_count self.now ≤ 4096 }
+        ensures few { slot_count self.now ≤ MAX_SLOTS }
     {
-        self.code.as_slice()
+        self.program.code()
     }
 }
 
-/// The slot that a way of an instruction leads to, in a program whose jumps are good.
-fn slot_after(code: &[Insn], slot: usize, insn: Insn, taken: bool) -> usize
-    requires few { length code.now ≤ 4096 }
-    requires inside { slot < length code.now }
-    requires good { IsOk (way_slot code.now slot insn taken) }
-    ensures { way_slot code.now slot insn taken ≡ Ok result }
+/// Returns the slot that a branch of an instruction leads to, in a program without a faulty jump.
+fn slot_after(program: &Program, slot: usize, insn: Insn, branch: Branch) -> usize
+    requires few { slot_count program.now ≤ MAX_SLOTS }
+    requires inside { slot < slot_count program.now }
+    requires good { IsOk (branch_slot program.now slot insn branch) }
+    ensures { branch_slot program.now slot insn branch ≡ Ok result }
 {
-    match insn {
-        Insn::Jump { offset } => target(code, slot, offset).unwrap(),
-        Insn::JumpIf { offset, .. } if taken => target(code, slot, offset).unwrap(),
+    match (insn, branch) {
+        (Insn::Jump { offset }, _) => program.target(slot, offset).unwrap(),
+        (Insn::JumpIf { offset, .. }, Branch::Taken) => program.target(slot, offset).unwrap(),
         _ => slot + insn.slots(),
     }
 }
 
-/// One step of a path: what to follow next, or `None` at its exit. The way taken of a conditional jump
-/// is left pending.
+/// Makes one step of a path, and returns the state to follow next, `None` at an exit. The taken branch of a
+/// conditional jump is left pending.
 fn advance(
-    code: &[Insn],
+    program: &Program,
     here: Pending,
     pending: &mut Vec<Pending>,
 ) -> Result<Option<Pending>, Refusal>
-    requires few { length code.now ≤ 4096 }
-    requires laid_out { IsLaidOut code.now }
-    requires inside { IsInside code.now here }
-    ensures advanced { IfOk result (λ next. Advances code.now here pending.old.items next pending.new.items) }
-    ensures refused { IfErr result (IsStepRefusal code.now here) }
+    requires few { slot_count program.now ≤ MAX_SLOTS }
+    requires laid_out { IsLaidOut program.now }
+    requires inside { IsInside program.now here }
+    ensures advanced { IfOk result (λ next. Advances program.now here pending.old.items next pending.new.items) }
+    ensures refused { IfErr result (IsStepRefusal program.now here) }
 {
     let slot = here.slot;
-    let Place::Begins(insn) = place_at(code, slot) else {
+    let Fetched::Begins(insn) = program.fetch(slot) else {
         unreachable!()
     };
     let next = step(&here.state, &insn).map_err(|reason| Refusal::Stuck { reason, slot })?;
     match next {
         Next::Exit => Ok(None),
         Next::On(state) => {
-            let slot = slot_after(code, slot, insn, false);
+            let slot = slot_after(program, slot, insn, Branch::NotTaken);
             Ok(Some(Pending { slot, state }))
         }
         Next::Fork { not_taken, taken } => {
-            let goal = slot_after(code, slot, insn, true);
+            let goal = slot_after(program, slot, insn, Branch::Taken);
             let left = Pending {
                 slot: goal,
                 state: taken,
             };
             pending.push(left).map_err(|_| Refusal::Memory { slot })?;
-            let slot = slot_after(code, slot, insn, false);
+            let slot = slot_after(program, slot, insn, Branch::NotTaken);
             let state = not_taken;
             Ok(Some(Pending { slot, state }))
         }
     }
 }
 
-/// What is followed next: the path at hand, or behind its exit the last way left pending.
+/// Returns the state to follow next: that of the path at hand, or behind its exit the last one left pending.
 fn following(next: Option<Pending>, pending: &mut Vec<Pending>) -> Option<Pending>
     ensures { Picks next pending.old.items result pending.new.items }
 {
@@ -123,18 +125,20 @@ fn following(next: Option<Pending>, pending: &mut Vec<Pending>) -> Option<Pendin
 }
 
 /// Follows every path from the first slot on, in at most `budget` steps.
+///
+/// # Errors
+/// The first refusal that is met.
 fn walk<L: Ledger>(
     alloc: Global,
-    code: &[Insn],
+    program: &Program,
     budget: usize,
     steps: &mut Steps<L>,
 ) -> Result<(), Refusal>
-    requires few { length code.now ≤ 4096 }
-    requires laid_out { IsLaidOut code.now }
-    ensures safe { OnOk result (IsSafe code.now) }
-    ensures refused { IfErr result (MayRefuse code.now budget) }
-    ensures bound { steps.new ≤ steps.old + budget }
-    ensures budget { IfErr result (λ e. IfBudget e (steps.new ≡ steps.old + budget)) }
+    requires few { slot_count program.now ≤ MAX_SLOTS }
+    requires laid_out { IsLaidOut program.now }
+    ensures safe { OnOk result (IsSafe program.now) }
+    ensures refused { IfErr result (MayRefuse program.now budget) }
+    ensures counts { CountsSteps budget steps.old steps.new result }
 {
     let mut pending = Vec::new(alloc);
     let mut here = Pending {
@@ -143,7 +147,7 @@ fn walk<L: Ledger>(
     };
     for _ in 0..budget {
         steps.tick();
-        let next = advance(code, here, &mut pending)?;
+        let next = advance(program, here, &mut pending)?;
         match following(next, &mut pending) {
             Some(next) => here = next,
             None => return Ok(()),
@@ -152,39 +156,26 @@ fn walk<L: Ledger>(
     Err(Refusal::Budget { slot: here.slot })
 }
 
-/// Accepts a program of which no step can be stuck, on any path, or refuses it. `steps` counts one for
-/// each abstract step.
+/// Verifies a program: accepts it if no step of it, on any path, can be stuck. `steps` counts one for each abstract
+/// step, of which at most `budget` are made.
 ///
 /// # Errors
-/// A fault of the layout: the first faulty jump (V1 to V3), or a last instruction that isn't an exit
-/// (V4). Then the first refusal that the walk meets (V5 to V16, V18), V17 at the step that would pass
-/// the budget, or V19 where memory ran out.
-#[tactic(auto, using(semantics::specs::SlotLaws::few_instructions))]
+/// A fault of the layout: the first faulty jump (V1 to V3), or a last instruction that is no exit (V4). Else the
+/// first refusal on the paths (V5 to V16, V18), each a step at which a loose run is stuck; V17 at the instruction
+/// whose step would pass the budget; V19 where memory runs out.
 pub fn verify<L: Ledger>(
     alloc: Global,
     code: &[Insn],
     budget: usize,
     steps: &mut Steps<L>,
 ) -> Result<Verified, Refusal>
-    requires { slot_count code.now ≤ 4096 }
-
-    // Accepted code is safe: from every start, every run exits.
+    requires { slot_count code.now ≤ MAX_SLOTS }
     ensures code { IfOk result (λ v. v ≡ code.now) }
-    ensures safe { OnOk result (IsSafe code.now) }
-
-    // V1 to V4 come exactly where the layout has that fault. Of the others, each that is claimed is a loose run
-    // stuck at that slot for that reason, and V17 comes only where the code has more beginnings of paths than
-    // the budget.
-    ensures laid_out { OnOk result (IsLaidOut code.now) }
-    ensures layout { (reason : Reason) (slot : ℕ) → IsLayoutFault code.now reason slot → result ≡ Err (Refusal.Stuck reason slot) }
-    ensures refused { IfErr result (MayRefuse code.now budget) }
-
-    // At most `budget` steps are made, and V17 comes only after all of them.
-    ensures bound { steps.new ≤ steps.old + budget }
-    ensures budget { IfErr result (λ e. IfBudget e (steps.new ≡ steps.old + budget)) }
+    ensures verdict { IsVerdict code.now budget result }
+    ensures counts { CountsSteps budget steps.old steps.new result }
 {
     check_layout(code)?;
-    let kept = Vec::from_slice(alloc, code).map_err(|_| Refusal::Memory { slot: 0 })?;
-    walk(alloc, code, budget, steps)?;
-    Ok(Verified { code: kept })
+    let program = Program::new(alloc, code).map_err(|_| Refusal::Memory { slot: 0 })?;
+    walk(alloc, &program, budget, steps)?;
+    Ok(Verified { program })
 }
