@@ -172,8 +172,8 @@ fn has_width<const N: usize>(ip: &[u8; N], port: u16)
     are_bytes(ip);
 }
 
-/// An address has the width of its family.
-fn is_address(address: &Addr)
+/// Every address has the bytes of its family, and a port of 16 bits.
+pub fn is_address(address: &Addr)
     ensures { IsAddress address.now }
 {
     match address {

@@ -1,4 +1,4 @@
-//! What an error response tells of its error (RFC 8489, sections 14.8 and 14.9).
+//! The attributes of an error response (RFC 8489, sections 14.8 and 14.13).
 
 ghost use Rattle.std.specs.Prelude.{◌≡◌, OnOk, OnErr};
 ghost use Rattle.stun.specs.Messages.{with_attribute};
@@ -16,21 +16,22 @@ const FRONT: usize = 4;
 
 /// The value of ERROR-CODE.
 #[derive(Drop)]
-struct ErrorValue<'a>(&'a ErrorCode);
+struct ErrorValue(ErrorCode);
 
-impl<'a> Value for ErrorValue<'a> {
+impl Value for ErrorValue {
     ghost use Rattle.attributes.specs.Errors.{error_value};
 
-    ghost bytes = { λ v. error_value v.0.now };
+    ghost bytes = { λ v. error_value v.0 };
 
     fn len(&self) -> usize {
-        FRONT + self.0.phrase.len()
+        FRONT + self.0.phrase().len()
     }
 
     fn write(&self, room: &mut [u8]) {
         let (front, phrase) = room.split_at_mut(FRONT);
-        front.copy_from_slice(&[0, 0, self.0.class, self.0.number]);
-        phrase.copy_from_slice(self.0.phrase.as_bytes());
+        let code = self.0.code();
+        front.copy_from_slice(&[0, 0, (code / 100) as u8, (code % 100) as u8]);
+        phrase.copy_from_slice(self.0.phrase().as_bytes());
     }
 }
 
@@ -58,9 +59,9 @@ impl<'a> Value for UnknownValue<'a> {
 ///
 /// # Errors
 /// Where it has no room: nothing is changed then.
-pub fn write_error(builder: &mut Builder<'_>, error: &ErrorCode) -> Result<(), NoRoom>
-    ensures written { OnOk result (IsWritten (with_attribute (built builder.old.buffer.now) ERROR_CODE (error_value error.now)) builder.old.buffer.now builder.new.buffer.now) }
-    ensures no_room { OnErr result (HasNoRoom (with_attribute (built builder.old.buffer.now) ERROR_CODE (error_value error.now)) builder.old.buffer.now builder.new.buffer.now) }
+pub fn write_error(builder: &mut Builder<'_>, error: ErrorCode) -> Result<(), NoRoom>
+    ensures written { OnOk result (IsWritten (with_attribute (built builder.old.buffer.now) ERROR_CODE (error_value error)) builder.old.buffer.now builder.new.buffer.now) }
+    ensures no_room { OnErr result (HasNoRoom (with_attribute (built builder.old.buffer.now) ERROR_CODE (error_value error)) builder.old.buffer.now builder.new.buffer.now) }
     ensures same_reference { builder.new.buffer.ghost_name ≡ builder.old.buffer.ghost_name }
 {
     builder.attr_of(ERROR_CODE, &ErrorValue(error))

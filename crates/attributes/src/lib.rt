@@ -6,10 +6,7 @@ mod error;
 mod number;
 mod refusal;
 
-pub use address::{Addr, read_back, read_xor_addr, write_xor_addr};
+pub use address::{Addr, is_address, read_back, read_xor_addr, write_xor_addr};
 pub use error::{write_error, write_unknown};
 pub use number::{channel_number, lifetime, requested_family, requested_transport};
 pub use refusal::{BadValue, ValueKind};
-
-#[cfg(test)]
-mod tests;

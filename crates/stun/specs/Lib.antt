@@ -1,5 +1,7 @@
 pub mod Registry
 pub mod Messages
+pub mod Types
+pub mod ErrorCodes
 pub mod Refusals
 pub mod Channels
 pub use Rattle.byteorder.specs.Endian

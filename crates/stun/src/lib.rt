@@ -8,8 +8,6 @@ mod channel;
 mod reading;
 mod refusal;
 pub mod registry;
-#[cfg(test)]
-mod tests;
 mod value;
 
 pub use attributes::{Attr, Attrs};
