@@ -2,6 +2,8 @@
 
 ghost use Rattle.std.specs.Prelude.{◌≡◌, ℕ, ◌≤◌, ◌++◌, List, length, take, option_map, IfSome, MatchOption, Decides};
 ghost use Rattle.stun.specs.Messages.{Padded, IsPadded, padding_count, attribute_bytes, attributes_bytes, before_first};
+ghost use Rattle.std.specs.Iterator.{YieldsFirstBy};
+ghost use Rattle.stun.specs.Attributes.{attributes_left, values_of};
 ghost use Rattle.stun.specs.Reading.{AreAttributes, BeginsWith, attributes_in};
 
 use crate::registry::attribute::MESSAGE_INTEGRITY;
@@ -129,5 +131,63 @@ impl<'a> Iterator for Attrs<'a> {
             rest
         };
         Some(attr)
+    }
+}
+
+/// An iterator over the values of the attributes of one type, up to and including the first
+/// MESSAGE-INTEGRITY. Its meaning is the values that are left.
+#[derive(Drop)]
+pub struct Values<'a> {
+    attrs: Attrs<'a>,
+    kind: u16,
+}
+
+impl<'a> Model for Values<'a> {
+    ghost use Rattle.std.specs.Prelude.{List, ℕ};
+    ghost use Rattle.std.specs.Coded.{coded_list, coded_ℕ};
+    ghost use Rattle.stun.specs.Attributes.{attributes_left, values_of};
+
+    ghost Value = { List (List ℕ) };
+
+    ghost coded = { coded_list (coded_list coded_ℕ) };
+
+    ghost view = { λ v. values_of v.kind (attributes_left v.attrs) };
+}
+
+impl<'a> Values<'a> {
+    ghost use Rattle.std.specs.Prelude.{◌≡◌};
+    ghost use Rattle.stun.specs.Attributes.{attributes_left, values_of};
+
+    /// Returns the iterator over the values of a type among some attributes.
+    pub(crate) fn new(attrs: Attrs<'a>, kind: u16) -> Values<'a>
+        ensures { result ≡ values_of kind (attributes_left attrs.entry) }
+    {
+        Values { attrs, kind }
+    }
+}
+
+/// Advances to behind the next attribute of a type, and returns its value.
+fn next_value<'a>(attrs: &mut Attrs<'a>, kind: u16) -> Option<&'a [u8]>
+    ensures { YieldsFirstBy (λ v. v.now) (λ left. values_of kind (attributes_left left)) attrs.old result attrs.new }
+{
+    while let Some(attr) = attrs.next() {
+        if attr.kind == kind {
+            return Some(attr.value);
+        }
+    }
+    None
+}
+
+impl<'a> Iterator for Values<'a> {
+    ghost use Rattle.std.specs.Iterator.{YieldsFirstBy, item_count};
+
+    type Item = &'a [u8];
+
+    ghost next_gives = { YieldsFirstBy (λ v. v.now) (λ left. left) };
+
+    ghost remaining = { item_count (λ left. left) };
+
+    fn next(&mut self) -> Option<&'a [u8]> {
+        next_value(&mut self.attrs, self.kind)
     }
 }

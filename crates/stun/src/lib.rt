@@ -10,7 +10,7 @@ mod refusal;
 pub mod registry;
 mod value;
 
-pub use attributes::{Attr, Attrs};
+pub use attributes::{Attr, Attrs, Values};
 pub use building::{Builder, begin, read_back};
 pub use channel::{ChannelData, read_channel};
 pub use reading::{

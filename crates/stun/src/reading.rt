@@ -1,12 +1,12 @@
 //! From a datagram to a message (RFC 8489, sections 5, 6.3 and 14).
 
 ghost use Rattle.std.specs.Prelude.{◌≡◌, ℕ, List, IfOk, IfErr, OnOk, IsOkAnd, option_copied};
-ghost use Rattle.stun.specs.Messages.{Message as SpecMessage, Parts, AreParts, parts_bytes, before_integrity, IsMessage};
+ghost use Rattle.stun.specs.Messages.{Message as SpecMessage, Parts, AreParts, parts_bytes, message_of, before_integrity, IsMessage};
 ghost use Rattle.stun.specs.Reading.{HasHeader};
 ghost use Rattle.stun.specs.Refusals.{IsRefused};
 ghost use Rattle.stun.specs.declared.refusal.StunError.{StunError};
 
-use crate::attributes::{Attrs, are_attributes, before_integrity_at};
+use crate::attributes::{Attrs, Values, are_attributes, before_integrity_at};
 use crate::refusal::StunError;
 use crate::registry::MAGIC_COOKIE;
 use byteorder::{BigEndian, ByteOrder};
@@ -38,7 +38,8 @@ impl<'a> Model for Message<'a> {
 }
 
 impl<'a> Message<'a> {
-    ghost use Rattle.stun.specs.Messages.{AreParts, parts_bytes, before_integrity};
+    ghost use Rattle.stun.specs.Messages.{AreParts, message_of, before_integrity};
+    ghost use Rattle.stun.specs.Attributes.{values_of, value_of};
 
     /// The type: 14 bits of method and class (RFC 8489, section 5).
     pub fn kind(&self) -> u16
@@ -65,6 +66,20 @@ impl<'a> Message<'a> {
     {
         let (_, attributes) = self.bytes.split_at(HEADER_BYTES);
         Attrs::new(attributes)
+    }
+
+    /// Returns the values of all attributes of a type, in their order.
+    pub fn values_of(&self, kind: u16) -> Values<'a>
+        ensures { result ≡ values_of kind (message_of self.now).attributes }
+    {
+        Values::new(self.attrs(), kind)
+    }
+
+    /// Returns the value of the first attribute of a type.
+    pub fn value_of(&self, kind: u16) -> Option<&'a [u8]>
+        ensures { option_copied result ≡ value_of kind (message_of self.now).attributes }
+    {
+        self.values_of(kind).next()
     }
 
     /// The bytes of the datagram before the first MESSAGE-INTEGRITY, if it has one.
@@ -108,6 +123,8 @@ fn test_header(bytes: &[u8]) -> Result<(), StunError>
 /// The first of the refusals, in their order, where it is no message's. An attribute that overruns is one
 /// after the first MESSAGE-INTEGRITY too.
 pub fn read(bytes: &[u8]) -> Result<Message<'_>, StunError>
+    ensures message { IfOk result (λ m. IsMessage (message_of m) bytes.now) }
+    ensures every { (m : SpecMessage) → IsMessage m bytes.now → IsOkAnd result (λ r. message_of r ≡ m) }
     ensures found { IfOk result (λ m. AreParts m × (bytes.now ≡ parts_bytes m)) }
     ensures only { (p : Parts) → AreParts p → bytes.now ≡ parts_bytes p → IsOkAnd result (λ m. m ≡ p) }
     ensures refused { IfErr result (IsRefused bytes.now) }

@@ -2,6 +2,9 @@
 //! section 18). They can be held against the registry "Session Traversal Utilities for NAT (STUN)
 //! Parameters".
 
+ghost use Rattle.std.specs.Prelude.{◌≡◌};
+ghost use Rattle.stun.specs.Attributes.{is_understood};
+
 /// The magic cookie of every message (RFC 8489, section 5).
 pub const MAGIC_COOKIE: u32 = 0x2112_A442;
 
@@ -156,6 +159,32 @@ pub mod attribute {
     pub const REQUESTED_TRANSPORT: u16 = 0x0019;
 
     pub const XOR_MAPPED_ADDRESS: u16 = 0x0020;
+}
+
+/// The table of the attribute types that are understood.
+const UNDERSTOOD: [u16; 14] = [
+    attribute::USERNAME,
+    attribute::MESSAGE_INTEGRITY,
+    attribute::ERROR_CODE,
+    attribute::UNKNOWN_ATTRIBUTES,
+    attribute::CHANNEL_NUMBER,
+    attribute::LIFETIME,
+    attribute::XOR_PEER_ADDRESS,
+    attribute::DATA,
+    attribute::REALM,
+    attribute::NONCE,
+    attribute::XOR_RELAYED_ADDRESS,
+    attribute::REQUESTED_ADDRESS_FAMILY,
+    attribute::REQUESTED_TRANSPORT,
+    attribute::XOR_MAPPED_ADDRESS,
+];
+
+/// Returns whether an attribute of a type is understood or may be ignored: the type is in the table, or
+/// comprehension-optional, 0x8000 to 0xFFFF (RFC 8489, section 14).
+pub fn is_understood(kind: u16) -> bool
+    ensures { result ≡ is_understood kind }
+{
+    kind >= 0x8000 || UNDERSTOOD.contains(&kind)
 }
 
 /// The families of addresses (RFC 8489, section 14.1).
