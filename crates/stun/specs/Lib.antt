@@ -9,4 +9,5 @@ pub mod Reading
 pub mod Attributes
 pub mod ChannelData
 pub mod Building
+pub mod Builders
 pub use Rattle.byteorder.specs.Numbers

@@ -100,7 +100,6 @@ with_attribute p kind value = record p { attributes = p.attributes ++ zero_padde
 abbrev pub started : ℕ → List ℕ → Parts
 started kind transaction_id = record { kind = kind; transaction_id = transaction_id; attributes = [] }
 
--- the parts fit a buffer of a size, and their length 16 bits
-pub record FitIn (p : Parts) (size : ℕ) : Type 0 where
-  pub buffer : length (parts_bytes p) < size + 1
-  pub field : length (attributes_bytes p.attributes) < 0x10000
+-- how many bytes an attribute with a value takes
+abbrev pub attribute_length : List ℕ → ℕ
+attribute_length value = 4 + length value + padding_count (length value)

@@ -3,19 +3,23 @@
 #![tactic(auto)]
 
 mod attributes;
+mod buffer;
 mod building;
 mod channel;
 mod reading;
+mod reading_back;
 mod refusal;
 pub mod registry;
 mod value;
 
 pub use attributes::{Attr, Attrs, Values};
-pub use building::{Builder, begin, read_back};
+pub use buffer::begin;
+pub use building::Builder;
 pub use channel::{ChannelData, read_channel};
 pub use reading::{
     Message, messages_are_unique, parts_are_unique, read, refusals_are_unique,
     refused_is_no_message,
 };
+pub use reading_back::read_back;
 pub use refusal::{NoRoom, StunError};
-pub use value::Value;
+pub use value::AttributeValue;

@@ -2,8 +2,10 @@
 //! section 18). They can be held against the registry "Session Traversal Utilities for NAT (STUN)
 //! Parameters".
 
-ghost use Rattle.std.specs.Prelude.{◌≡◌};
+ghost use Rattle.std.specs.Prelude.{◌≡◌, ◌≤◌, length};
 ghost use Rattle.stun.specs.Attributes.{is_understood};
+ghost use Rattle.stun.specs.ErrorCodes.{phrase_of};
+ghost use Rattle.stun.specs.declared.registry.ErrorCode as errors;
 
 /// The magic cookie of every message (RFC 8489, section 5).
 pub const MAGIC_COOKIE: u32 = 0x2112_A442;
@@ -249,3 +251,8 @@ impl ErrorCode {
         }
     }
 }
+
+/// A phrase has at most 30 bytes.
+pub fn phrases_are_short()
+    ensures { (e : errors.ErrorCode) → length (phrase_of e) ≤ 30 }
+{}

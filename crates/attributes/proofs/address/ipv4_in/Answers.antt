@@ -3,7 +3,7 @@ use Rattle.std.proofs.lemmas.Nat.{xor_lt}
 use Rattle.stun.specs.Endian.{big_number}
 use Rattle.stun.specs.Registry.{magic_cookie}
 use Rattle.attributes.proofs.Masks.{masked_back, below}
-use Rattle.attributes.proofs.address.short_ip_in.Goals as goal
+use Rattle.attributes.proofs.address.ipv4_in.Goals as goal
 
 pub returns : goal.returns
 returns c =
