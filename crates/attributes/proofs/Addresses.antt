@@ -7,7 +7,7 @@ use Rattle.std.proofs.lemmas.List.Elements.{All-from_get_or}
 use Rattle.stun.specs.Endian.{big_number, big_bytes}
 use Rattle.stun.specs.Numbers.{big_from-lt}
 use Rattle.stun.specs.Registry.{magic_cookie}
-use Rattle.attributes.specs.Addresses.{HasWidth, IsAddress, IsAddressValue, cookie_half, ipv6_mask, masked}
+use Rattle.attributes.specs.Addresses.{HasWidth, IsAddressValue, cookie_half, ipv6_mask, masked}
 use Rattle.attributes.specs.declared.address.Addr.{Addr}
 use Rattle.attributes.specs.declared.address.Addr.TheVariants.{V4, V6}
 use Rattle.attributes.proofs.Bytes.{bytes_back}

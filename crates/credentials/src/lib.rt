@@ -5,12 +5,10 @@
 mod checking;
 mod hmac;
 mod key;
+mod scanning;
 mod signing;
 
-pub use checking::{AuthError, User, answers_are_unique, check};
+pub use checking::{AuthError, Authenticated, User, answers_are_unique, authenticate, check};
 pub use hmac::hmac_sha1;
 pub use key::Key;
-pub use signing::{sign, what_is_signed_is_accepted, what_is_signed_is_right};
-
-#[cfg(test)]
-mod tests;
+pub use signing::{push_integrity, sign, what_is_signed_is_accepted, what_is_signed_is_right};

@@ -1,4 +1,4 @@
-use Rattle.std.proofs.Common.{arith, rules}
+use Rattle.std.proofs.Common.{rules}
 use Rattle.stun.proofs.Writing.{begun}
 use Rattle.stun.proofs.buffer.begin.Goals as goal
 
