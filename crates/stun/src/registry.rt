@@ -23,13 +23,14 @@ pub enum Method {
 }
 
 impl Method {
-    ghost use Rattle.std.specs.Prelude.{◌≡◌, Some, IfSome};
+    ghost use Rattle.std.specs.Prelude.{◌≡◌, ◌<◌, Some, IfSome};
     ghost use Rattle.stun.specs.Types.{method_number};
     ghost use Rattle.stun.specs.declared.registry.Method as declared;
 
-    /// Returns the number of the method.
+    /// Returns the number of the method, below 16.
     fn number(self) -> u16
-        ensures { result ≡ method_number self }
+        ensures number { result ≡ method_number self }
+        ensures fits { result < 16 }
     {
         match self {
             Method::Binding => 0x001,
@@ -70,13 +71,14 @@ pub enum Class {
 }
 
 impl Class {
-    ghost use Rattle.std.specs.Prelude.{◌≡◌, Some, IfSome};
+    ghost use Rattle.std.specs.Prelude.{◌≡◌, ◌≤◌, Some, IfSome};
     ghost use Rattle.stun.specs.Types.{class_bits};
     ghost use Rattle.stun.specs.declared.registry.Class as declared;
 
     /// Returns the two bits of the class where a message type has them.
     fn bits(self) -> u16
-        ensures { result ≡ class_bits self }
+        ensures bits { result ≡ class_bits self }
+        ensures fits { result ≤ 0x110 }
     {
         match self {
             Class::Request => 0x000,
@@ -109,14 +111,15 @@ pub struct MessageType {
 }
 
 impl MessageType {
-    ghost use Rattle.std.specs.Prelude.{◌≡◌, Some, IfSome};
+    ghost use Rattle.std.specs.Prelude.{◌≡◌, ◌<◌, Some, IfSome};
     ghost use Rattle.stun.specs.Types.{type_number};
     ghost use Rattle.stun.specs.declared.registry.MessageType as declared;
 
     /// Returns the 14 bits of the type. The methods lie below 16, so the bits of the class stand above those
     /// of the method.
     pub fn kind(self) -> u16
-        ensures { result ≡ type_number self }
+        ensures number { result ≡ type_number self }
+        ensures fits { result < 0x4000 }
     {
         self.method.number() + self.class.bits()
     }
