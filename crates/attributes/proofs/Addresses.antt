@@ -16,7 +16,7 @@ use Rattle.attributes.proofs.Masks.{twice, read_back}
 whole : (n : ℕ) (ip : List ℕ) (port : ℕ) → HasWidth n ip port → big_bytes n (big_number n ip) ≡ ip
 whole n ip port is = bytes_back n ip (omega (arith, is.long)) (All-from_get_or (λ (b : ℕ). b < 256) ip 0 (λ i lt. is.bytes i)) ∙ take_all n ip (omega (arith, is.long))
 
--- bytes are told by what they are masked to
+-- masked bytes determine the bytes
 unmasked : (n : ℕ) (ip ip' : List ℕ) (port port' mask : ℕ) → HasWidth n ip port → HasWidth n ip' port' → ((x : ℕ) → x < 256 ^ n → bit_xor x mask < 256 ^ n) → masked n ip mask ≡ masked n ip' mask → ip ≡ ip'
 unfolding masked
 unmasked n ip ip' port port' mask is is' small e =
@@ -29,7 +29,7 @@ unmasked n ip ip' port port' mask is is' small e =
 port_fits : (port : ℕ) → port < 0x10000 → bit_xor port cookie_half < 0x10000
 port_fits port small = xor_lt 16 port cookie_half small (omega arith)
 
--- a port is told by its two bytes
+-- the two bytes of a port determine it
 unmasked_port : (port port' : ℕ) → port < 0x10000 → port' < 0x10000 → (rest rest' : List ℕ) → big_bytes 2 (bit_xor port cookie_half) ++ rest ≡ big_bytes 2 (bit_xor port' cookie_half) ++ rest' → port ≡ port'
 unmasked_port port port' small small' rest rest' e =
     let same : bit_xor port cookie_half ≡ bit_xor port' cookie_half = omega (arith, ap (λ (v : List ℕ). get_or v 0 0) e, ap (λ (v : List ℕ). get_or v 1 0) e, port_fits port small, port_fits port' small') in

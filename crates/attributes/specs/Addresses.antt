@@ -8,11 +8,11 @@ use Rattle.stun.specs.declared.building.Builder.{Builder}
 use Rattle.attributes.specs.declared.address.Addr.{Addr}
 use Rattle.attributes.specs.declared.address.Addr.TheVariants.{V4, V6}
 
--- the first half of the cookie
+-- the upper 16 bits of the cookie
 abbrev pub cookie_half : ℕ
 cookie_half = magic_cookie / 0x10000
 
--- the cookie, and behind it the transaction id
+-- the cookie, followed by the transaction id
 unfoldable pub ipv6_mask : List ℕ → ℕ
 ipv6_mask transaction_id = big_number 16 (big_bytes 4 magic_cookie ++ transaction_id)
 

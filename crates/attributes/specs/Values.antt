@@ -1,5 +1,4 @@
--- The values of the attributes that hold one number (RFC 8656, section 18): its bytes first, and then some that are
--- ignored, four in all.
+-- Values with one number (RFC 8656, section 18): the bytes of the number, then bytes that are ignored, four in all.
 use Rattle.std.specs.Prelude.{◌≡◌, ℕ, ◌<◌, ◌^◌, List, ◌++◌, length}
 use Rattle.stun.specs.Endian.{big_bytes}
 

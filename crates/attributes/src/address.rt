@@ -15,7 +15,7 @@ use std::fmt;
 use stun::registry::{MAGIC_COOKIE, family};
 use stun::{Builder, NoRoom};
 
-/// A transport address.
+/// A transport address: an IP address and a port.
 #[derive(Clone, Copy, Debug, PartialEq, Eq)]
 pub enum Addr {
     V4 { ip: [u8; 4], port: u16 },
@@ -149,8 +149,10 @@ fn ipv6_value(ip: &[u8; 16], port: u16, tx: &[u8; 12]) -> [u8; IPV6_BYTES]
 /// # Errors
 /// Returns [`NoRoom`] as [`Builder::attr`] does, and changes nothing.
 pub fn write_xor_addr(builder: &mut Builder<'_>, kind: u16, address: &Addr) -> Result<(), NoRoom>
-    ensures appends { OnOk result (Appends kind (value_in builder.old address.now) builder.old builder.new) }
-    ensures no_room { OnErr result (HasNoRoom (value_in builder.old address.now) builder.old builder.new) }
+    ensures appends { OnOk result
+        (Appends kind (value_in builder.old address.now) builder.old builder.new) }
+    ensures no_room { OnErr result
+        (HasNoRoom (value_in builder.old address.now) builder.old builder.new) }
     ensures same_buffer { SameBuffer builder.old builder.new }
 {
     match address {
@@ -177,24 +179,24 @@ pub fn push_xor_addr(builder: &mut Builder<'_>, kind: u16, address: &Addr)
     }
 }
 
-/// The value of an address has at most 20 bytes.
+/// States that the value of an address has at most 20 bytes.
 pub fn values_are_short()
     ensures { (a : addr.Addr) (tx : List ℕ) → length (address_value a tx) ≤ 20 }
 {}
 
-/// Every item of a slice of bytes is below 256.
+/// States that every item of a slice of bytes is below 256.
 fn are_bytes(bytes: &[u8])
     ensures { (i : ℕ) → slice_index bytes.now i < 256 }
 {}
 
-/// An address of `N` bytes and its port have their widths.
+/// States that an address of `N` bytes and its port have their widths.
 fn has_width<const N: usize>(ip: &[u8; N], port: u16)
     ensures { HasWidth N ip.now port }
 {
     are_bytes(ip);
 }
 
-/// Every address has the bytes of its family, and a port of 16 bits.
+/// States that an address has the bytes of its family, and a port of 16 bits.
 pub fn is_address(address: &Addr)
     ensures { IsAddress address.now }
 {
@@ -213,9 +215,10 @@ pub fn read_back(address: &Addr, tx: &[u8; 12], value: &[u8]) -> Result<Addr, Ba
     Ok(address)
 }
 
-/// A value has at most one address under a transaction id.
+/// States that a value has at most one address under a transaction id.
 pub fn addresses_are_unique(tx: &[u8; 12])
-    ensures { (a b : addr.Addr) (value : List ℕ) → IsAddressValue a tx.now value → IsAddressValue b tx.now value → a ≡ b }
+    ensures { (a b : addr.Addr) (value : List ℕ)
+        → IsAddressValue a tx.now value → IsAddressValue b tx.now value → a ≡ b }
 {
     are_bytes(tx);
 }

@@ -81,7 +81,8 @@ pub fn push_error(builder: &mut Builder<'_>, error: ErrorCode)
 /// # Errors
 /// Returns [`NoRoom`] as [`Builder::attr`] does, and changes nothing.
 pub fn write_unknown(builder: &mut Builder<'_>, kinds: &[u16]) -> Result<(), NoRoom>
-    ensures appends { OnOk result (Appends UNKNOWN_ATTRIBUTES (unknown_value kinds.now) builder.old builder.new) }
+    ensures appends { OnOk result
+        (Appends UNKNOWN_ATTRIBUTES (unknown_value kinds.now) builder.old builder.new) }
     ensures no_room { OnErr result (HasNoRoom (unknown_value kinds.now) builder.old builder.new) }
     ensures same_buffer { SameBuffer builder.old builder.new }
 {

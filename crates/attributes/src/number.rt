@@ -82,12 +82,12 @@ pub fn requested_family(value: &[u8]) -> Result<u8, BadValue>
     }
 }
 
-/// A value has at most one number of a width.
+/// States that a value has at most one number of a width.
 pub fn numbers_are_unique()
     ensures { (n a b : ℕ) (value : List ℕ) → IsNumberValue n a value → IsNumberValue n b value → a ≡ b }
 {}
 
-/// A number of 32 bits, written high byte first, is read back: so LIFETIME is written.
+/// States that the four bytes of a number, high byte first, are the value of LIFETIME with that number.
 pub fn lifetimes_are_read_back()
     ensures { (n : ℕ) → n < 2 ^ 32 → IsNumberValue 4 n (big_bytes 4 n) }
 {}

@@ -2,7 +2,7 @@
 
 use thiserror::Error;
 
-/// The kind of value that was expected.
+/// The kind of a value.
 #[derive(Clone, Copy, Debug, PartialEq, Eq)]
 pub enum ValueKind {
     Address,

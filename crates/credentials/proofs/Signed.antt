@@ -45,7 +45,7 @@ sign_is_right key p q is none =
     ∙ sym (value_is p.attributes code none) in
     ap (code_under key) is ∙ right ∙ ap (λ (r : Parts). value_in r message_integrity) (sym is)
 
--- what the attributes tell, none of which is a MESSAGE-INTEGRITY, they tell with one behind them
+-- attributes without a MESSAGE-INTEGRITY have the same values with one behind them
 kept_step : (b c : Bool) (a : Padded) (kind : ℕ) (x value : List ℕ) (o : Option (List Padded)) (before after : List Padded)
     → (o ≡ None → value_of kind (map attribute_of before) ≡ Some value → value_of kind (map attribute_of after) ≡ Some value) → (if b then Some [] else option_map (λ front. a ∷ front) o) ≡ None
     → (if c then Some x else value_of kind (map attribute_of (if b then [] else before))) ≡ Some value → (if c then Some x else value_of kind (map attribute_of (if b then [] else after))) ≡ Some value
@@ -60,7 +60,7 @@ kept (a ∷ attributes) kind code value e is =
     value_cons kind (attribute_of a) (map attribute_of (if a.kind == message_integrity then [] else up_to_integrity (attributes ++ zero_padded message_integrity code ∷ [])))
     ∙ kept_step (a.kind == message_integrity) (a.kind == kind) a kind a.value value (before_first attributes) (up_to_integrity attributes) (up_to_integrity (attributes ++ zero_padded message_integrity code ∷ [])) (kept attributes kind code value) e (sym (value_cons kind (attribute_of a) (map attribute_of (if a.kind == message_integrity then [] else up_to_integrity attributes))) ∙ is)
 
--- a message that lacks nothing but its code, with this code
+-- a message that lacks only its code, with this code
 pub sign_is_accepted : (p : Parts) (name realm nonce : List ℕ) (users : Names) (index : ℕ) → IsUnsigned p nonce name → IsUser users name index → IsChecked (signed (user_key realm users index) p) realm users nonce (Ok index)
 sign_is_accepted p name realm nonce users index is user =
     let key : List ℕ = user_key realm users index in

@@ -33,7 +33,7 @@ pub record IsUser (users : Names) (name : List ℕ) (index : ℕ) : Type 0 where
 abbrev pub user_key : List ℕ → Names → ℕ → List ℕ
 user_key realm users index = key_of (slice_index_or users index ([], [])).0 realm (slice_index_or users index ([], [])).1
 
--- a code, a name, a realm and the nonce are there
+-- a message has a code, a name, a realm and the nonce
 pub record IsFresh (p : Parts) (nonce code name : List ℕ) : Type 0 where
   pub code_is : value_in p message_integrity ≡ Some code
   pub name_is : value_in p USERNAME ≡ Some name

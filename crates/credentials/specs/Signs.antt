@@ -3,6 +3,10 @@ use Rattle.std.specs.Prelude.{◌≡◌, List, ℕ, Some, None}
 use Rattle.stun.specs.Registry.{message_integrity}
 use Rattle.stun.specs.Messages.{Parts, with_attribute, before_first}
 use Rattle.stun.specs.declared.registry.attribute.TheConstants.{USERNAME, REALM, NONCE}
+use Rattle.stun.specs.Builders.{parts_of}
+use Rattle.stun.specs.declared.building.Builder.{Builder}
+use Rattle.credentials.specs.declared.key.Key.{Key}
+use Rattle.credentials.specs.Keys.{key_bytes}
 use Rattle.credentials.specs.Integrity.{code_of}
 use Rattle.credentials.specs.Checks.{value_in}
 
@@ -10,7 +14,11 @@ use Rattle.credentials.specs.Checks.{value_in}
 abbrev pub signed : List ℕ → Parts → Parts
 signed key p = with_attribute p message_integrity (code_of key p)
 
--- a message that lacks nothing but its code: it has a name, a realm and the nonce
+-- the code of a builder's message
+abbrev pub code_in : Builder → Key → List ℕ
+code_in builder key = code_of (key_bytes key) (parts_of builder)
+
+-- a message that lacks only its code: it has a name, a realm and the nonce
 pub record IsUnsigned (p : Parts) (nonce name : List ℕ) : Type 0 where
   pub no_code : before_first p.attributes ≡ None
   pub name_is : value_in p USERNAME ≡ Some name

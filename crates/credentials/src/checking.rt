@@ -13,22 +13,22 @@ use crate::signing::code_over;
 use stun::Message;
 use thiserror::Error;
 
-/// Why credentials are refused: the first of these, in the order of the codes.
+/// Why credentials are refused: the first that applies, in the order of the codes.
 #[derive(Clone, Copy, Debug, PartialEq, Eq, Error)]
 pub enum AuthError {
     /// There is no MESSAGE-INTEGRITY.
     #[error("C1")]
     Missing,
-    /// USERNAME, REALM or NONCE is not there.
+    /// USERNAME, REALM or NONCE is missing.
     #[error("C2")]
     Incomplete,
-    /// The nonce is another one.
+    /// The nonce is not the current one.
     #[error("C3")]
     StaleNonce,
     /// No user has the name.
     #[error("C4")]
     UnknownUser,
-    /// The code is another one, or hasn't 20 bytes.
+    /// The code is wrong, or hasn't 20 bytes.
     #[error("C5")]
     WrongCode,
 }
@@ -98,7 +98,8 @@ fn user_of(users: &[User], name: &[u8]) -> Option<usize>
 /// Returns C1 to C3.
 fn fresh<'a>(message: &Message<'a>, nonce: &str) -> Result<(&'a [u8], &'a [u8]), AuthError>
     ensures found { IfOk result (λ r. IsFresh message.now nonce.now r.0.now r.1.now) }
-    ensures refused { IfErr result (λ e. (realm : List ℕ) (users : Names) → IsChecked message.now realm users nonce.now (Err e)) }
+    ensures refused { IfErr result (λ e. (realm : List ℕ) (users : Names)
+        → IsChecked message.now realm users nonce.now (Err e)) }
 {
     let found = credentials_of(message);
     let code = found.code.ok_or(AuthError::Missing)?;
@@ -123,9 +124,11 @@ pub fn authenticate(
     users: &[User],
     nonce: &str,
 ) -> Result<Authenticated, AuthError>
-    ensures found { IfOk result (λ a. IsChecked message.now realm.now (names_of users.now) nonce.now (Ok a.user)) }
+    ensures found { IfOk result
+        (λ a. IsChecked message.now realm.now (names_of users.now) nonce.now (Ok a.user)) }
     ensures key { IfOk result (λ a. key_bytes a.key ≡ user_key realm.now (names_of users.now) a.user) }
-    ensures refused { IfErr result (λ e. IsChecked message.now realm.now (names_of users.now) nonce.now (Err e)) }
+    ensures refused { IfErr result
+        (λ e. IsChecked message.now realm.now (names_of users.now) nonce.now (Err e)) }
 {
     let (code, name) = fresh(message, nonce)?;
     let Some(index) = user_of(users, name) else {
@@ -155,7 +158,7 @@ pub fn check(
     Ok(authenticated.user)
 }
 
-/// The ordered check has one answer for a message.
+/// States that the ordered check has at most one answer for a message.
 pub fn answers_are_unique()
     ensures { (p : Parts) (realm : List ℕ) (users : Names) (nonce : List ℕ) (a b : Result ℕ AuthError)
         → IsChecked p realm users nonce a → IsChecked p realm users nonce b → a ≡ b }

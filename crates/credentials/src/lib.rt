@@ -1,5 +1,5 @@
-//! The long-term credentials of STUN (RFC 8489, section 9.2): keys, and the codes made with them. Nothing
-//! takes memory.
+//! The long-term credential mechanism of STUN (RFC 8489, section 9.2): keys, codes, and their check. Nothing
+//! is allocated.
 #![tactic(auto)]
 
 mod checking;

@@ -20,7 +20,8 @@ pub(crate) struct Credentials<'a> {
 
 /// Returns the value that was found before, or else that of an attribute of a type.
 fn or_value<'a>(found: Option<&'a [u8]>, attr: Attr<'a>, kind: u16) -> Option<&'a [u8]>
-    ensures { option_copied result ≡ option_or (option_copied found.entry) (if attr.entry.kind == kind then Some attr.entry.value.now else None) }
+    ensures { option_copied result ≡ option_or (option_copied found.entry)
+        (if attr.entry.kind == kind then Some attr.entry.value.now else None) }
 {
     if found.is_none() && attr.kind == kind {
         Some(attr.value)

@@ -1,15 +1,15 @@
-//! Codes that are written into a message (RFC 8489, section 14.5).
+//! Signs messages (RFC 8489, section 14.5).
 
 ghost use Rattle.std.specs.Prelude.{◌≡◌, ◌≤◌, ◌+◌, ◌%◌, ◌++◌, ℕ, List, length, take, drop, None, Ok, OnOk, OnErr};
 ghost use Rattle.stun.specs.Endian.{big_bytes};
 ghost use Rattle.stun.specs.Messages.{Parts, before_first};
 ghost use Rattle.stun.specs.Registry.{message_integrity};
-ghost use Rattle.stun.specs.Builders.{parts_of, used_of, room_of, SameBuffer, Appends, HasNoRoom};
+ghost use Rattle.stun.specs.Builders.{used_of, room_of, SameBuffer, Appends, HasNoRoom};
 ghost use Rattle.credentials.specs.Hmac.{hmac};
-ghost use Rattle.credentials.specs.Integrity.{code_under, code_of};
+ghost use Rattle.credentials.specs.Integrity.{code_under};
 ghost use Rattle.credentials.specs.Keys.{key_bytes};
 ghost use Rattle.credentials.specs.Checks.{Names, IsUser, IsChecked, user_key, value_in};
-ghost use Rattle.credentials.specs.Signs.{IsUnsigned, signed};
+ghost use Rattle.credentials.specs.Signs.{IsUnsigned, signed, code_in};
 
 use crate::hmac::hmac_sha1;
 use crate::key::Key;
@@ -20,7 +20,8 @@ use stun::{Builder, NoRoom};
 /// counted to the end of that attribute.
 pub(crate) fn code_over(message: &[u8], key: &Key) -> [u8; 20]
     requires { 20 ≤ length message.now }
-    ensures { result ≡ hmac (key_bytes key.now) (take 2 message.now ++ (big_bytes 2 ((length message.now + 4) % 65536) ++ drop 4 message.now)) }
+    ensures { result ≡ hmac (key_bytes key.now)
+        (take 2 message.now ++ (big_bytes 2 ((length message.now + 4) % 65536) ++ drop 4 message.now)) }
 {
     let (kind, rest) = message.split_at(2);
     let (_, rest) = rest.split_at(2);
@@ -30,7 +31,7 @@ pub(crate) fn code_over(message: &[u8], key: &Key) -> [u8; 20]
 
 /// Returns the code that a message is signed with under a key.
 fn code_for(builder: &Builder<'_>, key: &Key) -> [u8; 20]
-    ensures { result ≡ code_of (key_bytes key.now) (parts_of builder.now) }
+    ensures { result ≡ code_in builder.now key.now }
 {
     code_over(builder.written(), key)
 }
@@ -40,8 +41,9 @@ fn code_for(builder: &Builder<'_>, key: &Key) -> [u8; 20]
 /// # Errors
 /// Returns [`NoRoom`] as [`Builder::attr`] does, and changes nothing.
 pub fn sign(builder: &mut Builder<'_>, key: &Key) -> Result<(), NoRoom>
-    ensures appends { OnOk result (Appends message_integrity (code_of (key_bytes key.now) (parts_of builder.old)) builder.old builder.new) }
-    ensures no_room { OnErr result (HasNoRoom (code_of (key_bytes key.now) (parts_of builder.old)) builder.old builder.new) }
+    ensures appends { OnOk result
+        (Appends message_integrity (code_in builder.old key.now) builder.old builder.new) }
+    ensures no_room { OnErr result (HasNoRoom (code_in builder.old key.now) builder.old builder.new) }
     ensures same_buffer { SameBuffer builder.old builder.new }
 {
     let code = code_for(builder, key);
@@ -51,23 +53,24 @@ pub fn sign(builder: &mut Builder<'_>, key: &Key) -> Result<(), NoRoom>
 /// Appends MESSAGE-INTEGRITY, as [`sign`] does, where there is room, so that it can't fail.
 pub fn push_integrity(builder: &mut Builder<'_>, key: &Key)
     requires room { used_of builder.old + 27 ≤ room_of builder.old }
-    ensures appends { Appends message_integrity (code_of (key_bytes key.now) (parts_of builder.old)) builder.old builder.new }
+    ensures appends { Appends message_integrity (code_in builder.old key.now) builder.old builder.new }
     ensures same_buffer { SameBuffer builder.old builder.new }
 {
     let code = code_for(builder, key);
     builder.push(MESSAGE_INTEGRITY, &code.as_slice());
 }
 
-/// A message without MESSAGE-INTEGRITY, signed under a key, has the code that [`check`](crate::check) wants
-/// under that key.
+/// States that a message without MESSAGE-INTEGRITY, signed under a key, has the code that
+/// [`check`](crate::check) requires under that key.
 pub fn what_is_signed_is_right()
     ensures { (key : List ℕ) (p : Parts) → before_first p.attributes ≡ None
         → code_under key (signed key p) ≡ value_in (signed key p) message_integrity }
 {}
 
-/// A message that lacks nothing but its code, signed under the key of the first user of its name, is
+/// States that a message which lacks only its code, signed under the key of the first user of its name, is
 /// accepted: [`check`](crate::check) returns the index of that user.
 pub fn what_is_signed_is_accepted()
-    ensures { (p : Parts) (name realm nonce : List ℕ) (users : Names) (index : ℕ) → IsUnsigned p nonce name → IsUser users name index
+    ensures { (p : Parts) (name realm nonce : List ℕ) (users : Names) (index : ℕ)
+        → IsUnsigned p nonce name → IsUser users name index
         → IsChecked (signed (user_key realm users index) p) realm users nonce (Ok index) }
 {}

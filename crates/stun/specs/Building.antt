@@ -1,4 +1,4 @@
--- A buffer that begins with a message, whose header tells the message's length.
+-- A buffer that begins with a message, of the length that its header has.
 use Rattle.std.specs.Prelude.{◌≡◌, ℕ, ◌+◌, ◌≤◌, min, List, ◌++◌, length, take, drop}
 use Rattle.std.specs.List.{AllByRecursion-prop}
 use Rattle.std.specs.Coded.{Coded-set, coded_ℕ, coded_list, le_prop}
@@ -45,7 +45,7 @@ pub record Begins (kind : ℕ) (transaction_id old new : List ℕ) : Type 0 wher
   pub room : room_in new ≡ min (length old) 65552
   pub fits : 20 ≤ length old
 
--- the message of before with one more attribute does
+-- the message that stood there, with one more attribute, stands over the first bytes, and the others are as they were
 pub record IsAppended (kind : ℕ) (value old new : List ℕ) : Type 0 where
   pub parts : built new ≡ with_attribute (built old) kind value
   pub bytes : new ≡ over (built new) old

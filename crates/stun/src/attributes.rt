@@ -10,24 +10,24 @@ use crate::registry::attribute::MESSAGE_INTEGRITY;
 use byteorder::{BigEndian, ByteOrder};
 use std::marker::Model;
 
-/// How many bytes of an attribute precede its value.
+/// The length of what precedes the value in an attribute, in bytes.
 pub(crate) const ATTRIBUTE_HEADER_BYTES: usize = 4;
 
-/// An attribute: its type, and the bytes of its value.
+/// An attribute: its type and its value.
 #[derive(Clone, Copy, Debug)]
 pub struct Attr<'a> {
     pub kind: u16,
     pub value: &'a [u8],
 }
 
-/// How many bytes fill a value up to a multiple of four.
+/// Returns how many bytes pad a value of a length to a multiple of four.
 pub(crate) fn padding_bytes(length: usize) -> usize
     ensures { result ≡ padding_count length }
 {
     (4 - length % 4) % 4
 }
 
-/// The attribute that begins the bytes and the bytes that follow its padding, if it doesn't overrun them.
+/// Splits bytes after their first attribute and its padding, or returns `None` where it overruns them.
 pub(crate) fn split_attribute(bytes: &[u8]) -> Option<(Attr<'_>, &[u8])>
     ensures { MatchOption result ((a : Padded) (rest : List ℕ) → IsPadded a → bytes.now ≡ attribute_bytes a ++ rest → ⊥)
         (λ r. BeginsWith bytes.now r.0.kind r.0.value.now r.1.now) }
@@ -48,7 +48,7 @@ pub(crate) fn split_attribute(bytes: &[u8]) -> Option<(Attr<'_>, &[u8])>
     Some((Attr { kind, value }, rest))
 }
 
-/// Whether the bytes are attributes, none of which overruns.
+/// Returns whether bytes are attributes, of which none overruns.
 pub(crate) fn are_attributes(bytes: &[u8]) -> bool
     ensures { Decides result (AreAttributes bytes.now) }
 {
@@ -62,11 +62,12 @@ pub(crate) fn are_attributes(bytes: &[u8]) -> bool
     true
 }
 
-/// At which byte of the attributes the first MESSAGE-INTEGRITY begins, if there is one.
+/// Returns at which byte of the attributes the first MESSAGE-INTEGRITY begins.
 pub(crate) fn before_integrity_at(bytes: &[u8]) -> Option<usize>
     requires { AreAttributes bytes.now }
     ensures inside { IfSome result (λ n. n ≤ length bytes.now) }
-    ensures front { option_map (λ n. take n bytes.now) result ≡ option_map attributes_bytes (before_first (attributes_in bytes.now)) }
+    ensures front { option_map (λ n. take n bytes.now) result
+        ≡ option_map attributes_bytes (before_first (attributes_in bytes.now)) }
 {
     let mut rest = bytes;
     while rest.len() > 0 {
@@ -79,8 +80,8 @@ pub(crate) fn before_integrity_at(bytes: &[u8]) -> Option<usize>
     None
 }
 
-/// An iterator over the attributes of a message up to and including its first MESSAGE-INTEGRITY. Its meaning
-/// is the attributes that are left in the datagram, those after a MESSAGE-INTEGRITY too.
+/// An iterator over the attributes of a message up to and including its first MESSAGE-INTEGRITY. Contracts
+/// see it as the attributes that are left in the datagram, with those after a MESSAGE-INTEGRITY.
 #[derive(Drop)]
 pub struct Attrs<'a> {
     rest: &'a [u8],
@@ -104,7 +105,7 @@ impl<'a> Model for Attrs<'a> {
 }
 
 impl<'a> Attrs<'a> {
-    /// The iterator over the attributes of these bytes.
+    /// Returns an iterator over the attributes in bytes.
     pub(crate) fn new(bytes: &'a [u8]) -> Attrs<'a>
         requires { AreAttributes bytes.now }
         ensures { result ≡ attributes_in bytes.now }
@@ -135,7 +136,7 @@ impl<'a> Iterator for Attrs<'a> {
 }
 
 /// An iterator over the values of the attributes of one type, up to and including the first
-/// MESSAGE-INTEGRITY. Its meaning is the values that are left.
+/// MESSAGE-INTEGRITY. Contracts see it as the values that are left.
 #[derive(Drop)]
 pub struct Values<'a> {
     attrs: Attrs<'a>,
@@ -158,7 +159,7 @@ impl<'a> Values<'a> {
     ghost use Rattle.std.specs.Prelude.{◌≡◌};
     ghost use Rattle.stun.specs.Attributes.{attributes_left, values_of};
 
-    /// Returns the iterator over the values of a type among some attributes.
+    /// Returns an iterator over the values of a type among attributes.
     pub(crate) fn new(attrs: Attrs<'a>, kind: u16) -> Values<'a>
         ensures { result ≡ values_of kind (attributes_left attrs.entry) }
     {
@@ -166,7 +167,7 @@ impl<'a> Values<'a> {
     }
 }
 
-/// Advances to behind the next attribute of a type, and returns its value.
+/// Returns the value of the next attribute of a type, and advances past it.
 fn next_value<'a>(attrs: &mut Attrs<'a>, kind: u16) -> Option<&'a [u8]>
     ensures { YieldsFirstBy (λ v. v.now) (λ left. values_of kind (attributes_left left)) attrs.old result attrs.new }
 {

@@ -18,7 +18,7 @@ use byteorder::{BigEndian, ByteOrder};
 /// multiple of four.
 const MAX_MESSAGE: usize = 65_552;
 
-/// Writes the bytes over those from an index on.
+/// Overwrites bytes of a buffer, from an index on.
 fn overwrite(buffer: &mut [u8], at: usize, bytes: &[u8])
     requires { at + length bytes.now ≤ length buffer.old }
     ensures { buffer.new ≡ patched at bytes.now buffer.old }
@@ -26,7 +26,7 @@ fn overwrite(buffer: &mut [u8], at: usize, bytes: &[u8])
     buffer[at..at + bytes.len()].copy_from_slice(bytes);
 }
 
-/// Writes a number over the two bytes from an index on.
+/// Writes a number over two bytes of a buffer, from an index on, high byte first.
 fn write_number(buffer: &mut [u8], at: usize, n: u16)
     requires { at + 2 ≤ length buffer.old }
     ensures { buffer.new ≡ patched at (big_bytes 2 n) buffer.old }
@@ -36,7 +36,7 @@ fn write_number(buffer: &mut [u8], at: usize, n: u16)
     overwrite(buffer, at, &bytes);
 }
 
-/// Writes the magic cookie.
+/// Writes the magic cookie over the bytes 4 to 7.
 fn write_cookie(buffer: &mut [u8])
     requires { 8 ≤ length buffer.old }
     ensures { buffer.new ≡ patched 4 (big_bytes 4 magic_cookie) buffer.old }

@@ -28,7 +28,8 @@ impl<'a> Builder<'a> {
     /// Returns [`NoRoom`] for a buffer of less than 20 bytes, which it leaves unchanged.
     pub fn start(buffer: &'a mut [u8], kind: u16, tx: [u8; 12]) -> Result<Builder<'a>, NoRoom>
         requires { kind < 0x4000 }
-        ensures* unchanged { sem 𝓛 (RestsIfErr (Array u8 0) buffer.entry buffer_name result (λ last. last ≡ buffer.old)) }
+        ensures* unchanged { sem 𝓛 (RestsIfErr (Array u8 0) buffer.entry buffer_name result
+            (λ last. last ≡ buffer.old)) }
         ensures begins { IfOk result (λ b. Begins kind tx buffer.old (bytes_of b)) }
         ensures same_buffer { IfOk result (λ b. buffer_name b ≡ buffer.entry.ghost_name) }
         ensures no_room { OnErr result (length buffer.old < 20) }
@@ -124,7 +125,8 @@ impl<'a> Builder<'a> {
     pub fn finish(self) -> usize
         ensures size { result ≡ used_of self.entry }
         ensures bytes { take result (bytes_of self.entry) ≡ parts_bytes (parts_of self.entry) }
-        ensures message { IsMessage (message_of (parts_of self.entry)) (take result (bytes_of self.entry)) }
+        ensures message { IsMessage (message_of (parts_of self.entry))
+            (take result (bytes_of self.entry)) }
         ensures inside { result ≤ room_of self.entry }
         ensures buffer { self.exit.0.now ≡ bytes_of self.entry }
     {

@@ -1,5 +1,5 @@
-//! STUN messages and ChannelData, read from a datagram and written into a buffer. Nothing is copied, and
-//! nothing is allocated.
+//! STUN messages and ChannelData: parsed from a datagram, and written into a buffer. No byte of a datagram
+//! is copied, and nothing is allocated.
 #![tactic(auto)]
 
 mod attributes;

@@ -1,6 +1,5 @@
-//! The numbers of STUN and TURN that this profile speaks of, each once (RFC 8489, section 18; RFC 8656,
-//! section 18). They can be held against the registry "Session Traversal Utilities for NAT (STUN)
-//! Parameters".
+//! The numbers of STUN and TURN that this profile uses, each once (RFC 8489, section 18; RFC 8656, sections
+//! 17 to 19). They are those of the registry "Session Traversal Utilities for NAT (STUN) Parameters".
 
 ghost use Rattle.std.specs.Prelude.{◌≡◌, ◌≤◌, length};
 ghost use Rattle.stun.specs.Attributes.{is_understood};
@@ -255,7 +254,7 @@ impl ErrorCode {
     }
 }
 
-/// A phrase has at most 30 bytes.
+/// States that a phrase has at most 30 bytes.
 pub fn phrases_are_short()
     ensures { (e : errors.ErrorCode) → length (phrase_of e) ≤ 30 }
 {}
