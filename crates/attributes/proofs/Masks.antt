@@ -7,7 +7,7 @@ use Rattle.std.proofs.lemmas.List.{append-nil, get_or-drop, length-drop}
 use Rattle.stun.specs.Endian.{big_from, big_number, big_bytes}
 use Rattle.stun.specs.Numbers.{big_number-reads_back, big_from-lt, length-bytes_high_first}
 use Rattle.stun.specs.Registry.{magic_cookie}
-use Rattle.attributes.specs.Addresses.{IsAddressValue, long_mask, masked}
+use Rattle.attributes.specs.Addresses.{IsAddressValue, address_value, ipv6_mask, masked}
 use Rattle.attributes.specs.declared.address.Addr.{Addr}
 use Rattle.attributes.specs.declared.address.Addr.TheVariants.{V4, V6}
 use Rattle.attributes.proofs.Bytes.{bytes_back, all_fit}
@@ -41,5 +41,10 @@ length-masked n ip mask = length-bytes_high_first n (bit_xor (big_number n ip) m
 
 -- the length and the family of an address's value
 pub address_shape : (a : Addr) (tx value : List ℕ) → IsAddressValue a tx value → ((length value ≡ 8) × (get_or value 1 0 ≡ 1)) ⊎ ((length value ≡ 20) × (get_or value 1 0 ≡ 2))
-address_shape (V4 ip port) tx value is = inl (omega (arith, ap length is.1, length-masked 4 ip magic_cookie), ap (λ (v : List ℕ). get_or v 1 0) is.1)
-address_shape (V6 ip port) tx value is = inr (omega (arith, ap length is.1, length-masked 16 ip (long_mask tx)), ap (λ (v : List ℕ). get_or v 1 0) is.1)
+address_shape (V4 ip port) tx value is = inl (omega (arith, ap length is.spelled, length-masked 4 ip magic_cookie), ap (λ (v : List ℕ). get_or v 1 0) is.spelled)
+address_shape (V6 ip port) tx value is = inr (omega (arith, ap length is.spelled, length-masked 16 ip (ipv6_mask tx)), ap (λ (v : List ℕ). get_or v 1 0) is.spelled)
+
+-- the value of an address has 8 or 20 bytes
+pub value_short : (a : Addr) (tx : List ℕ) → length (address_value a tx) ≤ 20
+value_short (V4 ip port) tx = omega (arith, length-masked 4 ip magic_cookie)
+value_short (V6 ip port) tx = omega (arith, length-masked 16 ip (ipv6_mask tx))

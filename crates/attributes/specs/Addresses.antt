@@ -3,16 +3,18 @@ use Rattle.std.specs.Prelude.{◌≡◌, ℕ, ◌/◌, ◌<◌, List, ◌∷◌,
 use Rattle.stun.specs.Endian.{big_bytes, big_number}
 use Rattle.stun.specs.Registry.{magic_cookie}
 use Rattle.stun.specs.declared.registry.family.TheConstants.{IPV4, IPV6}
+use Rattle.stun.specs.Builders.{parts_of}
+use Rattle.stun.specs.declared.building.Builder.{Builder}
 use Rattle.attributes.specs.declared.address.Addr.{Addr}
 use Rattle.attributes.specs.declared.address.Addr.TheVariants.{V4, V6}
 
--- the first half of the cookie
+-- the upper 16 bits of the cookie
 abbrev pub cookie_half : ℕ
 cookie_half = magic_cookie / 0x10000
 
--- the cookie, and behind it the transaction id
-unfoldable pub long_mask : List ℕ → ℕ
-long_mask transaction_id = big_number 16 (big_bytes 4 magic_cookie ++ transaction_id)
+-- the cookie, followed by the transaction id
+unfoldable pub ipv6_mask : List ℕ → ℕ
+ipv6_mask transaction_id = big_number 16 (big_bytes 4 magic_cookie ++ transaction_id)
 
 -- n bytes, as a number xored with a mask
 unfoldable pub masked : ℕ → List ℕ → ℕ → List ℕ
@@ -32,12 +34,18 @@ IsAddress (V6 ip port) = HasWidth 16 ip port
 -- IPv6 with the transaction id behind it
 abbrev pub address_tail : Addr → List ℕ → List ℕ
 address_tail (V4 ip port) transaction_id = IPV4 ∷ big_bytes 2 (bit_xor port cookie_half) ++ masked 4 ip magic_cookie
-address_tail (V6 ip port) transaction_id = IPV6 ∷ big_bytes 2 (bit_xor port cookie_half) ++ masked 16 ip (long_mask transaction_id)
+address_tail (V6 ip port) transaction_id = IPV6 ∷ big_bytes 2 (bit_xor port cookie_half) ++ masked 16 ip (ipv6_mask transaction_id)
 
 -- the first byte is ignored
-abbrev pub IsAddressValue : Addr → List ℕ → List ℕ → Type 0
-IsAddressValue address transaction_id value = (first : ℕ) × (value ≡ first ∷ address_tail address transaction_id)
+pub record IsAddressValue (address : Addr) (transaction_id value : List ℕ) : Type 0 where
+  pub fits : IsAddress address
+  pub first : ℕ
+  pub spelled : value ≡ first ∷ address_tail address transaction_id
 
 -- it is written as zero
 abbrev pub address_value : Addr → List ℕ → List ℕ
 address_value address transaction_id = 0 ∷ address_tail address transaction_id
+
+-- the value under the transaction id of a builder's message
+abbrev pub value_in : Builder → Addr → List ℕ
+value_in builder address = address_value address (parts_of builder).transaction_id

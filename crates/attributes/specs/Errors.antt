@@ -1,12 +1,13 @@
--- The values that an error response tells its error by (RFC 8489, sections 14.8 and 14.9).
-use Rattle.std.specs.Prelude.{ℕ, List, ◌∷◌}
+-- The values of the attributes of an error response (RFC 8489, sections 14.8 and 14.13).
+use Rattle.std.specs.Prelude.{ℕ, ◌/◌, ◌%◌, List, ◌∷◌}
 use Rattle.std.specs.List.{flat_map}
 use Rattle.stun.specs.Endian.{big_bytes}
+use Rattle.stun.specs.ErrorCodes.{code_of, phrase_of}
 use Rattle.stun.specs.declared.registry.ErrorCode.{ErrorCode}
 
--- ERROR-CODE: two zero bytes, the class, the number, the phrase
+-- ERROR-CODE: two zero bytes, the hundreds of the code, the code modulo 100, the phrase
 abbrev pub error_value : ErrorCode → List ℕ
-error_value error = 0 ∷ 0 ∷ error.class ∷ error.number ∷ error.phrase.now
+error_value e = 0 ∷ 0 ∷ code_of e / 100 ∷ code_of e % 100 ∷ phrase_of e
 
 -- UNKNOWN-ATTRIBUTES: the types, 16 bits each
 abbrev pub unknown_value : List ℕ → List ℕ

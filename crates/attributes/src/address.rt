@@ -1,12 +1,11 @@
 //! Transport addresses (RFC 8489, section 14.2).
 
-ghost use Rattle.std.specs.Prelude.{◌≡◌, ℕ, ◌<◌, slice_index, ◌≤◌, ◌∷◌, ◌++◌, length, take, drop, IfOk, IfErr, IsOkAnd, OnOk, OnErr, bit_xor};
+ghost use Rattle.std.specs.Prelude.{◌≡◌, ℕ, List, ◌<◌, ◌+◌, slice_index, ◌≤◌, ◌∷◌, ◌++◌, length, take, drop, IfOk, IfErr, IsOkAnd, OnOk, OnErr, bit_xor};
 ghost use Rattle.stun.specs.Endian.{big_bytes};
-ghost use Rattle.stun.specs.Messages.{with_attribute};
-ghost use Rattle.stun.specs.Building.{built, IsWritten, HasNoRoom};
+ghost use Rattle.stun.specs.Builders.{used_of, room_of, SameBuffer, Appends, HasNoRoom};
 ghost use Rattle.stun.specs.Registry.{magic_cookie};
 ghost use Rattle.stun.specs.declared.registry.family.TheConstants.{IPV4, IPV6};
-ghost use Rattle.attributes.specs.Addresses.{HasWidth, IsAddress, IsAddressValue, address_value, cookie_half, long_mask, masked};
+ghost use Rattle.attributes.specs.Addresses.{HasWidth, IsAddress, IsAddressValue, address_value, value_in, cookie_half, ipv6_mask, masked};
 ghost use Rattle.attributes.specs.declared.address.Addr as addr;
 ghost use Rattle.attributes.specs.declared.refusal.ValueKind.TheVariants as kinds;
 
@@ -16,7 +15,7 @@ use std::fmt;
 use stun::registry::{MAGIC_COOKIE, family};
 use stun::{Builder, NoRoom};
 
-/// A transport address.
+/// A transport address: an IP address and a port.
 #[derive(Clone, Copy, Debug, PartialEq, Eq)]
 pub enum Addr {
     V4 { ip: [u8; 4], port: u16 },
@@ -38,22 +37,22 @@ impl fmt::Display for Addr {
     }
 }
 
-/// How many bytes the value of an IPv4 address has.
-const SHORT: usize = 8;
+/// The length of the value of an IPv4 address, in bytes.
+const IPV4_BYTES: usize = 8;
 
-/// How many bytes the value of an IPv6 address has.
-const LONG: usize = 20;
+/// The length of the value of an IPv6 address, in bytes.
+const IPV6_BYTES: usize = 20;
 
-/// How many bytes precede the address.
+/// The length of what precedes the address in a value: a zero, the family and the port.
 const FRONT: usize = 4;
 
-/// The first half of the cookie.
+/// The upper 16 bits of the cookie.
 const COOKIE_HALF: u16 = (MAGIC_COOKIE >> 16) as u16;
 
-/// The number that an IPv6 address is xored with: the cookie, and behind it the transaction id.
-#[tactic(auto, unfolding(crate::specs::Addresses::long_mask))]
-fn long_mask(tx: &[u8; 12]) -> u128
-    ensures { result ≡ long_mask tx.now }
+/// Returns the number that an IPv6 address is xored with: the cookie, followed by the transaction id.
+#[tactic(auto, unfolding(crate::specs::Addresses::ipv6_mask))]
+fn ipv6_mask(tx: &[u8; 12]) -> u128
+    ensures { result ≡ ipv6_mask tx.now }
 {
     let mut bytes = [0; 16];
     BigEndian::write_u32(&mut bytes, MAGIC_COOKIE);
@@ -62,7 +61,7 @@ fn long_mask(tx: &[u8; 12]) -> u128
     BigEndian::read_u128(&bytes)
 }
 
-/// The port in an address's value.
+/// Returns the port in the value of an address.
 fn port_in(value: &[u8]) -> u16
     requires { 8 ≤ length value.now }
     ensures { big_bytes 2 (bit_xor result cookie_half) ≡ take 2 (drop 2 value.now) }
@@ -71,8 +70,8 @@ fn port_in(value: &[u8]) -> u16
     BigEndian::read_u16(rest) ^ COOKIE_HALF
 }
 
-/// The address in an IPv4 address's value.
-fn short_ip_in(value: &[u8]) -> [u8; 4]
+/// Returns the IPv4 address in a value.
+fn ipv4_in(value: &[u8]) -> [u8; 4]
     requires { 8 ≤ length value.now }
     ensures { masked 4 result magic_cookie ≡ take 4 (drop 4 value.now) }
 {
@@ -80,36 +79,39 @@ fn short_ip_in(value: &[u8]) -> [u8; 4]
     (BigEndian::read_u32(rest) ^ MAGIC_COOKIE).to_be_bytes()
 }
 
-/// The address in an IPv6 address's value.
-fn long_ip_in(value: &[u8], tx: &[u8; 12]) -> [u8; 16]
+/// Returns the IPv6 address in a value.
+fn ipv6_in(value: &[u8], tx: &[u8; 12]) -> [u8; 16]
     requires { 20 ≤ length value.now }
-    ensures { masked 16 result (long_mask tx.now) ≡ take 16 (drop 4 value.now) }
+    ensures { masked 16 result (ipv6_mask tx.now) ≡ take 16 (drop 4 value.now) }
 {
     let (_, rest) = value.split_at(4);
-    (BigEndian::read_u128(rest) ^ long_mask(tx)).to_be_bytes()
+    (BigEndian::read_u128(rest) ^ ipv6_mask(tx)).to_be_bytes()
 }
 
-/// The address in the value of an attribute with an XOR address, under the transaction id of its message.
+/// Reads the value of an attribute with an XOR address, under the transaction id of its message
+/// (RFC 8489, section 14.2).
 ///
 /// # Errors
-/// A1 for a value that is neither of 8 bytes with the family of IPv4 nor of 20 bytes with that of IPv6.
+/// Returns A1 for a value that has neither 8 bytes and the family of IPv4 nor 20 bytes and that of IPv6.
 pub fn read_xor_addr(value: &[u8], tx: &[u8; 12]) -> Result<Addr, BadValue>
     ensures found { IfOk result (λ a. IsAddressValue a tx.now value.now) }
     ensures kind { IfErr result (λ e. e.0 ≡ kinds.Address) }
     ensures refused { IfErr result (λ e. (a : addr.Addr) → IsAddressValue a tx.now value.now → ⊥) }
 {
-    if value.len() == SHORT && value[1] == family::IPV4 {
-        let (ip, port) = (short_ip_in(value), port_in(value));
+    if value.len() == IPV4_BYTES && value[1] == family::IPV4 {
+        let (ip, port) = (ipv4_in(value), port_in(value));
+        has_width(&ip, port);
         return Ok(Addr::V4 { ip, port });
     }
-    if value.len() == LONG && value[1] == family::IPV6 {
-        let (ip, port) = (long_ip_in(value, tx), port_in(value));
+    if value.len() == IPV6_BYTES && value[1] == family::IPV6 {
+        let (ip, port) = (ipv6_in(value, tx), port_in(value));
+        has_width(&ip, port);
         return Ok(Addr::V6 { ip, port });
     }
     Err(BadValue(ValueKind::Address))
 }
 
-/// Writes what precedes an address: a zero, the family, and the port.
+/// Writes what precedes an address: a zero, the family and the port.
 fn write_front(front: &mut [u8], family: u8, port: u16)
     requires { length front.old ≡ 4 }
     ensures { front.new ≡ 0 ∷ family ∷ big_bytes 2 (bit_xor port cookie_half) }
@@ -120,60 +122,82 @@ fn write_front(front: &mut [u8], family: u8, port: u16)
     BigEndian::write_u16(rest, port ^ COOKIE_HALF);
 }
 
-/// The value of an IPv4 address.
-fn short_value(ip: &[u8; 4], port: u16) -> [u8; SHORT]
+/// Returns the value of an IPv4 address.
+fn ipv4_value(ip: &[u8; 4], port: u16) -> [u8; IPV4_BYTES]
     ensures { result ≡ 0 ∷ IPV4 ∷ big_bytes 2 (bit_xor port cookie_half) ++ masked 4 ip.now magic_cookie }
 {
-    let mut value = [0; SHORT];
+    let mut value = [0; IPV4_BYTES];
     let (front, rest) = value.split_at_mut(FRONT);
     write_front(front, family::IPV4, port);
     BigEndian::write_u32(rest, BigEndian::read_u32(ip) ^ MAGIC_COOKIE);
     value
 }
 
-/// The value of an IPv6 address.
-fn long_value(ip: &[u8; 16], port: u16, tx: &[u8; 12]) -> [u8; LONG]
-    ensures { result ≡ 0 ∷ IPV6 ∷ big_bytes 2 (bit_xor port cookie_half) ++ masked 16 ip.now (long_mask tx.now) }
+/// Returns the value of an IPv6 address.
+fn ipv6_value(ip: &[u8; 16], port: u16, tx: &[u8; 12]) -> [u8; IPV6_BYTES]
+    ensures { result ≡ 0 ∷ IPV6 ∷ big_bytes 2 (bit_xor port cookie_half) ++ masked 16 ip.now (ipv6_mask tx.now) }
 {
-    let mut value = [0; LONG];
+    let mut value = [0; IPV6_BYTES];
     let (front, rest) = value.split_at_mut(FRONT);
     write_front(front, family::IPV6, port);
-    BigEndian::write_u128(rest, BigEndian::read_u128(ip) ^ long_mask(tx));
+    BigEndian::write_u128(rest, BigEndian::read_u128(ip) ^ ipv6_mask(tx));
     value
 }
 
-/// Writes an attribute with an XOR address, under the transaction id of the message.
+/// Appends an attribute with an XOR address, under the transaction id of the message.
 ///
 /// # Errors
-/// Where it has no room: nothing is changed then.
+/// Returns [`NoRoom`] as [`Builder::attr`] does, and changes nothing.
 pub fn write_xor_addr(builder: &mut Builder<'_>, kind: u16, address: &Addr) -> Result<(), NoRoom>
-    ensures written { OnOk result (IsWritten (with_attribute (built builder.old.buffer.now) kind (address_value address.now (built builder.old.buffer.now).transaction_id)) builder.old.buffer.now builder.new.buffer.now) }
-    ensures no_room { OnErr result (HasNoRoom (with_attribute (built builder.old.buffer.now) kind (address_value address.now (built builder.old.buffer.now).transaction_id)) builder.old.buffer.now builder.new.buffer.now) }
-    ensures same_reference { builder.new.buffer.ghost_name ≡ builder.old.buffer.ghost_name }
+    ensures appends { OnOk result
+        (Appends kind (value_in builder.old address.now) builder.old builder.new) }
+    ensures no_room { OnErr result
+        (HasNoRoom (value_in builder.old address.now) builder.old builder.new) }
+    ensures same_buffer { SameBuffer builder.old builder.new }
 {
     match address {
-        Addr::V4 { ip, port } => builder.attr(kind, &short_value(ip, *port)),
+        Addr::V4 { ip, port } => builder.attr(kind, &ipv4_value(ip, *port)),
         Addr::V6 { ip, port } => {
-            let value = long_value(ip, *port, &builder.tx());
+            let value = ipv6_value(ip, *port, &builder.tx());
             builder.attr(kind, &value)
         }
     }
 }
 
-/// The items of a slice of bytes are bytes.
+/// Appends an attribute with an XOR address where there is room for the longest, so that it can't fail.
+pub fn push_xor_addr(builder: &mut Builder<'_>, kind: u16, address: &Addr)
+    requires room { used_of builder.old + 27 ≤ room_of builder.old }
+    ensures appends { Appends kind (value_in builder.old address.now) builder.old builder.new }
+    ensures same_buffer { SameBuffer builder.old builder.new }
+{
+    match address {
+        Addr::V4 { ip, port } => builder.push(kind, &ipv4_value(ip, *port).as_slice()),
+        Addr::V6 { ip, port } => {
+            let value = ipv6_value(ip, *port, &builder.tx());
+            builder.push(kind, &value.as_slice());
+        }
+    }
+}
+
+/// States that the value of an address has at most 20 bytes.
+pub fn values_are_short()
+    ensures { (a : addr.Addr) (tx : List ℕ) → length (address_value a tx) ≤ 20 }
+{}
+
+/// States that every item of a slice of bytes is below 256.
 fn are_bytes(bytes: &[u8])
     ensures { (i : ℕ) → slice_index bytes.now i < 256 }
 {}
 
-/// An address of `N` bytes and its port have their widths.
+/// States that an address of `N` bytes and its port have their widths.
 fn has_width<const N: usize>(ip: &[u8; N], port: u16)
     ensures { HasWidth N ip.now port }
 {
     are_bytes(ip);
 }
 
-/// An address has the width of its family.
-fn is_address(address: &Addr)
+/// States that an address has the bytes of its family, and a port of 16 bits.
+pub fn is_address(address: &Addr)
     ensures { IsAddress address.now }
 {
     match address {
@@ -182,13 +206,19 @@ fn is_address(address: &Addr)
     }
 }
 
-/// An address is read back from its value: from what `write_xor_addr` writes, and with any other first byte.
+/// Reads an address back from its value, which may have any first byte: this always succeeds.
 pub fn read_back(address: &Addr, tx: &[u8; 12], value: &[u8]) -> Result<Addr, BadValue>
     requires { IsAddressValue address.now tx.now value.now }
     ensures { IsOkAnd result (λ a. a ≡ address.now) }
 {
-    is_address(address);
     let address = read_xor_addr(value, tx)?;
-    is_address(&address);
     Ok(address)
+}
+
+/// States that a value has at most one address under a transaction id.
+pub fn addresses_are_unique(tx: &[u8; 12])
+    ensures { (a b : addr.Addr) (value : List ℕ)
+        → IsAddressValue a tx.now value → IsAddressValue b tx.now value → a ≡ b }
+{
+    are_bytes(tx);
 }

@@ -1,4 +1,4 @@
-//! The values of attributes: addresses, lifetimes, numbers of channels, transports, families and errors.
+//! The values of attributes: addresses, lifetimes, channel numbers, transports, families and errors.
 #![tactic(auto)]
 
 mod address;
@@ -6,10 +6,13 @@ mod error;
 mod number;
 mod refusal;
 
-pub use address::{Addr, read_back, read_xor_addr, write_xor_addr};
-pub use error::{write_error, write_unknown};
-pub use number::{channel_number, lifetime, requested_family, requested_transport};
+pub use address::{
+    Addr, addresses_are_unique, is_address, push_xor_addr, read_back, read_xor_addr,
+    values_are_short, write_xor_addr,
+};
+pub use error::{push_error, push_unknown, write_error, write_unknown};
+pub use number::{
+    channel_number, lifetime, lifetimes_are_read_back, numbers_are_unique, requested_family,
+    requested_transport,
+};
 pub use refusal::{BadValue, ValueKind};
-
-#[cfg(test)]
-mod tests;

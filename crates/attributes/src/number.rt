@@ -1,19 +1,20 @@
-//! Values that hold one number (RFC 8656, section 18).
+//! Values with one number (RFC 8656, section 18).
 
-ghost use Rattle.std.specs.Prelude.{◌≡◌, ℕ, IfOk, IfErr};
+ghost use Rattle.std.specs.Prelude.{◌≡◌, ℕ, List, ◌<◌, ◌^◌, IfOk, IfErr};
+ghost use Rattle.stun.specs.Endian.{big_bytes};
 ghost use Rattle.attributes.specs.Values.{IsNumberValue};
 ghost use Rattle.attributes.specs.declared.refusal.ValueKind.TheVariants as kinds;
 
 use crate::refusal::{BadValue, ValueKind};
 use byteorder::{BigEndian, ByteOrder};
 
-/// How many bytes each of these values has.
+/// The length of each of these values, in bytes.
 const LENGTH: usize = 4;
 
-/// The seconds of LIFETIME (RFC 8656, section 18.2), in four bytes.
+/// Reads LIFETIME (RFC 8656, section 18.2): seconds, in four bytes.
 ///
 /// # Errors
-/// A1 for another length.
+/// Returns A1 for a value of another length.
 #[tactic(auto, using(crate::proofs::Numbers::number_read))]
 pub fn lifetime(value: &[u8]) -> Result<u32, BadValue>
     ensures found { IfOk result (λ n. IsNumberValue 4 n value.now) }
@@ -27,11 +28,11 @@ pub fn lifetime(value: &[u8]) -> Result<u32, BadValue>
     }
 }
 
-/// The number of CHANNEL-NUMBER (RFC 8656, section 18.1): the first two of four bytes, whose last two are
+/// Reads CHANNEL-NUMBER (RFC 8656, section 18.1): the first two of four bytes, of which the last two are
 /// ignored.
 ///
 /// # Errors
-/// A1 for another length.
+/// Returns A1 for a value of another length.
 #[tactic(auto, using(crate::proofs::Numbers::number_read))]
 pub fn channel_number(value: &[u8]) -> Result<u16, BadValue>
     ensures found { IfOk result (λ n. IsNumberValue 2 n value.now) }
@@ -45,11 +46,11 @@ pub fn channel_number(value: &[u8]) -> Result<u16, BadValue>
     }
 }
 
-/// The protocol number of REQUESTED-TRANSPORT (RFC 8656, section 18.7): the first of four bytes, whose last
-/// three are ignored.
+/// Reads REQUESTED-TRANSPORT (RFC 8656, section 18.8): a protocol number, the first of four bytes, of which
+/// the last three are ignored.
 ///
 /// # Errors
-/// A1 for another length.
+/// Returns A1 for a value of another length.
 #[tactic(auto, using(crate::proofs::Numbers::first_read))]
 pub fn requested_transport(value: &[u8]) -> Result<u8, BadValue>
     ensures found { IfOk result (λ n. IsNumberValue 1 n value.now) }
@@ -63,11 +64,11 @@ pub fn requested_transport(value: &[u8]) -> Result<u8, BadValue>
     }
 }
 
-/// The family of REQUESTED-ADDRESS-FAMILY (RFC 8656, section 18.6): the first of four bytes, whose last
-/// three are ignored. A family that is neither IPv4's nor IPv6's is well formed.
+/// Reads REQUESTED-ADDRESS-FAMILY (RFC 8656, section 18.6): a family, the first of four bytes, of which the
+/// last three are ignored. A family that is neither IPv4's nor IPv6's is well formed.
 ///
 /// # Errors
-/// A1 for another length.
+/// Returns A1 for a value of another length.
 #[tactic(auto, using(crate::proofs::Numbers::first_read))]
 pub fn requested_family(value: &[u8]) -> Result<u8, BadValue>
     ensures found { IfOk result (λ n. IsNumberValue 1 n value.now) }
@@ -80,3 +81,13 @@ pub fn requested_family(value: &[u8]) -> Result<u8, BadValue>
         Err(BadValue(ValueKind::RequestedFamily))
     }
 }
+
+/// States that a value has at most one number of a width.
+pub fn numbers_are_unique()
+    ensures { (n a b : ℕ) (value : List ℕ) → IsNumberValue n a value → IsNumberValue n b value → a ≡ b }
+{}
+
+/// States that the four bytes of a number, high byte first, are the value of LIFETIME with that number.
+pub fn lifetimes_are_read_back()
+    ensures { (n : ℕ) → n < 2 ^ 32 → IsNumberValue 4 n (big_bytes 4 n) }
+{}

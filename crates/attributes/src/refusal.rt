@@ -1,8 +1,8 @@
-//! Why a value isn't read.
+//! The error of a malformed value.
 
 use thiserror::Error;
 
-/// What a value should have been.
+/// The kind of a value.
 #[derive(Clone, Copy, Debug, PartialEq, Eq)]
 pub enum ValueKind {
     Address,
@@ -12,7 +12,7 @@ pub enum ValueKind {
     RequestedFamily,
 }
 
-/// A1: a value has another length than its kind, or is an address of another family than IPv4 and IPv6.
+/// A1: a value has the wrong length for its kind, or is an address whose family is neither IPv4 nor IPv6.
 #[derive(Clone, Copy, Debug, PartialEq, Eq, Error)]
 #[error("A1")]
 pub struct BadValue(pub ValueKind);

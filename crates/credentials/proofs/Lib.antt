@@ -1,3 +1,4 @@
 pub mod CodeBytes
 pub mod Users
+pub mod Values
 pub mod Signed

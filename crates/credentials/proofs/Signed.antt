@@ -1,11 +1,14 @@
 -- A message that was signed has its code.
-use Rattle.std.proofs.Common.{◌≡◌, ℕ, ◌+◌, Ok, Bool, true, false, List, [], ◌∷◌, ◌++◌, length, map, Option, Some, None, refl, sym, ap, ◌∙◌}
+use Rattle.std.proofs.Common.{◌≡◌, ℕ, Ok, Bool, true, false, List, [], ◌∷◌, ◌++◌, map, Option, Some, None, refl, sym, ap, ◌∙◌}
 use Rattle.std.specs.Prelude.{option_map, ◌==◌, if◌then◌else◌}
 use Rattle.stun.specs.Registry.{message_integrity}
-use Rattle.stun.specs.Messages.{Padded, Parts, header, attribute_of, attributes_bytes, up_to_integrity, before_first, zero_padded}
+use Rattle.stun.specs.Messages.{Padded, Parts, attribute_of, up_to_integrity, before_first, zero_padded}
 use Rattle.credentials.specs.Hmac.{hmac}
-use Rattle.credentials.specs.Checks.{Names, IsUser, IsFresh, IsChecked, first_value, value_in, code_under}
-use Rattle.credentials.specs.Signs.{IsUnsigned, code_of, signed, key_at}
+use Rattle.credentials.specs.Checks.{Names, IsUser, IsFresh, IsChecked, user_key, value_in}
+use Rattle.credentials.specs.Integrity.{covered_bytes, code_under, code_of}
+use Rattle.credentials.specs.Signs.{IsUnsigned, signed}
+use Rattle.credentials.proofs.Values.{value_cons}
+use Rattle.stun.specs.Attributes.{value_of}
 use Rattle.stun.specs.declared.registry.attribute.TheConstants.{USERNAME, REALM, NONCE}
 
 some_is_none : {A : Type 0} (x : A) → Some x ≡ None → ⊥
@@ -24,42 +27,43 @@ front_is : (attributes : List Padded) (value : List ℕ) → before_first attrib
 front_is [] value e = refl
 front_is (a ∷ attributes) value e = front_step (a.kind == message_integrity) a attributes (before_first attributes) (before_first (attributes ++ zero_padded message_integrity value ∷ [])) (front_is attributes value) e
 
-value_step : (b : Bool) (a : Padded) (value : List ℕ) (o : Option (List Padded)) (rest : List Padded) → (o ≡ None → first_value message_integrity (map attribute_of rest) ≡ Some value) → (if b then Some [] else option_map (λ front. a ∷ front) o) ≡ None
-    → (if b then Some a.value else first_value message_integrity (map attribute_of (if b then [] else rest))) ≡ Some value
+value_step : (b : Bool) (a : Padded) (value : List ℕ) (o : Option (List Padded)) (rest : List Padded) → (o ≡ None → value_of message_integrity (map attribute_of rest) ≡ Some value) → (if b then Some [] else option_map (λ front. a ∷ front) o) ≡ None
+    → (if b then Some a.value else value_of message_integrity (map attribute_of (if b then [] else rest))) ≡ Some value
 value_step true a value o rest on e = absurd (some_is_none [] e)
 value_step false a value o rest on e = on (none_mapped (λ front. a ∷ front) o e)
 
-value_is : (attributes : List Padded) (value : List ℕ) → before_first attributes ≡ None → first_value message_integrity (map attribute_of (up_to_integrity (attributes ++ zero_padded message_integrity value ∷ []))) ≡ Some value
+value_is : (attributes : List Padded) (value : List ℕ) → before_first attributes ≡ None → value_of message_integrity (map attribute_of (up_to_integrity (attributes ++ zero_padded message_integrity value ∷ []))) ≡ Some value
 value_is [] value e = refl
-value_is (a ∷ attributes) value e = value_step (a.kind == message_integrity) a value (before_first attributes) (up_to_integrity (attributes ++ zero_padded message_integrity value ∷ [])) (value_is attributes value) e
+value_is (a ∷ attributes) value e = value_cons message_integrity (attribute_of a) (map attribute_of (if a.kind == message_integrity then [] else up_to_integrity (attributes ++ zero_padded message_integrity value ∷ []))) ∙ value_step (a.kind == message_integrity) a value (before_first attributes) (up_to_integrity (attributes ++ zero_padded message_integrity value ∷ [])) (value_is attributes value) e
 
 -- the code of a signed message is the right one
 pub sign_is_right : (key : List ℕ) (p q : Parts) → q ≡ signed key p → before_first p.attributes ≡ None → code_under key q ≡ value_in q message_integrity
 sign_is_right key p q is none =
     let code : List ℕ = code_of key p in
     let right : code_under key (signed key p) ≡ value_in (signed key p) message_integrity =
-    ap (λ (o : Option (List Padded)). option_map (hmac key) (option_map (λ front. header p.kind (length (attributes_bytes front) + 24) p.transaction_id ++ attributes_bytes front) o)) (front_is p.attributes code none)
+    ap (λ (o : Option (List Padded)). option_map (λ front. hmac key (covered_bytes p front)) o) (front_is p.attributes code none)
     ∙ sym (value_is p.attributes code none) in
     ap (code_under key) is ∙ right ∙ ap (λ (r : Parts). value_in r message_integrity) (sym is)
 
--- what the attributes tell, none of which is a MESSAGE-INTEGRITY, they tell with one behind them
+-- attributes without a MESSAGE-INTEGRITY have the same values with one behind them
 kept_step : (b c : Bool) (a : Padded) (kind : ℕ) (x value : List ℕ) (o : Option (List Padded)) (before after : List Padded)
-    → (o ≡ None → first_value kind (map attribute_of before) ≡ Some value → first_value kind (map attribute_of after) ≡ Some value) → (if b then Some [] else option_map (λ front. a ∷ front) o) ≡ None
-    → (if c then Some x else first_value kind (map attribute_of (if b then [] else before))) ≡ Some value → (if c then Some x else first_value kind (map attribute_of (if b then [] else after))) ≡ Some value
+    → (o ≡ None → value_of kind (map attribute_of before) ≡ Some value → value_of kind (map attribute_of after) ≡ Some value) → (if b then Some [] else option_map (λ front. a ∷ front) o) ≡ None
+    → (if c then Some x else value_of kind (map attribute_of (if b then [] else before))) ≡ Some value → (if c then Some x else value_of kind (map attribute_of (if b then [] else after))) ≡ Some value
 kept_step true c a kind x value o before after on e is = absurd (some_is_none [] e)
 kept_step false true a kind x value o before after on e is = is
 kept_step false false a kind x value o before after on e is = on (none_mapped (λ front. a ∷ front) o e) is
 
-kept : (attributes : List Padded) (kind : ℕ) (code value : List ℕ) → before_first attributes ≡ None → first_value kind (map attribute_of (up_to_integrity attributes)) ≡ Some value
-    → first_value kind (map attribute_of (up_to_integrity (attributes ++ zero_padded message_integrity code ∷ []))) ≡ Some value
+kept : (attributes : List Padded) (kind : ℕ) (code value : List ℕ) → before_first attributes ≡ None → value_of kind (map attribute_of (up_to_integrity attributes)) ≡ Some value
+    → value_of kind (map attribute_of (up_to_integrity (attributes ++ zero_padded message_integrity code ∷ []))) ≡ Some value
 kept [] kind code value e is = absurd (some_is_none value (sym is))
 kept (a ∷ attributes) kind code value e is =
-    kept_step (a.kind == message_integrity) (a.kind == kind) a kind a.value value (before_first attributes) (up_to_integrity attributes) (up_to_integrity (attributes ++ zero_padded message_integrity code ∷ [])) (kept attributes kind code value) e is
+    value_cons kind (attribute_of a) (map attribute_of (if a.kind == message_integrity then [] else up_to_integrity (attributes ++ zero_padded message_integrity code ∷ [])))
+    ∙ kept_step (a.kind == message_integrity) (a.kind == kind) a kind a.value value (before_first attributes) (up_to_integrity attributes) (up_to_integrity (attributes ++ zero_padded message_integrity code ∷ [])) (kept attributes kind code value) e (sym (value_cons kind (attribute_of a) (map attribute_of (if a.kind == message_integrity then [] else up_to_integrity attributes))) ∙ is)
 
--- a message that lacks nothing but its code, with this code
-pub sign_is_accepted : (p : Parts) (name realm nonce : List ℕ) (users : Names) (index : ℕ) → IsUnsigned p nonce name → IsUser users name index → IsChecked (signed (key_at name realm users index) p) realm users nonce (Ok index)
+-- a message that lacks only its code, with this code
+pub sign_is_accepted : (p : Parts) (name realm nonce : List ℕ) (users : Names) (index : ℕ) → IsUnsigned p nonce name → IsUser users name index → IsChecked (signed (user_key realm users index) p) realm users nonce (Ok index)
 sign_is_accepted p name realm nonce users index is user =
-    let key : List ℕ = key_at name realm users index in
+    let key : List ℕ = user_key realm users index in
     let code : List ℕ = code_of key p in
     let code_is : value_in (signed key p) message_integrity ≡ Some code = value_is p.attributes code is.no_code in
     let fresh : IsFresh (signed key p) nonce code name = record {

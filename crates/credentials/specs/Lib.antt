@@ -1,4 +1,5 @@
 pub mod Hmac
+pub mod Integrity
 pub mod Checks
 pub mod Keys
 pub mod Signs

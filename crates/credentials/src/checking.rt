@@ -1,47 +1,36 @@
-//! The ordered test of a request's credentials (RFC 8489, section 9.2.4).
+//! The ordered check of a request's credentials (RFC 8489, section 9.2.4).
 
-ghost use Rattle.std.specs.Prelude.{◌≡◌, ℕ, List, Result, Some, Err, IfSome, IfNone, IfOk, IfErr, option_copied, Decides};
-ghost use Rattle.stun.specs.Messages.{Parts, message_of};
-ghost use Rattle.credentials.specs.Keys.{key_of};
-ghost use Rattle.credentials.specs.Checks.{first_value, code_under, names_of, Names, IsUser, IsNoUser, IsFresh, IsChecked};
+ghost use Rattle.std.specs.Prelude.{◌≡◌, ℕ, List, Result, Some, Ok, Err, IfSome, IfNone, IfOk, IfErr, string_bytes, Decides};
+ghost use Rattle.stun.specs.Messages.{Parts};
+ghost use Rattle.credentials.specs.Keys.{key_of, key_bytes};
+ghost use Rattle.credentials.specs.Integrity.{code_under};
+ghost use Rattle.credentials.specs.Checks.{names_of, Names, user_key, IsUser, IsNoUser, IsFresh, IsChecked};
 ghost use Rattle.credentials.specs.declared.checking.AuthError.{AuthError};
 
 use crate::key::Key;
+use crate::scanning::credentials_of;
 use crate::signing::code_over;
 use stun::Message;
-use stun::registry::attribute::{MESSAGE_INTEGRITY, NONCE, REALM, USERNAME};
 use thiserror::Error;
 
-/// Why credentials are refused: the first of these, in the order of the codes.
+/// Why credentials are refused: the first that applies, in the order of the codes.
 #[derive(Clone, Copy, Debug, PartialEq, Eq, Error)]
 pub enum AuthError {
     /// There is no MESSAGE-INTEGRITY.
     #[error("C1")]
     Missing,
-    /// USERNAME, REALM or NONCE is not there.
+    /// USERNAME, REALM or NONCE is missing.
     #[error("C2")]
     Incomplete,
-    /// The nonce is another one.
+    /// The nonce is not the current one.
     #[error("C3")]
     StaleNonce,
     /// No user has the name.
     #[error("C4")]
     UnknownUser,
-    /// The code is another one, or hasn't 20 bytes.
+    /// The code is wrong, or hasn't 20 bytes.
     #[error("C5")]
     WrongCode,
-}
-
-/// The value of the first attribute of a type, among those that count.
-fn first_value<'a>(message: &Message<'a>, kind: u16) -> Option<&'a [u8]>
-    ensures { option_copied result ≡ first_value kind (message_of message.now).attributes }
-{
-    for attr in message.attrs() {
-        if attr.kind == kind {
-            return Some(attr.value);
-        }
-    }
-    None
 }
 
 /// A user: a name and a password.
@@ -51,33 +40,46 @@ pub struct User {
     pub password: String,
 }
 
-/// The code of a message under a key, if it has a MESSAGE-INTEGRITY.
+/// The user whose credentials were accepted: its index, and its key, under which the reply is signed.
+#[derive(Clone, Copy, PartialEq, Eq)]
+pub struct Authenticated {
+    pub user: usize,
+    pub key: Key,
+}
+
+/// Returns the right code of a message under a key, if the message has a MESSAGE-INTEGRITY.
 fn code_under(key: &Key, message: &Message<'_>) -> Option<[u8; 20]>
-    ensures { result ≡ code_under key.now.bytes message.now }
+    ensures { result ≡ code_under (key_bytes key.now) message.now }
 {
     let front = message.before_integrity()?;
     Some(code_over(front, key))
 }
 
-/// Whether a user has a name.
-fn has_name(user: &User, name: &[u8]) -> bool
-    ensures { Decides result (user.now.name.bytes.items ≡ name.now) }
+/// Returns whether a code is the right one of a message under a key.
+fn is_code(message: &Message<'_>, key: &Key, code: &[u8]) -> bool
+    ensures { Decides result (code_under (key_bytes key.now) message.now ≡ Some code.now) }
 {
-    user.name.as_bytes() == name
-}
-
-/// Whether a code is a message's under the key of a user.
-fn is_code(message: &Message<'_>, realm: &str, user: &User, code: &[u8]) -> bool
-    ensures { Decides result (code_under (key_of user.now.name.bytes.items realm.now user.now.password.bytes.items) message.now ≡ Some code.now) }
-{
-    let key = Key::of(&user.name, realm, &user.password);
-    match code_under(&key, message) {
+    match code_under(key, message) {
         Some(made) => made.as_slice() == code,
         None => false,
     }
 }
 
-/// The first user of a name, by its index.
+/// Returns whether a user has a name.
+fn has_name(user: &User, name: &[u8]) -> bool
+    ensures { Decides result (string_bytes user.now.name ≡ name.now) }
+{
+    user.name.as_bytes() == name
+}
+
+/// Returns the key of a user in a realm.
+fn key_of_user(user: &User, realm: &str) -> Key
+    ensures { key_bytes result ≡ key_of (string_bytes user.now.name) realm.now (string_bytes user.now.password) }
+{
+    Key::of(&user.name, realm, &user.password)
+}
+
+/// Returns the index of the first user of a name.
 fn user_of(users: &[User], name: &[u8]) -> Option<usize>
     ensures some { IfSome result (IsUser (names_of users.now) name.now) }
     ensures none { IfNone result (IsNoUser (names_of users.now) name.now) }
@@ -90,30 +92,60 @@ fn user_of(users: &[User], name: &[u8]) -> Option<usize>
     None
 }
 
-/// The code and the name of a message that has both, a realm, and the nonce at hand.
+/// Returns the code and the name of a message that has both, a realm and this nonce.
 ///
 /// # Errors
-/// C1 to C3.
+/// Returns C1 to C3.
 fn fresh<'a>(message: &Message<'a>, nonce: &str) -> Result<(&'a [u8], &'a [u8]), AuthError>
     ensures found { IfOk result (λ r. IsFresh message.now nonce.now r.0.now r.1.now) }
-    ensures refused { IfErr result (λ e. (realm : List ℕ) (users : Names) → IsChecked message.now realm users nonce.now (Err e)) }
+    ensures refused { IfErr result (λ e. (realm : List ℕ) (users : Names)
+        → IsChecked message.now realm users nonce.now (Err e)) }
 {
-    let code = first_value(message, MESSAGE_INTEGRITY).ok_or(AuthError::Missing)?;
-    let name = first_value(message, USERNAME).ok_or(AuthError::Incomplete)?;
-    first_value(message, REALM).ok_or(AuthError::Incomplete)?;
-    let given = first_value(message, NONCE).ok_or(AuthError::Incomplete)?;
+    let found = credentials_of(message);
+    let code = found.code.ok_or(AuthError::Missing)?;
+    let name = found.name.ok_or(AuthError::Incomplete)?;
+    found.realm.ok_or(AuthError::Incomplete)?;
+    let given = found.nonce.ok_or(AuthError::Incomplete)?;
     if given != nonce.as_bytes() {
         return Err(AuthError::StaleNonce);
     }
     Ok((code, name))
 }
 
-/// Tests a message's credentials: its code, name, realm and nonce are there, the nonce is the one at hand,
-/// a user has the name, and the code is the one under that user's key. Answers the user's index. The realm
-/// that the message names is not compared.
+/// Checks the credentials of a request: it has a code, a name, a realm and the nonce, a user has the name,
+/// and the code is the right one under the key of that user. Returns that user and key. The realm that the
+/// request names is not compared.
 ///
 /// # Errors
-/// The first test that fails.
+/// Returns the first test that fails, in the order of [`AuthError`].
+pub fn authenticate(
+    message: &Message<'_>,
+    realm: &str,
+    users: &[User],
+    nonce: &str,
+) -> Result<Authenticated, AuthError>
+    ensures found { IfOk result
+        (λ a. IsChecked message.now realm.now (names_of users.now) nonce.now (Ok a.user)) }
+    ensures key { IfOk result (λ a. key_bytes a.key ≡ user_key realm.now (names_of users.now) a.user) }
+    ensures refused { IfErr result
+        (λ e. IsChecked message.now realm.now (names_of users.now) nonce.now (Err e)) }
+{
+    let (code, name) = fresh(message, nonce)?;
+    let Some(index) = user_of(users, name) else {
+        return Err(AuthError::UnknownUser);
+    };
+    let key = key_of_user(&users[index], realm);
+    if is_code(message, &key, code) {
+        Ok(Authenticated { user: index, key })
+    } else {
+        Err(AuthError::WrongCode)
+    }
+}
+
+/// Checks the credentials of a request as [`authenticate`] does, and returns the index of the user alone.
+///
+/// # Errors
+/// Returns those of [`authenticate`].
 pub fn check(
     message: &Message<'_>,
     realm: &str,
@@ -122,18 +154,11 @@ pub fn check(
 ) -> Result<usize, AuthError>
     ensures { IsChecked message.now realm.now (names_of users.now) nonce.now result }
 {
-    let (code, name) = fresh(message, nonce)?;
-    let Some(index) = user_of(users, name) else {
-        return Err(AuthError::UnknownUser);
-    };
-    if is_code(message, realm, &users[index], code) {
-        Ok(index)
-    } else {
-        Err(AuthError::WrongCode)
-    }
+    let authenticated = authenticate(message, realm, users, nonce)?;
+    Ok(authenticated.user)
 }
 
-/// A message has one answer of the ordered test.
+/// States that the ordered check has at most one answer for a message.
 pub fn answers_are_unique()
     ensures { (p : Parts) (realm : List ℕ) (users : Names) (nonce : List ℕ) (a b : Result ℕ AuthError)
         → IsChecked p realm users nonce a → IsChecked p realm users nonce b → a ≡ b }

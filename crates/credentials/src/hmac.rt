@@ -7,14 +7,14 @@ ghost use Rattle.credentials.specs.Hmac.{block_of, padded, hmac};
 
 use sha1::Sha1;
 
-/// The block of the hash, in bytes.
+/// The length of a block of the hash, in bytes.
 const BLOCK: usize = 64;
 
 const INNER_PAD: u8 = 0x36;
 
 const OUTER_PAD: u8 = 0x5c;
 
-/// Writes bytes over the first ones of a slice.
+/// Overwrites the first bytes of a slice.
 fn write_front(bytes: &mut [u8], front: &[u8])
     requires { length front.now ≤ length bytes.old }
     ensures { bytes.new ≡ front.now ++ drop (length front.now) bytes.old }
@@ -23,7 +23,7 @@ fn write_front(bytes: &mut [u8], front: &[u8])
     begin.copy_from_slice(front);
 }
 
-/// The key, filled with zeros to a block.
+/// Returns a key filled with zeros to a block.
 fn block_of(key: &[u8]) -> [u8; BLOCK]
     requires { length key.now ≤ 64 }
     ensures { result ≡ block_of key.now }
@@ -33,7 +33,7 @@ fn block_of(key: &[u8]) -> [u8; BLOCK]
     block
 }
 
-/// Each byte is xored with a pad.
+/// Xors each byte with a pad.
 fn pad_bytes(bytes: &mut [u8], pad: u8)
     ensures { bytes.new ≡ padded pad bytes.old }
 {
@@ -42,7 +42,7 @@ fn pad_bytes(bytes: &mut [u8], pad: u8)
     }
 }
 
-/// A block, each byte xored with a pad.
+/// Returns a block with each byte xored with a pad.
 fn padded(pad: u8, mut block: [u8; BLOCK]) -> [u8; BLOCK]
     ensures { result ≡ padded pad block }
 {
@@ -50,7 +50,7 @@ fn padded(pad: u8, mut block: [u8; BLOCK]) -> [u8; BLOCK]
     block
 }
 
-/// Feeds pieces to a hash, one after the other.
+/// Hashes pieces, one after the other.
 fn update_all(hash: &mut Sha1, pieces: &[&[u8]])
     ensures { (m : List ℕ) → Holds hash.old m → Holds hash.new (m ++ concat (map (λ piece. piece.now) pieces.now)) }
 {
@@ -59,7 +59,7 @@ fn update_all(hash: &mut Sha1, pieces: &[&[u8]])
     }
 }
 
-/// The code of a message, which is handed in as pieces, under a key of at most 64 bytes.
+/// Returns the code of a message, given in pieces, under a key of at most 64 bytes (RFC 2104, section 2).
 pub fn hmac_sha1(key: &[u8], pieces: &[&[u8]]) -> [u8; 20]
     requires { length key.now ≤ 64 }
     ensures { result ≡ hmac key.now (concat (map (λ piece. piece.now) pieces.now)) }

@@ -1,11 +1,8 @@
-//! The key of a user.
-
-ghost use Rattle.std.specs.Prelude.{◌≡◌};
-ghost use Rattle.credentials.specs.Keys.{key_of};
+//! The keys of users.
 
 use md5::{Digest, Md5};
 
-/// The key of a user of a realm (RFC 8489, section 9.2.2), 16 bytes.
+/// The key of a user in a realm (RFC 8489, section 9.2.2), 16 bytes.
 #[derive(Clone, Copy, PartialEq, Eq)]
 pub struct Key {
     bytes: [u8; 16],
@@ -13,11 +10,11 @@ pub struct Key {
 
 impl Key {
     ghost use Rattle.std.specs.Prelude.{◌≡◌};
-    ghost use Rattle.credentials.specs.Keys.{key_of};
+    ghost use Rattle.credentials.specs.Keys.{key_of, key_bytes};
 
-    /// MD5 of `user:realm:password`.
+    /// Returns the MD5 digest of `user:realm:password`.
     pub fn of(user: &str, realm: &str, password: &str) -> Key
-        ensures { result.bytes ≡ key_of user.now realm.now password.now }
+        ensures { key_bytes result ≡ key_of user.now realm.now password.now }
     {
         let mut hasher = Md5::new();
         hasher.update(user.as_bytes());
@@ -30,9 +27,9 @@ impl Key {
         }
     }
 
-    /// Its bytes.
+    /// Returns the bytes of the key.
     pub fn bytes(&self) -> &[u8; 16]
-        ensures { result.now ≡ self.now.bytes }
+        ensures { result.now ≡ key_bytes self.now }
     {
         &self.bytes
     }

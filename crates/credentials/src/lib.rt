@@ -1,16 +1,14 @@
-//! The long-term credentials of STUN (RFC 8489, section 9.2): keys, and the codes made with them. Nothing
-//! takes memory.
+//! The long-term credential mechanism of STUN (RFC 8489, section 9.2): keys, codes, and their check. Nothing
+//! is allocated.
 #![tactic(auto)]
 
 mod checking;
 mod hmac;
 mod key;
+mod scanning;
 mod signing;
 
-pub use checking::{AuthError, User, answers_are_unique, check};
+pub use checking::{AuthError, Authenticated, User, answers_are_unique, authenticate, check};
 pub use hmac::hmac_sha1;
 pub use key::Key;
-pub use signing::{sign, what_is_signed_is_accepted, what_is_signed_is_right};
-
-#[cfg(test)]
-mod tests;
+pub use signing::{push_integrity, sign, what_is_signed_is_accepted, what_is_signed_is_right};

@@ -84,7 +84,7 @@ parts_are bytes p are spelled =
 fours_more : (n k m : ℕ) → m % 4 ≡ 0 → k ≡ 4 + n + padding_count n + m → k % 4 ≡ 0
 fours_more n k m e is = omega arith
 
-fours : (list : List Padded) → AllByRecursion IsPadded list → length (attributes_bytes list) % 4 ≡ 0
+pub fours : (list : List Padded) → AllByRecursion IsPadded list → length (attributes_bytes list) % 4 ≡ 0
 fours [] all = refl
 fours (a ∷ list) all =
     fours_more (length a.value) (length (attributes_bytes (a ∷ list))) (length (attributes_bytes list)) (fours list all.1) (length_of_attribute a (attributes_bytes list) all.0)

@@ -1,15 +1,15 @@
 -- What is written over bytes, and the parts of what stands in a buffer.
-use Rattle.std.proofs.Common.{◌≡◌, ℕ, zero, suc, ◌+◌, ◌<◌, ◌≤◌, List, [], ◌∷◌, ◌++◌, length, take, drop, replicate, subst, refl, sym, ap, ◌∙◌, arith, append_assoc}
+use Rattle.std.proofs.Common.{◌≡◌, ℕ, zero, suc, ◌+◌, ◌%◌, ◌<◌, ◌≤◌, min, List, [], ◌∷◌, ◌++◌, length, take, drop, replicate, subst, refl, sym, ap, ◌∙◌, arith, append_assoc}
 use Rattle.std.specs.List.{AllByRecursion}
-use Rattle.std.proofs.lemmas.List.{length-append, length-take-le, take-append-drop, drop-drop, append-nil}
+use Rattle.std.proofs.lemmas.List.{length-append, length-drop, length-take-le, take-append-drop, drop-drop, append-nil}
 use Rattle.byteorder.specs.Endian.{big_bytes}
 use Rattle.byteorder.specs.Numbers.{big_number-reads_back}
 use Rattle.stun.specs.Registry.{magic_cookie}
-use Rattle.stun.specs.Messages.{Padded, IsPadded, Parts, AreParts, padding_count, attribute_bytes, attributes_bytes, header, parts_bytes, zero_padded, with_attribute, started, FitIn}
+use Rattle.stun.specs.Messages.{Padded, IsPadded, Parts, AreParts, padding_count, attribute_bytes, attributes_bytes, header, parts_bytes, zero_padded, with_attribute, started, attribute_length}
 use Rattle.stun.specs.Refusals.{number_at}
-use Rattle.stun.specs.Building.{IsBuilding, message_in, built, over, patched, IsWritten}
+use Rattle.stun.specs.Building.{IsBuilding, message_in, built, used_in, room_in, over, patched, Begins, IsAppended}
 use Rattle.stun.proofs.Grammar.{piece_take, piece_drop}
-use Rattle.stun.proofs.Datagrams.{parts_are, length_of_parts}
+use Rattle.stun.proofs.Datagrams.{parts_are, fours, length_of_parts}
 
 -- ---- pieces written one after the other
 
@@ -60,6 +60,7 @@ pub record Stands (p : Parts) (r b : List ℕ) : Type 0 where
   pub behind : drop (length (parts_bytes p)) b ≡ r
 
 pub stands : (b : List ℕ) (p : Parts) (r : List ℕ) → AreParts p → b ≡ parts_bytes p ++ r → Stands p r b
+unfolding built
 stands b p r are spelled =
     let whole = parts_bytes p in
     let x = attributes_bytes p.attributes in
@@ -82,6 +83,7 @@ stands b p r are spelled =
 
 -- a buffer that is being built stands as its message and the rest
 pub split_building : (b : List ℕ) → IsBuilding b → (b ≡ parts_bytes (built b) ++ drop (length (parts_bytes (built b))) b) × (length (parts_bytes (built b)) ≡ 20 + number_at 2 2 b) × (length (attributes_bytes (built b).attributes) ≡ number_at 2 2 b)
+unfolding built
 split_building b is =
     let p = built b in
     let spelled = is.message.spelled in
@@ -125,6 +127,7 @@ length_of_with p kind value are = omega (arith, length-append p.transaction_id (
 pushed : (b b1 b2 : List ℕ) (kind : ℕ) (value : List ℕ) (at total : ℕ) → IsBuilding b → b1 ≡ patched at (attribute_bytes (zero_padded kind value)) b → b2 ≡ patched 2 (big_bytes 2 total) b1
     → at ≡ 20 + number_at 2 2 b → total ≡ number_at 2 2 b + (4 + length value + padding_count (length value))
     → b2 ≡ over (with_attribute (built b) kind value) b
+unfolding built
 pushed b b1 b2 kind value at total is e1 e2 at_is total_is =
     let p = built b in
     let q = with_attribute p kind value in
@@ -148,30 +151,72 @@ pushed b b1 b2 kind value at total is e1 e2 at_is total_is =
 -- the buffer after a push, and its parts
 pushed_stands : (b new : List ℕ) (kind : ℕ) (value : List ℕ) → IsBuilding b → new ≡ over (with_attribute (built b) kind value) b → kind < 0x10000 → number_at 2 2 b + (4 + length value + padding_count (length value)) < 0x10000
     → Stands (with_attribute (built b) kind value) (drop (length (parts_bytes (with_attribute (built b) kind value))) b) new
+unfolding built
 pushed_stands b new kind value is spelled small short =
     let split = split_building b is in
     let are = with_are (built b) kind value is.message.are_parts small (omega (arith, length_with (built b) kind value, split.2, short)) in
     stands new (with_attribute (built b) kind value) (drop (length (parts_bytes (with_attribute (built b) kind value))) b) are spelled
 
--- a push that fits, and one that doesn't
-push_fits : (b : List ℕ) (kind : ℕ) (value : List ℕ) → IsBuilding b → number_at 2 2 b + (4 + length value + padding_count (length value)) < 0x10000 → 20 + (number_at 2 2 b + (4 + length value + padding_count (length value))) ≤ length b
-    → FitIn (with_attribute (built b) kind value) (length b)
-push_fits b kind value is short room =
+-- ---- the length so far, and the room
+
+pub used_is : (b : List ℕ) → IsBuilding b → used_in b ≡ 20 + number_at 2 2 b
+unfolding used_in
+used_is b is = (split_building b is).1
+
+pub take_used : (b : List ℕ) → IsBuilding b → take (used_in b) b ≡ parts_bytes (built b)
+unfolding built
+take_used b is = ap (λ n. take n b) (used_is b is) ∙ is.message.spelled
+
+pub room_of_length : (b : List ℕ) → room_in b ≡ min (length b) 65552
+unfolding room_in
+room_of_length b = refl
+
+same_room : (b new : List ℕ) → length new ≡ length b → room_in new ≡ room_in b
+unfolding room_in
+same_room b new e = ap (λ n. min n 65552) e
+
+pub used_fits : (b : List ℕ) → IsBuilding b → used_in b ≤ room_in b
+unfolding built
+used_fits b is =
     let split = split_building b is in
-    record {
-      buffer = omega (arith, length_of_with (built b) kind value is.message.are_parts, length_with (built b) kind value, split.2, room);
-      field = omega (arith, length_with (built b) kind value, split.2, short);
-    }
+    let short : number_at 2 2 b < 0x10000 = omega (arith, split.2, is.message.are_parts.short) in
+    let four : number_at 2 2 b % 4 ≡ 0 = omega (arith, fours (built b).attributes is.message.are_parts.attributes, split.2) in
+    let inside : 20 + number_at 2 2 b ≤ length b = is.inside in
+    omega (arith, used_is b is, room_of_length b)
+
+pub ended : (b message : List ℕ) → IsBuilding b → message ≡ parts_bytes (built b) → (length message ≡ used_in b) × (take (length message) b ≡ parts_bytes (built b)) × (length message ≤ room_in b)
+unfolding used_in
+ended b message is there =
+    let size : length message ≡ used_in b = ap length there in
+    (size, ap (λ n. take n b) size ∙ take_used b is, omega (arith, size, used_fits b is))
+
+pub id_of : (p : Parts) (bytes : List ℕ) → AreParts p → bytes ≡ parts_bytes p → take 12 (drop 8 bytes) ≡ p.transaction_id
+id_of p bytes are there = ap (λ b. take 12 (drop 8 b)) there ∙ piece_take p.transaction_id (attributes_bytes p.attributes) 12 (sym are.transaction_id)
+
+length_over : (p : Parts) (b : List ℕ) → length (parts_bytes p) ≤ length b → length (over p b) ≡ length b
+length_over p b fits = omega (arith, length-append (parts_bytes p) (drop (length (parts_bytes p)) b), length-drop (length (parts_bytes p)) b)
+
+with_length : (b : List ℕ) (kind : ℕ) (value : List ℕ) → IsBuilding b → length (parts_bytes (with_attribute (built b) kind value)) ≡ used_in b + attribute_length value
+unfolding built used_in
+with_length b kind value is =
+    let split = split_building b is in
+    omega (arith, length_of_with (built b) kind value is.message.are_parts, length_with (built b) kind value, split.1, split.2)
 
 -- the attribute that was pushed, in the numbers that the code has: its length, its padding, the length before and after
-pub attribute_pushed : (b b1 new : List ℕ) (kind : ℕ) (value : List ℕ) (n padding before total : ℕ) → IsBuilding b → kind < 0x10000 → n ≡ length value → padding ≡ padding_count n → before ≡ number_at 2 2 b
-    → b1 ≡ patched (20 + before) (attribute_bytes (zero_padded kind value)) b → new ≡ patched 2 (big_bytes 2 total) b1 → total ≡ before + (4 + n + padding) → total < 0x10000 → 20 + total ≤ length b
-    → IsBuilding new × IsWritten (with_attribute (built b) kind value) b new
-attribute_pushed b b1 new kind value n padding before total is small n_is padding_is before_is e1 e2 total_is short room =
+pub appended : (b b1 new : List ℕ) (kind : ℕ) (value : List ℕ) (n padding before total : ℕ) → IsBuilding b → kind < 0x10000 → n ≡ length value → padding ≡ padding_count n → before ≡ number_at 2 2 b
+    → b1 ≡ patched (20 + before) (attribute_bytes (zero_padded kind value)) b → new ≡ patched 2 (big_bytes 2 total) b1 → total ≡ before + (4 + n + padding) → used_in b + attribute_length value ≤ room_in b
+    → IsBuilding new × IsAppended kind value b new
+unfolding used_in
+appended b b1 new kind value n padding before total is small n_is padding_is before_is e1 e2 total_is room =
     let there : total ≡ number_at 2 2 b + (4 + length value + padding_count (length value)) = omega (arith, total_is, before_is, n_is, padding_is, ap padding_count n_is) in
     let spelled = pushed b b1 new kind value (20 + before) total is e1 e2 (ap (λ (k : ℕ). 20 + k) before_is) there in
-    let stand = pushed_stands b new kind value is spelled small (omega (arith, there, short)) in
-    (stand.building, record { fits = push_fits b kind value is (omega (arith, there, short)) (omega (arith, there, room)); parts = stand.parts; bytes = spelled })
+    let most : 20 + number_at 2 2 b + attribute_length value ≤ min (length b) 65552 = omega (arith, room, used_is b is, room_of_length b) in
+    let stand = pushed_stands b new kind value is spelled small (omega (arith, most)) in
+    let q = with_attribute (built b) kind value in
+    let long : length (parts_bytes q) ≡ used_in b + attribute_length value = with_length b kind value is in
+    let same = same_room b new (ap length spelled ∙ length_over q b (omega (arith, long, used_is b is, most))) in
+    let used : used_in new ≡ used_in b + attribute_length value = ap (λ p. length (parts_bytes p)) stand.parts ∙ long in
+    (stand.building, record { parts = stand.parts; bytes = spelled ∙ ap (λ p. over p b) (sym stand.parts); used = used; room = same; fits = omega (arith, used, same, room) })
 
 -- ---- a message with no attributes
 
@@ -184,9 +229,19 @@ zero_first n = omega arith
 pub started_over : (b new : List ℕ) (kind : ℕ) (id : List ℕ) → new ≡ patched 0 (parts_bytes (started kind id)) b → new ≡ over (started kind id) b
 started_over b new kind id e = e ∙ ap (λ n. parts_bytes (started kind id) ++ drop n b) (zero_first (length (parts_bytes (started kind id))))
 
-pub started_stands : (b new : List ℕ) (kind : ℕ) (id : List ℕ) → kind < 0x4000 → length id ≡ 12 → new ≡ patched 0 (parts_bytes (started kind id)) b → IsBuilding new
-started_stands b new kind id small long e = (stands new (started kind id) _ (started_are kind id small long) (started_over b new kind id e)).building
-
--- a header alone has 20 bytes
-pub no_header_fits : (kind : ℕ) (id : List ℕ) (size : ℕ) → kind < 0x4000 → length id ≡ 12 → size < 20 → FitIn (started kind id) size → ⊥
-no_header_fits kind id size small long short fit = omega (arith, length_of_parts (started kind id) (started_are kind id small long), short, fit.buffer)
+pub begun : (b new : List ℕ) (kind : ℕ) (id : List ℕ) → kind < 0x4000 → length id ≡ 12 → 20 ≤ length b → new ≡ patched 0 (parts_bytes (started kind id)) b → IsBuilding new × Begins kind id b new
+unfolding used_in
+begun b new kind id small long room e =
+    let are = started_are kind id small long in
+    let spelled = started_over b new kind id e in
+    let stand = stands new (started kind id) _ are spelled in
+    let twenty : length (parts_bytes (started kind id)) ≡ 20 = omega (arith, length_of_parts (started kind id) are) in (
+      stand.building,
+      record {
+        parts = stand.parts;
+        bytes = spelled;
+        used = ap (λ p. length (parts_bytes p)) stand.parts ∙ twenty;
+        room = room_of_length new ∙ ap (λ n. min n 65552) (ap length spelled ∙ length_over (started kind id) b (omega (arith, twenty, room)));
+        fits = room;
+      },
+    )

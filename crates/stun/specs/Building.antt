@@ -1,8 +1,8 @@
--- A buffer that begins with a message, whose header tells the message's length.
-use Rattle.std.specs.Prelude.{◌≡◌, ℕ, ◌+◌, ◌≤◌, List, ◌++◌, length, take, drop}
+-- A buffer that begins with a message, of the length that its header has.
+use Rattle.std.specs.Prelude.{◌≡◌, ℕ, ◌+◌, ◌≤◌, min, List, ◌++◌, length, take, drop}
 use Rattle.std.specs.List.{AllByRecursion-prop}
 use Rattle.std.specs.Coded.{Coded-set, coded_ℕ, coded_list, le_prop}
-use Rattle.stun.specs.Messages.{Padded, IsPadded, Parts, AreParts, parts_bytes, FitIn}
+use Rattle.stun.specs.Messages.{Padded, IsPadded, Parts, AreParts, parts_bytes, started, with_attribute, attribute_length}
 use Rattle.stun.specs.Refusals.{number_at}
 use Rattle.stun.specs.Reading.{parts_in, IsDatagram}
 
@@ -15,8 +15,17 @@ pub record IsBuilding (bytes : List ℕ) : Type 0 where
   pub message : IsDatagram (message_in bytes)
 
 -- its parts
-abbrev pub built : List ℕ → Parts
+unfoldable pub built : List ℕ → Parts
 built bytes = parts_in (message_in bytes)
+
+-- its length
+unfoldable pub used_in : List ℕ → ℕ
+used_in bytes = length (parts_bytes (built bytes))
+
+-- the most bytes that a message in a buffer may have: a header of 20, and attributes whose length has 16 bits and is
+-- a multiple of four
+unfoldable pub room_in : List ℕ → ℕ
+room_in bytes = min (length bytes) 65552
 
 -- the message of the parts over the first bytes, and the others as they were
 abbrev pub over : Parts → List ℕ → List ℕ
@@ -26,18 +35,23 @@ over p bytes = parts_bytes p ++ drop (length (parts_bytes p)) bytes
 abbrev pub patched : ℕ → List ℕ → List ℕ → List ℕ
 patched at piece bytes = take at bytes ++ (piece ++ drop (at + length piece) bytes)
 
--- ---- a message is written over the first bytes of a buffer: one with no attributes, or that of before with one more
+-- ---- what is written into a buffer
 
--- it fits, and stands there; the bytes behind it are as they were
-pub record IsWritten (p : Parts) (old new : List ℕ) : Type 0 where
-  pub fits : FitIn p (length old)
-  pub parts : built new ≡ p
-  pub bytes : new ≡ over p old
+-- a message with no attributes stands over the first bytes, and the others are as they were
+pub record Begins (kind : ℕ) (transaction_id old new : List ℕ) : Type 0 where
+  pub parts : built new ≡ started kind transaction_id
+  pub bytes : new ≡ over (started kind transaction_id) old
+  pub used : used_in new ≡ 20
+  pub room : room_in new ≡ min (length old) 65552
+  pub fits : 20 ≤ length old
 
--- it doesn't fit, and nothing is changed
-pub record HasNoRoom (p : Parts) (old new : List ℕ) : Type 0 where
-  pub full : FitIn p (length old) → ⊥
-  pub unchanged : new ≡ old
+-- the message that stood there, with one more attribute, stands over the first bytes, and the others are as they were
+pub record IsAppended (kind : ℕ) (value old new : List ℕ) : Type 0 where
+  pub parts : built new ≡ with_attribute (built old) kind value
+  pub bytes : new ≡ over (built new) old
+  pub used : used_in new ≡ used_in old + attribute_length value
+  pub room : room_in new ≡ room_in old
+  pub fits : used_in new ≤ room_in new
 
 -- ---- each of these facts has at most one proof
 

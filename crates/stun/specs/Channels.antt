@@ -6,10 +6,14 @@ pub record ChannelMessage : Type 0 where
   pub number : ℕ
   pub bytes : List ℕ
 
--- Number, length, data, and then what is ignored. A channel's number lies in 0x4000 to 0x7FFF.
+-- number, length, data
+abbrev pub channel_bytes : ChannelMessage → List ℕ
+channel_bytes m = big_bytes 2 m.number ++ big_bytes 2 (length m.bytes) ++ m.bytes
+
+-- a channel's number lies in 0x4000 to 0x7FFF, and what follows the data is ignored
 pub record IsChannelMessage (m : ChannelMessage) (bytes : List ℕ) : Type 0 where
   pub low : 0x4000 ≤ m.number
   pub high : m.number ≤ 0x7fff
   pub short : length m.bytes < 0x10000
   pub rest : List ℕ
-  pub spelled : bytes ≡ big_bytes 2 m.number ++ big_bytes 2 (length m.bytes) ++ m.bytes ++ rest
+  pub spelled : bytes ≡ channel_bytes m ++ rest

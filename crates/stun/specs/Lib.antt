@@ -1,5 +1,7 @@
 pub mod Registry
 pub mod Messages
+pub mod Types
+pub mod ErrorCodes
 pub mod Refusals
 pub mod Channels
 pub use Rattle.byteorder.specs.Endian
@@ -7,4 +9,5 @@ pub mod Reading
 pub mod Attributes
 pub mod ChannelData
 pub mod Building
+pub mod Builders
 pub use Rattle.byteorder.specs.Numbers

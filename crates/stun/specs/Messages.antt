@@ -38,13 +38,13 @@ attributes_bytes attributes = flat_map attribute_bytes attributes
 
 -- ---- datagrams (section 5)
 
--- the parts of a message's datagram
+-- the parts of a datagram
 pub record Parts : Type 0 where
   pub kind : ℕ
   pub transaction_id : List ℕ
   pub attributes : List Padded
 
--- a type of 14 bits, an id of 96, and attributes whose length 16 bits can tell
+-- a type of 14 bits, an id of 96, and attributes whose length has 16 bits
 pub record AreParts (p : Parts) : Type 0 where
   pub kind : p.kind < 0x4000
   pub transaction_id : length p.transaction_id ≡ 12
@@ -73,11 +73,11 @@ up_to_integrity (a ∷ rest) = a ∷ (if a.kind == message_integrity then [] els
 abbrev pub message_of : Parts → Message
 message_of p = record { kind = p.kind; transaction_id = p.transaction_id; attributes = map attribute_of (up_to_integrity p.attributes) }
 
--- a datagram is a message's: each datagram is at most one message's
+-- a datagram encodes a message
 abbrev pub IsMessage : Message → List ℕ → Type 0
 IsMessage m bytes = (p : Parts) × AreParts p × (bytes ≡ parts_bytes p) × (m ≡ message_of p)
 
--- ---- what a code of MESSAGE-INTEGRITY is made over
+-- ---- what stands before MESSAGE-INTEGRITY
 
 -- the attributes before the first MESSAGE-INTEGRITY, if there is one
 abbrev pub before_first : List Padded → Option (List Padded)
@@ -100,7 +100,6 @@ with_attribute p kind value = record p { attributes = p.attributes ++ zero_padde
 abbrev pub started : ℕ → List ℕ → Parts
 started kind transaction_id = record { kind = kind; transaction_id = transaction_id; attributes = [] }
 
--- the parts fit a buffer of a size, and their length 16 bits
-pub record FitIn (p : Parts) (size : ℕ) : Type 0 where
-  pub buffer : length (parts_bytes p) < size + 1
-  pub field : length (attributes_bytes p.attributes) < 0x10000
+-- how many bytes an attribute with a value takes
+abbrev pub attribute_length : List ℕ → ℕ
+attribute_length value = 4 + length value + padding_count (length value)

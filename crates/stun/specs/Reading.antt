@@ -1,5 +1,4 @@
--- The attributes and parts that bytes have, where they are of the grammar: the meaning of bytes that are
--- known to be of it.
+-- The attributes and the parts that bytes encode, for bytes that are known to encode some.
 use Rattle.std.specs.Prelude.{◌≡◌, ℕ, zero, suc, ◌+◌, ◌<◌, ◌≤◌, List, [], ◌∷◌, ◌++◌, length, take, drop, refl}
 use Rattle.std.specs.List.{AllByRecursion}
 use Rattle.std.specs.Coded.{Coded, code_by, coded×, coded_list, coded_ℕ}
@@ -37,7 +36,7 @@ attributes_in bytes = first_attributes (length bytes) bytes
 abbrev pub parts_in : List ℕ → Parts
 parts_in bytes = record { kind = number_at 2 0 bytes; transaction_id = take 12 (drop 8 bytes); attributes = attributes_in (drop 20 bytes) }
 
--- bytes that are attributes, and a datagram that is a message's
+-- bytes that encode attributes, and a datagram that encodes a message
 pub record AreAttributes (bytes : List ℕ) : Type 0 where
   pub padded : AllByRecursion IsPadded (attributes_in bytes)
   pub spelled : bytes ≡ attributes_bytes (attributes_in bytes)
@@ -46,7 +45,7 @@ pub record IsDatagram (bytes : List ℕ) : Type 0 where
   pub are_parts : AreParts (parts_in bytes)
   pub spelled : bytes ≡ parts_bytes (parts_in bytes)
 
--- what a datagram's first 20 bytes must tell
+-- the conditions on the first 20 bytes of a datagram
 pub record HasHeader (bytes : List ℕ) : Type 0 where
   pub long : 20 ≤ length bytes
   pub kind : number_at 2 0 bytes < 0x4000

@@ -2,30 +2,32 @@
 
 ghost use Rattle.std.specs.Prelude.{◌≡◌, ℕ, ◌≤◌, ◌++◌, List, length, take, option_map, IfSome, MatchOption, Decides};
 ghost use Rattle.stun.specs.Messages.{Padded, IsPadded, padding_count, attribute_bytes, attributes_bytes, before_first};
+ghost use Rattle.std.specs.Iterator.{YieldsFirstBy};
+ghost use Rattle.stun.specs.Attributes.{attributes_left, values_of};
 ghost use Rattle.stun.specs.Reading.{AreAttributes, BeginsWith, attributes_in};
 
 use crate::registry::attribute::MESSAGE_INTEGRITY;
 use byteorder::{BigEndian, ByteOrder};
 use std::marker::Model;
 
-/// How many bytes of an attribute precede its value.
+/// The length of what precedes the value in an attribute, in bytes.
 pub(crate) const ATTRIBUTE_HEADER_BYTES: usize = 4;
 
-/// An attribute: its type, and the bytes of its value.
+/// An attribute: its type and its value.
 #[derive(Clone, Copy, Debug)]
 pub struct Attr<'a> {
     pub kind: u16,
     pub value: &'a [u8],
 }
 
-/// How many bytes fill a value up to a multiple of four.
+/// Returns how many bytes pad a value of a length to a multiple of four.
 pub(crate) fn padding_bytes(length: usize) -> usize
     ensures { result ≡ padding_count length }
 {
     (4 - length % 4) % 4
 }
 
-/// The attribute that begins the bytes and the bytes that follow its padding, if it doesn't overrun them.
+/// Splits bytes after their first attribute and its padding, or returns `None` where it overruns them.
 pub(crate) fn split_attribute(bytes: &[u8]) -> Option<(Attr<'_>, &[u8])>
     ensures { MatchOption result ((a : Padded) (rest : List ℕ) → IsPadded a → bytes.now ≡ attribute_bytes a ++ rest → ⊥)
         (λ r. BeginsWith bytes.now r.0.kind r.0.value.now r.1.now) }
@@ -46,7 +48,7 @@ pub(crate) fn split_attribute(bytes: &[u8]) -> Option<(Attr<'_>, &[u8])>
     Some((Attr { kind, value }, rest))
 }
 
-/// Whether the bytes are attributes, none of which overruns.
+/// Returns whether bytes are attributes, of which none overruns.
 pub(crate) fn are_attributes(bytes: &[u8]) -> bool
     ensures { Decides result (AreAttributes bytes.now) }
 {
@@ -60,11 +62,12 @@ pub(crate) fn are_attributes(bytes: &[u8]) -> bool
     true
 }
 
-/// At which byte of the attributes the first MESSAGE-INTEGRITY begins, if there is one.
+/// Returns at which byte of the attributes the first MESSAGE-INTEGRITY begins.
 pub(crate) fn before_integrity_at(bytes: &[u8]) -> Option<usize>
     requires { AreAttributes bytes.now }
     ensures inside { IfSome result (λ n. n ≤ length bytes.now) }
-    ensures front { option_map (λ n. take n bytes.now) result ≡ option_map attributes_bytes (before_first (attributes_in bytes.now)) }
+    ensures front { option_map (λ n. take n bytes.now) result
+        ≡ option_map attributes_bytes (before_first (attributes_in bytes.now)) }
 {
     let mut rest = bytes;
     while rest.len() > 0 {
@@ -77,8 +80,8 @@ pub(crate) fn before_integrity_at(bytes: &[u8]) -> Option<usize>
     None
 }
 
-/// An iterator over the attributes of a message up to and including its first MESSAGE-INTEGRITY. Its meaning
-/// is the attributes that are left in the datagram, those after a MESSAGE-INTEGRITY too.
+/// An iterator over the attributes of a message up to and including its first MESSAGE-INTEGRITY. Contracts
+/// see it as the attributes that are left in the datagram, with those after a MESSAGE-INTEGRITY.
 #[derive(Drop)]
 pub struct Attrs<'a> {
     rest: &'a [u8],
@@ -102,7 +105,7 @@ impl<'a> Model for Attrs<'a> {
 }
 
 impl<'a> Attrs<'a> {
-    /// The iterator over the attributes of these bytes.
+    /// Returns an iterator over the attributes in bytes.
     pub(crate) fn new(bytes: &'a [u8]) -> Attrs<'a>
         requires { AreAttributes bytes.now }
         ensures { result ≡ attributes_in bytes.now }
@@ -129,5 +132,63 @@ impl<'a> Iterator for Attrs<'a> {
             rest
         };
         Some(attr)
+    }
+}
+
+/// An iterator over the values of the attributes of one type, up to and including the first
+/// MESSAGE-INTEGRITY. Contracts see it as the values that are left.
+#[derive(Drop)]
+pub struct Values<'a> {
+    attrs: Attrs<'a>,
+    kind: u16,
+}
+
+impl<'a> Model for Values<'a> {
+    ghost use Rattle.std.specs.Prelude.{List, ℕ};
+    ghost use Rattle.std.specs.Coded.{coded_list, coded_ℕ};
+    ghost use Rattle.stun.specs.Attributes.{attributes_left, values_of};
+
+    ghost Value = { List (List ℕ) };
+
+    ghost coded = { coded_list (coded_list coded_ℕ) };
+
+    ghost view = { λ v. values_of v.kind (attributes_left v.attrs) };
+}
+
+impl<'a> Values<'a> {
+    ghost use Rattle.std.specs.Prelude.{◌≡◌};
+    ghost use Rattle.stun.specs.Attributes.{attributes_left, values_of};
+
+    /// Returns an iterator over the values of a type among attributes.
+    pub(crate) fn new(attrs: Attrs<'a>, kind: u16) -> Values<'a>
+        ensures { result ≡ values_of kind (attributes_left attrs.entry) }
+    {
+        Values { attrs, kind }
+    }
+}
+
+/// Returns the value of the next attribute of a type, and advances past it.
+fn next_value<'a>(attrs: &mut Attrs<'a>, kind: u16) -> Option<&'a [u8]>
+    ensures { YieldsFirstBy (λ v. v.now) (λ left. values_of kind (attributes_left left)) attrs.old result attrs.new }
+{
+    while let Some(attr) = attrs.next() {
+        if attr.kind == kind {
+            return Some(attr.value);
+        }
+    }
+    None
+}
+
+impl<'a> Iterator for Values<'a> {
+    ghost use Rattle.std.specs.Iterator.{YieldsFirstBy, item_count};
+
+    type Item = &'a [u8];
+
+    ghost next_gives = { YieldsFirstBy (λ v. v.now) (λ left. left) };
+
+    ghost remaining = { item_count (λ left. left) };
+
+    fn next(&mut self) -> Option<&'a [u8]> {
+        next_value(&mut self.attrs, self.kind)
     }
 }

@@ -6,20 +6,21 @@ ghost use Rattle.stun.specs.ChannelData.{channel_message};
 
 use byteorder::{BigEndian, ByteOrder};
 
-/// How many bytes precede the data.
+/// The length of what precedes the data, in bytes.
 const CHANNEL_HEADER_BYTES: usize = 4;
 
-/// A ChannelData message: the channel's number, 0x4000 to 0x7FFF, and the data.
+/// A ChannelData message: the number of the channel, 0x4000 to 0x7FFF, and the data.
 #[derive(Clone, Copy, Debug)]
 pub struct ChannelData<'a> {
     pub number: u16,
     pub bytes: &'a [u8],
 }
 
-/// The channel message whose datagram this is, if it is one's. What follows the data is ignored.
+/// Parses a datagram as a ChannelData message (RFC 8656, section 12.4). What follows the data is ignored.
 pub fn read_channel(bytes: &[u8]) -> Option<ChannelData<'_>>
     ensures found { IfSome result (λ m. IsChannelMessage (channel_message m) bytes.now) }
-    ensures only { (m : ChannelMessage) → IsChannelMessage m bytes.now → IsSomeAnd result (λ r. channel_message r ≡ m) }
+    ensures only { (m : ChannelMessage) → IsChannelMessage m bytes.now
+        → IsSomeAnd result (λ r. channel_message r ≡ m) }
 {
     if bytes.len() < CHANNEL_HEADER_BYTES {
         return None;

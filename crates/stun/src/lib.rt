@@ -1,23 +1,25 @@
-//! STUN messages and ChannelData, read from a datagram and written into a buffer. Nothing is copied, and
-//! nothing is allocated.
+//! STUN messages and ChannelData: parsed from a datagram, and written into a buffer. No byte of a datagram
+//! is copied, and nothing is allocated.
 #![tactic(auto)]
 
 mod attributes;
+mod buffer;
 mod building;
 mod channel;
 mod reading;
+mod reading_back;
 mod refusal;
 pub mod registry;
-#[cfg(test)]
-mod tests;
 mod value;
 
-pub use attributes::{Attr, Attrs};
-pub use building::{Builder, begin, read_back};
+pub use attributes::{Attr, Attrs, Values};
+pub use buffer::begin;
+pub use building::Builder;
 pub use channel::{ChannelData, read_channel};
 pub use reading::{
     Message, messages_are_unique, parts_are_unique, read, refusals_are_unique,
     refused_is_no_message,
 };
+pub use reading_back::read_back;
 pub use refusal::{NoRoom, StunError};
-pub use value::Value;
+pub use value::AttributeValue;

@@ -1,22 +1,22 @@
-//! From a datagram to a message (RFC 8489, sections 5, 6.3 and 14).
+//! Parses datagrams as messages (RFC 8489, sections 5, 6.3 and 14).
 
 ghost use Rattle.std.specs.Prelude.{◌≡◌, ℕ, List, IfOk, IfErr, OnOk, IsOkAnd, option_copied};
-ghost use Rattle.stun.specs.Messages.{Message as SpecMessage, Parts, AreParts, parts_bytes, before_integrity, IsMessage};
+ghost use Rattle.stun.specs.Messages.{Message as SpecMessage, Parts, AreParts, parts_bytes, message_of, before_integrity, IsMessage};
 ghost use Rattle.stun.specs.Reading.{HasHeader};
 ghost use Rattle.stun.specs.Refusals.{IsRefused};
 ghost use Rattle.stun.specs.declared.refusal.StunError.{StunError};
 
-use crate::attributes::{Attrs, are_attributes, before_integrity_at};
+use crate::attributes::{Attrs, Values, are_attributes, before_integrity_at};
 use crate::refusal::StunError;
 use crate::registry::MAGIC_COOKIE;
 use byteorder::{BigEndian, ByteOrder};
 use std::marker::Model;
 
-/// How many bytes a message's header has.
+/// The length of the header of a message, in bytes.
 pub const HEADER_BYTES: usize = 20;
 
-/// A message, as it stands in its datagram. Its meaning is its parts: type, transaction id, and all
-/// attributes with their padding.
+/// A message, borrowed from its datagram. Contracts see it as its parts: the type, the transaction id, and
+/// all attributes with their padding.
 #[derive(Drop)]
 pub struct Message<'a> {
     bytes: &'a [u8],
@@ -38,16 +38,17 @@ impl<'a> Model for Message<'a> {
 }
 
 impl<'a> Message<'a> {
-    ghost use Rattle.stun.specs.Messages.{AreParts, parts_bytes, before_integrity};
+    ghost use Rattle.stun.specs.Messages.{AreParts, message_of, before_integrity};
+    ghost use Rattle.stun.specs.Attributes.{values_of, value_of};
 
-    /// The type: 14 bits of method and class (RFC 8489, section 5).
+    /// Returns the type: 14 bits of method and class (RFC 8489, section 5).
     pub fn kind(&self) -> u16
         ensures { result ≡ self.now.kind }
     {
         BigEndian::read_u16(self.bytes)
     }
 
-    /// The transaction id.
+    /// Returns the transaction id.
     pub fn tx(&self) -> [u8; 12]
         ensures { result ≡ self.now.transaction_id }
     {
@@ -58,8 +59,8 @@ impl<'a> Message<'a> {
         tx
     }
 
-    /// The attributes up to and including the first MESSAGE-INTEGRITY: what follows it is ignored
-    /// (RFC 8489, section 14.5).
+    /// Returns an iterator over the attributes up to and including the first MESSAGE-INTEGRITY: what follows
+    /// it is ignored (RFC 8489, section 14.5).
     pub fn attrs(&self) -> Attrs<'a>
         ensures { result ≡ self.now.attributes }
     {
@@ -67,7 +68,21 @@ impl<'a> Message<'a> {
         Attrs::new(attributes)
     }
 
-    /// The bytes of the datagram before the first MESSAGE-INTEGRITY, if it has one.
+    /// Returns the values of all attributes of a type, in their order.
+    pub fn values_of(&self, kind: u16) -> Values<'a>
+        ensures { result ≡ values_of kind (message_of self.now).attributes }
+    {
+        Values::new(self.attrs(), kind)
+    }
+
+    /// Returns the value of the first attribute of a type.
+    pub fn value_of(&self, kind: u16) -> Option<&'a [u8]>
+        ensures { option_copied result ≡ value_of kind (message_of self.now).attributes }
+    {
+        self.values_of(kind).next()
+    }
+
+    /// Returns the bytes of the datagram before the first MESSAGE-INTEGRITY, if it has one.
     pub fn before_integrity(&self) -> Option<&'a [u8]>
         ensures front { option_copied result ≡ before_integrity self.now }
         ensures are_parts { AreParts self.now }
@@ -79,7 +94,10 @@ impl<'a> Message<'a> {
     }
 }
 
-/// Tests the header of a datagram (RFC 8489, section 6.3).
+/// Checks the header of a datagram (RFC 8489, section 6.3).
+///
+/// # Errors
+/// Returns the first of S1 to S4.
 fn test_header(bytes: &[u8]) -> Result<(), StunError>
     ensures found { OnOk result (HasHeader bytes.now) }
     ensures refused { IfErr result (IsRefused bytes.now) }
@@ -102,12 +120,14 @@ fn test_header(bytes: &[u8]) -> Result<(), StunError>
     Ok(())
 }
 
-/// The message whose datagram this is. Its time is linear in the bytes; it copies and allocates nothing.
+/// Parses a datagram as a message, in time linear in its bytes. It copies and allocates nothing.
 ///
 /// # Errors
-/// The first of the refusals, in their order, where it is no message's. An attribute that overruns is one
-/// after the first MESSAGE-INTEGRITY too.
+/// Returns the first refusal of [`StunError`], in their order. An attribute may also overrun after the first
+/// MESSAGE-INTEGRITY.
 pub fn read(bytes: &[u8]) -> Result<Message<'_>, StunError>
+    ensures message { IfOk result (λ m. IsMessage (message_of m) bytes.now) }
+    ensures every { (m : SpecMessage) → IsMessage m bytes.now → IsOkAnd result (λ r. message_of r ≡ m) }
     ensures found { IfOk result (λ m. AreParts m × (bytes.now ≡ parts_bytes m)) }
     ensures only { (p : Parts) → AreParts p → bytes.now ≡ parts_bytes p → IsOkAnd result (λ m. m ≡ p) }
     ensures refused { IfErr result (IsRefused bytes.now) }
@@ -120,22 +140,23 @@ pub fn read(bytes: &[u8]) -> Result<Message<'_>, StunError>
     Ok(Message { bytes })
 }
 
-/// Bytes have at most one refusal.
+/// States that bytes have at most one refusal.
 pub fn refusals_are_unique()
     ensures { (bytes : List ℕ) (d e : StunError) → IsRefused bytes d → IsRefused bytes e → d ≡ e }
 {}
 
-/// Bytes that are refused are no message's datagram.
+/// States that bytes which are refused encode no message.
 pub fn refused_is_no_message()
-    ensures { (bytes : List ℕ) (e : StunError) (p : Parts) → IsRefused bytes e → AreParts p → bytes ≡ parts_bytes p → ⊥ }
+    ensures { (bytes : List ℕ) (e : StunError) (p : Parts)
+        → IsRefused bytes e → AreParts p → bytes ≡ parts_bytes p → ⊥ }
 {}
 
-/// A datagram has one list of parts.
+/// States that a datagram has at most one list of parts.
 pub fn parts_are_unique()
     ensures { (p q : Parts) → AreParts p → AreParts q → parts_bytes p ≡ parts_bytes q → p ≡ q }
 {}
 
-/// A datagram is at most one message's.
+/// States that a datagram encodes at most one message.
 pub fn messages_are_unique()
     ensures { (m n : SpecMessage) (bytes : List ℕ) → IsMessage m bytes → IsMessage n bytes → m ≡ n }
 {}

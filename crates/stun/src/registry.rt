@@ -1,37 +1,137 @@
-//! The numbers of STUN and TURN that this profile speaks of, each once (RFC 8489, section 18; RFC 8656,
-//! section 18). They can be held against the registry "Session Traversal Utilities for NAT (STUN)
-//! Parameters".
+//! The numbers of STUN and TURN that this profile uses, each once (RFC 8489, section 18; RFC 8656, sections
+//! 17 to 19). They are those of the registry "Session Traversal Utilities for NAT (STUN) Parameters".
+
+ghost use Rattle.std.specs.Prelude.{◌≡◌, ◌≤◌, length};
+ghost use Rattle.stun.specs.Attributes.{is_understood};
+ghost use Rattle.stun.specs.ErrorCodes.{phrase_of};
+ghost use Rattle.stun.specs.declared.registry.ErrorCode as errors;
 
 /// The magic cookie of every message (RFC 8489, section 5).
 pub const MAGIC_COOKIE: u32 = 0x2112_A442;
 
-/// The methods (RFC 8489, section 18.2; RFC 8656, section 18).
-pub mod method {
-    pub const BINDING: u16 = 0x0001;
-
-    pub const ALLOCATE: u16 = 0x0003;
-
-    pub const REFRESH: u16 = 0x0004;
-
-    pub const SEND: u16 = 0x0006;
-
-    pub const DATA: u16 = 0x0007;
-
-    pub const CREATE_PERMISSION: u16 = 0x0008;
-
-    pub const CHANNEL_BIND: u16 = 0x0009;
+/// A method (RFC 8489, section 18.2; RFC 8656, section 17).
+#[derive(Clone, Copy, Debug, PartialEq, Eq)]
+pub enum Method {
+    Binding,
+    Allocate,
+    Refresh,
+    Send,
+    Data,
+    CreatePermission,
+    ChannelBind,
 }
 
-/// What is added to a method of this profile for the class of a message (RFC 8489, section 5): its
-/// methods lie below 16, so that the two bits of the class stand apart.
-pub mod class {
-    pub const REQUEST: u16 = 0x0000;
+impl Method {
+    ghost use Rattle.std.specs.Prelude.{◌≡◌, ◌<◌, Some, IfSome};
+    ghost use Rattle.stun.specs.Types.{method_number};
+    ghost use Rattle.stun.specs.declared.registry.Method as declared;
 
-    pub const INDICATION: u16 = 0x0010;
+    /// Returns the number of the method, below 16.
+    fn number(self) -> u16
+        ensures number { result ≡ method_number self }
+        ensures fits { result < 16 }
+    {
+        match self {
+            Method::Binding => 0x001,
+            Method::Allocate => 0x003,
+            Method::Refresh => 0x004,
+            Method::Send => 0x006,
+            Method::Data => 0x007,
+            Method::CreatePermission => 0x008,
+            Method::ChannelBind => 0x009,
+        }
+    }
 
-    pub const SUCCESS: u16 = 0x0100;
+    /// Returns the method of a number.
+    fn from_number(number: u16) -> Option<Method>
+        ensures found { IfSome result (λ m. method_number m ≡ number) }
+        ensures only { (m : declared.Method) → method_number m ≡ number → result ≡ Some m }
+    {
+        match number {
+            0x001 => Some(Method::Binding),
+            0x003 => Some(Method::Allocate),
+            0x004 => Some(Method::Refresh),
+            0x006 => Some(Method::Send),
+            0x007 => Some(Method::Data),
+            0x008 => Some(Method::CreatePermission),
+            0x009 => Some(Method::ChannelBind),
+            _ => None,
+        }
+    }
+}
 
-    pub const ERROR: u16 = 0x0110;
+/// The class of a message (RFC 8489, section 5).
+#[derive(Clone, Copy, Debug, PartialEq, Eq)]
+pub enum Class {
+    Request,
+    Indication,
+    Success,
+    Error,
+}
+
+impl Class {
+    ghost use Rattle.std.specs.Prelude.{◌≡◌, ◌≤◌, Some, IfSome};
+    ghost use Rattle.stun.specs.Types.{class_bits};
+    ghost use Rattle.stun.specs.declared.registry.Class as declared;
+
+    /// Returns the two bits of the class where a message type has them.
+    fn bits(self) -> u16
+        ensures bits { result ≡ class_bits self }
+        ensures fits { result ≤ 0x110 }
+    {
+        match self {
+            Class::Request => 0x000,
+            Class::Indication => 0x010,
+            Class::Success => 0x100,
+            Class::Error => 0x110,
+        }
+    }
+
+    /// Returns the class of two bits of a message type.
+    fn from_bits(bits: u16) -> Option<Class>
+        ensures found { IfSome result (λ c. class_bits c ≡ bits) }
+        ensures only { (c : declared.Class) → class_bits c ≡ bits → result ≡ Some c }
+    {
+        match bits {
+            0x000 => Some(Class::Request),
+            0x010 => Some(Class::Indication),
+            0x100 => Some(Class::Success),
+            0x110 => Some(Class::Error),
+            _ => None,
+        }
+    }
+}
+
+/// The type of a message: a method and a class (RFC 8489, section 5).
+#[derive(Clone, Copy, Debug, PartialEq, Eq)]
+pub struct MessageType {
+    pub method: Method,
+    pub class: Class,
+}
+
+impl MessageType {
+    ghost use Rattle.std.specs.Prelude.{◌≡◌, ◌<◌, Some, IfSome};
+    ghost use Rattle.stun.specs.Types.{type_number};
+    ghost use Rattle.stun.specs.declared.registry.MessageType as declared;
+
+    /// Returns the 14 bits of the type. The methods lie below 16, so the bits of the class stand above those
+    /// of the method.
+    pub fn kind(self) -> u16
+        ensures number { result ≡ type_number self }
+        ensures fits { result < 0x4000 }
+    {
+        self.method.number() + self.class.bits()
+    }
+
+    /// Returns the type whose 14 bits these are, if its method is one of [`Method`].
+    pub fn from_kind(kind: u16) -> Option<MessageType>
+        ensures found { IfSome result (λ t. type_number t ≡ kind) }
+        ensures only { (t : declared.MessageType) → type_number t ≡ kind → result ≡ Some t }
+    {
+        let method = Method::from_number(kind % 16)?;
+        let class = Class::from_bits(kind / 16 * 16)?;
+        Some(MessageType { method, class })
+    }
 }
 
 /// The attribute types that are understood (RFC 8489, section 18.3; RFC 8656, section 18).
@@ -65,6 +165,32 @@ pub mod attribute {
     pub const XOR_MAPPED_ADDRESS: u16 = 0x0020;
 }
 
+/// The table of the attribute types that are understood.
+const UNDERSTOOD: [u16; 14] = [
+    attribute::USERNAME,
+    attribute::MESSAGE_INTEGRITY,
+    attribute::ERROR_CODE,
+    attribute::UNKNOWN_ATTRIBUTES,
+    attribute::CHANNEL_NUMBER,
+    attribute::LIFETIME,
+    attribute::XOR_PEER_ADDRESS,
+    attribute::DATA,
+    attribute::REALM,
+    attribute::NONCE,
+    attribute::XOR_RELAYED_ADDRESS,
+    attribute::REQUESTED_ADDRESS_FAMILY,
+    attribute::REQUESTED_TRANSPORT,
+    attribute::XOR_MAPPED_ADDRESS,
+];
+
+/// Returns whether an attribute of a type is understood or may be ignored: the type is in the table, or
+/// comprehension-optional, 0x8000 to 0xFFFF (RFC 8489, section 14).
+pub fn is_understood(kind: u16) -> bool
+    ensures { result ≡ is_understood kind }
+{
+    kind >= 0x8000 || UNDERSTOOD.contains(&kind)
+}
+
 /// The families of addresses (RFC 8489, section 14.1).
 pub mod family {
     pub const IPV4: u8 = 1;
@@ -72,87 +198,63 @@ pub mod family {
     pub const IPV6: u8 = 2;
 }
 
-/// An error as ERROR-CODE tells it (RFC 8489, section 14.8): the hundreds of its code, the rest of its code,
-/// and a phrase.
-#[derive(Clone, Copy, Debug)]
-pub struct ErrorCode {
-    pub class: u8,
-    pub number: u8,
-    pub phrase: &'static str,
+/// The error of an error response (RFC 8489, section 18.4; RFC 8656, section 19).
+#[derive(Clone, Copy, Debug, PartialEq, Eq)]
+pub enum ErrorCode {
+    BadRequest,
+    Unauthenticated,
+    UnknownAttribute,
+    AllocationMismatch,
+    StaleNonce,
+    AddressFamilyNotSupported,
+    WrongCredentials,
+    UnsupportedTransport,
+    PeerAddressFamilyMismatch,
+    InsufficientCapacity,
 }
 
 impl ErrorCode {
-    ghost use Rattle.std.specs.Prelude.{◌≡◌, ◌+◌, ◌*◌};
+    ghost use Rattle.std.specs.Prelude.{◌≡◌};
+    ghost use Rattle.stun.specs.ErrorCodes.{code_of, phrase_of};
 
-    /// The code, as one number.
-    pub fn code(&self) -> u16
-        ensures { result ≡ 100 * self.now.class + self.now.number }
+    /// Returns the code, 400 to 508.
+    pub fn code(self) -> u16
+        ensures { result ≡ code_of self }
     {
-        100 * u16::from(self.class) + u16::from(self.number)
+        match self {
+            ErrorCode::BadRequest => 400,
+            ErrorCode::Unauthenticated => 401,
+            ErrorCode::UnknownAttribute => 420,
+            ErrorCode::AllocationMismatch => 437,
+            ErrorCode::StaleNonce => 438,
+            ErrorCode::AddressFamilyNotSupported => 440,
+            ErrorCode::WrongCredentials => 441,
+            ErrorCode::UnsupportedTransport => 442,
+            ErrorCode::PeerAddressFamilyMismatch => 443,
+            ErrorCode::InsufficientCapacity => 508,
+        }
+    }
+
+    /// Returns the reason phrase, at most 30 bytes.
+    pub fn phrase(self) -> &'static str
+        ensures { result.now ≡ phrase_of self }
+    {
+        match self {
+            ErrorCode::BadRequest => "Bad Request",
+            ErrorCode::Unauthenticated => "Unauthenticated",
+            ErrorCode::UnknownAttribute => "Unknown Attribute",
+            ErrorCode::AllocationMismatch => "Allocation Mismatch",
+            ErrorCode::StaleNonce => "Stale Nonce",
+            ErrorCode::AddressFamilyNotSupported => "Address Family not Supported",
+            ErrorCode::WrongCredentials => "Wrong Credentials",
+            ErrorCode::UnsupportedTransport => "Unsupported Transport Protocol",
+            ErrorCode::PeerAddressFamilyMismatch => "Peer Address Family Mismatch",
+            ErrorCode::InsufficientCapacity => "Insufficient Capacity",
+        }
     }
 }
 
-/// The errors, with the phrases of this relay (RFC 8489, section 18.4; RFC 8656, section 18).
-pub mod error {
-    use super::ErrorCode;
-
-    pub const BAD_REQUEST: ErrorCode = ErrorCode {
-        class: 4,
-        number: 0,
-        phrase: "Bad Request",
-    };
-
-    pub const UNAUTHENTICATED: ErrorCode = ErrorCode {
-        class: 4,
-        number: 1,
-        phrase: "Unauthenticated",
-    };
-
-    pub const UNKNOWN_ATTRIBUTE: ErrorCode = ErrorCode {
-        class: 4,
-        number: 20,
-        phrase: "Unknown Attribute",
-    };
-
-    pub const ALLOCATION_MISMATCH: ErrorCode = ErrorCode {
-        class: 4,
-        number: 37,
-        phrase: "Allocation Mismatch",
-    };
-
-    pub const STALE_NONCE: ErrorCode = ErrorCode {
-        class: 4,
-        number: 38,
-        phrase: "Stale Nonce",
-    };
-
-    pub const ADDRESS_FAMILY_NOT_SUPPORTED: ErrorCode = ErrorCode {
-        class: 4,
-        number: 40,
-        phrase: "Address Family not Supported",
-    };
-
-    pub const WRONG_CREDENTIALS: ErrorCode = ErrorCode {
-        class: 4,
-        number: 41,
-        phrase: "Wrong Credentials",
-    };
-
-    pub const UNSUPPORTED_TRANSPORT: ErrorCode = ErrorCode {
-        class: 4,
-        number: 42,
-        phrase: "Unsupported Transport Protocol",
-    };
-
-    pub const PEER_ADDRESS_FAMILY_MISMATCH: ErrorCode = ErrorCode {
-        class: 4,
-        number: 43,
-        phrase: "Peer Address Family Mismatch",
-    };
-
-    pub const INSUFFICIENT_CAPACITY: ErrorCode = ErrorCode {
-        class: 5,
-        number: 8,
-        phrase: "Insufficient Capacity",
-    };
-}
+/// States that a phrase has at most 30 bytes.
+pub fn phrases_are_short()
+    ensures { (e : errors.ErrorCode) → length (phrase_of e) ≤ 30 }
+{}

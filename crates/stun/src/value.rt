@@ -1,24 +1,23 @@
-//! The values of attributes that are written (RFC 8489, section 14).
+//! Values that an attribute is written with (RFC 8489, section 14).
 
 ghost use Rattle.std.specs.Prelude.{◌≡◌, ℕ, List, length};
 
-/// What an attribute may hold. It is written where it stands, so that nothing needs a place of its own
-/// before.
-pub trait Value {
-    /// The bytes that an attribute with this value holds.
+/// The value of an attribute. It writes itself into the message, so that no copy of it is made first.
+pub trait AttributeValue {
+    /// The bytes of the value.
     ghost bytes: { Self → List ℕ };
 
-    /// How many bytes these are.
+    /// Returns the length of the value, in bytes.
     fn len(&self) -> usize
         ensures { result ≡ length (bytes self.now) };
 
-    /// Writes them over a slice of this length.
+    /// Writes the value over a slice of its length.
     fn write(&self, room: &mut [u8])
         requires { length room.old ≡ length (bytes self.now) }
         ensures { room.new ≡ bytes self.now };
 }
 
-impl Value for &[u8] {
+impl AttributeValue for &[u8] {
     ghost bytes = { λ v. v.now };
 
     fn len(&self) -> usize {

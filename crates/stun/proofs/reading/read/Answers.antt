@@ -1,4 +1,5 @@
-use Rattle.std.proofs.Common.{arith, rules, sym, ◌∙◌}
+use Rattle.std.proofs.Common.{arith, rules, refl, sym, ap, ◌∙◌}
+use Rattle.stun.specs.Messages.{message_of}
 use Rattle.stun.specs.Refusals.{IsRefused}
 use Rattle.stun.specs.Reading.{IsDatagram}
 use Rattle.stun.specs.declared.refusal.StunError.TheVariants.{AttributeOverrun}
@@ -34,3 +35,18 @@ returns-clause-found c = let d = is_datagram c in (d.are_parts, d.spelled)
 
 pub returns-clause-only : goal.returns-clause-only
 returns-clause-only c p are spelled = parts_are c.args.bytes.now p are spelled
+
+pub returns-in_err-test_header-clause-every : goal.returns-in_err-test_header-clause-every
+returns-in_err-test_header-clause-every c m is =
+    absurd (refused_is_no_message c.args.bytes.now _ is.0 c.in_err-test_header.ensures.refused is.1 is.2)
+
+pub returns-then-not-are_attributes-clause-every :
+    goal.returns-then-not-are_attributes-clause-every
+returns-then-not-are_attributes-clause-every c m is =
+    absurd (refused_is_no_message c.args.bytes.now AttributeOverrun is.0 (overruns c) is.1 is.2)
+
+pub returns-clause-message : goal.returns-clause-message
+returns-clause-message c = let d = is_datagram c in (_, d.are_parts, d.spelled, refl)
+
+pub returns-clause-every : goal.returns-clause-every
+returns-clause-every c m is = ap message_of (parts_are c.args.bytes.now is.0 is.1 is.2) ∙ sym is.3

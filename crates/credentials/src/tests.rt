@@ -1,4 +1,0 @@
-//! Vectors from outside, and messages that are signed and checked.
-
-mod checks;
-mod codes;

@@ -1,0 +1,4 @@
+//! Tests of `credentials`: vectors from outside, and messages that are signed and checked.
+
+mod checks;
+mod codes;

@@ -1,0 +1,366 @@
+//! Requests whose credentials are checked: RFC 5769, section 2.4, and messages that `sign` signed.
+
+use crate::stun_tests::samples::LONG_TERM_REQUEST;
+use credentials::{AuthError, Key, User, authenticate, check, sign};
+use std::test::Fail;
+use stun::registry::attribute::{MESSAGE_INTEGRITY, NONCE as NONCE_TYPE, REALM, USERNAME};
+use stun::{Builder, NoRoom, read};
+
+/// The nonce of the request with long-term credentials of RFC 5769, section 2.4: its user is `マトリックス` with
+/// the password `TheMatrIX`, its realm `example.org`.
+const NONCE: &str = "f//499k954d6OL34oL9FSTvy64sA";
+
+fn user(rt: &HostRuntime, name: &str, password: &str) -> Result<User, Fail> {
+    Ok(User {
+        name: String::from_str(rt.alloc(), name)?,
+        password: String::from_str(rt.alloc(), password)?,
+    })
+}
+
+#[test]
+fn the_sample_request_is_checked(rt: HostRuntime) -> Result<(), Fail> {
+    let message = read(&LONG_TERM_REQUEST)?;
+    let other = [user(&rt, "other", "TheMatrIX")?];
+    let wrong = [user(&rt, "マトリックス", "themat")?];
+    let users = [
+        user(&rt, "other", "word")?,
+        user(&rt, "マトリックス", "TheMatrIX")?,
+    ];
+    assert_eq!(rt; check(&message, "example.org", &users, NONCE), Ok(1));
+    assert_eq!(rt;
+        check(&message, "example.com", &users, NONCE),
+        Err(AuthError::WrongCode)
+    );
+    assert_eq!(rt;
+        check(&message, "example.org", &wrong, NONCE),
+        Err(AuthError::WrongCode)
+    );
+    assert_eq!(rt;
+        check(&message, "example.org", &other, NONCE),
+        Err(AuthError::UnknownUser)
+    );
+    assert_eq!(rt;
+        check(&message, "example.org", &other, "n1"),
+        Err(AuthError::StaleNonce)
+    );
+    let authenticated = authenticate(&message, "example.org", &users, NONCE)?;
+    assert_eq!(rt; authenticated.user, 1);
+    // MD5 of the user, the realm and the password, with colons between them
+    assert_eq!(rt;
+        *authenticated.key.bytes(),
+        [
+            0xe8, 0xca, 0x7a, 0xd5, 0x9d, 0x5e, 0xb0, 0x51, 0x8e, 0x31, 0x29, 0x11, 0xd2, 0xda,
+            0xb2, 0xa9,
+        ]
+    );
+    Ok(())
+}
+
+#[test]
+fn the_sample_request_is_signed_byte_for_byte(rt: HostRuntime) -> Result<(), Fail> {
+    let mut buffer = [0xff; 116];
+    let id = [
+        0x78, 0xad, 0x34, 0x33, 0xc6, 0xad, 0x72, 0xc0, 0x29, 0xda, 0x41, 0x2e,
+    ];
+    let mut builder = Builder::start(&mut buffer, 0x0001, id)?;
+    builder.attr(USERNAME, "マトリックス".as_bytes())?;
+    builder.attr(NONCE_TYPE, NONCE.as_bytes())?;
+    builder.attr(REALM, b"example.org")?;
+    sign(&mut builder, &Key::of("マトリックス", "example.org", "TheMatrIX"))?;
+    assert_eq!(rt; builder.finish(), 116);
+    assert!(rt; buffer == LONG_TERM_REQUEST);
+    Ok(())
+}
+
+#[test]
+fn a_code_that_has_no_room_changes_nothing(rt: HostRuntime) -> Result<(), Fail> {
+    let mut buffer = [0xff; 43];
+    let mut builder = Builder::start(&mut buffer, 0x0001, [7; 12])?;
+    assert_eq!(rt; sign(&mut builder, &Key::of("u", "r", "p")), Err(NoRoom));
+    assert_eq!(rt; builder.finish(), 20);
+    assert!(rt; buffer[20..] == [0xff; 23]);
+    Ok(())
+}
+
+/// The code of a message.
+#[derive(Clone, Copy)]
+enum Code {
+    /// The right one for the password `pass`.
+    Signed,
+    /// The right one for the password `word`.
+    SignedWithAnother,
+    /// The first 19 bytes of the right one.
+    Cut,
+    /// The right one, and four zeros.
+    Lengthened,
+    /// 19 zeros.
+    Zeros,
+    None,
+}
+
+/// An attribute of a message.
+#[derive(Clone, Copy)]
+struct Attribute {
+    kind: u16,
+    value: &'static [u8],
+}
+
+const USER: Attribute = Attribute {
+    kind: USERNAME,
+    value: b"user",
+};
+
+const CAPITAL_USER: Attribute = Attribute {
+    kind: USERNAME,
+    value: b"User",
+};
+
+const STRANGER: Attribute = Attribute {
+    kind: USERNAME,
+    value: b"other",
+};
+
+const RELAY: Attribute = Attribute {
+    kind: REALM,
+    value: b"relay",
+};
+
+const ELSEWHERE: Attribute = Attribute {
+    kind: REALM,
+    value: b"elsewhere",
+};
+
+const FRESH: Attribute = Attribute {
+    kind: NONCE_TYPE,
+    value: b"n1",
+};
+
+const STALE: Attribute = Attribute {
+    kind: NONCE_TYPE,
+    value: b"n2",
+};
+
+const LONGER: Attribute = Attribute {
+    kind: NONCE_TYPE,
+    value: b"n1x",
+};
+
+/// The attributes of a message, its code, the attributes behind it, and the answer for the realm `relay`, the nonce
+/// `n1`, and two users `user` with the passwords `pass` and `word`.
+#[derive(Clone, Copy)]
+struct Case {
+    before: &'static [Attribute],
+    code: Code,
+    after: &'static [Attribute],
+    want: Result<usize, AuthError>,
+}
+
+const CASES: [Case; 21] = [
+    Case {
+        before: &[USER, RELAY, FRESH],
+        code: Code::Signed,
+        after: &[],
+        want: Ok(0),
+    },
+    Case {
+        before: &[FRESH, RELAY, USER, STRANGER],
+        code: Code::Signed,
+        after: &[STRANGER],
+        want: Ok(0),
+    },
+    Case {
+        before: &[USER, ELSEWHERE, FRESH],
+        code: Code::Signed,
+        after: &[],
+        want: Ok(0),
+    },
+    Case {
+        before: &[USER, RELAY, FRESH],
+        code: Code::None,
+        after: &[],
+        want: Err(AuthError::Missing),
+    },
+    Case {
+        before: &[],
+        code: Code::None,
+        after: &[],
+        want: Err(AuthError::Missing),
+    },
+    Case {
+        before: &[USER, RELAY, STALE],
+        code: Code::None,
+        after: &[],
+        want: Err(AuthError::Missing),
+    },
+    Case {
+        before: &[RELAY, FRESH],
+        code: Code::Signed,
+        after: &[USER],
+        want: Err(AuthError::Incomplete),
+    },
+    Case {
+        before: &[USER, FRESH],
+        code: Code::Signed,
+        after: &[RELAY],
+        want: Err(AuthError::Incomplete),
+    },
+    Case {
+        before: &[USER, RELAY],
+        code: Code::Zeros,
+        after: &[FRESH],
+        want: Err(AuthError::Incomplete),
+    },
+    Case {
+        before: &[STRANGER, RELAY],
+        code: Code::Signed,
+        after: &[],
+        want: Err(AuthError::Incomplete),
+    },
+    Case {
+        before: &[USER, STALE],
+        code: Code::Signed,
+        after: &[],
+        want: Err(AuthError::Incomplete),
+    },
+    Case {
+        before: &[STRANGER, RELAY, STALE],
+        code: Code::Signed,
+        after: &[],
+        want: Err(AuthError::StaleNonce),
+    },
+    Case {
+        before: &[USER, RELAY, STALE, FRESH],
+        code: Code::Zeros,
+        after: &[],
+        want: Err(AuthError::StaleNonce),
+    },
+    Case {
+        before: &[USER, RELAY, LONGER],
+        code: Code::Signed,
+        after: &[],
+        want: Err(AuthError::StaleNonce),
+    },
+    Case {
+        before: &[STRANGER, RELAY, FRESH],
+        code: Code::Zeros,
+        after: &[],
+        want: Err(AuthError::UnknownUser),
+    },
+    Case {
+        before: &[CAPITAL_USER, RELAY, FRESH],
+        code: Code::Signed,
+        after: &[],
+        want: Err(AuthError::UnknownUser),
+    },
+    Case {
+        before: &[USER, RELAY, FRESH],
+        code: Code::Zeros,
+        after: &[],
+        want: Err(AuthError::WrongCode),
+    },
+    Case {
+        before: &[USER, RELAY, FRESH],
+        code: Code::SignedWithAnother,
+        after: &[],
+        want: Err(AuthError::WrongCode),
+    },
+    Case {
+        before: &[USER, RELAY, FRESH],
+        code: Code::Cut,
+        after: &[],
+        want: Err(AuthError::WrongCode),
+    },
+    Case {
+        before: &[USER, RELAY, FRESH],
+        code: Code::Lengthened,
+        after: &[],
+        want: Err(AuthError::WrongCode),
+    },
+    Case {
+        before: &[STRANGER, USER, RELAY, FRESH],
+        code: Code::Signed,
+        after: &[],
+        want: Err(AuthError::UnknownUser),
+    },
+];
+
+/// Returns the code that `sign` makes for attributes under a password.
+fn code_of(before: &[Attribute], password: &str) -> Result<[u8; 20], Fail> {
+    let mut buffer = [0; 200];
+    let mut builder = Builder::start(&mut buffer, 0x0003, [7; 12])?;
+    for attribute in before {
+        builder.attr(attribute.kind, attribute.value)?;
+    }
+    sign(&mut builder, &Key::of("user", "relay", password))?;
+    let message = read(builder.written())?;
+    let mut code = [0; 20];
+    if let Some(value) = message.value_of(MESSAGE_INTEGRITY)
+        && value.len() == 20
+    {
+        code.copy_from_slice(value);
+    }
+    Ok(code)
+}
+
+/// Appends the code of a case.
+fn write_code(builder: &mut Builder<'_>, case: &Case) -> Result<(), Fail> {
+    let right = code_of(case.before, "pass")?;
+    match case.code {
+        Code::Signed => sign(builder, &Key::of("user", "relay", "pass"))?,
+        Code::SignedWithAnother => sign(builder, &Key::of("user", "relay", "word"))?,
+        Code::Cut => builder.attr(MESSAGE_INTEGRITY, &right[..19])?,
+        Code::Lengthened => {
+            let mut code = [0; 24];
+            code[..20].copy_from_slice(&right);
+            builder.attr(MESSAGE_INTEGRITY, &code)?;
+        }
+        Code::Zeros => builder.attr(MESSAGE_INTEGRITY, &[0; 19])?,
+        Code::None => {}
+    }
+    Ok(())
+}
+
+/// Writes the message of a case, and returns its length.
+fn written(buffer: &mut [u8], case: &Case) -> Result<usize, Fail> {
+    let mut builder = Builder::start(buffer, 0x0003, [7; 12])?;
+    for attribute in case.before {
+        builder.attr(attribute.kind, attribute.value)?;
+    }
+    write_code(&mut builder, case)?;
+    for attribute in case.after {
+        builder.attr(attribute.kind, attribute.value)?;
+    }
+    Ok(builder.finish())
+}
+
+#[test]
+fn the_first_test_that_fails_is_answered(rt: HostRuntime) -> Result<(), Fail> {
+    let users = [user(&rt, "user", "pass")?, user(&rt, "user", "word")?];
+    for case in CASES {
+        let mut buffer = [0; 200];
+        let n = written(&mut buffer, &case)?;
+        assert!(rt; n <= buffer.len());
+        let message = read(&buffer[..n])?;
+        assert_eq!(rt; check(&message, "relay", &users, "n1"), case.want);
+    }
+    Ok(())
+}
+
+#[test]
+fn a_changed_byte_is_noticed(rt: HostRuntime) -> Result<(), Fail> {
+    let users = [user(&rt, "user", "pass")?];
+    let mut buffer = [0; 72];
+    let n = written(&mut buffer, &CASES[0])?;
+    assert_eq!(rt; n, 72);
+    // a byte of the transaction id, and the first and the last byte of the code
+    for i in [8, 52, 71] {
+        let mut bytes = buffer;
+        bytes[i] ^= 1;
+        let message = read(&bytes)?;
+        assert_eq!(rt;
+            check(&message, "relay", &users, "n1"),
+            Err(AuthError::WrongCode)
+        );
+    }
+    Ok(())
+}

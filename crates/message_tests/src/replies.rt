@@ -1,0 +1,108 @@
+//! Replies, byte for byte, and what contracts say of replies that can't fail.
+
+ghost use Rattle.std.specs.Prelude.{◌≡◌, ◌<◌, ◌≤◌, length, take};
+ghost use Rattle.stun.specs.Messages.{parts_bytes, started, with_attribute};
+ghost use Rattle.stun.specs.declared.registry.attribute.TheConstants.{ERROR_CODE, REALM as REALM_TYPE, NONCE as NONCE_TYPE, XOR_MAPPED_ADDRESS as MAPPED};
+ghost use Rattle.stun.specs.declared.registry.ErrorCode.TheVariants.{Unauthenticated};
+ghost use Rattle.attributes.specs.Errors.{error_value};
+
+use attributes::{Addr, push_error, write_error, write_unknown, write_xor_addr};
+use std::test::Fail;
+use stun::registry::attribute::{NONCE, REALM, XOR_MAPPED_ADDRESS};
+use stun::registry::{Class, ErrorCode, MessageType, Method};
+use stun::{Builder, begin};
+
+const ZERO_ID: [u8; 12] = [0; 12];
+
+/// Returns the type of a reply.
+fn kind(method: Method, class: Class) -> u16
+    ensures { result < 0x4000 }
+{
+    MessageType { method, class }.kind()
+}
+
+/// Demands credentials of an Allocate request: writes the reply, and returns its length. The pushes can't fail,
+/// and the contract needs no proof of its own.
+fn demand(out: &mut [u8], tx: &[u8; 12], realm: &[u8], nonce: &[u8]) -> usize
+    requires room { 1500 ≤ length out.old }
+    requires realm { length realm.now ≤ 128 }
+    requires nonce { length nonce.now ≤ 64 }
+    ensures inside { result ≤ length out.new }
+    ensures bytes { take result out.new ≡ parts_bytes (with_attribute (with_attribute (with_attribute (started 0x0113 tx.now) ERROR_CODE (error_value Unauthenticated)) REALM_TYPE realm.now) NONCE_TYPE nonce.now) }
+{
+    if begin(out, 0x0113, tx).is_err() {
+        return 0;
+    }
+    let mut builder = Builder::resume(out);
+    push_error(&mut builder, ErrorCode::Unauthenticated);
+    builder.push(REALM, &realm);
+    builder.push(NONCE, &nonce);
+    builder.finish()
+}
+
+/// A Binding success to 198.51.100.2 port 4000.
+const BINDING_SUCCESS: [u8; 32] = [
+    0x01, 0x01, 0x00, 0x0c, 0x21, 0x12, 0xa4, 0x42, 0x00, 0x00, 0x00, 0x00, 0x00, 0x00, 0x00, 0x00,
+    0x00, 0x00, 0x00, 0x00, 0x00, 0x20, 0x00, 0x08, 0x00, 0x01, 0x2e, 0xb2, 0xe7, 0x21, 0xc0, 0x40,
+];
+
+#[test]
+fn a_binding_success_is_built(rt: HostRuntime) -> Result<(), Fail> {
+    let mut buffer = [0xff; 32];
+    let mut builder = Builder::start(&mut buffer, kind(Method::Binding, Class::Success), ZERO_ID)?;
+    let client = Addr::V4 {
+        ip: [198, 51, 100, 2],
+        port: 4000,
+    };
+    write_xor_addr(&mut builder, XOR_MAPPED_ADDRESS, &client)?;
+    assert_eq!(rt; builder.finish(), 32);
+    assert!(rt; buffer == BINDING_SUCCESS);
+    Ok(())
+}
+
+/// An Allocate error that asks for credentials: the realm `relay`, the nonce `n1`.
+const ALLOCATE_ERROR: [u8; 64] = [
+    0x01, 0x13, 0x00, 0x2c, 0x21, 0x12, 0xa4, 0x42, 0x00, 0x00, 0x00, 0x00, 0x00, 0x00, 0x00, 0x00,
+    0x00, 0x00, 0x00, 0x00, 0x00, 0x09, 0x00, 0x13, 0x00, 0x00, 0x04, 0x01, 0x55, 0x6e, 0x61, 0x75,
+    0x74, 0x68, 0x65, 0x6e, 0x74, 0x69, 0x63, 0x61, 0x74, 0x65, 0x64, 0x00, 0x00, 0x14, 0x00, 0x05,
+    0x72, 0x65, 0x6c, 0x61, 0x79, 0x00, 0x00, 0x00, 0x00, 0x15, 0x00, 0x02, 0x6e, 0x31, 0x00, 0x00,
+];
+
+#[test]
+fn a_demand_for_credentials_is_built(rt: HostRuntime) -> Result<(), Fail> {
+    let mut buffer = [0xff; 64];
+    let mut builder = Builder::start(&mut buffer, kind(Method::Allocate, Class::Error), ZERO_ID)?;
+    write_error(&mut builder, ErrorCode::Unauthenticated)?;
+    builder.attr(REALM, b"relay")?;
+    builder.attr(NONCE, b"n1")?;
+    assert_eq!(rt; builder.finish(), 64);
+    assert!(rt; buffer == ALLOCATE_ERROR);
+    Ok(())
+}
+
+#[test]
+fn the_same_demand_is_pushed(rt: HostRuntime) {
+    let mut buffer = [0xff; 1500];
+    let n = demand(&mut buffer, &ZERO_ID, b"relay", b"n1");
+    assert_eq!(rt; n, 64);
+    assert!(rt; buffer.starts_with(&ALLOCATE_ERROR));
+}
+
+/// A Binding error that names an attribute which isn't understood, of type 0x001A.
+const BINDING_ERROR: [u8; 56] = [
+    0x01, 0x11, 0x00, 0x24, 0x21, 0x12, 0xa4, 0x42, 0x00, 0x00, 0x00, 0x00, 0x00, 0x00, 0x00, 0x00,
+    0x00, 0x00, 0x00, 0x00, 0x00, 0x09, 0x00, 0x15, 0x00, 0x00, 0x04, 0x14, 0x55, 0x6e, 0x6b, 0x6e,
+    0x6f, 0x77, 0x6e, 0x20, 0x41, 0x74, 0x74, 0x72, 0x69, 0x62, 0x75, 0x74, 0x65, 0x00, 0x00, 0x00,
+    0x00, 0x0a, 0x00, 0x02, 0x00, 0x1a, 0x00, 0x00,
+];
+
+#[test]
+fn an_error_that_names_unknown_attributes_is_built(rt: HostRuntime) -> Result<(), Fail> {
+    let mut buffer = [0xff; 56];
+    let mut builder = Builder::start(&mut buffer, kind(Method::Binding, Class::Error), ZERO_ID)?;
+    write_error(&mut builder, ErrorCode::UnknownAttribute)?;
+    write_unknown(&mut builder, &[0x001a])?;
+    assert_eq!(rt; builder.finish(), 56);
+    assert!(rt; buffer == BINDING_ERROR);
+    Ok(())
+}
