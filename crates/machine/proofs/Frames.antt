@@ -6,7 +6,7 @@ use Rattle.std.proofs.Math.Seq.{take-append-add}
 use Rattle.semantics.specs.Machine.{Memory, Plan, headroom, surrounded, empty_stack, start, no_plan}
 use Rattle.semantics.specs.Runs.{Run}
 use Rattle.semantics.specs.StartLaws.{length-headroom, length-surrounded}
-use Rattle.machine.specs.Contents.{Contents, IsFrame, datagram_of, with_room}
+use Rattle.machine.specs.Contents.{Contents, HoldsDatagram, datagram_of, with_room}
 use Rattle.machine.specs.FrameLaws.{datagram_inside}
 use Rattle.machine.specs.Tracing.{left_by}
 
@@ -32,7 +32,7 @@ frame_long a b n all e f g short = omega arith
 
 -- a frame over such an area is one that may run
 pub is_frame : (old area : List ℕ) (stack : List (Option ℕ)) (n : ℕ) → length old ≡ 65574 → n ≤ 65507 → stack ≡ empty_stack → area ≡ surrounded (take n (drop 64 old)) ++ drop (67 + n) old
-    → IsFrame area stack n true None
+    → HoldsDatagram area stack n true None
 is_frame old area stack n long short empty e =
     let d : List ℕ = take n (drop 64 old) in
     let rest : List ℕ = drop (67 + n) old in
@@ -55,7 +55,7 @@ pub datagram_length : (area : List ℕ) (n : ℕ) → length area ≡ 65574 → 
 datagram_length area n long short = length-take-le n (drop 64 area) (omega (arith, length-drop 64 area))
 
 -- the memory of a started frame is that of the start with its datagram
-pub memory_is : (area bytes : List ℕ) (stack cells : List (Option ℕ)) (n : ℕ) (window : Option (ℕ × ℕ)) → IsFrame area stack n true window → cells ≡ stack → bytes ≡ take (64 + n + 3) area
+pub memory_is : (area bytes : List ℕ) (stack cells : List (Option ℕ)) (n : ℕ) (window : Option (ℕ × ℕ)) → HoldsDatagram area stack n true window → cells ≡ stack → bytes ≡ take (64 + n + 3) area
     → record_of cells bytes n ≡ (start (take n (drop 64 area))).memory
 memory_is area bytes stack cells n window frame same front =
     let places : 64 + n + 3 ≡ 67 + n = omega arith in

@@ -1,3 +1,3 @@
-pub mod Walks
+pub mod Executions
 pub mod Frames
 pub mod SafeRuns

@@ -1,6 +1,7 @@
+pub mod Contexts
 pub mod Contents
 pub mod FrameLaws
 pub mod Lends
-pub mod Walking
+pub mod Execution
 pub mod Tracing
 pub mod Keeping

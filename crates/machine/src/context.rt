@@ -1,15 +1,15 @@
-//! What a program may know of the datagram at hand.
+//! The context of a run: what a program may read about the datagram at hand.
 
 use attributes::Addr;
 
-/// The side that a datagram came from.
+/// The side that a datagram came from: a client, or a peer of a relayed address.
 #[derive(Clone, Copy, Debug, PartialEq, Eq)]
 pub enum Side {
     Client,
     Peer,
 }
 
-/// The source of a datagram, its side, and the transaction id for an indication about it.
+/// The side and the source of a datagram, and the transaction id for an indication about it.
 #[derive(Clone, Copy, Debug, PartialEq, Eq)]
 pub struct Context {
     pub side: Side,

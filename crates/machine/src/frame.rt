@@ -1,26 +1,20 @@
 //! The frame of a run.
 
 ghost use Rattle.std.specs.Prelude.{◌≡◌, ◌≤◌, ◌+◌, ◌++◌, None, length, take, drop, replicate, IfOk, All, ◌<◌};
-ghost use Rattle.semantics.specs.Machine.{empty_stack, surrounded};
+ghost use Rattle.semantics.specs.Machine.{AreBytes, IsContext, empty_stack, surrounded};
+ghost use Rattle.machine.specs.Contexts.{context_of};
 
 use crate::context::{Context, Side};
-use attributes::Addr;
+use attributes::{Addr, is_address};
+use semantics::{HEADROOM, MAX_DATAGRAM, STACK_BYTES, TAILROOM};
 use std::alloc::{AllocError, Global};
 use std::marker::Model;
 
-/// How many bytes may be written before a datagram.
-pub const HEADROOM: usize = 64;
-/// How many bytes a datagram may have.
-pub const ROOM: usize = 65_507;
-/// How many bytes follow a datagram.
-pub const TAILROOM: usize = 3;
+/// The number of bytes of a frame's area.
+const AREA: usize = HEADROOM + MAX_DATAGRAM + TAILROOM;
 
-const AREA: usize = HEADROOM + ROOM + TAILROOM;
-
-const STACK: usize = 512;
-
-/// The memory of a run: one area of bytes with a datagram between headroom and tailroom, and the stack.
-/// It is made once, and no run takes more.
+/// The memory of a run: one area of bytes, with a datagram between headroom and tailroom, and the stack. It is
+/// allocated once, by [`Frame::new`].
 #[derive(Drop)]
 pub struct Frame {
     pub(crate) area: Vec<u8>,
@@ -38,7 +32,43 @@ impl Model for Frame {
 
     ghost view = { λ f. record { area = f.area.items; length = f.length; is_started = f.is_started; context = f.context; window = f.window } };
 
-    ghost invariant = { λ f. IsFrame f.area.items f.stack.items f.length f.is_started f.window };
+    ghost invariant = { λ f. IsFrame f.area.items f.stack.items f.length f.is_started f.window f.context };
+}
+
+/// The context of a frame that was never started.
+const NO_CONTEXT: Context = Context {
+    side: Side::Client,
+    source: Addr::V4 {
+        ip: [0; 4],
+        port: 0,
+    },
+    tx: [0; 12],
+};
+
+/// The items of a slice of bytes are bytes.
+fn all_fit(bytes: &[u8])
+    ensures { All (λ b. b < 256) bytes.now }
+{}
+
+/// An array of `N` bytes has `N` bytes.
+fn are_bytes<const N: usize>(bytes: &[u8; N])
+    ensures { AreBytes N bytes.now }
+{
+    all_fit(bytes);
+}
+
+/// Every context has the sizes of the definitions' context.
+fn is_context(context: &Context)
+    ensures { IsContext (context_of context.now) }
+{
+    is_address(&context.source);
+    are_bytes(&context.tx);
+}
+
+fn zeros(alloc: Global, n: usize) -> Result<Vec<u8>, AllocError>
+    ensures { IfOk result (λ v. v.items ≡ replicate n 0) }
+{
+    vec![in alloc; 0; n]
 }
 
 fn empty_cells(alloc: Global, n: usize) -> Result<Vec<Option<u8>>, AllocError>
@@ -48,12 +78,12 @@ fn empty_cells(alloc: Global, n: usize) -> Result<Vec<Option<u8>>, AllocError>
     vec![in alloc; cell; n]
 }
 
-/// A stack of which nothing is set.
+/// Allocates a stack of which nothing is set.
 #[tactic(auto, unfolding(semantics::specs::Machine::empty_stack))]
 fn empty_stack(alloc: Global) -> Result<Vec<Option<u8>>, AllocError>
     ensures { IfOk result (λ v. v.items ≡ empty_stack) }
 {
-    empty_cells(alloc, STACK)
+    empty_cells(alloc, STACK_BYTES)
 }
 
 /// Writes `n` zeros from an index on.
@@ -73,7 +103,7 @@ fn surround(bytes: &mut [u8], n: usize)
     write_zeros(bytes, HEADROOM + n, TAILROOM);
 }
 
-/// The datagram of `n` bytes in an area.
+/// Returns the datagram of `n` bytes in an area.
 fn datagram_in(area: &[u8], n: usize) -> &[u8]
     requires { 64 + n ≤ length area.now }
     ensures bytes { result.now ≡ take n (drop 64 area.now) }
@@ -87,51 +117,50 @@ fn datagram_in(area: &[u8], n: usize) -> &[u8]
 impl Frame {
     ghost use Rattle.std.specs.Prelude.{◌≡◌, ◌≤◌, false, None, length, IfOk, option_map, option_copied};
     ghost use Rattle.semantics.specs.Runs.{IsDatagram};
+    ghost use Rattle.semantics.specs.declared.limits.TheConstants.{MAX_DATAGRAM};
     ghost use Rattle.std.specs.Borrow.{sem};
-    ghost use Rattle.machine.specs.Contents.{room_of, datagram_of, window_of, IsStartedOver};
+    ghost use Rattle.machine.specs.Contents.{room_of, datagram_of, window_of, IsNew, IsStartedOver};
     ghost use Rattle.machine.specs.Lends.{lends_room};
 
-    /// A frame with room for the longest datagram, not started.
+    /// Allocates a frame with room for the longest datagram: its area is zeros and its datagram empty, and it is not
+    /// started.
+    ///
+    /// # Errors
+    /// Where memory runs out.
     pub fn new(alloc: Global) -> Result<Frame, AllocError>
-        ensures { IfOk result (λ f. (length f.area ≡ 65574) × (f.is_started ≡ false) × (f.window ≡ None)) }
+        ensures { IfOk result IsNew }
     {
+        is_context(&NO_CONTEXT);
         Ok(Frame {
-            area: vec![in alloc; 0; AREA]?,
+            area: zeros(alloc, AREA)?,
             stack: empty_stack(alloc)?,
             length: 0,
             is_started: false,
-            context: Context {
-                side: Side::Client,
-                source: Addr::V4 {
-                    ip: [0; 4],
-                    port: 0,
-                },
-                tx: [0; 12],
-            },
+            context: NO_CONTEXT,
             window: None,
         })
     }
 
-    /// The room for a datagram, 65,507 bytes, to be written. The frame isn't started then, and else stays
-    /// as it was.
+    /// Returns the room for a datagram, 65,507 bytes, to be written. Afterwards the frame is not started, and nothing
+    /// else of it changes.
     #[tactic(auto, using(crate::proofs::Frames::frame_written, crate::proofs::Frames::written_behind))]
     pub fn area(&mut self) -> &mut [u8]
         ensures value { result.now ≡ room_of self.old }
-        ensures len { length result.now ≡ 65507 }
+        ensures len { length result.now ≡ MAX_DATAGRAM }
         ensures* writes_back { sem 𝓛 (lends_room self.entry result) }
     {
         self.is_started = false;
-        self.area.slice_mut(HEADROOM..HEADROOM + ROOM)
+        self.area.slice_mut(HEADROOM..HEADROOM + MAX_DATAGRAM)
     }
 
-    /// Whether a run may start.
+    /// Returns whether the frame is started, so that a run may begin.
     pub fn started(&self) -> bool
         ensures { result ≡ self.now.is_started }
     {
         self.is_started
     }
 
-    /// The datagram, as the last run left it: at most 65,507 bytes.
+    /// Returns the datagram, as the last run left it: at most 65,507 bytes.
     pub fn datagram(&self) -> &[u8]
         ensures bytes { result.now ≡ datagram_of self.now }
         ensures short { IsDatagram (datagram_of self.now) }
@@ -139,7 +168,7 @@ impl Frame {
         datagram_in(&self.area, self.length)
     }
 
-    /// The bytes of the window that the last run set, if it set one.
+    /// Returns the bytes of the window that the last run set, `None` where it set none.
     pub fn window(&self) -> Option<&[u8]>
         ensures { option_copied result ≡ option_map (λ w. window_of self.now w) self.now.window }
     {
@@ -153,11 +182,12 @@ impl Frame {
         }
     }
 
-    /// Makes the first `n` bytes of the room a datagram, with zeros round it, for a run with this context.
+    /// Starts a run with a context: the first `n` bytes of the room become the datagram, with zeros round it.
     pub fn start(&mut self, context: &Context, n: usize)
-        requires { n ≤ 65507 }
+        requires { n ≤ MAX_DATAGRAM }
         ensures { IsStartedOver self.old self.new context.now n }
     {
+        is_context(context);
         surround(&mut self.area, n);
         self.length = n;
         self.context = *context;
@@ -165,7 +195,7 @@ impl Frame {
         self.is_started = true;
     }
 
-    /// The end of a run, which wrote no byte and set no window: no form of today does.
+    /// Ends a run, which wrote no byte and set no window: no current instruction does.
     pub(crate) fn end(&mut self)
         ensures { self.new ≡ record self.old { is_started = false; window = None } }
     {

@@ -1,19 +1,19 @@
-//! The helpers that a program may call. They stand here until the crate of look-ups comes.
+//! The helpers that a program may call.
 
 ghost use Rattle.std.specs.Prelude.{◌≡◌, ℕ, List};
-ghost use Rattle.machine.specs.Tracing.{finds_nothing};
+ghost use Rattle.machine.specs.Contexts.{finds_nothing};
 
-/// The answers to helpers 1 to 3, which look up channels and permissions.
+/// The helpers 1 to 3, which look up channels and permissions.
 pub trait Helpers {
-    /// What a helper answers to a number and an address record.
+    /// The answer of a helper to a number and an address record.
     ghost answers: { Self → ℕ → ℕ → List ℕ → ℕ × List ℕ };
 
-    /// The answer of the helper `id`: a number and an address record.
+    /// Returns the answer of the helper `id` to a number and an address record: a number and an address record.
     fn answer(&self, id: u8, number: u64, address: [u8; 8]) -> (u64, [u8; 8])
         ensures { result ≡ answers self.now id number address };
 }
 
-/// The helpers where no allocation lives: each answers 0 and eight zero bytes.
+/// The helpers of a relay without an allocation: each answers 0 and eight zero bytes.
 #[derive(Clone, Copy, Debug)]
 pub struct NoAllocation;
 

@@ -1,21 +1,22 @@
-//! The frame that a datagram lies in, and the runs over it: of any program, which may be stuck, and of a
-//! verified one, which exits.
+//! The frame of a datagram, and the runs over it: `trace` runs any program and may get stuck, `run` runs a verified
+//! program to its exit.
 #![tactic(auto)]
 
 mod context;
+mod execution;
 mod frame;
 mod helpers;
 mod outcome;
 mod running;
 mod sink;
 mod tracing;
-mod walk;
 
 pub use attributes::Addr;
 pub use context::{Context, Side};
-pub use frame::{Frame, HEADROOM, ROOM, TAILROOM};
+pub use frame::Frame;
 pub use helpers::{Helpers, NoAllocation};
 pub use outcome::{Outcome, Stuck};
 pub use running::run;
+pub use semantics::{HEADROOM, MAX_DATAGRAM, TAILROOM};
 pub use sink::{KEPT, Kept, Lines, Silent, Sink};
 pub use tracing::trace;

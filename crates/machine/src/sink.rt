@@ -1,4 +1,4 @@
-//! Who is told the steps of a trace.
+//! The sinks that the steps of a trace are reported to.
 
 ghost use Rattle.std.specs.Prelude.{◌≡◌};
 ghost use Rattle.semantics.specs.declared.fetching.Visit.{Visit};
@@ -10,39 +10,39 @@ use std::io;
 use std::io::Write;
 use std::marker::Model;
 
-/// Who is told each step of a trace, in order.
+/// Receives the steps of a trace, in order.
 pub trait Sink {
-    /// What a sink tells of the steps that it was told.
-    ghost Told: { Type 0 };
+    /// The log of a sink: what it keeps of the steps that were reported.
+    ghost Log: { Type 0 };
 
-    ghost told: { Self → Told };
+    ghost log: { Self → Log };
 
-    /// What one more step changes of it.
-    ghost hears: { Told → Visit → Told };
+    /// The log with one more step.
+    ghost with_step: { Log → Visit → Log };
 
-    /// One step: the slot, and the instruction that begins there.
+    /// Receives one step: its slot, and the instruction that begins there.
     fn step(&mut self, slot: usize, insn: &Insn)
-        ensures { told self.new ≡ hears (told self.old) (record { slot = slot; insn = insn.now }) };
+        ensures { log self.new ≡ with_step (log self.old) (record { slot = slot; insn = insn.now }) };
 }
 
-/// Hears each step and keeps none.
+/// A sink that ignores each step.
 #[derive(Clone, Copy, Debug)]
 pub struct Silent;
 
 impl Sink for Silent {
-    ghost Told = { Unit {0} };
+    ghost Log = { Unit {0} };
 
-    ghost told = { λ s. tt };
+    ghost log = { λ s. tt };
 
-    ghost hears = { λ t v. tt };
+    ghost with_step = { λ t v. tt };
 
     fn step(&mut self, _slot: usize, _insn: &Insn) {}
 }
 
-/// How many steps `Kept` stores.
-pub const KEPT: usize = 4096;
+/// The number of steps that [`Kept`] stores.
+pub const KEPT: usize = 4_096;
 
-/// Keeps the first 4,096 steps that it hears.
+/// A sink that stores the first 4,096 steps.
 #[derive(Drop)]
 pub struct Kept {
     visits: Vec<Visit>,
@@ -62,7 +62,10 @@ impl Model for Kept {
 impl Kept {
     ghost use Rattle.std.specs.Prelude.{◌≡◌, [], IfOk};
 
-    /// A sink that has heard nothing, with room for all that it will keep.
+    /// Allocates a sink that holds no step, with room for all that it will store.
+    ///
+    /// # Errors
+    /// Where memory runs out.
     pub fn new(alloc: Global) -> Result<Kept, AllocError>
         ensures { IfOk result (λ k. k ≡ []) }
     {
@@ -71,7 +74,7 @@ impl Kept {
         })
     }
 
-    /// The steps that it keeps, in order.
+    /// Returns the steps that are stored, in order.
     pub fn visits(&self) -> &[Visit]
         ensures { result.now ≡ self.now }
     {
@@ -84,11 +87,11 @@ impl Sink for Kept {
     ghost use Rattle.semantics.specs.declared.fetching.Visit.{Visit};
     ghost use Rattle.machine.specs.Keeping.{kept_more};
 
-    ghost Told = { List Visit };
+    ghost Log = { List Visit };
 
-    ghost told = { λ k. k };
+    ghost log = { λ k. k };
 
-    ghost hears = { kept_more };
+    ghost with_step = { kept_more };
 
     fn step(&mut self, slot: usize, insn: &Insn) {
         if self.visits.len() < KEPT {
@@ -141,11 +144,11 @@ impl<W: Write> Lines<W> {
 }
 
 impl<W: Write> Sink for Lines<W> {
-    ghost Told = { Unit {0} };
+    ghost Log = { Unit {0} };
 
-    ghost told = { λ s. tt };
+    ghost log = { λ s. tt };
 
-    ghost hears = { λ t v. tt };
+    ghost with_step = { λ t v. tt };
 
     fn step(&mut self, slot: usize, insn: &Insn) {
         if self.fault.is_none() {

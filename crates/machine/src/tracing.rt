@@ -1,29 +1,39 @@
-//! The tagged run of a program over a frame.
+//! The tagged runs of programs over a frame.
 
 ghost use Rattle.std.specs.Prelude.{◌≡◌, ◌≤◌, ◌+◌, ◌++◌, true, length, drop, fold, IfOk, IfErr};
 ghost use Rattle.insn.specs.Encoding.{slot_count};
-ghost use Rattle.semantics.specs.Machine.{start, surrounded};
+ghost use Rattle.semantics.specs.Machine.{IsContext, start, surrounded};
+ghost use Rattle.machine.specs.Contexts.{context_of};
 ghost use Rattle.semantics.specs.Runs as runs;
 ghost use Rattle.semantics.specs.Runs.{IsDatagram};
 ghost use Rattle.machine.specs.Contents.{datagram_of};
-ghost use Rattle.machine.specs.Tracing.{run_of, Tells, left_by};
-ghost use Rattle.machine.specs.Walking.{IsWholeRun};
+ghost use Rattle.machine.specs.Tracing.{run_of, IsOutcome, left_by};
+ghost use Rattle.insn.specs.declared.decoding.TheConstants.{MAX_SLOTS};
+ghost use Rattle.machine.specs.Execution.{IsWholeRun};
 
-use crate::frame::{Frame, HEADROOM, TAILROOM};
+use crate::execution::{Exited, execute};
+use crate::frame::Frame;
 use crate::helpers::Helpers;
 use crate::outcome::{Outcome, Stuck};
 use crate::sink::Sink;
-use crate::walk::{Walked, walk};
 use insn::Insn;
-use semantics::Memory;
+use semantics::{HEADROOM, Memory, TAILROOM};
 
-/// The run over a started frame's memory.
-pub(crate) fn walk_frame<S: Sink>(code: &[Insn], frame: &Frame, sink: &mut S) -> Walked
-    requires few { length code.now ≤ 4096 }
+/// Runs a program over the memory of a started frame.
+///
+/// # Errors
+/// The step that is stuck.
+pub(crate) fn execute_frame<S: Sink>(
+    code: &[Insn],
+    frame: &Frame,
+    sink: &mut S,
+) -> Result<Exited, Stuck>
+    requires few { slot_count code.now ≤ MAX_SLOTS }
     requires started { frame.now.is_started ≡ true }
     ensures datagram { IsDatagram (datagram_of frame.now) }
+    ensures context { IsContext (context_of frame.now.context) }
     ensures around { frame.now.area ≡ surrounded (datagram_of frame.now) ++ drop (67 + frame.now.length) frame.now.area }
-    ensures walked { IsWholeRun S.hears code.now (start (datagram_of frame.now)).memory (S.told sink.old) (S.told sink.new) result }
+    ensures walked { IsWholeRun S.with_step code.now (start (datagram_of frame.now)).memory (S.log sink.old) (S.log sink.new) result }
 {
     let length = frame.datagram().len();
     let (bytes, _) = frame.area.split_at(HEADROOM + length + TAILROOM);
@@ -32,15 +42,14 @@ pub(crate) fn walk_frame<S: Sink>(code: &[Insn], frame: &Frame, sink: &mut S) ->
         bytes,
         length,
     };
-    walk(code, &memory, sink)
+    execute(code, &memory, sink)
 }
 
-/// Runs a program over a started frame, and tells the sink each step, the stuck one included. It ends
-/// the frame's start, and takes no memory.
+/// Runs a program over a started frame, and reports each step to the sink, a stuck one too. Afterwards the frame is not
+/// started.
 ///
 /// # Errors
-/// The step that is stuck, with its reason. A step past the last instruction is stuck too, and told to
-/// nobody.
+/// The step that is stuck, with its reason. A step past the last instruction is stuck, and is not reported.
 #[tactic(auto, using(semantics::specs::SlotLaws::few_instructions))]
 pub fn trace<H: Helpers, S: Sink>(
     code: &[Insn],
@@ -48,22 +57,22 @@ pub fn trace<H: Helpers, S: Sink>(
     helpers: &H,
     sink: &mut S,
 ) -> Result<Outcome, Stuck>
-    requires few { slot_count code.now ≤ 4096 }
+    requires few { slot_count code.now ≤ MAX_SLOTS }
     requires started { frame.old.is_started ≡ true }
-    ensures ok { IfOk result (λ o. Tells o (run_of code.now frame.old (H.answers helpers.now))) }
+    ensures ok { IfOk result (λ o. IsOutcome o (run_of code.now frame.old (H.answers helpers.now))) }
     ensures err { IfErr result (λ s. (run_of code.now frame.old (H.answers helpers.now)).ending ≡ runs.Stuck s.reason s.slot) }
     ensures left { frame.new ≡ left_by frame.old (run_of code.now frame.old (H.answers helpers.now)) }
-    ensures told { S.told sink.new ≡ fold S.hears (S.told sink.old) (run_of code.now frame.old (H.answers helpers.now)).path }
+    ensures reported { S.log sink.new ≡ fold S.with_step (S.log sink.old) (run_of code.now frame.old (H.answers helpers.now)).path }
 {
-    let walked = walk_frame(code, frame, sink);
+    let ended = execute_frame(code, frame, sink);
     frame.end();
-    match walked {
-        Walked::Exited { verdict, steps } => Ok(Outcome {
+    match ended {
+        Ok(Exited { verdict, steps }) => Ok(Outcome {
             verdict,
             steps,
             window: None,
             destination: None,
         }),
-        Walked::Stuck(stuck) => Err(stuck),
+        Err(stuck) => Err(stuck),
     }
 }

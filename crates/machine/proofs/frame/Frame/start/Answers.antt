@@ -1,7 +1,7 @@
 use Rattle.std.proofs.Common.{◌≡◌, ◌+◌, ◌++◌, List, ℕ, length, take, drop, sym, ap, ◌∙◌, subst, true, refl, None}
 use Rattle.std.proofs.lemmas.List.{take_at}
 use Rattle.semantics.specs.Machine.{surrounded}
-use Rattle.machine.specs.Contents.{Contents, IsFrame}
+use Rattle.machine.specs.Contents.{Contents, HoldsDatagram}
 use Rattle.machine.proofs.Frames.{is_frame}
 use Rattle.machine.proofs.frame.Frame.start.Goals as goal
 
@@ -11,10 +11,13 @@ written new old len e = take_at new (drop (length new) old) len e
 
 pub invariant_of-self : goal.invariant_of-self
 invariant_of-self c =
-    let long : length c.deref_mut.result.now ≡ 65574 = ap length c.deref_mut.ensures.value ∙ c.self.invariant.long in
+    let long : length c.deref_mut.result.now ≡ 65574 = ap length c.deref_mut.ensures.value ∙ c.self.invariant.holds.long in
     let area = written c.surround.new.bytes c.self.inside.area.items c.self.inside.area.len (c.surround.auto.bytes ∙ c.deref_mut.ensures.len) in
-    subst (λ (a : List ℕ). IsFrame a c.self.inside.stack.items c.args.n true None) (sym area)
-    (is_frame c.deref_mut.result.now c.surround.new.bytes c.self.inside.stack.items c.args.n long c.requires c.self.invariant.empty c.surround.ensures)
+    record {
+      holds = subst (λ (a : List ℕ). HoldsDatagram a c.self.inside.stack.items c.args.n true None) (sym area)
+          (is_frame c.deref_mut.result.now c.surround.new.bytes c.self.inside.stack.items c.args.n long c.requires c.self.invariant.holds.empty c.surround.ensures);
+      real = c.is_context.ensures;
+    }
 
 pub returns : goal.returns
 returns c =

@@ -1,0 +1,25 @@
+use Rattle.std.proofs.Common.{◌≡◌, ℕ, length, All, refl, sym, ap, ◌∙◌, subst, arith}
+use Rattle.std.proofs.lemmas.List.{length-replicate}
+use Rattle.std.proofs.lemmas.List.Elements.{All-replicate}
+use Rattle.machine.proofs.frame.Frame.new.Goals as goal
+
+pub invariant_of-result : goal.invariant_of-result
+invariant_of-result c = record {
+  holds = record {
+    long = let zero_byte : ℕ = 0 in ap length c.in_ok-zeros.ensures ∙ length-replicate 65574 zero_byte;
+    short = omega arith;
+    empty = c.in_ok-empty_stack.ensures;
+    ready = λ e. absurd cc;
+    inside = tt;
+  };
+  real = c.is_context.ensures;
+}
+
+pub returns : goal.returns
+returns c = record {
+  area = let zero_byte : ℕ = 0 in ap length c.in_ok-zeros.ensures ∙ length-replicate 65574 zero_byte;
+  zeros = subst (All (λ b. b ≡ 0)) (sym c.in_ok-zeros.ensures) (All-replicate (λ (b : ℕ). b ≡ 0) 65574 0 refl);
+  length = refl;
+  is_started = refl;
+  window = refl;
+}
