@@ -1,4 +1,4 @@
--- What the loader answers.
+-- The answers of the loader.
 use Rattle.std.specs.Prelude.{◌≡◌, ◌⊎◌, ℕ, List, Result, Ok, Err}
 use Rattle.insn.specs.Encoding.{Encodes}
 use Rattle.insn.specs.Refusal.{IsRefused}
@@ -6,21 +6,22 @@ use Rattle.insn.specs.declared.instruction.Insn.{Insn}
 use Rattle.insn.specs.declared.refusal.DecodeError.TheVariants as error
 use Rattle.semantics.specs.Runs.{IsSafe}
 use Rattle.verifier.specs.Refusing.{MayRefuse}
+use Rattle.loader.specs.declared.loaded.TheConstants.{BUDGET}
 use Rattle.loader.specs.declared.refusal.LoadError.{LoadError}
 use Rattle.loader.specs.declared.refusal.LoadError.TheVariants.{Decode, Verify}
 
--- a program that was loaded is the one that the bytes encode, and safe
+-- a loaded program is the one that the bytes encode, and safe
 pub record IsLoaded (code : List Insn) (bytes : List ℕ) : Type 0 where
   pub encoded : Encodes code bytes
   pub safe : IsSafe code
 
--- Why bytes are not loaded: a fault of theirs, or one for which the program that they encode may be refused with a
--- budget of 100,000; or want of memory.
+-- The refusals of bytes: their fault; a refusal that verification with the budget may give on the program that they
+-- encode; and want of memory.
 abbrev pub IsLoadRefusal : List ℕ → LoadError → Type 0
 IsLoadRefusal bytes (Decode e) = (e ≡ error.Memory) ⊎ IsRefused bytes e
-IsLoadRefusal bytes (Verify e) = (code : List Insn) × Encodes code bytes × MayRefuse code 100000 e
+IsLoadRefusal bytes (Verify e) = (code : List Insn) × Encodes code bytes × MayRefuse code BUDGET e
 
--- an answer is a refusal, unless memory ran out for the program's list
+-- the answer is a refusal, unless memory ran out while decoding
 abbrev pub IsUnlessMemory : {T : Type 0} → LoadError → Result T LoadError → Type 0
 IsUnlessMemory e (Ok x) = ⊥
 IsUnlessMemory e (Err f) = (f ≡ e) ⊎ (f ≡ Decode error.Memory)

@@ -1,4 +1,4 @@
-//! The way of a program into the relay: its bytes are decoded, the program is verified, and what is loaded can run.
+//! Loads programs: decodes their bytes and verifies them, so that what is loaded can run.
 #![tactic(auto)]
 
 mod loaded;

@@ -1,14 +1,15 @@
-//! Bytes to a program that can run.
+//! Loading: from bytes to a program that can run.
 
-ghost use Rattle.std.specs.Prelude.{◌≡◌, ◌<◌, ◌≤◌, ℕ, List, IfOk, IfErr, OnOk};
+ghost use Rattle.std.specs.Prelude.{◌≡◌, ◌<◌, ◌≤◌, ℕ, List, IfOk, IfErr};
 ghost use Rattle.insn.specs.Encoding.{Encodes, slot_count};
 ghost use Rattle.insn.specs.Refusal.{IsRefused};
 ghost use Rattle.insn.specs.declared.instruction.Insn.{Insn};
 ghost use Rattle.insn.specs.declared.refusal.DecodeError.{DecodeError};
-ghost use Rattle.semantics.specs.Runs.{IsSafe};
 ghost use Rattle.semantics.specs.declared.reason.Reason.{Reason};
 ghost use Rattle.verifier.specs.Layout.{IsLayoutFault};
-ghost use Rattle.verifier.specs.Refusing.{MayRefuse};
+ghost use Rattle.verifier.specs.Refusing.{IsVerdict};
+ghost use Rattle.insn.specs.declared.decoding.TheConstants.{MAX_SLOTS};
+ghost use Rattle.loader.specs.declared.loaded.TheConstants.{BUDGET};
 ghost use Rattle.loader.specs.Loads.{IsLoaded, IsLoadRefusal, IsUnlessMemory};
 ghost use Rattle.loader.specs.declared.refusal.LoadError.TheVariants.{Decode, Verify};
 
@@ -19,11 +20,10 @@ use std::marker::{Brand, Model};
 use std::sync::ledger::{Blank, Ledger};
 use verifier::{Refusal, Steps, Verified, verify};
 
-/// How many abstract steps the verification of a program may take.
+/// The number of abstract steps that the verification of a program may take.
 pub const BUDGET: usize = 100_000;
 
-/// A program that was loaded: it is the one that its bytes encode, and every run of it exits. Nothing but
-/// `load` makes one.
+/// A loaded program: its bytes encode it, and every run of it exits. Only [`load`] makes one.
 #[derive(Drop)]
 pub struct Loaded {
     program: Verified,
@@ -41,7 +41,7 @@ impl Model for Loaded {
 impl Loaded {
     ghost use Rattle.std.specs.Prelude.{◌≡◌};
 
-    /// The program, which can run.
+    /// Returns the program, which can run.
     pub fn program(&self) -> &Verified
         ensures { result.now ≡ self.now }
     {
@@ -49,37 +49,34 @@ impl Loaded {
     }
 }
 
+/// Verifies a program with the budget, and counts its steps.
 fn verified_by<L: Ledger>(alloc: Global, code: &[Insn], blank: Blank) -> Result<Verified, Refusal>
     requires name { blank.name ≡ L.name }
     requires parts { blank.parts ≡ L.parts }
     requires some { 0 < L.parts }
-    requires few { slot_count code.now ≤ 4096 }
+    requires few { slot_count code.now ≤ MAX_SLOTS }
     ensures code { IfOk result (λ v. v ≡ code.now) }
-    ensures safe { OnOk result (IsSafe code.now) }
-    ensures layout { (reason : Reason) (slot : ℕ) → IsLayoutFault code.now reason slot → result ≡ Err (Refusal.Stuck reason slot) }
-    ensures refused { IfErr result (MayRefuse code.now 100000) }
+    ensures verdict { IsVerdict code.now BUDGET result }
 {
     let mut steps = Steps::<L>::new(blank);
     verify(alloc, code, BUDGET, &mut steps)
 }
 
-/// The program, verified with the budget, where the steps are counted by nobody.
+/// Verifies a program with the budget; nothing counts its steps.
 fn verified(alloc: Global, code: &[Insn]) -> Result<Verified, Refusal>
-    requires few { slot_count code.now ≤ 4096 }
+    requires few { slot_count code.now ≤ MAX_SLOTS }
     ensures code { IfOk result (λ v. v ≡ code.now) }
-    ensures safe { OnOk result (IsSafe code.now) }
-    ensures layout { (reason : Reason) (slot : ℕ) → IsLayoutFault code.now reason slot → result ≡ Err (Refusal.Stuck reason slot) }
-    ensures refused { IfErr result (MayRefuse code.now 100000) }
+    ensures verdict { IsVerdict code.now BUDGET result }
 {
     verified_by::<Brand>(alloc, code, Blank::new(1))
 }
 
-/// Loads a program: decodes its bytes, and verifies it.
+/// Loads a program: decodes its bytes (RFC 9669, sections 3 to 5) and verifies it.
 ///
 /// # Errors
-/// E1 to E7 where the bytes encode no program, as `decode` names them. Otherwise V1 to V4 where the program's
-/// layout is faulty, V5 to V16 and V18 where a step could be stuck, and V17 where its paths have more than
-/// 100,000 beginnings. E8 and V19 for want of memory.
+/// E1 to E7 where the bytes encode no program, as [`decode`] names them. Otherwise V1 to V4 where the layout of the
+/// program is faulty, V5 to V16 and V18 where a step could be stuck, and V17 where its paths have more than 100,000
+/// beginnings. E8 and V19 where memory runs out.
 pub fn load(alloc: Global, bytes: &[u8]) -> Result<Loaded, LoadError>
     // What is loaded is the program that the bytes encode, and every run of it exits.
     ensures loaded { IfOk result (λ code. IsLoaded code bytes.now) }

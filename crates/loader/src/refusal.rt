@@ -1,4 +1,4 @@
-//! Why bytes are not loaded.
+//! The refusals of `load`.
 
 ghost use Rattle.std.specs.Prelude.{◌≡◌};
 ghost use Rattle.loader.specs.declared.refusal.LoadError.TheVariants.{Decode, Verify};
@@ -7,13 +7,13 @@ use insn::DecodeError;
 use thiserror::Error;
 use verifier::Refusal;
 
-/// Why bytes are not loaded. It prints the code, with the slot where it has one, as `E4 at 0` or `V10 at 6`.
+/// Why bytes are refused. It prints the code, and the slot where it has one, as `E4 at 0` or `V10 at 6`.
 #[derive(Clone, Copy, Debug, PartialEq, Eq, Error)]
 pub enum LoadError {
     /// The bytes encode no program.
     #[error("{0}")]
     Decode(DecodeError),
-    /// The program that they encode is refused.
+    /// The program that the bytes encode is refused.
     #[error("{0}")]
     Verify(Refusal),
 }

@@ -16,11 +16,11 @@ pub returns-in_err-program-clause-layout : goal.returns-in_err-program-clause-la
 returns-in_err-program-clause-layout c code reason slot encodes fault =
     let p = err_from_is_err_and c.from_residual-in_err-program.result c.from_residual-in_err-program.ensures.1 in
     let is : c.deref.result.now ≡ code = c.deref.ensures.value ∙ c.in_ok-code.ensures.only code encodes in
-    let refused = c.verified.ensures.layout reason slot (subst (λ (k : List Insn). IsLayoutFault k reason slot) (sym is) fault) in
+    let refused = c.verified.ensures.verdict.layout reason slot (subst (λ (k : List Insn). IsLayoutFault k reason slot) (sym is) fault) in
     rw (p.1, p.2) (inl (ap Verify (same_refusal c.verified.result _ _ c.in_err-program.was refused)))
 
 pub returns-clause-layout : goal.returns-clause-layout
 returns-clause-layout c code reason slot encodes fault =
     let is : c.deref.result.now ≡ code = c.deref.ensures.value ∙ c.in_ok-code.ensures.only code encodes in
-    let refused = c.verified.ensures.layout reason slot (subst (λ (k : List Insn). IsLayoutFault k reason slot) (sym is) fault) in
+    let refused = c.verified.ensures.verdict.layout reason slot (subst (λ (k : List Insn). IsLayoutFault k reason slot) (sym is) fault) in
     no_refusal c.verified.result _ _ c.in_ok-program.was refused
