@@ -5,3 +5,4 @@ pub mod Lends
 pub mod Execution
 pub mod Tracing
 pub mod Keeping
+pub mod Lines

@@ -100,28 +100,29 @@ impl Sink for Kept {
     }
 }
 
-/// Writes each step as a line, the slot and the instruction. After a fault of the writer, which it
-/// keeps, it writes nothing more.
+/// A sink that writes each step as a line: the slot and the instruction. It keeps the first fault of its writer, and
+/// writes nothing more after it.
 #[derive(Drop)]
-pub struct Lines<W> {
+pub struct Lines<W: Write> {
     writer: W,
     fault: Option<io::Error>,
 }
 
-impl<W> Model for Lines<W> {
-    ghost use Rattle.std.specs.Prelude.{Bool, is_some};
+impl<W: Write> Model for Lines<W> {
+    ghost use Rattle.std.specs.Prelude.{is_some};
+    ghost use Rattle.machine.specs.Lines.{Written};
 
-    ghost Value = { Bool };
+    ghost Value = { Written };
 
-    ghost view = { λ l. is_some l.fault };
+    ghost view = { λ l. record { contents = W.contents l.writer; has_fault = is_some l.fault } };
 }
 
 impl<W: Write> Lines<W> {
-    ghost use Rattle.std.specs.Prelude.{◌≡◌, false, is_err};
+    ghost use Rattle.std.specs.Prelude.{◌≡◌, true, false, MatchResult};
 
-    /// A sink that writes to `writer`, which has had no fault.
+    /// Returns a sink that writes to `writer`, without a fault.
     pub fn new(writer: W) -> Lines<W>
-        ensures { result ≡ false }
+        ensures { result ≡ record { contents = W.contents writer; has_fault = false } }
     {
         Lines {
             writer,
@@ -129,11 +130,14 @@ impl<W: Write> Lines<W> {
         }
     }
 
-    /// The writer, or the first fault that it had.
+    /// Returns the writer.
+    ///
+    /// # Errors
+    /// The first fault that the writer had.
     pub fn finish(self) -> io::Result<W>
     where
         W: Drop,
-        ensures { is_err result ≡ self }
+        ensures { MatchResult result (λ w. self ≡ record { contents = W.contents w; has_fault = false }) (λ e. self.has_fault ≡ true) }
     {
         let Lines { writer, fault } = self;
         match fault {
@@ -144,13 +148,17 @@ impl<W: Write> Lines<W> {
 }
 
 impl<W: Write> Sink for Lines<W> {
+    ghost use Rattle.std.specs.Prelude.{◌≡◌, true};
+
     ghost Log = { Unit {0} };
 
     ghost log = { λ s. tt };
 
     ghost with_step = { λ t v. tt };
 
-    fn step(&mut self, slot: usize, insn: &Insn) {
+    fn step(&mut self, slot: usize, insn: &Insn)
+        ensures after_a_fault { self.old.has_fault ≡ true → self.new ≡ self.old }
+    {
         if self.fault.is_none() {
             self.fault = writeln!(self.writer, "{slot} {insn}").err();
         }
