@@ -1,4 +1,4 @@
--- One step of the walk, and the steps of the machine from the members of what is known.
+-- A step of the walk, and the machine's steps from the members of its abstract state.
 use Rattle.std.proofs.Common.{◌≡◌, ℕ, ◌+◌, ℤ, List, Option, Result, Ok, Err, refl, sym, ap, ◌∙◌, subst}
 use Rattle.insn.specs.Encoding.{Fits, slots_of}
 use Rattle.insn.specs.declared.register.Reg.{Reg}
@@ -20,7 +20,7 @@ use Rattle.semantics.specs.declared.fetching.Branch.TheVariants.{NotTaken, Taken
 use Rattle.verifier.specs.AbstractStates.{with_least}
 use Rattle.verifier.specs.AbstractSteps as abstract
 use Rattle.verifier.specs.Membership.{Mode, Places, IsMember}
-use Rattle.verifier.specs.Walk.{IsPoint}
+use Rattle.verifier.specs.Walk.{LeadsTo}
 use Rattle.verifier.specs.declared.abstract_state.AbstractState.{AbstractState}
 use Rattle.verifier.specs.declared.abstract_step.Next.{Next}
 use Rattle.verifier.specs.declared.abstract_step.Next.TheVariants as next
@@ -57,9 +57,9 @@ accepted_agree mode places a s member i fit answer is =
 pub step_is : (w : Surroundings) (code : List Insn) (s : State) (i : Insn) (r : Result Effect Reason) → fetch code s.slot ≡ Begins i → effects.effect s.memory s.registers i ≡ r → step w code s ≡ applied code s i r
 step_is w code s i r here e = ap (stepped w code s) here ∙ ap (applied code s i) e
 
--- ---- where the machine comes to
+-- ---- the machine's next state
 
--- the machine's step comes to a point, with a member of what is known there
+-- the machine's step leads to a member of a pending state
 pub record Arrives (w : Surroundings) (code : List Insn) (mode : Mode) (places : Places) (s : State) (p : Pending) : Type 0 where
   pub next : State
   pub goes : step w code s ≡ Goes next
@@ -75,7 +75,7 @@ landed_at s (Ok m) n e = ap (λ (k : ℕ). Goes (record s { slot = k })) (same_s
 landed_at s (Err f) n e = absurd cc
 
 module _ (w : Surroundings) (code : List Insn) (mode : Mode) (places : Places) (a : AbstractState) (s : State) (member : IsMember mode places a s) (i : Insn) (here : fetch code s.slot ≡ Begins i) where
-  pub arrives_on : (b : AbstractState) (e : Effect) (p : Pending) → effects.effect s.memory s.registers i ≡ Ok e → Follows places a s i (next.On b) e → IsPoint code s.slot i NotTaken b p → Arrives w code mode places s p
+  pub arrives_on : (b : AbstractState) (e : Effect) (p : Pending) → effects.effect s.memory s.registers i ≡ Ok e → Follows places a s i (next.On b) e → LeadsTo code s.slot i NotTaken b p → Arrives w code mode places s p
   arrives_on b (effect.Write r v) p is follows point =
       let past : s.slot + slots_of i ≡ p.slot = same_slot (s.slot + slots_of i) p.slot (sym (follows.3 code s.slot) ∙ point.leads) in
       record {
@@ -98,7 +98,7 @@ module _ (w : Surroundings) (code : List Insn) (mode : Mode) (places : Places) (
   arrives_on b (effect.Exit verdict) p is follows point = absurd follows
 
   -- a branch of a jump
-  pub branch_goes : (c : Condition) (dst : Reg) (o : Operand) (offset : ℤ) (branch : Branch) (b : AbstractState) (p : Pending) → i ≡ insn.JumpIf c dst o offset → IsPoint code s.slot i branch b p
+  pub branch_goes : (c : Condition) (dst : Reg) (o : Operand) (offset : ℤ) (branch : Branch) (b : AbstractState) (p : Pending) → i ≡ insn.JumpIf c dst o offset → LeadsTo code s.slot i branch b p
       → applied code s i (Ok (effect_of_branch offset branch)) ≡ Goes (record s { slot = p.slot })
   branch_goes c dst o offset Taken b p jump point =
       let leads : target code s.slot offset ≡ Ok p.slot = sym (ap (λ (j : Insn). branch_slot code s.slot j Taken) jump) ∙ point.leads in
@@ -112,7 +112,7 @@ module _ (w : Surroundings) (code : List Insn) (mode : Mode) (places : Places) (
   branch_member b least p is least_is le = subst (λ (c : AbstractState). IsMember mode places c (record s { slot = p.slot })) (sym (is ∙ least_is)) (member_least mode places a s member least p.slot le)
 
   pub arrives_branch : (not_taken taken : AbstractState) (e : Effect) (f : Forks a s i not_taken taken e) (branch : Branch) (b : AbstractState) (p : Pending) → f.branch ≡ branch → effects.effect s.memory s.registers i ≡ Ok e
-      → b ≡ with_least a (abstract.least_of (bound_of f.condition (effects.value_at s.registers f.dst) f.second branch)) → IsPoint code s.slot i branch b p → Arrives w code mode places s p
+      → b ≡ with_least a (abstract.least_of (bound_of f.condition (effects.value_at s.registers f.dst) f.second branch)) → LeadsTo code s.slot i branch b p → Arrives w code mode places s p
   arrives_branch not_taken taken e f branch b p branch_is is least_is point =
       let true_of = subst (λ (t : Branch). HoldsOf (bound_of f.condition (effects.value_at s.registers f.dst) f.second t) s.memory.length) branch_is f.true_of in
       record {

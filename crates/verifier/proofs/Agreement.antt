@@ -1,10 +1,10 @@
--- Answers that agree: what is known is answered where the machine goes on, and refused where it is stuck for the
--- same reason, as far as that is claimed.
+-- Abstract answers that agree with the machine's: an accepted step where the machine goes on, and a refusal where it is
+-- stuck for the same reason, as far as that is claimed.
 use Rattle.std.proofs.Common.{◌≡◌, Result, Ok, Err, refl}
 use Rattle.semantics.specs.Fallible.{◌>>=◌}
 use Rattle.semantics.specs.declared.reason.Reason.{Reason}
 
--- where an answer is known, the machine gives one that is related to it; a claimed refusal is the machine's own
+-- an accepted step is related to the machine's; a claimed refusal is the machine's own
 abbrev pub Agree : {A B : Type 0} → (Reason → Type 0) → (A → B → Type 0) → Result A Reason → Result B Reason → Type 0
 Agree claimed R (Ok x) (Ok y) = R x y
 Agree claimed R (Ok x) (Err e) = ⊥

@@ -1,4 +1,4 @@
--- Each step of the walk is a beginning of a path of its own.
+-- Each step of the walk is one beginning of a path.
 use Rattle.std.proofs.Common.{◌≡◌, ℕ, zero, suc, ◌+◌, ◌-◌, ◌<◌, ◌≤◌, List, [], ◌∷◌, ◌++◌, length, Option, Some, None, Result, Ok, Err, refl, sym, ap, ◌∙◌, arith, length-append}
 use Rattle.std.specs.List.{flat_map}
 use Rattle.std.proofs.lemmas.List.{length-map}
@@ -12,14 +12,14 @@ use Rattle.semantics.specs.declared.fetching.Fetched.{Fetched}
 use Rattle.semantics.specs.declared.fetching.Fetched.TheVariants.{Begins, Inside, Past}
 use Rattle.semantics.specs.declared.fetching.Branch.{Branch}
 use Rattle.semantics.specs.declared.fetching.Branch.TheVariants.{NotTaken, Taken}
-use Rattle.verifier.specs.Goodness.{count_from, counts_from}
-use Rattle.verifier.specs.Ways.{One, Two, ways_of, ways_on}
-use Rattle.verifier.specs.Walk.{IsPoint, GoesOn}
+use Rattle.verifier.specs.PendingStates.{count_from, counts_from}
+use Rattle.verifier.specs.Successors.{One, Two, successors_of, successors_in}
+use Rattle.verifier.specs.Walk.{LeadsTo, GoesOn}
 use Rattle.verifier.specs.declared.abstract_state.AbstractState.{AbstractState}
 use Rattle.verifier.specs.declared.abstract_step.Next.{Next}
 use Rattle.verifier.specs.declared.abstract_step.Next.TheVariants as next
 use Rattle.verifier.specs.declared.walk.Pending.{Pending}
-use Rattle.verifier.proofs.Ways.{way_rises}
+use Rattle.verifier.proofs.Branches.{branch_rises}
 
 -- ---- more fuel, no fewer beginnings
 
@@ -27,14 +27,14 @@ onwards_length : (branch : Branch) (r : Result ℕ Reason) (f g : ℕ → List (
 onwards_length branch (Ok n) f g le = omega (arith, length-map (f n) (λ (path : List Branch). branch ∷ path), length-map (g n) (λ (path : List Branch). branch ∷ path), le n)
 onwards_length branch (Err e) f g le = omega arith
 
-all_ways : (bs : List Branch) (f g : Branch → List (List Branch)) → ((b : Branch) → length (f b) ≤ length (g b)) → length (flat_map f bs) ≤ length (flat_map g bs)
-all_ways [] f g le = omega arith
-all_ways (b ∷ bs) f g le = omega (arith, length-append (f b) (flat_map f bs), length-append (g b) (flat_map g bs), le b, all_ways bs f g le)
+all_branches : (bs : List Branch) (f g : Branch → List (List Branch)) → ((b : Branch) → length (f b) ≤ length (g b)) → length (flat_map f bs) ≤ length (flat_map g bs)
+all_branches [] f g le = omega arith
+all_branches (b ∷ bs) f g le = omega (arith, length-append (f b) (flat_map f bs), length-append (g b) (flat_map g bs), le b, all_branches bs f g le)
 
 paths_length : (code : List Insn) (slot : ℕ) (p : Fetched) (f g : ℕ → List (List Branch)) → ((n : ℕ) → length (f n) ≤ length (g n)) → length (paths_at code slot p f) ≤ length (paths_at code slot p g)
 paths_length code slot (Begins i) f g le =
-    let ways_le = all_ways (branches i) (λ branch. path_onwards branch (branch_slot code slot i branch) f) (λ branch. path_onwards branch (branch_slot code slot i branch) g) (λ branch. onwards_length branch (branch_slot code slot i branch) f g le) in
-    omega (arith, ways_le)
+    let branches_le = all_branches (branches i) (λ branch. path_onwards branch (branch_slot code slot i branch) f) (λ branch. path_onwards branch (branch_slot code slot i branch) g) (λ branch. onwards_length branch (branch_slot code slot i branch) f g le) in
+    omega (arith, branches_le)
 paths_length code slot Inside f g le = omega arith
 paths_length code slot Past f g le = omega arith
 
@@ -43,7 +43,7 @@ more_fuel code zero n slot le = omega arith
 more_fuel code (suc m) zero slot le = absurd (omega (arith, le))
 more_fuel code (suc m) (suc n) slot le = paths_length code slot (fetch code slot) (λ next. beginnings_from code m next) (λ next. beginnings_from code n next) (λ next. more_fuel code m n next (omega (arith, le)))
 
--- ---- the beginnings from a point are its own, and those from the points behind its ways
+-- ---- the beginnings from a pending state: its own, and those from the states that its branches lead to
 
 pub counted_at : (code : List Insn) (slot m : ℕ) (i : Insn) → fetch code slot ≡ Begins i → length (beginnings_from code (suc m) slot) ≡ suc (length (flat_map (λ branch. path_onwards branch (branch_slot code slot i branch) (λ next. beginnings_from code m next)) (branches i)))
 counted_at code slot m i here = ap (λ (p : Fetched). length (paths_at code slot p (λ next. beginnings_from code m next))) here
@@ -60,63 +60,63 @@ behind code slot to i begins rises = omega (arith, ahead_falls code slot to i be
 onwards_is : (branch : Branch) (r : Result ℕ Reason) (n : ℕ) (f : ℕ → List (List Branch)) → r ≡ Ok n → length (path_onwards branch r f) ≡ length (f n)
 onwards_is branch r n f e = ap (λ (q : Result ℕ Reason). length (path_onwards branch q f)) e ∙ length-map (f n) (λ (path : List Branch). branch ∷ path)
 
--- a branch to a pending state counts at least the beginnings from there
-branch_counts : (code : List Insn) (slot : ℕ) (i : Insn) → fetch code slot ≡ Begins i → (branch : Branch) (known : AbstractState) (p : Pending) → IsPoint code slot i branch known p
+-- the beginnings through a branch are at least those from the pending state that it leads to
+branch_counts : (code : List Insn) (slot : ℕ) (i : Insn) → fetch code slot ≡ Begins i → (branch : Branch) (known : AbstractState) (p : Pending) → LeadsTo code slot i branch known p
     → count_from code p ≤ length (path_onwards branch (branch_slot code slot i branch) (λ next. beginnings_from code (ahead code slot - 1) next))
 branch_counts code slot i begins branch known p point =
     let m : ℕ = ahead code slot - 1 in
     let is = onwards_is branch (branch_slot code slot i branch) p.slot (λ next. beginnings_from code m next) point.leads in
-    let fewer = more_fuel code (ahead code p.slot) m p.slot (behind code slot p.slot i begins (way_rises code slot p.slot i branch point.leads)) in
+    let fewer = more_fuel code (ahead code p.slot) m p.slot (behind code slot p.slot i begins (branch_rises code slot p.slot i branch point.leads)) in
     omega (arith, is, fewer)
 
 abbrev all_onwards : List Insn → ℕ → Insn → ℕ → List (List Branch)
 all_onwards code slot i m = flat_map (λ branch. path_onwards branch (branch_slot code slot i branch) (λ next. beginnings_from code m next)) (branches i)
 
-abbrev way_onwards : List Insn → ℕ → Insn → Branch → ℕ → List (List Branch)
-way_onwards code slot i branch m = path_onwards branch (branch_slot code slot i branch) (λ next. beginnings_from code m next)
+abbrev branch_onwards : List Insn → ℕ → Insn → Branch → ℕ → List (List Branch)
+branch_onwards code slot i branch m = path_onwards branch (branch_slot code slot i branch) (λ next. beginnings_from code m next)
 
--- either flag names the one way of an instruction that has one
+-- an instruction with one successor counts the same by either branch
 same_onwards : (r : Result ℕ Reason) (f : ℕ → List (List Branch)) → length (path_onwards NotTaken r f) ≡ length (path_onwards Taken r f)
 same_onwards (Ok n) f = length-map (f n) (λ (path : List Branch). NotTaken ∷ path) ∙ sym (length-map (f n) (λ (path : List Branch). Taken ∷ path))
 same_onwards (Err e) f = refl
 
-one_way : (code : List Insn) (slot m : ℕ) (i : Insn) → One ≡ ways_of i → length (way_onwards code slot i NotTaken m) ≤ length (all_onwards code slot i m)
-one_way code slot m (insn.Alu op dst o) e = omega (arith, length-append (way_onwards code slot (insn.Alu op dst o) NotTaken m) [])
-one_way code slot m (insn.Jump offset) e = omega (arith, length-append (way_onwards code slot (insn.Jump offset) Taken m) [], same_onwards (branch_slot code slot (insn.Jump offset) Taken) (λ next. beginnings_from code m next))
-one_way code slot m (insn.JumpIf c dst o offset) e = absurd cc
-one_way code slot m (insn.Load z dst base d) e = omega (arith, length-append (way_onwards code slot (insn.Load z dst base d) NotTaken m) [])
-one_way code slot m insn.Exit e = absurd cc
+one_branch : (code : List Insn) (slot m : ℕ) (i : Insn) → One ≡ successors_of i → length (branch_onwards code slot i NotTaken m) ≤ length (all_onwards code slot i m)
+one_branch code slot m (insn.Alu op dst o) e = omega (arith, length-append (branch_onwards code slot (insn.Alu op dst o) NotTaken m) [])
+one_branch code slot m (insn.Jump offset) e = omega (arith, length-append (branch_onwards code slot (insn.Jump offset) Taken m) [], same_onwards (branch_slot code slot (insn.Jump offset) Taken) (λ next. beginnings_from code m next))
+one_branch code slot m (insn.JumpIf c dst o offset) e = absurd cc
+one_branch code slot m (insn.Load z dst base d) e = omega (arith, length-append (branch_onwards code slot (insn.Load z dst base d) NotTaken m) [])
+one_branch code slot m insn.Exit e = absurd cc
 
-two_ways : (code : List Insn) (slot m : ℕ) (i : Insn) → Two ≡ ways_of i → length (way_onwards code slot i NotTaken m) + length (way_onwards code slot i Taken m) ≤ length (all_onwards code slot i m)
-two_ways code slot m (insn.JumpIf c dst o offset) e =
-    omega (arith, length-append (way_onwards code slot (insn.JumpIf c dst o offset) NotTaken m) (way_onwards code slot (insn.JumpIf c dst o offset) Taken m ++ []), length-append (way_onwards code slot (insn.JumpIf c dst o offset) Taken m) [])
-two_ways code slot m (insn.Alu op dst o) e = absurd cc
-two_ways code slot m (insn.Jump offset) e = absurd cc
-two_ways code slot m (insn.Load z dst base d) e = absurd cc
-two_ways code slot m insn.Exit e = absurd cc
+two_branches : (code : List Insn) (slot m : ℕ) (i : Insn) → Two ≡ successors_of i → length (branch_onwards code slot i NotTaken m) + length (branch_onwards code slot i Taken m) ≤ length (all_onwards code slot i m)
+two_branches code slot m (insn.JumpIf c dst o offset) e =
+    omega (arith, length-append (branch_onwards code slot (insn.JumpIf c dst o offset) NotTaken m) (branch_onwards code slot (insn.JumpIf c dst o offset) Taken m ++ []), length-append (branch_onwards code slot (insn.JumpIf c dst o offset) Taken m) [])
+two_branches code slot m (insn.Alu op dst o) e = absurd cc
+two_branches code slot m (insn.Jump offset) e = absurd cc
+two_branches code slot m (insn.Load z dst base d) e = absurd cc
+two_branches code slot m insn.Exit e = absurd cc
 
--- how many beginnings go on from the point at hand, if there is one
+-- the number of beginnings from the state at hand, if there is one
 abbrev pub count_next : List Insn → Option Pending → ℕ
 count_next code None = 0
 count_next code (Some p) = count_from code p
 
-onwards_count : (code : List Insn) (slot : ℕ) (i : Insn) → fetch code slot ≡ Begins i → (answer : Next) → ways_on answer ≡ ways_of i → (on : Option Pending) (left : List Pending) → GoesOn code slot i answer on left
+onwards_count : (code : List Insn) (slot : ℕ) (i : Insn) → fetch code slot ≡ Begins i → (answer : Next) → successors_in answer ≡ successors_of i → (on : Option Pending) (left : List Pending) → GoesOn code slot i answer on left
     → count_next code on + counts_from code left ≤ length (all_onwards code slot i (ahead code slot - 1))
-onwards_count code slot i begins (next.On b) ways_are (Some p) left goes =
+onwards_count code slot i begins (next.On b) successors_are (Some p) left goes =
     let none : counts_from code left ≡ 0 = ap (counts_from code) goes.1 in
-    omega (arith, none, branch_counts code slot i begins NotTaken b p goes.0, one_way code slot (ahead code slot - 1) i ways_are)
-onwards_count code slot i begins (next.On b) ways_are None left goes = absurd goes
-onwards_count code slot i begins (next.Fork not_taken taken) ways_are (Some p) left goes =
+    omega (arith, none, branch_counts code slot i begins NotTaken b p goes.0, one_branch code slot (ahead code slot - 1) i successors_are)
+onwards_count code slot i begins (next.On b) successors_are None left goes = absurd goes
+onwards_count code slot i begins (next.Fork not_taken taken) successors_are (Some p) left goes =
     let one : counts_from code left ≡ 0 + count_from code goes.1 = ap (counts_from code) goes.3 in
-    omega (arith, one, branch_counts code slot i begins NotTaken not_taken p goes.0, branch_counts code slot i begins Taken taken goes.1 goes.2, two_ways code slot (ahead code slot - 1) i ways_are)
-onwards_count code slot i begins (next.Fork not_taken taken) ways_are None left goes = absurd goes
-onwards_count code slot i begins next.Exit ways_are (Some p) left goes = absurd goes
-onwards_count code slot i begins next.Exit ways_are None left goes = let none : counts_from code left ≡ 0 = ap (counts_from code) goes in omega (arith, none)
+    omega (arith, one, branch_counts code slot i begins NotTaken not_taken p goes.0, branch_counts code slot i begins Taken taken goes.1 goes.2, two_branches code slot (ahead code slot - 1) i successors_are)
+onwards_count code slot i begins (next.Fork not_taken taken) successors_are None left goes = absurd goes
+onwards_count code slot i begins next.Exit successors_are (Some p) left goes = absurd goes
+onwards_count code slot i begins next.Exit successors_are None left goes = let none : counts_from code left ≡ 0 = ap (counts_from code) goes in omega (arith, none)
 
 -- a step takes one of the beginnings from its pending state
-pub counts_before : (code : List Insn) (here : Pending) (i : Insn) → fetch code here.slot ≡ Begins i → (answer : Next) → ways_on answer ≡ ways_of i → (on : Option Pending) (left : List Pending) → GoesOn code here.slot i answer on left
+pub counts_before : (code : List Insn) (here : Pending) (i : Insn) → fetch code here.slot ≡ Begins i → (answer : Next) → successors_in answer ≡ successors_of i → (on : Option Pending) (left : List Pending) → GoesOn code here.slot i answer on left
     → 1 + (count_next code on + counts_from code left) ≤ count_from code here
-counts_before code here i begins answer ways_are on left goes =
+counts_before code here i begins answer successors_are on left goes =
     let m : ℕ = ahead code here.slot - 1 in
     let fuel : count_from code here ≡ length (beginnings_from code (suc m) here.slot) = ap (λ (k : ℕ). length (beginnings_from code k here.slot)) (fuel_is code here.slot i begins) in
-    omega (arith, fuel, counted_at code here.slot m i begins, onwards_count code here.slot i begins answer ways_are on left goes)
+    omega (arith, fuel, counted_at code here.slot m i begins, onwards_count code here.slot i begins answer successors_are on left goes)

@@ -1,8 +1,8 @@
-pub mod Points
+pub mod Positions
 pub mod Agreement
 pub mod Bounds
 pub mod LoadValues
-pub mod Ways
+pub mod Branches
 pub mod Members
 pub mod Simulation
 pub mod Advancing

@@ -1,4 +1,4 @@
--- Members stay members.
+-- Steps keep members, and members of one abstract state are loosenings of each other.
 use Rattle.std.proofs.Common.{◌≡◌, ℕ, zero, suc, ◌<◌, ◌^◌, ◌/◌, ◌%◌, Bool, true, false, ℤ, pos, ◌+ℤ◌, ◌≤ℤ◌, List, length, get_or, map, Option, Some, None, refl, sym, ap, ◌∙◌, subst, arith, All, inl, inr}
 use Rattle.std.specs.Prelude.{is_some, ◌==◌, int_lt, slice_index_or, slice_set, if◌then◌else◌}
 use Rattle.std.proofs.lemmas.Int.{ints}
@@ -16,19 +16,19 @@ use Rattle.semantics.specs.Runs.{write_register}
 use Rattle.semantics.specs.LooseRuns.{SameKind, Loosens}
 use Rattle.semantics.specs.declared.value.Value.{Value}
 use Rattle.semantics.specs.declared.value.Value.TheVariants as value
-use Rattle.verifier.specs.AbstractStates.{known_at, is_marked, no_marks, first_known, with_known, with_proved, with_least}
+use Rattle.verifier.specs.AbstractStates.{abstract_at, is_marked, no_marks, first_state, with_value, with_length, with_least}
 use Rattle.verifier.specs.Membership.{Mode, Strict, Places, IsNumberOf, IsHeld, IsValue, IsPlaceOf, IsMember, value_of, proved_of}
-use Rattle.verifier.specs.declared.abstract_state.Number.TheVariants.{Exactly, Any}
+use Rattle.verifier.specs.declared.abstract_state.Number.TheVariants.{Exact, Unknown}
 use Rattle.verifier.specs.declared.abstract_state.Anchor.{Anchor}
 use Rattle.verifier.specs.declared.abstract_state.Anchor.TheVariants.{First}
-use Rattle.verifier.specs.declared.abstract_state.Known.{Known}
-use Rattle.verifier.specs.declared.abstract_state.Known.TheVariants as known
+use Rattle.verifier.specs.declared.abstract_state.AbstractValue.{AbstractValue}
+use Rattle.verifier.specs.declared.abstract_state.AbstractValue.TheVariants as known
 use Rattle.verifier.specs.declared.abstract_state.AbstractState.{AbstractState}
 use Rattle.verifier.proofs.Bounds.{IsLeast}
 
--- ---- registers and what is proved
+-- ---- registers and the proved length
 
-held_value : (mode : Mode) (places : Places) (k : Known) (v : Value) → IsHeld places k v → IsValue mode places k v
+held_value : (mode : Mode) (places : Places) (k : AbstractValue) (v : Value) → IsHeld places k v → IsValue mode places k v
 held_value mode places known.Nothing v h = absurd h.1
 held_value mode places (known.Scalar n) v h = h
 held_value mode places known.Ctx v h = h
@@ -54,23 +54,23 @@ reach_more p proved n size true e h g = omega (arith, ints)
 reach_more p proved n size false e h g = h
 
 module _ (mode : Mode) (places : Places) (a : AbstractState) (s : State) (member : IsMember mode places a s) where
-  written_at : (r q : Reg) (k : Known) (v : Value) → IsHeld places k v → IsValue mode places (known_at (slice_set a.registers (number_of r) k) q) (value_at (slice_set s.registers (number_of r) v) q)
+  written_at : (r q : Reg) (k : AbstractValue) (v : Value) → IsHeld places k v → IsValue mode places (abstract_at (slice_set a.registers (number_of r) k) q) (value_at (slice_set s.registers (number_of r) v) q)
   written_at r q k v held =
       elim (cases_eq (number_of q) (number_of r)) [
         | inl same ↦
-            let known_is : known_at (slice_set a.registers (number_of r) k) q ≡ k = get_or-set_at a.registers (number_of r) (number_of q) k known.Nothing same (omega (arith, in_eleven r, member.known_count)) in
+            let known_is : abstract_at (slice_set a.registers (number_of r) k) q ≡ k = get_or-set_at a.registers (number_of r) (number_of q) k known.Nothing same (omega (arith, in_eleven r, member.known_count)) in
             let value_is : value_at (slice_set s.registers (number_of r) v) q ≡ v = get_or-set_at s.registers (number_of r) (number_of q) v value.Nothing same (omega (arith, in_eleven r, member.count)) in
-            subst (λ (x : Known). IsValue mode places x (value_at (slice_set s.registers (number_of r) v) q)) (sym known_is)
+            subst (λ (x : AbstractValue). IsValue mode places x (value_at (slice_set s.registers (number_of r) v) q)) (sym known_is)
             (subst (IsValue mode places k) (sym value_is) (held_value mode places k v held))
         | inr other ↦
-            let known_is : known_at (slice_set a.registers (number_of r) k) q ≡ known_at a.registers q = get_or-set_other a.registers (number_of r) (number_of q) k known.Nothing other in
+            let known_is : abstract_at (slice_set a.registers (number_of r) k) q ≡ abstract_at a.registers q = get_or-set_other a.registers (number_of r) (number_of q) k known.Nothing other in
             let value_is : value_at (slice_set s.registers (number_of r) v) q ≡ value_at s.registers q = get_or-set_other s.registers (number_of r) (number_of q) v value.Nothing other in
-            subst (λ (x : Known). IsValue mode places x (value_at (slice_set s.registers (number_of r) v) q)) (sym known_is)
-            (subst (IsValue mode places (known_at a.registers q)) (sym value_is) (member.registers q))
+            subst (λ (x : AbstractValue). IsValue mode places x (value_at (slice_set s.registers (number_of r) v) q)) (sym known_is)
+            (subst (IsValue mode places (abstract_at a.registers q)) (sym value_is) (member.registers q))
       ]
 
   -- a register is written
-  pub member_written : (r : Reg) (k : Known) (v : Value) (n : ℕ) → IsHeld places k v → IsMember mode places (with_known a r k) (record s { slot = n; registers = write_register s r v })
+  pub member_written : (r : Reg) (k : AbstractValue) (v : Value) (n : ℕ) → IsHeld places k v → IsMember mode places (with_value a r k) (record s { slot = n; registers = write_register s r v })
   member_written r k v n held = record {
     anchored = member.anchored;
     reaches = member.reaches;
@@ -94,7 +94,7 @@ module _ (mode : Mode) (places : Places) (a : AbstractState) (s : State) (member
   }
 
   -- the datagram has a least length
-  member_proved : (n : ℤ) (to : ℕ) → n ≤ℤ pos s.memory.length → IsMember mode places (with_proved a n) (record s { slot = to })
+  member_proved : (n : ℤ) (to : ℕ) → n ≤ℤ pos s.memory.length → IsMember mode places (with_length a n) (record s { slot = to })
   member_proved n to le = record {
     anchored = member.anchored;
     reaches = reaches_more n le;
@@ -104,7 +104,7 @@ module _ (mode : Mode) (places : Places) (a : AbstractState) (s : State) (member
     cells = member.cells;
     memory = member.memory;
   } where
-    reaches_more : (n : ℤ) → n ≤ℤ pos s.memory.length → (anchor : Anchor) → (places anchor +ℤ proved_of (with_proved a n) anchor) ≤ℤ pos s.memory.length
+    reaches_more : (n : ℤ) → n ≤ℤ pos s.memory.length → (anchor : Anchor) → (places anchor +ℤ proved_of (with_length a n) anchor) ≤ℤ pos s.memory.length
     reaches_more n le First = reach_more (places First) a.proved n (pos s.memory.length) (int_lt a.proved n) (member.anchored First) (member.reaches First) le
 
   pub member_least : (least : Option ℤ) (to : ℕ) → IsLeast least s.memory.length → IsMember mode places (with_least a least) (record s { slot = to })
@@ -128,7 +128,7 @@ no_bit n = ap (λ (k : ℕ). k % 2 == 1) (zero-div n)
 unmarked : (i : ℕ) → is_marked no_marks i ≡ false
 unmarked i = ap (λ (w : ℕ). (w / 2 ^ (i % 64)) % 2 == 1) (zeros_at (i / 64)) ∙ no_bit (2 ^ (i % 64))
 
-first_registers_are : (mode : Mode) (d : List ℕ) (r : Reg) → IsValue mode at_first (known_at first_known.registers r) (value_at (start d).registers r)
+first_registers_are : (mode : Mode) (d : List ℕ) (r : Reg) → IsValue mode at_first (abstract_at first_state.registers r) (value_at (start d).registers r)
 first_registers_are mode d reg.R0 = λ e. refl
 first_registers_are mode d reg.R1 = (0, tt, refl)
 first_registers_are mode d reg.R2 = λ e. refl
@@ -144,14 +144,14 @@ first_registers_are mode d reg.R10 = (0, tt, refl)
 first_place : (anchor : Anchor) → IsPlaceOf anchor (at_first anchor)
 first_place First = refl
 
-reaches_at_first : (n : ℕ) (anchor : Anchor) → (at_first anchor +ℤ proved_of first_known anchor) ≤ℤ pos n
+reaches_at_first : (n : ℕ) (anchor : Anchor) → (at_first anchor +ℤ proved_of first_state anchor) ≤ℤ pos n
 reaches_at_first n First = omega (arith, ints)
 
 marked_is_not : (marked : Bool) (cell : Bool) → marked ≡ false → marked ≡ true → cell ≡ true
 marked_is_not marked cell e f = let bad : false ≡ true = sym e ∙ f in absurd cc
 
--- every start is a member of what is known before the first instruction
-pub first_member : (mode : Mode) (d : List ℕ) → All (λ b. b < 256) d → IsMember mode at_first first_known (start d)
+-- every start is a member of the first abstract state
+pub first_member : (mode : Mode) (d : List ℕ) → All (λ b. b < 256) d → IsMember mode at_first first_state (start d)
 first_member mode d fit = record {
   anchored = first_place;
   reaches = reaches_at_first (length d);
@@ -165,7 +165,7 @@ first_member mode d fit = record {
   memory = record { count = length-empty_stack; cells = empty_cells; bytes = surrounded_fit d fit };
 }
 
--- ---- a member is one of its own loosenings
+-- ---- members and loosenings
 
 reg_at : (n : ℕ) → n < 11 → (r : Reg) × (number_of r ≡ n)
 reg_at zero lt = (reg.R0, refl)
@@ -181,19 +181,19 @@ reg_at (suc (suc (suc (suc (suc (suc (suc (suc (suc zero))))))))) lt = (reg.R9, 
 reg_at (suc (suc (suc (suc (suc (suc (suc (suc (suc (suc zero)))))))))) lt = (reg.R10, refl)
 reg_at (suc (suc (suc (suc (suc (suc (suc (suc (suc (suc (suc n))))))))))) lt = absurd (omega (arith, lt))
 
-kind_of : (places : Places) (k : Known) (m n : ℕ) → IsNumberOf k m → IsNumberOf k n → SameKind (value_of places k m) (value_of places k n)
+kind_of : (places : Places) (k : AbstractValue) (m n : ℕ) → IsNumberOf k m → IsNumberOf k n → SameKind (value_of places k m) (value_of places k n)
 kind_of places known.Nothing m n g h = refl
-kind_of places (known.Scalar (Exactly x)) m n g h = (n, h.1.fits, refl)
-kind_of places (known.Scalar Any) m n g h = (n, h.fits, refl)
+kind_of places (known.Scalar (Exact x)) m n g h = (n, h.1.fits, refl)
+kind_of places (known.Scalar Unknown) m n g h = (n, h.fits, refl)
 kind_of places known.Ctx m n g h = refl
 kind_of places (known.Stack k) m n g h = refl
 kind_of places (known.Data anchor k) m n g h = refl
 kind_of places known.End m n g h = refl
 
-held_kind : (places : Places) (k : Known) (u v : Value) → IsHeld places k u → IsHeld places k v → SameKind u v
+held_kind : (places : Places) (k : AbstractValue) (u v : Value) → IsHeld places k u → IsHeld places k v → SameKind u v
 held_kind places k u v g h = subst (λ (u' : Value). SameKind u' v) (sym g.2) (subst (SameKind (value_of places k g.0)) (sym h.2) (kind_of places k g.0 h.0 g.1 h.1))
 
-same_kind : (places : Places) (k : Known) (u v : Value) → IsValue Strict places k u → IsValue Strict places k v → SameKind u v
+same_kind : (places : Places) (k : AbstractValue) (u v : Value) → IsValue Strict places k u → IsValue Strict places k v → SameKind u v
 same_kind places known.Nothing u v g h = subst (λ (u' : Value). SameKind u' v) (sym (g refl)) (h refl)
 same_kind places (known.Scalar n) u v g h = held_kind places (known.Scalar n) u v g h
 same_kind places known.Ctx u v g h = held_kind places known.Ctx u v g h
@@ -207,7 +207,7 @@ module _ (places : Places) (a : AbstractState) (s t : State) (member_s : IsMembe
   kinds_at n lt =
       let r = reg_at n (omega (arith, lt, member_s.count)) in
       subst (λ (k : ℕ). SameKind (slice_index_or s.registers k value.Nothing) (slice_index_or t.registers k value.Nothing)) r.1
-      (same_kind places (known_at a.registers r.0) (value_at s.registers r.0) (value_at t.registers r.0) (member_s.registers r.0) (member_t.registers r.0))
+      (same_kind places (abstract_at a.registers r.0) (value_at s.registers r.0) (value_at t.registers r.0) (member_s.registers r.0) (member_t.registers r.0))
 
   pub members_loosen : t.slot ≡ s.slot → t.memory ≡ s.memory → t.plan ≡ s.plan → Loosens s t
   members_loosen slot memory plan = record {

@@ -1,4 +1,4 @@
--- Loose runs come to every point that the walk follows, and are stuck where it refuses.
+-- Loose runs reach every pending state that the walk follows, and are stuck where it refuses.
 use Rattle.std.proofs.Common.{◌≡◌, ℕ, zero, suc, ◌<◌, Bool, true, false, ℤ, pos, negsuc, ◌+ℤ◌, ◌≤ℤ◌, ◌<ℤ◌, ◌&&◌, List, [], ◌∷◌, replicate, Option, Some, None, Result, Ok, Err, refl, sym, ap, ◌∙◌, subst, arith, All, inl, inr}
 use Rattle.std.specs.Prelude.{◌⊎◌, IfSome, int_le, int_lt, unsigned_abs, slice_index_or, slice_set, if◌then◌else◌}
 use Rattle.std.proofs.lemmas.Int.{ints}
@@ -31,14 +31,14 @@ use Rattle.semantics.specs.declared.reason.Reason.TheVariants.{PointerArithmetic
 use Rattle.semantics.specs.declared.fetching.Fetched.TheVariants.{Begins}
 use Rattle.semantics.specs.declared.effect.Effect.{Effect}
 use Rattle.semantics.specs.declared.effect.Effect.TheVariants as effect
-use Rattle.verifier.specs.AbstractStates.{known_at, first_known, with_known, with_least}
-use Rattle.verifier.specs.declared.abstract_state.Known.{Known}
-use Rattle.verifier.specs.declared.abstract_state.Known.TheVariants as known
-use Rattle.verifier.specs.declared.abstract_state.Number.TheVariants.{Any}
+use Rattle.verifier.specs.AbstractStates.{abstract_at, first_state, with_value, with_least}
+use Rattle.verifier.specs.declared.abstract_state.AbstractValue.{AbstractValue}
+use Rattle.verifier.specs.declared.abstract_state.AbstractValue.TheVariants as known
+use Rattle.verifier.specs.declared.abstract_state.Number.TheVariants.{Unknown}
 use Rattle.verifier.specs.AbstractSteps as abstract
 use Rattle.verifier.specs.Membership.{Strict, Places, IsWord, IsValue, IsMember}
-use Rattle.verifier.specs.Goodness.{some_surroundings, IsReachedOver, IsReached}
-use Rattle.verifier.specs.Walk.{IsPoint, GoesOn, IsRefusedAt}
+use Rattle.verifier.specs.PendingStates.{some_surroundings, IsReachedOver, IsReached}
+use Rattle.verifier.specs.Walk.{LeadsTo, GoesOn, IsRefusedAt}
 use Rattle.verifier.specs.declared.abstract_state.AbstractState.{AbstractState}
 use Rattle.verifier.specs.declared.abstract_step.Next.{Next}
 use Rattle.verifier.specs.declared.abstract_step.Next.TheVariants as next
@@ -48,7 +48,7 @@ use Rattle.verifier.proofs.Bounds.{IsLeast, bound_from_least, le_of, lt_of, not_
 use Rattle.verifier.proofs.LoadValues.{abs_is}
 use Rattle.verifier.proofs.Members.{at_first, first_member, member_written, members_loosen, loosens_itself, loosens_then, in_eleven}
 use Rattle.verifier.proofs.Simulation.{StraysBy, Strays, strays_same, Follows, Forks, AreClaims, steps_agree}
-use Rattle.verifier.proofs.Safety.{point_at}
+use Rattle.verifier.proofs.Safety.{leads_at}
 use Rattle.verifier.proofs.Advancing.{accepted_agree, step_is, Arrives, arrives_on, branch_goes, branch_member}
 
 -- ---- one step more
@@ -98,7 +98,7 @@ module _ (code : List Insn) (i : Insn) (places : Places) (a : AbstractState) (s 
 
   takes_branch : (not_taken taken : AbstractState) (e : Effect) → effects.effect s.memory s.registers i ≡ Ok e → (f : Forks a s i not_taken taken e) (branch : Branch) (b : AbstractState) (p : Pending)
       → b ≡ with_least a (abstract.least_of (bound_of f.condition (effects.value_at s.registers f.dst) f.second branch)) → IsLeast (abstract.least_of (bound_of f.condition (effects.value_at s.registers f.dst) f.second branch)) s.memory.length
-      → IsPoint code s.slot i branch b p → ArrivesLoosely code places s p
+      → LeadsTo code s.slot i branch b p → ArrivesLoosely code places s p
   takes_branch not_taken taken e is f branch b p least_is le point = record {
     next = record s { slot = p.slot };
     goes = inr (
@@ -151,7 +151,7 @@ pub all_one : (P : Pending → Type 0) (p : Pending) → P p → All P (p ∷ []
 all_one P p h zero d lt = h
 all_one P p h (suc k) d lt = absurd (omega (arith, lt))
 
--- what is known at a point is reached where each member before it comes there, and no less is proved there
+-- a pending state is reached where each member of the one before it leads there, and no less is proved there
 module _ (code : List Insn) (here p : Pending)
     (comes : (places : Places) (s : State) → s.slot ≡ here.slot → IsMember Strict places here.state s → p.state.proved ≤ℤ pos s.memory.length → ArrivesLoosely code places s p)
     (rises : (places : Places) (s : State) → s.slot ≡ here.slot → IsMember Strict places here.state s → here.state.proved ≤ℤ p.state.proved) where
@@ -178,18 +178,18 @@ module _ (code : List Insn) (here : Pending) (i : Insn) (begins : fetch code her
   begins_at : (s : State) → s.slot ≡ here.slot → fetch code s.slot ≡ Begins i
   begins_at s at = ap (fetch code) at ∙ begins
 
-  reached_on : (b : AbstractState) → abstract.step here.state i ≡ Ok (next.On b) → (p : Pending) → IsPoint code here.slot i NotTaken b p → IsReached code p
+  reached_on : (b : AbstractState) → abstract.step here.state i ≡ Ok (next.On b) → (p : Pending) → LeadsTo code here.slot i NotTaken b p → IsReached code p
   reached_on b is p point =
       point_reached code here p
       (λ places s at member le.
       let agree = accepted_agree Strict places here.state s member i fit (next.On b) is in
-      loosely code i places here.state s (begins_at s at) member p (arrives_on some_surroundings code Strict places here.state s member i (begins_at s at) b agree.0 p agree.1 agree.2 (point_at code s.slot here.slot i NotTaken b p at point)))
+      loosely code i places here.state s (begins_at s at) member p (arrives_on some_surroundings code Strict places here.state s member i (begins_at s at) b agree.0 p agree.1 agree.2 (leads_at code s.slot here.slot i NotTaken b p at point)))
       (λ places s at member.
       let agree = accepted_agree Strict places here.state s member i fit (next.On b) is in
       subst (λ (c : AbstractState). here.state.proved ≤ℤ c.proved) (sym point.state_is) (after_write places here.state b s i agree.0 agree.2))
       reached
 
-  reached_branch : (not_taken taken : AbstractState) → abstract.step here.state i ≡ Ok (next.Fork not_taken taken) → (branch : Branch) (b : AbstractState) (p : Pending) → IsPoint code here.slot i branch b p
+  reached_branch : (not_taken taken : AbstractState) → abstract.step here.state i ≡ Ok (next.Fork not_taken taken) → (branch : Branch) (b : AbstractState) (p : Pending) → LeadsTo code here.slot i branch b p
       → ((s : State) (e : Effect) → (f : Forks here.state s i not_taken taken e) → b ≡ with_least here.state (abstract.least_of (bound_of f.condition (effects.value_at s.registers f.dst) f.second branch))) → IsReached code p
   reached_branch not_taken taken is branch b p point least_is =
       point_reached code here p
@@ -199,14 +199,14 @@ module _ (code : List Insn) (here : Pending) (i : Insn) (begins : fetch code her
       let proved_is : p.state.proved ≡ (with_least here.state least).proved = ap (λ (c : AbstractState). c.proved) (point.state_is ∙ least_is s agree.0 agree.2) in
       takes_branch code i places here.state s (begins_at s at) member not_taken taken agree.0 agree.1 agree.2 branch b p (least_is s agree.0 agree.2)
       (least_within here.state least s.memory.length (subst (λ (z : ℤ). z ≤ℤ pos s.memory.length) proved_is le))
-      (point_at code s.slot here.slot i branch b p at point))
+      (leads_at code s.slot here.slot i branch b p at point))
       (λ places s at member.
       let agree = accepted_agree Strict places here.state s member i fit (next.Fork not_taken taken) is in
       let least : Option ℤ = abstract.least_of (bound_of agree.2.condition (effects.value_at s.registers agree.2.dst) agree.2.second branch) in
       subst (λ (c : AbstractState). here.state.proved ≤ℤ c.proved) (sym (point.state_is ∙ least_is s agree.0 agree.2)) (least_rises here.state least))
       reached
 
-  -- each point that an accepted step goes on to is reached
+  -- each pending state behind an accepted step is reached
   pub reached_after : (answer : Next) → abstract.step here.state i ≡ Ok answer → (on : Option Pending) (left : List Pending) → GoesOn code here.slot i answer on left → IfSome on (IsReached code) × All (IsReached code) left
   reached_after (next.On b) is (Some p) left goes = (reached_on b is p goes.0, subst (All (IsReached code)) (sym goes.1) (λ k d lt. absurd (none_below k lt)))
   reached_after (next.On b) is None left goes = absurd goes
@@ -218,7 +218,7 @@ module _ (code : List Insn) (here : Pending) (i : Insn) (begins : fetch code her
   reached_after next.Exit is (Some p) left goes = absurd goes
   reached_after next.Exit is None left goes = (tt, subst (All (IsReached code)) (sym goes) (λ k d lt. absurd (none_below k lt)))
 
--- ---- the first point
+-- ---- the first pending state
 
 zeros_fit : (n : ℕ) → All (λ b. b < 256) (replicate n 0)
 zeros_fit n = All-replicate (λ (b : ℕ). b < 256) n 0 (omega arith)
@@ -236,7 +236,7 @@ surroundings_are_real = record {
   };
 }
 
-pub first_reached : (code : List Insn) → IsReached code (record { slot = 0; state = first_known })
+pub first_reached : (code : List Insn) → IsReached code (record { slot = 0; state = first_state })
 first_reached code = record {
   not_negative = omega (arith, ints);
   over = λ n le.
@@ -249,7 +249,7 @@ first_reached code = record {
         loosened = start (replicate n 0);
         places = at_first;
         reaches = refl;
-        loosens = loosens_itself at_first first_known (start (replicate n 0)) member;
+        loosens = loosens_itself at_first first_state (start (replicate n 0)) member;
         slot = refl;
         size = let zero_byte : ℕ = 0 in length-replicate n zero_byte;
         member = member;
@@ -317,20 +317,20 @@ module _ (places : Places) (a : AbstractState) (s : State) (member : IsMember St
     strays = strays;
   }
 
-  no_stray : (dst r : Reg) (x y : Known) → known_at a.registers dst ≡ x → known_at a.registers r ≡ y → StraysBy x y (effects.value_at s.registers dst) (effects.value_at s.registers r) → StraysFrom places a s (insn.Alu Add dst (operand.Reg r))
+  no_stray : (dst r : Reg) (x y : AbstractValue) → abstract_at a.registers dst ≡ x → abstract_at a.registers r ≡ y → StraysBy x y (effects.value_at s.registers dst) (effects.value_at s.registers r) → StraysFrom places a s (insn.Alu Add dst (operand.Reg r))
   no_stray dst r x y p q h =
       stays (insn.Alu Add dst (operand.Reg r))
-      (strays_same x (known_at a.registers dst) y (known_at a.registers r) (effects.value_at s.registers dst) (effects.value_at s.registers dst) (effects.value_at s.registers r) (effects.value_at s.registers r) (sym p) (sym q) refl refl h)
+      (strays_same x (abstract_at a.registers dst) y (abstract_at a.registers r) (effects.value_at s.registers dst) (effects.value_at s.registers dst) (effects.value_at s.registers r) (effects.value_at s.registers r) (sym p) (sym q) refl refl h)
 
   -- the number of the second register is replaced
-  replaced : (dst r : Reg) (x : Known) (u : Value) (n : ℕ) → known_at a.registers dst ≡ x → known_at a.registers r ≡ known.Scalar Any → (x ≡ known.Scalar Any → ⊥) → effects.value_at s.registers dst ≡ u → IsWord n
-      → StraysBy x (known.Scalar Any) u (value.Scalar n) → StraysFrom places a s (insn.Alu Add dst (operand.Reg r))
+  replaced : (dst r : Reg) (x : AbstractValue) (u : Value) (n : ℕ) → abstract_at a.registers dst ≡ x → abstract_at a.registers r ≡ known.Scalar Unknown → (x ≡ known.Scalar Unknown → ⊥) → effects.value_at s.registers dst ≡ u → IsWord n
+      → StraysBy x (known.Scalar Unknown) u (value.Scalar n) → StraysFrom places a s (insn.Alu Add dst (operand.Reg r))
   replaced dst r x u n p q other u_is fits strays =
       let apart : number_of dst ≡ number_of r → ⊥ = λ same. other (sym p ∙ ap (λ (k : ℕ). slice_index_or a.registers k known.Nothing) same ∙ q) in
       let new : State = record s { registers = write_register s r (value.Scalar n) } in
-      let kept : slice_set a.registers (number_of r) (known.Scalar Any) ≡ a.registers = ap (slice_set a.registers (number_of r)) (sym q) ∙ set-get_or a.registers (number_of r) known.Nothing in
-      let same_state : with_known a r (known.Scalar Any) ≡ a = λ k. record a { registers = kept k } in
-      let written : IsMember Strict places (with_known a r (known.Scalar Any)) new = member_written Strict places a s member r (known.Scalar Any) (value.Scalar n) s.slot (n, fits, refl) in
+      let kept : slice_set a.registers (number_of r) (known.Scalar Unknown) ≡ a.registers = ap (slice_set a.registers (number_of r)) (sym q) ∙ set-get_or a.registers (number_of r) known.Nothing in
+      let same_state : with_value a r (known.Scalar Unknown) ≡ a = λ k. record a { registers = kept k } in
+      let written : IsMember Strict places (with_value a r (known.Scalar Unknown)) new = member_written Strict places a s member r (known.Scalar Unknown) (value.Scalar n) s.slot (n, fits, refl) in
       let now : IsMember Strict places a new = subst (λ (b : AbstractState). IsMember Strict places b new) same_state written in
       let dst_is : effects.value_at new.registers dst ≡ u = get_or-set_other s.registers (number_of r) (number_of dst) (value.Scalar n) value.Nothing apart ∙ u_is in
       let r_is : effects.value_at new.registers r ≡ value.Scalar n = get_or-set_at s.registers (number_of r) (number_of r) (value.Scalar n) value.Nothing refl (omega (arith, in_eleven r, member.count)) in
@@ -340,24 +340,24 @@ module _ (places : Places) (a : AbstractState) (s : State) (member : IsMember St
         slot = refl;
         memory = refl;
         member = now;
-        strays = strays_same x (known_at a.registers dst) (known.Scalar Any) (known_at a.registers r) u (effects.value_at new.registers dst) (value.Scalar n) (effects.value_at new.registers r) (sym p) (sym q) (sym dst_is) (sym r_is) strays;
+        strays = strays_same x (abstract_at a.registers dst) (known.Scalar Unknown) (abstract_at a.registers r) u (effects.value_at new.registers dst) (value.Scalar n) (effects.value_at new.registers r) (sym p) (sym q) (sym dst_is) (sym r_is) strays;
       }
 
-  held_as : (dst : Reg) (x : Known) → known_at a.registers dst ≡ x → IsValue Strict places x (effects.value_at s.registers dst)
-  held_as dst x p = subst (λ (k : Known). IsValue Strict places k (effects.value_at s.registers dst)) p (member.registers dst)
+  held_as : (dst : Reg) (x : AbstractValue) → abstract_at a.registers dst ≡ x → IsValue Strict places x (effects.value_at s.registers dst)
+  held_as dst x p = subst (λ (k : AbstractValue). IsValue Strict places k (effects.value_at s.registers dst)) p (member.registers dst)
 
-  add_strays : (dst r : Reg) (x y : Known) → known_at a.registers dst ≡ x → known_at a.registers r ≡ y → StraysFrom places a s (insn.Alu Add dst (operand.Reg r))
-  add_strays dst r (known.Data anchor k) (known.Scalar Any) p q =
+  add_strays : (dst r : Reg) (x y : AbstractValue) → abstract_at a.registers dst ≡ x → abstract_at a.registers r ≡ y → StraysFrom places a s (insn.Alu Add dst (operand.Reg r))
+  add_strays dst r (known.Data anchor k) (known.Scalar Unknown) p q =
       let held = held_as dst (known.Data anchor k) p in
       let place : ℤ = places anchor +ℤ k in
       replaced dst r (known.Data anchor k) (value.Data place) (stray_if (is_near place)) p q (λ e. absurd cc) held.2 (stray_fits (is_near place)) (data_strays place)
-  add_strays dst r (known.Stack k) (known.Scalar Any) p q =
+  add_strays dst r (known.Stack k) (known.Scalar Unknown) p q =
       let held = held_as dst (known.Stack k) p in
       replaced dst r (known.Stack k) (value.Stack k) (stray_if (is_near k)) p q (λ e. absurd cc) held.2 (stray_fits (is_near k)) (stack_strays k)
   add_strays dst r x y p q = no_stray dst r x y p q tt
 
   strays_from : (i : Insn) → StraysFrom places a s i
-  strays_from (insn.Alu Add dst (operand.Reg r)) = add_strays dst r (known_at a.registers dst) (known_at a.registers r) refl refl
+  strays_from (insn.Alu Add dst (operand.Reg r)) = add_strays dst r (abstract_at a.registers dst) (abstract_at a.registers r) refl refl
   strays_from i = stays i tt
 
 -- ---- refusals

@@ -1,4 +1,4 @@
--- What is known of an instruction agrees with what the machine does at each member.
+-- The abstract step of an instruction agrees with the machine's step at each member.
 use Rattle.std.proofs.Common.{◌≡◌, ℕ, ◌+◌, Bool, true, false, ℤ, pos, negsuc, ◌+ℤ◌, ◌≤ℤ◌, List, Option, Some, None, Result, Ok, Err, refl, sym, ap, ◌∙◌, subst, arith}
 use Rattle.std.specs.Prelude.{FitsSigned, if◌then◌else◌}
 use Rattle.std.specs.Option.{ok_or}
@@ -31,13 +31,13 @@ use Rattle.semantics.specs.declared.effect.Effect.{Effect}
 use Rattle.semantics.specs.declared.effect.Effect.TheVariants as effect
 use Rattle.semantics.specs.declared.fetching.Branch.{Branch}
 use Rattle.semantics.specs.declared.fetching.Branch.TheVariants.{NotTaken, Taken}
-use Rattle.verifier.specs.AbstractStates.{known_at, with_known, with_least}
+use Rattle.verifier.specs.AbstractStates.{abstract_at, with_value, with_least}
 use Rattle.verifier.specs.AbstractSteps as abstract
 use Rattle.verifier.specs.Membership.{Mode, Strict, Places, IsWord, IsNumberOf, IsHeld, IsValue, IsMember, value_of}
-use Rattle.verifier.specs.declared.abstract_state.Number.TheVariants.{Exactly, Any}
+use Rattle.verifier.specs.declared.abstract_state.Number.TheVariants.{Exact, Unknown}
 use Rattle.verifier.specs.declared.abstract_state.Anchor.TheVariants.{First}
-use Rattle.verifier.specs.declared.abstract_state.Known.{Known}
-use Rattle.verifier.specs.declared.abstract_state.Known.TheVariants as known
+use Rattle.verifier.specs.declared.abstract_state.AbstractValue.{AbstractValue}
+use Rattle.verifier.specs.declared.abstract_state.AbstractValue.TheVariants as known
 use Rattle.verifier.specs.declared.abstract_state.AbstractState.{AbstractState}
 use Rattle.verifier.specs.declared.abstract_step.Implied.{Implied}
 use Rattle.verifier.specs.declared.abstract_step.Next.{Next}
@@ -73,7 +73,7 @@ no_end : value.End ≡ value.Nothing → ⊥
 no_end e = absurd cc
 
 module _ (claimed : Reason → Type 0) (mode : Mode) (places : Places) (uninit : claimed UninitRegister → mode ≡ Strict) where
-  held_agrees : (k : Known) (v : Value) → IsValue mode places k v → Agree claimed (IsHeld places) (abstract.held k) (effects.held v)
+  held_agrees : (k : AbstractValue) (v : Value) → IsValue mode places k v → Agree claimed (IsHeld places) (abstract.held k) (effects.held v)
   held_agrees known.Nothing value.Nothing h = λ c. refl
   held_agrees known.Nothing (value.Scalar n) h = λ c. no_scalar n (h (uninit c))
   held_agrees known.Nothing value.Ctx h = λ c. no_ctx (h (uninit c))
@@ -87,21 +87,21 @@ module _ (claimed : Reason → Type 0) (mode : Mode) (places : Places) (uninit :
   held_agrees known.End v h = subst (λ (u : Value). Agree claimed (IsHeld places) (Ok known.End) (effects.held u)) (sym h.2) (h.0, h.1, refl)
 
   read_agrees : (a : AbstractState) (s : State) → IsMember mode places a s → (r : Reg) → Agree claimed (IsHeld places) (abstract.read a r) (effects.read s.registers r)
-  read_agrees a s member r = held_agrees (known_at a.registers r) (value_at s.registers r) (member.registers r)
+  read_agrees a s member r = held_agrees (abstract_at a.registers r) (value_at s.registers r) (member.registers r)
 
-  operand_agrees : (a : AbstractState) (s : State) → IsMember mode places a s → (o : Operand) → OperandFits o → Agree claimed (IsHeld places) (abstract.operand_known a o) (effects.operand_value s.registers o)
+  operand_agrees : (a : AbstractState) (s : State) → IsMember mode places a s → (o : Operand) → OperandFits o → Agree claimed (IsHeld places) (abstract.operand_abstract a o) (effects.operand_value s.registers o)
   operand_agrees a s member (operand.Reg r) fit = read_agrees a s member r
   operand_agrees a s member (operand.Imm n) fit = (cast_unsigned w64 n, (refl, imm_word n fit), refl)
 
 -- ---- sums
 
 -- the sum of a pointer and an unknown number is out of range
-abbrev pub StraysBy : Known → Known → Value → Value → Type 0
-StraysBy (known.Data anchor k) (known.Scalar Any) u v = effects.sum_of u v ≡ Err PointerArithmetic
-StraysBy (known.Stack k) (known.Scalar Any) u v = effects.sum_of u v ≡ Err PointerArithmetic
+abbrev pub StraysBy : AbstractValue → AbstractValue → Value → Value → Type 0
+StraysBy (known.Data anchor k) (known.Scalar Unknown) u v = effects.sum_of u v ≡ Err PointerArithmetic
+StraysBy (known.Stack k) (known.Scalar Unknown) u v = effects.sum_of u v ≡ Err PointerArithmetic
 StraysBy _ _ u v = Unit {0}
 
-exact_strays : (x : Known) (m : ℕ) (u v : Value) → StraysBy x (known.Scalar (Exactly m)) u v
+exact_strays : (x : AbstractValue) (m : ℕ) (u v : Value) → StraysBy x (known.Scalar (Exact m)) u v
 exact_strays known.Nothing m u v = tt
 exact_strays (known.Scalar n) m u v = tt
 exact_strays known.Ctx m u v = tt
@@ -109,9 +109,9 @@ exact_strays (known.Stack k) m u v = tt
 exact_strays (known.Data anchor k) m u v = tt
 exact_strays known.End m u v = tt
 
-pub strays_same : (x x' y y' : Known) (u u' v v' : Value) → x ≡ x' → y ≡ y' → u ≡ u' → v ≡ v' → StraysBy x y u v → StraysBy x' y' u' v'
+pub strays_same : (x x' y y' : AbstractValue) (u u' v v' : Value) → x ≡ x' → y ≡ y' → u ≡ u' → v ≡ v' → StraysBy x y u v → StraysBy x' y' u' v'
 strays_same x x' y y' u u' v v' p q r t h =
-    subst (λ (z : Known). StraysBy z y' u' v') p (subst (λ (z : Known). StraysBy x z u' v') q (subst (λ (z : Value). StraysBy x y z v') r (subst (λ (z : Value). StraysBy x y u z) t h)))
+    subst (λ (z : AbstractValue). StraysBy z y' u' v') p (subst (λ (z : AbstractValue). StraysBy x z u' v') q (subst (λ (z : Value). StraysBy x y z v') r (subst (λ (z : Value). StraysBy x y u z) t h)))
 
 from_first : (p k : ℤ) → p ≡ pos 0 → (p +ℤ k) ≡ k
 from_first p k e = omega (arith, ints)
@@ -125,34 +125,34 @@ module _ (claimed : Reason → Type 0) (places : Places) (first : places First �
   stack_moved None = λ c. refl
   stack_moved (Some place) = (0, tt, refl)
 
-  data_sum : (k p : ℤ) (m n : ℕ) → p ≡ k → n ≡ m → Agree claimed (IsHeld places) (abstract.sum_of (known.Data First k) (known.Scalar (Exactly m))) (effects.sum_of (value.Data p) (value.Scalar n))
+  data_sum : (k p : ℤ) (m n : ℕ) → p ≡ k → n ≡ m → Agree claimed (IsHeld places) (abstract.sum_of (known.Data First k) (known.Scalar (Exact m))) (effects.sum_of (value.Data p) (value.Scalar n))
   data_sum k p m n e f =
-      let goal : Agree claimed (IsHeld places) (abstract.sum_of (known.Data First k) (known.Scalar (Exactly m))) (effects.sum_of (value.Data k) (value.Scalar m)) = data_moved (near_place (k +ℤ cast_signed w64 m)) in
-      subst (λ (q : ℤ). Agree claimed (IsHeld places) (abstract.sum_of (known.Data First k) (known.Scalar (Exactly m))) (effects.sum_of (value.Data q) (value.Scalar n))) (sym e)
-      (subst (λ (q : ℕ). Agree claimed (IsHeld places) (abstract.sum_of (known.Data First k) (known.Scalar (Exactly m))) (effects.sum_of (value.Data k) (value.Scalar q))) (sym f) goal)
+      let goal : Agree claimed (IsHeld places) (abstract.sum_of (known.Data First k) (known.Scalar (Exact m))) (effects.sum_of (value.Data k) (value.Scalar m)) = data_moved (near_place (k +ℤ cast_signed w64 m)) in
+      subst (λ (q : ℤ). Agree claimed (IsHeld places) (abstract.sum_of (known.Data First k) (known.Scalar (Exact m))) (effects.sum_of (value.Data q) (value.Scalar n))) (sym e)
+      (subst (λ (q : ℕ). Agree claimed (IsHeld places) (abstract.sum_of (known.Data First k) (known.Scalar (Exact m))) (effects.sum_of (value.Data k) (value.Scalar q))) (sym f) goal)
 
-  stack_sum : (k : ℤ) (m n : ℕ) → n ≡ m → Agree claimed (IsHeld places) (abstract.sum_of (known.Stack k) (known.Scalar (Exactly m))) (effects.sum_of (value.Stack k) (value.Scalar n))
+  stack_sum : (k : ℤ) (m n : ℕ) → n ≡ m → Agree claimed (IsHeld places) (abstract.sum_of (known.Stack k) (known.Scalar (Exact m))) (effects.sum_of (value.Stack k) (value.Scalar n))
   stack_sum k m n f =
-      let goal : Agree claimed (IsHeld places) (abstract.sum_of (known.Stack k) (known.Scalar (Exactly m))) (effects.sum_of (value.Stack k) (value.Scalar m)) = stack_moved (near_place (k +ℤ cast_signed w64 m)) in
-      subst (λ (q : ℕ). Agree claimed (IsHeld places) (abstract.sum_of (known.Stack k) (known.Scalar (Exactly m))) (effects.sum_of (value.Stack k) (value.Scalar q))) (sym f) goal
+      let goal : Agree claimed (IsHeld places) (abstract.sum_of (known.Stack k) (known.Scalar (Exact m))) (effects.sum_of (value.Stack k) (value.Scalar m)) = stack_moved (near_place (k +ℤ cast_signed w64 m)) in
+      subst (λ (q : ℕ). Agree claimed (IsHeld places) (abstract.sum_of (known.Stack k) (known.Scalar (Exact m))) (effects.sum_of (value.Stack k) (value.Scalar q))) (sym f) goal
 
-  sums_agree : (x y : Known) (m n : ℕ) → IsNumberOf x m → IsNumberOf y n → (claimed PointerArithmetic → StraysBy x y (value_of places x m) (value_of places y n)) → Agree claimed (IsHeld places) (abstract.sum_of x y) (effects.sum_of (value_of places x m) (value_of places y n))
-  sums_agree (known.Scalar (Exactly p)) (known.Scalar (Exactly q)) m n hx hy stray = (alu Add w64 m n, (ap (λ (z : ℕ). alu Add w64 z n) hx.0 ∙ ap (alu Add w64 p) hy.0, sum_word m n), refl)
-  sums_agree (known.Scalar (Exactly p)) (known.Scalar Any) m n hx hy stray = (alu Add w64 m n, sum_word m n, refl)
-  sums_agree (known.Scalar Any) (known.Scalar number) m n hx hy stray = (alu Add w64 m n, sum_word m n, refl)
-  sums_agree (known.Data First k) (known.Scalar (Exactly q)) m n hx hy stray = data_sum k (places First +ℤ k) q n (from_first (places First) k first) hy.0
-  sums_agree (known.Data First k) (known.Scalar Any) m n hx hy stray = refused_alike claimed (IsHeld places) PointerArithmetic (effects.sum_of (value.Data (places First +ℤ k)) (value.Scalar n)) stray
-  sums_agree (known.Stack k) (known.Scalar (Exactly q)) m n hx hy stray = stack_sum k q n hy.0
-  sums_agree (known.Stack k) (known.Scalar Any) m n hx hy stray = refused_alike claimed (IsHeld places) PointerArithmetic (effects.sum_of (value.Stack k) (value.Scalar n)) stray
+  sums_agree : (x y : AbstractValue) (m n : ℕ) → IsNumberOf x m → IsNumberOf y n → (claimed PointerArithmetic → StraysBy x y (value_of places x m) (value_of places y n)) → Agree claimed (IsHeld places) (abstract.sum_of x y) (effects.sum_of (value_of places x m) (value_of places y n))
+  sums_agree (known.Scalar (Exact p)) (known.Scalar (Exact q)) m n hx hy stray = (alu Add w64 m n, (ap (λ (z : ℕ). alu Add w64 z n) hx.0 ∙ ap (alu Add w64 p) hy.0, sum_word m n), refl)
+  sums_agree (known.Scalar (Exact p)) (known.Scalar Unknown) m n hx hy stray = (alu Add w64 m n, sum_word m n, refl)
+  sums_agree (known.Scalar Unknown) (known.Scalar number) m n hx hy stray = (alu Add w64 m n, sum_word m n, refl)
+  sums_agree (known.Data First k) (known.Scalar (Exact q)) m n hx hy stray = data_sum k (places First +ℤ k) q n (from_first (places First) k first) hy.0
+  sums_agree (known.Data First k) (known.Scalar Unknown) m n hx hy stray = refused_alike claimed (IsHeld places) PointerArithmetic (effects.sum_of (value.Data (places First +ℤ k)) (value.Scalar n)) stray
+  sums_agree (known.Stack k) (known.Scalar (Exact q)) m n hx hy stray = stack_sum k q n hy.0
+  sums_agree (known.Stack k) (known.Scalar Unknown) m n hx hy stray = refused_alike claimed (IsHeld places) PointerArithmetic (effects.sum_of (value.Stack k) (value.Scalar n)) stray
   sums_agree x y m n hx hy stray = λ c. refl
 
-  sum_held : (x y : Known) (u v : Value) → IsHeld places x u → IsHeld places y v → (claimed PointerArithmetic → StraysBy x y u v) → Agree claimed (IsHeld places) (abstract.sum_of x y) (effects.sum_of u v)
+  sum_held : (x y : AbstractValue) (u v : Value) → IsHeld places x u → IsHeld places y v → (claimed PointerArithmetic → StraysBy x y u v) → Agree claimed (IsHeld places) (abstract.sum_of x y) (effects.sum_of u v)
   sum_held x y u v hx hy stray =
       subst (λ (u' : Value). Agree claimed (IsHeld places) (abstract.sum_of x y) (effects.sum_of u' v)) (sym hx.2)
       (subst (λ (v' : Value). Agree claimed (IsHeld places) (abstract.sum_of x y) (effects.sum_of (value_of places x hx.0) v')) (sym hy.2)
       (sums_agree x y hx.0 hy.0 hx.1 hy.1 (λ c. strays_same x x y y u (value_of places x hx.0) v (value_of places y hy.0) refl refl hx.2 hy.2 (stray c))))
 
-held_known : (k x : Known) → abstract.held k ≡ Ok x → k ≡ x
+held_known : (k x : AbstractValue) → abstract.held k ≡ Ok x → k ≡ x
 held_known known.Nothing x e = absurd cc
 held_known (known.Scalar n) x e = cc
 held_known known.Ctx x e = cc
@@ -160,7 +160,7 @@ held_known (known.Stack k) x e = cc
 held_known (known.Data anchor k) x e = cc
 held_known known.End x e = cc
 
-ok_is : (x y : Known) → ◌≡◌ {A = Result Known Reason} (Ok x) (Ok y) → x ≡ y
+ok_is : (x y : AbstractValue) → ◌≡◌ {A = Result AbstractValue Reason} (Ok x) (Ok y) → x ≡ y
 ok_is x y e = cc
 
 -- ---- comparisons
@@ -174,7 +174,7 @@ held_is (value.Data k) u e = cc
 held_is value.End u e = cc
 
 module _ (claimed : Reason → Type 0) (places : Places) (first : places First ≡ pos 0) (size : ℕ) where
-  comparisons_agree : (c : Condition) (x y : Known) (m n : ℕ) → IsNumberOf x m → IsNumberOf y n
+  comparisons_agree : (c : Condition) (x y : AbstractValue) (m n : ℕ) → IsNumberOf x m → IsNumberOf y n
       → Agree claimed (Implies (bound_of c (value_of places x m) (value_of places y n)) size) (abstract.compared c x y) (effects.compared size c (value_of places x m) (value_of places y n))
   comparisons_agree c (known.Scalar p) (known.Scalar q) m n hx hy = (refl, tt)
   comparisons_agree c (known.Data First k) known.End m n hx hy =
@@ -183,7 +183,7 @@ module _ (claimed : Reason → Type 0) (places : Places) (first : places First �
       subst (λ (p : ℤ). Agree claimed (Implies (bound_of c value.End (value.Data p)) size) (abstract.compared c known.End (known.Data First k)) (effects.compared size c value.End (value.Data p))) (sym (from_first (places First) k first)) (second_agree claimed k size c)
   comparisons_agree c x y m n hx hy = λ claim. refl
 
-  comparison_held : (c : Condition) (x y : Known) (u v : Value) → IsHeld places x u → IsHeld places y v
+  comparison_held : (c : Condition) (x y : AbstractValue) (u v : Value) → IsHeld places x u → IsHeld places y v
       → Agree claimed (Implies (bound_of c u v) size) (abstract.compared c x y) (effects.compared size c u v)
   comparison_held c x y u v hx hy =
       subst (λ (u' : Value). Agree claimed (Implies (bound_of c u' v) size) (abstract.compared c x y) (effects.compared size c u' v)) (sym hx.2)
@@ -211,9 +211,9 @@ pub record Forks (a : AbstractState) (s : State) (i : Insn) (not_taken taken : A
 abbrev pub GoesPast : Insn → Type 0
 GoesPast i = (code : List Insn) (slot : ℕ) → branch_slot code slot i NotTaken ≡ Ok (slot + slots_of i)
 
--- the effect of an instruction, and what is known after it
+-- the effect of an instruction, and the abstract state after it
 abbrev pub Follows : Places → AbstractState → State → Insn → Next → Effect → Type 0
-Follows places a s i (next.On b) (effect.Write r v) = (known : Known) × (b ≡ with_known a r known) × IsHeld places known v × GoesPast i
+Follows places a s i (next.On b) (effect.Write r v) = (known : AbstractValue) × (b ≡ with_value a r known) × IsHeld places known v × GoesPast i
 Follows places a s i (next.On b) (effect.Jump offset) = (b ≡ a) × (i ≡ insn.Jump offset)
 Follows places a s i (next.On b) effect.Pass = ⊥
 Follows places a s i (next.On b) (effect.Exit verdict) = ⊥
@@ -225,7 +225,7 @@ Follows places a s i next.Exit effect.Pass = ⊥
 
 -- an addition of an unknown number to a pointer leads out of range
 abbrev pub Strays : AbstractState → State → Insn → Type 0
-Strays a s (insn.Alu Add dst (operand.Reg r)) = StraysBy (known_at a.registers dst) (known_at a.registers r) (value_at s.registers dst) (value_at s.registers r)
+Strays a s (insn.Alu Add dst (operand.Reg r)) = StraysBy (abstract_at a.registers dst) (abstract_at a.registers r) (value_at s.registers dst) (value_at s.registers r)
 Strays a s i = Unit {0}
 
 -- what of the refusals is claimed to be the machine's own
@@ -246,24 +246,24 @@ module _ (claimed : Reason → Type 0) (mode : Mode) (places : Places) (a : Abst
   first : places First ≡ pos 0
   first = member.anchored First
 
-  strays_if : (o : Operand) (dst : Reg) → AreClaims claimed mode a s (insn.Alu Add dst o) → (x y : Known) (u v : Value) → abstract.read a dst ≡ Ok x → abstract.operand_known a o ≡ Ok y
+  strays_if : (o : Operand) (dst : Reg) → AreClaims claimed mode a s (insn.Alu Add dst o) → (x y : AbstractValue) (u v : Value) → abstract.read a dst ≡ Ok x → abstract.operand_abstract a o ≡ Ok y
       → effects.read s.registers dst ≡ Ok u → effects.operand_value s.registers o ≡ Ok v → claimed PointerArithmetic → StraysBy x y u v
   strays_if (operand.Reg r) dst claims x y u v p p' q q' c =
-      strays_same (known_at a.registers dst) x (known_at a.registers r) y (value_at s.registers dst) u (value_at s.registers r) v
-      (held_known (known_at a.registers dst) x p) (held_known (known_at a.registers r) y p') (held_is (value_at s.registers dst) u q) (held_is (value_at s.registers r) v q') (claims.arithmetic c)
+      strays_same (abstract_at a.registers dst) x (abstract_at a.registers r) y (value_at s.registers dst) u (value_at s.registers r) v
+      (held_known (abstract_at a.registers dst) x p) (held_known (abstract_at a.registers r) y p') (held_is (value_at s.registers dst) u q) (held_is (value_at s.registers r) v q') (claims.arithmetic c)
   strays_if (operand.Imm n) dst claims x y u v p p' q q' c =
-      subst (λ (z : Known). StraysBy x z u v) (ok_is (known.Scalar (Exactly (cast_unsigned w64 n))) y p') (exact_strays x (cast_unsigned w64 n) u v)
+      subst (λ (z : AbstractValue). StraysBy x z u v) (ok_is (known.Scalar (Exact (cast_unsigned w64 n))) y p') (exact_strays x (cast_unsigned w64 n) u v)
 
   alu_agrees : (op : AluOp) (dst : Reg) (o : Operand) → OperandFits o → AreClaims claimed mode a s (insn.Alu op dst o)
       → Agree claimed (Follows places a s (insn.Alu op dst o)) (abstract.alu_step a op dst o) (effects.alu_effect s.registers op dst o)
   alu_agrees Mov dst o fit claims =
-      and_then claimed (IsHeld places) (Follows places a s (insn.Alu Mov dst o)) (abstract.operand_known a o) (effects.operand_value s.registers o) _ _
+      and_then claimed (IsHeld places) (Follows places a s (insn.Alu Mov dst o)) (abstract.operand_abstract a o) (effects.operand_value s.registers o) _ _
       (operand_agrees claimed mode places claims.registers a s member o fit)
-      (λ k v p q held. same_test claimed (Follows places a s (insn.Alu Mov dst o)) (writable dst) (Ok (next.On (with_known a dst k))) (Ok (effect.Write dst v)) (k, refl, held, λ code slot. refl))
+      (λ k v p q held. same_test claimed (Follows places a s (insn.Alu Mov dst o)) (writable dst) (Ok (next.On (with_value a dst k))) (Ok (effect.Write dst v)) (k, refl, held, λ code slot. refl))
   alu_agrees Add dst o fit claims =
       and_then claimed (IsHeld places) (Follows places a s (insn.Alu Add dst o)) (abstract.read a dst) (effects.read s.registers dst) _ _
       (read_agrees claimed mode places claims.registers a s member dst)
-      (λ x u p q held_x. and_then claimed (IsHeld places) (Follows places a s (insn.Alu Add dst o)) (abstract.operand_known a o) (effects.operand_value s.registers o) _ _
+      (λ x u p q held_x. and_then claimed (IsHeld places) (Follows places a s (insn.Alu Add dst o)) (abstract.operand_abstract a o) (effects.operand_value s.registers o) _ _
       (operand_agrees claimed mode places claims.registers a s member o fit)
       (λ y v p' q' held_y. same_test claimed (Follows places a s (insn.Alu Add dst o)) (writable dst) _ _
       (and_then claimed (IsHeld places) (Follows places a s (insn.Alu Add dst o)) (abstract.sum_of x y) (effects.sum_of u v) _ _
@@ -294,13 +294,13 @@ module _ (claimed : Reason → Type 0) (mode : Mode) (places : Places) (a : Abst
   jumps_agree c dst o offset fit claims =
       and_then claimed (IsHeld places) (Follows places a s (insn.JumpIf c dst o offset)) (abstract.read a dst) (effects.read s.registers dst) _ _
       (read_agrees claimed mode places claims.registers a s member dst)
-      (λ x u p q held_x. and_then claimed (IsHeld places) (Follows places a s (insn.JumpIf c dst o offset)) (abstract.operand_known a o) (effects.operand_value s.registers o) _ _
+      (λ x u p q held_x. and_then claimed (IsHeld places) (Follows places a s (insn.JumpIf c dst o offset)) (abstract.operand_abstract a o) (effects.operand_value s.registers o) _ _
       (operand_agrees claimed mode places claims.registers a s member o fit)
       (λ y v p' q' held_y. and_then claimed (Implies (bound_of c u v) s.memory.length) (Follows places a s (insn.JumpIf c dst o offset)) (abstract.compared c x y) (effects.compared s.memory.length c u v) _ _
       (comparison_held claimed places first s.memory.length c x y u v held_x held_y)
       (λ t taken p'' q'' implies. forked c dst o offset u v q q' t taken implies)))
 
-  load_agrees : (x : Known) (m : ℕ) (d : ℤ) (z : Size) (i : Insn) → IsNumberOf x m → AreClaims claimed mode a s i
+  load_agrees : (x : AbstractValue) (m : ℕ) (d : ℤ) (z : Size) (i : Insn) → IsNumberOf x m → AreClaims claimed mode a s i
       → Agree claimed (IsHeld places) (abstract.load a x d z) (loading.load s.memory (value_of places x m) d z)
   load_agrees known.Nothing m d z i h claims = λ c. refl
   load_agrees (known.Scalar n) m d z i h claims = λ c. refl
@@ -311,7 +311,7 @@ module _ (claimed : Reason → Type 0) (mode : Mode) (places : Places) (a : Abst
       (ap (λ (p : ℤ). p +ℤ d) (from_first (places First) k first)) (small_count z)
   load_agrees known.End m d z i h claims = tailroom_agrees claimed mode places s.memory.bytes s.memory.length member.memory.bytes d (byte_count z) (small_count z)
 
-  load_held : (x : Known) (u : Value) (d : ℤ) (z : Size) (i : Insn) → IsHeld places x u → AreClaims claimed mode a s i
+  load_held : (x : AbstractValue) (u : Value) (d : ℤ) (z : Size) (i : Insn) → IsHeld places x u → AreClaims claimed mode a s i
       → Agree claimed (IsHeld places) (abstract.load a x d z) (loading.load s.memory u d z)
   load_held x u d z i h claims = subst (λ (u' : Value). Agree claimed (IsHeld places) (abstract.load a x d z) (loading.load s.memory u' d z)) (sym h.2) (load_agrees x h.0 d z i h.1 claims)
 
@@ -325,14 +325,14 @@ module _ (claimed : Reason → Type 0) (mode : Mode) (places : Places) (a : Abst
       (load_held x u d z (insn.Load z dst base d) held_x claims)
       (λ k w p' q' held. (k, refl, held, λ code slot. refl))))
 
-  exits_agree : (x : Known) (m : ℕ) → IsNumberOf x m → Agree claimed (Follows places a s insn.Exit) (abstract.exit_with x) (effects.verdict_of (value_of places x m) >>= λ verdict. Ok (effect.Exit verdict))
+  exits_agree : (x : AbstractValue) (m : ℕ) → IsNumberOf x m → Agree claimed (Follows places a s insn.Exit) (abstract.exit_with x) (effects.verdict_of (value_of places x m) >>= λ verdict. Ok (effect.Exit verdict))
   exits_agree (known.Scalar n) m h = tt
   exits_agree x m h = λ c. refl
 
-  exit_held : (x : Known) (u : Value) → IsHeld places x u → Agree claimed (Follows places a s insn.Exit) (abstract.exit_with x) (effects.verdict_of u >>= λ verdict. Ok (effect.Exit verdict))
+  exit_held : (x : AbstractValue) (u : Value) → IsHeld places x u → Agree claimed (Follows places a s insn.Exit) (abstract.exit_with x) (effects.verdict_of u >>= λ verdict. Ok (effect.Exit verdict))
   exit_held x u h = subst (λ (u' : Value). Agree claimed (Follows places a s insn.Exit) (abstract.exit_with x) (effects.verdict_of u' >>= λ verdict. Ok (effect.Exit verdict))) (sym h.2) (exits_agree x h.0 h.1)
 
-  -- what is known of each form agrees with the machine
+  -- the abstract step of each form agrees with the machine's
   pub steps_agree : (i : Insn) → Fits i → AreClaims claimed mode a s i → Agree claimed (Follows places a s i) (abstract.step a i) (effects.effect s.memory s.registers i)
   steps_agree (insn.Alu op dst o) fit claims = alu_agrees op dst o fit claims
   steps_agree (insn.Jump offset) fit claims = (refl, refl)

@@ -1,4 +1,4 @@
--- What the walk keeps, from the first point to its end.
+-- What the walk keeps, from the first pending state to its end.
 use Rattle.std.proofs.Common.{◌≡◌, ℕ, suc, ◌+◌, ◌-◌, ◌<◌, ◌≤◌, List, [], ◌∷◌, ◌++◌, length, Option, Some, None, Result, Ok, Err, refl, sym, ap, ◌∙◌, subst, arith, All, inr}
 use Rattle.std.specs.Prelude.{IfSome, IfOk, IfErr}
 use Rattle.std.proofs.lemmas.List.{take_at, drop_at}
@@ -14,33 +14,33 @@ use Rattle.semantics.specs.declared.reason.Reason.{Reason}
 use Rattle.semantics.specs.declared.fetching.Fetched.TheVariants.{Begins}
 use Rattle.semantics.specs.declared.fetching.Branch.TheVariants.{NotTaken, Taken}
 use Rattle.verifier.specs.Membership.{Loose}
-use Rattle.verifier.specs.AbstractStates.{first_known}
+use Rattle.verifier.specs.AbstractStates.{first_state}
 use Rattle.verifier.specs.AbstractSteps as abstract
 use Rattle.verifier.specs.Layout.{IsLaidOut, IsStepReason}
-use Rattle.verifier.specs.Goodness.{IsGood, IsReached, count_from, counts_from}
+use Rattle.verifier.specs.PendingStates.{AllRunsExit, IsReached, count_from, counts_from}
 use Rattle.verifier.specs.Refusing.{MayRefuse}
-use Rattle.verifier.specs.Ways.{ways_of, ways_on}
+use Rattle.verifier.specs.Successors.{successors_of, successors_in}
 use Rattle.verifier.specs.Walk.{IsInside, GoesOn, Advances, IsStepRefusal, Picks}
 use Rattle.verifier.specs.declared.abstract_step.Next.{Next}
 use Rattle.verifier.specs.declared.abstract_step.Next.TheVariants as next
 use Rattle.verifier.specs.declared.refusal.Refusal.{Refusal}
 use Rattle.verifier.specs.declared.refusal.Refusal.TheVariants as refusal
 use Rattle.verifier.specs.declared.walk.Pending.{Pending}
-use Rattle.verifier.proofs.Points.{first_begins, one_goes_on, two_goes_on}
-use Rattle.verifier.proofs.Ways.{way_begins, step_ways, step_reasons}
+use Rattle.verifier.proofs.Positions.{first_begins, one_goes_on, two_goes_on}
+use Rattle.verifier.proofs.Branches.{branch_begins, step_successors, step_reasons}
 use Rattle.verifier.proofs.Members.{at_first, first_member}
 use Rattle.verifier.proofs.Safety.{good_before}
 use Rattle.verifier.proofs.Reaching.{first_reached, reached_after, refusal_is_real, none_below, all_one}
 use Rattle.verifier.proofs.Counting.{count_next, counts_before, counted_at, fuel_is}
 
-abbrev pub first_point : Pending
-first_point = record { slot = 0; state = first_known }
+abbrev pub first_pending : Pending
+first_pending = record { slot = 0; state = first_state }
 
--- after so many steps, with a point at hand and others pending
+-- the walk after some steps, with one state at hand and others pending
 pub record IsWalking (code : List Insn) (made : ℕ) (here : Pending) (pending : List Pending) : Type 0 where
   pub inside : IsInside code here
   pub inside_pending : All (IsInside code) pending
-  pub good : All (IsGood code) pending → IsGood code here → IsGood code first_point
+  pub good : All (AllRunsExit code) pending → AllRunsExit code here → AllRunsExit code first_pending
   pub reached : IsReached code here
   pub reached_pending : All (IsReached code) pending
   pub counted : made + (count_from code here + counts_from code pending) ≤ length (beginnings code)
@@ -48,7 +48,7 @@ pub record IsWalking (code : List Insn) (made : ℕ) (here : Pending) (pending :
 all_none : (P : Pending → Type 0) (pending : List Pending) → pending ≡ [] → All P pending
 all_none P pending e = subst (All P) (sym e) (λ k d lt. absurd (none_below k lt))
 
-pub begins : (code : List Insn) (pending : List Pending) → IsLaidOut code → pending ≡ [] → IsWalking code 0 first_point pending
+pub begins : (code : List Insn) (pending : List Pending) → IsLaidOut code → pending ≡ [] → IsWalking code 0 first_pending pending
 begins code pending laid_out none = record {
   inside = first_begins code laid_out.exit;
   inside_pending = all_none (IsInside code) pending none;
@@ -57,33 +57,33 @@ begins code pending laid_out none = record {
   reached_pending = all_none (IsReached code) pending none;
   counted =
       let nothing : counts_from code pending ≡ 0 = ap (counts_from code) none in
-      let all : count_from code first_point ≡ length (beginnings code) = ap (λ (k : ℕ). length (beginnings_from code k 0)) (ahead_start code) in
+      let all : count_from code first_pending ≡ length (beginnings code) = ap (λ (k : ℕ). length (beginnings_from code k 0)) (ahead_start code) in
       omega (arith, nothing, all);
 }
 
 -- ---- a step
 
-answer_ways : (a : Result Next Reason) (i : Insn) (answer : Next) → IfOk a (λ n. ways_on n ≡ ways_of i) → a ≡ Ok answer → ways_on answer ≡ ways_of i
-answer_ways (Ok n) i answer h e = subst (λ (m : Next). ways_on m ≡ ways_of i) (let is : n ≡ answer = cc in is) h
-answer_ways (Err f) i answer h e = absurd cc
+answer_successors : (a : Result Next Reason) (i : Insn) (answer : Next) → IfOk a (λ n. successors_in n ≡ successors_of i) → a ≡ Ok answer → successors_in answer ≡ successors_of i
+answer_successors (Ok n) i answer h e = subst (λ (m : Next). successors_in m ≡ successors_of i) (let is : n ≡ answer = cc in is) h
+answer_successors (Err f) i answer h e = absurd cc
 
 fault_reason : (a : Result Next Reason) (reason : Reason) → IfErr a IsStepReason → a ≡ Err reason → IsStepReason reason
 fault_reason (Ok n) reason h e = absurd cc
 fault_reason (Err f) reason h e = subst IsStepReason (let is : f ≡ reason = cc in is) h
 
 module _ (code : List Insn) (here : Pending) (laid_out : IsLaidOut code) where
-  goes_inside : (i : Insn) → fetch code here.slot ≡ Begins i → (answer : Next) → ways_on answer ≡ ways_of i → (on : Option Pending) (left : List Pending) → GoesOn code here.slot i answer on left → IfSome on (IsInside code) × All (IsInside code) left
-  goes_inside i at (next.On b) ways (Some p) left goes = (way_begins code here.slot p.slot i NotTaken laid_out.exit at (one_goes_on (ways_of i) ways) goes.0.leads, all_none (IsInside code) left goes.1)
+  goes_inside : (i : Insn) → fetch code here.slot ≡ Begins i → (answer : Next) → successors_in answer ≡ successors_of i → (on : Option Pending) (left : List Pending) → GoesOn code here.slot i answer on left → IfSome on (IsInside code) × All (IsInside code) left
+  goes_inside i at (next.On b) ways (Some p) left goes = (branch_begins code here.slot p.slot i NotTaken laid_out.exit at (one_goes_on (successors_of i) ways) goes.0.leads, all_none (IsInside code) left goes.1)
   goes_inside i at (next.On b) ways None left goes = absurd goes
   goes_inside i at (next.Fork not_taken taken) ways (Some p) left goes = (
-    way_begins code here.slot p.slot i NotTaken laid_out.exit at (two_goes_on (ways_of i) ways) goes.0.leads,
-    subst (All (IsInside code)) (sym goes.3) (all_one (IsInside code) goes.1 (way_begins code here.slot goes.1.slot i Taken laid_out.exit at (two_goes_on (ways_of i) ways) goes.2.leads)),
+    branch_begins code here.slot p.slot i NotTaken laid_out.exit at (two_goes_on (successors_of i) ways) goes.0.leads,
+    subst (All (IsInside code)) (sym goes.3) (all_one (IsInside code) goes.1 (branch_begins code here.slot goes.1.slot i Taken laid_out.exit at (two_goes_on (successors_of i) ways) goes.2.leads)),
   )
   goes_inside i at (next.Fork not_taken taken) ways None left goes = absurd goes
   goes_inside i at next.Exit ways (Some p) left goes = absurd goes
   goes_inside i at next.Exit ways None left goes = (tt, all_none (IsInside code) left goes)
 
--- what holds of the points at hand holds of the one that is picked, and of those that stay pending
+-- a fact of the states at hand holds of the one that is picked, and of those that stay pending
 picked : (P : Pending → Type 0) (on : Option Pending) (old : List Pending) (p : Pending) (new : List Pending) → Picks on old (Some p) new → IfSome on P → All P old → P p × All P new
 picked P (Some q) old p new picks h all = (subst P (let is : q ≡ p = cc in is) h, subst (All P) (sym picks.1) all)
 picked P None old p new picks h all =
@@ -107,10 +107,10 @@ picked_count code (Some q) old p new picks =
 picked_count code None old p new picks = omega (arith, ap (counts_from code) picks, sum_by_push (count_from code) new p)
 
 module _ (code : List Insn) (made : ℕ) (here : Pending) (old new : List Pending) (on : Option Pending) (laid_out : IsLaidOut code) (walking : IsWalking code made here old) (adv : Advances code here old on new) where
-  ways_are : ways_on adv.accepted ≡ ways_of adv.insn
-  ways_are = answer_ways (abstract.step here.state adv.insn) adv.insn adv.accepted (step_ways here.state adv.insn) adv.step_is
+  successors_are : successors_in adv.accepted ≡ successors_of adv.insn
+  successors_are = answer_successors (abstract.step here.state adv.insn) adv.insn adv.accepted (step_successors here.state adv.insn) adv.step_is
 
-  -- what holds of the points so far, and of those behind the step, holds of all that are pending
+  -- a fact of the earlier pending states, and of those behind the step, holds of all that are pending
   all_new : (P : Pending → Type 0) → All P old → All P adv.left → All P new
   all_new P olds lefts = subst (All P) (sym adv.new_is) (All-append P old adv.left olds lefts)
 
@@ -120,34 +120,34 @@ module _ (code : List Insn) (made : ℕ) (here : Pending) (old new : List Pendin
   all_left : (P : Pending → Type 0) → All P new → All P adv.left
   all_left P all = subst (All P) (drop_at old adv.left (length old) refl) (All-drop P (length old) (old ++ adv.left) (subst (All P) adv.new_is all))
 
-  good_first : IfSome on (IsGood code) → All (IsGood code) new → IsGood code first_point
-  good_first good goods = walking.good (all_old (IsGood code) goods) (good_before code here adv.insn adv.begins adv.fits adv.accepted adv.step_is on adv.left adv.goes_on good (all_left (IsGood code) goods))
+  good_first : IfSome on (AllRunsExit code) → All (AllRunsExit code) new → AllRunsExit code first_pending
+  good_first good goods = walking.good (all_old (AllRunsExit code) goods) (good_before code here adv.insn adv.begins adv.fits adv.accepted adv.step_is on adv.left adv.goes_on good (all_left (AllRunsExit code) goods))
 
   pub goes_on : (p : Pending) (pending : List Pending) → Picks on new (Some p) pending → IsWalking code (made + 1) p pending
   goes_on p pending picks =
-      let inside = goes_inside code here laid_out adv.insn adv.begins adv.accepted ways_are on adv.left adv.goes_on in
+      let inside = goes_inside code here laid_out adv.insn adv.begins adv.accepted successors_are on adv.left adv.goes_on in
       let insides = picked (IsInside code) on new p pending picks inside.0 (all_new (IsInside code) walking.inside_pending inside.1) in
       let reached = reached_after code here adv.insn adv.begins adv.fits walking.reached adv.accepted adv.step_is on adv.left adv.goes_on in
       let reacheds = picked (IsReached code) on new p pending picks reached.0 (all_new (IsReached code) walking.reached_pending reached.1) in
-      let counts = counts_before code here adv.insn adv.begins adv.accepted ways_are on adv.left adv.goes_on in
+      let counts = counts_before code here adv.insn adv.begins adv.accepted successors_are on adv.left adv.goes_on in
       let sums : counts_from code new ≡ counts_from code old + counts_from code adv.left = ap (counts_from code) adv.new_is ∙ sum_by-append (count_from code) old adv.left in
       record {
         inside = insides.0;
         inside_pending = insides.1;
-        good = λ goods good. let back = unpicked (IsGood code) on new p pending picks good goods in good_first back.0 back.1;
+        good = λ goods good. let back = unpicked (AllRunsExit code) on new p pending picks good goods in good_first back.0 back.1;
         reached = reacheds.0;
         reached_pending = reacheds.1;
         counted = omega (arith, walking.counted, counts, sums, picked_count code on new p pending picks);
       }
 
-  -- where nothing is left to follow, the first point is good
-  pub ends : (pending : List Pending) → Picks on new None pending → IsGood code first_point
-  ends pending picks = let none = nothing_left (IsGood code) on new pending picks in good_first none.0 none.1
+  -- where nothing is left to follow, every run from the first pending state exits
+  pub ends : (pending : List Pending) → Picks on new None pending → AllRunsExit code first_pending
+  ends pending picks = let none = nothing_left (AllRunsExit code) on new pending picks in good_first none.0 none.1
 
 -- ---- the ends of the walk
 
--- where the first pending state is good, the code is safe
-pub safe : (code : List Insn) → IsGood code first_point → IsSafe code
+-- where every run from the first pending state exits, the code is safe
+pub safe : (code : List Insn) → AllRunsExit code first_pending → IsSafe code
 safe code good w datagram real fits =
     let exits = good w at_first (start datagram) real refl (first_member Loose datagram fits.bytes_fit) in
     (exits.0, ap (λ (k : ℕ). (run w code k (start datagram)).ending) (sym (ahead_start code)) ∙ exits.1)

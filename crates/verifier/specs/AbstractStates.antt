@@ -6,20 +6,20 @@ use Rattle.insn.specs.Words.{alu}
 use Rattle.insn.specs.declared.register.Reg.{Reg}
 use Rattle.insn.specs.declared.operator.AluOp.{AluOp}
 use Rattle.verifier.specs.declared.abstract_state.Number.{Number}
-use Rattle.verifier.specs.declared.abstract_state.Number.TheVariants.{Exactly, Any}
-use Rattle.verifier.specs.declared.abstract_state.Known.{Known}
-use Rattle.verifier.specs.declared.abstract_state.Known.TheVariants.{Nothing, Ctx, Stack}
+use Rattle.verifier.specs.declared.abstract_state.Number.TheVariants.{Exact, Unknown}
+use Rattle.verifier.specs.declared.abstract_state.AbstractValue.{AbstractValue}
+use Rattle.verifier.specs.declared.abstract_state.AbstractValue.TheVariants.{Nothing, Ctx, Stack}
 use Rattle.verifier.specs.declared.abstract_state.Marks.{Marks}
 use Rattle.verifier.specs.declared.abstract_state.AbstractState.{AbstractState}
 
 -- the result of an operator
 abbrev pub number_alu : AluOp → Number → Number → Number
-number_alu op (Exactly a) (Exactly b) = Exactly (alu op w64 a b)
-number_alu op (Exactly a) Any = Any
-number_alu op Any b = Any
+number_alu op (Exact a) (Exact b) = Exact (alu op w64 a b)
+number_alu op (Exact a) Unknown = Unknown
+number_alu op Unknown b = Unknown
 
-abbrev pub known_at : List Known → Reg → Known
-known_at registers r = slice_index_or registers (number_of r) Nothing
+abbrev pub abstract_at : List AbstractValue → Reg → AbstractValue
+abstract_at registers r = slice_index_or registers (number_of r) Nothing
 
 -- no stack byte is set
 abbrev pub no_marks : Marks
@@ -35,22 +35,22 @@ are_marked m i zero = true
 are_marked m i (suc n) = is_marked m i && are_marked m (suc i) n
 
 -- before the first instruction r1 holds the context and r10 the end of the stack
-abbrev pub first_known : AbstractState
-first_known = record {
+abbrev pub first_state : AbstractState
+first_state = record {
   registers = Nothing ∷ Ctx ∷ Nothing ∷ Nothing ∷ Nothing ∷ Nothing ∷ Nothing ∷ Nothing ∷ Nothing ∷ Nothing ∷ Stack (pos 0) ∷ [];
   marks = no_marks;
   proved = pos 0;
 }
 
 -- the state with a register written
-abbrev pub with_known : AbstractState → Reg → Known → AbstractState
-with_known a r k = record a { registers = slice_set a.registers (number_of r) k }
+abbrev pub with_value : AbstractState → Reg → AbstractValue → AbstractState
+with_value a r k = record a { registers = slice_set a.registers (number_of r) k }
 
 -- the state in which the datagram has at least n bytes
-abbrev pub with_proved : AbstractState → ℤ → AbstractState
-with_proved a n = record a { proved = if int_lt a.proved n then n else a.proved }
+abbrev pub with_length : AbstractState → ℤ → AbstractState
+with_length a n = record a { proved = if int_lt a.proved n then n else a.proved }
 
 -- a least length, where a branch implies one
 abbrev pub with_least : AbstractState → Option ℤ → AbstractState
 with_least a None = a
-with_least a (Some n) = with_proved a n
+with_least a (Some n) = with_length a n

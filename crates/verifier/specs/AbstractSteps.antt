@@ -25,11 +25,11 @@ use Rattle.semantics.specs.declared.fetching.Branch.TheVariants.{NotTaken, Taken
 use Rattle.semantics.specs.declared.limits.TheConstants.{TAILROOM}
 use Rattle.semantics.specs.declared.reason.Reason.{Reason}
 use Rattle.semantics.specs.declared.reason.Reason.TheVariants.{UninitRegister, UninitStack, StackBounds, ContextAccess, DatagramBounds, PointerArithmetic, PointerCompare, ExitNotScalar, NotAPointer}
-use Rattle.verifier.specs.AbstractStates.{known_at, number_alu, are_marked, with_known, with_least}
-use Rattle.verifier.specs.declared.abstract_state.Number.TheVariants.{Exactly, Any}
+use Rattle.verifier.specs.AbstractStates.{abstract_at, number_alu, are_marked, with_value, with_least}
+use Rattle.verifier.specs.declared.abstract_state.Number.TheVariants.{Exact, Unknown}
 use Rattle.verifier.specs.declared.abstract_state.Anchor.TheVariants.{First}
-use Rattle.verifier.specs.declared.abstract_state.Known.{Known}
-use Rattle.verifier.specs.declared.abstract_state.Known.TheVariants.{Nothing, Scalar, Ctx, Stack, Data, End}
+use Rattle.verifier.specs.declared.abstract_state.AbstractValue.{AbstractValue}
+use Rattle.verifier.specs.declared.abstract_state.AbstractValue.TheVariants.{Nothing, Scalar, Ctx, Stack, Data, End}
 use Rattle.verifier.specs.declared.abstract_state.AbstractState.{AbstractState}
 use Rattle.verifier.specs.declared.abstract_step.Next.{Next}
 use Rattle.verifier.specs.declared.abstract_step.Next.TheVariants as next
@@ -37,7 +37,7 @@ use Rattle.verifier.specs.declared.abstract_step.Implied.{Implied}
 
 -- ---- what is read
 
-abbrev pub held : Known → Result Known Reason
+abbrev pub held : AbstractValue → Result AbstractValue Reason
 held Nothing = Err UninitRegister
 held (Scalar n) = Ok (Scalar n)
 held Ctx = Ok Ctx
@@ -45,12 +45,12 @@ held (Stack k) = Ok (Stack k)
 held (Data anchor k) = Ok (Data anchor k)
 held End = Ok End
 
-abbrev pub read : AbstractState → Reg → Result Known Reason
-read a r = held (known_at a.registers r)
+abbrev pub read : AbstractState → Reg → Result AbstractValue Reason
+read a r = held (abstract_at a.registers r)
 
-abbrev pub operand_known : AbstractState → Operand → Result Known Reason
-operand_known a (operand.Reg r) = read a r
-operand_known a (operand.Imm n) = Ok (Scalar (Exactly (cast_unsigned w64 n)))
+abbrev pub operand_abstract : AbstractState → Operand → Result AbstractValue Reason
+operand_abstract a (operand.Reg r) = read a r
+operand_abstract a (operand.Imm n) = Ok (Scalar (Exact (cast_unsigned w64 n)))
 
 -- ---- arithmetic
 
@@ -58,28 +58,28 @@ operand_known a (operand.Imm n) = Ok (Scalar (Exactly (cast_unsigned w64 n)))
 abbrev pub moved : ℤ → ℕ → Result ℤ Reason
 moved k by = ok_or (near_place (k +ℤ cast_signed w64 by)) PointerArithmetic
 
--- a sum of numbers, or a pointer moved by a known number
-abbrev pub sum_of : Known → Known → Result Known Reason
+-- a sum of numbers, or a pointer moved by an exact number
+abbrev pub sum_of : AbstractValue → AbstractValue → Result AbstractValue Reason
 sum_of (Scalar a) (Scalar b) = Ok (Scalar (number_alu Add a b))
-sum_of (Data anchor k) (Scalar (Exactly b)) = do
+sum_of (Data anchor k) (Scalar (Exact b)) = do
   place ← moved k b
   Ok (Data anchor place)
-sum_of (Stack k) (Scalar (Exactly b)) = do
+sum_of (Stack k) (Scalar (Exact b)) = do
   place ← moved k b
   Ok (Stack place)
 sum_of _ _ = Err PointerArithmetic
 
 abbrev pub alu_step : AbstractState → AluOp → Reg → Operand → Result Next Reason
 alu_step a Mov dst o = do
-  known ← operand_known a o
+  known ← operand_abstract a o
   allowed ← writable dst
-  Ok (next.On (with_known a dst known))
+  Ok (next.On (with_value a dst known))
 alu_step a Add dst o = do
   x ← read a dst
-  y ← operand_known a o
+  y ← operand_abstract a o
   allowed ← writable dst
   known ← sum_of x y
-  Ok (next.On (with_known a dst known))
+  Ok (next.On (with_value a dst known))
 
 -- ---- conditional jumps
 
@@ -114,7 +114,7 @@ order_implies c bound = do
   Ok (implied_by bound)
 
 -- what the branches of a comparison imply of the datagram's length; the anchor First stands at the place 0
-abbrev pub compared : Condition → Known → Known → Result Implied Reason
+abbrev pub compared : Condition → AbstractValue → AbstractValue → Result Implied Reason
 compared c (Scalar a) (Scalar b) = Ok (implied_by (λ branch. None))
 compared c (Data First k) End = order_implies c (data_bound c k)
 compared c End (Data First k) = order_implies c (end_bound c k)
@@ -123,14 +123,14 @@ compared c _ _ = Err PointerCompare
 abbrev pub branch_step : AbstractState → Condition → Reg → Operand → Result Next Reason
 branch_step a c dst o = do
   x ← read a dst
-  y ← operand_known a o
+  y ← operand_abstract a o
   implied ← compared c x y
   Ok (next.Fork (with_least a implied.not_taken) (with_least a implied.taken))
 
 -- ---- loads and the end
 
 -- the fields of the context record
-abbrev pub field : ℤ → Size → Result Known Reason
+abbrev pub field : ℤ → Size → Result AbstractValue Reason
 field (pos n) size.Double = if n == 0 then Ok (Data First (pos 0)) else (if n == 8 then Ok End else Err ContextAccess)
 field (pos n) size.Word = Err ContextAccess
 field (pos n) size.Half = Err ContextAccess
@@ -138,29 +138,29 @@ field (pos n) size.Byte = Err ContextAccess
 field (negsuc n) z = Err ContextAccess
 
 -- the datagram may be read as far as is proved
-abbrev pub load : AbstractState → Known → ℤ → Size → Result Known Reason
+abbrev pub load : AbstractState → AbstractValue → ℤ → Size → Result AbstractValue Reason
 load a Nothing d z = Err UninitRegister
 load a (Scalar n) d z = Err NotAPointer
 load a Ctx d z = field d z
 load a (Stack k) d z = do
   i ← ok_or (index_within (k +ℤ d) (byte_count z) stack_first stack_first (pos 0)) StackBounds
   are_set ← check (are_marked a.marks i (byte_count z)) UninitStack
-  Ok (Scalar Any)
+  Ok (Scalar Unknown)
 load a (Data First k) d z = do
   inside ← check (is_within (k +ℤ d) (byte_count z) headroom_first a.proved) DatagramBounds
-  Ok (Scalar Any)
+  Ok (Scalar Unknown)
 load a End d z = do
   inside ← check (is_within d (byte_count z) (pos 0) (pos TAILROOM)) DatagramBounds
-  Ok (Scalar Any)
+  Ok (Scalar Unknown)
 
 abbrev pub load_step : AbstractState → Size → Reg → Reg → ℤ → Result Next Reason
 load_step a z dst base d = do
   pointer ← read a base
   allowed ← writable dst
   known ← load a pointer d z
-  Ok (next.On (with_known a dst known))
+  Ok (next.On (with_value a dst known))
 
-abbrev pub exit_with : Known → Result Next Reason
+abbrev pub exit_with : AbstractValue → Result Next Reason
 exit_with (Scalar n) = Ok next.Exit
 exit_with Nothing = Err ExitNotScalar
 exit_with Ctx = Err ExitNotScalar

@@ -2,7 +2,7 @@ pub mod AbstractStates
 pub mod AbstractSteps
 pub mod Membership
 pub mod Layout
-pub mod Ways
+pub mod Successors
 pub mod Walk
 pub mod Refusing
-pub mod Goodness
+pub mod PendingStates

@@ -5,13 +5,13 @@ use Rattle.semantics.specs.Machine.{Memory, State}
 use Rattle.semantics.specs.Effects.{value_at}
 use Rattle.semantics.specs.declared.value.Value.{Value}
 use Rattle.semantics.specs.declared.value.Value.TheVariants as value
-use Rattle.verifier.specs.AbstractStates.{known_at, is_marked}
+use Rattle.verifier.specs.AbstractStates.{abstract_at, is_marked}
 use Rattle.verifier.specs.declared.abstract_state.Number.{Number}
-use Rattle.verifier.specs.declared.abstract_state.Number.TheVariants.{Exactly, Any}
+use Rattle.verifier.specs.declared.abstract_state.Number.TheVariants.{Exact, Unknown}
 use Rattle.verifier.specs.declared.abstract_state.Anchor.{Anchor}
 use Rattle.verifier.specs.declared.abstract_state.Anchor.TheVariants.{First}
-use Rattle.verifier.specs.declared.abstract_state.Known.{Known}
-use Rattle.verifier.specs.declared.abstract_state.Known.TheVariants.{Nothing, Scalar, Ctx, Stack, Data, End}
+use Rattle.verifier.specs.declared.abstract_state.AbstractValue.{AbstractValue}
+use Rattle.verifier.specs.declared.abstract_state.AbstractValue.TheVariants.{Nothing, Scalar, Ctx, Stack, Data, End}
 use Rattle.verifier.specs.declared.abstract_state.AbstractState.{AbstractState}
 
 -- ---- numbers and places
@@ -21,8 +21,8 @@ pub record IsWord (n : ℕ) : Type 0 where
   pub fits : n < 2 ^ 64
 
 abbrev pub IsNumber : Number → ℕ → Type 0
-IsNumber (Exactly m) n = (n ≡ m) × IsWord n
-IsNumber Any n = IsWord n
+IsNumber (Exact m) n = (n ≡ m) × IsWord n
+IsNumber Unknown n = IsWord n
 
 -- the places of the anchors
 abbrev pub Places : Type 0
@@ -35,7 +35,7 @@ IsPlaceOf First p = p ≡ pos 0
 -- ---- registers
 
 -- the number of a Scalar is a member of its abstract number
-abbrev pub IsNumberOf : Known → ℕ → Type 0
+abbrev pub IsNumberOf : AbstractValue → ℕ → Type 0
 IsNumberOf Nothing n = ⊥
 IsNumberOf (Scalar number) n = IsNumber number n
 IsNumberOf Ctx n = Unit {0}
@@ -44,7 +44,7 @@ IsNumberOf (Data anchor k) n = Unit {0}
 IsNumberOf End n = Unit {0}
 
 -- the value of a known kind: a Scalar with a number, and a pointer with its offset, from its anchor's place on
-abbrev pub value_of : Places → Known → ℕ → Value
+abbrev pub value_of : Places → AbstractValue → ℕ → Value
 value_of places Nothing n = value.Nothing
 value_of places (Scalar number) n = value.Scalar n
 value_of places Ctx n = value.Ctx
@@ -53,7 +53,7 @@ value_of places (Data anchor k) n = value.Data (places anchor +ℤ k)
 value_of places End n = value.End
 
 -- a value of a known kind has that kind, with a member
-abbrev pub IsHeld : Places → Known → Value → Type 0
+abbrev pub IsHeld : Places → AbstractValue → Value → Type 0
 IsHeld places known v = (n : ℕ) × IsNumberOf known n × (v ≡ value_of places known n)
 
 -- Loose membership says what every run keeps: an abstract Nothing allows any value, and an unmarked cell may hold a
@@ -62,7 +62,7 @@ pub data Mode : Type 0 where
   Loose : Mode
   Strict : Mode
 
-abbrev pub IsValue : Mode → Places → Known → Value → Type 0
+abbrev pub IsValue : Mode → Places → AbstractValue → Value → Type 0
 IsValue mode places Nothing v = mode ≡ Strict → v ≡ value.Nothing
 IsValue mode places (Scalar number) v = IsHeld places (Scalar number) v
 IsValue mode places Ctx v = IsHeld places Ctx v
@@ -96,6 +96,6 @@ pub record IsMember (mode : Mode) (places : Places) (a : AbstractState) (s : Sta
   pub reaches : (anchor : Anchor) → (places anchor +ℤ proved_of a anchor) ≤ℤ pos s.memory.length
   pub known_count : length a.registers ≡ 11
   pub count : length s.registers ≡ 11
-  pub registers : (r : Reg) → IsValue mode places (known_at a.registers r) (value_at s.registers r)
+  pub registers : (r : Reg) → IsValue mode places (abstract_at a.registers r) (value_at s.registers r)
   pub cells : (i : ℕ) → i < 512 → IsCell mode (is_marked a.marks i) (slice_index_or s.memory.stack i None)
   pub memory : HoldsBytes s.memory

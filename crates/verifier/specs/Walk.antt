@@ -1,4 +1,4 @@
--- The walk over all paths: how it goes on from a step, and its refusals.
+-- The walk over all paths: how it goes on from a step, and the refusals of a step.
 use Rattle.std.specs.Prelude.{◌≡◌, ℕ, List, [], ◌∷◌, ◌++◌, Option, Some, None, Ok, Err}
 use Rattle.insn.specs.Encoding.{Fits}
 use Rattle.insn.specs.declared.instruction.Insn.{Insn}
@@ -22,15 +22,15 @@ abbrev pub IsInside : List Insn → Pending → Type 0
 IsInside code p = StartsAt code p.slot
 
 -- the pending state that a branch of the instruction at a slot leads to
-pub record IsPoint (code : List Insn) (here : ℕ) (i : Insn) (branch : Branch) (state : AbstractState) (p : Pending) : Type 0 where
+pub record LeadsTo (code : List Insn) (here : ℕ) (i : Insn) (branch : Branch) (state : AbstractState) (p : Pending) : Type 0 where
   pub leads : branch_slot code here i branch ≡ Ok p.slot
   pub state_is : p.state ≡ state
 
 -- the state that is followed next, and those that are left pending: the branch not taken comes first
 abbrev pub GoesOn : List Insn → ℕ → Insn → Next → Option Pending → List Pending → Type 0
-GoesOn code here i (answer.On known) (Some p) left = IsPoint code here i NotTaken known p × (left ≡ [])
+GoesOn code here i (answer.On known) (Some p) left = LeadsTo code here i NotTaken known p × (left ≡ [])
 GoesOn code here i (answer.On known) None left = ⊥
-GoesOn code here i (answer.Fork not_taken taken) (Some p) left = IsPoint code here i NotTaken not_taken p × (q : Pending) × IsPoint code here i Taken taken q × (left ≡ q ∷ [])
+GoesOn code here i (answer.Fork not_taken taken) (Some p) left = LeadsTo code here i NotTaken not_taken p × (q : Pending) × LeadsTo code here i Taken taken q × (left ≡ q ∷ [])
 GoesOn code here i (answer.Fork not_taken taken) None left = ⊥
 GoesOn code here i answer.Exit (Some p) left = ⊥
 GoesOn code here i answer.Exit None left = left ≡ []
@@ -53,7 +53,7 @@ pub record IsRefusedAt (code : List Insn) (here : Pending) (reason : Reason) : T
   pub fits : Fits insn
   pub step_is : step here.state insn ≡ Err reason
 
--- a refusal of one step: the path's, or want of memory
+-- a refusal of one step: a refused step of the path, or want of memory
 abbrev pub IsStepRefusal : List Insn → Pending → Refusal → Type 0
 IsStepRefusal code here (refusal.Stuck reason slot) = (slot ≡ here.slot) × IsRefusedAt code here reason
 IsStepRefusal code here (refusal.Budget slot) = ⊥

@@ -1,15 +1,15 @@
 //! The abstract state at a slot of a path: what the verifier knows of the machine there.
 
 ghost use Rattle.std.specs.Prelude.{◌≡◌, ◌+◌, ◌≤◌};
-ghost use Rattle.verifier.specs.AbstractStates.{number_alu, no_marks, is_marked, are_marked, first_known, with_known, with_least};
+ghost use Rattle.verifier.specs.AbstractStates.{number_alu, no_marks, is_marked, are_marked, first_state, with_value, with_least};
 
 use insn::{AluOp, Reg, alu};
 
 /// An abstract number: exact, or unknown.
 #[derive(Clone, Copy, Debug, PartialEq, Eq)]
 pub enum Number {
-    Exactly(u64),
-    Any,
+    Exact(u64),
+    Unknown,
 }
 
 impl Number {
@@ -18,8 +18,8 @@ impl Number {
         ensures { result ≡ number_alu op a b }
     {
         match (a, b) {
-            (Number::Exactly(a), Number::Exactly(b)) => Number::Exactly(alu(op, a, b)),
-            _ => Number::Any,
+            (Number::Exact(a), Number::Exact(b)) => Number::Exact(alu(op, a, b)),
+            _ => Number::Unknown,
         }
     }
 }
@@ -33,7 +33,7 @@ pub enum Anchor {
 
 /// The abstract value of a register.
 #[derive(Clone, Copy, Debug, PartialEq, Eq)]
-pub enum Known {
+pub enum AbstractValue {
     Nothing,
     Scalar(Number),
     Ctx,
@@ -84,7 +84,7 @@ impl Marks {
 /// datagram, `proved`.
 #[derive(Clone, Copy, Debug, PartialEq, Eq)]
 pub struct AbstractState {
-    pub registers: [Known; 11],
+    pub registers: [AbstractValue; 11],
     pub marks: Marks,
     pub proved: i64,
 }
@@ -92,11 +92,11 @@ pub struct AbstractState {
 impl AbstractState {
     /// Returns the abstract state before the first instruction.
     pub fn start() -> AbstractState
-        ensures { result ≡ first_known }
+        ensures { result ≡ first_state }
     {
-        let mut registers = [Known::Nothing; 11];
-        registers[1] = Known::Ctx;
-        registers[10] = Known::Stack(0);
+        let mut registers = [AbstractValue::Nothing; 11];
+        registers[1] = AbstractValue::Ctx;
+        registers[10] = AbstractValue::Stack(0);
         AbstractState {
             registers,
             marks: Marks::none(),
@@ -105,8 +105,8 @@ impl AbstractState {
     }
 
     /// Returns the state with a register written.
-    pub fn with(self, reg: Reg, known: Known) -> AbstractState
-        ensures { result ≡ with_known self reg known }
+    pub fn with(self, reg: Reg, known: AbstractValue) -> AbstractState
+        ensures { result ≡ with_value self reg known }
     {
         let mut registers = self.registers;
         registers[reg.number() as usize] = known;

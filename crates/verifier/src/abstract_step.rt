@@ -2,9 +2,9 @@
 
 ghost use Rattle.std.specs.Prelude.{◌≡◌};
 ghost use Rattle.semantics.specs.LooseRuns.{data_bound, end_bound};
-ghost use Rattle.verifier.specs.AbstractSteps.{read, operand_known, moved, sum_of, alu_step, order_implies, compared, branch_step, field, load, load_step, exit_step, step};
+ghost use Rattle.verifier.specs.AbstractSteps.{read, operand_abstract, moved, sum_of, alu_step, order_implies, compared, branch_step, field, load, load_step, exit_step, step};
 
-use crate::abstract_state::{AbstractState, Anchor, Known, Number};
+use crate::abstract_state::{AbstractState, AbstractValue, Anchor, Number};
 use insn::{AluOp, Condition, Insn, Operand, Reg, Size, extended};
 use semantics::{
     HEADROOM_FIRST, Reason, TAILROOM, index_in_stack, is_within, moved_place, writable,
@@ -24,21 +24,21 @@ pub enum Next {
     Exit,
 }
 
-fn read(state: &AbstractState, reg: Reg) -> Result<Known, Reason>
+fn read(state: &AbstractState, reg: Reg) -> Result<AbstractValue, Reason>
     ensures { result ≡ read state.now reg }
 {
     match state.registers[reg.number() as usize] {
-        Known::Nothing => Err(Reason::UninitRegister),
+        AbstractValue::Nothing => Err(Reason::UninitRegister),
         known => Ok(known),
     }
 }
 
-fn operand_known(state: &AbstractState, operand: Operand) -> Result<Known, Reason>
-    ensures { result ≡ operand_known state.now operand }
+fn operand_abstract(state: &AbstractState, operand: Operand) -> Result<AbstractValue, Reason>
+    ensures { result ≡ operand_abstract state.now operand }
 {
     match operand {
         Operand::Reg(reg) => read(state, reg),
-        Operand::Imm(n) => Ok(Known::Scalar(Number::Exactly(extended(n)))),
+        Operand::Imm(n) => Ok(AbstractValue::Scalar(Number::Exact(extended(n)))),
     }
 }
 
@@ -53,18 +53,20 @@ fn moved(offset: i32, by: u64) -> Result<i32, Reason>
     Ok(place as i32)
 }
 
-fn sum_of(a: Known, b: Known) -> Result<Known, Reason>
+fn sum_of(a: AbstractValue, b: AbstractValue) -> Result<AbstractValue, Reason>
     ensures { result ≡ sum_of a b }
 {
     match (a, b) {
-        (Known::Scalar(a), Known::Scalar(b)) => Ok(Known::Scalar(Number::alu(AluOp::Add, a, b))),
-        (Known::Data { anchor, offset }, Known::Scalar(Number::Exactly(b))) => {
+        (AbstractValue::Scalar(a), AbstractValue::Scalar(b)) => Ok(AbstractValue::Scalar(
+            Number::alu(AluOp::Add, a, b),
+        )),
+        (AbstractValue::Data { anchor, offset }, AbstractValue::Scalar(Number::Exact(b))) => {
             let offset = moved(offset, b)?;
-            Ok(Known::Data { anchor, offset })
+            Ok(AbstractValue::Data { anchor, offset })
         }
-        (Known::Stack(offset), Known::Scalar(Number::Exactly(b))) => {
+        (AbstractValue::Stack(offset), AbstractValue::Scalar(Number::Exact(b))) => {
             let offset = moved(offset, b)?;
-            Ok(Known::Stack(offset))
+            Ok(AbstractValue::Stack(offset))
         }
         _ => Err(Reason::PointerArithmetic),
     }
@@ -75,13 +77,13 @@ fn alu_step(state: &AbstractState, op: AluOp, dst: Reg, operand: Operand) -> Res
 {
     match op {
         AluOp::Mov => {
-            let known = operand_known(state, operand)?;
+            let known = operand_abstract(state, operand)?;
             writable(dst)?;
             Ok(Next::On(state.with(dst, known)))
         }
         AluOp::Add => {
             let a = read(state, dst)?;
-            let b = operand_known(state, operand)?;
+            let b = operand_abstract(state, operand)?;
             writable(dst)?;
             let known = sum_of(a, b)?;
             Ok(Next::On(state.with(dst, known)))
@@ -136,24 +138,24 @@ fn end_implies(condition: Condition, offset: i32) -> Result<Implied, Reason>
     }
 }
 
-fn compared(condition: Condition, a: Known, b: Known) -> Result<Implied, Reason>
+fn compared(condition: Condition, a: AbstractValue, b: AbstractValue) -> Result<Implied, Reason>
     ensures { result ≡ compared condition a b }
 {
     match (a, b) {
-        (Known::Scalar(_), Known::Scalar(_)) => Ok(Implied {
+        (AbstractValue::Scalar(_), AbstractValue::Scalar(_)) => Ok(Implied {
             not_taken: None,
             taken: None,
         }),
         (
-            Known::Data {
+            AbstractValue::Data {
                 anchor: Anchor::First,
                 offset,
             },
-            Known::End,
+            AbstractValue::End,
         ) => { data_implies(condition, offset) }
         (
-            Known::End,
-            Known::Data {
+            AbstractValue::End,
+            AbstractValue::Data {
                 anchor: Anchor::First,
                 offset,
             },
@@ -171,7 +173,7 @@ fn branch_step(
     ensures { result ≡ branch_step state.now condition dst operand }
 {
     let a = read(state, dst)?;
-    let b = operand_known(state, operand)?;
+    let b = operand_abstract(state, operand)?;
     let implied = compared(condition, a, b)?;
     Ok(Next::Fork {
         not_taken: state.with_least(implied.not_taken),
@@ -180,34 +182,39 @@ fn branch_step(
 }
 
 /// Returns the abstract value of a field of the context record.
-fn field(displacement: i16, size: Size) -> Result<Known, Reason>
+fn field(displacement: i16, size: Size) -> Result<AbstractValue, Reason>
     ensures { result ≡ field displacement size }
 {
     match (displacement, size) {
-        (0, Size::Double) => Ok(Known::Data {
+        (0, Size::Double) => Ok(AbstractValue::Data {
             anchor: Anchor::First,
             offset: 0,
         }),
-        (8, Size::Double) => Ok(Known::End),
+        (8, Size::Double) => Ok(AbstractValue::End),
         _ => Err(Reason::ContextAccess),
     }
 }
 
-fn load(state: &AbstractState, base: Known, displacement: i16, size: Size) -> Result<Known, Reason>
+fn load(
+    state: &AbstractState,
+    base: AbstractValue,
+    displacement: i16,
+    size: Size,
+) -> Result<AbstractValue, Reason>
     ensures { result ≡ load state.now base displacement size }
 {
     let n = size.bytes();
     let (is_good, reason) = match base {
-        Known::Nothing => (false, Reason::UninitRegister),
-        Known::Scalar(_) => (false, Reason::NotAPointer),
-        Known::Ctx => return field(displacement, size),
-        Known::Stack(offset) => {
+        AbstractValue::Nothing => (false, Reason::UninitRegister),
+        AbstractValue::Scalar(_) => (false, Reason::NotAPointer),
+        AbstractValue::Ctx => return field(displacement, size),
+        AbstractValue::Stack(offset) => {
             let index = index_in_stack(i64::from(offset), displacement, n).ok_or(
                 Reason::StackBounds,
             )?;
             (state.marks.are_set(index, n), Reason::UninitStack)
         }
-        Known::Data {
+        AbstractValue::Data {
             anchor: Anchor::First,
             offset,
         } => {
@@ -220,13 +227,13 @@ fn load(state: &AbstractState, base: Known, displacement: i16, size: Size) -> Re
             );
             (is_inside, Reason::DatagramBounds)
         }
-        Known::End => (
+        AbstractValue::End => (
             is_within(0, displacement, n, 0, TAILROOM as i64),
             Reason::DatagramBounds,
         ),
     };
     if is_good {
-        Ok(Known::Scalar(Number::Any))
+        Ok(AbstractValue::Scalar(Number::Unknown))
     } else {
         Err(reason)
     }
@@ -251,7 +258,7 @@ fn exit_step(state: &AbstractState) -> Result<Next, Reason>
     ensures { result ≡ exit_step state.now }
 {
     match read(state, Reg::R0)? {
-        Known::Scalar(_) => Ok(Next::Exit),
+        AbstractValue::Scalar(_) => Ok(Next::Exit),
         _ => Err(Reason::ExitNotScalar),
     }
 }

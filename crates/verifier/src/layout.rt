@@ -40,7 +40,7 @@ fn check_jump(code: &[Insn], at: Position, insn: Insn) -> Result<(), Reason>
 ///
 /// # Errors
 /// The first faulty jump, in the order of slots.
-#[tactic(auto, using(crate::proofs::Points::none_passed, crate::proofs::Points::passed_next, crate::proofs::Points::first_faulty, crate::proofs::Points::all_passed))]
+#[tactic(auto, using(crate::proofs::Positions::none_passed, crate::proofs::Positions::passed_next, crate::proofs::Positions::first_faulty, crate::proofs::Positions::all_passed))]
 fn check_jumps(code: &[Insn]) -> Result<(), Refusal>
     requires { slot_count code.now ≤ MAX_SLOTS }
     ensures ok { OnOk result (HasGoodJumps code.now) }
@@ -61,7 +61,7 @@ fn check_jumps(code: &[Insn]) -> Result<(), Refusal>
 ///
 /// # Errors
 /// The first faulty jump, in the order of slots; else the last instruction, where it is no exit.
-#[tactic(auto, using(crate::proofs::Points::falls_off))]
+#[tactic(auto, using(crate::proofs::Positions::falls_off))]
 pub fn check_layout(code: &[Insn]) -> Result<(), Refusal>
     requires { slot_count code.now ≤ MAX_SLOTS }
     ensures ok { OnOk result (IsLaidOut code.now) }

@@ -36,7 +36,7 @@ pub struct Verified {
 impl Model for Verified {
     ghost use Rattle.std.specs.Prelude.{List};
     ghost use Rattle.insn.specs.declared.instruction.Insn.{Insn};
-    ghost use Rattle.verifier.specs.Goodness.{IsVerified};
+    ghost use Rattle.verifier.specs.PendingStates.{IsVerified};
 
     ghost Value = { List Insn };
 

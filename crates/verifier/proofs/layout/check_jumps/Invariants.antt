@@ -1,5 +1,5 @@
 use Rattle.std.proofs.Common.{◌-◌, length}
-use Rattle.verifier.proofs.Points.{ArePassed}
+use Rattle.verifier.proofs.Positions.{ArePassed}
 use Rattle.verifier.proofs.layout.check_jumps.Given as goal
 
 abbrev pub invariant-loop-at : goal.invariant-loop-at

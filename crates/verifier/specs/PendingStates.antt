@@ -17,8 +17,8 @@ abbrev pub ExitsFrom : Surroundings → List Insn → State → Type 0
 ExitsFrom w code s = (verdict : ℕ) × ((run w code (ahead code s.slot) s).ending ≡ Exited verdict)
 
 -- so does every run, in real surroundings, from every member of a pending state
-abbrev pub IsGood : List Insn → Pending → Type 0
-IsGood code p = (w : Surroundings) (places : Places) (s : State) → AreReal w → s.slot ≡ p.slot → IsMember Loose places p.state s → ExitsFrom w code s
+abbrev pub AllRunsExit : List Insn → Pending → Type 0
+AllRunsExit code p = (w : Surroundings) (places : Places) (s : State) → AreReal w → s.slot ≡ p.slot → IsMember Loose places p.state s → ExitsFrom w code s
 
 -- a verified program is safe, and not too long
 pub record IsVerified (code : List Insn) : Type 0 where

@@ -1,4 +1,4 @@
--- From an instruction of a program whose layout is good, each way leads to an instruction.
+-- Positions of a program whose layout is good, and the loop over its jumps.
 use Rattle.std.proofs.Common.{◌≡◌, ℕ, ◌+◌, ◌<◌, ◌≤◌, Bool, true, false, cond, List, [], ◌∷◌, length, get_or, Result, Ok, Err, inl, inr, refl, sym, ap, ◌∙◌, arith}
 use Rattle.std.specs.Prelude.{ℤ, int_le, pos, ◌+ℤ◌, unsigned_abs}
 use Rattle.std.proofs.lemmas.Bool.{cases_lt}
@@ -13,7 +13,7 @@ use Rattle.semantics.specs.declared.fetching.Fetched.{Fetched}
 use Rattle.semantics.specs.declared.fetching.Fetched.TheVariants.{Begins, Inside, Past}
 use Rattle.semantics.specs.declared.fetching.Position.{Position}
 use Rattle.verifier.specs.Layout.{jump_checked, fetched_checked, slot_checked, HasGoodJumps, EndsInExit, IsFirstFaultyJump, IsLayoutFault}
-use Rattle.verifier.specs.Ways.{Ways, One, Two, Ends, ways_of}
+use Rattle.verifier.specs.Successors.{Successors, One, Two, Ends, successors_of}
 
 pub landing_ok : (p : Fetched) (g n : ℕ) → landing p g ≡ Ok n → (i : Insn) × (p ≡ Begins i) × (g ≡ n)
 landing_ok (Begins i) g n e = (i, refl, cc)
@@ -35,17 +35,17 @@ begins_is : (i j : Insn) → Begins i ≡ Begins j → i ≡ j
 begins_is i j e = cc
 
 -- and so does the next slot of an instruction that goes on
-pub next_begins : (code : List Insn) (slot : ℕ) (i : Insn) → EndsInExit code → fetch code slot ≡ Begins i → (ways_of i ≡ Ends → ⊥) → (j : Insn) × (fetch code (slot + slots_of i) ≡ Begins j)
+pub next_begins : (code : List Insn) (slot : ℕ) (i : Insn) → EndsInExit code → fetch code slot ≡ Begins i → (successors_of i ≡ Ends → ⊥) → (j : Insn) × (fetch code (slot + slots_of i) ≡ Begins j)
 next_begins code slot i exit here goes_on =
     elim (slots_go_on code slot i here) [
-      | inl last ↦ absurd (goes_on (ap ways_of (begins_is i Exit (sym here ∙ ap (fetch code) last ∙ exit))))
+      | inl last ↦ absurd (goes_on (ap successors_of (begins_is i Exit (sym here ∙ ap (fetch code) last ∙ exit))))
       | inr next ↦ next
     ]
 
-pub one_goes_on : (w : Ways) → One ≡ w → w ≡ Ends → ⊥
+pub one_goes_on : (w : Successors) → One ≡ w → w ≡ Ends → ⊥
 one_goes_on w e f = let bad : One ≡ Ends = e ∙ f in absurd cc
 
-pub two_goes_on : (w : Ways) → Two ≡ w → w ≡ Ends → ⊥
+pub two_goes_on : (w : Successors) → Two ≡ w → w ≡ Ends → ⊥
 two_goes_on w e f = let bad : Two ≡ Ends = e ∙ f in absurd cc
 
 past_is_not_begins : (i : Insn) → Past ≡ Begins i → ⊥
