@@ -50,7 +50,7 @@ is_frame old area stack n long short empty e =
 abbrev pub record_of : List (Option ℕ) → List ℕ → ℕ → Memory
 record_of cells bytes n = record { stack = cells; bytes = bytes; length = n }
 
--- the datagram has the bytes that were told
+-- the datagram has its length
 pub datagram_length : (area : List ℕ) (n : ℕ) → length area ≡ 65574 → n ≤ 65507 → length (take n (drop 64 area)) ≡ n
 datagram_length area n long short = length-take-le n (drop 64 area) (omega (arith, length-drop 64 area))
 

@@ -28,7 +28,7 @@ never_stuck w code d reason slot safe real datagram e =
 pub few_steps : (w : Surroundings) (code : List Insn) (d : List ℕ) (steps : ℕ) → length (run w code (length code) (start d)).path ≡ steps → steps ≤ length code
 few_steps w code d steps e = omega (arith, e, path_is_short w code (length code) (start d))
 
--- an outcome without a plan tells a run that exited without one
+-- an outcome without a plan is that of a run that exits without one
 pub is_outcome : (r s : Run) (verdict steps : ℕ) → r ≡ s → r.ending ≡ Exited verdict → length r.path ≡ steps → r.state.plan ≡ no_plan → IsOutcome (record { verdict = verdict; steps = steps; window = None; destination = None }) s
 is_outcome r s verdict steps same exits path planless = record {
   verdict = ap (λ (q : Run). q.ending) (sym same) ∙ exits;
