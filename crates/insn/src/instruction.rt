@@ -99,42 +99,52 @@ impl Insn {
         ensures value { result ≡ fields_of self }
         ensures room { HaveRoom result }
     {
-        let (opcode, dst, src, offset, imm) = match self {
-            Insn::Alu { op, dst, operand } => (
-                Opcode::Alu(op, operand.source()),
-                dst.number(),
-                operand.src(),
-                0,
-                operand.imm(),
-            ),
-            Insn::Jump { offset } => (Opcode::Jump, 0, 0, offset, 0),
+        match self {
+            Insn::Alu { op, dst, operand } => Fields {
+                opcode: Opcode::Alu(op, operand.source()).byte(),
+                dst: dst.number(),
+                src: operand.src(),
+                offset: 0,
+                imm: operand.imm(),
+            },
+            Insn::Jump { offset } => Fields {
+                opcode: Opcode::Jump.byte(),
+                dst: 0,
+                src: 0,
+                offset,
+                imm: 0,
+            },
             Insn::JumpIf {
                 condition,
                 dst,
                 operand,
                 offset,
-            } => (
-                Opcode::JumpIf(condition, operand.source()),
-                dst.number(),
-                operand.src(),
+            } => Fields {
+                opcode: Opcode::JumpIf(condition, operand.source()).byte(),
+                dst: dst.number(),
+                src: operand.src(),
                 offset,
-                operand.imm(),
-            ),
+                imm: operand.imm(),
+            },
             Insn::Load {
                 size,
                 dst,
                 base,
                 offset,
-            } => (Opcode::Load(size), dst.number(), base.number(), offset, 0),
-            Insn::Exit => (Opcode::Exit, 0, 0, 0, 0),
-        };
-        let opcode = opcode.byte();
-        Fields {
-            opcode,
-            dst,
-            src,
-            offset,
-            imm,
+            } => Fields {
+                opcode: Opcode::Load(size).byte(),
+                dst: dst.number(),
+                src: base.number(),
+                offset,
+                imm: 0,
+            },
+            Insn::Exit => Fields {
+                opcode: Opcode::Exit.byte(),
+                dst: 0,
+                src: 0,
+                offset: 0,
+                imm: 0,
+            },
         }
     }
 }
