@@ -5,7 +5,7 @@ use Rattle.std.proofs.lemmas.Int.{ints}
 use Rattle.insn.specs.declared.condition.Condition.{Condition}
 use Rattle.insn.specs.declared.condition.Condition.TheVariants as condition
 use Rattle.semantics.specs.Effects.{ordered}
-use Rattle.semantics.specs.LooseRuns.{Bound, AtMost, Below, HoldsOf, data_bound, end_bound}
+use Rattle.semantics.specs.LooseRuns.{Bound, AtMost, Below, HoldsOf, data_bound, exchanged}
 use Rattle.semantics.specs.declared.fetching.Branch.{Branch}
 use Rattle.semantics.specs.declared.fetching.Branch.TheVariants.{NotTaken, Taken}
 use Rattle.semantics.specs.declared.reason.Reason.{Reason}
@@ -58,23 +58,6 @@ where_at_most : (b : Bool) (k : ℤ) (n : ℕ) → int_le k (pos n) ≡ b → Ho
 where_at_most true k n e = le_of k (pos n) e
 where_at_most false k n e = tt
 
--- the end against a place: the same bounds, of the place against the end
-where_end_greater : (b : Bool) (k : ℤ) (n : ℕ) → int_lt k (pos n) ≡ b → HoldsOf (end_bound condition.Gt k (branch_if b)) n
-where_end_greater true k n e = lt_of k (pos n) e
-where_end_greater false k n e = tt
-
-where_end_at_least : (b : Bool) (k : ℤ) (n : ℕ) → int_le k (pos n) ≡ b → HoldsOf (end_bound condition.Ge k (branch_if b)) n
-where_end_at_least true k n e = le_of k (pos n) e
-where_end_at_least false k n e = tt
-
-unless_end_less : (b : Bool) (k : ℤ) (n : ℕ) → int_lt (pos n) k ≡ b → HoldsOf (end_bound condition.Lt k (branch_if b)) n
-unless_end_less true k n e = tt
-unless_end_less false k n e = not_lt (pos n) k e
-
-unless_end_at_most : (b : Bool) (k : ℤ) (n : ℕ) → int_le (pos n) k ≡ b → HoldsOf (end_bound condition.Le k (branch_if b)) n
-unless_end_at_most true k n e = tt
-unless_end_at_most false k n e = not_le (pos n) k e
-
 -- what the branches imply, and that the bound of the branch taken holds
 abbrev pub Implies : (Branch → Option Bound) → ℕ → Implied → Bool → Type 0
 Implies bound n implied taken = (implied ≡ implied_by bound) × HoldsOf (bound (branch_if taken)) n
@@ -87,11 +70,11 @@ module _ (claimed : Reason → Type 0) (k : ℤ) (n : ℕ) where
   first_agree condition.Le = (refl, where_at_most (int_le k (pos n)) k n refl)
   first_agree c = λ claim. refl
 
-  pub second_agree : (c : Condition) → Agree claimed (Implies (end_bound c k) n) (order_implies c (end_bound c k)) (ordered c (pos n) k)
-  second_agree condition.Gt = (refl, where_end_greater (int_lt k (pos n)) k n refl)
-  second_agree condition.Ge = (refl, where_end_at_least (int_le k (pos n)) k n refl)
-  second_agree condition.Lt = (refl, unless_end_less (int_lt (pos n) k) k n refl)
-  second_agree condition.Le = (refl, unless_end_at_most (int_le (pos n) k) k n refl)
+  pub second_agree : (c : Condition) → Agree claimed (Implies (data_bound (exchanged c) k) n) (order_implies c (data_bound (exchanged c) k)) (ordered c (pos n) k)
+  second_agree condition.Gt = (refl, where_less (int_lt k (pos n)) k n refl)
+  second_agree condition.Ge = (refl, where_at_most (int_le k (pos n)) k n refl)
+  second_agree condition.Lt = (refl, unless_greater (int_lt (pos n) k) k n refl)
+  second_agree condition.Le = (refl, unless_at_least (int_le (pos n) k) k n refl)
   second_agree c = λ claim. refl
 
 -- a least length, where there is one, is at most a length

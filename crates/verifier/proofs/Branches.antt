@@ -21,7 +21,7 @@ use Rattle.semantics.specs.Loading.{is_within, index_within, stack_first, headro
 use Rattle.semantics.specs.Effects.{is_writable, writable, near_place}
 use Rattle.semantics.specs.Slots.{fetch, target, landing}
 use Rattle.semantics.specs.SlotLaws.{some_slots}
-use Rattle.semantics.specs.LooseRuns.{Bound, data_bound, end_bound, branch_slot}
+use Rattle.semantics.specs.LooseRuns.{Bound, data_bound, exchanged, branch_slot}
 use Rattle.semantics.specs.declared.fetching.Branch.{Branch}
 use Rattle.semantics.specs.declared.fetching.Branch.TheVariants.{NotTaken, Taken}
 use Rattle.semantics.specs.declared.limits.TheConstants.{TAILROOM}
@@ -158,7 +158,7 @@ order_reasons c bound = faults IsStepReason (check (abstract.is_order c) reasons
 compared_reasons : (c : Condition) (x y : AbstractValue) → IfErr (abstract.compared c x y) IsStepReason
 compared_reasons c (known.Scalar m) (known.Scalar n) = tt
 compared_reasons c (known.Data First k) known.End = order_reasons c (data_bound c k)
-compared_reasons c known.End (known.Data First k) = order_reasons c (end_bound c k)
+compared_reasons c known.End (known.Data First k) = order_reasons c (data_bound (exchanged c) k)
 compared_reasons c x y = tt
 
 field_reason : (b b' : Bool) (x y : AbstractValue) → IfErr (if b then Ok x else (if b' then Ok y else Err reasons.ContextAccess)) IsStepReason

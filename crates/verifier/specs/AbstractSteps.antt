@@ -19,7 +19,7 @@ use Rattle.insn.specs.declared.instruction.Insn.TheVariants as insn
 use Rattle.semantics.specs.Fallible.{◌>>=◌, check}
 use Rattle.semantics.specs.Loading.{is_within, index_within, stack_first, headroom_first}
 use Rattle.semantics.specs.Effects.{writable, near_place}
-use Rattle.semantics.specs.LooseRuns.{Bound, AtMost, Below, data_bound, end_bound}
+use Rattle.semantics.specs.LooseRuns.{Bound, AtMost, Below, data_bound, exchanged}
 use Rattle.semantics.specs.declared.fetching.Branch.{Branch}
 use Rattle.semantics.specs.declared.fetching.Branch.TheVariants.{NotTaken, Taken}
 use Rattle.semantics.specs.declared.limits.TheConstants.{TAILROOM}
@@ -117,7 +117,7 @@ order_implies c bound = do
 abbrev pub compared : Condition → AbstractValue → AbstractValue → Result Implied Reason
 compared c (Scalar a) (Scalar b) = Ok (implied_by (λ branch. None))
 compared c (Data First k) End = order_implies c (data_bound c k)
-compared c End (Data First k) = order_implies c (end_bound c k)
+compared c End (Data First k) = order_implies c (data_bound (exchanged c) k)
 compared c _ _ = Err PointerCompare
 
 abbrev pub branch_step : AbstractState → Condition → Reg → Operand → Result Next Reason

@@ -1,7 +1,7 @@
 //! The abstract step. Its tests come in the order of the tagged machine.
 
 ghost use Rattle.std.specs.Prelude.{◌≡◌};
-ghost use Rattle.semantics.specs.LooseRuns.{data_bound, end_bound};
+ghost use Rattle.semantics.specs.LooseRuns.{data_bound, exchanged};
 ghost use Rattle.verifier.specs.AbstractSteps.{read, operand_abstract, moved, sum_of, alu_step, order_implies, compared, branch_step, field, load, load_step, exit_step, step};
 
 use crate::abstract_state::{AbstractState, AbstractValue, Anchor, Number};
@@ -127,7 +127,7 @@ fn data_implies(condition: Condition, offset: i32) -> Result<Implied, Reason>
 
 /// Returns what the branches of `End CONDITION offset` imply.
 fn end_implies(condition: Condition, offset: i32) -> Result<Implied, Reason>
-    ensures { result ≡ order_implies condition (end_bound condition offset) }
+    ensures { result ≡ order_implies condition (data_bound (exchanged condition) offset) }
 {
     match condition {
         Condition::Gt => data_implies(Condition::Lt, offset),
