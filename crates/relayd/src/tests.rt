@@ -2,7 +2,6 @@
 
 mod calls;
 mod faults;
-mod help;
 mod rows;
 mod running;
 mod texts;
