@@ -11,7 +11,7 @@ use crate::reporting::{Ask, report};
 use std::test::Fail;
 
 /// Decodes the bytes of a program from hexadecimal digits, with blanks between the slots.
-pub fn program(rt: &HostRuntime, slots: &str) -> Result<Vec<u8>, Fail> {
+pub fn program<R: AllocGlobal>(rt: &R, slots: &str) -> Result<Vec<u8>, Fail> {
     let mut digits = Vec::new(rt.alloc());
     for slot in slots.split_whitespace() {
         digits.extend_from_slice(slot.as_bytes())?;

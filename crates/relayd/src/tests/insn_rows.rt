@@ -2,6 +2,7 @@
 
 use super::{Verified, program};
 use insn::{DecodeError, decode, encode};
+use std::process::Abort;
 use std::test::Fail;
 
 /// Encoded instructions, and their lines.
@@ -11,7 +12,7 @@ struct Spelled {
     lines: &'static str,
 }
 
-const SPELLED: [Spelled; 11] = [
+static SPELLED: [Spelled; 11] = [
     // every register in each place of `mov`, `add`, a load and a jump
     Spelled {
         slots: "b700000001000000 b701000001000000 b702000001000000 b703000001000000 b704000001000000 \
@@ -93,20 +94,25 @@ const SPELLED: [Spelled; 11] = [
     },
 ];
 
-#[test]
-fn instructions_are_spelled(rt: HostRuntime) -> Result<(), Fail> {
-    for Spelled { slots, lines } in SPELLED {
-        let file = program(&rt, slots)?;
+/// Decodes each row, and compares its lines, and its encoding with the bytes.
+fn expect_lines<R: Abort + AllocGlobal>(rt: &R, rows: &[Spelled]) -> Result<(), Fail> {
+    for row in rows {
+        let file = program(rt, row.slots)?;
         let code = decode(rt.alloc(), &file)?;
         let mut shown = String::new(rt.alloc());
         for insn in &code {
             shown.push_str(format!(in rt.alloc(); "{insn}\n")?.as_str())?;
         }
-        assert_eq!(rt; shown.as_str(), lines);
+        assert_eq!(rt; shown.as_str(), row.lines);
         let again = encode(rt.alloc(), &code)?;
-        assert_eq!(rt; again.as_slice(), file.as_slice(), "{lines}");
+        assert_eq!(rt; again.as_slice(), file.as_slice());
     }
     Ok(())
+}
+
+#[test]
+fn instructions_are_spelled(rt: HostRuntime) -> Result<(), Fail> {
+    expect_lines(&rt, SPELLED.as_slice())
 }
 
 #[test]
@@ -129,7 +135,7 @@ fn decode_errors_are_spelled(rt: HostRuntime) -> Result<(), Fail> {
 }
 
 /// Files that encode no program.
-pub const UNDECODED: [Verified; 16] = [
+pub static UNDECODED: [Verified; 16] = [
     Verified {
         slots: "",
         line: "refused E1\n",

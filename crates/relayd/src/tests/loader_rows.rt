@@ -25,39 +25,31 @@ fn expect<R: Abort + AllocGlobal>(rt: &R, file: &[u8], line: &str, status: u8) -
     Ok(())
 }
 
-#[test]
-fn files_are_verified_and_loaded(rt: HostRuntime) -> Result<(), Fail> {
-    for Verified {
-        slots,
-        line,
-        status,
-    } in UNDECODED {
-        expect(&rt, &program(&rt, slots)?, line, status)?;
-    }
-    for Verified {
-        slots,
-        line,
-        status,
-    } in PROGRAMS {
-        expect(&rt, &program(&rt, slots)?, line, status)?;
-    }
-    for Repeated {
-        head,
-        body,
-        times,
-        tail,
-        line,
-        status,
-    } in REPEATED {
-        let mut file = program(&rt, head)?;
-        let slots = program(&rt, body)?;
-        for _ in 0..times {
-            file.extend_from_slice(&slots)?;
-        }
-        file.extend_from_slice(&program(&rt, tail)?)?;
-        expect(&rt, &file, line, status)?;
+fn expect_each<R: Abort + AllocGlobal>(rt: &R, rows: &[Verified]) -> Result<(), Fail> {
+    for row in rows {
+        expect(rt, &program(rt, row.slots)?, row.line, row.status)?;
     }
     Ok(())
+}
+
+fn expect_each_repeated<R: Abort + AllocGlobal>(rt: &R, rows: &[Repeated]) -> Result<(), Fail> {
+    for row in rows {
+        let mut file = program(rt, row.head)?;
+        let slots = program(rt, row.body)?;
+        for _ in 0..row.times {
+            file.extend_from_slice(&slots)?;
+        }
+        file.extend_from_slice(&program(rt, row.tail)?)?;
+        expect(rt, &file, row.line, row.status)?;
+    }
+    Ok(())
+}
+
+#[test]
+fn files_are_verified_and_loaded(rt: HostRuntime) -> Result<(), Fail> {
+    expect_each(&rt, UNDECODED.as_slice())?;
+    expect_each(&rt, PROGRAMS.as_slice())?;
+    expect_each_repeated(&rt, REPEATED.as_slice())
 }
 
 /// Makes a program of 44 slots with 20 jumps `jset r3, 1, +1` on a byte that may be anything. Each goes over

@@ -8,7 +8,8 @@ use crate::reporting::Ask;
 use insn::Insn;
 use loader::load;
 use machine::{
-    Addr, Context, Frame, Helpers, KEPT, Kept, NoAllocation, ROOM, Side, Silent, Sink, run, trace,
+    Addr, Context, Frame, Helpers, KEPT, Kept, NoAllocation, Outcome, ROOM, Side, Silent, Sink,
+    run, trace,
 };
 use std::alloc::Global;
 use std::process::Abort;
@@ -23,7 +24,7 @@ struct Traced {
     status: u8,
 }
 
-const TRACED: [Traced; 22] = [
+static TRACED: [Traced; 22] = [
     Traced {
         slots: FOURTH_BYTE,
         hex: "01020304",
@@ -162,21 +163,22 @@ const TRACED: [Traced; 22] = [
     },
 ];
 
-#[test]
-fn a_trace_ends_as_the_run_does(rt: HostRuntime) -> Result<(), Fail> {
-    for Traced {
-        slots,
-        hex,
-        end,
-        status,
-    } in TRACED {
-        let file = program(&rt, slots)?;
-        let report = reported(&rt, Ask::Trace { hex: Some(hex) }, &file);
-        assert!(rt; report.out.ends_with(end.as_bytes()), "{slots} {hex}");
-        assert_eq!(rt; report.status, status, "{slots} {hex}");
-        assert_eq!(rt; report.err.len(), 0, "{slots} {hex}");
+/// Traces each row, and compares the end of what is printed, and the status.
+fn expect_ends<R: Abort + AllocGlobal>(rt: &R, rows: &[Traced]) -> Result<(), Fail> {
+    for row in rows {
+        let file = program(rt, row.slots)?;
+        let end = row.end;
+        let report = reported(rt, Ask::Trace { hex: Some(row.hex) }, &file);
+        assert!(rt; report.out.ends_with(end.as_bytes()), "{end}");
+        assert_eq!(rt; report.status, row.status, "{end}");
+        assert_eq!(rt; report.err.len(), 0, "{end}");
     }
     Ok(())
+}
+
+#[test]
+fn a_trace_ends_as_the_run_does(rt: HostRuntime) -> Result<(), Fail> {
+    expect_ends(&rt, TRACED.as_slice())
 }
 
 /// Each slot of the longest program moves its own number into r0.
@@ -226,7 +228,7 @@ struct Ran {
     steps: usize,
 }
 
-const RAN: [Ran; 9] = [
+static RAN: [Ran; 9] = [
     Ran {
         slots: FOURTH_BYTE,
         hex: "",
@@ -283,29 +285,36 @@ const RAN: [Ran; 9] = [
     },
 ];
 
-#[test]
-fn a_loaded_program_runs_to_its_verdict(rt: HostRuntime) -> Result<(), Fail> {
+/// Loads and runs a program over a datagram, and returns the outcome and whether the frame is as it was.
+fn ran_over<R: AllocGlobal>(rt: &R, slots: &str, datagram: &[u8]) -> Result<(Outcome, bool), Fail>
+    requires { length datagram.now ≤ 65507 }
+{
+    let loaded = load(rt.alloc(), &program(rt, slots)?)?;
     let mut frame = Frame::new(rt.alloc())?;
-    for Ran {
-        slots,
-        hex,
-        verdict,
-        steps,
-    } in RAN {
-        let loaded = load(rt.alloc(), &program(&rt, slots)?)?;
-        let datagram = program(&rt, hex)?;
+    start_on(&mut frame, datagram);
+    let outcome = run(loaded.program(), &mut frame, &NoAllocation);
+    let kept = frame.datagram() == datagram && frame.window().is_none() && !frame.started();
+    Ok((outcome, kept))
+}
+
+fn expect_verdicts<R: Abort + AllocGlobal>(rt: &R, rows: &[Ran]) -> Result<(), Fail> {
+    for row in rows {
+        let datagram = program(rt, row.hex)?;
         assert!(rt; datagram.len() <= ROOM);
-        start_on(&mut frame, &datagram);
-        let outcome = run(loaded.program(), &mut frame, &NoAllocation);
-        assert_eq!(rt; outcome.verdict, verdict, "{slots} {hex}");
-        assert_eq!(rt; outcome.steps, steps, "{slots} {hex}");
-        assert_eq!(rt; outcome.window, None, "{slots} {hex}");
-        assert_eq!(rt; outcome.destination, None, "{slots} {hex}");
-        assert_eq!(rt; frame.datagram(), datagram.as_slice(), "{slots} {hex}");
-        assert_eq!(rt; frame.window(), None, "{slots} {hex}");
-        assert!(rt; !frame.started(), "{slots} {hex}");
+        let (outcome, kept) = ran_over(rt, row.slots, &datagram)?;
+        let hex = row.hex;
+        assert_eq!(rt; outcome.verdict, row.verdict, "{hex}");
+        assert_eq!(rt; outcome.steps, row.steps, "{hex}");
+        assert_eq!(rt; outcome.window, None, "{hex}");
+        assert_eq!(rt; outcome.destination, None, "{hex}");
+        assert!(rt; kept, "{hex}");
     }
     Ok(())
+}
+
+#[test]
+fn a_loaded_program_runs_to_its_verdict(rt: HostRuntime) -> Result<(), Fail> {
+    expect_verdicts(&rt, RAN.as_slice())
 }
 
 #[test]
@@ -325,17 +334,6 @@ fn the_longest_program_runs_to_its_exit(rt: HostRuntime) -> Result<(), Fail> {
     assert_eq!(rt; outcome.steps, 4096);
     Ok(())
 }
-
-/// Accepted programs whose runs depend on the bytes and on the room round them.
-const ACCEPTED: [&str; 2] = [
-    // 0 for an empty datagram, else 1 where the first byte is below 64, else 2
-    "7912000000000000 7913080000000000 bf24000000000000 0704000001000000 b700000000000000 \
-     2d34040000000000 7125000000000000 b700000001000000 a505010040000000 b700000002000000 \
-     9500000000000000",
-    // `ldxb r4, [r2-64]`, `ldxb r0, [r3+2]` and their sum
-    "7912000000000000 7913080000000000 7124c0ff00000000 7130020000000000 0f40000000000000 \
-     9500000000000000",
-];
 
 /// Returns `count` bytes of a fixed generator.
 fn seeded(alloc: Global, seed: u64, count: usize) -> Result<Vec<u8>, Fail> {
@@ -384,19 +382,21 @@ fn agree<R: Abort + AllocGlobal>(
     Ok(())
 }
 
-#[test]
-fn a_run_and_a_trace_agree(rt: HostRuntime) -> Result<(), Fail> {
+/// Does so with each row that is accepted.
+fn agree_on_each<R: Abort + AllocGlobal>(rt: &R, rows: &[Verified]) -> Result<(), Fail> {
     let mut ran = Frame::new(rt.alloc())?;
     let mut traced = Frame::new(rt.alloc())?;
-    for Verified { slots, status, .. } in PROGRAMS {
-        if status == 0 {
-            agree(&rt, &program(&rt, slots)?, &mut ran, &mut traced)?;
+    for row in rows {
+        if row.status == 0 {
+            agree(rt, &program(rt, row.slots)?, &mut ran, &mut traced)?;
         }
     }
-    for slots in ACCEPTED {
-        agree(&rt, &program(&rt, slots)?, &mut ran, &mut traced)?;
-    }
     Ok(())
+}
+
+#[test]
+fn a_run_and_a_trace_agree(rt: HostRuntime) -> Result<(), Fail> {
+    agree_on_each(&rt, PROGRAMS.as_slice())
 }
 
 #[test]

@@ -5,6 +5,7 @@ use crate::reporting::{Ask, report};
 use insn::Insn;
 use machine::{Lines, Sink};
 use std::io::{self, Write};
+use std::process::Abort;
 use std::test::Fail;
 
 /// `mov r0, 2` and `exit`
@@ -22,7 +23,7 @@ struct Report {
     status: u8,
 }
 
-const REPORTS: [Report; 20] = [
+static REPORTS: [Report; 20] = [
     Report {
         ask: Ask::Verify,
         slots: EXITS_WITH_TWO,
@@ -172,21 +173,21 @@ const REPORTS: [Report; 20] = [
     },
 ];
 
-#[test]
-fn reports_are_printed(rt: HostRuntime) -> Result<(), Fail> {
-    for Report {
-        ask,
-        slots,
-        out,
-        err,
-        status,
-    } in REPORTS {
-        let report = reported(&rt, ask, &program(&rt, slots)?);
-        assert_eq!(rt; report.out.as_slice(), out.as_bytes(), "{ask:?} {slots}");
-        assert_eq!(rt; report.err.as_slice(), err.as_bytes(), "{ask:?} {slots}");
-        assert_eq!(rt; report.status, status, "{ask:?} {slots}");
+/// Reports on each row, and compares what is printed, and the status.
+fn expect_reports<R: Abort + AllocGlobal>(rt: &R, rows: &[Report]) -> Result<(), Fail> {
+    for row in rows {
+        let ask = row.ask;
+        let report = reported(rt, ask, &program(rt, row.slots)?);
+        assert_eq!(rt; report.out.as_slice(), row.out.as_bytes(), "{ask:?}");
+        assert_eq!(rt; report.err.as_slice(), row.err.as_bytes(), "{ask:?}");
+        assert_eq!(rt; report.status, row.status, "{ask:?}");
     }
     Ok(())
+}
+
+#[test]
+fn reports_are_printed(rt: HostRuntime) -> Result<(), Fail> {
+    expect_reports(&rt, REPORTS.as_slice())
 }
 
 /// How many times `7f` stands in the data, what follows it, what is printed, and the status.
@@ -199,7 +200,7 @@ struct Long {
     status: u8,
 }
 
-const LONG: [Long; 5] = [
+static LONG: [Long; 5] = [
     Long {
         times: 65_507,
         then: "",
@@ -239,28 +240,27 @@ const LONG: [Long; 5] = [
     },
 ];
 
-#[test]
-fn data_has_at_most_65507_bytes(rt: HostRuntime) -> Result<(), Fail> {
-    let file = program(&rt, EXITS_WITH_TWO)?;
-    for Long {
-        times,
-        then,
-        out,
-        err,
-        status,
-    } in LONG {
+/// Traces each row, and compares what is printed, and the status.
+fn expect_long<R: Abort + AllocGlobal>(rt: &R, rows: &[Long]) -> Result<(), Fail> {
+    let file = program(rt, EXITS_WITH_TWO)?;
+    for row in rows {
         let mut digits = String::new(rt.alloc());
-        for _ in 0..times {
+        for _ in 0..row.times {
             digits.push_str("7f")?;
         }
-        digits.push_str(then)?;
+        digits.push_str(row.then)?;
         let hex = Some(digits.as_str());
-        let report = reported(&rt, Ask::Trace { hex }, &file);
-        assert_eq!(rt; report.out.as_slice(), out.as_bytes(), "{times} {then}");
-        assert_eq!(rt; report.err.as_slice(), err.as_bytes(), "{times} {then}");
-        assert_eq!(rt; report.status, status, "{times} {then}");
+        let report = reported(rt, Ask::Trace { hex }, &file);
+        assert_eq!(rt; report.out.as_slice(), row.out.as_bytes());
+        assert_eq!(rt; report.err.as_slice(), row.err.as_bytes());
+        assert_eq!(rt; report.status, row.status);
     }
     Ok(())
+}
+
+#[test]
+fn data_has_at_most_65507_bytes(rt: HostRuntime) -> Result<(), Fail> {
+    expect_long(&rt, LONG.as_slice())
 }
 
 /// A writer that accepts `room` bytes, then fails, and counts its failures.

@@ -12,7 +12,7 @@ use std::test::Fail;
 use verifier::{Refusal, Steps, verify};
 
 /// Files that encode a program.
-pub const PROGRAMS: [Verified; 42] = [
+pub static PROGRAMS: [Verified; 44] = [
     Verified {
         slots: "b700000002000000 9500000000000000",
         line: "accepted 2 instructions\n",
@@ -255,6 +255,21 @@ pub const PROGRAMS: [Verified; 42] = [
         line: "refused V4 at 2\n",
         status: 1,
     },
+    // 0 for an empty datagram, else 1 where the first byte is below 64, else 2
+    Verified {
+        slots: "7912000000000000 7913080000000000 bf24000000000000 0704000001000000 b700000000000000 \
+             2d34040000000000 7125000000000000 b700000001000000 a505010040000000 b700000002000000 \
+             9500000000000000",
+        line: "accepted 11 instructions\n",
+        status: 0,
+    },
+    // `ldxb r4, [r2-64]`, `ldxb r0, [r3+2]` and their sum
+    Verified {
+        slots: "7912000000000000 7913080000000000 7124c0ff00000000 7130020000000000 0f40000000000000 \
+             9500000000000000",
+        line: "accepted 6 instructions\n",
+        status: 0,
+    },
     // code that no path reaches is not followed
     Verified {
         slots: "b700000002000000 9500000000000000 b70a000000000000 9500000000000000",
@@ -276,7 +291,7 @@ pub struct Repeated {
 
 /// A jump with `k` jumps behind it takes `S(k)` steps: its own and one `mov`, and those behind it twice. So
 /// `S(k) = 2 + 2 S(k - 1)`, with `S(-1) = 1` for the exit, and `S(k) = 6 * 2^k - 2`.
-pub const REPEATED: [Repeated; 5] = [
+pub static REPEATED: [Repeated; 5] = [
     // the longest program, and one slot more
     Repeated {
         head: "",

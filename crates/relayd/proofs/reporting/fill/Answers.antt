@@ -40,3 +40,6 @@ pub returns-then-n-gt-ROOM-clause-refused : goal.returns-then-n-gt-ROOM-clause-r
 returns-then-n-gt-ROOM-clause-refused c =
     let digits : digits_of c.args.hex ≡ c.as_bytes-digits.result.now = search rules in
     (refl, subst HasNoDatagram (sym digits) (too_many c.as_bytes-digits.result.now (omega (arith, c.if-n-gt-ROOM))))
+
+pub returns-in-Ok-clause-context : goal.returns-in-Ok-clause-context
+returns-in-Ok-clause-context c = search rules

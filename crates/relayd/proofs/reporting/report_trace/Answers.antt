@@ -9,3 +9,6 @@ returns-clause-printed g c =
     let exits : IfOk c.trace-ended.result (λ o. Succeeds (Trace c.args.hex) c.args.file.now) = search rules in
     let stuck : IfErr c.trace-ended.result (λ e. PrintsRefusal (Trace c.args.hex) c.args.file.now) = search rules in
     ended_printed (Trace c.args.hex) c.args.file.now c.trace-ended.result c.report_end.result exits stuck c.report_end.ensures.printed
+
+pub returns-in-Err : goal.returns-in-Err
+returns-in-Err g c = search rules
