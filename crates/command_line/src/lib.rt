@@ -4,7 +4,9 @@
 ghost use Rattle.std.specs.Prelude.{◌≡◌, true, false, map, IfOk, IfSome, IfNone, IsSomeAnd};
 ghost use Rattle.clap.specs.Words.{FailsBy, has_subcommand, rule_of, subcommand_rows_of};
 ghost use Rattle.command_line.specs.Commands.{HasShape, data_option, faults_of, file_argument, relayd_command, subcommand_in, trace_command, verify_command};
+ghost use Rattle.command_line.specs.Lines.{IsLineOf, IsParsedAs};
 ghost use Rattle.command_line.specs.Requests.{Requests, RequestsNothing};
+ghost use Rattle.command_line.specs.declared.Request.{Request};
 
 use clap::{Arg, ArgAction, ArgMatches, Command, Error};
 use std::alloc::{AllocError, Global};
@@ -79,7 +81,8 @@ fn relayd<'a>(alloc: Global) -> Result<Command<'a>, AllocError>
         .subcommand(trace(alloc)?)
 }
 
-/// Parses the words of a command line, of which the first is the program's name.
+/// Parses the words of a command line, of which the first is the program's name. What it accepts, and
+/// the values that it finds, are those of clap's definition of a parse.
 ///
 /// # Errors
 /// Returns an error where a word is wrong or missing, where the words request a help text, and where
@@ -88,6 +91,7 @@ pub fn line<'a, S: AsStr>(alloc: Global, words: &'a [S]) -> Result<ArgMatches<'a
     ensures present { IfOk result (λ m. has_subcommand m ≡ true) }
     ensures found { IfOk result (λ m. subcommand_rows_of m ≡ subcommand_in (map S.text words.entry.now)) }
     ensures refused { FailsBy (faults_of (map S.text words.entry.now)) result }
+    ensures usual { (r : Request) → IsLineOf r (map S.text words.entry.now) → IsParsedAs r result }
 {
     relayd(alloc)?.try_get_matches_from(words)
 }
