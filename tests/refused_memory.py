@@ -40,7 +40,7 @@ def counted_run(words, **environment):
     The script that builds it would be refused memory too.
     """
     read_end, write_end = os.pipe()
-    given = {**os.environ, "REFUSE_TELL": str(write_end), **environment}
+    given = {**os.environ, "REFUSE_REPORT": str(write_end), **environment}
     end = run(words, PROGRAM, env=given, pass_fds=[write_end])
     os.close(write_end)
     with open(read_end, "rb") as refused:
