@@ -1,22 +1,21 @@
-"""Runs the built relayd on files, data and outputs that are not as they should be.
+"""Runs the built relayd on bad files, bad data, bad command lines and outputs that fail.
 
-Each case names the words, the status and the whole text that relayd has to print on each stream.
+Each case gives the words, the status and the whole text that relayd has to print to each stream.
 """
 
 import os
 import pathlib
-import subprocess
 import sys
 import tempfile
 
-HERE = pathlib.Path(__file__).resolve().parent
-RELAYD = HERE.parent / "relayd"
+from program import SCRIPT, finish, run
+
 # `mov r0, 2` and `exit`
 GOOD = bytes.fromhex("b700000002000000 9500000000000000")
 ACCEPTED = "accepted 2 instructions\n"
 TRACED = "0 mov r0, 2\n1 exit\nexit 2\nwindow none\ndestination none\n"
 LONGEST = 65507
-# the words, the status, the standard output, the standard error
+# the words, the status, standard output, standard error
 CASES = [
     (["verify", "good"], 0, ACCEPTED, ""),
     (["trace", "good"], 0, TRACED, ""),
@@ -31,18 +30,18 @@ CASES = [
     (["trace", "cut"], 1, "", "refused E2\n"),
     (["verify", "long"], 1, "refused E3\n", ""),
     (["trace", "long"], 1, "", "refused E3\n"),
-    # an odd number of digits, and what is no digit
+    # an odd number of digits, and a character that is no digit
     (["trace", "good", "--data", "0"], 1, "", "refused data\n"),
     (["trace", "good", "--data", "0g"], 1, "", "refused data\n"),
     (["trace", "good", "--data", "fF"], 0, TRACED, ""),
     (["trace", "good", "--data", ""], 0, TRACED, ""),
     (["trace", "good", "--data", "7f" * LONGEST], 0, TRACED, ""),
     (["trace", "good", "--data", "7f" * (LONGEST + 1)], 1, "", "refused data\n"),
-    # the file is read before the data is looked at, and the data before the program
+    # the file is read before the data is tested, and the data is tested before the file is decoded
     (["trace", "missing", "--data", "0"], 3, "", "cannot read missing\n"),
     (["trace", "empty", "--data", "0"], 1, "", "refused data\n"),
 ]
-# command lines that are wrong: the status is 2, and a text goes to the standard error alone
+# wrong command lines: the status is 2, and a text goes to standard error alone
 WRONG = [
     [],
     ["load", "good"],
@@ -62,59 +61,51 @@ def write_files(folder):
     (folder / "folder").mkdir()
 
 
-def said(folder, words, **streams):
-    """The status of relayd on these words, and what it writes to each stream that is not given."""
-    pipes = {"stdout": subprocess.PIPE, "stderr": subprocess.PIPE, **streams}
-    ran = subprocess.run([RELAYD, *words], cwd=folder, text=True, check=False, **pipes)
-    return ran.returncode, ran.stdout, ran.stderr
-
-
 def shown(words):
-    """The words, cut where they are long."""
+    """Returns the words in a line, the long ones cut."""
     return " ".join(word[:20] for word in words)
 
 
-def faults_of_cases(folder):
-    """The cases that end otherwise than they have to."""
+def failures_of_cases(folder):
+    """Yields the cases that do not end as they have to."""
     for words, *wanted in CASES:
-        got = said(folder, words)
+        got = run(words, cwd=folder)
         if got != tuple(wanted):
             yield f"{shown(words)}: {got}"
 
 
-def faults_of_wrong_lines(folder):
-    """The wrong command lines that aren't told."""
+def failures_of_wrong_lines(folder):
+    """Yields the wrong command lines that are not refused."""
     for words in WRONG:
-        status, out, err = said(folder, words)
+        status, out, err = run(words, cwd=folder)
         if (status, out) != (2, "") or not err:
             yield f"{shown(words)}: {(status, out, err)}"
 
 
 def with_closed_output(folder, words):
-    """The same with a standard output that is closed from the start."""
-    closed = ["sh", "-c", 'exec "$0" "$@" >&-', RELAYD, *words]
-    ran = subprocess.run(closed, cwd=folder, text=True, check=False, stderr=subprocess.PIPE)
-    return ran.returncode, None, ran.stderr
+    """Runs relayd with standard output closed from the start."""
+    closed = ["-c", 'exec "$0" "$@" >&-', SCRIPT, *words]
+    return run(closed, "sh", cwd=folder, stdout=None)
 
 
 def with_unread_output(folder, words):
-    """The same with a pipe that nobody reads as standard output."""
+    """Runs relayd with a pipe that nobody reads as standard output."""
     read_end, write_end = os.pipe()
     os.close(read_end)
     try:
-        return said(folder, words, stdout=write_end)
+        return run(words, cwd=folder, stdout=write_end)
     finally:
         os.close(write_end)
 
 
 def with_full_output(folder, words):
-    """The same with a device that is full as standard output."""
+    """Runs relayd with a full device as standard output."""
     with open("/dev/full", "w", encoding="utf-8") as full:
-        return said(folder, words, stdout=full)
+        return run(words, cwd=folder, stdout=full)
 
 
-def faults_of_output(folder):
-    """The outputs that fail and aren't told."""
+def failures_of_output(folder):
+    """Yields the failing outputs that are not reported."""
     for words in (["verify", "good"], ["trace", "good"], ["--help"]):
         for end in (with_closed_output, with_unread_output, with_full_output):
             got = end(folder, words)
@@ -123,13 +114,13 @@ def faults_of_output(folder):
 
 
 def main():
-    """Runs every case, and answers the exit status."""
+    """Runs every case, and returns the exit status."""
     with tempfile.TemporaryDirectory() as name:
         folder = pathlib.Path(name)
         write_files(folder)
-        faults = [*faults_of_cases(folder), *faults_of_wrong_lines(folder), *faults_of_output(folder)]
-    print("\n".join(faults + [f"files, data and outputs: {len(faults)} faults"]))
-    return 1 if faults else 0
+        cases = (failures_of_cases, failures_of_wrong_lines, failures_of_output)
+        failures = [found for case in cases for found in case(folder)]
+    return finish(failures, f"files, data and outputs: {len(failures)} failures")
 
 
 if __name__ == "__main__":

@@ -6,46 +6,41 @@ those that the kernel expects.
 
 import json
 import pathlib
-import subprocess
 import sys
 import tempfile
 
-HERE = pathlib.Path(__file__).resolve().parent
-RELAYD = HERE.parent / "relayd"
+from program import TOP, finish, run
+
+VECTORS = TOP / "tests" / "kernel_vectors.json"
 
 
-def lines_of(*words):
-    """The lines that relayd prints on these words."""
-    ran = subprocess.run([RELAYD, *words], capture_output=True, text=True, check=False)
-    return ran.stdout.splitlines()
-
-
-def fault_of(vector, program):
-    """What is wrong with relayd's answers to one vector, or None."""
+def failure_of(vector, program):
+    """Returns what is wrong with relayd's output on one vector, or None."""
     program.write_bytes(bytes.fromhex(vector["bytes_hex"]))
     count = len(vector["bytes_hex"]) // 16
-    verdict = lines_of("verify", str(program))
-    if verdict != [f"accepted {count} instructions"]:
+    _, verdict, _ = run(["verify", program])
+    if verdict != f"accepted {count} instructions\n":
         return f"verify prints {verdict}"
-    trace = lines_of("trace", str(program), "--data", vector["datagram_hex"])
-    exits = [int(line.split()[1]) for line in trace if line.startswith("exit ")]
+    _, out, _ = run(["trace", program, "--data", vector["datagram_hex"]])
+    lines = out.splitlines()
+    exits = [int(line.split()[1]) for line in lines if line.startswith("exit ")]
     if [number % 2**32 for number in exits] != [vector["expected_r0_low32"]]:
-        return f"trace ends in {trace[-3:]}"
+        return f"trace ends in {lines[-3:]}"
     return None
 
 
 def main():
-    """Runs every vector, and answers the exit status."""
-    vectors = json.loads((HERE / "kernel_vectors.json").read_text(encoding="utf-8"))["vectors"]
-    faults = []
+    """Runs every vector, and returns the exit status."""
+    vectors = json.loads(VECTORS.read_text(encoding="utf-8"))["vectors"]
+    failures = [] if vectors else ["no vectors"]
     with tempfile.TemporaryDirectory() as folder:
         program = pathlib.Path(folder) / "program.bpf"
         for vector in vectors:
-            fault = fault_of(vector, program)
-            if fault:
-                faults.append(f"{vector['id']} {vector['name']}: {fault}")
-    print("\n".join(faults + [f"kernel vectors: {len(vectors) - len(faults)} of {len(vectors)} agree"]))
-    return 1 if faults or not vectors else 0
+            failure = failure_of(vector, program)
+            if failure:
+                failures.append(f"{vector['id']} {vector['name']}: {failure}")
+    agree = len(vectors) - len(failures)
+    return finish(failures, f"kernel vectors: {agree} of {len(vectors)} agree")
 
 
 if __name__ == "__main__":

@@ -1,5 +1,5 @@
 /* Preloaded into a program, refuses some of its allocations: those whose numbers, counted from 1, lie
-   in REFUSE_FIRST to REFUSE_LAST. For each it writes a byte to the file descriptor REFUSE_TELL. */
+   in REFUSE_FIRST to REFUSE_LAST. For each it writes a byte to the file descriptor REFUSE_REPORT. */
 #define _GNU_SOURCE
 #include <dlfcn.h>
 #include <errno.h>
@@ -8,28 +8,28 @@
 #include <unistd.h>
 
 static unsigned long first, last, count;
-static int tell;
+static int report_to;
 
-/* What a variable of the environment says, or 0. */
-static unsigned long told(const char *name) {
+/* Returns the number in a variable of the environment, or 0. */
+static unsigned long number_in(const char *name) {
   const char *text = getenv(name);
   return text ? strtoul(text, NULL, 10) : 0;
 }
 
-/* Runs before `main`: what was allocated till then is not counted. */
+/* Runs before `main`: earlier allocations are not counted. */
 __attribute__((constructor)) static void begin(void) {
-  first = told("REFUSE_FIRST");
-  last = told("REFUSE_LAST");
-  tell = (int)told("REFUSE_TELL");
+  first = number_in("REFUSE_FIRST");
+  last = number_in("REFUSE_LAST");
+  report_to = (int)number_in("REFUSE_REPORT");
   count = 0;
 }
 
-/* Counts an allocation, and says whether it is refused. */
+/* Counts an allocation, and returns whether it is refused. */
 static int refused(void) {
   count += 1;
   if (count < first || count > last)
     return 0;
-  if (write(tell, "x", 1) != 1)
+  if (write(report_to, "x", 1) != 1)
     _exit(99);
   errno = ENOMEM;
   return 1;

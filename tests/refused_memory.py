@@ -1,8 +1,8 @@
 """Runs the built relayd with each of its allocations refused in turn, alone and with all that follow.
 
-A run that is refused memory has to end as one that isn't, or with `out of memory` on the standard
-error, nothing on the standard output, and the status 4. Allocations are counted from a constructor of
-the preloaded library on, so all those that `main` makes. It wants gcc.
+A run whose allocations are refused has to end as one whose are not, or with `out of memory` on standard
+error, nothing on standard output, and the status 4. Allocations are counted from a constructor of the
+preloaded library on, so all those of `main` are counted. It needs gcc.
 """
 
 import os
@@ -11,17 +11,15 @@ import subprocess
 import sys
 import tempfile
 
-HERE = pathlib.Path(__file__).resolve().parent
-TOP = HERE.parent
-# the program itself, and not the script that builds and starts it: a shell would be refused memory too
-PROGRAM = TOP / "crates" / "relayd" / "out" / "relayd"
+from program import PROGRAM, TOP, build, finish, run
+
 EXAMPLES = TOP / "examples"
 FOURTH_BYTE = str(EXAMPLES / "fourth_byte.bpf")
 BRANCHES = str(EXAMPLES / "first_byte_class.bpf")
 OUT_OF_MEMORY = (4, "", "out of memory\n")
-# no number of an allocation comes near this one
+# more than the number of any allocation
 EVER = 10**9
-# command lines, each with its status where memory is there
+# command lines, each with its status where no allocation is refused
 CASES = [
     (["verify", FOURTH_BYTE], 0),
     (["verify", BRANCHES], 0),
@@ -36,69 +34,63 @@ CASES = [
 ]
 
 
-def run(words, **environment):
-    """The status and the two outputs of the program on these words, and how often it was refused."""
+def counted_run(words, **environment):
+    """Runs the program itself on these words, and returns how it ended and how many refusals it had.
+
+    The script that builds it would be refused memory too.
+    """
     read_end, write_end = os.pipe()
-    given = {**os.environ, "REFUSE_TELL": str(write_end), **environment}
-    ran = subprocess.run(
-        [PROGRAM, *words],
-        env=given,
-        pass_fds=[write_end],
-        capture_output=True,
-        text=True,
-        check=False,
-    )
+    given = {**os.environ, "REFUSE_REPORT": str(write_end), **environment}
+    end = run(words, PROGRAM, env=given, pass_fds=[write_end])
     os.close(write_end)
-    with open(read_end, "rb") as told:
-        refusals = len(told.read())
-    return (ran.returncode, ran.stdout, ran.stderr), refusals
+    with open(read_end, "rb") as refused:
+        return end, len(refused.read())
 
 
 def refused_runs(words, library, lasting):
-    """The ends of the program with its first, second, .. allocation refused, until none is.
+    """Yields each number of an allocation, with how the program ends where that one is refused.
 
     `lasting` says whether those that follow are refused too.
     """
     for first in range(1, EVER):
         last = EVER if lasting else first
         preloaded = {"LD_PRELOAD": library, "REFUSE_FIRST": str(first), "REFUSE_LAST": str(last)}
-        end, refusals = run(words, **preloaded)
+        end, refusals = counted_run(words, **preloaded)
         if refusals == 0:
             return
         yield first, end
 
 
-def faults_of(words, status, library):
-    """What is wrong with the runs on these words, and how many there were."""
-    normal, _ = run(words)
-    faults = [] if normal[0] == status else [f"{words}: {normal}"]
+def failures_of(words, status, library):
+    """Returns what is wrong with the runs on these words, and how many there were."""
+    normal, _ = counted_run(words)
+    failures = [] if normal[0] == status else [f"{words}: {normal}"]
     count = 0
     for lasting in (False, True):
         ends = dict(refused_runs(words, library, lasting))
         count += len(ends)
         if OUT_OF_MEMORY not in ends.values():
-            faults.append(f"{words}: never out of memory")
+            failures.append(f"{words}: never out of memory")
         for first, end in ends.items():
             if end not in (normal, OUT_OF_MEMORY):
-                faults.append(f"{words}, refused at {first} (lasting: {lasting}): {end}")
-    return faults, count
+                failures.append(f"{words}, refused at {first} (lasting: {lasting}): {end}")
+    return failures, count
 
 
 def main():
-    """Runs every case, and answers the exit status."""
-    # builds the program where it isn't there
-    subprocess.run([TOP / "relayd", "--help"], stdout=subprocess.DEVNULL, check=True)
-    faults, runs = [], 0
+    """Runs every case, and returns the exit status."""
+    build()
+    failures, runs = [], 0
     with tempfile.TemporaryDirectory() as folder:
         library = str(pathlib.Path(folder) / "refuse_malloc.so")
-        build = ["gcc", "-O1", "-Wall", "-shared", "-fPIC", "-o", library, HERE / "refuse_malloc.c"]
-        subprocess.run([*build, "-ldl"], check=True)
+        source = TOP / "tests" / "refuse_malloc.c"
+        command = ["gcc", "-O1", "-Wall", "-shared", "-fPIC", "-o", library, source, "-ldl"]
+        subprocess.run(command, check=True)
         for words, status in CASES:
-            found, count = faults_of(words, status, library)
-            faults += found
+            found, count = failures_of(words, status, library)
+            failures += found
             runs += count
-    print("\n".join(faults + [f"refused memory: {runs} runs, {len(faults)} faults"]))
-    return 1 if faults else 0
+    return finish(failures, f"refused memory: {runs} runs, {len(failures)} failures")
 
 
 if __name__ == "__main__":

@@ -1,57 +1,79 @@
-//! The words of a command line, read.
+//! Parses the command line of relayd.
 #![tactic(auto)]
 
-ghost use Rattle.std.specs.Prelude.{◌≡◌, true, IfOk, IfSome, IfNone, IsSomeAnd};
-ghost use Rattle.clap.specs.Words.{has_subcommand, subcommand_rows_of};
-ghost use Rattle.command_line.specs.Requests.{Asks, AsksForNone};
+ghost use Rattle.std.specs.Prelude.{◌≡◌, true, false, map, IfOk, IfSome, IfNone, IsSomeAnd};
+ghost use Rattle.clap.specs.Words.{FailsBy, has_subcommand, rule_of, subcommand_rows_of};
+ghost use Rattle.command_line.specs.Commands.{HasShape, data_option, faults_of, file_argument, relayd_command, subcommand_in, trace_command, verify_command};
+ghost use Rattle.command_line.specs.Lines.{IsLineOf, IsParsedAs};
+ghost use Rattle.command_line.specs.Requests.{Requests, RequestsNothing};
+ghost use Rattle.command_line.specs.declared.Request.{Request};
 
-use clap::error::ErrorKind;
 use clap::{Arg, ArgAction, ArgMatches, Command, Error};
 use std::alloc::{AllocError, Global};
 use std::convert::AsStr;
 
-/// What a command line asks for.
+/// A request of the command line.
 #[derive(Clone, Copy, Debug)]
 pub enum Request<'a> {
-    /// Verify the program of a file.
+    /// Verify the program in a file.
     Verify {
         file: &'a str,
     },
-    /// Run the program of a file, and print each step. `data` is the datagram, in hexadecimal digits.
+    /// Run the program in a file over a datagram and print each step. `data` is the datagram in
+    /// hexadecimal digits, and `None` stands for the empty one.
     Trace {
         file: &'a str,
         data: Option<&'a str>,
     },
 }
 
-fn file<'a>(alloc: Global) -> Arg<'a> {
+/// Returns the argument `FILE`.
+fn file<'a>(alloc: Global) -> Arg<'a>
+    ensures rule { rule_of result ≡ file_argument }
+    ensures local { result.global ≡ false }
+{
     Arg::new(alloc, "file")
         .value_name("FILE")
-        .help("A program: the bytes of its instructions (RFC 9669), 1 to 4,096 slots of 8")
+        .help("The program: its encoded instructions (RFC 9669), 1 to 4,096 slots of 8 bytes")
         .required(true)
         .action(ArgAction::Set)
 }
 
-fn verify<'a>(alloc: Global) -> Result<Command<'a>, AllocError> {
+/// Returns the option `--data HEX`.
+fn data<'a>(alloc: Global) -> Arg<'a>
+    ensures rule { rule_of result ≡ data_option }
+    ensures local { result.global ≡ false }
+{
+    Arg::new(alloc, "data")
+        .long("data")
+        .value_name("HEX")
+        .help("The datagram in hexadecimal digits, at most 65,507 bytes; empty by default")
+        .action(ArgAction::Set)
+}
+
+/// Returns the subcommand `verify`.
+fn verify<'a>(alloc: Global) -> Result<Command<'a>, AllocError>
+    ensures { IfOk result (HasShape verify_command) }
+{
     Command::new(alloc, "verify")
-        .about("Say whether a program may be loaded, or which instruction is refused and why")
+        .about("Verify a program, and print which instruction is refused and why")
         .arg(file(alloc))
 }
 
-fn trace<'a>(alloc: Global) -> Result<Command<'a>, AllocError> {
-    let data = Arg::new(alloc, "data")
-        .long("data")
-        .value_name("HEX")
-        .help("The datagram in hexadecimal digits, at most 65,507 bytes; without it, the empty one")
-        .action(ArgAction::Set);
+/// Returns the subcommand `trace`.
+fn trace<'a>(alloc: Global) -> Result<Command<'a>, AllocError>
+    ensures { IfOk result (HasShape trace_command) }
+{
     Command::new(alloc, "trace")
-        .about("Run a program over one datagram and print each instruction that it comes to")
+        .about("Run a program over one datagram, and print each instruction as it is reached")
         .arg(file(alloc))?
-        .arg(data)
+        .arg(data(alloc))
 }
 
-/// The command, with all that it takes.
-fn relayd<'a>(alloc: Global) -> Result<Command<'a>, AllocError> {
+/// Returns the whole command.
+fn relayd<'a>(alloc: Global) -> Result<Command<'a>, AllocError>
+    ensures { IfOk result (HasShape relayd_command) }
+{
     Command::new(alloc, "relayd")
         .about("A TURN relay whose forwarding rules are loaded programs of the BPF instruction set")
         .subcommand_required(true)
@@ -59,25 +81,26 @@ fn relayd<'a>(alloc: Global) -> Result<Command<'a>, AllocError> {
         .subcommand(trace(alloc)?)
 }
 
-/// The words of a command line, the program's name first, matched against the command.
+/// Parses the words of a command line, of which the first is the program's name. What it accepts, and
+/// the values that it finds, are those of clap's definition of a parse.
 ///
 /// # Errors
-/// A fault of the words, or the help that they ask for. Where it answers `Ok` a subcommand is there.
+/// Returns an error where a word is wrong or missing, where the words request a help text, and where
+/// memory runs out.
 pub fn line<'a, S: AsStr>(alloc: Global, words: &'a [S]) -> Result<ArgMatches<'a>, Error>
-    ensures { IfOk result (λ m. has_subcommand m ≡ true) }
+    ensures present { IfOk result (λ m. has_subcommand m ≡ true) }
+    ensures found { IfOk result (λ m. subcommand_rows_of m ≡ subcommand_in (map S.text words.entry.now)) }
+    ensures refused { FailsBy (faults_of (map S.text words.entry.now)) result }
+    ensures usual { (r : Request) → IsLineOf r (map S.text words.entry.now) → IsParsedAs r result }
 {
-    let matches = relayd(alloc)?.try_get_matches_from(words)?;
-    if matches.subcommand().is_some() {
-        return Ok(matches);
-    }
-    let text = "a command is wanted";
-    Err(relayd(alloc)?.error(ErrorKind::MissingSubcommand, text)?)
+    relayd(alloc)?.try_get_matches_from(words)
 }
 
-/// What matched words ask for: `None` where they name no command that this program has.
+/// Returns the request of a parsed command line, or `None` where the matches are not those of a
+/// subcommand of relayd.
 pub fn requested<'a>(matches: &ArgMatches<'a>) -> Option<Request<'a>>
-    ensures found { IfSome result (λ r. IsSomeAnd (subcommand_rows_of matches.now) (λ p. Asks p r)) }
-    ensures none { IfNone result (IfSome (subcommand_rows_of matches.now) AsksForNone) }
+    ensures found { IfSome result (λ r. IsSomeAnd (subcommand_rows_of matches.now) (λ p. Requests p r)) }
+    ensures none { IfNone result (IfSome (subcommand_rows_of matches.now) RequestsNothing) }
 {
     let (name, matches) = matches.subcommand()?;
     let file = matches.get_str("file")?;
@@ -90,3 +113,6 @@ pub fn requested<'a>(matches: &ArgMatches<'a>) -> Option<Request<'a>>
         _ => None,
     }
 }
+
+#[cfg(test)]
+mod tests;

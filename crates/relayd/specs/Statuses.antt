@@ -1,70 +1,80 @@
--- What an exit status says of a program file.
+-- What the exit status says about the program file and the data.
 use Rattle.std.specs.Prelude.{◌≡◌, ◌⊎◌, ℕ, List}
+use Rattle.insn.specs.Encoding.{Encodes}
 use Rattle.insn.specs.declared.instruction.Insn.{Insn}
 use Rattle.insn.specs.Refusal.{IsRefused}
-use Rattle.relayd.specs.Traces.{digits_of, SpellsNothing, TraceEnds, IsExit, IsStuck}
-use Rattle.relayd.specs.declared.fault.Fault.{Fault}
-use Rattle.relayd.specs.declared.fault.Fault.TheVariants as fault
+use Rattle.insn.specs.declared.refusal.DecodeError.{DecodeError}
+use Rattle.insn.specs.declared.refusal.DecodeError.TheVariants as decode
+use Rattle.verifier.specs.declared.refusal.Refusal.TheVariants as verify
+use Rattle.loader.specs.Loads.{IsLoaded, IsLoadRefusal}
+use Rattle.loader.specs.declared.refusal.LoadError.{LoadError}
+use Rattle.loader.specs.declared.refusal.LoadError.TheVariants as load
+use Rattle.relayd.specs.Traces.{digits_of, HasDatagram, HasNoDatagram, TraceEnds, IsExit, IsStuck}
+use Rattle.relayd.specs.declared.error.ReportError.{ReportError}
+use Rattle.relayd.specs.declared.error.ReportError.TheVariants as error
 use Rattle.relayd.specs.declared.reporting.Ask.{Ask}
 use Rattle.relayd.specs.declared.reporting.Ask.TheVariants as ask
-use Rattle.loader.specs.Loads.{IsLoaded, IsLoadRefusal}
-use Rattle.insn.specs.declared.refusal.DecodeError.TheVariants as decoding
-use Rattle.verifier.specs.declared.refusal.Refusal.TheVariants as refusal
-use Rattle.loader.specs.declared.refusal.LoadError.{LoadError}
-use Rattle.loader.specs.declared.refusal.LoadError.TheVariants.{Decode, Verify}
 
--- the status of a fault: 1 for a refusal, 3 for an output that fails, 4 for want of memory
-abbrev pub status_of : Fault → ℕ
-status_of fault.Data = 1
-status_of (fault.Program e) = 1
-status_of fault.Output = 3
-status_of fault.Memory = 4
+-- the exit status of an error: 1 for a refusal, 3 where the output fails, 4 where memory runs out
+abbrev pub status_of : ReportError → ℕ
+status_of error.Data = 1
+status_of (error.Program e) = 1
+status_of error.Output = 3
+status_of error.Memory = 4
 
--- the bytes encode a program of which every run exits
-abbrev pub IsSafeProgram : List ℕ → Type 0
-IsSafeProgram bytes = (code : List Insn) × IsLoaded code bytes
+-- the file encodes a safe program
+abbrev pub IsSafeFile : List ℕ → Type 0
+IsSafeFile file = (code : List Insn) × IsLoaded code file
 
--- a fault of the bytes or of their program, and no want of memory
-abbrev pub IsFault : LoadError → Type 0
-IsFault (Decode decoding.Empty) = Unit {0}
-IsFault (Decode decoding.NotEights) = Unit {0}
-IsFault (Decode decoding.TooLong) = Unit {0}
-IsFault (Decode (decoding.Opcode slot)) = Unit {0}
-IsFault (Decode (decoding.Register slot)) = Unit {0}
-IsFault (Decode (decoding.UnusedField slot)) = Unit {0}
-IsFault (Decode (decoding.WideCut slot)) = Unit {0}
-IsFault (Decode decoding.Memory) = ⊥
-IsFault (Verify (refusal.Stuck reason slot)) = Unit {0}
-IsFault (Verify (refusal.Budget slot)) = Unit {0}
-IsFault (Verify (refusal.Memory slot)) = ⊥
+-- the error is about the file, and not that memory ran out
+abbrev pub IsAboutFile : LoadError → Type 0
+IsAboutFile (load.Decode decode.Empty) = Unit {0}
+IsAboutFile (load.Decode decode.NotEights) = Unit {0}
+IsAboutFile (load.Decode decode.TooLong) = Unit {0}
+IsAboutFile (load.Decode (decode.Opcode slot)) = Unit {0}
+IsAboutFile (load.Decode (decode.Register slot)) = Unit {0}
+IsAboutFile (load.Decode (decode.UnusedField slot)) = Unit {0}
+IsAboutFile (load.Decode (decode.WideCut slot)) = Unit {0}
+IsAboutFile (load.Decode decode.Memory) = ⊥
+IsAboutFile (load.Verify (verify.Stuck reason slot)) = Unit {0}
+IsAboutFile (load.Verify (verify.Budget slot)) = Unit {0}
+IsAboutFile (load.Verify (verify.Memory slot)) = ⊥
 
--- there is a fault for which the bytes are not loaded
+-- the loader refuses the file
 abbrev pub IsRefusedFile : List ℕ → Type 0
-IsRefusedFile bytes = (e : LoadError) × IsFault e × IsLoadRefusal bytes e
+IsRefusedFile file = (e : LoadError) × IsAboutFile e × IsLoadRefusal file e
 
--- what a success says of the file
+-- success: the file may be loaded, or the traced run exits
 abbrev pub Succeeds : Ask → List ℕ → Type 0
-Succeeds ask.Verify file = IsSafeProgram file
+Succeeds ask.Verify file = IsSafeFile file
 Succeeds (ask.Trace hex) file = TraceEnds (digits_of hex) file IsExit
 
--- a report that came to its end all the same: a refusal, or a stuck trace
-abbrev pub Refuses : Ask → List ℕ → Type 0
-Refuses ask.Verify file = IsRefusedFile file
-Refuses (ask.Trace hex) file = TraceEnds (digits_of hex) file IsStuck
+-- the printed report says so: the loader refuses the file, or the traced run gets stuck
+abbrev pub PrintsRefusal : Ask → List ℕ → Type 0
+PrintsRefusal ask.Verify file = IsRefusedFile file
+PrintsRefusal (ask.Trace hex) file = TraceEnds (digits_of hex) file IsStuck
 
--- the faults that keep a report from its end
-abbrev pub MayFail : Ask → List ℕ → Fault → Type 0
-MayFail asked file fault.Output = Unit {0}
-MayFail asked file fault.Memory = Unit {0}
-MayFail ask.Verify file fault.Data = ⊥
-MayFail (ask.Trace hex) file fault.Data = SpellsNothing (digits_of hex)
-MayFail ask.Verify file (fault.Program e) = ⊥
-MayFail (ask.Trace hex) file (fault.Program e) = IsRefused file e
+-- the report is printed with this status
+pub record IsPrinted (asked : Ask) (file : List ℕ) (status : ℕ) : Type 0 where
+  pub range : (status ≡ 0) ⊎ (status ≡ 1)
+  pub success : status ≡ 0 → Succeeds asked file
+  pub refusal : status ≡ 1 → PrintsRefusal asked file
 
--- the status of a report that came to its end: 0 for a success, or 1
-abbrev pub IsVerdict : Type 0 → Type 0 → ℕ → Type 0
-IsVerdict succeeds refuses status = ((status ≡ 0) × succeeds) ⊎ ((status ≡ 1) × refuses)
+-- the file encodes a program, safe or not
+abbrev pub HasProgram : List ℕ → Type 0
+HasProgram file = (code : List Insn) × Encodes code file
 
--- the status of a report: one that came to its end, or a fault's
-abbrev pub IsStatus : Ask → List ℕ → ℕ → Type 0
-IsStatus asked file status = IsVerdict (Succeeds asked file) (Refuses asked file) status ⊎ ((f : Fault) × MayFail asked file f × (status ≡ status_of f))
+-- When a report may fail by an error. A trace tests its digits first, then decodes the file, and then prints.
+abbrev pub MayFail : Ask → List ℕ → ReportError → Type 0
+MayFail asked file error.Memory = Unit {0}
+MayFail ask.Verify file error.Data = ⊥
+MayFail ask.Verify file (error.Program e) = ⊥
+MayFail ask.Verify file error.Output = Unit {0}
+MayFail (ask.Trace hex) file error.Data = HasNoDatagram (digits_of hex)
+MayFail (ask.Trace hex) file (error.Program e) = HasDatagram (digits_of hex) × IsRefused file e
+MayFail (ask.Trace hex) file error.Output = HasDatagram (digits_of hex) × HasProgram file
+
+-- the request is refused, by a printed report or by an error
+abbrev pub IsRefusal : Ask → List ℕ → Type 0
+IsRefusal asked file = PrintsRefusal asked file ⊎ (MayFail asked file error.Data
+    ⊎ ((e : DecodeError) × MayFail asked file (error.Program e)))

@@ -1,37 +1,51 @@
--- What a trace of a program file is.
-use Rattle.std.specs.Prelude.{◌≡◌, ℕ, ◌≤◌, List, [], length, Option, option_copied, Ok}
+-- A trace of a program file over the datagram that hexadecimal digits encode.
+use Rattle.std.specs.Prelude.{◌≡◌, ℕ, ◌≤◌, List, [], ◌∷◌, length, Option, option_copied, Ok}
 use Rattle.std.specs.Option.{unwrap_or}
 use Rattle.std.specs.Borrow.{Bor}
 use Rattle.hex.specs.Hex.{decode_of}
 use Rattle.insn.specs.Encoding.{Encodes}
 use Rattle.insn.specs.declared.instruction.Insn.{Insn}
+use Rattle.semantics.specs.Machine.{Context}
 use Rattle.semantics.specs.Runs.{Run, Ending, Exited, Stuck, Running}
-use Rattle.machine.specs.Tracing.{context_of, finds_nothing, run_over}
-use Rattle.relayd.specs.declared.reporting.TheConstants.{CONTEXT}
+use Rattle.machine.specs.Tracing.{finds_nothing, run_over}
 
--- the digits that were given; none are those of the empty datagram
+-- The client's side (0), the source 127.0.0.1:9 as an address record (a zero, the family 1, the port, the
+-- address), and a transaction id of zeros.
+abbrev pub trace_context : Context
+trace_context = record {
+  side = 0;
+  source = 0 ∷ 1 ∷ 0 ∷ 9 ∷ 127 ∷ 0 ∷ 0 ∷ 1 ∷ [];
+  transaction_id = 0 ∷ 0 ∷ 0 ∷ 0 ∷ 0 ∷ 0 ∷ 0 ∷ 0 ∷ 0 ∷ 0 ∷ 0 ∷ 0 ∷ [];
+}
+
+-- the digits of the option; without it there are none
 abbrev pub digits_of : Option (Bor (List ℕ)) → List ℕ
 digits_of hex = unwrap_or (option_copied hex) []
 
--- the datagram that digits spell
-abbrev pub Spells : List ℕ → List ℕ → Type 0
-Spells digits datagram = (decode_of digits ≡ Ok datagram) × (length datagram ≤ 65507)
+-- the digits encode this datagram, of at most 65,507 bytes
+pub record EncodeDatagram (digits datagram : List ℕ) : Type 0 where
+  pub decoded : decode_of digits ≡ Ok datagram
+  pub short : length datagram ≤ 65507
 
--- they spell none
-abbrev pub SpellsNothing : List ℕ → Type 0
-SpellsNothing digits = (datagram : List ℕ) → Spells digits datagram → ⊥
+-- the digits encode a datagram
+abbrev pub HasDatagram : List ℕ → Type 0
+HasDatagram digits = (datagram : List ℕ) × EncodeDatagram digits datagram
 
--- the run that is traced: over the datagram, in the context of a trace, where no helper finds anything
-abbrev pub traced : List Insn → List ℕ → Run
-traced code datagram = run_over (record { context = context_of CONTEXT; answer = finds_nothing }) code datagram
+-- the digits encode no datagram
+abbrev pub HasNoDatagram : List ℕ → Type 0
+HasNoDatagram digits = (datagram : List ℕ) → EncodeDatagram digits datagram → ⊥
 
--- the bytes encode a program, the digits spell a datagram, and its run has such an ending
-pub record TraceEnds (digits file : List ℕ) (Such : Ending → Type 0) : Type 0 where
+-- the run of the code over the datagram, without any allocation
+abbrev pub traced_run : List Insn → List ℕ → Run
+traced_run code datagram = run_over (record { context = trace_context; answer = finds_nothing }) code datagram
+
+-- the file encodes a program, the digits encode a datagram, and the run has an ending of this kind
+pub record TraceEnds (digits file : List ℕ) (IsEnding : Ending → Type 0) : Type 0 where
   pub code : List Insn
-  pub encoded : Encodes code file
+  pub file_encodes : Encodes code file
   pub datagram : List ℕ
-  pub spelled : Spells digits datagram
-  pub ended : Such (traced code datagram).ending
+  pub digits_encode : EncodeDatagram digits datagram
+  pub ended : IsEnding (traced_run code datagram).ending
 
 abbrev pub IsExit : Ending → Type 0
 IsExit (Exited verdict) = Unit {0}

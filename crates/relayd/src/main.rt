@@ -1,14 +1,14 @@
-//! The program: a command line, the file that it names, and what is printed of it.
+//! The program: parses the command line, reads the program file and prints the report.
 #![tactic(auto)]
 
-mod fault;
+mod error;
 mod reporting;
 #[cfg(test)]
 mod tests;
 
 use clap::error::ErrorKind as LineErrorKind;
 use command_line::{Request, line, requested};
-use fault::{Fault, fail};
+use error::{ReportError, fail};
 use reporting::{Ask, report};
 use std::alloc::AllocError;
 use std::io::{self, BufWriter, Write};
@@ -16,22 +16,24 @@ use std::process::ExitCode;
 use std::rt::{Env, Files};
 use std::{env, fs};
 
-const FILE_FAULT: u8 = 3;
+/// The exit status where a file cannot be read.
+const UNREADABLE_FILE: u8 = 3;
 
+/// The exit status of a bad command line.
 const BAD_LINE: u8 = 2;
 
-/// Prints a fault of the command line, or the help that it asked for.
-fn tell_line<R: Print + Eprint, E: Write>(rt: &R, err: &mut E, error: &clap::Error) -> u8 {
+/// Prints an error of the command line, or the help text that it requests, and returns the exit status.
+fn report_line<R: Print + Eprint, E: Write>(rt: &R, err: &mut E, error: &clap::Error) -> u8 {
     if error.kind() == LineErrorKind::OutOfMemory {
-        return fail(err, Fault::Memory);
+        return fail(err, ReportError::Memory);
     }
     if error.print(rt).is_err() {
-        return fail(err, Fault::Output);
+        return fail(err, ReportError::Output);
     }
     if error.use_stderr() { BAD_LINE } else { 0 }
 }
 
-/// Reads a file whole, and reports on it.
+/// Reads the file at `path`, prints the report on it and returns the exit status.
 fn report_file<R: Files + Print + AllocGlobal, E: Write>(
     rt: &R,
     err: &mut E,
@@ -41,29 +43,30 @@ fn report_file<R: Files + Print + AllocGlobal, E: Write>(
     let file = match fs::read(rt, path) {
         Ok(file) => file,
         Err(error) if error.kind() == io::ErrorKind::OutOfMemory => {
-            return fail(err, Fault::Memory);
+            return fail(err, ReportError::Memory);
         }
         Err(_) => {
             let _ = writeln!(err, "cannot read {path}");
-            return FILE_FAULT;
+            return UNREADABLE_FILE;
         }
     };
     match BufWriter::new(rt.alloc(), io::writer(rt)) {
         Ok(mut out) => report(rt.alloc(), ask, &file, &mut out, err),
-        Err(_) => fail(err, Fault::Memory),
+        Err(_) => fail(err, ReportError::Memory),
     }
 }
 
+/// Runs the command line of the process and returns the exit status.
 fn run<R: Env + Files + Print + Eprint + AllocGlobal, E: Write>(rt: &R, err: &mut E) -> u8 {
     let words: Result<Vec<String>, AllocError> = match env::args(rt) {
         Ok(words) => words.collect(rt.alloc()),
         Err(_) => Err(AllocError),
     };
     let Ok(words) = words else {
-        return fail(err, Fault::Memory);
+        return fail(err, ReportError::Memory);
     };
     match line(rt.alloc(), words.as_slice()) {
-        Err(error) => tell_line(rt, err, &error),
+        Err(error) => report_line(rt, err, &error),
         Ok(matches) => match requested(&matches) {
             Some(Request::Verify { file }) => report_file(rt, err, file, Ask::Verify),
             Some(Request::Trace { file, data }) => {

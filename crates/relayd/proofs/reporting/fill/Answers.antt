@@ -5,7 +5,7 @@ use Rattle.hex.specs.Hex.{decode_of}
 use Rattle.hex.specs.declared.error.FromHexError.{FromHexError}
 use Rattle.hex.proofs.HexLemmas.{decode_of-ok, decode_sized-ok, decode_sized-twice}
 use Rattle.machine.specs.FrameLaws.{room_written, datagram_started}
-use Rattle.relayd.specs.Traces.{digits_of, SpellsNothing}
+use Rattle.relayd.specs.Traces.{digits_of, HasNoDatagram}
 use Rattle.relayd.proofs.reporting.fill.Goals as goal
 
 -- where decoding into a slice succeeded, the slice is what was decoded
@@ -27,13 +27,19 @@ returns-in-Ok-clause-datagram c =
     let room = room_written c.args.frame.now (front ++ back) (ap length (sym c.area.ensures.value) ∙ c.area.ensures.len) long in
     let few : n ≤ 65507 = omega (arith, c.if-n-gt-ROOM) in
     let datagram = datagram_started _ _ _ n (ap length room ∙ long) few c.start.ensures ∙ ap (take n) room ∙ take_at front back n short in
-    (ap decode_of digits ∙ sym (decode_sized-twice text _ count) ∙ sized ∙ ap Ok (sym datagram), omega (arith, ap length datagram, short, few))
+    record {
+      decoded = ap decode_of digits ∙ sym (decode_sized-twice text _ count) ∙ sized ∙ ap Ok (sym datagram);
+      short = omega (arith, ap length datagram, short, few);
+    }
 
--- digits of more bytes than a datagram has spell none
-too_many : (text : List ℕ) → 65507 < length text / 2 → SpellsNothing text
-too_many text many datagram spelled = let count = (decode_of-ok text datagram spelled.0).2 in omega (arith, count, many, spelled.1)
+-- the digits of more bytes than a datagram may have encode none
+too_many : (text : List ℕ) → 65507 < length text / 2 → HasNoDatagram text
+too_many text many datagram encode = let count = (decode_of-ok text datagram encode.decoded).2 in omega (arith, count, many, encode.short)
 
 pub returns-then-n-gt-ROOM-clause-refused : goal.returns-then-n-gt-ROOM-clause-refused
 returns-then-n-gt-ROOM-clause-refused c =
     let digits : digits_of c.args.hex ≡ c.as_bytes-digits.result.now = search rules in
-    (refl, subst SpellsNothing (sym digits) (too_many c.as_bytes-digits.result.now (omega (arith, c.if-n-gt-ROOM))))
+    (refl, subst HasNoDatagram (sym digits) (too_many c.as_bytes-digits.result.now (omega (arith, c.if-n-gt-ROOM))))
+
+pub returns-in-Ok-clause-context : goal.returns-in-Ok-clause-context
+returns-in-Ok-clause-context c = search rules

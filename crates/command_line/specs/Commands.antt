@@ -1,0 +1,42 @@
+-- The command line of relayd, and how clap's definition of a parse reads it.
+use Rattle.std.specs.Prelude.{◌≡◌, true, false, List, Option, Some, codes}
+use Rattle.clap.specs.Kinds.{Kinds}
+use Rattle.clap.specs.Words.{App, Row, Rule, Text, app_of, fault_of, new_app, new_rule, subcommand_of, with_rule, with_subcommand}
+use Rattle.clap.specs.declared.builder.action.ArgAction.TheVariants.{Set}
+use Rattle.clap.specs.declared.builder.command.Command.{Command}
+use Rattle.clap.specs.declared.builder.command.Command.TheViews.{out-Command}
+
+-- FILE: required, one value
+abbrev pub file_argument : Rule
+file_argument = record (new_rule (codes "file")) { action = Some Set; value_names = 1; required = true }
+
+-- --data HEX: optional, one value, at most once
+abbrev pub data_option : Rule
+data_option = record (new_rule (codes "data")) { long = Some (codes "data"); action = Some Set; value_names = 1 }
+
+-- verify FILE
+abbrev pub verify_command : App
+verify_command = with_rule (new_app (codes "verify")) file_argument
+
+-- trace [--data HEX] FILE
+abbrev pub trace_command : App
+trace_command = with_rule (with_rule (new_app (codes "trace")) file_argument) data_option
+
+-- relayd COMMAND, of which COMMAND is required
+abbrev pub bare_command : App
+bare_command = let app = new_app (codes "relayd") in record app { top = record app.top { subcommand_required = true } }
+
+abbrev pub relayd_command : App
+relayd_command = with_subcommand (with_subcommand bare_command verify_command.top) trace_command.top
+
+-- the command has these arguments and subcommands, and no global argument
+abbrev pub HasShape : App → Command → Type 0
+HasShape app c = (app_of c ≡ app) × ((out-Command c).has_globals ≡ false)
+
+-- the subcommand in the words of a command line, with the values of its arguments
+abbrev pub subcommand_in : List Text → Option (Text × List Row)
+subcommand_in words = subcommand_of relayd_command words
+
+-- the kinds of the first fault of the words; empty where relayd accepts them
+abbrev pub faults_of : List Text → Kinds
+faults_of words = fault_of relayd_command words

@@ -1,0 +1,315 @@
+//! Command lines with what they request, why they are refused, and what the help texts say.
+
+use crate::{line, requested};
+use std::test::Fail;
+
+/// A command line and the request in it.
+#[derive(Clone, Copy)]
+struct Good {
+    words: &'static [&'static str],
+    request: &'static str,
+}
+
+const GOOD: [Good; 15] = [
+    Good {
+        words: &["relayd", "verify", "a.bpf"],
+        request: r#"Verify { file: "a.bpf" }"#,
+    },
+    Good {
+        words: &["relayd", "trace", "a.bpf"],
+        request: r#"Trace { file: "a.bpf", data: None }"#,
+    },
+    Good {
+        words: &["relayd", "trace", "a.bpf", "--data", "00ff"],
+        request: r#"Trace { file: "a.bpf", data: Some("00ff") }"#,
+    },
+    Good {
+        words: &["relayd", "trace", "--data", "00ff", "a.bpf"],
+        request: r#"Trace { file: "a.bpf", data: Some("00ff") }"#,
+    },
+    Good {
+        words: &["relayd", "trace", "a.bpf", "--data=00ff"],
+        request: r#"Trace { file: "a.bpf", data: Some("00ff") }"#,
+    },
+    Good {
+        words: &["relayd", "trace", "--data=00ff", "a.bpf"],
+        request: r#"Trace { file: "a.bpf", data: Some("00ff") }"#,
+    },
+    // a comma, an equals sign and a blank part nothing
+    Good {
+        words: &["relayd", "trace", "a.bpf", "--data", "00,ff"],
+        request: r#"Trace { file: "a.bpf", data: Some("00,ff") }"#,
+    },
+    Good {
+        words: &["relayd", "trace", "a.bpf", "--data=0=1"],
+        request: r#"Trace { file: "a.bpf", data: Some("0=1") }"#,
+    },
+    Good {
+        words: &["relayd", "trace", "a,b c.bpf", "--data", "00 ff"],
+        request: r#"Trace { file: "a,b c.bpf", data: Some("00 ff") }"#,
+    },
+    Good {
+        words: &["relayd", "trace", "a.bpf", "--data", ""],
+        request: r#"Trace { file: "a.bpf", data: Some("") }"#,
+    },
+    Good {
+        words: &["relayd", "trace", "a.bpf", "--data="],
+        request: r#"Trace { file: "a.bpf", data: Some("") }"#,
+    },
+    // a file may have the name of a subcommand, and that of an option behind `--`
+    Good {
+        words: &["relayd", "verify", "trace"],
+        request: r#"Verify { file: "trace" }"#,
+    },
+    Good {
+        words: &["relayd", "verify", "--", "--help"],
+        request: r#"Verify { file: "--help" }"#,
+    },
+    Good {
+        words: &["relayd", "trace", "--data", "00", "--", "--data"],
+        request: r#"Trace { file: "--data", data: Some("00") }"#,
+    },
+    // the program may have any name
+    Good {
+        words: &["./r", "verify", "a.bpf"],
+        request: r#"Verify { file: "a.bpf" }"#,
+    },
+];
+
+#[test]
+fn good_lines_are_parsed(rt: HostRuntime) -> Result<(), Fail> {
+    for Good { words, request } in GOOD {
+        let matches = line(rt.alloc(), words)?;
+        match requested(&matches) {
+            Some(found) => {
+                let shown = format!(in rt.alloc(); "{found:?}")?;
+                assert_eq!(rt; shown.as_str(), request, "{words:?}");
+            }
+            None => assert!(rt; false, "{words:?}"),
+        }
+    }
+    Ok(())
+}
+
+/// A command line that ends in an error: its status and parts of its text.
+#[derive(Clone, Copy)]
+struct Refused {
+    words: &'static [&'static str],
+    status: i32,
+    parts: &'static [&'static str],
+}
+
+const REFUSED: [Refused; 29] = [
+    // a missing word
+    Refused {
+        words: &[],
+        status: 2,
+        parts: &["subcommand", "--help"],
+    },
+    Refused {
+        words: &["relayd"],
+        status: 2,
+        parts: &["subcommand", "--help"],
+    },
+    Refused {
+        words: &["relayd", "verify"],
+        status: 2,
+        parts: &["<FILE>", "--help"],
+    },
+    Refused {
+        words: &["relayd", "trace"],
+        status: 2,
+        parts: &["<FILE>", "--help"],
+    },
+    Refused {
+        words: &["relayd", "trace", "--data", "00"],
+        status: 2,
+        parts: &["<FILE>", "--help"],
+    },
+    Refused {
+        words: &["relayd", "trace", "a.bpf", "--data"],
+        status: 2,
+        parts: &["--data <HEX>", "--help"],
+    },
+    Refused {
+        words: &["relayd", "trace", "--data", "--", "a.bpf"],
+        status: 2,
+        parts: &["--data <HEX>", "--help"],
+    },
+    // an extra word, also behind a whole line
+    Refused {
+        words: &["relayd", "verify", "a.bpf", "b.bpf"],
+        status: 2,
+        parts: &["b.bpf", "--help"],
+    },
+    Refused {
+        words: &["relayd", "verify", "a.bpf", "trace", "b.bpf"],
+        status: 2,
+        parts: &["trace", "--help"],
+    },
+    Refused {
+        words: &["relayd", "trace", "a.bpf", "--data", "00", "11"],
+        status: 2,
+        parts: &["11", "--help"],
+    },
+    Refused {
+        words: &["relayd", "verify", "a.bpf", "--data", "00"],
+        status: 2,
+        parts: &["--data", "--help"],
+    },
+    // a doubled option
+    Refused {
+        words: &["relayd", "trace", "a.bpf", "--data", "00", "--data", "11"],
+        status: 2,
+        parts: &["--data <HEX>", "--help"],
+    },
+    Refused {
+        words: &["relayd", "trace", "--data=00", "--data=00", "a.bpf"],
+        status: 2,
+        parts: &["--data <HEX>", "--help"],
+    },
+    // an unknown word
+    Refused {
+        words: &["relayd", "load", "a.bpf"],
+        status: 2,
+        parts: &["load", "--help"],
+    },
+    Refused {
+        words: &["relayd", "Verify", "a.bpf"],
+        status: 2,
+        parts: &["Verify", "--help"],
+    },
+    Refused {
+        words: &["relayd", "a.bpf"],
+        status: 2,
+        parts: &["a.bpf", "--help"],
+    },
+    Refused {
+        words: &["relayd", "--data", "00", "trace", "a.bpf"],
+        status: 2,
+        parts: &["--data", "--help"],
+    },
+    Refused {
+        words: &["relayd", "trace", "a.bpf", "--verbose"],
+        status: 2,
+        parts: &["--verbose", "--help"],
+    },
+    Refused {
+        words: &["relayd", "trace", "a.bpf", "--dat", "00"],
+        status: 2,
+        parts: &["--dat", "--help"],
+    },
+    Refused {
+        words: &["relayd", "trace", "a.bpf", "-d", "00"],
+        status: 2,
+        parts: &["-d", "--help"],
+    },
+    Refused {
+        words: &["relayd", "verify", "-a.bpf"],
+        status: 2,
+        parts: &["-a", "--help"],
+    },
+    Refused {
+        words: &["relayd", "--version"],
+        status: 2,
+        parts: &["--version", "--help"],
+    },
+    // help: what each command is for, and each word that it takes with its meaning
+    Refused {
+        words: &["relayd", "--help"],
+        status: 0,
+        parts: &[
+            "TURN relay",
+            "BPF",
+            "<COMMAND>",
+            "verify",
+            "Verify a program",
+            "is refused and why",
+            "trace",
+            "over one datagram",
+            "each instruction",
+            "help",
+            "--help",
+        ],
+    },
+    Refused {
+        words: &["relayd", "help"],
+        status: 0,
+        parts: &["TURN relay", "<COMMAND>", "verify", "trace"],
+    },
+    Refused {
+        words: &["relayd", "verify", "--help"],
+        status: 0,
+        parts: &[
+            "relayd verify",
+            "Verify a program",
+            "is refused and why",
+            "<FILE>",
+            "encoded instructions (RFC 9669)",
+            "1 to 4,096 slots of 8 bytes",
+            "--help",
+        ],
+    },
+    Refused {
+        words: &["relayd", "help", "verify"],
+        status: 0,
+        parts: &["relayd verify", "is refused and why", "<FILE>"],
+    },
+    Refused {
+        words: &["relayd", "trace", "--help"],
+        status: 0,
+        parts: &[
+            "relayd trace",
+            "over one datagram",
+            "each instruction",
+            "<FILE>",
+            "encoded instructions (RFC 9669)",
+            "1 to 4,096 slots of 8 bytes",
+            "--data <HEX>",
+            "hexadecimal digits",
+            "at most 65,507 bytes",
+            "empty by default",
+            "--help",
+        ],
+    },
+    Refused {
+        words: &["relayd", "help", "trace"],
+        status: 0,
+        parts: &["relayd trace", "<FILE>", "--data <HEX>"],
+    },
+    Refused {
+        words: &["relayd", "trace", "a.bpf", "-h"],
+        status: 0,
+        parts: &["relayd trace", "<FILE>", "--data <HEX>"],
+    },
+];
+
+/// Returns the first part that the text lacks.
+fn lacks<'a>(text: &str, parts: &[&'a str]) -> Option<&'a str> {
+    for part in parts {
+        if !text.contains(*part) {
+            return Some(*part);
+        }
+    }
+    None
+}
+
+#[test]
+fn other_lines_are_explained(rt: HostRuntime) -> Result<(), Fail> {
+    for Refused {
+        words,
+        status,
+        parts,
+    } in REFUSED {
+        match line(rt.alloc(), words) {
+            Ok(_) => assert!(rt; false, "{words:?}"),
+            Err(error) => {
+                assert_eq!(rt; error.exit_code(), status, "{words:?}");
+                assert_eq!(rt; error.use_stderr(), status == 2, "{words:?}");
+                let shown = format!(in rt.alloc(); "{error}")?;
+                assert_eq!(rt; lacks(shown.as_str(), parts), None, "{words:?}");
+            }
+        }
+    }
+    Ok(())
+}

@@ -1,0 +1,226 @@
+//! How instructions and the refusals of a decoder are spelled, and which file is refused by which.
+
+use super::{Verified, program};
+use insn::{DecodeError, decode, encode};
+use std::process::Abort;
+use std::test::Fail;
+
+/// Encoded instructions, and their lines.
+#[derive(Clone, Copy)]
+struct Spelled {
+    slots: &'static str,
+    lines: &'static str,
+}
+
+static SPELLED: [Spelled; 11] = [
+    // every register in each place of `mov`, `add`, a load and a jump
+    Spelled {
+        slots: "b700000001000000 b701000001000000 b702000001000000 b703000001000000 b704000001000000 \
+             b705000001000000 b706000001000000 b707000001000000 b708000001000000 b709000001000000 \
+             b70a000001000000",
+        lines: "mov r0, 1\nmov r1, 1\nmov r2, 1\nmov r3, 1\nmov r4, 1\nmov r5, 1\nmov r6, 1\n\
+             mov r7, 1\nmov r8, 1\nmov r9, 1\nmov r10, 1\n",
+    },
+    Spelled {
+        slots: "0fa0000000000000 0f91000000000000 0f82000000000000 0f73000000000000 0f64000000000000 \
+             0f55000000000000 0f46000000000000 0f37000000000000 0f28000000000000 0f19000000000000 \
+             0f0a000000000000",
+        lines: "add r0, r10\nadd r1, r9\nadd r2, r8\nadd r3, r7\nadd r4, r6\nadd r5, r5\nadd r6, r4\n\
+             add r7, r3\nadd r8, r2\nadd r9, r1\nadd r10, r0\n",
+    },
+    Spelled {
+        slots: "71a0000000000000 7191000000000000 7182000000000000 7173000000000000 7164000000000000 \
+             7155000000000000 7146000000000000 7137000000000000 7128000000000000 7119000000000000 \
+             710a000000000000",
+        lines: "ldxb r0, [r10+0]\nldxb r1, [r9+0]\nldxb r2, [r8+0]\nldxb r3, [r7+0]\nldxb r4, [r6+0]\n\
+             ldxb r5, [r5+0]\nldxb r6, [r4+0]\nldxb r7, [r3+0]\nldxb r8, [r2+0]\nldxb r9, [r1+0]\n\
+             ldxb r10, [r0+0]\n",
+    },
+    Spelled {
+        slots: "1500000001000000 1501000001000000 1502000001000000 1503000001000000 1504000001000000 \
+             1505000001000000 1506000001000000 1507000001000000 1508000001000000 1509000001000000 \
+             150a000001000000",
+        lines: "jeq r0, 1, +0\njeq r1, 1, +0\njeq r2, 1, +0\njeq r3, 1, +0\njeq r4, 1, +0\n\
+             jeq r5, 1, +0\njeq r6, 1, +0\njeq r7, 1, +0\njeq r8, 1, +0\njeq r9, 1, +0\n\
+             jeq r10, 1, +0\n",
+    },
+    Spelled {
+        slots: "1da0000000000000 1d91000000000000 1d82000000000000 1d73000000000000 1d64000000000000 \
+             1d55000000000000 1d46000000000000 1d37000000000000 1d28000000000000 1d19000000000000 \
+             1d0a000000000000",
+        lines: "jeq r0, r10, +0\njeq r1, r9, +0\njeq r2, r8, +0\njeq r3, r7, +0\njeq r4, r6, +0\n\
+             jeq r5, r5, +0\njeq r6, r4, +0\njeq r7, r3, +0\njeq r8, r2, +0\njeq r9, r1, +0\n\
+             jeq r10, r0, +0\n",
+    },
+    // every condition, with a number and with a register
+    Spelled {
+        slots: "1500020001000000 2500020001000000 3500020001000000 4500020001000000 5500020001000000 \
+             6500020001000000 7500020001000000 a500020001000000 b500020001000000 c500020001000000 \
+             d500020001000000",
+        lines: "jeq r0, 1, +2\njgt r0, 1, +2\njge r0, 1, +2\njset r0, 1, +2\njne r0, 1, +2\n\
+             jsgt r0, 1, +2\njsge r0, 1, +2\njlt r0, 1, +2\njle r0, 1, +2\njslt r0, 1, +2\n\
+             jsle r0, 1, +2\n",
+    },
+    Spelled {
+        slots: "1d43feff00000000 2d43feff00000000 3d43feff00000000 4d43feff00000000 5d43feff00000000 \
+             6d43feff00000000 7d43feff00000000 ad43feff00000000 bd43feff00000000 cd43feff00000000 \
+             dd43feff00000000",
+        lines: "jeq r3, r4, -2\njgt r3, r4, -2\njge r3, r4, -2\njset r3, r4, -2\njne r3, r4, -2\n\
+             jsgt r3, r4, -2\njsge r3, r4, -2\njlt r3, r4, -2\njle r3, r4, -2\njslt r3, r4, -2\n\
+             jsle r3, r4, -2\n",
+    },
+    // every size, and the ends of a displacement
+    Spelled {
+        slots: "71a3feff00000000 69a3feff00000000 61a3feff00000000 79a3feff00000000 71a3000000000000 \
+             69a3040000000000 61a3008000000000 79a3ff7f00000000",
+        lines: "ldxb r3, [r10-2]\nldxh r3, [r10-2]\nldxw r3, [r10-2]\nldxdw r3, [r10-2]\n\
+             ldxb r3, [r10+0]\nldxh r3, [r10+4]\nldxw r3, [r10-32768]\nldxdw r3, [r10+32767]\n",
+    },
+    // negative numbers, and the ends of a number and of a distance
+    Spelled {
+        slots: "b7030000f9ffffff b703000000000080 b7030000ffffff7f 07040000ffffffff 0704000000000000 \
+             bf54000000000000",
+        lines: "mov r3, -7\nmov r3, -2147483648\nmov r3, 2147483647\nadd r4, -1\nadd r4, 0\n\
+             mov r4, r5\n",
+    },
+    Spelled {
+        slots: "65010000fbffffff 1501ffffffffffff 1501ff7f00000080 15010080ffffff7f",
+        lines: "jsgt r1, -5, +0\njeq r1, -1, -1\njeq r1, -2147483648, +32767\n\
+             jeq r1, 2147483647, -32768\n",
+    },
+    Spelled {
+        slots: "0500000000000000 0500ffff00000000 0500ff7f00000000 0500008000000000 9500000000000000",
+        lines: "ja +0\nja -1\nja +32767\nja -32768\nexit\n",
+    },
+];
+
+/// Decodes each row, and compares its lines, and its encoding with the bytes.
+fn expect_lines<R: Abort + AllocGlobal>(rt: &R, rows: &[Spelled]) -> Result<(), Fail> {
+    for row in rows {
+        let file = program(rt, row.slots)?;
+        let code = decode(rt.alloc(), &file)?;
+        let mut shown = String::new(rt.alloc());
+        for insn in &code {
+            shown.push_str(format!(in rt.alloc(); "{insn}\n")?.as_str())?;
+        }
+        assert_eq!(rt; shown.as_str(), row.lines);
+        let again = encode(rt.alloc(), &code)?;
+        assert_eq!(rt; again.as_slice(), file.as_slice());
+    }
+    Ok(())
+}
+
+#[test]
+fn instructions_are_spelled(rt: HostRuntime) -> Result<(), Fail> {
+    expect_lines(&rt, SPELLED.as_slice())
+}
+
+#[test]
+fn decode_errors_are_spelled(rt: HostRuntime) -> Result<(), Fail> {
+    let table = [
+        (DecodeError::Empty, "E1"),
+        (DecodeError::NotEights, "E2"),
+        (DecodeError::TooLong, "E3"),
+        (DecodeError::Opcode(1), "E4 at 1"),
+        (DecodeError::Register(2), "E5 at 2"),
+        (DecodeError::UnusedField(3), "E6 at 3"),
+        (DecodeError::WideCut(4), "E7 at 4"),
+        (DecodeError::Memory, "E8"),
+    ];
+    for (error, text) in table {
+        let shown = format!(in rt.alloc(); "{error}")?;
+        assert_eq!(rt; shown.as_str(), text);
+    }
+    Ok(())
+}
+
+/// Files that encode no program.
+pub static UNDECODED: [Verified; 16] = [
+    Verified {
+        slots: "",
+        line: "refused E1\n",
+        status: 1,
+    },
+    Verified {
+        slots: "9500000000000000 95000000",
+        line: "refused E2\n",
+        status: 1,
+    },
+    // an unknown opcode
+    Verified {
+        slots: "8d00000000000000",
+        line: "refused E4 at 0\n",
+        status: 1,
+    },
+    Verified {
+        slots: "b700000000000000 0600000000000000",
+        line: "refused E4 at 1\n",
+        status: 1,
+    },
+    // a register above 10, used or not
+    Verified {
+        slots: "b70b000000000000",
+        line: "refused E5 at 0\n",
+        status: 1,
+    },
+    Verified {
+        slots: "9500000000000000 95b0000000000000",
+        line: "refused E5 at 1\n",
+        status: 1,
+    },
+    // an unused offset
+    Verified {
+        slots: "b701010000000000",
+        line: "refused E6 at 0\n",
+        status: 1,
+    },
+    // two faults at once: the length before the slots
+    Verified {
+        slots: "8d00000000000000 95000000",
+        line: "refused E2\n",
+        status: 1,
+    },
+    // the first slot before a later one, whichever the faults are
+    Verified {
+        slots: "8d00000000000000 b701010000000000",
+        line: "refused E4 at 0\n",
+        status: 1,
+    },
+    Verified {
+        slots: "b701010000000000 8d00000000000000",
+        line: "refused E6 at 0\n",
+        status: 1,
+    },
+    Verified {
+        slots: "b70b000000000000 8d00000000000000",
+        line: "refused E5 at 0\n",
+        status: 1,
+    },
+    Verified {
+        slots: "9500000000000000 b701010000000000 b70b000000000000",
+        line: "refused E6 at 1\n",
+        status: 1,
+    },
+    // in one slot the opcode, then the registers, then the unused fields
+    Verified {
+        slots: "8dbb010000000000",
+        line: "refused E4 at 0\n",
+        status: 1,
+    },
+    Verified {
+        slots: "b70b010000000000",
+        line: "refused E5 at 0\n",
+        status: 1,
+    },
+    Verified {
+        slots: "95b0000001000000",
+        line: "refused E5 at 0\n",
+        status: 1,
+    },
+    // a fault of the encoding before any of the program
+    Verified {
+        slots: "b70a000000000000 8d00000000000000",
+        line: "refused E4 at 1\n",
+        status: 1,
+    },
+];

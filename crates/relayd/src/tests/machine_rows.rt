@@ -1,0 +1,450 @@
+//! What a trace prints, what a run has in common with it, and frames, sinks and addresses.
+
+ghost use Rattle.std.specs.Prelude.{◌≡◌, ◌≤◌, true, length};
+
+use super::verifier_rows::PROGRAMS;
+use super::{FIFTH_BYTE, FIFTH_BYTE_CHECKED, FOURTH_BYTE, Verified, program, reported};
+use crate::reporting::Ask;
+use insn::Insn;
+use loader::load;
+use machine::{
+    Addr, Context, Frame, Helpers, KEPT, Kept, NoAllocation, Outcome, ROOM, Side, Silent, Sink,
+    run, trace,
+};
+use std::alloc::Global;
+use std::process::Abort;
+use std::test::Fail;
+
+/// A program file and data, what `trace` prints of them in the end, and the status.
+#[derive(Clone, Copy)]
+struct Traced {
+    slots: &'static str,
+    hex: &'static str,
+    end: &'static str,
+    status: u8,
+}
+
+static TRACED: [Traced; 22] = [
+    Traced {
+        slots: FOURTH_BYTE,
+        hex: "01020304",
+        end: "0 ldxdw r2, [r1+0]\n1 ldxdw r3, [r1+8]\n2 mov r4, r2\n3 add r4, 4\n4 mov r0, 0\n\
+             5 jgt r4, r3, +1\n6 ldxb r0, [r2+3]\n7 exit\nexit 4\nwindow none\ndestination none\n",
+        status: 0,
+    },
+    Traced {
+        slots: FOURTH_BYTE,
+        hex: "010203",
+        end: "0 ldxdw r2, [r1+0]\n1 ldxdw r3, [r1+8]\n2 mov r4, r2\n3 add r4, 4\n4 mov r0, 0\n\
+             5 jgt r4, r3, +1\n7 exit\nexit 0\nwindow none\ndestination none\n",
+        status: 0,
+    },
+    Traced {
+        slots: FOURTH_BYTE,
+        hex: "0102030405",
+        end: "exit 4\nwindow none\ndestination none\n",
+        status: 0,
+    },
+    Traced {
+        slots: FIFTH_BYTE,
+        hex: "01020304",
+        end: "6 ldxb r0, [r2+4]\nstuck V10 at 6\n",
+        status: 1,
+    },
+    Traced {
+        slots: FIFTH_BYTE_CHECKED,
+        hex: "010203",
+        end: "exit 0\nwindow none\ndestination none\n",
+        status: 0,
+    },
+    Traced {
+        slots: FIFTH_BYTE_CHECKED,
+        hex: "01020304",
+        end: "exit 0\nwindow none\ndestination none\n",
+        status: 0,
+    },
+    Traced {
+        slots: FIFTH_BYTE_CHECKED,
+        hex: "01020304fF",
+        end: "exit 255\nwindow none\ndestination none\n",
+        status: 0,
+    },
+    Traced {
+        slots: "b700000002000000 9500000000000000",
+        hex: "",
+        end: "exit 2\nwindow none\ndestination none\n",
+        status: 0,
+    },
+    Traced {
+        slots: "b7000000ffffffff 9500000000000000",
+        hex: "",
+        end: "exit 18446744073709551615\nwindow none\ndestination none\n",
+        status: 0,
+    },
+    // a step that the verifier refuses is stuck where it is reached
+    Traced {
+        slots: "9500000000000000",
+        hex: "",
+        end: "0 exit\nstuck V5 at 0\n",
+        status: 1,
+    },
+    Traced {
+        slots: "0500ffff00000000 9500000000000000",
+        hex: "",
+        end: "0 ja -1\nstuck V1 at 0\n",
+        status: 1,
+    },
+    Traced {
+        slots: "0500010000000000 9500000000000000",
+        hex: "",
+        end: "0 ja +1\nstuck V2 at 0\n",
+        status: 1,
+    },
+    Traced {
+        slots: "b700000000000000",
+        hex: "",
+        end: "0 mov r0, 0\nstuck V4 at 0\n",
+        status: 1,
+    },
+    Traced {
+        slots: "79a0f8ff00000000 9500000000000000",
+        hex: "",
+        end: "0 ldxdw r0, [r10-8]\nstuck V6 at 0\n",
+        status: 1,
+    },
+    Traced {
+        slots: "b70a000000000000 9500000000000000",
+        hex: "",
+        end: "0 mov r10, 0\nstuck V7 at 0\n",
+        status: 1,
+    },
+    Traced {
+        slots: "79a0000000000000 9500000000000000",
+        hex: "",
+        end: "0 ldxdw r0, [r10+0]\nstuck V8 at 0\n",
+        status: 1,
+    },
+    Traced {
+        slots: "7110000000000000 9500000000000000",
+        hex: "",
+        end: "0 ldxb r0, [r1+0]\nstuck V9 at 0\n",
+        status: 1,
+    },
+    Traced {
+        slots: "0701000001000000 9500000000000000",
+        hex: "",
+        end: "0 add r1, 1\nstuck V11 at 0\n",
+        status: 1,
+    },
+    Traced {
+        slots: "1501000000000000 9500000000000000",
+        hex: "",
+        end: "0 jeq r1, 0, +0\nstuck V12 at 0\n",
+        status: 1,
+    },
+    Traced {
+        slots: "bf10000000000000 9500000000000000",
+        hex: "",
+        end: "0 mov r0, r1\n1 exit\nstuck V16 at 1\n",
+        status: 1,
+    },
+    Traced {
+        slots: "b700000000000000 7100000000000000 9500000000000000",
+        hex: "",
+        end: "0 mov r0, 0\n1 ldxb r0, [r0+0]\nstuck V18 at 1\n",
+        status: 1,
+    },
+    // the headroom and the tailroom may be read: `ldxb r0, [r2-64]` and `ldxb r0, [r3+2]`
+    Traced {
+        slots: "7912000000000000 7120c0ff00000000 7913080000000000 7130020000000000 9500000000000000",
+        hex: "ff",
+        end: "exit 0\nwindow none\ndestination none\n",
+        status: 0,
+    },
+];
+
+/// Traces each row, and compares the end of what is printed, and the status.
+fn expect_ends<R: Abort + AllocGlobal>(rt: &R, rows: &[Traced]) -> Result<(), Fail> {
+    for row in rows {
+        let file = program(rt, row.slots)?;
+        let end = row.end;
+        let report = reported(rt, Ask::Trace { hex: Some(row.hex) }, &file);
+        assert!(rt; report.out.ends_with(end.as_bytes()), "{end}");
+        assert_eq!(rt; report.status, row.status, "{end}");
+        assert_eq!(rt; report.err.len(), 0, "{end}");
+    }
+    Ok(())
+}
+
+#[test]
+fn a_trace_ends_as_the_run_does(rt: HostRuntime) -> Result<(), Fail> {
+    expect_ends(&rt, TRACED.as_slice())
+}
+
+/// Each slot of the longest program moves its own number into r0.
+#[test]
+fn a_trace_prints_every_step(rt: HostRuntime) -> Result<(), Fail> {
+    let mut file = Vec::new(rt.alloc());
+    let mut lines = String::new(rt.alloc());
+    for slot in 0..4095_u32 {
+        file.extend_from_slice(&[0xb7, 0, 0, 0])?;
+        file.extend_from_slice(&slot.to_le_bytes())?;
+        lines.push_str(format!(in rt.alloc(); "{slot} mov r0, {slot}\n")?.as_str())?;
+    }
+    file.extend_from_slice(&program(&rt, "9500000000000000")?)?;
+    lines.push_str("4095 exit\nexit 4094\nwindow none\ndestination none\n")?;
+    let report = reported(&rt, Ask::Trace { hex: None }, &file);
+    assert_eq!(rt; report.out.as_slice(), lines.as_bytes());
+    assert_eq!(rt; report.status, 0);
+    assert_eq!(rt; report.err.len(), 0);
+    Ok(())
+}
+
+const CONTEXT: Context = Context {
+    side: Side::Peer,
+    source: Addr::V4 {
+        ip: [192, 0, 2, 7],
+        port: 5000,
+    },
+    tx: [0; 12],
+};
+
+/// Starts a frame on a datagram.
+fn start_on(frame: &mut Frame, datagram: &[u8])
+    requires { length datagram.now ≤ 65507 }
+    ensures { frame.new.is_started ≡ true }
+{
+    let n = datagram.len();
+    frame.area()[..n].copy_from_slice(datagram);
+    frame.start(&CONTEXT, n);
+}
+
+/// A program file and a datagram with the verdict of the run, and how many instructions it comes to.
+#[derive(Clone, Copy)]
+struct Ran {
+    slots: &'static str,
+    hex: &'static str,
+    verdict: u64,
+    steps: usize,
+}
+
+static RAN: [Ran; 9] = [
+    Ran {
+        slots: FOURTH_BYTE,
+        hex: "",
+        verdict: 0,
+        steps: 7,
+    },
+    Ran {
+        slots: FOURTH_BYTE,
+        hex: "010203",
+        verdict: 0,
+        steps: 7,
+    },
+    Ran {
+        slots: FOURTH_BYTE,
+        hex: "01020304",
+        verdict: 4,
+        steps: 8,
+    },
+    Ran {
+        slots: FOURTH_BYTE,
+        hex: "0102030405",
+        verdict: 4,
+        steps: 8,
+    },
+    Ran {
+        slots: FIFTH_BYTE_CHECKED,
+        hex: "010203",
+        verdict: 0,
+        steps: 7,
+    },
+    Ran {
+        slots: FIFTH_BYTE_CHECKED,
+        hex: "01020304",
+        verdict: 0,
+        steps: 7,
+    },
+    Ran {
+        slots: FIFTH_BYTE_CHECKED,
+        hex: "0102030405",
+        verdict: 5,
+        steps: 8,
+    },
+    Ran {
+        slots: "b700000002000000 9500000000000000",
+        hex: "",
+        verdict: 2,
+        steps: 2,
+    },
+    Ran {
+        slots: "b700000002000000 9500000000000000",
+        hex: "0102",
+        verdict: 2,
+        steps: 2,
+    },
+];
+
+/// Loads and runs a program over a datagram, and returns the outcome and whether the frame is as it was.
+fn ran_over<R: AllocGlobal>(rt: &R, slots: &str, datagram: &[u8]) -> Result<(Outcome, bool), Fail>
+    requires { length datagram.now ≤ 65507 }
+{
+    let loaded = load(rt.alloc(), &program(rt, slots)?)?;
+    let mut frame = Frame::new(rt.alloc())?;
+    start_on(&mut frame, datagram);
+    let outcome = run(loaded.program(), &mut frame, &NoAllocation);
+    let kept = frame.datagram() == datagram && frame.window().is_none() && !frame.started();
+    Ok((outcome, kept))
+}
+
+fn expect_verdicts<R: Abort + AllocGlobal>(rt: &R, rows: &[Ran]) -> Result<(), Fail> {
+    for row in rows {
+        let datagram = program(rt, row.hex)?;
+        assert!(rt; datagram.len() <= ROOM);
+        let (outcome, kept) = ran_over(rt, row.slots, &datagram)?;
+        let hex = row.hex;
+        assert_eq!(rt; outcome.verdict, row.verdict, "{hex}");
+        assert_eq!(rt; outcome.steps, row.steps, "{hex}");
+        assert_eq!(rt; outcome.window, None, "{hex}");
+        assert_eq!(rt; outcome.destination, None, "{hex}");
+        assert!(rt; kept, "{hex}");
+    }
+    Ok(())
+}
+
+#[test]
+fn a_loaded_program_runs_to_its_verdict(rt: HostRuntime) -> Result<(), Fail> {
+    expect_verdicts(&rt, RAN.as_slice())
+}
+
+#[test]
+fn the_longest_program_runs_to_its_exit(rt: HostRuntime) -> Result<(), Fail> {
+    let mov = program(&rt, "b700000000000000")?;
+    let mut file = Vec::new(rt.alloc());
+    for _ in 0..4095 {
+        file.extend_from_slice(&mov)?;
+    }
+    file.extend_from_slice(&program(&rt, "9500000000000000")?)?;
+    let loaded = load(rt.alloc(), &file)?;
+    assert_eq!(rt; loaded.program().code().len(), 4096);
+    let mut frame = Frame::new(rt.alloc())?;
+    start_on(&mut frame, &[]);
+    let outcome = run(loaded.program(), &mut frame, &NoAllocation);
+    assert_eq!(rt; outcome.verdict, 0);
+    assert_eq!(rt; outcome.steps, 4096);
+    Ok(())
+}
+
+/// Returns `count` bytes of a fixed generator.
+fn seeded(alloc: Global, seed: u64, count: usize) -> Result<Vec<u8>, Fail> {
+    let mut state = seed;
+    let mut bytes = Vec::new(alloc);
+    for _ in 0..count {
+        state = state
+            .wrapping_mul(6_364_136_223_846_793_005)
+            .wrapping_add(1_442_695_040_888_963_407);
+        bytes.push((state >> 56) as u8)?;
+    }
+    Ok(bytes)
+}
+
+/// Runs and traces a program over seeded datagrams, each in a frame of its own, and compares the two.
+fn agree<R: Abort + AllocGlobal>(
+    rt: &R,
+    file: &[u8],
+    ran: &mut Frame,
+    traced: &mut Frame,
+) -> Result<(), Fail> {
+    let loaded = load(rt.alloc(), file)?;
+    for (seed, count) in [
+        (1, 0),
+        (2, 1),
+        (3, 1),
+        (4, 3),
+        (5, 4),
+        (6, 5),
+        (7, 1472),
+        (8, 65_507),
+    ] {
+        let datagram = seeded(rt.alloc(), seed, count)?;
+        assert!(rt; datagram.len() <= ROOM);
+        start_on(ran, &datagram);
+        start_on(traced, &datagram);
+        let outcome = run(loaded.program(), ran, &NoAllocation);
+        let code = loaded.program().code();
+        let ended = trace(code, traced, &NoAllocation, &mut Silent);
+        assert_eq!(rt; ended, Ok(outcome), "{seed} {count}");
+        assert_eq!(rt; ran.datagram(), datagram.as_slice(), "{seed} {count}");
+        assert_eq!(rt; traced.datagram(), ran.datagram(), "{seed} {count}");
+        assert_eq!(rt; traced.window(), ran.window(), "{seed} {count}");
+        assert_eq!(rt; traced.started(), ran.started(), "{seed} {count}");
+    }
+    Ok(())
+}
+
+/// Does so with each row that is accepted.
+fn agree_on_each<R: Abort + AllocGlobal>(rt: &R, rows: &[Verified]) -> Result<(), Fail> {
+    let mut ran = Frame::new(rt.alloc())?;
+    let mut traced = Frame::new(rt.alloc())?;
+    for row in rows {
+        if row.status == 0 {
+            agree(rt, &program(rt, row.slots)?, &mut ran, &mut traced)?;
+        }
+    }
+    Ok(())
+}
+
+#[test]
+fn a_run_and_a_trace_agree(rt: HostRuntime) -> Result<(), Fail> {
+    agree_on_each(&rt, PROGRAMS.as_slice())
+}
+
+#[test]
+fn a_frame_shows_what_was_written(rt: HostRuntime) -> Result<(), Fail> {
+    let mut frame = Frame::new(rt.alloc())?;
+    assert!(rt; !frame.started());
+    assert_eq!(rt; frame.area().len(), 65_507);
+    frame.area()[..3].copy_from_slice(&[1, 2, 3]);
+    assert!(rt; !frame.started());
+    frame.start(&CONTEXT, 2);
+    assert!(rt; frame.started());
+    assert_eq!(rt; frame.datagram(), [1, 2].as_slice());
+    assert_eq!(rt; frame.window(), None);
+    frame.area();
+    assert!(rt; !frame.started());
+    Ok(())
+}
+
+#[test]
+fn sinks_get_each_step(rt: HostRuntime) -> Result<(), Fail> {
+    let code = [Insn::Jump { offset: 0 }, Insn::Exit];
+    let mut frame = Frame::new(rt.alloc())?;
+    frame.start(&CONTEXT, 0);
+    let mut kept = Kept::new(rt.alloc())?;
+    assert!(rt; trace(&code, &mut frame, &NoAllocation, &mut kept).is_err());
+    assert!(rt; !frame.started());
+    let slots: Vec<usize> = kept.visits().iter().map(|v| v.slot).collect(rt.alloc())?;
+    assert_eq!(rt; slots.as_slice(), [0, 1].as_slice());
+    for _ in 0..KEPT {
+        kept.step(7, &Insn::Exit);
+    }
+    assert_eq!(rt; kept.visits().len(), KEPT);
+    Silent.step(0, &Insn::Exit);
+    assert_eq!(rt; NoAllocation.answer(1, 2, [3; 8]), (0, [0; 8]));
+    Ok(())
+}
+
+#[test]
+fn addresses_are_spelled(rt: HostRuntime) -> Result<(), Fail> {
+    let v4 = Addr::V4 {
+        ip: [192, 0, 2, 7],
+        port: 5000,
+    };
+    let shown = format!(in rt.alloc(); "{v4}")?;
+    assert_eq!(rt; shown.as_str(), "192.0.2.7:5000");
+    let ip = [0x20, 1, 0x0d, 0xb8, 0, 0, 0, 0, 0, 0, 0, 0, 0, 0, 0, 1];
+    let v6 = Addr::V6 { ip, port: 9 };
+    let shown = format!(in rt.alloc(); "{v6}")?;
+    assert_eq!(rt; shown.as_str(), "[20010db8000000000000000000000001]:9");
+    Ok(())
+}

@@ -1,0 +1,337 @@
+//! Bad data, bad files, and outputs that fail.
+
+use super::{program, reported};
+use crate::reporting::{Ask, report};
+use insn::Insn;
+use machine::{Lines, Sink};
+use std::io::{self, Write};
+use std::process::Abort;
+use std::test::Fail;
+
+/// `mov r0, 2` and `exit`
+const EXITS_WITH_TWO: &str = "b700000002000000 9500000000000000";
+
+const TRACE_OF_TWO: &str = "0 mov r0, 2\n1 exit\nexit 2\nwindow none\ndestination none\n";
+
+/// A request, a program file, what is printed to each stream, and the status.
+#[derive(Clone, Copy)]
+struct Report {
+    ask: Ask<'static>,
+    slots: &'static str,
+    out: &'static str,
+    err: &'static str,
+    status: u8,
+}
+
+static REPORTS: [Report; 20] = [
+    Report {
+        ask: Ask::Verify,
+        slots: EXITS_WITH_TWO,
+        out: "accepted 2 instructions\n",
+        err: "",
+        status: 0,
+    },
+    // a refusal of `verify` goes to the output
+    Report {
+        ask: Ask::Verify,
+        slots: "9500000000000000",
+        out: "refused V5 at 0\n",
+        err: "",
+        status: 1,
+    },
+    Report {
+        ask: Ask::Verify,
+        slots: "",
+        out: "refused E1\n",
+        err: "",
+        status: 1,
+    },
+    // without data the datagram is empty
+    Report {
+        ask: Ask::Trace { hex: None },
+        slots: EXITS_WITH_TWO,
+        out: TRACE_OF_TWO,
+        err: "",
+        status: 0,
+    },
+    Report {
+        ask: Ask::Trace { hex: Some("") },
+        slots: EXITS_WITH_TWO,
+        out: TRACE_OF_TWO,
+        err: "",
+        status: 0,
+    },
+    // digits of either case
+    Report {
+        ask: Ask::Trace { hex: Some("00fF") },
+        slots: EXITS_WITH_TWO,
+        out: TRACE_OF_TWO,
+        err: "",
+        status: 0,
+    },
+    // an odd digit, and what is no digit
+    Report {
+        ask: Ask::Trace { hex: Some("0") },
+        slots: EXITS_WITH_TWO,
+        out: "",
+        err: "refused data\n",
+        status: 1,
+    },
+    Report {
+        ask: Ask::Trace { hex: Some("abc") },
+        slots: EXITS_WITH_TWO,
+        out: "",
+        err: "refused data\n",
+        status: 1,
+    },
+    Report {
+        ask: Ask::Trace { hex: Some("0g") },
+        slots: EXITS_WITH_TWO,
+        out: "",
+        err: "refused data\n",
+        status: 1,
+    },
+    Report {
+        ask: Ask::Trace { hex: Some("g0") },
+        slots: EXITS_WITH_TWO,
+        out: "",
+        err: "refused data\n",
+        status: 1,
+    },
+    Report {
+        ask: Ask::Trace { hex: Some("  ") },
+        slots: EXITS_WITH_TWO,
+        out: "",
+        err: "refused data\n",
+        status: 1,
+    },
+    Report {
+        ask: Ask::Trace { hex: Some("00,ff") },
+        slots: EXITS_WITH_TWO,
+        out: "",
+        err: "refused data\n",
+        status: 1,
+    },
+    Report {
+        ask: Ask::Trace { hex: Some("0x00") },
+        slots: EXITS_WITH_TWO,
+        out: "",
+        err: "refused data\n",
+        status: 1,
+    },
+    // a bad file
+    Report {
+        ask: Ask::Trace { hex: None },
+        slots: "8d00000000000000",
+        out: "",
+        err: "refused E4 at 0\n",
+        status: 1,
+    },
+    Report {
+        ask: Ask::Trace { hex: None },
+        slots: "",
+        out: "",
+        err: "refused E1\n",
+        status: 1,
+    },
+    Report {
+        ask: Ask::Trace { hex: None },
+        slots: "9500000000000000 95",
+        out: "",
+        err: "refused E2\n",
+        status: 1,
+    },
+    // bad data and a bad file at once
+    Report {
+        ask: Ask::Trace { hex: Some("0") },
+        slots: "",
+        out: "",
+        err: "refused data\n",
+        status: 1,
+    },
+    Report {
+        ask: Ask::Trace { hex: Some("0g") },
+        slots: "8d00000000000000",
+        out: "",
+        err: "refused data\n",
+        status: 1,
+    },
+    Report {
+        ask: Ask::Trace { hex: Some("0g") },
+        slots: "9500000000000000 95",
+        out: "",
+        err: "refused data\n",
+        status: 1,
+    },
+    // bad data and a program that gets stuck
+    Report {
+        ask: Ask::Trace { hex: Some("0g") },
+        slots: "9500000000000000",
+        out: "",
+        err: "refused data\n",
+        status: 1,
+    },
+];
+
+/// Reports on each row, and compares what is printed, and the status.
+fn expect_reports<R: Abort + AllocGlobal>(rt: &R, rows: &[Report]) -> Result<(), Fail> {
+    for row in rows {
+        let ask = row.ask;
+        let report = reported(rt, ask, &program(rt, row.slots)?);
+        assert_eq!(rt; report.out.as_slice(), row.out.as_bytes(), "{ask:?}");
+        assert_eq!(rt; report.err.as_slice(), row.err.as_bytes(), "{ask:?}");
+        assert_eq!(rt; report.status, row.status, "{ask:?}");
+    }
+    Ok(())
+}
+
+#[test]
+fn reports_are_printed(rt: HostRuntime) -> Result<(), Fail> {
+    expect_reports(&rt, REPORTS.as_slice())
+}
+
+/// How many times `7f` stands in the data, what follows it, what is printed, and the status.
+#[derive(Clone, Copy)]
+struct Long {
+    times: usize,
+    then: &'static str,
+    out: &'static str,
+    err: &'static str,
+    status: u8,
+}
+
+static LONG: [Long; 5] = [
+    Long {
+        times: 65_507,
+        then: "",
+        out: TRACE_OF_TWO,
+        err: "",
+        status: 0,
+    },
+    // one digit more, and two
+    Long {
+        times: 65_507,
+        then: "0",
+        out: "",
+        err: "refused data\n",
+        status: 1,
+    },
+    Long {
+        times: 65_507,
+        then: "00",
+        out: "",
+        err: "refused data\n",
+        status: 1,
+    },
+    // what is no digit, in data of the greatest length and of more
+    Long {
+        times: 65_506,
+        then: "0g",
+        out: "",
+        err: "refused data\n",
+        status: 1,
+    },
+    Long {
+        times: 65_507,
+        then: "0g",
+        out: "",
+        err: "refused data\n",
+        status: 1,
+    },
+];
+
+/// Traces each row, and compares what is printed, and the status.
+fn expect_long<R: Abort + AllocGlobal>(rt: &R, rows: &[Long]) -> Result<(), Fail> {
+    let file = program(rt, EXITS_WITH_TWO)?;
+    for row in rows {
+        let mut digits = String::new(rt.alloc());
+        for _ in 0..row.times {
+            digits.push_str("7f")?;
+        }
+        digits.push_str(row.then)?;
+        let hex = Some(digits.as_str());
+        let report = reported(rt, Ask::Trace { hex }, &file);
+        assert_eq!(rt; report.out.as_slice(), row.out.as_bytes());
+        assert_eq!(rt; report.err.as_slice(), row.err.as_bytes());
+        assert_eq!(rt; report.status, row.status);
+    }
+    Ok(())
+}
+
+#[test]
+fn data_has_at_most_65507_bytes(rt: HostRuntime) -> Result<(), Fail> {
+    expect_long(&rt, LONG.as_slice())
+}
+
+/// A writer that accepts `room` bytes, then fails, and counts its failures.
+#[derive(Drop)]
+struct Failing {
+    room: usize,
+    failures: usize,
+}
+
+impl Write for Failing {
+    fn write(&mut self, buf: &[u8]) -> io::Result<usize> {
+        if self.room == 0 {
+            self.failures = self.failures.saturating_add(1);
+            return Err(io::Error::from(io::ErrorKind::BrokenPipe));
+        }
+        let n = self.room.min(buf.len());
+        self.room -= n;
+        Ok(n)
+    }
+
+    fn flush(&mut self) -> io::Result<()> {
+        Ok(())
+    }
+}
+
+/// With room for all of a report nothing fails.
+#[test]
+fn a_failing_output_is_reported(rt: HostRuntime) -> Result<(), Fail> {
+    let file = program(&rt, EXITS_WITH_TWO)?;
+    for ask in [Ask::Verify, Ask::Trace { hex: None }] {
+        for (room, err, status, failures) in [
+            (0, "cannot write output\n", 3, 1),
+            (1, "cannot write output\n", 3, 1),
+            (12, "cannot write output\n", 3, 1),
+            (1_000, "", 0, 0),
+        ] {
+            let mut out = Failing { room, failures: 0 };
+            let mut to_err = Vec::new(rt.alloc());
+            let returned = report(rt.alloc(), ask, &file, &mut out, &mut to_err);
+            assert_eq!(rt; to_err.as_slice(), err.as_bytes(), "{ask:?} {room}");
+            assert_eq!(rt; returned, status, "{ask:?} {room}");
+            assert_eq!(rt; out.failures, failures, "{ask:?} {room}");
+        }
+    }
+    // a line that cannot be printed changes no status
+    for (ask, room, status) in [
+        (Ask::Verify, 0, 3),
+        (Ask::Trace { hex: Some("0") }, 1_000, 1),
+    ] {
+        let mut out = Failing { room, failures: 0 };
+        let mut err = Failing {
+            room: 0,
+            failures: 0,
+        };
+        let returned = report(rt.alloc(), ask, &file, &mut out, &mut err);
+        assert_eq!(rt; returned, status, "{ask:?}");
+    }
+    Ok(())
+}
+
+#[test]
+fn lines_stop_at_the_first_failure(rt: HostRuntime) -> Result<(), Fail> {
+    let mut out = Failing {
+        room: 7,
+        failures: 0,
+    };
+    let mut lines = Lines::new(&mut out);
+    for slot in 0..4 {
+        lines.step(slot, &Insn::Exit);
+    }
+    assert!(rt; lines.finish().is_err());
+    assert_eq!(rt; out.failures, 1);
+    Ok(())
+}

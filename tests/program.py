@@ -1,0 +1,31 @@
+"""The built relayd, how a test runs it, and how a test ends."""
+
+import pathlib
+import subprocess
+
+TOP = pathlib.Path(__file__).resolve().parent.parent
+# the script that builds relayd where it is not there, and starts it
+SCRIPT = TOP / "relayd"
+# the program itself, for a test that restricts the process
+PROGRAM = TOP / "crates" / "relayd" / "out" / "relayd"
+
+
+def build():
+    """Builds the program where it is not there."""
+    subprocess.run([SCRIPT, "--help"], stdout=subprocess.DEVNULL, check=True)
+
+
+def run(words, program=SCRIPT, **options):
+    """Runs the program on these words, and returns its status and what it printed to each stream.
+
+    A stream that `options` redirects is None.
+    """
+    pipes = {"stdout": subprocess.PIPE, "stderr": subprocess.PIPE, **options}
+    ran = subprocess.run([program, *words], text=True, check=False, **pipes)
+    return ran.returncode, ran.stdout, ran.stderr
+
+
+def finish(failures, summary):
+    """Prints the failures and a line that sums them up, and returns the exit status."""
+    print("\n".join([*failures, summary]))
+    return 1 if failures else 0
