@@ -46,5 +46,6 @@ address_shape (V6 ip port) tx value is = inr (omega (arith, ap length is.spelled
 
 -- the value of an address has 8 or 20 bytes
 pub value_short : (a : Addr) (tx : List ℕ) → length (address_value a tx) ≤ 20
+unfolding address_value
 value_short (V4 ip port) tx = omega (arith, length-masked 4 ip magic_cookie)
 value_short (V6 ip port) tx = omega (arith, length-masked 16 ip (ipv6_mask tx))

@@ -43,7 +43,7 @@ pub record IsAddressValue (address : Addr) (transaction_id value : List ℕ) : T
   pub spelled : value ≡ first ∷ address_tail address transaction_id
 
 -- it is written as zero
-abbrev pub address_value : Addr → List ℕ → List ℕ
+unfoldable pub address_value : Addr → List ℕ → List ℕ
 address_value address transaction_id = 0 ∷ address_tail address transaction_id
 
 -- the value under the transaction id of a builder's message

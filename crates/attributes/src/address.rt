@@ -148,6 +148,7 @@ fn ipv6_value(ip: &[u8; 16], port: u16, tx: &[u8; 12]) -> [u8; IPV6_BYTES]
 ///
 /// # Errors
 /// Returns [`NoRoom`] as [`Builder::attr`] does, and changes nothing.
+#[tactic(auto, unfolding(crate::specs::Addresses::address_value))]
 pub fn write_xor_addr(builder: &mut Builder<'_>, kind: u16, address: &Addr) -> Result<(), NoRoom>
     ensures appends { OnOk result
         (Appends kind (value_in builder.old address.now) builder.old builder.new) }
@@ -165,9 +166,11 @@ pub fn write_xor_addr(builder: &mut Builder<'_>, kind: u16, address: &Addr) -> R
 }
 
 /// Appends an attribute with an XOR address where there is room for the longest, so that it can't fail.
+#[tactic(auto, unfolding(crate::specs::Addresses::address_value))]
 pub fn push_xor_addr(builder: &mut Builder<'_>, kind: u16, address: &Addr)
     requires room { used_of builder.old + 27 ≤ room_of builder.old }
     ensures appends { Appends kind (value_in builder.old address.now) builder.old builder.new }
+    ensures most { used_of builder.new ≤ used_of builder.old + 24 }
     ensures same_buffer { SameBuffer builder.old builder.new }
 {
     match address {

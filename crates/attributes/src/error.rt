@@ -70,6 +70,7 @@ pub fn write_error(builder: &mut Builder<'_>, error: ErrorCode) -> Result<(), No
 pub fn push_error(builder: &mut Builder<'_>, error: ErrorCode)
     requires room { used_of builder.old + 41 ≤ room_of builder.old }
     ensures appends { Appends ERROR_CODE (error_value error) builder.old builder.new }
+    ensures most { used_of builder.new ≤ used_of builder.old + 40 }
     ensures same_buffer { SameBuffer builder.old builder.new }
 {
     phrases_are_short();
@@ -94,6 +95,7 @@ pub fn write_unknown(builder: &mut Builder<'_>, kinds: &[u16]) -> Result<(), NoR
 pub fn push_unknown(builder: &mut Builder<'_>, kinds: &[u16])
     requires room { used_of builder.old + 2 * length kinds.now + 7 ≤ room_of builder.old }
     ensures appends { Appends UNKNOWN_ATTRIBUTES (unknown_value kinds.now) builder.old builder.new }
+    ensures most { used_of builder.new ≤ used_of builder.old + 2 * length kinds.now + 6 }
     ensures same_buffer { SameBuffer builder.old builder.new }
 {
     builder.push(UNKNOWN_ATTRIBUTES, &UnknownValue(kinds));

@@ -17,5 +17,5 @@ abbrev pub outer_pad : ℕ
 outer_pad = 0x5c
 
 -- H((K xor opad) || H((K xor ipad) || m))
-abbrev pub hmac : List ℕ → List ℕ → List ℕ
+unfoldable pub hmac : List ℕ → List ℕ → List ℕ
 hmac key m = sha1 (padded outer_pad (block_of key) ++ sha1 (padded inner_pad (block_of key) ++ m))

@@ -60,6 +60,7 @@ fn update_all(hash: &mut Sha1, pieces: &[&[u8]])
 }
 
 /// Returns the code of a message, given in pieces, under a key of at most 64 bytes (RFC 2104, section 2).
+#[tactic(auto, unfolding(crate::specs::Hmac::hmac))]
 pub fn hmac_sha1(key: &[u8], pieces: &[&[u8]]) -> [u8; 20]
     requires { length key.now ≤ 64 }
     ensures { result ≡ hmac key.now (concat (map (λ piece. piece.now) pieces.now)) }

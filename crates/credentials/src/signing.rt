@@ -54,6 +54,7 @@ pub fn sign(builder: &mut Builder<'_>, key: &Key) -> Result<(), NoRoom>
 pub fn push_integrity(builder: &mut Builder<'_>, key: &Key)
     requires room { used_of builder.old + 27 ≤ room_of builder.old }
     ensures appends { Appends message_integrity (code_in builder.old key.now) builder.old builder.new }
+    ensures used { used_of builder.new ≡ used_of builder.old + 24 }
     ensures same_buffer { SameBuffer builder.old builder.new }
 {
     let code = code_for(builder, key);

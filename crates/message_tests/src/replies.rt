@@ -2,13 +2,18 @@
 
 ghost use Rattle.std.specs.Prelude.{◌≡◌, ◌<◌, ◌≤◌, length, take};
 ghost use Rattle.stun.specs.Messages.{parts_bytes, started, with_attribute};
-ghost use Rattle.stun.specs.declared.registry.attribute.TheConstants.{ERROR_CODE, REALM as REALM_TYPE, NONCE as NONCE_TYPE, XOR_MAPPED_ADDRESS as MAPPED};
+ghost use Rattle.stun.specs.declared.registry.attribute.TheConstants.{ERROR_CODE, REALM as REALM_TYPE, NONCE as NONCE_TYPE, XOR_RELAYED_ADDRESS as RELAYED_TYPE, LIFETIME as LIFETIME_TYPE};
 ghost use Rattle.stun.specs.declared.registry.ErrorCode.TheVariants.{Unauthenticated};
+ghost use Rattle.stun.specs.Endian.{big_bytes};
 ghost use Rattle.attributes.specs.Errors.{error_value};
+ghost use Rattle.attributes.specs.Addresses.{address_value};
+ghost use Rattle.credentials.specs.Keys.{key_bytes};
+ghost use Rattle.credentials.specs.Signs.{signed};
 
-use attributes::{Addr, push_error, write_error, write_unknown, write_xor_addr};
+use attributes::{Addr, push_error, push_xor_addr, write_error, write_unknown, write_xor_addr};
+use credentials::{Key, push_integrity};
 use std::test::Fail;
-use stun::registry::attribute::{NONCE, REALM, XOR_MAPPED_ADDRESS};
+use stun::registry::attribute::{LIFETIME, NONCE, REALM, XOR_MAPPED_ADDRESS, XOR_RELAYED_ADDRESS};
 use stun::registry::{Class, ErrorCode, MessageType, Method};
 use stun::{Builder, begin};
 
@@ -28,7 +33,11 @@ fn demand(out: &mut [u8], tx: &[u8; 12], realm: &[u8], nonce: &[u8]) -> usize
     requires realm { length realm.now ≤ 128 }
     requires nonce { length nonce.now ≤ 64 }
     ensures inside { result ≤ length out.new }
-    ensures bytes { take result out.new ≡ parts_bytes (with_attribute (with_attribute (with_attribute (started 0x0113 tx.now) ERROR_CODE (error_value Unauthenticated)) REALM_TYPE realm.now) NONCE_TYPE nonce.now) }
+    ensures bytes { take result out.new ≡ parts_bytes
+        (with_attribute (with_attribute (with_attribute (started 0x0113 tx.now)
+        ERROR_CODE (error_value Unauthenticated))
+        REALM_TYPE realm.now)
+        NONCE_TYPE nonce.now) }
 {
     if begin(out, 0x0113, tx).is_err() {
         return 0;
@@ -37,6 +46,26 @@ fn demand(out: &mut [u8], tx: &[u8; 12], realm: &[u8], nonce: &[u8]) -> usize
     push_error(&mut builder, ErrorCode::Unauthenticated);
     builder.push(REALM, &realm);
     builder.push(NONCE, &nonce);
+    builder.finish()
+}
+
+/// Grants an allocation: writes the signed reply, and returns its length. This too needs no proof of its own.
+fn grant(out: &mut [u8], tx: &[u8; 12], relayed: &Addr, seconds: u32, key: &Key) -> usize
+    requires room { 1500 ≤ length out.old }
+    ensures inside { result ≤ length out.new }
+    ensures bytes { take result out.new ≡ parts_bytes (signed (key_bytes key.now)
+        (with_attribute (with_attribute (started 0x0103 tx.now)
+        RELAYED_TYPE (address_value relayed.now tx.now))
+        LIFETIME_TYPE (big_bytes 4 seconds))) }
+{
+    if begin(out, 0x0103, tx).is_err() {
+        return 0;
+    }
+    let mut builder = Builder::resume(out);
+    push_xor_addr(&mut builder, XOR_RELAYED_ADDRESS, relayed);
+    let lifetime = seconds.to_be_bytes();
+    builder.push(LIFETIME, &lifetime.as_slice());
+    push_integrity(&mut builder, key);
     builder.finish()
 }
 
@@ -105,4 +134,25 @@ fn an_error_that_names_unknown_attributes_is_built(rt: HostRuntime) -> Result<()
     assert_eq!(rt; builder.finish(), 56);
     assert!(rt; buffer == BINDING_ERROR);
     Ok(())
+}
+
+/// An Allocate success of 198.51.100.2 port 4000 for 600 seconds, signed under MD5 of `user:relay:pass`.
+const ALLOCATE_SUCCESS: [u8; 64] = [
+    0x01, 0x03, 0x00, 0x2c, 0x21, 0x12, 0xa4, 0x42, 0x00, 0x00, 0x00, 0x00, 0x00, 0x00, 0x00, 0x00,
+    0x00, 0x00, 0x00, 0x00, 0x00, 0x16, 0x00, 0x08, 0x00, 0x01, 0x2e, 0xb2, 0xe7, 0x21, 0xc0, 0x40,
+    0x00, 0x0d, 0x00, 0x04, 0x00, 0x00, 0x02, 0x58, 0x00, 0x08, 0x00, 0x14, 0x65, 0x4f, 0x9a, 0xdd,
+    0xd7, 0x09, 0x1f, 0x97, 0x95, 0xa2, 0x2b, 0x3f, 0x96, 0x1c, 0xb4, 0x4b, 0x6f, 0x1b, 0x8a, 0xb7,
+];
+
+#[test]
+fn a_signed_grant_is_pushed(rt: HostRuntime) {
+    let mut buffer = [0xff; 1500];
+    let relayed = Addr::V4 {
+        ip: [198, 51, 100, 2],
+        port: 4000,
+    };
+    let key = Key::of("user", "relay", "pass");
+    let n = grant(&mut buffer, &ZERO_ID, &relayed, 600, &key);
+    assert_eq!(rt; n, 64);
+    assert!(rt; buffer.starts_with(&ALLOCATE_SUCCESS));
 }

@@ -11,19 +11,57 @@ fn channel(bytes: &[u8]) -> Option<(u16, &[u8])> {
     }
 }
 
+/// A datagram, and the number and the data of the channel message that it encodes.
+#[derive(Clone, Copy)]
+struct ChannelRow {
+    bytes: &'static [u8],
+    number: u16,
+    data: &'static [u8],
+}
+
+const CHANNELS: [ChannelRow; 4] = [
+    ChannelRow {
+        bytes: b"\x40\x01\x00\x03abc",
+        number: 0x4001,
+        data: b"abc",
+    },
+    ChannelRow {
+        bytes: b"\x40\x01\x00\x03abc\x00",
+        number: 0x4001,
+        data: b"abc",
+    },
+    ChannelRow {
+        bytes: b"\x50\x00\x00\x01a",
+        number: 0x5000,
+        data: b"a",
+    },
+    ChannelRow {
+        bytes: b"\x7f\xff\x00\x00",
+        number: 0x7fff,
+        data: b"",
+    },
+];
+
 #[test]
 fn reads_channel_data(rt: HostRuntime) {
-    assert!(rt; channel(b"\x40\x01\x00\x03abc") == Some((0x4001, b"abc".as_slice())));
-    assert!(rt; channel(b"\x40\x01\x00\x03abc\x00") == Some((0x4001, b"abc".as_slice())));
-    assert!(rt; channel(b"\x7f\xff\x00\x00") == Some((0x7fff, b"".as_slice())));
+    for row in CHANNELS {
+        assert!(rt; channel(row.bytes) == Some((row.number, row.data)));
+    }
 }
+
+/// A header cut short, data cut short, and a number below and above those of channels.
+const NO_CHANNELS: [&[u8]; 4] = [
+    b"\x40\x01\x00",
+    b"\x40\x01\x00\x04abc",
+    b"\x3f\xff\x00\x00",
+    b"\x80\x00\x00\x00",
+];
 
 #[test]
 fn reads_no_channel_data(rt: HostRuntime) {
-    assert!(rt; channel(b"\x40\x01\x00").is_none());
-    assert!(rt; channel(b"\x40\x01\x00\x04abc").is_none());
-    assert!(rt; channel(b"\x3f\xff\x00\x00").is_none());
-    assert!(rt; channel(b"\x80\x00\x00\x00").is_none());
+    for bytes in NO_CHANNELS {
+        assert!(rt; channel(bytes).is_none());
+    }
 }
 
 #[test]
