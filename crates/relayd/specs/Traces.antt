@@ -5,9 +5,11 @@ use Rattle.std.specs.Borrow.{Bor}
 use Rattle.hex.specs.Hex.{decode_of}
 use Rattle.insn.specs.Encoding.{Encodes}
 use Rattle.insn.specs.declared.instruction.Insn.{Insn}
+use Rattle.semantics.specs.declared.limits.TheConstants.{MAX_DATAGRAM}
 use Rattle.semantics.specs.Machine.{Context}
 use Rattle.semantics.specs.Runs.{Run, Ending, Exited, Stuck, Running}
-use Rattle.machine.specs.Tracing.{finds_nothing, run_over}
+use Rattle.machine.specs.Contexts.{finds_nothing}
+use Rattle.machine.specs.Tracing.{run_over}
 
 -- The client's side (0), the source 127.0.0.1:9 as an address record (a zero, the family 1, the port, the
 -- address), and a transaction id of zeros.
@@ -25,7 +27,7 @@ digits_of hex = unwrap_or (option_copied hex) []
 -- the digits encode this datagram, of at most 65,507 bytes
 pub record EncodeDatagram (digits datagram : List ℕ) : Type 0 where
   pub decoded : decode_of digits ≡ Ok datagram
-  pub short : length datagram ≤ 65507
+  pub short : length datagram ≤ MAX_DATAGRAM
 
 -- the digits encode a datagram
 abbrev pub HasDatagram : List ℕ → Type 0

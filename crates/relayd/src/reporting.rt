@@ -2,7 +2,7 @@
 
 ghost use Rattle.std.specs.Prelude.{◌≡◌, ◌⊎◌, ◌≤◌, ◌<◌, IfOk, IfErr, OnOk, MatchResult, true};
 ghost use Rattle.machine.specs.Contents.{datagram_of};
-ghost use Rattle.machine.specs.Tracing.{context_of};
+ghost use Rattle.machine.specs.Contexts.{context_of};
 ghost use Rattle.relayd.specs.Traces.{digits_of, trace_context, EncodeDatagram, HasNoDatagram};
 ghost use Rattle.relayd.specs.declared.error.ReportError.TheVariants.{Data, Output};
 ghost use Rattle.relayd.specs.declared.reporting.Ask.TheVariants.{Trace, Verify};
@@ -11,7 +11,9 @@ ghost use Rattle.relayd.specs.Statuses.{IsPrinted, IsRefusal, MayFail, Succeeds}
 use crate::error::{ReportError, fail};
 use insn::{DecodeError, decode};
 use loader::{LoadError, load};
-use machine::{Addr, Context, Frame, Lines, NoAllocation, Outcome, ROOM, Side, Stuck, trace};
+use machine::{
+    Addr, Context, Frame, Lines, MAX_DATAGRAM, NoAllocation, Outcome, Side, Stuck, trace,
+};
 use std::alloc::Global;
 use std::io::Write;
 use verifier::Refusal;
@@ -72,7 +74,7 @@ fn fill(frame: &mut Frame, hex: Option<&str>) -> Result<(), ReportError>
 {
     let digits = hex.unwrap_or("").as_bytes();
     let n = digits.len() / 2;
-    if n > ROOM {
+    if n > MAX_DATAGRAM {
         return Err(ReportError::Data);
     }
     let (datagram, _) = frame.area().split_at_mut(n);

@@ -2,6 +2,7 @@
 //! that its rows are about.
 
 mod insn_rows;
+mod limit_rows;
 mod loader_rows;
 mod machine_rows;
 mod report_rows;

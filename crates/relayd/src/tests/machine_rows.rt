@@ -8,8 +8,8 @@ use crate::reporting::Ask;
 use insn::Insn;
 use loader::load;
 use machine::{
-    Addr, Context, Frame, Helpers, KEPT, Kept, NoAllocation, Outcome, ROOM, Side, Silent, Sink,
-    run, trace,
+    Addr, Context, Frame, Helpers, KEPT, Kept, MAX_DATAGRAM, NoAllocation, Outcome, Side, Silent,
+    Sink, run, trace,
 };
 use std::alloc::Global;
 use std::process::Abort;
@@ -300,7 +300,7 @@ fn ran_over<R: AllocGlobal>(rt: &R, slots: &str, datagram: &[u8]) -> Result<(Out
 fn expect_verdicts<R: Abort + AllocGlobal>(rt: &R, rows: &[Ran]) -> Result<(), Fail> {
     for row in rows {
         let datagram = program(rt, row.hex)?;
-        assert!(rt; datagram.len() <= ROOM);
+        assert!(rt; datagram.len() <= MAX_DATAGRAM);
         let (outcome, kept) = ran_over(rt, row.slots, &datagram)?;
         let hex = row.hex;
         assert_eq!(rt; outcome.verdict, row.verdict, "{hex}");
@@ -367,7 +367,7 @@ fn agree<R: Abort + AllocGlobal>(
         (8, 65_507),
     ] {
         let datagram = seeded(rt.alloc(), seed, count)?;
-        assert!(rt; datagram.len() <= ROOM);
+        assert!(rt; datagram.len() <= MAX_DATAGRAM);
         start_on(ran, &datagram);
         start_on(traced, &datagram);
         let outcome = run(loaded.program(), ran, &NoAllocation);

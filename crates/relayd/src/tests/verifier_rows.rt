@@ -2,6 +2,7 @@
 
 ghost use Rattle.std.specs.Prelude.{◌≡◌, ◌<◌, ◌≤◌};
 ghost use Rattle.insn.specs.Encoding.{slot_count};
+ghost use Rattle.insn.specs.declared.decoding.TheConstants.{MAX_SLOTS};
 
 use super::{FIFTH_BYTE, FIFTH_BYTE_CHECKED, FOURTH_BYTE, Verified};
 use insn::{AluOp, Condition, Insn, Operand, Reg};
@@ -391,7 +392,7 @@ fn count_verified<L: Ledger>(
     requires name { blank.name ≡ L.name }
     requires parts { blank.parts ≡ L.parts }
     requires some { 0 < L.parts }
-    requires few { slot_count code.now ≤ 4096 }
+    requires few { slot_count code.now ≤ MAX_SLOTS }
 {
     let mut steps = Steps::<L>::new(blank);
     let verified = verify(rt.alloc(), code, budget, &mut steps)?;
@@ -400,7 +401,7 @@ fn count_verified<L: Ledger>(
 
 /// Verifies the code with this budget, and returns how many instructions it has.
 fn verified(rt: &HostRuntime, code: &[Insn], budget: usize) -> Result<usize, Refusal>
-    requires { slot_count code.now ≤ 4096 }
+    requires { slot_count code.now ≤ MAX_SLOTS }
 {
     count_verified::<Brand>(rt, code, budget, Blank::new(1))
 }

@@ -25,7 +25,7 @@ returns-in-Ok-clause-datagram c =
     let short : length front ≡ n = omega (arith, count) in
     let long : length (front ++ back) ≡ 65507 = omega (arith, length-append front back, c.split_at_mut-datagram.ensures.front_len, c.split_at_mut-datagram.ensures.back_len, c.area.ensures.len) in
     let room = room_written c.args.frame.now (front ++ back) (ap length (sym c.area.ensures.value) ∙ c.area.ensures.len) long in
-    let few : n ≤ 65507 = omega (arith, c.if-n-gt-ROOM) in
+    let few : n ≤ 65507 = omega (arith, c.if-n-gt-MAX_DATAGRAM) in
     let datagram = datagram_started _ _ _ n (ap length room ∙ long) few c.start.ensures ∙ ap (take n) room ∙ take_at front back n short in
     record {
       decoded = ap decode_of digits ∙ sym (decode_sized-twice text _ count) ∙ sized ∙ ap Ok (sym datagram);
@@ -36,10 +36,10 @@ returns-in-Ok-clause-datagram c =
 too_many : (text : List ℕ) → 65507 < length text / 2 → HasNoDatagram text
 too_many text many datagram encode = let count = (decode_of-ok text datagram encode.decoded).2 in omega (arith, count, many, encode.short)
 
-pub returns-then-n-gt-ROOM-clause-refused : goal.returns-then-n-gt-ROOM-clause-refused
-returns-then-n-gt-ROOM-clause-refused c =
+pub returns-then-n-gt-MAX_DATAGRAM-clause-refused : goal.returns-then-n-gt-MAX_DATAGRAM-clause-refused
+returns-then-n-gt-MAX_DATAGRAM-clause-refused c =
     let digits : digits_of c.args.hex ≡ c.as_bytes-digits.result.now = search rules in
-    (refl, subst HasNoDatagram (sym digits) (too_many c.as_bytes-digits.result.now (omega (arith, c.if-n-gt-ROOM))))
+    (refl, subst HasNoDatagram (sym digits) (too_many c.as_bytes-digits.result.now (omega (arith, c.if-n-gt-MAX_DATAGRAM))))
 
 pub returns-in-Ok-clause-context : goal.returns-in-Ok-clause-context
 returns-in-Ok-clause-context c = search rules

@@ -1,0 +1,18 @@
+//! The limits that code and contracts share, against the numbers of this profile.
+
+use insn::MAX_SLOTS;
+use loader::BUDGET;
+use machine::KEPT;
+use semantics::{HEADROOM, MAX_DATAGRAM, MAX_OFFSET, STACK_BYTES, TAILROOM};
+
+#[test]
+fn limits_have_their_values(rt: HostRuntime) {
+    assert_eq!(rt; MAX_SLOTS, 4_096);
+    assert_eq!(rt; BUDGET, 100_000);
+    assert_eq!(rt; STACK_BYTES, 512);
+    assert_eq!(rt; HEADROOM, 64);
+    assert_eq!(rt; MAX_DATAGRAM, 65_507);
+    assert_eq!(rt; TAILROOM, 3);
+    assert_eq!(rt; MAX_OFFSET, 1_048_576);
+    assert_eq!(rt; KEPT, 4_096);
+}
