@@ -1,0 +1,5 @@
+use Rattle.std.proofs.Common.{rules}
+use Rattle.credentials.proofs.signing.sign.Goals as goal
+
+pub returns-clause-appends : goal.returns-clause-appends
+returns-clause-appends c = search rules
