@@ -110,40 +110,29 @@ module _ {Log : Type 0} (with_step : Log → Visit → Log) (program : List Insn
         logged = λ w. logged_more last (visit at.slot i) logs ∙ ap (fold with_step old) (sym (append-nil (has.path ++ visit at.slot i ∷ []))) ∙ sym (ap (λ (r : Run). fold with_step old r.path) (whole w));
       }
 
+  -- a run that is stuck behind a path
+  stuck_behind : (more : List Visit) (last : Log) (reason : Reason) (slot : ℕ) → last ≡ fold with_step old (has.path ++ more)
+      → ((w : Surroundings) → whole_run w program memory ≡ turned_to w program memory at.slot registers steps has.path more (runs.Sticks reason slot))
+      → IsWholeRun with_step program memory old last (Err (record { reason = reason; slot = slot }))
+  stuck_behind more last reason slot logs whole = record {
+    ending = λ w. ap (λ (r : Run). r.ending) (whole w);
+    kept = λ w. ap (λ (r : Run). r.state.memory) (whole w);
+    planless = λ w. ap (λ (r : Run). r.state.plan) (whole w);
+    logged = λ w. logs ∙ ap (fold with_step old) (sym (append-nil (has.path ++ more))) ∙ sym (ap (λ (r : Run). fold with_step old r.path) (whole w));
+  }
+
   pub over_at_stuck : (registers' : List Value) (reason : Reason) (last : Log) (i : Insn) → fetch program at.slot ≡ Begins i → last ≡ with_step new (visit at.slot i)
       → result_of at.slot registers' memory (code.Sticks reason) ≡ applied program (state_at at.slot registers memory) i (effect memory registers i)
       → IsWholeRun with_step program memory old last (Err (record { reason = reason; slot = at.slot }))
-  over_at_stuck registers' reason last i here logs result =
-      let whole = λ (w : Surroundings).
-      turned (Begins i) here w
-      ∙ ap (λ (r : runs.StepResult). turned_to w program memory at.slot registers steps has.path (visit at.slot i ∷ []) r) (sym result) in
-      record {
-        ending = λ w. ap (λ (r : Run). r.ending) (whole w);
-        kept = λ w. ap (λ (r : Run). r.state.memory) (whole w);
-        planless = λ w. ap (λ (r : Run). r.state.plan) (whole w);
-        logged = λ w. logged_more last (visit at.slot i) logs ∙ ap (fold with_step old) (sym (append-nil (has.path ++ visit at.slot i ∷ []))) ∙ sym (ap (λ (r : Run). fold with_step old r.path) (whole w));
-      }
+  over_at_stuck registers' reason last i here logs result = stuck_behind (visit at.slot i ∷ []) last reason at.slot (logged_more last (visit at.slot i) logs)
+      (λ w. turned (Begins i) here w ∙ ap (λ (r : runs.StepResult). turned_to w program memory at.slot registers steps has.path (visit at.slot i ∷ []) r) (sym result))
 
-  logged_here : new ≡ fold with_step old ((has.path ++ []) ++ [])
-  logged_here = has.logged ∙ ap (fold with_step old) (sym (append-nil has.path) ∙ sym (append-nil (has.path ++ [])))
+  logged_here : new ≡ fold with_step old (has.path ++ [])
+  logged_here = has.logged ∙ ap (fold with_step old) (sym (append-nil has.path))
 
   -- past the last instruction, and inside one, no step is reported
   pub over_past : fetch program at.slot ≡ Past → IsWholeRun with_step program memory old new (Err (record { reason = FallsOffEnd; slot = last_slot program }))
-  over_past here =
-      let whole = turned Past here in
-      record {
-        ending = λ w. ap (λ (r : Run). r.ending) (whole w);
-        kept = λ w. ap (λ (r : Run). r.state.memory) (whole w);
-        planless = λ w. ap (λ (r : Run). r.state.plan) (whole w);
-        logged = λ w. logged_here ∙ sym (ap (λ (r : Run). fold with_step old r.path) (whole w));
-      }
+  over_past here = stuck_behind [] new FallsOffEnd (last_slot program) logged_here (turned Past here)
 
   pub over_inside : fetch program at.slot ≡ Inside → IsWholeRun with_step program memory old new (Err (record { reason = JumpIntoWide; slot = at.slot }))
-  over_inside here =
-      let whole = turned Inside here in
-      record {
-        ending = λ w. ap (λ (r : Run). r.ending) (whole w);
-        kept = λ w. ap (λ (r : Run). r.state.memory) (whole w);
-        planless = λ w. ap (λ (r : Run). r.state.plan) (whole w);
-        logged = λ w. logged_here ∙ sym (ap (λ (r : Run). fold with_step old r.path) (whole w));
-      }
+  over_inside here = stuck_behind [] new JumpIntoWide at.slot logged_here (turned Inside here)

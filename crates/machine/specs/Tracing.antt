@@ -3,6 +3,7 @@ use Rattle.std.specs.Prelude.{◌≡◌, ℕ, ◌+◌, List, ◌++◌, length, d
 use Rattle.insn.specs.declared.instruction.Insn.{Insn}
 use Rattle.semantics.specs.Machine.{AddressRecord, Surroundings, start}
 use Rattle.semantics.specs.Runs.{Run, Exited, run}
+use Rattle.semantics.specs.declared.limits.TheConstants.{HEADROOM, TAILROOM}
 use Rattle.machine.specs.Contents.{Contents, datagram_of}
 use Rattle.machine.specs.Contexts.{address_of, context_of}
 use Rattle.machine.specs.declared.outcome.Outcome.{Outcome}
@@ -32,4 +33,4 @@ pub record IsOutcome (o : Outcome) (r : Run) : Type 0 where
 
 -- the frame as a run leaves it
 abbrev pub left_by : Contents → Run → Contents
-left_by f r = record f { area = r.state.memory.bytes ++ drop (67 + f.length) f.area; is_started = false; window = r.state.plan.window }
+left_by f r = record f { area = r.state.memory.bytes ++ drop (HEADROOM + TAILROOM + f.length) f.area; is_started = false; window = r.state.plan.window }

@@ -2,6 +2,7 @@
 
 ghost use Rattle.std.specs.Prelude.{◌≡◌, ◌≤◌, ◌+◌, ◌++◌, None, length, take, drop, replicate, IfOk, All, ◌<◌};
 ghost use Rattle.semantics.specs.Machine.{AreBytes, IsContext, empty_stack, surrounded};
+ghost use Rattle.semantics.specs.declared.limits.TheConstants.{HEADROOM, TAILROOM};
 ghost use Rattle.machine.specs.Contexts.{context_of};
 
 use crate::context::{Context, Side};
@@ -96,8 +97,8 @@ fn write_zeros(bytes: &mut [u8], from: usize, n: usize)
 
 /// Writes headroom and tailroom round a datagram of `n` bytes.
 fn surround(bytes: &mut [u8], n: usize)
-    requires { 67 + n ≤ length bytes.old }
-    ensures { bytes.new ≡ surrounded (take n (drop 64 bytes.old)) ++ drop (67 + n) bytes.old }
+    requires { HEADROOM + TAILROOM + n ≤ length bytes.old }
+    ensures { bytes.new ≡ surrounded (take n (drop HEADROOM bytes.old)) ++ drop (HEADROOM + TAILROOM + n) bytes.old }
 {
     write_zeros(bytes, 0, HEADROOM);
     write_zeros(bytes, HEADROOM + n, TAILROOM);
@@ -105,8 +106,8 @@ fn surround(bytes: &mut [u8], n: usize)
 
 /// Returns the datagram of `n` bytes in an area.
 fn datagram_in(area: &[u8], n: usize) -> &[u8]
-    requires { 64 + n ≤ length area.now }
-    ensures bytes { result.now ≡ take n (drop 64 area.now) }
+    requires { HEADROOM + n ≤ length area.now }
+    ensures bytes { result.now ≡ take n (drop HEADROOM area.now) }
     ensures fit { All (λ b. b < 256) result.now }
 {
     let (_, bytes) = area.split_at(HEADROOM);

@@ -4,6 +4,7 @@ ghost use Rattle.std.specs.Prelude.{◌≡◌, ◌≤◌, ◌+◌, ◌++◌, tru
 ghost use Rattle.insn.specs.Encoding.{slot_count};
 ghost use Rattle.semantics.specs.Machine.{IsContext, start, surrounded};
 ghost use Rattle.machine.specs.Contexts.{context_of};
+ghost use Rattle.semantics.specs.declared.limits.TheConstants.{HEADROOM, TAILROOM};
 ghost use Rattle.semantics.specs.Runs as runs;
 ghost use Rattle.semantics.specs.Runs.{IsDatagram};
 ghost use Rattle.machine.specs.Contents.{datagram_of};
@@ -32,7 +33,7 @@ pub(crate) fn execute_frame<S: Sink>(
     requires started { frame.now.is_started ≡ true }
     ensures datagram { IsDatagram (datagram_of frame.now) }
     ensures context { IsContext (context_of frame.now.context) }
-    ensures around { frame.now.area ≡ surrounded (datagram_of frame.now) ++ drop (67 + frame.now.length) frame.now.area }
+    ensures around { frame.now.area ≡ surrounded (datagram_of frame.now) ++ drop (HEADROOM + TAILROOM + frame.now.length) frame.now.area }
     ensures walked { IsWholeRun S.with_step code.now (start (datagram_of frame.now)).memory (S.log sink.old) (S.log sink.new) result }
 {
     let length = frame.datagram().len();
