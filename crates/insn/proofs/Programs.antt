@@ -270,7 +270,7 @@ at_fault bytes fault.WideCut n whole first = (whole, first)
 at_fault bytes fault.UnusedField n whole first = (whole, first)
 
 pub faulty_is_refused : (bytes : List ℕ) (e : DecodeError) → IsWhole bytes → IsFaulty bytes e → IsRefused bytes e
-faulty_is_refused bytes e whole told = subst (IsRefused bytes) (sym told.2) (at_fault bytes told.1 told.0 whole told.3)
+faulty_is_refused bytes e whole first = subst (IsRefused bytes) (sym first.2) (at_fault bytes first.1 first.0 whole first.3)
 
 -- the code's answer is the program that the bytes encode, if they encode one
 pub only_program : (bytes : List ℕ) (r : Result (Vec Insn) DecodeError) → IfOk r (λ v. Encodes v.items bytes) → IfErr r (λ e. (e ≡ error.Memory) ⊎ IsRefused bytes e)
@@ -362,7 +362,7 @@ found_whole bytes (Err e) whole found = tt
 pub refused_whole : (bytes : List ℕ) (r : Result (Vec Insn) DecodeError) → IsWhole bytes → IfErr r (λ e. (e ≡ error.Memory) ⊎ IsFaulty bytes e) → IfErr r (λ e. (e ≡ error.Memory) ⊎ IsRefused bytes e)
 refused_whole bytes (Ok v) whole refused = tt
 refused_whole bytes (Err e) whole (inl memory) = inl memory
-refused_whole bytes (Err e) whole (inr told) = inr (faulty_is_refused bytes e whole told)
+refused_whole bytes (Err e) whole (inr first) = inr (faulty_is_refused bytes e whole first)
 
 -- a fault of the first slot's fields, in the answer of the reader of one slot
 pub refused_slot : (bytes : List ℕ) (f : Fields) (r : Result Insn SlotFault) → 8 ≤ length bytes → HaveRoom f → slot_bytes f ≡ take 8 bytes → IfErr r (LacksForm f) → IfErr r (HasFault bytes)

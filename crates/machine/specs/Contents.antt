@@ -1,6 +1,6 @@
 -- The contents of a frame: a datagram between headroom and tailroom, in one area of bytes.
 use Rattle.std.specs.Prelude.{◌≡◌, ℕ, ◌+◌, ◌≤◌, Bool, true, false, List, ◌++◌, All, length, take, drop, Option, None, IfSome}
-use Rattle.semantics.specs.Machine.{IsContext, surrounded, empty_stack}
+use Rattle.semantics.specs.Machine.{IsContext, Memory, surrounded, empty_stack, start}
 use Rattle.semantics.specs.declared.limits.TheConstants.{HEADROOM, MAX_DATAGRAM, TAILROOM}
 use Rattle.machine.specs.Contexts.{context_of}
 use Rattle.machine.specs.declared.context.Context.{Context}
@@ -30,6 +30,14 @@ with_room f bytes = record f { area = take (length f.area) (take HEADROOM f.area
 -- the datagram
 abbrev pub datagram_of : Contents → List ℕ
 datagram_of f = take f.length (drop HEADROOM f.area)
+
+-- the area of a started frame: its datagram with zeros round it, and what stands behind them
+abbrev pub surrounded_area : Contents → List ℕ
+surrounded_area f = surrounded (datagram_of f) ++ drop (HEADROOM + TAILROOM + f.length) f.area
+
+-- the memory that a run over a frame begins with
+abbrev pub memory_of : Contents → Memory
+memory_of f = (start (datagram_of f)).memory
 
 -- the bytes of a window, of a front and a length
 abbrev pub window_of : Contents → ℕ × ℕ → List ℕ

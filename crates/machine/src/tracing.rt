@@ -1,13 +1,12 @@
 //! The tagged runs of programs over a frame.
 
-ghost use Rattle.std.specs.Prelude.{◌≡◌, ◌≤◌, ◌+◌, ◌++◌, true, length, drop, fold, IfOk, IfErr};
+ghost use Rattle.std.specs.Prelude.{◌≡◌, ◌≤◌, true, fold, IfOk, IfErr};
 ghost use Rattle.insn.specs.Encoding.{slot_count};
-ghost use Rattle.semantics.specs.Machine.{IsContext, start, surrounded};
+ghost use Rattle.semantics.specs.Machine.{IsContext};
 ghost use Rattle.machine.specs.Contexts.{context_of};
-ghost use Rattle.semantics.specs.declared.limits.TheConstants.{HEADROOM, TAILROOM};
 ghost use Rattle.semantics.specs.Runs as runs;
 ghost use Rattle.semantics.specs.Runs.{IsDatagram};
-ghost use Rattle.machine.specs.Contents.{datagram_of};
+ghost use Rattle.machine.specs.Contents.{datagram_of, memory_of, surrounded_area};
 ghost use Rattle.machine.specs.Tracing.{run_of, IsOutcome, left_by};
 ghost use Rattle.insn.specs.declared.decoding.TheConstants.{MAX_SLOTS};
 ghost use Rattle.machine.specs.Execution.{IsWholeRun};
@@ -33,8 +32,8 @@ pub(crate) fn execute_frame<S: Sink>(
     requires started { frame.now.is_started ≡ true }
     ensures datagram { IsDatagram (datagram_of frame.now) }
     ensures context { IsContext (context_of frame.now.context) }
-    ensures around { frame.now.area ≡ surrounded (datagram_of frame.now) ++ drop (HEADROOM + TAILROOM + frame.now.length) frame.now.area }
-    ensures walked { IsWholeRun S.with_step code.now (start (datagram_of frame.now)).memory (S.log sink.old) (S.log sink.new) result }
+    ensures around { frame.now.area ≡ surrounded_area frame.now }
+    ensures walked { IsWholeRun S.with_step code.now (memory_of frame.now) (S.log sink.old) (S.log sink.new) result }
 {
     let length = frame.datagram().len();
     let (bytes, _) = frame.area.split_at(HEADROOM + length + TAILROOM);

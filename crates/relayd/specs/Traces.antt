@@ -20,7 +20,7 @@ trace_context = record {
   transaction_id = 0 ∷ 0 ∷ 0 ∷ 0 ∷ 0 ∷ 0 ∷ 0 ∷ 0 ∷ 0 ∷ 0 ∷ 0 ∷ 0 ∷ [];
 }
 
--- the digits of the option; without it there are none
+-- the digits of the option, empty where it is absent
 abbrev pub digits_of : Option (Bor (List ℕ)) → List ℕ
 digits_of hex = unwrap_or (option_copied hex) []
 
