@@ -45,7 +45,7 @@ pub record IsFresh (p : Parts) (nonce code name : List ℕ) : Type 0 where
 abbrev pub IsNoUser : Names → List ℕ → Type 0
 IsNoUser users name = (k : ℕ) → k < length users → (slice_index_or users k ([], [])).0 ≢ name
 
--- the answer of the check: a user's index, or the first test that fails; the realm that a message names is not compared
+-- the result of the check: a user's index, or the first test that fails; the realm that a message names is not compared
 abbrev pub IsChecked : Parts → List ℕ → Names → List ℕ → Result ℕ AuthError → Type 0
 IsChecked p realm users nonce (Ok index) = (code : List ℕ) × (name : List ℕ) × IsFresh p nonce code name × IsUser users name index × (code_under (user_key realm users index) p ≡ Some code)
 IsChecked p realm users nonce (Err Missing) = value_in p message_integrity ≡ None

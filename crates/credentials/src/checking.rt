@@ -158,8 +158,8 @@ pub fn check(
     Ok(authenticated.user)
 }
 
-/// States that the ordered check has at most one answer for a message.
-pub fn answers_are_unique()
+/// States that the ordered check has at most one result for a message.
+pub fn results_are_unique()
     ensures { (p : Parts) (realm : List ℕ) (users : Names) (nonce : List ℕ) (a b : Result ℕ AuthError)
         → IsChecked p realm users nonce a → IsChecked p realm users nonce b → a ≡ b }
 {}

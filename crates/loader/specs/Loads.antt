@@ -1,4 +1,4 @@
--- The answers of the loader.
+-- The results of the loader.
 use Rattle.std.specs.Prelude.{◌≡◌, ◌⊎◌, ℕ, List, Result, Ok, Err}
 use Rattle.insn.specs.Encoding.{Encodes}
 use Rattle.insn.specs.Refusal.{IsRefused}
@@ -21,7 +21,7 @@ abbrev pub IsLoadRefusal : List ℕ → LoadError → Type 0
 IsLoadRefusal bytes (Decode e) = (e ≡ error.Memory) ⊎ IsRefused bytes e
 IsLoadRefusal bytes (Verify e) = (code : List Insn) × Encodes code bytes × MayRefuse code BUDGET e
 
--- the answer is a refusal, unless memory ran out while decoding
+-- the result is this refusal, unless memory ran out while decoding
 abbrev pub IsUnlessMemory : {T : Type 0} → LoadError → Result T LoadError → Type 0
 IsUnlessMemory e (Ok x) = ⊥
 IsUnlessMemory e (Err f) = (f ≡ e) ⊎ (f ≡ Decode error.Memory)

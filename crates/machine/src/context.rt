@@ -1,4 +1,4 @@
-//! The context of a run: what a program may read about the datagram at hand.
+//! The context of a run: what a program may read about the current datagram.
 
 use attributes::Addr;
 

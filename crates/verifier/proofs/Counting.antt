@@ -95,7 +95,7 @@ two_branches code slot m (insn.Jump offset) e = absurd cc
 two_branches code slot m (insn.Load z dst base d) e = absurd cc
 two_branches code slot m insn.Exit e = absurd cc
 
--- the number of beginnings from the state at hand, if there is one
+-- the number of beginnings from the current state, if there is one
 abbrev pub count_next : List Insn → Option Pending → ℕ
 count_next code None = 0
 count_next code (Some p) = count_from code p

@@ -36,7 +36,7 @@ use Rattle.verifier.proofs.Counting.{count_next, counts_before, counted_at, fuel
 abbrev pub first_pending : Pending
 first_pending = record { slot = 0; state = first_state }
 
--- the walk after some steps, with one state at hand and others pending
+-- the walk after some steps, with a current state and others pending
 pub record IsWalking (code : List Insn) (made : ℕ) (here : Pending) (pending : List Pending) : Type 0 where
   pub inside : IsInside code here
   pub inside_pending : All (IsInside code) pending

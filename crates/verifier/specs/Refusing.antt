@@ -21,7 +21,7 @@ IfBudget (refusal.Stuck reason slot) P = Unit {0}
 IfBudget (refusal.Budget slot) P = P
 IfBudget (refusal.Memory slot) P = Unit {0}
 
--- What verification with a budget answers: accepted code is safe and laid out; a fault of the layout is the refusal;
+-- The result of verification with a budget: accepted code is safe and laid out; a fault of the layout is the refusal;
 -- what is refused may be refused.
 pub record IsVerdict {T : Type 0} (code : List Insn) (budget : ℕ) (result : Result T Refusal) : Type 0 where
   pub safe : OnOk result (IsSafe code)

@@ -114,7 +114,7 @@ fn advance(
     }
 }
 
-/// Returns the state to follow next: that of the path at hand, or behind its exit the last one left pending.
+/// Returns the state to follow next: that of the current path, or, after its exit, the last pending one.
 fn following(next: Option<Pending>, pending: &mut Vec<Pending>) -> Option<Pending>
     ensures { Picks next pending.old.items result pending.new.items }
 {
