@@ -1,5 +1,7 @@
-use Rattle.std.proofs.Common.{rules}
+use Rattle.std.proofs.Common.{ℕ, List, subst, ◌∙◌}
+use Rattle.stun.specs.Builders.{Appends}
+use Rattle.stun.specs.Registry.{message_integrity}
 use Rattle.credentials.proofs.signing.push_integrity.Goals as goal
 
 pub returns-clause-appends : goal.returns-clause-appends
-returns-clause-appends c = search rules
+returns-clause-appends c = subst (λ (code : List ℕ). Appends message_integrity code c.args.builder.now c.push.new.self) (c.as_slice.ensures ∙ c.code_for-code.ensures) c.push.ensures.appends

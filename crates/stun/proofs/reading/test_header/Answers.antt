@@ -1,0 +1,5 @@
+use Rattle.std.proofs.Common.{rules}
+use Rattle.stun.proofs.reading.test_header.Goals as goal
+
+pub returns-then-length-ne0-clause-refused : goal.returns-then-length-ne0-clause-refused
+returns-then-length-ne0-clause-refused c = search rules
