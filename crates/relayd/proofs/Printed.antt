@@ -3,7 +3,7 @@ use Rattle.std.proofs.Common.{◌≡◌, ℕ, List, Result, Ok, Err, IfOk, IfErr
 use Rattle.relayd.specs.Statuses.{IsPrinted, PrintsRefusal, Succeeds}
 use Rattle.relayd.specs.declared.reporting.Ask.{Ask}
 
-zero_printed : (asked : Ask) (file : List ℕ) (status : ℕ) → status ≡ 0 → Succeeds asked file → IsPrinted asked file status
+pub zero_printed : (asked : Ask) (file : List ℕ) (status : ℕ) → status ≡ 0 → Succeeds asked file → IsPrinted asked file status
 zero_printed asked file status is succeeds = record { range = inl is; success = λ _. succeeds; refusal = λ one. absurd (omega (arith, is, one)) }
 
 one_printed : (asked : Ask) (file : List ℕ) (status : ℕ) → status ≡ 1 → PrintsRefusal asked file → IsPrinted asked file status

@@ -4,6 +4,7 @@ use Rattle.std.specs.Prelude.{Result, Ok, Err, MatchResult}
 use Rattle.hex.specs.Hex.{decode_of}
 use Rattle.hex.specs.declared.error.FromHexError.{FromHexError}
 use Rattle.hex.proofs.HexLemmas.{decode_of-ok, decode_sized-ok, decode_sized-twice}
+use Rattle.machine.specs.Contexts.{context_of}
 use Rattle.machine.specs.FrameLaws.{room_written, datagram_started}
 use Rattle.relayd.specs.Traces.{digits_of, HasNoDatagram}
 use Rattle.relayd.proofs.reporting.fill.Goals as goal
@@ -42,4 +43,4 @@ returns-then-n-gt-MAX_DATAGRAM-clause-refused c =
     (refl, subst HasNoDatagram (sym digits) (too_many c.as_bytes-digits.result.now (omega (arith, c.if-n-gt-MAX_DATAGRAM))))
 
 pub returns-in-Ok-clause-context : goal.returns-in-Ok-clause-context
-returns-in-Ok-clause-context c = search rules
+returns-in-Ok-clause-context c = ap context_of c.start.ensures.context

@@ -1,5 +1,10 @@
-use Rattle.std.proofs.Common.{rules}
+use Rattle.std.proofs.Common.{rules, refl}
+use Rattle.relayd.specs.Statuses.{IsSafeFile}
+use Rattle.relayd.specs.declared.reporting.Ask.TheVariants.{Verify}
+use Rattle.relayd.proofs.Printed.{zero_printed}
 use Rattle.relayd.proofs.reporting.report_verify.Goals as goal
 
 pub returns-in_ok-map_err-in-Ok-clause-printed : goal.returns-in_ok-map_err-in-Ok-clause-printed
-returns-in_ok-map_err-in-Ok-clause-printed g c = search rules
+returns-in_ok-map_err-in-Ok-clause-printed g c =
+    let safe : IsSafeFile c.args.file.now = search rules in
+    zero_printed Verify c.args.file.now 0 refl safe
