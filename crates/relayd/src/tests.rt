@@ -9,6 +9,7 @@ mod report_rows;
 mod verifier_rows;
 
 use crate::reporting::{Ask, report};
+use std::process::Abort;
 use std::test::Fail;
 
 /// Decodes the bytes of a program from hexadecimal digits, with blanks between the slots.
@@ -34,6 +35,19 @@ pub fn reported<R: AllocGlobal>(rt: &R, ask: Ask<'_>, file: &[u8]) -> Printed {
     let mut err = Vec::new(rt.alloc());
     let status = report(rt.alloc(), ask, file, &mut out, &mut err);
     Printed { status, out, err }
+}
+
+/// Compares what a report prints to each stream, and its status.
+pub fn expect_printed<R: Abort + AllocGlobal>(
+    rt: &R,
+    report: &Printed,
+    out: &str,
+    err: &str,
+    status: u8,
+) {
+    assert_eq!(rt; report.out.as_slice(), out.as_bytes(), "{out}{err}");
+    assert_eq!(rt; report.err.as_slice(), err.as_bytes(), "{out}{err}");
+    assert_eq!(rt; report.status, status, "{out}{err}");
 }
 
 /// A program file, the line of `verify` on it, and the status.

@@ -2,7 +2,7 @@
 
 use super::insn_rows::UNDECODED;
 use super::verifier_rows::{PROGRAMS, REPEATED, Repeated};
-use super::{Verified, program, reported};
+use super::{Verified, expect_printed, program, reported};
 use crate::reporting::Ask;
 use loader::load;
 use std::process::Abort;
@@ -11,9 +11,7 @@ use std::test::Fail;
 /// Verifies and loads a file, and compares both with the line.
 fn expect<R: Abort + AllocGlobal>(rt: &R, file: &[u8], line: &str, status: u8) -> Result<(), Fail> {
     let report = reported(rt, Ask::Verify, file);
-    assert_eq!(rt; report.out.as_slice(), line.as_bytes());
-    assert_eq!(rt; report.status, status, "{line}");
-    assert_eq!(rt; report.err.len(), 0, "{line}");
+    expect_printed(rt, &report, line, "", status);
     let loaded = match load(rt.alloc(), file) {
         Ok(loaded) => {
             let count = loaded.program().code().len();

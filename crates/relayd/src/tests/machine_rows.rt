@@ -3,7 +3,9 @@
 ghost use Rattle.std.specs.Prelude.{◌≡◌, ◌≤◌, true, length};
 
 use super::verifier_rows::PROGRAMS;
-use super::{FIFTH_BYTE, FIFTH_BYTE_CHECKED, FOURTH_BYTE, Verified, program, reported};
+use super::{
+    FIFTH_BYTE, FIFTH_BYTE_CHECKED, FOURTH_BYTE, Verified, expect_printed, program, reported,
+};
 use crate::reporting::Ask;
 use insn::Insn;
 use loader::load;
@@ -181,22 +183,32 @@ fn a_trace_ends_as_the_run_does(rt: HostRuntime) -> Result<(), Fail> {
     expect_ends(&rt, TRACED.as_slice())
 }
 
-/// Each slot of the longest program moves its own number into r0.
-#[test]
-fn a_trace_prints_every_step(rt: HostRuntime) -> Result<(), Fail> {
+/// Makes the longest program whose slots each move their own number into r0.
+fn numbered<R: AllocGlobal>(rt: &R) -> Result<Vec<u8>, Fail> {
     let mut file = Vec::new(rt.alloc());
-    let mut lines = String::new(rt.alloc());
     for slot in 0..4095_u32 {
         file.extend_from_slice(&[0xb7, 0, 0, 0])?;
         file.extend_from_slice(&slot.to_le_bytes())?;
+    }
+    file.extend_from_slice(&program(rt, "9500000000000000")?)?;
+    Ok(file)
+}
+
+/// Makes the trace of that program.
+fn numbered_lines<R: AllocGlobal>(rt: &R) -> Result<String, Fail> {
+    let mut lines = String::new(rt.alloc());
+    for slot in 0..4095_u32 {
         lines.push_str(format!(in rt.alloc(); "{slot} mov r0, {slot}\n")?.as_str())?;
     }
-    file.extend_from_slice(&program(&rt, "9500000000000000")?)?;
     lines.push_str("4095 exit\nexit 4094\nwindow none\ndestination none\n")?;
-    let report = reported(&rt, Ask::Trace { hex: None }, &file);
-    assert_eq!(rt; report.out.as_slice(), lines.as_bytes());
-    assert_eq!(rt; report.status, 0);
-    assert_eq!(rt; report.err.len(), 0);
+    Ok(lines)
+}
+
+#[test]
+fn a_trace_prints_every_step(rt: HostRuntime) -> Result<(), Fail> {
+    let lines = numbered_lines(&rt)?;
+    let report = reported(&rt, Ask::Trace { hex: None }, &numbered(&rt)?);
+    expect_printed(&rt, &report, &lines, "", 0);
     Ok(())
 }
 
@@ -215,7 +227,8 @@ fn start_on(frame: &mut Frame, datagram: &[u8])
     ensures { frame.new.is_started ≡ true }
 {
     let n = datagram.len();
-    frame.area()[..n].copy_from_slice(datagram);
+    let (room, _) = frame.area().split_at_mut(n);
+    room.copy_from_slice(datagram);
     frame.start(&CONTEXT, n);
 }
 
@@ -286,10 +299,10 @@ static RAN: [Ran; 9] = [
 ];
 
 /// Loads and runs a program over a datagram, and returns the outcome and whether the frame is as it was.
-fn ran_over<R: AllocGlobal>(rt: &R, slots: &str, datagram: &[u8]) -> Result<(Outcome, bool), Fail>
+fn ran_over<R: AllocGlobal>(rt: &R, file: &[u8], datagram: &[u8]) -> Result<(Outcome, bool), Fail>
     requires { length datagram.now ≤ 65507 }
 {
-    let loaded = load(rt.alloc(), &program(rt, slots)?)?;
+    let loaded = load(rt.alloc(), file)?;
     let mut frame = Frame::new(rt.alloc())?;
     start_on(&mut frame, datagram);
     let outcome = run(loaded.program(), &mut frame, &NoAllocation);
@@ -301,7 +314,7 @@ fn expect_verdicts<R: Abort + AllocGlobal>(rt: &R, rows: &[Ran]) -> Result<(), F
     for row in rows {
         let datagram = program(rt, row.hex)?;
         assert!(rt; datagram.len() <= MAX_DATAGRAM);
-        let (outcome, kept) = ran_over(rt, row.slots, &datagram)?;
+        let (outcome, kept) = ran_over(rt, &program(rt, row.slots)?, &datagram)?;
         let hex = row.hex;
         assert_eq!(rt; outcome.verdict, row.verdict, "{hex}");
         assert_eq!(rt; outcome.steps, row.steps, "{hex}");
@@ -317,33 +330,44 @@ fn a_loaded_program_runs_to_its_verdict(rt: HostRuntime) -> Result<(), Fail> {
     expect_verdicts(&rt, RAN.as_slice())
 }
 
-#[test]
-fn the_longest_program_runs_to_its_exit(rt: HostRuntime) -> Result<(), Fail> {
-    let mov = program(&rt, "b700000000000000")?;
+/// Makes the longest program whose slots each move 0 into r0.
+fn longest<R: AllocGlobal>(rt: &R) -> Result<Vec<u8>, Fail> {
+    let mov = program(rt, "b700000000000000")?;
     let mut file = Vec::new(rt.alloc());
     for _ in 0..4095 {
         file.extend_from_slice(&mov)?;
     }
-    file.extend_from_slice(&program(&rt, "9500000000000000")?)?;
+    file.extend_from_slice(&program(rt, "9500000000000000")?)?;
+    Ok(file)
+}
+
+#[test]
+fn the_longest_program_runs_to_its_exit(rt: HostRuntime) -> Result<(), Fail> {
+    let file = longest(&rt)?;
     let loaded = load(rt.alloc(), &file)?;
     assert_eq!(rt; loaded.program().code().len(), 4096);
-    let mut frame = Frame::new(rt.alloc())?;
-    start_on(&mut frame, &[]);
-    let outcome = run(loaded.program(), &mut frame, &NoAllocation);
+    let (outcome, kept) = ran_over(&rt, &file, &[])?;
     assert_eq!(rt; outcome.verdict, 0);
     assert_eq!(rt; outcome.steps, 4096);
+    assert!(rt; kept);
     Ok(())
 }
 
-/// Returns `count` bytes of a fixed generator.
+/// Returns the state of a fixed generator that follows another.
+fn following(state: u64) -> u64 {
+    state
+        .wrapping_mul(6_364_136_223_846_793_005)
+        .wrapping_add(1_442_695_040_888_963_407)
+}
+
+/// Returns `count` bytes of the generator.
 fn seeded(alloc: Global, seed: u64, count: usize) -> Result<Vec<u8>, Fail> {
     let mut state = seed;
     let mut bytes = Vec::new(alloc);
     for _ in 0..count {
-        state = state
-            .wrapping_mul(6_364_136_223_846_793_005)
-            .wrapping_add(1_442_695_040_888_963_407);
-        bytes.push((state >> 56) as u8)?;
+        state = following(state);
+        let [byte, ..] = state.to_be_bytes();
+        bytes.push(byte)?;
     }
     Ok(bytes)
 }
@@ -404,7 +428,8 @@ fn a_frame_shows_what_was_written(rt: HostRuntime) -> Result<(), Fail> {
     let mut frame = Frame::new(rt.alloc())?;
     assert!(rt; !frame.started());
     assert_eq!(rt; frame.area().len(), 65_507);
-    frame.area()[..3].copy_from_slice(&[1, 2, 3]);
+    let (room, _) = frame.area().split_at_mut(3);
+    room.copy_from_slice(&[1, 2, 3]);
     assert!(rt; !frame.started());
     frame.start(&CONTEXT, 2);
     assert!(rt; frame.started());
@@ -415,8 +440,8 @@ fn a_frame_shows_what_was_written(rt: HostRuntime) -> Result<(), Fail> {
     Ok(())
 }
 
-#[test]
-fn sinks_get_each_step(rt: HostRuntime) -> Result<(), Fail> {
+/// Traces a jump and an exit without a verdict, and returns the sink that stores both.
+fn kept_of_two<R: Abort + AllocGlobal>(rt: &R) -> Result<Kept, Fail> {
     let code = [Insn::Jump { offset: 0 }, Insn::Exit];
     let mut frame = Frame::new(rt.alloc())?;
     frame.start(&CONTEXT, 0);
@@ -425,6 +450,12 @@ fn sinks_get_each_step(rt: HostRuntime) -> Result<(), Fail> {
     assert!(rt; !frame.started());
     let slots: Vec<usize> = kept.visits().iter().map(|v| v.slot).collect(rt.alloc())?;
     assert_eq!(rt; slots.as_slice(), [0, 1].as_slice());
+    Ok(kept)
+}
+
+#[test]
+fn sinks_get_each_step(rt: HostRuntime) -> Result<(), Fail> {
+    let mut kept = kept_of_two(&rt)?;
     for _ in 0..KEPT {
         kept.step(7, &Insn::Exit);
     }

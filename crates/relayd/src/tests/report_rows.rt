@@ -1,6 +1,6 @@
 //! Bad data, bad files, and outputs that fail.
 
-use super::{program, reported};
+use super::{expect_printed, program, reported};
 use crate::reporting::{Ask, report};
 use insn::Insn;
 use machine::{Lines, Sink};
@@ -176,11 +176,8 @@ static REPORTS: [Report; 20] = [
 /// Reports on each row, and compares what is printed, and the status.
 fn expect_reports<R: Abort + AllocGlobal>(rt: &R, rows: &[Report]) -> Result<(), Fail> {
     for row in rows {
-        let ask = row.ask;
-        let report = reported(rt, ask, &program(rt, row.slots)?);
-        assert_eq!(rt; report.out.as_slice(), row.out.as_bytes(), "{ask:?}");
-        assert_eq!(rt; report.err.as_slice(), row.err.as_bytes(), "{ask:?}");
-        assert_eq!(rt; report.status, row.status, "{ask:?}");
+        let report = reported(rt, row.ask, &program(rt, row.slots)?);
+        expect_printed(rt, &report, row.out, row.err, row.status);
     }
     Ok(())
 }
@@ -240,20 +237,24 @@ static LONG: [Long; 5] = [
     },
 ];
 
+/// Makes the data of a row.
+fn digits_of<R: AllocGlobal>(rt: &R, row: &Long) -> Result<String, Fail> {
+    let mut digits = String::new(rt.alloc());
+    for _ in 0..row.times {
+        digits.push_str("7f")?;
+    }
+    digits.push_str(row.then)?;
+    Ok(digits)
+}
+
 /// Traces each row, and compares what is printed, and the status.
 fn expect_long<R: Abort + AllocGlobal>(rt: &R, rows: &[Long]) -> Result<(), Fail> {
     let file = program(rt, EXITS_WITH_TWO)?;
     for row in rows {
-        let mut digits = String::new(rt.alloc());
-        for _ in 0..row.times {
-            digits.push_str("7f")?;
-        }
-        digits.push_str(row.then)?;
+        let digits = digits_of(rt, row)?;
         let hex = Some(digits.as_str());
         let report = reported(rt, Ask::Trace { hex }, &file);
-        assert_eq!(rt; report.out.as_slice(), row.out.as_bytes());
-        assert_eq!(rt; report.err.as_slice(), row.err.as_bytes());
-        assert_eq!(rt; report.status, row.status);
+        expect_printed(rt, &report, row.out, row.err, row.status);
     }
     Ok(())
 }
@@ -286,38 +287,79 @@ impl Write for Failing {
     }
 }
 
+/// The room of an output, what is printed to the other stream, the status, and how often the output fails.
+#[derive(Clone, Copy)]
+struct Room {
+    room: usize,
+    err: &'static str,
+    status: u8,
+    failures: usize,
+}
+
 /// With room for all of a report nothing fails.
+static ROOMS: [Room; 4] = [
+    Room {
+        room: 0,
+        err: "cannot write output\n",
+        status: 3,
+        failures: 1,
+    },
+    Room {
+        room: 1,
+        err: "cannot write output\n",
+        status: 3,
+        failures: 1,
+    },
+    Room {
+        room: 12,
+        err: "cannot write output\n",
+        status: 3,
+        failures: 1,
+    },
+    Room {
+        room: 1_000,
+        err: "",
+        status: 0,
+        failures: 0,
+    },
+];
+
+/// Reports to an output with the room of each row, and compares what is printed, the status and the failures.
+fn expect_failures<R: Abort + AllocGlobal>(rt: &R, ask: Ask<'_>, file: &[u8], rows: &[Room]) {
+    for row in rows {
+        let room = row.room;
+        let mut out = Failing { room, failures: 0 };
+        let mut err = Vec::new(rt.alloc());
+        let status = report(rt.alloc(), ask, file, &mut out, &mut err);
+        assert_eq!(rt; err.as_slice(), row.err.as_bytes(), "{ask:?} {room}");
+        assert_eq!(rt; status, row.status, "{ask:?} {room}");
+        assert_eq!(rt; out.failures, row.failures, "{ask:?} {room}");
+    }
+}
+
+/// Returns the status of a report where the line of an error cannot be printed.
+fn status_without_a_line<R: AllocGlobal>(rt: &R, ask: Ask<'_>, file: &[u8], room: usize) -> u8 {
+    let mut out = Failing { room, failures: 0 };
+    let mut err = Failing {
+        room: 0,
+        failures: 0,
+    };
+    report(rt.alloc(), ask, file, &mut out, &mut err)
+}
+
 #[test]
 fn a_failing_output_is_reported(rt: HostRuntime) -> Result<(), Fail> {
     let file = program(&rt, EXITS_WITH_TWO)?;
-    for ask in [Ask::Verify, Ask::Trace { hex: None }] {
-        for (room, err, status, failures) in [
-            (0, "cannot write output\n", 3, 1),
-            (1, "cannot write output\n", 3, 1),
-            (12, "cannot write output\n", 3, 1),
-            (1_000, "", 0, 0),
-        ] {
-            let mut out = Failing { room, failures: 0 };
-            let mut to_err = Vec::new(rt.alloc());
-            let returned = report(rt.alloc(), ask, &file, &mut out, &mut to_err);
-            assert_eq!(rt; to_err.as_slice(), err.as_bytes(), "{ask:?} {room}");
-            assert_eq!(rt; returned, status, "{ask:?} {room}");
-            assert_eq!(rt; out.failures, failures, "{ask:?} {room}");
-        }
-    }
+    let hex = None;
+    expect_failures(&rt, Ask::Verify, &file, ROOMS.as_slice());
+    expect_failures(&rt, Ask::Trace { hex }, &file, ROOMS.as_slice());
     // a line that cannot be printed changes no status
-    for (ask, room, status) in [
-        (Ask::Verify, 0, 3),
-        (Ask::Trace { hex: Some("0") }, 1_000, 1),
-    ] {
-        let mut out = Failing { room, failures: 0 };
-        let mut err = Failing {
-            room: 0,
-            failures: 0,
-        };
-        let returned = report(rt.alloc(), ask, &file, &mut out, &mut err);
-        assert_eq!(rt; returned, status, "{ask:?}");
-    }
+    let hex = Some("0");
+    assert_eq!(rt; status_without_a_line(&rt, Ask::Verify, &file, 0), 3);
+    assert_eq!(rt;
+        status_without_a_line(&rt, Ask::Trace { hex }, &file, 1_000),
+        1
+    );
     Ok(())
 }
 
