@@ -1,3 +1,6 @@
+pub mod Tables
 pub mod Unique
 pub mod Slots
+pub mod SignedWords
+pub mod TwoSlots
 pub mod Programs

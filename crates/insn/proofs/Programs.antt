@@ -1,66 +1,46 @@
 -- Whole programs: their encodings, and the first fault of bytes.
-use Rattle.std.proofs.Common.{◌≡◌, ℕ, ◌+◌, ◌*◌, ◌/◌, ◌%◌, ◌<◌, ◌≤◌, ◌⊎◌, inl, inr, List, [], ◌∷◌, ◌++◌, length, take, drop, get_or, slice_index, refl, sym, ap, ◌∙◌, subst, arith, append_assoc, pos, FitsSigned}
+use Rattle.std.proofs.Common.{◌≡◌, ℕ, ◌+◌, ◌*◌, ◌/◌, ◌%◌, ◌^◌, ◌<◌, ◌≤◌, ◌⊎◌, inl, inr, List, [], ◌∷◌, ◌++◌, length, take, drop, slice_index, refl, sym, ap, ◌∙◌, subst, arith, append_assoc, pos, FitsSigned, ℤ, Option, Some, None}
 use Rattle.std.specs.Int.{w16, w32}
 use Rattle.std.specs.Prelude.{IfOk, IfErr, IsErrAnd, MatchResult, Result, Ok, Err}
 use Rattle.std.specs.Global.{Vec}
-use Rattle.std.proofs.lemmas.List.{length-append, length-drop, append-nil, get_or-take, take-append-drop, take_more, nil_from_length}
-use Rattle.insn.specs.Codes.{alu_code, condition_code, size_code}
-use Rattle.insn.specs.Opcode.{byte_of}
+use Rattle.std.proofs.lemmas.List.{length-append, length-drop, append-nil, get_or-take, take-append-drop, nil_from_length}
+use Rattle.std.proofs.Math.Seq.{take-append_seam}
+use Rattle.insn.specs.Codes.{code_of, offset_of, extension_offset, swap_bits}
+use Rattle.insn.specs.Words.{target_of}
+use Rattle.insn.specs.Register.{number_of}
+use Rattle.insn.specs.Opcode.{byte_of, IsOpcode}
 use Rattle.insn.specs.Fields.{HaveRoom, slot_bytes}
-use Rattle.insn.specs.Encoding.{source_of, src_of, imm_of, fields_of, encoding, slots_of, OperandFits, Fits, AllFit, encodings, slot_count, Encodes}
-use Rattle.insn.specs.Refusal.{HasFault, FirstFault, refusal_at, IsFaulty, IsWhole, IsRefused}
-use Rattle.insn.specs.Forms.{LacksForm}
+use Rattle.insn.specs.Encoding.{source_of, src_of, imm_of, low_half, fields_of, second_of, optional_bytes, encoding, slots_of, OperandFits, Fits, AllFit, encodings, slot_count, Encodes}
+use Rattle.insn.specs.Refusal.{HasRegisters, IsWide, HasFault, FirstFault, refusal_at, IsFaulty, IsWhole, IsRefused}
+use Rattle.insn.specs.Forms.{form, imm_in, HasHead, LacksHead, HasSecond, IsForm, LacksForm}
+use Rattle.insn.specs.declared.decoding.Head.{Head}
 use Rattle.insn.specs.declared.fields.Fields.{Fields}
+use Rattle.insn.specs.declared.width.Width.TheVariants.{W32, W64}
+use Rattle.insn.specs.declared.register.Reg.{Reg}
+use Rattle.insn.specs.declared.register.Reg.TheVariants as reg
 use Rattle.insn.specs.declared.operator.AluOp.{AluOp}
-use Rattle.insn.specs.declared.operator.AluOp.TheVariants as alu
-use Rattle.insn.specs.declared.condition.Condition.{Condition}
-use Rattle.insn.specs.declared.condition.Condition.TheVariants as condition
-use Rattle.insn.specs.declared.size.Size.{Size}
-use Rattle.insn.specs.declared.size.Size.TheVariants as size
+use Rattle.insn.specs.declared.operator.AluOp.TheVariants as operators
+use Rattle.insn.specs.declared.operator.Extension.{Extension}
+use Rattle.insn.specs.declared.operator.Extension.TheVariants.{ByteTo32, HalfTo32, ByteTo64, HalfTo64, WordTo64}
+use Rattle.insn.specs.declared.size.SwapSize.{SwapSize}
+use Rattle.insn.specs.declared.size.SwapSize.TheVariants as swap
+use Rattle.insn.specs.declared.opcode.Source.TheVariants as source
 use Rattle.insn.specs.declared.opcode.Opcode.{Opcode}
 use Rattle.insn.specs.declared.opcode.Opcode.TheVariants as opcode
 use Rattle.insn.specs.declared.instruction.Operand.{Operand}
 use Rattle.insn.specs.declared.instruction.Operand.TheVariants as operand
 use Rattle.insn.specs.declared.instruction.Insn.{Insn}
-use Rattle.insn.specs.declared.instruction.Insn.TheVariants.{Alu, Jump, JumpIf, Load, Exit}
+use Rattle.insn.specs.declared.instruction.Insn.TheVariants.{Alu, Mov, Neg, SignExtend, Swap, Jump, LongJump, JumpIf, Load, LoadSigned, LoadImm, Exit}
 use Rattle.insn.specs.declared.refusal.SlotFault.{SlotFault}
 use Rattle.insn.specs.declared.refusal.SlotFault.TheVariants as fault
 use Rattle.insn.specs.declared.refusal.DecodeError.{DecodeError}
 use Rattle.insn.specs.declared.refusal.DecodeError.TheVariants as error
-use Rattle.insn.proofs.Unique.{are_of, fields_of-injective, bit_at_most_one}
-use Rattle.insn.proofs.Slots.{number_small, slot_bytes-injective}
+use Rattle.insn.proofs.Unique.{number_small, byte_small, byte_of-injective, are_of, form_is}
+use Rattle.insn.proofs.Slots.{slot_bytes-injective}
+use Rattle.insn.proofs.TwoSlots as two
+use Rattle.insn.proofs.TwoSlots.{half_fits, length-wide, length-encoding, slots_small, second_is, behind_second}
 
 -- ---- one instruction
-
-alu_code_small : (op : AluOp) → alu_code op < 16
-alu_code_small alu.Add = omega arith
-alu_code_small alu.Mov = omega arith
-
-condition_code_small : (c : Condition) → condition_code c < 16
-condition_code_small condition.Eq = omega arith
-condition_code_small condition.Gt = omega arith
-condition_code_small condition.Ge = omega arith
-condition_code_small condition.Set = omega arith
-condition_code_small condition.Ne = omega arith
-condition_code_small condition.SignedGt = omega arith
-condition_code_small condition.SignedGe = omega arith
-condition_code_small condition.Lt = omega arith
-condition_code_small condition.Le = omega arith
-condition_code_small condition.SignedLt = omega arith
-condition_code_small condition.SignedLe = omega arith
-
-size_code_small : (s : Size) → size_code s < 4
-size_code_small size.Word = omega arith
-size_code_small size.Half = omega arith
-size_code_small size.Byte = omega arith
-size_code_small size.Double = omega arith
-
-byte_small : (o : Opcode) → byte_of o < 256
-byte_small (opcode.Alu op s) = omega (arith, alu_code_small op, bit_at_most_one s)
-byte_small opcode.Jump = omega arith
-byte_small (opcode.JumpIf c s) = omega (arith, condition_code_small c, bit_at_most_one s)
-byte_small opcode.Exit = omega arith
-byte_small (opcode.Load z) = omega (arith, size_code_small z)
 
 src_small : (o : Operand) → src_of o ≤ 10
 src_small (operand.Reg r) = number_small r
@@ -76,30 +56,54 @@ zero16 = record { sfits = omega arith }
 zero32 : FitsSigned w32 (pos 0)
 zero32 = record { sfits = omega arith }
 
+-- of fields with the same numbers, those of an opcode and of registers have room for them
+room_for : (o : Opcode) (d : Reg) (src : ℕ) (offset imm : ℤ) → src ≤ 10 → FitsSigned w16 offset → FitsSigned w32 imm → HaveRoom (record { opcode = byte_of o; dst = number_of d; src = src; offset = offset; imm = imm })
+room_for o d src offset imm small p q = record { opcode = byte_small o; dst = omega (arith, number_small d); src = omega arith; offset = p; imm = q }
+
+offset_fits : (op : AluOp) → FitsSigned w16 (offset_of op)
+offset_fits operators.SignedDiv = record { sfits = omega arith }
+offset_fits operators.SignedMod = record { sfits = omega arith }
+offset_fits operators.Add = zero16
+offset_fits operators.Sub = zero16
+offset_fits operators.Mul = zero16
+offset_fits operators.Div = zero16
+offset_fits operators.Or = zero16
+offset_fits operators.And = zero16
+offset_fits operators.Lsh = zero16
+offset_fits operators.Rsh = zero16
+offset_fits operators.Mod = zero16
+offset_fits operators.Xor = zero16
+offset_fits operators.Arsh = zero16
+
+extension_fits : (e : Extension) → FitsSigned w16 (extension_offset e)
+extension_fits ByteTo32 = record { sfits = omega arith }
+extension_fits HalfTo32 = record { sfits = omega arith }
+extension_fits ByteTo64 = record { sfits = omega arith }
+extension_fits HalfTo64 = record { sfits = omega arith }
+extension_fits WordTo64 = record { sfits = omega arith }
+
+swap_fits : (z : SwapSize) → FitsSigned w32 (swap_bits z)
+swap_fits swap.Half = record { sfits = omega arith }
+swap_fits swap.Word = record { sfits = omega arith }
+swap_fits swap.Double = record { sfits = omega arith }
+
 pub have_room : (i : Insn) → Fits i → HaveRoom (fields_of i)
-have_room (Alu op dst o) fits = record { opcode = byte_small (opcode.Alu op (source_of o)); dst = omega (arith, number_small dst); src = omega (arith, src_small o); offset = zero16; imm = imm_fits o fits }
-have_room (Jump distance) fits = record { opcode = omega arith; dst = omega arith; src = omega arith; offset = fits; imm = zero32 }
-have_room (JumpIf c dst o distance) fits = record { opcode = byte_small (opcode.JumpIf c (source_of o)); dst = omega (arith, number_small dst); src = omega (arith, src_small o); offset = fits.1; imm = imm_fits o fits.0 }
-have_room (Load z dst base displacement) fits = record { opcode = byte_small (opcode.Load z); dst = omega (arith, number_small dst); src = omega (arith, number_small base); offset = fits; imm = zero32 }
-have_room Exit fits = record { opcode = omega arith; dst = omega arith; src = omega arith; offset = zero16; imm = zero32 }
-
-operand_fits : (o : Operand) → FitsSigned w32 (imm_of o) → OperandFits o
-operand_fits (operand.Reg r) fits = tt
-operand_fits (operand.Imm n) fits = fits
-
--- an instruction whose fields have their widths fits
-pub fits_from_room : (i : Insn) → HaveRoom (fields_of i) → Fits i
-fits_from_room (Alu op dst o) room = operand_fits o room.imm
-fits_from_room (Jump distance) room = room.offset
-fits_from_room (JumpIf c dst o distance) room = (operand_fits o room.imm, room.offset)
-fits_from_room (Load z dst base displacement) room = room.offset
-fits_from_room Exit room = tt
+have_room (Alu w op dst o) fits = room_for (opcode.Alu w (code_of op) (source_of o)) dst (src_of o) (offset_of op) (imm_of o) (src_small o) (offset_fits op) (imm_fits o fits)
+have_room (Mov w dst o) fits = room_for (opcode.Mov w (source_of o)) dst (src_of o) (pos 0) (imm_of o) (src_small o) zero16 (imm_fits o fits)
+have_room (Neg w dst) fits = room_for (opcode.Neg w) dst 0 (pos 0) (pos 0) (omega arith) zero16 zero32
+have_room (SignExtend e dst src) fits = room_for (opcode.Mov (target_of e) source.Reg) dst (number_of src) (extension_offset e) (pos 0) (number_small src) (extension_fits e) zero32
+have_room (Swap op z dst) fits = room_for (opcode.Swap op) dst 0 (pos 0) (swap_bits z) (omega arith) zero16 (swap_fits z)
+have_room (Jump distance) fits = room_for (opcode.Jump W64) reg.R0 0 distance (pos 0) (omega arith) fits zero32
+have_room (LongJump distance) fits = room_for (opcode.Jump W32) reg.R0 0 (pos 0) distance (omega arith) zero16 fits
+have_room (JumpIf w c dst o distance) fits = room_for (opcode.JumpIf w c (source_of o)) dst (src_of o) distance (imm_of o) (src_small o) fits.1 (imm_fits o fits.0)
+have_room (Load z dst base displacement) fits = room_for (opcode.Load z) dst (number_of base) displacement (pos 0) (number_small base) fits zero32
+have_room (LoadSigned z dst base displacement) fits = room_for (opcode.LoadSigned z) dst (number_of base) displacement (pos 0) (number_small base) fits zero32
+have_room (LoadImm dst value) fits = room_for opcode.LoadImm dst 0 (pos 0) (low_half value) (omega arith) zero16 (half_fits (value % 2 ^ 32) (omega arith))
+have_room Exit fits = room_for opcode.Exit reg.R0 0 (pos 0) (pos 0) (omega arith) zero16 zero32
 
 -- no encoding begins another
 pub encoding-injective : (i j : Insn) (r s : List ℕ) → Fits i → Fits j → encoding i ++ r ≡ encoding j ++ s → (i ≡ j) × (r ≡ s)
-encoding-injective i j r s p q e =
-    let both = slot_bytes-injective (fields_of i) (fields_of j) r s (have_room i p) (have_room j q) e in
-    (fields_of-injective i j both.0, both.1)
+encoding-injective i j r s p q e = two.encoding-injective i j r s (have_room i p) (have_room j q) p q e
 
 -- a slot with a fault begins no instruction
 registers_of : (i : Insn) → ((fields_of i).dst ≤ 10) × ((fields_of i).src ≤ 10)
@@ -120,40 +124,30 @@ fault_is_no_encoding fault.Register bytes rest i faulty fits e =
     let small = registers_of i in
     let byte_is : slice_index bytes 1 ≡ (fields_of i).dst + 16 * (fields_of i).src = ap (λ (b : List ℕ). slice_index b 1) e in
     faulty.1 (nibbles (fields_of i).dst (fields_of i).src (slice_index bytes 1) small.0 small.1 byte_is)
-fault_is_no_encoding fault.WideCut bytes rest i faulty fits e = faulty
-fault_is_no_encoding fault.UnusedField bytes rest i faulty fits e = faulty.2 i rest fits e
+fault_is_no_encoding fault.WideCut bytes rest i faulty fits e =
+    let opcode_is : (fields_of i).opcode ≡ byte_of opcode.LoadImm = sym (ap (λ (b : List ℕ). slice_index b 0) e) ∙ faulty.0 in
+    omega (arith, faulty.2, ap length e, length-append (encoding i) rest, length-wide i fits opcode_is)
+fault_is_no_encoding fault.UnusedField bytes rest i faulty fits e = faulty.3 i rest fits e
 
 fault_unique : (bytes : List ℕ) (f g : SlotFault) → HasFault bytes f → HasFault bytes g → f ≡ g
 fault_unique bytes fault.Opcode fault.Opcode p q = refl
 fault_unique bytes fault.Opcode fault.Register p q = absurd (p q.0)
-fault_unique bytes fault.Opcode fault.WideCut p q = absurd q
+fault_unique bytes fault.Opcode fault.WideCut p q = absurd (p (opcode.LoadImm, sym q.0))
 fault_unique bytes fault.Opcode fault.UnusedField p q = absurd (p q.0)
 fault_unique bytes fault.Register fault.Opcode p q = absurd (q p.0)
 fault_unique bytes fault.Register fault.Register p q = refl
-fault_unique bytes fault.Register fault.WideCut p q = absurd q
+fault_unique bytes fault.Register fault.WideCut p q = absurd (p.1 q.1)
 fault_unique bytes fault.Register fault.UnusedField p q = absurd (p.1 q.1)
-fault_unique bytes fault.WideCut g p q = absurd p
+fault_unique bytes fault.WideCut fault.Opcode p q = absurd (q (opcode.LoadImm, sym p.0))
+fault_unique bytes fault.WideCut fault.Register p q = absurd (q.1 p.1)
+fault_unique bytes fault.WideCut fault.WideCut p q = refl
+fault_unique bytes fault.WideCut fault.UnusedField p q = absurd (omega (arith, p.2, q.2 p.0))
 fault_unique bytes fault.UnusedField fault.Opcode p q = absurd (q p.0)
 fault_unique bytes fault.UnusedField fault.Register p q = absurd (q.1 p.1)
-fault_unique bytes fault.UnusedField fault.WideCut p q = absurd q
+fault_unique bytes fault.UnusedField fault.WideCut p q = absurd (omega (arith, q.2, p.2 q.0))
 fault_unique bytes fault.UnusedField fault.UnusedField p q = refl
 
 -- ---- whole programs
-
-length-encoding : (i : Insn) → length (encoding i) ≡ 8 * slots_of i
-length-encoding (Alu op dst o) = refl
-length-encoding (Jump distance) = refl
-length-encoding (JumpIf condition dst o distance) = refl
-length-encoding (Load size dst base displacement) = refl
-length-encoding Exit = refl
-
--- an instruction takes one slot or two
-pub slots_small : (i : Insn) → slots_of i ≤ 2
-slots_small (Alu op dst o) = omega arith
-slots_small (Jump distance) = omega arith
-slots_small (JumpIf condition dst o distance) = omega arith
-slots_small (Load size dst base displacement) = omega arith
-slots_small Exit = omega arith
 
 pub length-encodings : (code : List Insn) → length (encodings code) ≡ 8 * slot_count code
 length-encodings [] = refl
@@ -291,23 +285,80 @@ exact_refusal bytes (Err f) found (inr refused) e is = inl (refusal_unique bytes
 halves_of : (n m b : ℕ) → n < 16 → n + 16 * m ≡ b → b % 16 ≤ 10 → b / 16 ≤ 10 → (n ≤ 10) × (m ≤ 10)
 halves_of n m b p e q r = (omega arith, omega arith)
 
-as_bytes : (bytes : List ℕ) (f : Fields) (e : SlotFault) → HaveRoom f → slot_bytes f ≡ take 8 bytes → LacksForm f e → f.opcode ≡ slice_index bytes 0 → f.dst + 16 * f.src ≡ slice_index bytes 1 → HasFault bytes e
-as_bytes bytes f fault.Opcode room are lacks o b = λ is. lacks (is.0, is.1 ∙ sym o)
-as_bytes bytes f fault.Register room are lacks o b =
-    ((lacks.0.0, lacks.0.1 ∙ o), λ h. lacks.1 (halves_of f.dst f.src (slice_index bytes 1) room.dst b h.0 h.1))
-as_bytes bytes f fault.WideCut room are lacks o b = lacks
-as_bytes bytes f fault.UnusedField room are lacks o b = (
-  (lacks.0.0, lacks.0.1 ∙ o),
-  nibbles f.dst f.src (slice_index bytes 1) lacks.1 lacks.2 (sym b),
-  λ i rest fits e. lacks.3 i (sym (slot_bytes-injective f (fields_of i) [] [] room (have_room i fits) (are ∙ ap (take 8) e)).0),
+long_enough : (o : Opcode) (rest : List ℕ) (second : Option Fields) → HasSecond o rest second → o ≡ opcode.LoadImm → 8 ≤ length rest
+long_enough o rest None has is = absurd (has is)
+long_enough o rest (Some g) has is = has.2
+
+-- an instruction whose slots are not these shows that no instruction has them
+pub unused : (rest : List ℕ) (f : Fields) → HaveRoom f → (h : Head) → HasHead f h → (second : Option Fields) → HasSecond h.opcode rest second → (j : Insn) → j ≡ form h.opcode h.dst h.src f.offset f.imm (imm_in second) → (fields_of j ≡ f → second_of j ≡ second → ⊥) → LacksForm h.opcode f rest fault.UnusedField
+unused rest f room h head second has j j_is differs = (
+  long_enough h.opcode rest second has,
+  λ i is.
+      let second_are = second_is i h.opcode rest is.other second is.fits (head.opcode ∙ sym (ap (λ (g : Fields). g.opcode) is.fields)) has is.second in
+      let same : j ≡ i = j_is ∙ form_is i f h.opcode h.dst h.src (imm_in second) is.fits is.fields head.opcode head.dst head.src (ap imm_in (sym second_are)) in
+      differs (ap fields_of same ∙ is.fields) (ap second_of same ∙ second_are),
 )
 
--- the fault of the fields of a slot is the fault of its bytes
-pub slot_fault : (bytes : List ℕ) (f : Fields) (e : SlotFault) → 8 ≤ length bytes → HaveRoom f → slot_bytes f ≡ take 8 bytes → LacksForm f e → HasFault bytes e
-slot_fault bytes f e long room are lacks =
-    let opcode_is : f.opcode ≡ slice_index bytes 0 = ap (λ (b : List ℕ). slice_index b 0) are ∙ get_or-take 8 bytes 0 0 (omega arith) in
-    let byte_is : f.dst + 16 * f.src ≡ slice_index bytes 1 = ap (λ (b : List ℕ). slice_index b 1) are ∙ get_or-take 8 bytes 1 0 (omega arith) in
-    as_bytes bytes f e room are lacks opcode_is byte_is
+-- the fields of the first slot, with the bytes behind it
+module _ (bytes rest : List ℕ) (f : Fields) (long : 8 ≤ length bytes) (room : HaveRoom f) (are : slot_bytes f ≡ take 8 bytes) (rest_is : rest ≡ drop 8 bytes) where
+  opcode_here : f.opcode ≡ slice_index bytes 0
+  opcode_here = ap (λ (b : List ℕ). slice_index b 0) are ∙ get_or-take 8 bytes 0 0 (omega arith)
+
+  byte_here : f.dst + 16 * f.src ≡ slice_index bytes 1
+  byte_here = ap (λ (b : List ℕ). slice_index b 1) are ∙ get_or-take 8 bytes 1 0 (omega arith)
+
+  split_here : bytes ≡ slot_bytes f ++ rest
+  split_here = sym (take-append-drop 8 bytes) ∙ (λ k. sym are k ++ sym rest_is k)
+
+  longer : length bytes ≡ 8 + length rest
+  longer = omega (arith, ap length rest_is, length-drop 8 bytes)
+
+  -- a fault of opcode and registers is the fault of the bytes
+  pub head_fault : (e : SlotFault) → LacksHead f e → HasFault bytes e
+  head_fault fault.Opcode lacks = λ is. lacks (is.0, is.1 ∙ sym opcode_here)
+  head_fault fault.Register lacks = ((lacks.0.0, lacks.0.1 ∙ opcode_here), λ h. lacks.1 (halves_of f.dst f.src (slice_index bytes 1) room.dst byte_here h.0 h.1))
+  head_fault fault.WideCut lacks = absurd lacks
+  head_fault fault.UnusedField lacks = absurd lacks
+
+  module _ (h : Head) (head : HasHead f h) where
+    is_opcode : IsOpcode (slice_index bytes 0)
+    is_opcode = (h.opcode, head.opcode ∙ opcode_here)
+
+    has_registers : HasRegisters bytes
+    has_registers =
+        nibbles f.dst f.src (slice_index bytes 1) (subst (λ (n : ℕ). n ≤ 10) head.dst (number_small h.dst)) (subst (λ (n : ℕ). n ≤ 10) head.src (number_small h.src)) (sym byte_here)
+
+    is_load_imm : IsWide bytes → h.opcode ≡ opcode.LoadImm
+    is_load_imm wide = byte_of-injective h.opcode opcode.LoadImm (head.opcode ∙ opcode_here ∙ wide)
+
+    begins : (i : Insn) (other : List ℕ) → Fits i → bytes ≡ encoding i ++ other → IsForm i f rest
+    begins i other fits e =
+        let both = slot_bytes-injective f (fields_of i) rest (optional_bytes (second_of i) ++ other) room (have_room i fits)
+        (sym split_here ∙ e ∙ append_assoc (slot_bytes (fields_of i)) (optional_bytes (second_of i)) other) in
+        record { fits = fits; fields = sym both.0; other = other; second = both.1 }
+
+    -- and so is a fault of the rest
+    pub form_fault : (e : SlotFault) → LacksForm h.opcode f rest e → HasFault bytes e
+    form_fault fault.Opcode lacks = absurd lacks
+    form_fault fault.Register lacks = absurd lacks
+    form_fault fault.WideCut lacks = (sym opcode_here ∙ sym head.opcode ∙ ap byte_of lacks.0, has_registers, omega (arith, longer, lacks.1))
+    form_fault fault.UnusedField lacks = (is_opcode, has_registers, (λ wide. omega (arith, longer, lacks.0 (is_load_imm wide))), λ i other fits e. lacks.1 i (begins i other fits e))
+
+  -- what is found begins the bytes
+  pub form_begins : (i : Insn) → IsForm i f rest → Fits i × (take (8 * slots_of i) bytes ≡ encoding i) × (8 * slots_of i ≤ length bytes)
+  form_begins i form =
+      let all : bytes ≡ encoding i ++ form.other = split_here ∙ (λ k. slot_bytes (sym form.fields k) ++ form.second k) ∙ sym (append_assoc (slot_bytes (fields_of i)) (optional_bytes (second_of i)) form.other) in
+      let count = length-encoding i in
+      (form.fits, ap (λ (n : ℕ). take n bytes) (sym count) ∙ ap (take (length (encoding i))) all ∙ take-append_seam (encoding i) form.other, omega (arith, count, ap length all, length-append (encoding i) form.other))
+
+  -- in the answers of the reader of one slot
+  pub refused_head : (r : Result Head SlotFault) → IfErr r (LacksHead f) → IfErr r (HasFault bytes)
+  refused_head (Ok h) lacks = tt
+  refused_head (Err e) lacks = head_fault e lacks
+
+  pub refused_slot : (h : Head) → HasHead f h → (r : Result Insn SlotFault) → IfErr r (LacksForm h.opcode f rest) → IfErr r (HasFault bytes)
+  refused_slot h head (Ok i) lacks = tt
+  refused_slot h head (Err e) lacks = form_fault h head e lacks
 
 -- what the decoder's loop keeps: the bytes are the program so far, then the rest
 pub record HasRead (bytes : List ℕ) (code : List Insn) (slot : ℕ) (rest : List ℕ) : Type 0 where
@@ -316,20 +367,20 @@ pub record HasRead (bytes : List ℕ) (code : List Insn) (slot : ℕ) (rest : Li
   pub parts : bytes ≡ encodings code ++ rest
   pub eights : length rest % 8 ≡ 0
 
-less_eight : (n m : ℕ) → m + 8 ≡ n → n % 8 ≡ 0 → m % 8 ≡ 0
-less_eight n m e h = omega arith
+less_slots : (n m k : ℕ) → m + 8 * k ≡ n → n % 8 ≡ 0 → m % 8 ≡ 0
+less_slots n m k e h = omega arith
 
 pub at_least_eight : (n : ℕ) → n % 8 ≡ 0 → 0 < n → 8 ≤ n
 at_least_eight n h p = omega arith
 
 -- one more instruction
-pub HasRead-push : (bytes : List ℕ) (code : List Insn) (slot : ℕ) (rest after : List ℕ) (i : Insn) → HasRead bytes code slot rest → Fits i → take 8 rest ≡ encoding i → after ≡ drop 8 rest → 8 ≤ length rest
+pub HasRead-push : (bytes : List ℕ) (code : List Insn) (slot : ℕ) (rest after : List ℕ) (i : Insn) → HasRead bytes code slot rest → Fits i → take (8 * slots_of i) rest ≡ encoding i → after ≡ drop (8 * slots_of i) rest → 8 * slots_of i ≤ length rest
     → HasRead bytes (code ++ i ∷ []) (slot + slots_of i) after
 HasRead-push bytes code slot rest after i read fits is after_is long = record {
   fit = AllFit-push code i read.fit fits;
   slots = slot_count-push code i ∙ ap (λ (n : ℕ). n + slots_of i) read.slots;
-  parts = read.parts ∙ ap (λ (r : List ℕ). encodings code ++ r) (sym (take-append-drop 8 rest) ∙ (λ k. is k ++ sym after_is k)) ∙ sym (encodings-push code i after);
-  eights = less_eight (length rest) (length after) (omega (arith, ap length after_is, length-drop 8 rest)) read.eights;
+  parts = read.parts ∙ ap (λ (r : List ℕ). encodings code ++ r) (sym (take-append-drop (8 * slots_of i) rest) ∙ (λ k. is k ++ sym after_is k)) ∙ sym (encodings-push code i after);
+  eights = less_slots (length rest) (length after) (slots_of i) (omega (arith, ap length after_is, length-drop (8 * slots_of i) rest)) read.eights;
 }
 
 -- the loop stops at a fault
@@ -363,16 +414,6 @@ pub refused_whole : (bytes : List ℕ) (r : Result (Vec Insn) DecodeError) → I
 refused_whole bytes (Ok v) whole refused = tt
 refused_whole bytes (Err e) whole (inl memory) = inl memory
 refused_whole bytes (Err e) whole (inr first) = inr (faulty_is_refused bytes e whole first)
-
--- a fault of the first slot's fields, in the answer of the reader of one slot
-pub refused_slot : (bytes : List ℕ) (f : Fields) (r : Result Insn SlotFault) → 8 ≤ length bytes → HaveRoom f → slot_bytes f ≡ take 8 bytes → IfErr r (LacksForm f) → IfErr r (HasFault bytes)
-refused_slot bytes f (Ok i) long room are lacks = tt
-refused_slot bytes f (Err e) long room are lacks = slot_fault bytes f e long room are lacks
-
--- one instruction more of a program that fits so far
-pub AllFit-more : (code : List Insn) (i : ℕ) (insn : Insn) → i < length code → get_or code i insn ≡ insn → AllFit (take i code) → HaveRoom (fields_of insn) → AllFit (take (i + 1) code)
-AllFit-more code i insn lt is fit room =
-    subst AllFit (sym (take_more code i insn lt)) (subst (λ (j : Insn). AllFit (take i code ++ j ∷ [])) (sym is) (AllFit-push (take i code) insn fit (fits_from_room insn room)))
 
 -- what was encoded is what the decoder answers
 pub read_back_is : (bytes : List ℕ) (code : List Insn) (r : Result (Vec Insn) DecodeError) → ((p : List Insn) → Encodes p bytes → MatchResult r (λ v. v.items ≡ p) (λ e. e ≡ error.Memory)) → AllFit code → 1 ≤ slot_count code → slot_count code ≤ 4096 → bytes ≡ encodings code

@@ -1,20 +1,22 @@
 -- The fields of a slot are those of its bytes, and of no other.
-use Rattle.std.proofs.Common.{◌≡◌, ℕ, ◌+◌, ◌*◌, ◌/◌, ◌%◌, ◌<◌, ◌≤◌, ◌^◌, List, [], ◌∷◌, ◌++◌, length, take, drop, slice_index, true, nat_eq, ◌&&◌, rules, subst, refl, sym, ap, ◌∙◌, arith, ℤ, pos, negsuc, FitsSigned}
+use Rattle.std.proofs.Common.{◌≡◌, ℕ, zero, suc, ◌+◌, ◌*◌, ◌/◌, ◌%◌, ◌<◌, ◌≤◌, ◌^◌, List, [], ◌∷◌, ◌++◌, length, take, drop, slice_index, true, nat_eq, ◌&&◌, rules, subst, refl, sym, ap, ◌∙◌, arith, ℤ, pos, negsuc, FitsSigned, Option, Some, None}
 use mir.Val.{bits}
-use Rattle.std.specs.Int.{Width, w16, w32, cast_unsigned, cast_signed}
+use Rattle.std.specs.Int as int
+use Rattle.std.specs.Int.{w16, w32, cast_unsigned, cast_signed}
 use Rattle.std.specs.Ordering.{int_eq}
 use Rattle.std.proofs.lemmas.Bool.{eq-eqb}
 use Rattle.std.proofs.lemmas.Cmp.{int_eq_equiv}
 use Rattle.std.proofs.lemmas.Int.{of_z-to_z, to_z-of_z}
 use Rattle.byteorder.specs.Endian.{little_bytes, little_number}
 use Rattle.byteorder.specs.Numbers.{little_number-reads_back}
-use Rattle.insn.specs.Register.{number_of}
 use Rattle.insn.specs.Fields.{HaveRoom, slot_bytes}
 use Rattle.insn.specs.Encoding.{Fits}
-use Rattle.insn.specs.Forms.{form}
+use Rattle.insn.specs.Forms.{extension, moved, form}
+use Rattle.insn.specs.declared.width.Width.{Width}
+use Rattle.insn.specs.declared.width.Width.TheVariants.{W32, W64}
+use Rattle.insn.specs.declared.operator.Extension.{Extension}
 use Rattle.insn.specs.declared.fields.Fields.{Fields}
 use Rattle.insn.specs.declared.register.Reg.{Reg}
-use Rattle.insn.specs.declared.register.Reg.TheVariants as reg
 use Rattle.insn.specs.declared.opcode.Source.TheVariants as source
 use Rattle.insn.specs.declared.opcode.Opcode.{Opcode}
 use Rattle.insn.specs.declared.opcode.Opcode.TheVariants as opcode
@@ -39,7 +41,7 @@ bytes_of_4 n c d e f hc hd he hf q =
     λ i. b0 i ∷ b1 i ∷ b2 i ∷ b3 i ∷ []
 
 -- a number that is stored and passed on keeps its bits
-bits_through : (w : Width) (n k : ℕ) → n ≡ k → n < 2 ^ bits w → (z : ℤ) → z ≡ cast_signed w n → cast_unsigned w (cast_signed w (cast_unsigned w z)) ≡ k
+bits_through : (w : int.Width) (n k : ℕ) → n ≡ k → n < 2 ^ bits w → (z : ℤ) → z ≡ cast_signed w n → cast_unsigned w (cast_signed w (cast_unsigned w z)) ≡ k
 bits_through w n k e fits z is =
     ap (λ (y : ℤ). cast_unsigned w (cast_signed w (cast_unsigned w y))) is ∙ ap (λ (m : ℕ). cast_unsigned w (cast_signed w m)) (of_z-to_z w n fits) ∙ of_z-to_z w n fits ∙ e
 
@@ -97,28 +99,26 @@ same_number : (n : ℕ) (x y : ℕ) → x < 256 ^ n → y < 256 ^ n → little_b
 same_number n x y hx hy e =
     sym (little_number-reads_back n x [] hx) ∙ ap (λ (b : List ℕ). little_number n (b ++ [])) e ∙ little_number-reads_back n y [] hy
 
-pub number_small : (r : Reg) → number_of r ≤ 10
-number_small reg.R0 = omega arith
-number_small reg.R1 = omega arith
-number_small reg.R2 = omega arith
-number_small reg.R3 = omega arith
-number_small reg.R4 = omega arith
-number_small reg.R5 = omega arith
-number_small reg.R6 = omega arith
-number_small reg.R7 = omega arith
-number_small reg.R8 = omega arith
-number_small reg.R9 = omega arith
-number_small reg.R10 = omega arith
-
 -- an instruction made of fields fits as they do
-pub form_fits : (o : Opcode) (d s : Reg) (offset imm : ℤ) → FitsSigned w16 offset → FitsSigned w32 imm → Fits (form o d s offset imm)
-form_fits (opcode.Alu op source.Imm) d s offset imm p q = q
-form_fits (opcode.Alu op source.Reg) d s offset imm p q = tt
-form_fits opcode.Jump d s offset imm p q = p
-form_fits (opcode.JumpIf c source.Imm) d s offset imm p q = (q, p)
-form_fits (opcode.JumpIf c source.Reg) d s offset imm p q = (tt, p)
-form_fits opcode.Exit d s offset imm p q = tt
-form_fits (opcode.Load z) d s offset imm p q = p
+move_fits : (w : Width) (d s : Reg) (e : Option Extension) → Fits (moved w d s e)
+move_fits w d s (Some e) = tt
+move_fits w d s None = tt
+
+pub form_fits : (o : Opcode) (d s : Reg) (offset imm high : ℤ) → FitsSigned w16 offset → FitsSigned w32 imm → FitsSigned w32 high → Fits (form o d s offset imm high)
+form_fits (opcode.Alu w c source.Imm) d s offset imm high p q r = q
+form_fits (opcode.Alu w c source.Reg) d s offset imm high p q r = tt
+form_fits (opcode.Mov w source.Imm) d s offset imm high p q r = q
+form_fits (opcode.Mov w source.Reg) d s offset imm high p q r = move_fits w d s (extension w offset)
+form_fits (opcode.Neg w) d s offset imm high p q r = tt
+form_fits (opcode.Swap op) d s offset imm high p q r = tt
+form_fits (opcode.Jump W32) d s offset imm high p q r = q
+form_fits (opcode.Jump W64) d s offset imm high p q r = p
+form_fits (opcode.JumpIf w c source.Imm) d s offset imm high p q r = (q, p)
+form_fits (opcode.JumpIf w c source.Reg) d s offset imm high p q r = (tt, p)
+form_fits opcode.Exit d s offset imm high p q r = tt
+form_fits (opcode.Load z) d s offset imm high p q r = p
+form_fits (opcode.LoadSigned z) d s offset imm high p q r = p
+form_fits opcode.LoadImm d s offset imm high p q r = omega (arith, bits_of_4 imm q, bits_of_4 high r)
 
 -- ---- the code's `==` on fields
 
@@ -151,3 +151,12 @@ slot_bytes-injective f g r s p q e =
     let offset_is : f.offset ≡ g.offset = sym (to_z-of_z w16 f.offset p.offset) ∙ ap (cast_signed w16) offset_bits ∙ to_z-of_z w16 g.offset q.offset in
     let imm_is : f.imm ≡ g.imm = sym (to_z-of_z w32 f.imm p.imm) ∙ ap (cast_signed w32) imm_bits ∙ to_z-of_z w32 g.imm q.imm in
     (λ i. record { opcode = opcode_is i; dst = dst_is i; src = src_is i; offset = offset_is i; imm = imm_is i }, ap (drop 8) e)
+
+-- a bit is 0 or 1
+bit_cases : (b : ℕ) → b < 2 → (0 ≡ b → ⊥) → (1 ≡ b → ⊥) → ⊥
+bit_cases zero lt p q = p refl
+bit_cases (suc zero) lt p q = q refl
+bit_cases (suc (suc b)) lt p q = omega arith
+
+pub neither_bit : (n : ℕ) → (0 ≡ n % 2 → ⊥) → (1 ≡ n % 2 → ⊥) → ⊥
+neither_bit n p q = bit_cases (n % 2) (omega arith) p q

@@ -6,5 +6,6 @@ pub mod Encoding
 pub mod Refusal
 pub mod Forms
 pub mod Words
+pub mod WordLaws
 pub use Rattle.byteorder.specs.Endian
 pub use Rattle.byteorder.specs.Numbers

@@ -1,6 +1,7 @@
 -- Why bytes encode no program: the first fault from the left.
 use Rattle.std.specs.Prelude.{◌≡◌, ◌≢◌, ℕ, ◌*◌, ◌/◌, ◌%◌, ◌<◌, ◌≤◌, List, ◌++◌, length, slice_index}
-use Rattle.insn.specs.Opcode.{IsOpcode}
+use Rattle.insn.specs.Opcode.{byte_of, IsOpcode}
+use Rattle.insn.specs.declared.opcode.Opcode.TheVariants.{LoadImm}
 use Rattle.insn.specs.Encoding.{encoding, encodings, slot_count, Fits, AllFit}
 use Rattle.insn.specs.declared.decoding.TheConstants.{MAX_SLOTS}
 use Rattle.insn.specs.declared.instruction.Insn.{Insn}
@@ -13,13 +14,16 @@ use Rattle.insn.specs.declared.refusal.DecodeError.TheVariants.{Empty, NotEights
 abbrev pub HasRegisters : List ℕ → Type 0
 HasRegisters bytes = (slice_index bytes 1 % 16 ≤ 10) × (slice_index bytes 1 / 16 ≤ 10)
 
--- The fault of the slot that begins the bytes: each one where none before it holds. No instruction takes two slots,
--- so none is cut.
+-- the first slot is that of an instruction that takes two
+abbrev pub IsWide : List ℕ → Type 0
+IsWide bytes = slice_index bytes 0 ≡ byte_of LoadImm
+
+-- the fault of the instruction that begins the bytes: each one where none before it holds
 abbrev pub HasFault : List ℕ → SlotFault → Type 0
 HasFault bytes fault.Opcode = IsOpcode (slice_index bytes 0) → ⊥
 HasFault bytes fault.Register = IsOpcode (slice_index bytes 0) × (HasRegisters bytes → ⊥)
-HasFault bytes fault.WideCut = ⊥
-HasFault bytes fault.UnusedField = IsOpcode (slice_index bytes 0) × HasRegisters bytes
+HasFault bytes fault.WideCut = IsWide bytes × HasRegisters bytes × (length bytes < 16)
+HasFault bytes fault.UnusedField = IsOpcode (slice_index bytes 0) × HasRegisters bytes × (IsWide bytes → 16 ≤ length bytes)
     × ((i : Insn) (rest : List ℕ) → Fits i → bytes ≢ encoding i ++ rest)
 
 -- after whole instructions of n slots comes a slot that has the fault

@@ -1,19 +1,24 @@
 //! From bytes to instructions.
 
-ghost use Rattle.std.specs.Prelude.{◌≡◌, ℕ, ◌≤◌, ◌%◌, ◌⊎◌, List, length, take, IfOk, IfErr, IsErrAnd, MatchResult};
+ghost use Rattle.std.specs.Prelude.{true, IfSome, ◌≡◌, ℕ, ℤ, ◌*◌, ◌≤◌, ◌<◌, ◌%◌, ◌⊎◌, List, length, take, IfOk, IfErr, IsErrAnd, MatchResult};
 ghost use Rattle.insn.specs.Fields.{HaveRoom};
-ghost use Rattle.insn.specs.Encoding.{encoding, encodings, fields_of, Fits, AllFit, Encodes};
+ghost use Rattle.insn.specs.Encoding.{encoding, encodings, fields_of, second_of, slots_of, Fits, AllFit, Encodes};
 ghost use Rattle.insn.specs.Refusal.{HasFault, IsFaulty, IsRefused};
-ghost use Rattle.insn.specs.Forms.{form, with_source, LacksForm};
+ghost use Rattle.insn.specs.Forms.{form, move_form, with_source, HasHead, LacksHead, HasSecond, imm_in, IsForm, LacksForm};
 ghost use Rattle.insn.specs.declared.instruction.Insn.{Insn};
+ghost use Rattle.insn.specs.declared.opcode.Opcode.TheVariants.{LoadImm};
+ghost use Rattle.insn.specs.declared.refusal.SlotFault.TheVariants.{WideCut};
 ghost use Rattle.insn.specs.declared.refusal.DecodeError.{DecodeError};
 ghost use Rattle.insn.specs.declared.refusal.DecodeError.TheVariants.{Memory};
 
 use crate::fields::{Fields, SLOT_BYTES, read_slot};
-use crate::instruction::{Insn, Operand};
+use crate::instruction::{Insn, Operand, joined};
 use crate::opcode::{Opcode, Source};
+use crate::operator::{AluOp, Extension};
 use crate::refusal::{DecodeError, SlotFault};
 use crate::register::Reg;
+use crate::size::SwapSize;
+use crate::width::Width;
 use std::alloc::Global;
 
 /// The greatest number of slots that a program may have.
@@ -28,18 +33,49 @@ fn operand_of(source: Source, src: Reg, imm: i32) -> Operand
     }
 }
 
-/// Returns the instruction of an opcode, with the fields that it uses.
-fn insn_of(opcode: Opcode, dst: Reg, src: Reg, offset: i16, imm: i32) -> Insn
-    ensures { result ≡ form opcode dst src offset imm }
+/// Returns the move or the sign extension that the offset of a slot chooses.
+fn move_of(width: Width, source: Source, dst: Reg, src: Reg, offset: i16, imm: i32) -> Insn
+    ensures { result ≡ move_form width source dst src offset imm }
 {
-    match opcode {
-        Opcode::Alu(op, source) => Insn::Alu {
-            op,
+    match (source, Extension::chosen(width, offset)) {
+        (Source::Reg, Some(extension)) => Insn::SignExtend {
+            extension,
+            dst,
+            src,
+        },
+        _ => Insn::Mov {
+            width,
             dst,
             operand: operand_of(source, src, imm),
         },
-        Opcode::Jump => Insn::Jump { offset },
-        Opcode::JumpIf(condition, source) => Insn::JumpIf {
+    }
+}
+
+/// Returns the instruction of an opcode, with the fields that it uses and the imm of a second slot. An offset or an imm that chooses no
+/// instruction gives one that has another there.
+fn insn_of(head: Head, offset: i16, imm: i32, high: i32) -> Insn
+    ensures { result ≡ form head.opcode head.dst head.src offset imm high }
+{
+    let dst = head.dst;
+    let src = head.src;
+    match head.opcode {
+        Opcode::Alu(width, code, source) => Insn::Alu {
+            width,
+            op: AluOp::chosen(code, offset),
+            dst,
+            operand: operand_of(source, src, imm),
+        },
+        Opcode::Mov(width, source) => move_of(width, source, dst, src, offset, imm),
+        Opcode::Neg(width) => Insn::Neg { width, dst },
+        Opcode::Swap(op) => Insn::Swap {
+            op,
+            size: SwapSize::from_bits(imm).unwrap_or(SwapSize::Half),
+            dst,
+        },
+        Opcode::Jump(Width::W64) => Insn::Jump { offset },
+        Opcode::Jump(Width::W32) => Insn::LongJump { offset: imm },
+        Opcode::JumpIf(width, condition, source) => Insn::JumpIf {
+            width,
             condition,
             dst,
             operand: operand_of(source, src, imm),
@@ -51,34 +87,114 @@ fn insn_of(opcode: Opcode, dst: Reg, src: Reg, offset: i16, imm: i32) -> Insn
             base: src,
             offset,
         },
+        Opcode::LoadSigned(size) => Insn::LoadSigned {
+            size,
+            dst,
+            base: src,
+            offset,
+        },
+        Opcode::LoadImm => Insn::LoadImm {
+            dst,
+            value: joined(imm, high),
+        },
         Opcode::Exit => Insn::Exit,
     }
 }
 
-/// Returns the instruction of a slot's fields, or their first fault.
-fn typed(fields: Fields) -> Result<Insn, SlotFault>
-    requires { HaveRoom fields }
-    ensures found { IfOk result (λ i. (fields_of i ≡ fields) × Fits i) }
-    ensures refused { IfErr result (LacksForm fields) }
+/// The opcode and the registers of a slot.
+#[derive(Clone, Copy, Debug, PartialEq, Eq)]
+struct Head {
+    opcode: Opcode,
+    dst: Reg,
+    src: Reg,
+}
+
+/// Returns the opcode and the registers of a slot, or the first fault among them.
+fn head_of(fields: Fields) -> Result<Head, SlotFault>
+    ensures found { IfOk result (HasHead fields) }
+    ensures refused { IfErr result (LacksHead fields) }
 {
     let opcode = Opcode::from_byte(fields.opcode).ok_or(SlotFault::Opcode)?;
     let dst = Reg::from_number(fields.dst).ok_or(SlotFault::Register)?;
     let src = Reg::from_number(fields.src).ok_or(SlotFault::Register)?;
-    let insn = insn_of(opcode, dst, src, fields.offset, fields.imm);
-    if insn.fields() == fields {
+    Ok(Head { opcode, dst, src })
+}
+
+/// Returns the second slot, which `LDDW` alone has, if it has room in the bytes behind the first.
+fn second_slot(opcode: Opcode, rest: &[u8]) -> Result<Option<Fields>, SlotFault>
+    ensures found { IfOk result (HasSecond opcode rest.now) }
+    ensures refused { IfErr result (λ e. (e ≡ WideCut) × (opcode ≡ LoadImm) × (length rest.now < 8)) }
+{
+    if opcode != Opcode::LoadImm {
+        return Ok(None);
+    }
+    if rest.len() < SLOT_BYTES {
+        return Err(SlotFault::WideCut);
+    }
+    Ok(Some(read_slot(rest)))
+}
+
+/// Returns the imm of a second slot, 0 where there is none.
+fn imm_in(second: Option<Fields>) -> i32
+    ensures { result ≡ imm_in second }
+{
+    match second {
+        Some(fields) => fields.imm,
+        None => 0,
+    }
+}
+
+/// Returns whether two slots have the same fields.
+fn are_same(a: Fields, b: Fields) -> bool
+    requires a { HaveRoom a }
+    requires b { HaveRoom b }
+    ensures same { result ≡ true → a ≡ b }
+    ensures found { a ≡ b → result ≡ true }
+{
+    a == b
+}
+
+/// Returns whether these are the one or two slots of the instruction.
+fn has_slots(insn: Insn, fields: Fields, second: Option<Fields>) -> bool
+    requires first { HaveRoom fields }
+    requires second { IfSome second HaveRoom }
+    ensures same { result ≡ true → (fields_of insn ≡ fields) × (second_of insn ≡ second) }
+    ensures found { fields_of insn ≡ fields → second_of insn ≡ second → result ≡ true }
+{
+    let is_second = match (insn.second(), second) {
+        (Some(a), Some(b)) => are_same(a, b),
+        (None, None) => true,
+        _ => false,
+    };
+    is_second && are_same(insn.fields(), fields)
+}
+
+/// Returns the instruction of a slot's fields and of the bytes behind it, or its fault.
+fn typed(fields: Fields, head: Head, rest: &[u8]) -> Result<Insn, SlotFault>
+    requires room { HaveRoom fields }
+    requires head { HasHead fields head }
+    ensures found { IfOk result (λ i. IsForm i fields rest.now) }
+    ensures refused { IfErr result (LacksForm head.opcode fields rest.now) }
+{
+    let second = second_slot(head.opcode, rest)?;
+    let insn = insn_of(head, fields.offset, fields.imm, imm_in(second));
+    if has_slots(insn, fields, second) {
         Ok(insn)
     } else {
         Err(SlotFault::UnusedField)
     }
 }
 
-/// Decodes the instruction at the beginning of the bytes, or returns the fault of its slot.
+/// Decodes the instruction at the beginning of the bytes, or returns its fault.
 fn first(bytes: &[u8]) -> Result<Insn, SlotFault>
     requires { 8 ≤ length bytes.now }
-    ensures found { IfOk result (λ i. Fits i × (take 8 bytes.now ≡ encoding i)) }
+    ensures found { IfOk result (λ i. Fits i × (take (8 * slots_of i) bytes.now ≡ encoding i) × (8 * slots_of i ≤ length bytes.now)) }
     ensures refused { IfErr result (HasFault bytes.now) }
 {
-    typed(read_slot(bytes))
+    let fields = read_slot(bytes);
+    let head = head_of(fields)?;
+    let (_, rest) = bytes.split_at(SLOT_BYTES);
+    typed(fields, head, rest)
 }
 
 /// Decodes whole slots, or returns the first fault among them.
@@ -94,7 +210,7 @@ fn instructions(alloc: Global, bytes: &[u8]) -> Result<Vec<Insn>, DecodeError>
         let insn = first(rest).map_err(|fault| fault.at(slot))?;
         code.push(insn)?;
         slot += insn.slots();
-        let (_, after) = rest.split_at(SLOT_BYTES);
+        let (_, after) = rest.split_at(SLOT_BYTES * insn.slots());
         rest = after;
     }
     Ok(code)

@@ -1,15 +1,26 @@
 //! From instructions to bytes.
 
 ghost use Rattle.std.specs.Prelude.{◌≡◌, ◌≤◌, ◌++◌, ℕ, List, IfOk, OnOk, MatchResult};
+ghost use Rattle.insn.specs.Fields.{HaveRoom, slot_bytes};
 ghost use Rattle.insn.specs.Encoding.{encoding, encodings, slot_count, Fits, AllFit};
 ghost use Rattle.insn.specs.declared.instruction.Insn.{Insn};
 ghost use Rattle.insn.specs.declared.refusal.DecodeError.TheVariants.{Memory};
 
 use crate::decoding::{MAX_SLOTS, decode};
-use crate::fields::{SLOT_BYTES, write_slot};
+use crate::fields::{Fields, SLOT_BYTES, write_slot};
 use crate::instruction::Insn;
 use crate::refusal::DecodeError;
 use std::alloc::{AllocError, Global};
+
+/// Appends the eight bytes of the fields.
+fn push_slot(bytes: &mut Vec<u8>, fields: Fields) -> Result<(), AllocError>
+    requires { HaveRoom fields }
+    ensures { OnOk result (bytes.new.items ≡ bytes.old.items ++ slot_bytes fields) }
+{
+    let mut slot = [0; SLOT_BYTES];
+    write_slot(fields, &mut slot);
+    bytes.extend_from_slice(&slot)
+}
 
 /// Encodes the instructions, one after the other (RFC 9669, sections 3 to 5). [`decode`] reads a program of
 /// 1 to 4,096 slots back.
@@ -22,9 +33,10 @@ pub fn encode(alloc: Global, code: &[Insn]) -> Result<Vec<u8>, AllocError>
 {
     let mut bytes = Vec::new(alloc);
     for insn in code {
-        let mut slot = [0; SLOT_BYTES];
-        write_slot(insn.fields(), &mut slot);
-        bytes.extend_from_slice(&slot)?;
+        push_slot(&mut bytes, insn.fields())?;
+        if let Some(second) = insn.second() {
+            push_slot(&mut bytes, second)?;
+        }
     }
     Ok(bytes)
 }

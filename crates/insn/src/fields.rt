@@ -1,7 +1,7 @@
 //! The fields of a slot (RFC 9669, section 3).
 
 ghost use Rattle.std.specs.Prelude.{◌≡◌, ◌≤◌, ◌++◌, length, take, drop};
-ghost use Rattle.insn.specs.Fields.{HaveRoom, slot_bytes};
+ghost use Rattle.insn.specs.Fields.{HaveRoom, of_imm, slot_bytes};
 
 use byteorder::{ByteOrder, LittleEndian};
 
@@ -14,6 +14,22 @@ pub struct Fields {
     pub src: u8,
     pub offset: i16,
     pub imm: i32,
+}
+
+impl Fields {
+    /// Returns the fields of a slot that has nothing but an imm.
+    pub fn of_imm(imm: i32) -> Fields
+        ensures value { result ≡ of_imm imm }
+        ensures room { HaveRoom result }
+    {
+        Fields {
+            opcode: 0,
+            dst: 0,
+            src: 0,
+            offset: 0,
+            imm,
+        }
+    }
 }
 
 /// The number of bytes of a slot.

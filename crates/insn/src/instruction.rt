@@ -1,15 +1,16 @@
 //! Instructions as typed values: each value has exactly one encoding (RFC 9669, sections 3 to 5).
 
-ghost use Rattle.std.specs.Prelude.{◌≡◌};
-ghost use Rattle.insn.specs.Encoding.{source_of, src_of, imm_of, fields_of, slots_of};
+ghost use Rattle.std.specs.Prelude.{◌≡◌, IfSome};
+ghost use Rattle.insn.specs.Encoding.{source_of, src_of, imm_of, low_half, high_half, joined, fields_of, second_of, slots_of, Fits};
 ghost use Rattle.insn.specs.Fields.{HaveRoom};
 
 use crate::condition::Condition;
 use crate::fields::Fields;
 use crate::opcode::{Opcode, Source};
-use crate::operator::AluOp;
+use crate::operator::{AluOp, Extension, SwapOp};
 use crate::register::Reg;
-use crate::size::Size;
+use crate::size::{SignedSize, Size, SwapSize};
+use crate::width::Width;
 
 /// The second operand of an instruction: a register (source `X`) or an immediate number (source `K`).
 #[derive(Clone, Copy, Debug, PartialEq, Eq)]
@@ -23,18 +24,47 @@ pub enum Operand {
 /// An instruction (RFC 9669, sections 4 and 5).
 #[derive(Clone, Copy, Debug, PartialEq, Eq)]
 pub enum Insn {
-    /// Arithmetic on 64 bits, class `ALU64`.
+    /// Arithmetic with two operands, class `ALU64` or `ALU`.
     Alu {
+        width: Width,
         op: AluOp,
         dst: Reg,
         operand: Operand,
+    },
+    /// `MOV` of class `ALU64` or `ALU`: copies the operand to `dst`.
+    Mov {
+        width: Width,
+        dst: Reg,
+        operand: Operand,
+    },
+    /// `NEG` of class `ALU64` or `ALU`: negates `dst`.
+    Neg {
+        width: Width,
+        dst: Reg,
+    },
+    /// `MOVSX` of class `ALU64` or `ALU`: copies the low bits of `src` to `dst`, sign-extended.
+    SignExtend {
+        extension: Extension,
+        dst: Reg,
+        src: Reg,
+    },
+    /// `END` of class `ALU` or `ALU64`: converts the byte order of `dst`.
+    Swap {
+        op: SwapOp,
+        size: SwapSize,
+        dst: Reg,
     },
     /// `JA` of class `JMP`: jumps to the slot `offset` slots after the next one.
     Jump {
         offset: i16,
     },
-    /// A conditional jump on 64 bits, class `JMP`. It compares `dst` with the operand.
+    /// `JA` of class `JMP32`: as `Jump`, with a distance of 32 bits.
+    LongJump {
+        offset: i32,
+    },
+    /// A conditional jump, class `JMP` or `JMP32`. It compares `dst` with the operand.
     JumpIf {
+        width: Width,
         condition: Condition,
         dst: Reg,
         operand: Operand,
@@ -47,8 +77,41 @@ pub enum Insn {
         base: Reg,
         offset: i16,
     },
+    /// `MEMSX` of class `LDX`: loads the `size` bytes at `base + offset` into `dst`, sign-extended.
+    LoadSigned {
+        size: SignedSize,
+        dst: Reg,
+        base: Reg,
+        offset: i16,
+    },
+    /// `IMM` of class `LD`, which takes two slots: loads a number of 64 bits.
+    LoadImm {
+        dst: Reg,
+        value: u64,
+    },
     /// `EXIT` of class `JMP`: ends the program with the verdict in `r0`.
     Exit,
+}
+
+/// Returns the low 32 bits of a number, as the imm field of a slot.
+fn low_half(value: u64) -> i32
+    ensures { result ≡ low_half value }
+{
+    ((value % 0x1_0000_0000) as u32).cast_signed()
+}
+
+/// Returns the high 32 bits of a number, as the imm field of a slot.
+fn high_half(value: u64) -> i32
+    ensures { result ≡ high_half value }
+{
+    ((value / 0x1_0000_0000) as u32).cast_signed()
+}
+
+/// Returns the number of two imm fields, the low one first.
+pub(crate) fn joined(low: i32, high: i32) -> u64
+    ensures { result ≡ joined low high }
+{
+    u64::from(low.cast_unsigned()) + 0x1_0000_0000 * u64::from(high.cast_unsigned())
 }
 
 impl Operand {
@@ -86,41 +149,99 @@ impl Insn {
         ensures { result ≡ slots_of self }
     {
         match self {
-            Insn::Alu { .. }
-            | Insn::Jump { .. }
-            | Insn::JumpIf { .. }
-            | Insn::Load { .. }
-            | Insn::Exit => 1,
+            Insn::LoadImm { .. } => 2,
+            _ => 1,
         }
     }
 
-    /// Returns the fields of the instruction's slot; those that it doesn't use are zero.
+    /// Returns the fields of the instruction's second slot, if it has one.
+    pub(crate) fn second(self) -> Option<Fields>
+        ensures value { result ≡ second_of self }
+        ensures room { IfSome result HaveRoom }
+    {
+        match self {
+            Insn::LoadImm { value, .. } => Some(Fields::of_imm(high_half(value))),
+            _ => None,
+        }
+    }
+
+    /// Returns the fields of the instruction's first slot; those that it doesn't use are zero.
     pub(crate) fn fields(self) -> Fields
         ensures value { result ≡ fields_of self }
         ensures room { HaveRoom result }
+        ensures fits { Fits self }
     {
         match self {
-            Insn::Alu { op, dst, operand } => Fields {
-                opcode: Opcode::Alu(op, operand.source()).byte(),
+            Insn::Alu {
+                width,
+                op,
+                dst,
+                operand,
+            } => Fields {
+                opcode: Opcode::Alu(width, op.code(), operand.source()).byte(),
+                dst: dst.number(),
+                src: operand.src(),
+                offset: op.offset(),
+                imm: operand.imm(),
+            },
+            Insn::Mov {
+                width,
+                dst,
+                operand,
+            } => Fields {
+                opcode: Opcode::Mov(width, operand.source()).byte(),
                 dst: dst.number(),
                 src: operand.src(),
                 offset: 0,
                 imm: operand.imm(),
             },
+            Insn::Neg { width, dst } => Fields {
+                opcode: Opcode::Neg(width).byte(),
+                dst: dst.number(),
+                src: 0,
+                offset: 0,
+                imm: 0,
+            },
+            Insn::SignExtend {
+                extension,
+                dst,
+                src,
+            } => Fields {
+                opcode: Opcode::Mov(extension.target(), Source::Reg).byte(),
+                dst: dst.number(),
+                src: src.number(),
+                offset: extension.offset(),
+                imm: 0,
+            },
+            Insn::Swap { op, size, dst } => Fields {
+                opcode: Opcode::Swap(op).byte(),
+                dst: dst.number(),
+                src: 0,
+                offset: 0,
+                imm: size.bits(),
+            },
             Insn::Jump { offset } => Fields {
-                opcode: Opcode::Jump.byte(),
+                opcode: Opcode::Jump(Width::W64).byte(),
                 dst: 0,
                 src: 0,
                 offset,
                 imm: 0,
             },
+            Insn::LongJump { offset } => Fields {
+                opcode: Opcode::Jump(Width::W32).byte(),
+                dst: 0,
+                src: 0,
+                offset: 0,
+                imm: offset,
+            },
             Insn::JumpIf {
+                width,
                 condition,
                 dst,
                 operand,
                 offset,
             } => Fields {
-                opcode: Opcode::JumpIf(condition, operand.source()).byte(),
+                opcode: Opcode::JumpIf(width, condition, operand.source()).byte(),
                 dst: dst.number(),
                 src: operand.src(),
                 offset,
@@ -137,6 +258,25 @@ impl Insn {
                 src: base.number(),
                 offset,
                 imm: 0,
+            },
+            Insn::LoadSigned {
+                size,
+                dst,
+                base,
+                offset,
+            } => Fields {
+                opcode: Opcode::LoadSigned(size).byte(),
+                dst: dst.number(),
+                src: base.number(),
+                offset,
+                imm: 0,
+            },
+            Insn::LoadImm { dst, value } => Fields {
+                opcode: Opcode::LoadImm.byte(),
+                dst: dst.number(),
+                src: 0,
+                offset: 0,
+                imm: low_half(value),
             },
             Insn::Exit => Fields {
                 opcode: Opcode::Exit.byte(),

@@ -1,11 +1,15 @@
 //! The opcode, a slot's first byte (RFC 9669, section 3.1).
 
-ghost use Rattle.std.specs.Prelude.{◌≡◌, ◌%◌, Some, IfSome};
+ghost use Rattle.std.specs.Prelude.{◌≡◌, ◌≢◌, ◌%◌, Some, IfSome};
+ghost use Rattle.insn.specs.Codes.{alu_code, alu_class, jump_class};
 ghost use Rattle.insn.specs.Opcode.{source_bit, byte_of};
+ghost use Rattle.insn.specs.declared.operator.SwapOp.{SwapOp};
+ghost use Rattle.insn.specs.declared.opcode.Opcode.TheVariants.{Swap};
 
 use crate::condition::Condition;
-use crate::operator::AluOp;
-use crate::size::Size;
+use crate::operator::SwapOp;
+use crate::size::{SignedSize, Size};
+use crate::width::Width;
 
 /// The source of the second operand: the bit above the class.
 #[derive(Clone, Copy, Debug, PartialEq, Eq)]
@@ -16,32 +20,74 @@ pub enum Source {
     Reg,
 }
 
+/// An arithmetic code with two operands. Two operators share `DIV`, and two share `MOD`: the offset field chooses.
+#[derive(Clone, Copy, Debug, PartialEq, Eq)]
+pub enum AluCode {
+    Add,
+    Sub,
+    Mul,
+    Div,
+    Or,
+    And,
+    Lsh,
+    Rsh,
+    Mod,
+    Xor,
+    Arsh,
+}
+
 /// The meaning of a slot's first byte.
 #[derive(Clone, Copy, Debug, PartialEq, Eq)]
 pub enum Opcode {
-    /// Class `ALU64`.
-    Alu(AluOp, Source),
-    /// `JA` of class `JMP`.
-    Jump,
-    /// A conditional jump of class `JMP`.
-    JumpIf(Condition, Source),
+    /// Arithmetic with two operands, classes `ALU` and `ALU64`.
+    Alu(Width, AluCode, Source),
+    /// `MOV` and `MOVSX`.
+    Mov(Width, Source),
+    /// `NEG`.
+    Neg(Width),
+    /// `END`.
+    Swap(SwapOp),
+    /// `JA`, with the distance in the offset field (class `JMP`) or in the imm field (class `JMP32`).
+    Jump(Width),
+    /// A conditional jump, classes `JMP` and `JMP32`.
+    JumpIf(Width, Condition, Source),
     /// `EXIT` of class `JMP`.
     Exit,
     /// `MEM` of class `LDX`.
     Load(Size),
+    /// `MEMSX` of class `LDX`.
+    LoadSigned(SignedSize),
+    /// `IMM` of class `LD`, in two slots.
+    LoadImm,
 }
 
 const CLASS_LDX: u8 = 0x1;
 
+const CLASS_ALU: u8 = 0x4;
+
 const CLASS_JMP: u8 = 0x5;
 
-const CLASS_ALU64: u8 = 0x7;
+const CLASS_JMP32: u8 = 0x6;
 
-const OPCODE_JA: u8 = 0x05;
+const CLASS_ALU64: u8 = 0x7;
+/// The code of `MOV`, the four high bits.
+const CODE_MOV: u8 = 0xb;
+/// The code of `NEG`, the four high bits.
+const CODE_NEG: u8 = 0x8;
+
+const OPCODE_LE: u8 = 0xd4;
+
+const OPCODE_BE: u8 = 0xdc;
+
+const OPCODE_SWAP: u8 = 0xd7;
 
 const OPCODE_EXIT: u8 = 0x95;
-/// The mode `MEM`, the three high bits, over the two bits of the size.
-const MODE_MEM: u8 = 0xc;
+
+const OPCODE_LDDW: u8 = 0x18;
+/// The mode `MEM`, the three high bits.
+const MODE_MEM: u8 = 3;
+/// The mode `MEMSX`, the three high bits.
+const MODE_MEMSX: u8 = 4;
 
 impl Source {
     fn bit(self) -> u8
@@ -65,19 +111,87 @@ impl Source {
     }
 }
 
+impl AluCode {
+    /// Returns the code, the high four bits of the opcode.
+    fn code(self) -> u8
+        ensures { result ≡ alu_code self }
+    {
+        match self {
+            AluCode::Add => 0x0,
+            AluCode::Sub => 0x1,
+            AluCode::Mul => 0x2,
+            AluCode::Div => 0x3,
+            AluCode::Or => 0x4,
+            AluCode::And => 0x5,
+            AluCode::Lsh => 0x6,
+            AluCode::Rsh => 0x7,
+            AluCode::Mod => 0x9,
+            AluCode::Xor => 0xa,
+            AluCode::Arsh => 0xc,
+        }
+    }
+
+    fn from_code(code: u8) -> Option<AluCode>
+        ensures found { IfSome result (λ c. alu_code c ≡ code) }
+        ensures only { (c : AluCode) → alu_code c ≡ code → result ≡ Some c }
+    {
+        match code {
+            0x0 => Some(AluCode::Add),
+            0x1 => Some(AluCode::Sub),
+            0x2 => Some(AluCode::Mul),
+            0x3 => Some(AluCode::Div),
+            0x4 => Some(AluCode::Or),
+            0x5 => Some(AluCode::And),
+            0x6 => Some(AluCode::Lsh),
+            0x7 => Some(AluCode::Rsh),
+            0x9 => Some(AluCode::Mod),
+            0xa => Some(AluCode::Xor),
+            0xc => Some(AluCode::Arsh),
+            _ => None,
+        }
+    }
+}
+
+fn alu_class(width: Width) -> u8
+    ensures { result ≡ alu_class width }
+{
+    match width {
+        Width::W32 => CLASS_ALU,
+        Width::W64 => CLASS_ALU64,
+    }
+}
+
+fn jump_class(width: Width) -> u8
+    ensures { result ≡ jump_class width }
+{
+    match width {
+        Width::W32 => CLASS_JMP32,
+        Width::W64 => CLASS_JMP,
+    }
+}
+
 impl Opcode {
     /// Returns the byte of the opcode.
     pub fn byte(self) -> u8
         ensures { result ≡ byte_of self }
     {
         match self {
-            Opcode::Alu(op, source) => 16 * op.code() + 8 * source.bit() + CLASS_ALU64,
-            Opcode::Jump => OPCODE_JA,
-            Opcode::JumpIf(condition, source) => {
-                16 * condition.code() + 8 * source.bit() + CLASS_JMP
+            Opcode::Alu(width, code, source) => {
+                16 * code.code() + 8 * source.bit() + alu_class(width)
+            }
+            Opcode::Mov(width, source) => 16 * CODE_MOV + 8 * source.bit() + alu_class(width),
+            Opcode::Neg(width) => 16 * CODE_NEG + alu_class(width),
+            Opcode::Swap(SwapOp::ToLittle) => OPCODE_LE,
+            Opcode::Swap(SwapOp::ToBig) => OPCODE_BE,
+            Opcode::Swap(SwapOp::Reverse) => OPCODE_SWAP,
+            Opcode::Jump(width) => jump_class(width),
+            Opcode::JumpIf(width, condition, source) => {
+                16 * condition.code() + 8 * source.bit() + jump_class(width)
             }
             Opcode::Exit => OPCODE_EXIT,
-            Opcode::Load(size) => 8 * (MODE_MEM + size.code()) + CLASS_LDX,
+            Opcode::Load(size) => 32 * MODE_MEM + 8 * size.code() + CLASS_LDX,
+            Opcode::LoadSigned(size) => 32 * MODE_MEMSX + 8 * size.unsigned().code() + CLASS_LDX,
+            Opcode::LoadImm => OPCODE_LDDW,
         }
     }
 
@@ -87,37 +201,68 @@ impl Opcode {
         ensures only { (o : Opcode) → byte_of o ≡ byte → result ≡ Some o }
     {
         match byte % 8 {
-            CLASS_ALU64 => Opcode::alu_of(byte),
-            CLASS_JMP => Opcode::jump_of(byte),
+            CLASS_ALU => Opcode::alu_of(byte, Width::W32),
+            CLASS_ALU64 => Opcode::alu_of(byte, Width::W64),
+            CLASS_JMP => Opcode::jump_of(byte, Width::W64),
+            CLASS_JMP32 => Opcode::jump_of(byte, Width::W32),
             CLASS_LDX => Opcode::load_of(byte),
-            _ => None,
+            _ => {
+                if byte == OPCODE_LDDW {
+                    Some(Opcode::LoadImm)
+                } else {
+                    None
+                }
+            }
         }
     }
 
-    fn alu_of(byte: u8) -> Option<Opcode>
-        requires { byte % 8 ≡ 7 }
-        ensures found { IfSome result (λ o. byte_of o ≡ byte) }
-        ensures only { (o : Opcode) → byte_of o ≡ byte → result ≡ Some o }
-    {
-        let source = Source::from_bit(byte / 8 % 2)?;
-        let op = AluOp::from_code(byte / 16)?;
-        Some(Opcode::Alu(op, source))
-    }
-
-    fn jump_of(byte: u8) -> Option<Opcode>
-        requires { byte % 8 ≡ 5 }
+    fn alu_of(byte: u8, width: Width) -> Option<Opcode>
+        requires { byte % 8 ≡ alu_class width }
         ensures found { IfSome result (λ o. byte_of o ≡ byte) }
         ensures only { (o : Opcode) → byte_of o ≡ byte → result ≡ Some o }
     {
         match byte {
-            OPCODE_JA => Some(Opcode::Jump),
-            OPCODE_EXIT => Some(Opcode::Exit),
-            _ => {
-                let source = Source::from_bit(byte / 8 % 2)?;
-                let condition = Condition::from_code(byte / 16)?;
-                Some(Opcode::JumpIf(condition, source))
+            OPCODE_LE => Some(Opcode::Swap(SwapOp::ToLittle)),
+            OPCODE_BE => Some(Opcode::Swap(SwapOp::ToBig)),
+            OPCODE_SWAP => Some(Opcode::Swap(SwapOp::Reverse)),
+            _ => Opcode::operator_of(byte, width),
+        }
+    }
+
+    fn operator_of(byte: u8, width: Width) -> Option<Opcode>
+        requires class { byte % 8 ≡ alu_class width }
+        requires swaps_nothing { (op : SwapOp) → byte_of (Swap op) ≢ byte }
+        ensures found { IfSome result (λ o. byte_of o ≡ byte) }
+        ensures only { (o : Opcode) → byte_of o ≡ byte → result ≡ Some o }
+    {
+        let source = Source::from_bit(byte / 8 % 2)?;
+        match byte / 16 {
+            CODE_MOV => Some(Opcode::Mov(width, source)),
+            CODE_NEG => match source {
+                Source::Imm => Some(Opcode::Neg(width)),
+                Source::Reg => None,
+            },
+            code => {
+                let code = AluCode::from_code(code)?;
+                Some(Opcode::Alu(width, code, source))
             }
         }
+    }
+
+    fn jump_of(byte: u8, width: Width) -> Option<Opcode>
+        requires { byte % 8 ≡ jump_class width }
+        ensures found { IfSome result (λ o. byte_of o ≡ byte) }
+        ensures only { (o : Opcode) → byte_of o ≡ byte → result ≡ Some o }
+    {
+        if byte / 8 == 0 {
+            return Some(Opcode::Jump(width));
+        }
+        if byte == OPCODE_EXIT {
+            return Some(Opcode::Exit);
+        }
+        let source = Source::from_bit(byte / 8 % 2)?;
+        let condition = Condition::from_code(byte / 16)?;
+        Some(Opcode::JumpIf(width, condition, source))
     }
 
     fn load_of(byte: u8) -> Option<Opcode>
@@ -125,8 +270,11 @@ impl Opcode {
         ensures found { IfSome result (λ o. byte_of o ≡ byte) }
         ensures only { (o : Opcode) → byte_of o ≡ byte → result ≡ Some o }
     {
-        let code = (byte / 8).checked_sub(MODE_MEM)?;
-        let size = Size::from_code(code)?;
-        Some(Opcode::Load(size))
+        let size = Size::from_code(byte / 8 % 4)?;
+        match byte / 32 {
+            MODE_MEM => Some(Opcode::Load(size)),
+            MODE_MEMSX => Some(Opcode::LoadSigned(SignedSize::of(size)?)),
+            _ => None,
+        }
     }
 }

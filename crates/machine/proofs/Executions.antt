@@ -80,7 +80,7 @@ module _ {Log : Type 0} (with_step : Log → Visit → Log) (program : List Insn
 
   -- the loop goes on
   pub goes_on : (to : Position) (registers' : List Value) (last : Log) (i : Insn) → fetch program at.slot ≡ Begins i → last ≡ with_step new (visit at.slot i)
-      → result_of at.slot registers' memory (code.Goes to) ≡ applied program (state_at at.slot registers memory) i (effect memory registers i) → GoesAhead program at to
+      → ((w : Surroundings) → result_of at.slot registers' memory (code.Goes to) ≡ applied w program (state_at at.slot registers memory) i (effect w.context memory registers i)) → GoesAhead program at to
       → HasRun with_step program memory to registers' (steps + 1) old last
   goes_on to registers' last i here logs result ahead = record {
     is_at = ahead.is_at;
@@ -89,7 +89,7 @@ module _ {Log : Type 0} (with_step : Log → Visit → Log) (program : List Insn
     early = omega (arith, has.early, ahead.later);
     so_far = λ w.
         turned (Begins i) here w
-        ∙ ap (λ (r : runs.StepResult). turned_to w program memory at.slot registers steps has.path (visit at.slot i ∷ []) r) (sym result)
+        ∙ ap (λ (r : runs.StepResult). turned_to w program memory at.slot registers steps has.path (visit at.slot i ∷ []) r) (sym (result w))
         ∙ ap (λ (k : ℕ). after (has.path ++ visit at.slot i ∷ []) (run w program k (state_at to.slot registers' memory))) (less_one (length program) steps);
     logged = logged_more last (visit at.slot i) logs;
   }
@@ -97,12 +97,12 @@ module _ {Log : Type 0} (with_step : Log → Visit → Log) (program : List Insn
   -- ---- the ends
 
   pub over_at_exit : (registers' : List Value) (verdict : ℕ) (last : Log) (i : Insn) → fetch program at.slot ≡ Begins i → last ≡ with_step new (visit at.slot i)
-      → result_of at.slot registers' memory (code.Exits verdict) ≡ applied program (state_at at.slot registers memory) i (effect memory registers i)
+      → ((w : Surroundings) → result_of at.slot registers' memory (code.Exits verdict) ≡ applied w program (state_at at.slot registers memory) i (effect w.context memory registers i))
       → IsWholeRun with_step program memory old last (Ok (record { verdict = verdict; steps = steps + 1 }))
   over_at_exit registers' verdict last i here logs result =
       let whole = λ (w : Surroundings).
       turned (Begins i) here w
-      ∙ ap (λ (r : runs.StepResult). turned_to w program memory at.slot registers steps has.path (visit at.slot i ∷ []) r) (sym result) in
+      ∙ ap (λ (r : runs.StepResult). turned_to w program memory at.slot registers steps has.path (visit at.slot i ∷ []) r) (sym (result w)) in
       record {
         ending = λ w. (ap (λ (r : Run). r.ending) (whole w), ap (λ (r : Run). length r.path) (whole w) ∙ end_count has.path (visit at.slot i) steps has.count);
         kept = λ w. ap (λ (r : Run). r.state.memory) (whole w);
@@ -122,10 +122,10 @@ module _ {Log : Type 0} (with_step : Log → Visit → Log) (program : List Insn
   }
 
   pub over_at_stuck : (registers' : List Value) (reason : Reason) (last : Log) (i : Insn) → fetch program at.slot ≡ Begins i → last ≡ with_step new (visit at.slot i)
-      → result_of at.slot registers' memory (code.Sticks reason) ≡ applied program (state_at at.slot registers memory) i (effect memory registers i)
+      → ((w : Surroundings) → result_of at.slot registers' memory (code.Sticks reason) ≡ applied w program (state_at at.slot registers memory) i (effect w.context memory registers i))
       → IsWholeRun with_step program memory old last (Err (record { reason = reason; slot = at.slot }))
   over_at_stuck registers' reason last i here logs result = stuck_behind (visit at.slot i ∷ []) last reason at.slot (logged_more last (visit at.slot i) logs)
-      (λ w. turned (Begins i) here w ∙ ap (λ (r : runs.StepResult). turned_to w program memory at.slot registers steps has.path (visit at.slot i ∷ []) r) (sym result))
+      (λ w. turned (Begins i) here w ∙ ap (λ (r : runs.StepResult). turned_to w program memory at.slot registers steps has.path (visit at.slot i ∷ []) r) (sym (result w)))
 
   logged_here : new ≡ fold with_step old (has.path ++ [])
   logged_here = has.logged ∙ ap (fold with_step old) (sym (append-nil has.path))

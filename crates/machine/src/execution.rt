@@ -4,7 +4,7 @@ ghost use Rattle.std.specs.Prelude.{◌≡◌, ◌<◌, ◌≤◌, length};
 ghost use Rattle.insn.specs.Encoding.{slot_count};
 ghost use Rattle.insn.specs.declared.decoding.TheConstants.{MAX_SLOTS};
 ghost use Rattle.semantics.specs.Effects.{effect};
-ghost use Rattle.semantics.specs.Machine.{first_registers};
+ghost use Rattle.semantics.specs.Machine.{Surroundings, first_registers};
 ghost use Rattle.semantics.specs.Runs.{applied};
 ghost use Rattle.semantics.specs.Slots.{fetch, IsAt};
 ghost use Rattle.semantics.specs.declared.fetching.Fetched.TheVariants.{Begins};
@@ -58,9 +58,9 @@ fn execute_step(
     requires at { IsAt code.now at }
     requires few { slot_count code.now ≤ MAX_SLOTS }
     requires insn { fetch code.now at.slot ≡ Begins insn.now }
-    ensures result { result_of at.slot registers.new (memory_of memory.now) result
-        ≡ applied code.now (state_at at.slot registers.old (memory_of memory.now)) insn.now
-        (effect (memory_of memory.now) registers.old insn.now) }
+    ensures result { (w : Surroundings) → result_of at.slot registers.new (memory_of memory.now) result
+        ≡ applied w code.now (state_at at.slot registers.old (memory_of memory.now)) insn.now
+        (effect w.context (memory_of memory.now) registers.old insn.now) }
     ensures ahead { IfGoes result (GoesAhead code.now at) }
 {
     match effect_of(memory, registers, insn) {

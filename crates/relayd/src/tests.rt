@@ -1,6 +1,7 @@
 //! Programs with what is printed of them, and what no contract says. Each file is named after the crate
 //! that its rows are about.
 
+mod arithmetic_rows;
 mod insn_rows;
 mod limit_rows;
 mod loader_rows;

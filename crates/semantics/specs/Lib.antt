@@ -7,5 +7,6 @@ pub mod Slots
 pub mod SlotLaws
 pub mod Runs
 pub mod RunLaws
+pub mod Flow
 pub mod LooseRuns
 pub mod Views

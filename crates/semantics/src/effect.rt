@@ -2,16 +2,21 @@
 
 ghost use Rattle.std.specs.Prelude.{◌≡◌, ◌≤◌, ◌+ℤ◌};
 ghost use Rattle.std.specs.Int.{w64, cast_signed};
-ghost use Rattle.semantics.specs.Effects.{held, value_at, read, operand_value, is_writable, writable, near_place, sum_of, alu_effect, ordered, compared, jump_if_effect, load_effect, verdict_of, exit_effect, effect};
+ghost use Rattle.semantics.specs.Effects.{held, value_at, read, operand_value, is_writable, writable, near_place, moved_place, alu_result, unary_result, written, alu_effect, unary_effect, ordered, compared, jump_if_effect, load_effect, verdict_of, exit_effect, effect};
+ghost use Rattle.semantics.specs.Loading.{load, load_signed};
+ghost use Rattle.semantics.specs.Machine.{Context};
 ghost use Rattle.semantics.specs.Views.{memory_of};
 ghost use Rattle.semantics.specs.declared.limits.TheConstants.{MAX_DATAGRAM};
 
 use crate::limits::MAX_OFFSET;
-use crate::loading::load;
+use crate::loading::{load, load_signed};
 use crate::memory::Memory;
 use crate::reason::Reason;
 use crate::value::Value;
-use insn::{AluOp, Condition, Insn, Operand, Reg, Size, alu, extended, holds};
+use insn::{
+    AluOp, Condition, Insn, Operand, Reg, SignedSize, Size, UnaryOp, Width, alu, extended, holds,
+    unary,
+};
 
 /// The registers `r0` to `r10`.
 pub type Registers = [Value; 11];
@@ -22,7 +27,7 @@ pub enum Effect {
     /// Writes the value to `dst`, and goes on to the next instruction.
     Write { dst: Reg, value: Value },
     /// Jumps by a distance in slots, counted from the next slot.
-    Jump { offset: i16 },
+    Jump { offset: i32 },
     /// Goes on to the next instruction: a conditional jump that is not taken.
     Pass,
     /// Ends the run with a verdict.
@@ -61,57 +66,88 @@ pub fn writable(dst: Reg) -> Result<(), Reason>
     }
 }
 
-/// Returns a place moved by a signed number, or `None` where it would lie further than [`MAX_OFFSET`] from 0.
-pub fn moved_place(place: i64, by: u64) -> Option<i64>
-    ensures { result ≡ near_place (place +ℤ cast_signed w64 by) }
+/// Returns a place, or `None` where it lies further than [`MAX_OFFSET`] from 0.
+fn near_place(place: i64) -> Option<i64>
+    ensures { result ≡ near_place place }
 {
-    let moved = place.checked_add(by.cast_signed())?;
-    if -MAX_OFFSET <= moved && moved <= MAX_OFFSET {
-        Some(moved)
+    if -MAX_OFFSET <= place && place <= MAX_OFFSET {
+        Some(place)
     } else {
         None
     }
 }
 
-fn sum_of(a: Value, b: Value) -> Result<Value, Reason>
-    ensures { result ≡ sum_of a b }
+/// Returns a place moved by a signed number, which is added or subtracted on 64 bits. `None` for another operator,
+/// or where the place would lie further than [`MAX_OFFSET`] from 0.
+pub fn moved_place(op: AluOp, width: Width, place: i64, by: u64) -> Option<i64>
+    ensures { result ≡ moved_place op width place by }
+{
+    match (op, width) {
+        (AluOp::Add, Width::W64) => near_place(place.checked_add(by.cast_signed())?),
+        (AluOp::Sub, Width::W64) => near_place(place.checked_sub(by.cast_signed())?),
+        _ => None,
+    }
+}
+
+fn alu_result(op: AluOp, width: Width, a: Value, b: Value) -> Result<Value, Reason>
+    ensures { result ≡ alu_result op width a b }
 {
     match (a, b) {
-        (Value::Scalar(a), Value::Scalar(b)) => Ok(Value::Scalar(alu(AluOp::Add, a, b))),
+        (Value::Scalar(a), Value::Scalar(b)) => Ok(Value::Scalar(alu(op, width, a, b))),
         (Value::Data(k), Value::Scalar(b)) => {
-            let k = moved_place(k, b).ok_or(Reason::PointerArithmetic)?;
+            let k = moved_place(op, width, k, b).ok_or(Reason::PointerArithmetic)?;
             Ok(Value::Data(k))
         }
         (Value::Stack(k), Value::Scalar(b)) => {
-            let k = moved_place(k, b).ok_or(Reason::PointerArithmetic)?;
+            let k = moved_place(op, width, k, b).ok_or(Reason::PointerArithmetic)?;
             Ok(Value::Stack(k))
         }
         _ => Err(Reason::PointerArithmetic),
     }
 }
 
+fn unary_result(op: UnaryOp, a: Value) -> Result<Value, Reason>
+    ensures { result ≡ unary_result op a }
+{
+    match (op, a) {
+        (UnaryOp::Mov(Width::W64), value) => Ok(value),
+        (op, Value::Scalar(a)) => Ok(Value::Scalar(unary(op, a))),
+        _ => Err(Reason::PointerArithmetic),
+    }
+}
+
+/// Returns the effect of writing a result, if the register may be written and there is a result.
+fn written(dst: Reg, value: Result<Value, Reason>) -> Result<Effect, Reason>
+    ensures { result ≡ written dst value }
+{
+    writable(dst)?;
+    Ok(Effect::Write { dst, value: value? })
+}
+
 fn alu_effect(
     registers: &Registers,
+    width: Width,
     op: AluOp,
     dst: Reg,
     operand: Operand,
 ) -> Result<Effect, Reason>
-    ensures { result ≡ alu_effect registers.now op dst operand }
+    ensures { result ≡ alu_effect registers.now width op dst operand }
 {
-    match op {
-        AluOp::Mov => {
-            let value = operand_value(registers, operand)?;
-            writable(dst)?;
-            Ok(Effect::Write { dst, value })
-        }
-        AluOp::Add => {
-            let a = read(registers, dst)?;
-            let b = operand_value(registers, operand)?;
-            writable(dst)?;
-            let value = sum_of(a, b)?;
-            Ok(Effect::Write { dst, value })
-        }
-    }
+    let a = read(registers, dst)?;
+    let b = operand_value(registers, operand)?;
+    written(dst, alu_result(op, width, a, b))
+}
+
+fn unary_effect(
+    registers: &Registers,
+    op: UnaryOp,
+    dst: Reg,
+    operand: Operand,
+) -> Result<Effect, Reason>
+    ensures { result ≡ unary_effect registers.now op dst operand }
+{
+    let a = operand_value(registers, operand)?;
+    written(dst, unary_result(op, a))
 }
 
 /// Compares a place with the datagram's end, or the end with a place.
@@ -130,15 +166,21 @@ fn ordered(condition: Condition, a: i64, b: i64) -> Result<bool, Reason>
     }
 }
 
-fn compared(length: usize, condition: Condition, a: Value, b: Value) -> Result<bool, Reason>
+fn compared(
+    length: usize,
+    width: Width,
+    condition: Condition,
+    a: Value,
+    b: Value,
+) -> Result<bool, Reason>
     requires { length ≤ MAX_DATAGRAM }
-    ensures { result ≡ compared length condition a b }
+    ensures { result ≡ compared length width condition a b }
 {
     let end = length as i64;
-    match (a, b) {
-        (Value::Scalar(a), Value::Scalar(b)) => Ok(holds(condition, a, b)),
-        (Value::Data(k), Value::End) => ordered(condition, k, end),
-        (Value::End, Value::Data(k)) => ordered(condition, end, k),
+    match (width, a, b) {
+        (_, Value::Scalar(a), Value::Scalar(b)) => Ok(holds(condition, width, a, b)),
+        (Width::W64, Value::Data(k), Value::End) => ordered(condition, k, end),
+        (Width::W64, Value::End, Value::Data(k)) => ordered(condition, end, k),
         _ => Err(Reason::PointerCompare),
     }
 }
@@ -146,18 +188,21 @@ fn compared(length: usize, condition: Condition, a: Value, b: Value) -> Result<b
 fn jump_if_effect(
     registers: &Registers,
     length: usize,
+    width: Width,
     condition: Condition,
     dst: Reg,
     operand: Operand,
     offset: i16,
 ) -> Result<Effect, Reason>
     requires { length ≤ MAX_DATAGRAM }
-    ensures { result ≡ jump_if_effect registers.now length condition dst operand offset }
+    ensures { result ≡ jump_if_effect registers.now length width condition dst operand offset }
 {
     let a = read(registers, dst)?;
     let b = operand_value(registers, operand)?;
-    if compared(length, condition, a, b)? {
-        Ok(Effect::Jump { offset })
+    if compared(length, width, condition, a, b)? {
+        Ok(Effect::Jump {
+            offset: i32::from(offset),
+        })
     } else {
         Ok(Effect::Pass)
     }
@@ -171,12 +216,24 @@ fn load_effect(
     base: Reg,
     displacement: i16,
 ) -> Result<Effect, Reason>
-    ensures { result ≡ load_effect (memory_of memory.now) registers.now size dst base displacement }
+    ensures { result ≡ load_effect registers.now (λ p. load (memory_of memory.now) p displacement size) dst base }
 {
     let pointer = read(registers, base)?;
-    writable(dst)?;
-    let value = load(memory, pointer, displacement, size)?;
-    Ok(Effect::Write { dst, value })
+    written(dst, load(memory, pointer, displacement, size))
+}
+
+fn load_signed_effect(
+    memory: &Memory<'_>,
+    registers: &Registers,
+    size: SignedSize,
+    dst: Reg,
+    base: Reg,
+    displacement: i16,
+) -> Result<Effect, Reason>
+    ensures { result ≡ load_effect registers.now (λ p. load_signed (memory_of memory.now) p displacement size) dst base }
+{
+    let pointer = read(registers, base)?;
+    written(dst, load_signed(memory, pointer, displacement, size))
 }
 
 fn exit_effect(registers: &Registers) -> Result<Effect, Reason>
@@ -193,23 +250,68 @@ fn exit_effect(registers: &Registers) -> Result<Effect, Reason>
 /// # Errors
 /// The reason for which it is stuck: that of the first of its tests that fails.
 pub fn effect_of(memory: &Memory<'_>, registers: &Registers, insn: &Insn) -> Result<Effect, Reason>
-    ensures { result ≡ effect (memory_of memory.now) registers.now insn.now }
+    ensures { (c : Context) → result ≡ effect c (memory_of memory.now) registers.now insn.now }
 {
     match *insn {
-        Insn::Alu { op, dst, operand } => alu_effect(registers, op, dst, operand),
-        Insn::Jump { offset } => Ok(Effect::Jump { offset }),
+        Insn::Alu {
+            width,
+            op,
+            dst,
+            operand,
+        } => alu_effect(registers, width, op, dst, operand),
+        Insn::Mov {
+            width,
+            dst,
+            operand,
+        } => unary_effect(registers, UnaryOp::Mov(width), dst, operand),
+        Insn::Neg { width, dst } => {
+            unary_effect(registers, UnaryOp::Neg(width), dst, Operand::Reg(dst))
+        }
+        Insn::SignExtend {
+            extension,
+            dst,
+            src,
+        } => unary_effect(
+            registers,
+            UnaryOp::SignExtend(extension),
+            dst,
+            Operand::Reg(src),
+        ),
+        Insn::Swap { op, size, dst } => {
+            unary_effect(registers, UnaryOp::Swap(op, size), dst, Operand::Reg(dst))
+        }
+        Insn::Jump { offset } => Ok(Effect::Jump {
+            offset: i32::from(offset),
+        }),
+        Insn::LongJump { offset } => Ok(Effect::Jump { offset }),
         Insn::JumpIf {
+            width,
             condition,
             dst,
             operand,
             offset,
-        } => jump_if_effect(registers, memory.length, condition, dst, operand, offset),
+        } => jump_if_effect(
+            registers,
+            memory.length,
+            width,
+            condition,
+            dst,
+            operand,
+            offset,
+        ),
         Insn::Load {
             size,
             dst,
             base,
             offset,
         } => load_effect(memory, registers, size, dst, base, offset),
+        Insn::LoadSigned {
+            size,
+            dst,
+            base,
+            offset,
+        } => load_signed_effect(memory, registers, size, dst, base, offset),
+        Insn::LoadImm { dst, value } => written(dst, Ok(Value::Scalar(value))),
         Insn::Exit => exit_effect(registers),
     }
 }

@@ -1,14 +1,14 @@
-//! Loads (RFC 9669, section 5.1).
+//! Loads (RFC 9669, sections 5.1 and 5.2).
 
 ghost use Rattle.std.specs.Prelude.{◌≡◌, ◌≤◌, ◌<◌, ◌+◌, ◌^◌, ℤ, ◌≤ℤ◌, ◌+ℤ◌, pos, negsuc, length, IfSome};
-ghost use Rattle.semantics.specs.Loading.{load, field, cells_number, is_within, index_within, stack_first, part};
+ghost use Rattle.semantics.specs.Loading.{stack_number, datagram_number, tailroom_number, read_number, load, load_signed, field, cells_number, is_within, index_within, stack_first, part};
 ghost use Rattle.semantics.specs.Views.{memory_of};
 
 use crate::limits::{HEADROOM, STACK_BYTES, TAILROOM};
 use crate::memory::Memory;
 use crate::reason::Reason;
 use crate::value::Value;
-use insn::{Size, little_endian};
+use insn::{SignedSize, Size, little_endian, sign_extended};
 
 /// The first place of the stack.
 pub const STACK_FIRST: i64 = -(STACK_BYTES as i64);
@@ -101,7 +101,64 @@ fn field_of(displacement: i16, size: Size) -> Result<Value, Reason>
     }
 }
 
-/// Returns the value that a load through `base` with a displacement reads.
+/// Returns the number in the `n` bytes from a place of the stack on.
+fn stack_number(memory: &Memory<'_>, base: i64, displacement: i16, n: usize) -> Result<u64, Reason>
+    requires { n ≤ 8 }
+    ensures { result ≡ stack_number (memory_of memory.now) (base +ℤ displacement) n }
+{
+    let index = index_in_stack(base, displacement, n).ok_or(Reason::StackBounds)?;
+    number_of_cells(part_of(memory.stack, index, n)).ok_or(Reason::UninitStack)
+}
+
+/// Returns the number in the `n` bytes from a place of headroom or datagram on.
+fn datagram_number(
+    memory: &Memory<'_>,
+    base: i64,
+    displacement: i16,
+    n: usize,
+) -> Result<u64, Reason>
+    requires some { 1 ≤ n }
+    requires few { n ≤ 8 }
+    ensures { result ≡ datagram_number (memory_of memory.now) (base +ℤ displacement) n }
+{
+    let end = memory.length as i64;
+    let index = index_of(base, displacement, n, HEADROOM_FIRST, HEADROOM_FIRST, end).ok_or(
+        Reason::DatagramBounds,
+    )?;
+    Ok(little_endian(part_of(memory.bytes, index, n)))
+}
+
+/// Returns the number in the `n` bytes of the tailroom, from its first byte and a displacement on.
+fn tailroom_number(memory: &Memory<'_>, displacement: i16, n: usize) -> Result<u64, Reason>
+    requires some { 1 ≤ n }
+    requires few { n ≤ 8 }
+    ensures { result ≡ tailroom_number (memory_of memory.now) (pos (memory.now).length +ℤ displacement) n }
+{
+    let end = memory.length as i64;
+    let high = end + TAILROOM as i64;
+    let index = index_of(end, displacement, n, HEADROOM_FIRST, end, high).ok_or(
+        Reason::DatagramBounds,
+    )?;
+    Ok(little_endian(part_of(memory.bytes, index, n)))
+}
+
+/// Returns the number in the `n` bytes that `base` with a displacement reaches.
+fn number_at(memory: &Memory<'_>, base: Value, displacement: i16, n: usize) -> Result<u64, Reason>
+    requires some { 1 ≤ n }
+    requires few { n ≤ 8 }
+    ensures { result ≡ read_number (memory_of memory.now) base displacement n }
+{
+    match base {
+        Value::Nothing => Err(Reason::UninitRegister),
+        Value::Scalar(_) => Err(Reason::NotAPointer),
+        Value::Ctx => Err(Reason::ContextAccess),
+        Value::Stack(k) => stack_number(memory, k, displacement, n),
+        Value::Data(k) => datagram_number(memory, k, displacement, n),
+        Value::End => tailroom_number(memory, displacement, n),
+    }
+}
+
+/// Returns the value that a load through `base` with a displacement reads, zero-extended.
 ///
 /// # Errors
 /// The reason for which the load is stuck.
@@ -113,37 +170,24 @@ pub fn load(
 ) -> Result<Value, Reason>
     ensures { result ≡ load (memory_of memory.now) base displacement size }
 {
-    let n = size.bytes();
     match base {
-        Value::Nothing => Err(Reason::UninitRegister),
-        Value::Scalar(_) => Err(Reason::NotAPointer),
         Value::Ctx => field_of(displacement, size),
-        Value::Stack(k) => {
-            let index = index_in_stack(k, displacement, n).ok_or(Reason::StackBounds)?;
-            let number = number_of_cells(part_of(memory.stack, index, n)).ok_or(
-                Reason::UninitStack,
-            )?;
-            Ok(Value::Scalar(number))
-        }
-        Value::Data(k) => {
-            let end = memory.length as i64;
-            let index = index_of(k, displacement, n, HEADROOM_FIRST, HEADROOM_FIRST, end).ok_or(
-                Reason::DatagramBounds,
-            )?;
-            Ok(Value::Scalar(little_endian(part_of(memory.bytes, index, n))))
-        }
-        Value::End => {
-            let end = memory.length as i64;
-            let index = index_of(
-                end,
-                displacement,
-                n,
-                HEADROOM_FIRST,
-                end,
-                end + TAILROOM as i64,
-            )
-            .ok_or(Reason::DatagramBounds)?;
-            Ok(Value::Scalar(little_endian(part_of(memory.bytes, index, n))))
-        }
+        _ => Ok(Value::Scalar(number_at(memory, base, displacement, size.bytes())?)),
     }
+}
+
+/// Returns the value that a load through `base` with a displacement reads, sign-extended.
+///
+/// # Errors
+/// The reason for which the load is stuck.
+pub fn load_signed(
+    memory: &Memory<'_>,
+    base: Value,
+    displacement: i16,
+    size: SignedSize,
+) -> Result<Value, Reason>
+    ensures { result ≡ load_signed (memory_of memory.now) base displacement size }
+{
+    let number = number_at(memory, base, displacement, size.unsigned().bytes())?;
+    Ok(Value::Scalar(sign_extended(size, number)))
 }

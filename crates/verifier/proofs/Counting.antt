@@ -3,17 +3,19 @@ use Rattle.std.proofs.Common.{◌≡◌, ℕ, zero, suc, ◌+◌, ◌-◌, ◌<�
 use Rattle.std.specs.List.{flat_map}
 use Rattle.std.proofs.lemmas.List.{length-map}
 use Rattle.insn.specs.declared.instruction.Insn.{Insn}
-use Rattle.insn.specs.declared.instruction.Insn.TheVariants as insn
-use Rattle.semantics.specs.Slots.{fetch, ahead}
+use Rattle.semantics.specs.Slots.{fetch, target, ahead}
 use Rattle.semantics.specs.SlotLaws.{ahead_falls}
-use Rattle.semantics.specs.LooseRuns.{branches, branch_slot, path_onwards, paths_at, beginnings_from}
+use Rattle.insn.specs.Encoding.{slots_of}
+use Rattle.semantics.specs.Flow.{Flow, Straight, Jumps, Forks, flow_of, flow_slot, flow_branches, branches, branch_slot}
+use Rattle.semantics.specs.Flow as flow
+use Rattle.semantics.specs.LooseRuns.{path_onwards, paths_at, beginnings_from}
 use Rattle.semantics.specs.declared.reason.Reason.{Reason}
 use Rattle.semantics.specs.declared.fetching.Fetched.{Fetched}
 use Rattle.semantics.specs.declared.fetching.Fetched.TheVariants.{Begins, Inside, Past}
 use Rattle.semantics.specs.declared.fetching.Branch.{Branch}
 use Rattle.semantics.specs.declared.fetching.Branch.TheVariants.{NotTaken, Taken}
 use Rattle.verifier.specs.PendingStates.{count_from, counts_from}
-use Rattle.verifier.specs.Successors.{One, Two, successors_of, successors_in}
+use Rattle.verifier.specs.Successors.{One, Two, flow_successors, successors_of, successors_in}
 use Rattle.verifier.specs.Walk.{LeadsTo, GoesOn}
 use Rattle.verifier.specs.declared.abstract_state.AbstractState.{AbstractState}
 use Rattle.verifier.specs.declared.abstract_step.Next.{Next}
@@ -80,20 +82,30 @@ same_onwards : (r : Result ℕ Reason) (f : ℕ → List (List Branch)) → leng
 same_onwards (Ok n) f = length-map (f n) (λ (path : List Branch). NotTaken ∷ path) ∙ sym (length-map (f n) (λ (path : List Branch). Taken ∷ path))
 same_onwards (Err e) f = refl
 
+abbrev onwards_by : List Insn → ℕ → ℕ → Flow → Branch → ℕ → List (List Branch)
+onwards_by code slot n f branch m = path_onwards branch (flow_slot code slot n f branch) (λ next. beginnings_from code m next)
+
+abbrev all_by : List Insn → ℕ → ℕ → Flow → ℕ → List (List Branch)
+all_by code slot n f m = flat_map (λ branch. onwards_by code slot n f branch m) (flow_branches f)
+
+one_way : (code : List Insn) (slot n m : ℕ) (f : Flow) → One ≡ flow_successors f → length (onwards_by code slot n f NotTaken m) ≤ length (all_by code slot n f m)
+one_way code slot n m Straight e = omega (arith, length-append (onwards_by code slot n Straight NotTaken m) [])
+one_way code slot n m (Jumps d) e = omega (arith, length-append (onwards_by code slot n (Jumps d) Taken m) [], same_onwards (target code slot d) (λ next. beginnings_from code m next))
+one_way code slot n m (Forks d) e = absurd cc
+one_way code slot n m flow.Ends e = absurd cc
+
+two_ways : (code : List Insn) (slot n m : ℕ) (f : Flow) → Two ≡ flow_successors f → length (onwards_by code slot n f NotTaken m) + length (onwards_by code slot n f Taken m) ≤ length (all_by code slot n f m)
+two_ways code slot n m (Forks d) e =
+    omega (arith, length-append (onwards_by code slot n (Forks d) NotTaken m) (onwards_by code slot n (Forks d) Taken m ++ []), length-append (onwards_by code slot n (Forks d) Taken m) [])
+two_ways code slot n m Straight e = absurd cc
+two_ways code slot n m (Jumps d) e = absurd cc
+two_ways code slot n m flow.Ends e = absurd cc
+
 one_branch : (code : List Insn) (slot m : ℕ) (i : Insn) → One ≡ successors_of i → length (branch_onwards code slot i NotTaken m) ≤ length (all_onwards code slot i m)
-one_branch code slot m (insn.Alu op dst o) e = omega (arith, length-append (branch_onwards code slot (insn.Alu op dst o) NotTaken m) [])
-one_branch code slot m (insn.Jump offset) e = omega (arith, length-append (branch_onwards code slot (insn.Jump offset) Taken m) [], same_onwards (branch_slot code slot (insn.Jump offset) Taken) (λ next. beginnings_from code m next))
-one_branch code slot m (insn.JumpIf c dst o offset) e = absurd cc
-one_branch code slot m (insn.Load z dst base d) e = omega (arith, length-append (branch_onwards code slot (insn.Load z dst base d) NotTaken m) [])
-one_branch code slot m insn.Exit e = absurd cc
+one_branch code slot m i e = one_way code slot (slots_of i) m (flow_of i) e
 
 two_branches : (code : List Insn) (slot m : ℕ) (i : Insn) → Two ≡ successors_of i → length (branch_onwards code slot i NotTaken m) + length (branch_onwards code slot i Taken m) ≤ length (all_onwards code slot i m)
-two_branches code slot m (insn.JumpIf c dst o offset) e =
-    omega (arith, length-append (branch_onwards code slot (insn.JumpIf c dst o offset) NotTaken m) (branch_onwards code slot (insn.JumpIf c dst o offset) Taken m ++ []), length-append (branch_onwards code slot (insn.JumpIf c dst o offset) Taken m) [])
-two_branches code slot m (insn.Alu op dst o) e = absurd cc
-two_branches code slot m (insn.Jump offset) e = absurd cc
-two_branches code slot m (insn.Load z dst base d) e = absurd cc
-two_branches code slot m insn.Exit e = absurd cc
+two_branches code slot m i e = two_ways code slot (slots_of i) m (flow_of i) e
 
 -- the number of beginnings from the current state, if there is one
 abbrev pub count_next : List Insn → Option Pending → ℕ

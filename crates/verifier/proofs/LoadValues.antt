@@ -22,7 +22,6 @@ use Rattle.semantics.specs.declared.value.Value.TheVariants as value
 use Rattle.verifier.specs.AbstractStates.{is_marked, are_marked}
 use Rattle.verifier.specs.AbstractSteps as abstract
 use Rattle.verifier.specs.Membership.{Mode, Strict, Places, IsWord, IsHeld, IsCell}
-use Rattle.verifier.specs.declared.abstract_state.Number.TheVariants.{Unknown}
 use Rattle.verifier.specs.declared.abstract_state.Anchor.TheVariants.{First}
 use Rattle.verifier.specs.declared.abstract_state.AbstractValue.TheVariants as known
 use Rattle.verifier.specs.declared.abstract_state.Marks.{Marks}
@@ -148,17 +147,21 @@ index_short p n i e =
 first_is : (p : ℤ) → p ≡ pos 0 → pos 0 ≡ (p +ℤ pos 0)
 first_is p e = omega (arith, ints)
 
+-- what is read is a word
+abbrev pub IsRead : Unit {0} → ℕ → Type 0
+IsRead u n = IsWord n
+
 module _ (claimed : Reason → Type 0) (mode : Mode) (places : Places) where
   cells_agree : (claimed UninitStack → mode ≡ Strict) → (b : Bool) (o : Option ℕ) → (b ≡ true → is_some o ≡ true) → (mode ≡ Strict → is_some o ≡ b) → ((x : ℕ) → o ≡ Some x → IsWord x)
-      → Agree claimed (IsHeld places) (check b UninitStack >>= λ u. Ok (known.Scalar Unknown)) (ok_or o UninitStack >>= λ x. Ok (value.Scalar x))
+      → Agree claimed IsRead (check b UninitStack) (ok_or o UninitStack)
   cells_agree unset true None held same word = absurd (let bad : false ≡ true = held refl in cc)
-  cells_agree unset true (Some x) held same word = (x, word x refl, refl)
+  cells_agree unset true (Some x) held same word = word x refl
   cells_agree unset false None held same word = λ c. refl
   cells_agree unset false (Some x) held same word = λ c. let bad : true ≡ false = same (unset c) in absurd cc
 
   bytes_agree : (b b' : Bool) (i : ℕ) (number : ℕ → ℕ) → (b ≡ true → b' ≡ true) → (claimed DatagramBounds → b ≡ b') → ((i : ℕ) → IsWord (number i))
-      → Agree claimed (IsHeld places) (check b DatagramBounds >>= λ u. Ok (known.Scalar Unknown)) (ok_or (if b' then Some i else None) DatagramBounds >>= λ i. Ok (value.Scalar (number i)))
-  bytes_agree true true i number reach exact word = (number i, word i, refl)
+      → Agree claimed IsRead (check b DatagramBounds) (ok_or (if b' then Some i else None) DatagramBounds >>= λ i. Ok (number i))
+  bytes_agree true true i number reach exact word = word i
   bytes_agree true false i number reach exact word = absurd (let bad : false ≡ true = reach refl in cc)
   bytes_agree false true i number reach exact word = λ c. let bad : false ≡ true = exact c in absurd cc
   bytes_agree false false i number reach exact word = λ c. refl
@@ -177,11 +180,11 @@ module _ (claimed : Reason → Type 0) (mode : Mode) (places : Places) where
 
   pub stack_agrees : (claimed UninitStack → mode ≡ Strict) → (m : Marks) (stack : List (Option ℕ)) → length stack ≡ 512 → ((i : ℕ) → i < 512 → IsCell mode (is_marked m i) (slice_index_or stack i None))
       → All (λ c. (b : ℕ) → c ≡ Some b → b < 256) stack → (p : ℤ) (n : ℕ) → n ≤ 8
-      → Agree claimed (IsHeld places)
-      (ok_or (index_within p n stack_first stack_first (pos 0)) StackBounds >>= λ i. check (are_marked m i n) UninitStack >>= λ u. Ok (known.Scalar Unknown))
-      (ok_or (index_within p n stack_first stack_first (pos 0)) StackBounds >>= λ i. ok_or (cells_number (part n i stack)) UninitStack >>= λ x. Ok (value.Scalar x))
+      → Agree claimed IsRead
+      (ok_or (index_within p n stack_first stack_first (pos 0)) StackBounds >>= λ i. check (are_marked m i n) UninitStack)
+      (ok_or (index_within p n stack_first stack_first (pos 0)) StackBounds >>= λ i. ok_or (cells_number (part n i stack)) UninitStack)
   stack_agrees unset m stack count cells fit p n few =
-      same_place claimed (IsHeld places) StackBounds (index_within p n stack_first stack_first (pos 0)) _ _ (λ i e.
+      same_place claimed IsRead StackBounds (index_within p n stack_first stack_first (pos 0)) _ _ (λ i e.
       let short : i + n ≤ 512 = index_short p n i e in
       cells_agree unset (are_marked m i n) (cells_number (part n i stack))
       (marks_hold m stack count (λ k lt. (cells k lt).held) n i short)
@@ -195,12 +198,12 @@ module _ (claimed : Reason → Type 0) (mode : Mode) (places : Places) where
       both (int_le low p) (int_le (p +ℤ pos n) b) (first_of_and (int_le low p) (int_le (p +ℤ pos n) a) e) (le_is_true (p +ℤ pos n) b (omega (arith, ints)))
 
   pub datagram_agrees : (bytes : List ℕ) (size : ℕ) (proved : ℤ) → All (λ b. b < 256) bytes → proved ≤ℤ pos size → (claimed DatagramBounds → pos size ≡ proved) → (p q : ℤ) (n : ℕ) → q ≡ p → n ≤ 8
-      → Agree claimed (IsHeld places)
-      (check (is_within p n headroom_first proved) DatagramBounds >>= λ u. Ok (known.Scalar Unknown))
-      (ok_or (index_within q n headroom_first headroom_first (pos size)) DatagramBounds >>= λ i. Ok (value.Scalar (little_number n (part n i bytes))))
+      → Agree claimed IsRead
+      (check (is_within p n headroom_first proved) DatagramBounds)
+      (ok_or (index_within q n headroom_first headroom_first (pos size)) DatagramBounds >>= λ i. Ok (little_number n (part n i bytes)))
   datagram_agrees bytes size proved fit reach exact p q n same few =
-      subst (λ (r : ℤ). Agree claimed (IsHeld places) (check (is_within p n headroom_first proved) DatagramBounds >>= λ u. Ok (known.Scalar Unknown))
-      (ok_or (index_within r n headroom_first headroom_first (pos size)) DatagramBounds >>= λ i. Ok (value.Scalar (little_number n (part n i bytes))))) (sym same)
+      subst (λ (r : ℤ). Agree claimed IsRead (check (is_within p n headroom_first proved) DatagramBounds)
+      (ok_or (index_within r n headroom_first headroom_first (pos size)) DatagramBounds >>= λ i. Ok (little_number n (part n i bytes)))) (sym same)
       (bytes_agree (is_within p n headroom_first proved) (is_within p n headroom_first (pos size)) (unsigned_abs (p -ℤ headroom_first)) (λ i. little_number n (part n i bytes))
       (within_reach p headroom_first proved (pos size) n reach) (λ c. ap (is_within p n headroom_first) (sym (exact c))) (λ i. bytes_word bytes fit n i few))
 
@@ -211,9 +214,9 @@ module _ (claimed : Reason → Type 0) (mode : Mode) (places : Places) where
       ap (λ (b : Bool). b && int_le (d +ℤ pos n) (pos TAILROOM)) low ∙ ap (λ (b : Bool). int_le (pos size) (pos size +ℤ d) && b) high
 
   pub tailroom_agrees : (bytes : List ℕ) (size : ℕ) → All (λ b. b < 256) bytes → (d : ℤ) (n : ℕ) → n ≤ 8
-      → Agree claimed (IsHeld places)
-      (check (is_within d n (pos 0) (pos TAILROOM)) DatagramBounds >>= λ u. Ok (known.Scalar Unknown))
-      (ok_or (index_within (pos size +ℤ d) n headroom_first (pos size) (pos (size + TAILROOM))) DatagramBounds >>= λ i. Ok (value.Scalar (little_number n (part n i bytes))))
+      → Agree claimed IsRead
+      (check (is_within d n (pos 0) (pos TAILROOM)) DatagramBounds)
+      (ok_or (index_within (pos size +ℤ d) n headroom_first (pos size) (pos (size + TAILROOM))) DatagramBounds >>= λ i. Ok (little_number n (part n i bytes)))
   tailroom_agrees bytes size fit d n few =
       bytes_agree (is_within d n (pos 0) (pos TAILROOM)) (is_within (pos size +ℤ d) n (pos size) (pos (size + TAILROOM))) (unsigned_abs ((pos size +ℤ d) -ℤ headroom_first)) (λ i. little_number n (part n i bytes))
       (λ e. sym (end_is d n size) ∙ e) (λ c. end_is d n size) (λ i. bytes_word bytes fit n i few)

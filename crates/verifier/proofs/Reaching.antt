@@ -1,5 +1,5 @@
 -- Loose runs reach every pending state that the walk follows, and are stuck where it refuses.
-use Rattle.std.proofs.Common.{◌≡◌, ℕ, zero, suc, ◌<◌, Bool, true, false, ℤ, pos, negsuc, ◌+ℤ◌, ◌≤ℤ◌, ◌<ℤ◌, ◌&&◌, List, [], ◌∷◌, replicate, Option, Some, None, Result, Ok, Err, refl, sym, ap, ◌∙◌, subst, arith, All, inl, inr}
+use Rattle.std.proofs.Common.{◌≡◌, ℕ, zero, suc, ◌<◌, Bool, true, false, ℤ, pos, negsuc, ◌+ℤ◌, ◌-ℤ◌, ◌≤ℤ◌, ◌<ℤ◌, ◌&&◌, List, [], ◌∷◌, replicate, Option, Some, None, Result, Ok, Err, refl, sym, ap, ◌∙◌, subst, arith, All, inl, inr}
 use Rattle.std.specs.Prelude.{◌⊎◌, IfSome, int_le, int_lt, unsigned_abs, slice_index_or, slice_set, if◌then◌else◌}
 use Rattle.std.proofs.lemmas.Int.{ints}
 use Rattle.std.proofs.lemmas.List.{length-replicate}
@@ -15,14 +15,16 @@ use Rattle.semantics.specs.declared.fetching.Branch.{Branch}
 use Rattle.semantics.specs.declared.fetching.Branch.TheVariants.{NotTaken, Taken}
 use Rattle.semantics.specs.declared.value.Value.{Value}
 use Rattle.semantics.specs.declared.value.Value.TheVariants as value
-use Rattle.semantics.specs.Fallible.{◌>>=◌}
-use Rattle.semantics.specs.Effects.{is_near, near_place}
+use Rattle.semantics.specs.Effects.{is_near, near_place, moved_place}
+use Rattle.semantics.specs.Flow.{flow_of}
 use Rattle.insn.specs.Register.{number_of}
 use Rattle.insn.specs.declared.register.Reg.{Reg}
-use Rattle.insn.specs.declared.operator.AluOp.TheVariants.{Add}
+use Rattle.insn.specs.declared.width.Width.{Width}
+use Rattle.insn.specs.declared.width.Width.TheVariants.{W64}
+use Rattle.insn.specs.declared.operator.AluOp.{AluOp}
+use Rattle.insn.specs.declared.operator.AluOp.TheVariants.{Add, Sub}
 use Rattle.insn.specs.declared.instruction.Operand.TheVariants as operand
 use Rattle.insn.specs.declared.instruction.Insn.TheVariants as insn
-use Rattle.std.specs.Option.{ok_or}
 use Rattle.std.specs.Int.{w64, cast_signed}
 use Rattle.std.proofs.lemmas.List.{get_or-set_other, set-get_or}
 use Rattle.std.proofs.lemmas.Grind.{get_or-set_at}
@@ -59,7 +61,7 @@ one_more w code (suc m) s t u reaches on = (reaches.0, reaches.1, one_more w cod
 
 -- a step of a loosened state, or either branch of its conditional jump
 abbrev LooselyGoes : List Insn → State → State → Type 0
-LooselyGoes code s next = (step some_surroundings code s ≡ Goes next) ⊎ ((branch : Branch) × TakesBranch code s branch next)
+LooselyGoes code s next = (step some_surroundings code s ≡ Goes next) ⊎ ((branch : Branch) × TakesBranch some_surroundings code s branch next)
 
 -- such a step reaches a member of a pending state
 record ArrivesLoosely (code : List Insn) (places : Places) (s : State) (p : Pending) : Type 0 where
@@ -96,7 +98,7 @@ module _ (code : List Insn) (i : Insn) (places : Places) (a : AbstractState) (s 
     member = arrives.member;
   }
 
-  takes_branch : (not_taken taken : AbstractState) (e : Effect) → effects.effect s.memory s.registers i ≡ Ok e → (f : Forks a s i not_taken taken e) (branch : Branch) (b : AbstractState) (p : Pending)
+  takes_branch : (not_taken taken : AbstractState) (e : Effect) → effects.effect some_surroundings.context s.memory s.registers i ≡ Ok e → (f : Forks a s i not_taken taken e) (branch : Branch) (b : AbstractState) (p : Pending)
       → b ≡ with_least a (abstract.least_of (bound_of f.condition (effects.value_at s.registers f.dst) f.second branch)) → IsLeast (abstract.least_of (bound_of f.condition (effects.value_at s.registers f.dst) f.second branch)) s.memory.length
       → LeadsTo code s.slot i branch b p → ArrivesLoosely code places s p
   takes_branch not_taken taken e is f branch b p least_is le point = record {
@@ -104,6 +106,7 @@ module _ (code : List Insn) (i : Insn) (places : Places) (a : AbstractState) (s 
     goes = inr (
       branch,
       record {
+        width = f.width;
         condition = f.condition;
         dst = f.dst;
         operand = f.operand;
@@ -111,10 +114,10 @@ module _ (code : List Insn) (i : Insn) (places : Places) (a : AbstractState) (s 
         value = f.second;
         here = here ∙ ap Begins f.jump;
         decided = e;
-        not_stuck = ap (effects.effect s.memory s.registers) (sym f.jump) ∙ is;
+        not_stuck = ap (effects.effect some_surroundings.context s.memory s.registers) (sym f.jump) ∙ is;
         operand_is = f.operand_is;
         is_open = bound_from_least (bound_of f.condition (effects.value_at s.registers f.dst) f.second branch) s.memory.length le;
-        goes = ap (λ (j : Insn). applied code s j (Ok (effect_of_branch f.offset branch))) (sym f.jump) ∙ branch_goes some_surroundings code Strict places a s member i here f.condition f.dst f.operand f.offset branch b p f.jump point;
+        goes = ap (λ (j : Insn). applied some_surroundings code s j (Ok (effect_of_branch f.offset branch))) (sym f.jump) ∙ branch_goes some_surroundings code Strict places a s member i here f.offset branch b p (ap flow_of f.jump) point;
       },
     );
     slot = refl;
@@ -182,10 +185,10 @@ module _ (code : List Insn) (here : Pending) (i : Insn) (begins : fetch code her
   reached_on b is p point =
       point_reached code here p
       (λ places s at member le.
-      let agree = accepted_agree Strict places here.state s member i fit (next.On b) is in
+      let agree = accepted_agree Strict places here.state s member some_surroundings.context i fit (next.On b) is in
       loosely code i places here.state s (begins_at s at) member p (arrives_on some_surroundings code Strict places here.state s member i (begins_at s at) b agree.0 p agree.1 agree.2 (leads_at code s.slot here.slot i NotTaken b p at point)))
       (λ places s at member.
-      let agree = accepted_agree Strict places here.state s member i fit (next.On b) is in
+      let agree = accepted_agree Strict places here.state s member some_surroundings.context i fit (next.On b) is in
       subst (λ (c : AbstractState). here.state.proved ≤ℤ c.proved) (sym point.state_is) (after_write places here.state b s i agree.0 agree.2))
       reached
 
@@ -194,14 +197,14 @@ module _ (code : List Insn) (here : Pending) (i : Insn) (begins : fetch code her
   reached_branch not_taken taken is branch b p point least_is =
       point_reached code here p
       (λ places s at member le.
-      let agree = accepted_agree Strict places here.state s member i fit (next.Fork not_taken taken) is in
+      let agree = accepted_agree Strict places here.state s member some_surroundings.context i fit (next.Fork not_taken taken) is in
       let least : Option ℤ = abstract.least_of (bound_of agree.2.condition (effects.value_at s.registers agree.2.dst) agree.2.second branch) in
       let proved_is : p.state.proved ≡ (with_least here.state least).proved = ap (λ (c : AbstractState). c.proved) (point.state_is ∙ least_is s agree.0 agree.2) in
       takes_branch code i places here.state s (begins_at s at) member not_taken taken agree.0 agree.1 agree.2 branch b p (least_is s agree.0 agree.2)
       (least_within here.state least s.memory.length (subst (λ (z : ℤ). z ≤ℤ pos s.memory.length) proved_is le))
       (leads_at code s.slot here.slot i branch b p at point))
       (λ places s at member.
-      let agree = accepted_agree Strict places here.state s member i fit (next.Fork not_taken taken) is in
+      let agree = accepted_agree Strict places here.state s member some_surroundings.context i fit (next.Fork not_taken taken) is in
       let least : Option ℤ = abstract.least_of (bound_of agree.2.condition (effects.value_at s.registers agree.2.dst) agree.2.second branch) in
       subst (λ (c : AbstractState). here.state.proved ≤ℤ c.proved) (sym (point.state_is ∙ least_is s agree.0 agree.2)) (least_rises here.state least))
       reached
@@ -270,6 +273,9 @@ is_too_far z h =
     ap (λ (b : Bool). if (int_le (negsuc 1048575) z && b) then Some z else None) (le_is_false z (pos 1048576) h)
     ∙ ap (λ (b : Bool). if b then Some z else None) (and_false (int_le (negsuc 1048575) z))
 
+is_too_low : (z : ℤ) → z <ℤ negsuc 1048575 → near_place z ≡ None
+is_too_low z h = ap (λ (b : Bool). if (b && int_le z (pos 1048576)) then Some z else None) (le_is_false (negsuc 1048575) z h)
+
 -- 2^62, or 0 for a place that is out of range already
 abbrev stray_if : Bool → ℕ
 stray_if true = 4611686018427387904
@@ -283,19 +289,32 @@ first_of_and : (a b : Bool) → (a && b) ≡ true → a ≡ true
 first_of_and true b e = refl
 first_of_and false b e = e
 
-strays_off : (k : ℤ) (b : Bool) → is_near k ≡ b → near_place (k +ℤ cast_signed w64 (stray_if b)) ≡ None
+rest_of_and : (a b : Bool) → (a && b) ≡ true → b ≡ true
+rest_of_and true b e = e
+rest_of_and false b e = absurd cc
+
+-- a number that moves a place out of range, by any operator
+strays_off : (k : ℤ) (b : Bool) → is_near k ≡ b → (near_place (k +ℤ cast_signed w64 (stray_if b)) ≡ None) × (near_place (k -ℤ cast_signed w64 (stray_if b)) ≡ None)
 strays_off k true e =
     let low : negsuc 1048575 ≤ℤ k = le_of (negsuc 1048575) k (first_of_and (int_le (negsuc 1048575) k) (int_le k (pos 1048576)) e) in
-    is_too_far (k +ℤ pos 4611686018427387904) (omega (arith, ints))
+    let high : k ≤ℤ pos 1048576 = le_of k (pos 1048576) (rest_of_and (int_le (negsuc 1048575) k) (int_le k (pos 1048576)) e) in
+    (is_too_far (k +ℤ pos 4611686018427387904) (omega (arith, ints)), is_too_low (k -ℤ pos 4611686018427387904) (omega (arith, ints)))
 strays_off k false e =
+    let far : near_place k ≡ None = ap (λ (b : Bool). if b then Some k else None) e in
     let same : (k +ℤ pos 0) ≡ k = omega (arith, ints) in
-    ap near_place same ∙ ap (λ (b : Bool). if b then Some k else None) e
+    let same' : (k -ℤ pos 0) ≡ k = omega (arith, ints) in
+    (ap near_place same ∙ far, ap near_place same' ∙ far)
 
-data_strays : (k : ℤ) → effects.sum_of (value.Data k) (value.Scalar (stray_if (is_near k))) ≡ Err PointerArithmetic
-data_strays k = ap (λ (o : Option ℤ). ok_or o PointerArithmetic >>= λ place. Ok (value.Data place)) (strays_off k (is_near k) refl)
+moves_off : (op : AluOp) (w : Width) (k : ℤ) → moved_place op w k (stray_if (is_near k)) ≡ None
+moves_off Add W64 k = (strays_off k (is_near k) refl).0
+moves_off Sub W64 k = (strays_off k (is_near k) refl).1
+moves_off op w k = refl
 
-stack_strays : (k : ℤ) → effects.sum_of (value.Stack k) (value.Scalar (stray_if (is_near k))) ≡ Err PointerArithmetic
-stack_strays k = ap (λ (o : Option ℤ). ok_or o PointerArithmetic >>= λ place. Ok (value.Stack place)) (strays_off k (is_near k) refl)
+data_strays : (op : AluOp) (w : Width) (k : ℤ) → effects.alu_result op w (value.Data k) (value.Scalar (stray_if (is_near k))) ≡ Err PointerArithmetic
+data_strays op w k = ap (effects.moved value.Data) (moves_off op w k)
+
+stack_strays : (op : AluOp) (w : Width) (k : ℤ) → effects.alu_result op w (value.Stack k) (value.Scalar (stray_if (is_near k))) ≡ Err PointerArithmetic
+stack_strays op w k = ap (effects.moved value.Stack) (moves_off op w k)
 
 -- a loosening at which an addition of an unknown number to a pointer is stuck
 record StraysFrom (places : Places) (a : AbstractState) (s : State) (i : Insn) : Type 0 where
@@ -317,15 +336,15 @@ module _ (places : Places) (a : AbstractState) (s : State) (member : IsMember St
     strays = strays;
   }
 
-  no_stray : (dst r : Reg) (x y : AbstractValue) → abstract_at a.registers dst ≡ x → abstract_at a.registers r ≡ y → StraysBy x y (effects.value_at s.registers dst) (effects.value_at s.registers r) → StraysFrom places a s (insn.Alu Add dst (operand.Reg r))
-  no_stray dst r x y p q h =
-      stays (insn.Alu Add dst (operand.Reg r))
-      (strays_same x (abstract_at a.registers dst) y (abstract_at a.registers r) (effects.value_at s.registers dst) (effects.value_at s.registers dst) (effects.value_at s.registers r) (effects.value_at s.registers r) (sym p) (sym q) refl refl h)
+  no_stray : (op : AluOp) (w : Width) (dst r : Reg) (x y : AbstractValue) → abstract_at a.registers dst ≡ x → abstract_at a.registers r ≡ y → StraysBy op w x y (effects.value_at s.registers dst) (effects.value_at s.registers r) → StraysFrom places a s (insn.Alu w op dst (operand.Reg r))
+  no_stray op w dst r x y p q h =
+      stays (insn.Alu w op dst (operand.Reg r))
+      (strays_same op w x (abstract_at a.registers dst) y (abstract_at a.registers r) (effects.value_at s.registers dst) (effects.value_at s.registers dst) (effects.value_at s.registers r) (effects.value_at s.registers r) (sym p) (sym q) refl refl h)
 
   -- the number of the second register is replaced
-  replaced : (dst r : Reg) (x : AbstractValue) (u : Value) (n : ℕ) → abstract_at a.registers dst ≡ x → abstract_at a.registers r ≡ known.Scalar Unknown → (x ≡ known.Scalar Unknown → ⊥) → effects.value_at s.registers dst ≡ u → IsWord n
-      → StraysBy x (known.Scalar Unknown) u (value.Scalar n) → StraysFrom places a s (insn.Alu Add dst (operand.Reg r))
-  replaced dst r x u n p q other u_is fits strays =
+  replaced : (op : AluOp) (w : Width) (dst r : Reg) (x : AbstractValue) (u : Value) (n : ℕ) → abstract_at a.registers dst ≡ x → abstract_at a.registers r ≡ known.Scalar Unknown → (x ≡ known.Scalar Unknown → ⊥) → effects.value_at s.registers dst ≡ u → IsWord n
+      → StraysBy op w x (known.Scalar Unknown) u (value.Scalar n) → StraysFrom places a s (insn.Alu w op dst (operand.Reg r))
+  replaced op w dst r x u n p q other u_is fits strays =
       let apart : number_of dst ≡ number_of r → ⊥ = λ same. other (sym p ∙ ap (λ (k : ℕ). slice_index_or a.registers k known.Nothing) same ∙ q) in
       let new : State = record s { registers = write_register s r (value.Scalar n) } in
       let kept : slice_set a.registers (number_of r) (known.Scalar Unknown) ≡ a.registers = ap (slice_set a.registers (number_of r)) (sym q) ∙ set-get_or a.registers (number_of r) known.Nothing in
@@ -340,24 +359,24 @@ module _ (places : Places) (a : AbstractState) (s : State) (member : IsMember St
         slot = refl;
         memory = refl;
         member = now;
-        strays = strays_same x (abstract_at a.registers dst) (known.Scalar Unknown) (abstract_at a.registers r) u (effects.value_at new.registers dst) (value.Scalar n) (effects.value_at new.registers r) (sym p) (sym q) (sym dst_is) (sym r_is) strays;
+        strays = strays_same op w x (abstract_at a.registers dst) (known.Scalar Unknown) (abstract_at a.registers r) u (effects.value_at new.registers dst) (value.Scalar n) (effects.value_at new.registers r) (sym p) (sym q) (sym dst_is) (sym r_is) strays;
       }
 
   held_as : (dst : Reg) (x : AbstractValue) → abstract_at a.registers dst ≡ x → IsValue Strict places x (effects.value_at s.registers dst)
   held_as dst x p = subst (λ (k : AbstractValue). IsValue Strict places k (effects.value_at s.registers dst)) p (member.registers dst)
 
-  add_strays : (dst r : Reg) (x y : AbstractValue) → abstract_at a.registers dst ≡ x → abstract_at a.registers r ≡ y → StraysFrom places a s (insn.Alu Add dst (operand.Reg r))
-  add_strays dst r (known.Data anchor k) (known.Scalar Unknown) p q =
+  add_strays : (op : AluOp) (w : Width) (dst r : Reg) (x y : AbstractValue) → abstract_at a.registers dst ≡ x → abstract_at a.registers r ≡ y → StraysFrom places a s (insn.Alu w op dst (operand.Reg r))
+  add_strays op w dst r (known.Data anchor k) (known.Scalar Unknown) p q =
       let held = held_as dst (known.Data anchor k) p in
       let place : ℤ = places anchor +ℤ k in
-      replaced dst r (known.Data anchor k) (value.Data place) (stray_if (is_near place)) p q (λ e. absurd cc) held.2 (stray_fits (is_near place)) (data_strays place)
-  add_strays dst r (known.Stack k) (known.Scalar Unknown) p q =
+      replaced op w dst r (known.Data anchor k) (value.Data place) (stray_if (is_near place)) p q (λ e. absurd cc) held.2 (stray_fits (is_near place)) (data_strays op w place)
+  add_strays op w dst r (known.Stack k) (known.Scalar Unknown) p q =
       let held = held_as dst (known.Stack k) p in
-      replaced dst r (known.Stack k) (value.Stack k) (stray_if (is_near k)) p q (λ e. absurd cc) held.2 (stray_fits (is_near k)) (stack_strays k)
-  add_strays dst r x y p q = no_stray dst r x y p q tt
+      replaced op w dst r (known.Stack k) (value.Stack k) (stray_if (is_near k)) p q (λ e. absurd cc) held.2 (stray_fits (is_near k)) (stack_strays op w k)
+  add_strays op w dst r x y p q = no_stray op w dst r x y p q tt
 
   strays_from : (i : Insn) → StraysFrom places a s i
-  strays_from (insn.Alu Add dst (operand.Reg r)) = add_strays dst r (abstract_at a.registers dst) (abstract_at a.registers r) refl refl
+  strays_from (insn.Alu w op dst (operand.Reg r)) = add_strays op w dst r (abstract_at a.registers dst) (abstract_at a.registers r) refl refl
   strays_from i = stays i tt
 
 -- ---- refusals
@@ -384,9 +403,9 @@ refusal_is_real code here reason reached refusal =
       bounds = λ c. ap (λ (m : Memory). pos m.length) f.memory ∙ ap (λ (k : ℕ). pos k) r.size ∙ same;
       arithmetic = λ c. f.strays;
     } in
-    let stuck : effects.effect f.state.memory f.state.registers refusal.insn ≡ Err reason =
-    refused (λ e. e ≡ reason) (Follows r.places here.state f.state refusal.insn) (abstract.step here.state refusal.insn) (effects.effect f.state.memory f.state.registers refusal.insn) reason
-    (steps_agree (λ e. e ≡ reason) Strict r.places here.state f.state f.member refusal.insn refusal.fits claims) refusal.step_is refl in
+    let stuck : effects.effect some_surroundings.context f.state.memory f.state.registers refusal.insn ≡ Err reason =
+    refused (λ e. e ≡ reason) (Follows r.places here.state f.state refusal.insn) (abstract.step here.state refusal.insn) (effects.effect some_surroundings.context f.state.memory f.state.registers refusal.insn) reason
+    (steps_agree (λ e. e ≡ reason) Strict r.places here.state f.state f.member some_surroundings.context refusal.insn refusal.fits claims) refusal.step_is refl in
     record {
       surroundings = some_surroundings;
       real = surroundings_are_real;

@@ -59,14 +59,14 @@ pub leads_at : (code : List Insn) (m n : ℕ) (i : Insn) (branch : Branch) (b : 
 leads_at code m n i branch b p e point = subst (λ (k : ℕ). LeadsTo code k i branch b p) (sym e) point
 
 module _ (code : List Insn) (i : Insn) (w : Surroundings) (places : Places) (a : AbstractState) (s : State) (real : AreReal w) (here : fetch code s.slot ≡ Begins i) (member : IsMember Loose places a s) where
-  good_branch : (not_taken taken : AbstractState) (e : Effect) → effects.effect s.memory s.registers i ≡ Ok e → (f : Forks a s i not_taken taken e) (branch : Branch) → f.branch ≡ branch → (p q : Pending)
+  good_branch : (not_taken taken : AbstractState) (e : Effect) → effects.effect w.context s.memory s.registers i ≡ Ok e → (f : Forks a s i not_taken taken e) (branch : Branch) → f.branch ≡ branch → (p q : Pending)
       → LeadsTo code s.slot i NotTaken not_taken p → LeadsTo code s.slot i Taken taken q → AllRunsExit code p → AllRunsExit code q → ExitsFrom w code s
   good_branch not_taken taken e is f Taken branch_is p q at_p at_q good_p good_q =
       exits_by code i s here w places q real (arrives_branch w code Loose places a s member i here not_taken taken e f Taken taken q branch_is is f.taken_is at_q) good_q (branch_rises code s.slot q.slot i Taken at_q.leads)
   good_branch not_taken taken e is f NotTaken branch_is p q at_p at_q good_p good_q =
       exits_by code i s here w places p real (arrives_branch w code Loose places a s member i here not_taken taken e f NotTaken not_taken p branch_is is f.not_taken_is at_p) good_p (branch_rises code s.slot p.slot i NotTaken at_p.leads)
 
-  good_exit : (e : Effect) → effects.effect s.memory s.registers i ≡ Ok e → Follows places a s i next.Exit e → ExitsFrom w code s
+  good_exit : (e : Effect) → effects.effect w.context s.memory s.registers i ≡ Ok e → Follows places a s i next.Exit e → ExitsFrom w code s
   good_exit (effect.Exit verdict) is follows = exits_now code i s here w verdict (step_is w code s i (Ok (effect.Exit verdict)) here is)
   good_exit (effect.Write r v) is follows = absurd follows
   good_exit (effect.Jump offset) is follows = absurd follows
@@ -74,16 +74,16 @@ module _ (code : List Insn) (i : Insn) (w : Surroundings) (places : Places) (a :
 
   good_from : (fit : Fits i) (answer : Next) → abstract.step a i ≡ Ok answer → (on : Option Pending) (left : List Pending) → GoesOn code s.slot i answer on left → IfSome on (AllRunsExit code) → All (AllRunsExit code) left → ExitsFrom w code s
   good_from fit (next.On b) is (Some p) left on good goods =
-      let agree = accepted_agree Loose places a s member i fit (next.On b) is in
+      let agree = accepted_agree Loose places a s member w.context i fit (next.On b) is in
       exits_by code i s here w places p real (arrives_on w code Loose places a s member i here b agree.0 p agree.1 agree.2 on.0) good (branch_rises code s.slot p.slot i NotTaken on.0.leads)
   good_from fit (next.On b) is None left on good goods = absurd on
   good_from fit (next.Fork not_taken taken) is (Some p) left on good goods =
-      let agree = accepted_agree Loose places a s member i fit (next.Fork not_taken taken) is in
+      let agree = accepted_agree Loose places a s member w.context i fit (next.Fork not_taken taken) is in
       good_branch not_taken taken agree.0 agree.1 agree.2 agree.2.branch refl p on.1 on.0 on.2 good (of_one (AllRunsExit code) left on.1 on.3 goods)
   good_from fit (next.Fork not_taken taken) is None left on good goods = absurd on
   good_from fit next.Exit is (Some p) left on good goods = absurd on
   good_from fit next.Exit is None left on good goods =
-      let agree = accepted_agree Loose places a s member i fit next.Exit is in
+      let agree = accepted_agree Loose places a s member w.context i fit next.Exit is in
       good_exit agree.0 agree.1 agree.2
 
 goes_on_at : (code : List Insn) (m n : ℕ) (i : Insn) (answer : Next) (on : Option Pending) (left : List Pending) → m ≡ n → GoesOn code n i answer on left → GoesOn code m i answer on left

@@ -1,8 +1,9 @@
 -- The abstract state at a slot of a path: what the verifier knows of each machine state that can be there.
 use Rattle.std.specs.Prelude.{ℕ, zero, suc, ◌/◌, ◌%◌, ◌^◌, Bool, true, ◌&&◌, ◌==◌, ℤ, pos, int_lt, List, [], ◌∷◌, Option, Some, None, slice_index_or, slice_set, if◌then◌else◌}
-use Rattle.std.specs.Int.{w64}
 use Rattle.insn.specs.Register.{number_of}
-use Rattle.insn.specs.Words.{alu}
+use Rattle.insn.specs.Words.{alu, unary}
+use Rattle.insn.specs.declared.width.Width.{Width}
+use Rattle.insn.specs.declared.operator.UnaryOp.{UnaryOp}
 use Rattle.insn.specs.declared.register.Reg.{Reg}
 use Rattle.insn.specs.declared.operator.AluOp.{AluOp}
 use Rattle.verifier.specs.declared.abstract_state.Number.{Number}
@@ -12,11 +13,15 @@ use Rattle.verifier.specs.declared.abstract_state.AbstractValue.TheVariants.{Not
 use Rattle.verifier.specs.declared.abstract_state.Marks.{Marks}
 use Rattle.verifier.specs.declared.abstract_state.AbstractState.{AbstractState}
 
--- the result of an operator
-abbrev pub number_alu : AluOp → Number → Number → Number
-number_alu op (Exact a) (Exact b) = Exact (alu op w64 a b)
-number_alu op (Exact a) Unknown = Unknown
-number_alu op Unknown b = Unknown
+-- the result of an operator on two numbers, and on one
+abbrev pub number_alu : AluOp → Width → Number → Number → Number
+number_alu op w (Exact a) (Exact b) = Exact (alu op w a b)
+number_alu op w (Exact a) Unknown = Unknown
+number_alu op w Unknown b = Unknown
+
+abbrev pub number_unary : UnaryOp → Number → Number
+number_unary op (Exact a) = Exact (unary op a)
+number_unary op Unknown = Unknown
 
 abbrev pub abstract_at : List AbstractValue → Reg → AbstractValue
 abstract_at registers r = slice_index_or registers (number_of r) Nothing

@@ -1,9 +1,10 @@
 -- The layout of a program: each jump leads to an instruction ahead, and the last instruction is the exit.
 use Rattle.std.specs.Prelude.{◌≡◌, ℕ, ◌<◌, ◌⊎◌, ℤ, List, Option, Some, None, Result, Ok, Err}
 use Rattle.insn.specs.declared.instruction.Insn.{Insn}
-use Rattle.insn.specs.declared.instruction.Insn.TheVariants.{Alu, Jump, JumpIf, Load, Exit}
+use Rattle.insn.specs.declared.instruction.Insn.TheVariants.{Exit}
 use Rattle.semantics.specs.Fallible.{◌>>=◌}
 use Rattle.semantics.specs.Slots.{fetch, target, last_slot}
+use Rattle.semantics.specs.Flow.{flow_of, flow_distance}
 use Rattle.semantics.specs.declared.reason.Reason.{Reason}
 use Rattle.semantics.specs.declared.reason.Reason.TheVariants as reasons
 use Rattle.semantics.specs.declared.fetching.Fetched.{Fetched}
@@ -17,11 +18,7 @@ StartsAt code slot = (i : Insn) × (fetch code slot ≡ Begins i)
 
 -- the distance of a jump
 abbrev pub distance_of : Insn → Option ℤ
-distance_of (Alu op dst o) = None
-distance_of (Jump offset) = Some offset
-distance_of (JumpIf c dst o offset) = Some offset
-distance_of (Load z dst base d) = None
-distance_of Exit = None
+distance_of i = flow_distance (flow_of i)
 
 -- a jump leads to an instruction ahead
 abbrev pub distance_checked : List Insn → ℕ → Option ℤ → Result (Unit {0}) Reason

@@ -1,6 +1,7 @@
 -- The number of successors of an instruction: one, two at a conditional jump, none at an exit.
 use Rattle.insn.specs.declared.instruction.Insn.{Insn}
-use Rattle.insn.specs.declared.instruction.Insn.TheVariants.{Alu, Jump, JumpIf, Load, Exit}
+use Rattle.semantics.specs.Flow.{Flow, Straight, Jumps, Forks, flow_of}
+use Rattle.semantics.specs.Flow as flow
 use Rattle.verifier.specs.declared.abstract_step.Next.{Next}
 use Rattle.verifier.specs.declared.abstract_step.Next.TheVariants as next
 
@@ -9,12 +10,14 @@ pub data Successors : Type 0 where
   Two : Successors
   Ends : Successors
 
+abbrev pub flow_successors : Flow → Successors
+flow_successors Straight = One
+flow_successors (Jumps distance) = One
+flow_successors (Forks distance) = Two
+flow_successors flow.Ends = Ends
+
 abbrev pub successors_of : Insn → Successors
-successors_of (Alu op dst o) = One
-successors_of (Jump offset) = One
-successors_of (JumpIf c dst o offset) = Two
-successors_of (Load z dst base d) = One
-successors_of Exit = Ends
+successors_of i = flow_successors (flow_of i)
 
 abbrev pub successors_in : Next → Successors
 successors_in (next.On state) = One

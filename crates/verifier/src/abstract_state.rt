@@ -1,9 +1,9 @@
 //! The abstract state at a slot of a path: what the verifier knows of the machine there.
 
 ghost use Rattle.std.specs.Prelude.{◌≡◌, ◌+◌, ◌≤◌};
-ghost use Rattle.verifier.specs.AbstractStates.{number_alu, no_marks, is_marked, are_marked, first_state, with_value, with_least};
+ghost use Rattle.verifier.specs.AbstractStates.{number_alu, number_unary, no_marks, is_marked, are_marked, first_state, with_value, with_least};
 
-use insn::{AluOp, Reg, alu};
+use insn::{AluOp, Reg, UnaryOp, Width, alu, unary};
 
 /// An abstract number: exact, or unknown.
 #[derive(Clone, Copy, Debug, PartialEq, Eq)]
@@ -13,13 +13,23 @@ pub enum Number {
 }
 
 impl Number {
-    /// Returns the result of an operator.
-    pub fn alu(op: AluOp, a: Number, b: Number) -> Number
-        ensures { result ≡ number_alu op a b }
+    /// Returns the result of an operator on two numbers.
+    pub fn alu(op: AluOp, width: Width, a: Number, b: Number) -> Number
+        ensures { result ≡ number_alu op width a b }
     {
         match (a, b) {
-            (Number::Exact(a), Number::Exact(b)) => Number::Exact(alu(op, a, b)),
+            (Number::Exact(a), Number::Exact(b)) => Number::Exact(alu(op, width, a, b)),
             _ => Number::Unknown,
+        }
+    }
+
+    /// Returns the result of an operator on one number.
+    pub fn unary(op: UnaryOp, a: Number) -> Number
+        ensures { result ≡ number_unary op a }
+    {
+        match a {
+            Number::Exact(a) => Number::Exact(unary(op, a)),
+            Number::Unknown => Number::Unknown,
         }
     }
 }

@@ -11,12 +11,13 @@ use insn::Insn;
 use semantics::{Fetched, Position, Reason, fetch, last, target};
 
 /// Returns the distance of a jump, `None` for an instruction that is no jump.
-fn distance(insn: Insn) -> Option<i16>
+fn distance(insn: Insn) -> Option<i32>
     ensures { result ≡ distance_of insn }
 {
     match insn {
-        Insn::Jump { offset } => Some(offset),
-        Insn::JumpIf { offset, .. } => Some(offset),
+        Insn::Jump { offset } => Some(i32::from(offset)),
+        Insn::JumpIf { offset, .. } => Some(i32::from(offset)),
+        Insn::LongJump { offset } => Some(offset),
         _ => None,
     }
 }

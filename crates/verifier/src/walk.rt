@@ -4,7 +4,7 @@ ghost use Rattle.std.specs.Prelude.{◌≡◌, ◌≤◌, ◌<◌, Ok, IfOk, IfE
 ghost use Rattle.insn.specs.Encoding.{slot_count};
 ghost use Rattle.insn.specs.declared.decoding.TheConstants.{MAX_SLOTS};
 ghost use Rattle.semantics.specs.Runs.{IsSafe};
-ghost use Rattle.semantics.specs.LooseRuns.{branch_slot};
+ghost use Rattle.semantics.specs.Flow.{branch_slot};
 ghost use Rattle.verifier.specs.Layout.{IsLaidOut};
 ghost use Rattle.verifier.specs.Refusing.{MayRefuse, IsVerdict, CountsSteps};
 ghost use Rattle.verifier.specs.Walk.{IsStepRefusal, IsInside, Advances, Picks};
@@ -70,8 +70,11 @@ fn slot_after(program: &Program, slot: usize, insn: Insn, branch: Branch) -> usi
     ensures { branch_slot program.now slot insn branch ≡ Ok result }
 {
     match (insn, branch) {
-        (Insn::Jump { offset }, _) => program.target(slot, offset).unwrap(),
-        (Insn::JumpIf { offset, .. }, Branch::Taken) => program.target(slot, offset).unwrap(),
+        (Insn::Jump { offset }, _) => program.target(slot, i32::from(offset)).unwrap(),
+        (Insn::LongJump { offset }, _) => program.target(slot, offset).unwrap(),
+        (Insn::JumpIf { offset, .. }, Branch::Taken) => {
+            program.target(slot, i32::from(offset)).unwrap()
+        }
         _ => slot + insn.slots(),
     }
 }

@@ -12,7 +12,7 @@ struct Spelled {
     lines: &'static str,
 }
 
-static SPELLED: [Spelled; 11] = [
+static SPELLED: [Spelled; 20] = [
     // every register in each place of `mov`, `add`, a load and a jump
     Spelled {
         slots: "b700000001000000 b701000001000000 b702000001000000 b703000001000000 b704000001000000 \
@@ -92,6 +92,88 @@ static SPELLED: [Spelled; 11] = [
         slots: "0500000000000000 0500ffff00000000 0500ff7f00000000 0500008000000000 9500000000000000",
         lines: "ja +0\nja -1\nja +32767\nja -32768\nexit\n",
     },
+    // every operator with a number, on 64 bits
+    Spelled {
+        slots: "07010000feffffff 17010000feffffff 27010000feffffff 37010000feffffff \
+             37010100feffffff 47010000feffffff 57010000feffffff 67010000feffffff \
+             77010000feffffff 97010000feffffff 97010100feffffff a7010000feffffff \
+             b7010000feffffff c7010000feffffff",
+        lines: "add r1, -2\nsub r1, -2\nmul r1, -2\ndiv r1, -2\nsdiv r1, -2\nor r1, -2\n\
+             and r1, -2\nlsh r1, -2\nrsh r1, -2\nmod r1, -2\nsmod r1, -2\nxor r1, -2\n\
+             mov r1, -2\narsh r1, -2\n",
+    },
+    // every operator with a register, on 64 bits
+    Spelled {
+        slots: "0f21000000000000 1f21000000000000 2f21000000000000 3f21000000000000 \
+             3f21010000000000 4f21000000000000 5f21000000000000 6f21000000000000 \
+             7f21000000000000 9f21000000000000 9f21010000000000 af21000000000000 \
+             bf21000000000000 cf21000000000000",
+        lines: "add r1, r2\nsub r1, r2\nmul r1, r2\ndiv r1, r2\nsdiv r1, r2\nor r1, r2\n\
+             and r1, r2\nlsh r1, r2\nrsh r1, r2\nmod r1, r2\nsmod r1, r2\nxor r1, r2\n\
+             mov r1, r2\narsh r1, r2\n",
+    },
+    // every operator with a number, on 32 bits
+    Spelled {
+        slots: "04010000feffffff 14010000feffffff 24010000feffffff 34010000feffffff \
+             34010100feffffff 44010000feffffff 54010000feffffff 64010000feffffff \
+             74010000feffffff 94010000feffffff 94010100feffffff a4010000feffffff \
+             b4010000feffffff c4010000feffffff",
+        lines: "add.32 r1, -2\nsub.32 r1, -2\nmul.32 r1, -2\ndiv.32 r1, -2\nsdiv.32 r1, -2\n\
+             or.32 r1, -2\nand.32 r1, -2\nlsh.32 r1, -2\nrsh.32 r1, -2\nmod.32 r1, -2\n\
+             smod.32 r1, -2\nxor.32 r1, -2\nmov.32 r1, -2\narsh.32 r1, -2\n",
+    },
+    // every operator with a register, on 32 bits
+    Spelled {
+        slots: "0c21000000000000 1c21000000000000 2c21000000000000 3c21000000000000 \
+             3c21010000000000 4c21000000000000 5c21000000000000 6c21000000000000 \
+             7c21000000000000 9c21000000000000 9c21010000000000 ac21000000000000 \
+             bc21000000000000 cc21000000000000",
+        lines: "add.32 r1, r2\nsub.32 r1, r2\nmul.32 r1, r2\ndiv.32 r1, r2\nsdiv.32 r1, r2\n\
+             or.32 r1, r2\nand.32 r1, r2\nlsh.32 r1, r2\nrsh.32 r1, r2\nmod.32 r1, r2\n\
+             smod.32 r1, r2\nxor.32 r1, r2\nmov.32 r1, r2\narsh.32 r1, r2\n",
+    },
+    // the operators with one operand
+    Spelled {
+        slots: "8701000000000000 8401000000000000 bf21080000000000 bf21100000000000 \
+             bf21200000000000 bc21080000000000 bc21100000000000",
+        lines: "neg r1\nneg.32 r1\nmovsx8 r1, r2\nmovsx16 r1, r2\nmovsx32 r1, r2\n\
+             movsx8.32 r1, r2\nmovsx16.32 r1, r2\n",
+    },
+    // every byte order and size
+    Spelled {
+        slots: "d401000010000000 d401000020000000 d401000040000000 dc01000010000000 \
+             dc01000020000000 dc01000040000000 d701000010000000 d701000020000000 \
+             d701000040000000",
+        lines: "le16 r1\nle32 r1\nle64 r1\nbe16 r1\nbe32 r1\nbe64 r1\nswap16 r1\nswap32 r1\n\
+             swap64 r1\n",
+    },
+    // every condition on 32 bits
+    Spelled {
+        slots: "16010300feffffff 26010300feffffff 36010300feffffff 46010300feffffff \
+             56010300feffffff 66010300feffffff 76010300feffffff a6010300feffffff \
+             b6010300feffffff c6010300feffffff d6010300feffffff",
+        lines: "jeq.32 r1, -2, +3\njgt.32 r1, -2, +3\njge.32 r1, -2, +3\njset.32 r1, -2, +3\n\
+             jne.32 r1, -2, +3\njsgt.32 r1, -2, +3\njsge.32 r1, -2, +3\njlt.32 r1, -2, +3\n\
+             jle.32 r1, -2, +3\njslt.32 r1, -2, +3\njsle.32 r1, -2, +3\n",
+    },
+    Spelled {
+        slots: "1e21030000000000 2e21030000000000 3e21030000000000 4e21030000000000 \
+             5e21030000000000 6e21030000000000 7e21030000000000 ae21030000000000 \
+             be21030000000000 ce21030000000000 de21030000000000",
+        lines: "jeq.32 r1, r2, +3\njgt.32 r1, r2, +3\njge.32 r1, r2, +3\njset.32 r1, r2, +3\n\
+             jne.32 r1, r2, +3\njsgt.32 r1, r2, +3\njsge.32 r1, r2, +3\njlt.32 r1, r2, +3\n\
+             jle.32 r1, r2, +3\njslt.32 r1, r2, +3\njsle.32 r1, r2, +3\n",
+    },
+    // loads with their sign, long jumps, and a number of 64 bits
+    Spelled {
+        slots: "91a3feff00000000 89a3008000000000 81a3ff7f00000000 0600000000000000 \
+             0600000000000080 06000000ffffff7f 1801000000000000 0000000000000000 \
+             18010000ffffffff 00000000ffffffff 180a000078563412 0000000078563412 \
+             1801000000000000 0000000001000000",
+        lines: "ldxsb r3, [r10-2]\nldxsh r3, [r10-32768]\nldxsw r3, [r10+32767]\nja.32 +0\n\
+             ja.32 -2147483648\nja.32 +2147483647\nlddw r1, 0\nlddw r1, 18446744073709551615\n\
+             lddw r10, 1311768465173141112\nlddw r1, 4294967296\n",
+    },
 ];
 
 /// Decodes each row, and compares its lines, and its encoding with the bytes.
@@ -135,7 +217,7 @@ fn decode_errors_are_spelled(rt: HostRuntime) -> Result<(), Fail> {
 }
 
 /// Files that encode no program.
-pub static UNDECODED: [Verified; 16] = [
+pub static UNDECODED: [Verified; 49] = [
     Verified {
         slots: "",
         line: "refused E1\n",
@@ -153,7 +235,7 @@ pub static UNDECODED: [Verified; 16] = [
         status: 1,
     },
     Verified {
-        slots: "b700000000000000 0600000000000000",
+        slots: "b700000000000000 9600000000000000",
         line: "refused E4 at 1\n",
         status: 1,
     },
@@ -221,6 +303,177 @@ pub static UNDECODED: [Verified; 16] = [
     Verified {
         slots: "b70a000000000000 8d00000000000000",
         line: "refused E4 at 1\n",
+        status: 1,
+    },
+    // the second slot is missing: before unused fields, behind the registers
+    Verified {
+        slots: "1800000000000000",
+        line: "refused E7 at 0\n",
+        status: 1,
+    },
+    Verified {
+        slots: "1810010000000000",
+        line: "refused E7 at 0\n",
+        status: 1,
+    },
+    Verified {
+        slots: "180b000000000000",
+        line: "refused E5 at 0\n",
+        status: 1,
+    },
+    Verified {
+        slots: "b700000000000000 1801000000000000",
+        line: "refused E7 at 1\n",
+        status: 1,
+    },
+    // a second slot has nothing but its imm, and its fault is that of the first
+    Verified {
+        slots: "1800000000000000 0100000000000000",
+        line: "refused E6 at 0\n",
+        status: 1,
+    },
+    Verified {
+        slots: "1800000000000000 000b000000000000",
+        line: "refused E6 at 0\n",
+        status: 1,
+    },
+    Verified {
+        slots: "b700000000000000 1800000000000000 0000010000000000",
+        line: "refused E6 at 1\n",
+        status: 1,
+    },
+    Verified {
+        slots: "1810000000000000 0000000000000000",
+        line: "refused E6 at 0\n",
+        status: 1,
+    },
+    Verified {
+        slots: "1800000000000000 0000000000000000 8d00000000000000",
+        line: "refused E4 at 2\n",
+        status: 1,
+    },
+    // an offset that chooses no operator
+    Verified {
+        slots: "3700020000000000",
+        line: "refused E6 at 0\n",
+        status: 1,
+    },
+    Verified {
+        slots: "9400ffff00000000",
+        line: "refused E6 at 0\n",
+        status: 1,
+    },
+    Verified {
+        slots: "0700010000000000",
+        line: "refused E6 at 0\n",
+        status: 1,
+    },
+    Verified {
+        slots: "b700080000000000",
+        line: "refused E6 at 0\n",
+        status: 1,
+    },
+    Verified {
+        slots: "bc20200000000000",
+        line: "refused E6 at 0\n",
+        status: 1,
+    },
+    Verified {
+        slots: "bf20040000000000",
+        line: "refused E6 at 0\n",
+        status: 1,
+    },
+    Verified {
+        slots: "bf20080001000000",
+        line: "refused E6 at 0\n",
+        status: 1,
+    },
+    // an imm that chooses no size
+    Verified {
+        slots: "d400000008000000",
+        line: "refused E6 at 0\n",
+        status: 1,
+    },
+    Verified {
+        slots: "d700000000000000",
+        line: "refused E6 at 0\n",
+        status: 1,
+    },
+    Verified {
+        slots: "dc10000010000000",
+        line: "refused E6 at 0\n",
+        status: 1,
+    },
+    // unused fields of one operand and of jumps
+    Verified {
+        slots: "8700000001000000",
+        line: "refused E6 at 0\n",
+        status: 1,
+    },
+    Verified {
+        slots: "8410000000000000",
+        line: "refused E6 at 0\n",
+        status: 1,
+    },
+    Verified {
+        slots: "0600010000000000",
+        line: "refused E6 at 0\n",
+        status: 1,
+    },
+    Verified {
+        slots: "0500000001000000",
+        line: "refused E6 at 0\n",
+        status: 1,
+    },
+    // opcodes of no instruction
+    Verified {
+        slots: "8f00000000000000",
+        line: "refused E4 at 0\n",
+        status: 1,
+    },
+    Verified {
+        slots: "8c00000000000000",
+        line: "refused E4 at 0\n",
+        status: 1,
+    },
+    Verified {
+        slots: "df00000010000000",
+        line: "refused E4 at 0\n",
+        status: 1,
+    },
+    Verified {
+        slots: "9600000000000000",
+        line: "refused E4 at 0\n",
+        status: 1,
+    },
+    Verified {
+        slots: "8600000000000000",
+        line: "refused E4 at 0\n",
+        status: 1,
+    },
+    Verified {
+        slots: "9900000000000000",
+        line: "refused E4 at 0\n",
+        status: 1,
+    },
+    Verified {
+        slots: "e700000000000000",
+        line: "refused E4 at 0\n",
+        status: 1,
+    },
+    Verified {
+        slots: "e500000000000000",
+        line: "refused E4 at 0\n",
+        status: 1,
+    },
+    Verified {
+        slots: "1000000000000000",
+        line: "refused E4 at 0\n",
+        status: 1,
+    },
+    Verified {
+        slots: "0d00000000000000",
+        line: "refused E4 at 0\n",
         status: 1,
     },
 ];

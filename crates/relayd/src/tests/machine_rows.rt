@@ -26,7 +26,7 @@ struct Traced {
     status: u8,
 }
 
-static TRACED: [Traced; 22] = [
+static TRACED: [Traced; 24] = [
     Traced {
         slots: FOURTH_BYTE,
         hex: "01020304",
@@ -161,6 +161,21 @@ static TRACED: [Traced; 22] = [
         slots: "7912000000000000 7120c0ff00000000 7913080000000000 7130020000000000 9500000000000000",
         hex: "ff",
         end: "exit 0\nwindow none\ndestination none\n",
+        status: 0,
+    },
+    // `ldxsb r0, [r2+0]` and `ldxsh r0, [r2+0]` behind a check of two bytes
+    Traced {
+        slots: "7912000000000000 7913080000000000 bf24000000000000 0704000002000000 \
+             b700000000000000 2d34010000000000 9120000000000000 9500000000000000",
+        hex: "ff80",
+        end: "6 ldxsb r0, [r2+0]\n7 exit\nexit 18446744073709551615\nwindow none\ndestination none\n",
+        status: 0,
+    },
+    Traced {
+        slots: "7912000000000000 7913080000000000 bf24000000000000 0704000002000000 \
+             b700000000000000 2d34010000000000 8920000000000000 9500000000000000",
+        hex: "ff80",
+        end: "6 ldxsh r0, [r2+0]\n7 exit\nexit 18446744073709519103\nwindow none\ndestination none\n",
         status: 0,
     },
 ];

@@ -5,7 +5,7 @@ ghost use Rattle.insn.specs.Encoding.{slot_count};
 ghost use Rattle.insn.specs.declared.decoding.TheConstants.{MAX_SLOTS};
 
 use super::{FIFTH_BYTE, FIFTH_BYTE_CHECKED, FOURTH_BYTE, Verified};
-use insn::{AluOp, Condition, Insn, Operand, Reg};
+use insn::{Condition, Insn, Operand, Reg, Width};
 use semantics::Reason;
 use std::marker::Brand;
 use std::sync::ledger::{Blank, Ledger};
@@ -13,7 +13,7 @@ use std::test::Fail;
 use verifier::{Refusal, Steps, verify};
 
 /// Files that encode a program.
-pub static PROGRAMS: [Verified; 44] = [
+pub static PROGRAMS: [Verified; 70] = [
     Verified {
         slots: "b700000002000000 9500000000000000",
         line: "accepted 2 instructions\n",
@@ -277,6 +277,164 @@ pub static PROGRAMS: [Verified; 44] = [
         line: "accepted 4 instructions\n",
         status: 0,
     },
+    // `mov.32 r0, r1`
+    Verified {
+        slots: "bc10000000000000 9500000000000000",
+        line: "refused V11 at 0\n",
+        status: 1,
+    },
+    // `add.32 r1, 1`
+    Verified {
+        slots: "0401000001000000 9500000000000000",
+        line: "refused V11 at 0\n",
+        status: 1,
+    },
+    // `mul r1, 2`
+    Verified {
+        slots: "2701000002000000 9500000000000000",
+        line: "refused V11 at 0\n",
+        status: 1,
+    },
+    // `neg r1`
+    Verified {
+        slots: "8701000000000000 9500000000000000",
+        line: "refused V11 at 0\n",
+        status: 1,
+    },
+    // `be16 r1`
+    Verified {
+        slots: "dc01000010000000 9500000000000000",
+        line: "refused V11 at 0\n",
+        status: 1,
+    },
+    // `movsx8 r0, r1`
+    Verified {
+        slots: "bf10080000000000 9500000000000000",
+        line: "refused V11 at 0\n",
+        status: 1,
+    },
+    // `neg r0`
+    Verified {
+        slots: "8700000000000000 9500000000000000",
+        line: "refused V5 at 0\n",
+        status: 1,
+    },
+    // `neg r10`
+    Verified {
+        slots: "870a000000000000 9500000000000000",
+        line: "refused V7 at 0\n",
+        status: 1,
+    },
+    // `lddw r10, 1`
+    Verified {
+        slots: "180a000001000000 0000000000000000 9500000000000000",
+        line: "refused V7 at 0\n",
+        status: 1,
+    },
+    // `ldxdw r2, [r1+0]`, `sub r2, 1048577`
+    Verified {
+        slots: "7912000000000000 1702000001001000 9500000000000000",
+        line: "refused V11 at 1\n",
+        status: 1,
+    },
+    // `ldxdw r2, [r1+0]`, `add r2, 4`, `sub r2, 68`, `ldxb r0, [r2+0]`
+    Verified {
+        slots: "7912000000000000 0702000004000000 1702000044000000 7120000000000000 \
+             9500000000000000",
+        line: "accepted 5 instructions\n",
+        status: 0,
+    },
+    // `ldxdw r2, [r1+0]`, `ldxdw r3, [r1+8]`, `jgt.32 r2, r3, +0`
+    Verified {
+        slots: "7912000000000000 7913080000000000 2e32000000000000 9500000000000000",
+        line: "refused V12 at 2\n",
+        status: 1,
+    },
+    // `jeq.32 r1, 0, +0`
+    Verified {
+        slots: "1601000000000000 9500000000000000",
+        line: "refused V12 at 0\n",
+        status: 1,
+    },
+    // `ldxsw r0, [r1+0]`
+    Verified {
+        slots: "8110000000000000 9500000000000000",
+        line: "refused V9 at 0\n",
+        status: 1,
+    },
+    // `ldxsw r0, [r1+16]`
+    Verified {
+        slots: "8110100000000000 9500000000000000",
+        line: "refused V9 at 0\n",
+        status: 1,
+    },
+    // `ldxsb r0, [r10-1]`
+    Verified {
+        slots: "91a0ffff00000000 9500000000000000",
+        line: "refused V6 at 0\n",
+        status: 1,
+    },
+    // `ja.32 -1`
+    Verified {
+        slots: "06000000ffffffff 9500000000000000",
+        line: "refused V1 at 0\n",
+        status: 1,
+    },
+    // `ja.32 +1`
+    Verified {
+        slots: "0600000001000000 9500000000000000",
+        line: "refused V2 at 0\n",
+        status: 1,
+    },
+    // `ja.32 +2147483647`
+    Verified {
+        slots: "06000000ffffff7f 9500000000000000",
+        line: "refused V2 at 0\n",
+        status: 1,
+    },
+    // `ja +1`, `lddw r0, 7`
+    Verified {
+        slots: "0500010000000000 1800000007000000 0000000000000000 9500000000000000",
+        line: "refused V3 at 0\n",
+        status: 1,
+    },
+    // `ja.32 +1`, `lddw r0, 7`
+    Verified {
+        slots: "0600000001000000 1800000007000000 0000000000000000 9500000000000000",
+        line: "refused V3 at 0\n",
+        status: 1,
+    },
+    // `lddw r0, 7`
+    Verified {
+        slots: "1800000007000000 0000000000000000 9500000000000000",
+        line: "accepted 2 instructions\n",
+        status: 0,
+    },
+    // `mov r0, 0`, `lddw r0, 7`
+    Verified {
+        slots: "b700000000000000 1800000007000000 0000000000000000",
+        line: "refused V4 at 1\n",
+        status: 1,
+    },
+    // `lddw r2, 7`
+    Verified {
+        slots: "1802000007000000 0000000000000000 9500000000000000",
+        line: "refused V5 at 2\n",
+        status: 1,
+    },
+    // `ja +2`, `lddw r0, 7`, `mov r0, 1`
+    Verified {
+        slots: "0500020000000000 1800000007000000 0000000000000000 b700000001000000 \
+             9500000000000000",
+        line: "accepted 4 instructions\n",
+        status: 0,
+    },
+    // `ldxdw r2, [r1+0]`, `sub r2, 65`, `ldxb r0, [r2+0]`
+    Verified {
+        slots: "7912000000000000 1702000041000000 7120000000000000 9500000000000000",
+        line: "refused V10 at 2\n",
+        status: 1,
+    },
 ];
 
 /// A program in which some slots are repeated, the line of `verify` on it, and the status.
@@ -411,12 +569,13 @@ fn the_budget_counts_steps_on_every_path(rt: HostRuntime) {
     // `mov r0, 0`, `jeq r0, 0, +0`, `exit`: four steps, two of them the exit
     let (dst, operand) = (Reg::R0, Operand::Imm(0));
     let code = [
-        Insn::Alu {
-            op: AluOp::Mov,
+        Insn::Mov {
+            width: Width::W64,
             dst,
             operand,
         },
         Insn::JumpIf {
+            width: Width::W64,
             condition: Condition::Eq,
             dst,
             operand,

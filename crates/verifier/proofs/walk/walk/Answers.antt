@@ -1,6 +1,12 @@
-use Rattle.std.proofs.Common.{◌≡◌, sym, subst, arith}
+use Rattle.std.proofs.Common.{◌≡◌, List, sym, subst, arith}
 use Rattle.std.proofs.lemmas.Result.{err_from_is_err_and}
 use Rattle.verifier.specs.declared.abstract_state.AbstractState.{AbstractState}
+use Rattle.insn.specs.declared.instruction.Insn.{Insn}
+use Rattle.verifier.specs.Refusing.{IfBudget}
+use Rattle.verifier.specs.Walk.{IsStepRefusal}
+use Rattle.verifier.specs.declared.refusal.Refusal.{Refusal}
+use Rattle.verifier.specs.declared.refusal.Refusal.TheVariants as refusal
+use Rattle.verifier.specs.declared.walk.Pending.{Pending}
 use Rattle.verifier.proofs.Walking.{IsWalking, begins, goes_on, ends, safe, real, more_paths}
 use Rattle.verifier.proofs.walk.walk.Goals as goal
 
@@ -27,3 +33,23 @@ pub returns-clause-refused : goal.returns-clause-refused
 returns-clause-refused g c =
     let all : c.loop.counter ≡ c.args.budget = omega (arith, c.loop-test.false, c.loop.auto.counter-end) in
     (c.requires.laid_out, c.loop.invariant.walking.inside, omega (arith, more_paths c.args.program.now c.loop.counter c.loop.here c.loop.pending.items c.loop.invariant.walking, all))
+
+-- a refusal of one step isn't the budget's
+no_budget : (code : List Insn) (here : Pending) (e : Refusal) (P : Type 0) → IsStepRefusal code here e → IfBudget e P
+no_budget code here (refusal.Stuck reason slot) P refused = tt
+no_budget code here (refusal.Budget slot) P refused = absurd refused
+no_budget code here (refusal.Memory slot) P refused = tt
+
+pub returns-in_err-next-clause-counts : goal.returns-in_err-next-clause-counts
+returns-in_err-next-clause-counts g c =
+    let p = err_from_is_err_and c.from_residual.result c.from_residual.ensures.1 in
+    record {
+      bound = omega (arith, c.tick.ensures, c.loop.invariant.count);
+      budget_made = rw (p.1, p.2) (no_budget c.args.program.now c.loop.here c.in_err-next.field-0.0 _ c.in_err-next.ensures.refused);
+    }
+
+pub returns-in-None-clause-counts : goal.returns-in-None-clause-counts
+returns-in-None-clause-counts g c = record { bound = omega (arith, c.tick.ensures, c.loop.invariant.count); budget_made = tt }
+
+pub returns-clause-counts : goal.returns-clause-counts
+returns-clause-counts g c = record { bound = omega (arith, c.loop.invariant.count); budget_made = omega (arith, c.loop.invariant.count) }
