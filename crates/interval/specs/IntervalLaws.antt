@@ -1,0 +1,37 @@
+-- Intervals are a sound domain.
+use Rattle.std.proofs.Common.{◌≡◌, ℕ, ◌-◌, ◌^◌, true, arith}
+use Rattle.std.specs.Prelude.{nat_le}
+use Rattle.std.proofs.lemmas.Bool.{leb-true, and_parts}
+use Rattle.interval.specs.declared.domain.Bounds.{Bounds}
+use Rattle.interval.specs.Domains.{AreSound}
+use Rattle.interval.specs.Intervals.{IsMember, interval_ops, contains}
+use Rattle.interval.specs.IntervalLaws.Members.{is_member, between}
+use Rattle.interval.specs.IntervalLaws.Operators.{alu_sound}
+use Rattle.interval.specs.IntervalLaws.OneOperand.{unary_sound}
+use Rattle.interval.specs.IntervalLaws.Refinements.{refine_sound}
+pub mod Members
+pub mod Operators
+pub mod OneOperand
+pub mod Refinements
+
+covers_member : (x y : Bounds) (n : ℕ) → contains x y ≡ true → IsMember y n → IsMember x n
+covers_member x y n e h =
+    let ends = and_parts (nat_le x.lo y.lo) (nat_le y.hi x.hi) e in
+    record {
+      word = h.word;
+      above = omega (arith, h.above, leb-true x.lo y.lo ends.0);
+      below = omega (arith, h.below, leb-true y.hi x.hi ends.1);
+    }
+
+pub interval_laws : AreSound interval_ops IsMember
+interval_laws = record {
+  words = λ x n h. h.word;
+  top = λ n lt. is_member _ n (between 0 (2 ^ 64 - 1) n (omega arith) (omega arith) (omega arith));
+  exact = λ n lt. is_member _ n (between n n n lt (omega arith) (omega arith));
+  range = λ lo hi n lt p q. is_member _ n (between lo hi n lt p q);
+  bounds = λ x n h. (h.above, h.below);
+  alu = λ op w x y m n h k. is_member _ _ (alu_sound op w x y m n h k);
+  unary = λ op x n h. is_member _ _ (unary_sound op x n h);
+  refine = λ test w x y m n h k passed. refine_sound x y m n h k w test passed;
+  covers = covers_member;
+}

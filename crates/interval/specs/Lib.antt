@@ -1,0 +1,3 @@
+pub mod Domains
+pub mod Intervals
+pub mod IntervalLaws

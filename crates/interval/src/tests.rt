@@ -1,0 +1,92 @@
+//! Tables of intervals, worked out by hand at the limits of the widths and of their signs, and a second domain.
+
+mod binary;
+mod bitwise;
+mod known;
+mod refined;
+mod signed;
+mod unary;
+
+use crate::{Domain, Interval, Refined};
+use insn::{AluOp, Width};
+use std::process::Abort;
+
+/// The limits: 2^31 - 1 and 2^31, 2^32 - 1 and 2^32, 2^63 - 1 and 2^63, and 2^64 - 1.
+pub const L31: u64 = 0x7fff_ffff;
+
+pub const S31: u64 = 0x8000_0000;
+
+pub const L32: u64 = 0xffff_ffff;
+
+pub const S32: u64 = 0x1_0000_0000;
+
+pub const L63: u64 = 0x7fff_ffff_ffff_ffff;
+
+pub const S63: u64 = 0x8000_0000_0000_0000;
+
+pub const L64: u64 = 0xffff_ffff_ffff_ffff;
+
+/// The least and the greatest number.
+pub type Ends = (u64, u64);
+
+/// All words of each width.
+pub const ALL_32: Ends = (0, L32);
+
+pub const ALL_64: Ends = (0, L64);
+
+/// Returns the numbers between two, which may stand in either order.
+pub fn interval(ends: Ends) -> Interval {
+    Interval::range(ends.0.min(ends.1), ends.0.max(ends.1))
+}
+
+/// Returns the ends of an interval.
+pub fn ends(a: Interval) -> Ends {
+    let bounds = a.bounds();
+    (bounds.lo, bounds.hi)
+}
+
+/// Returns the ends of what is left of two operands.
+pub fn left(pair: Option<Refined<Interval>>) -> Option<(Ends, Ends)> {
+    let pair = pair?;
+    Some((ends(pair.a), ends(pair.b)))
+}
+
+/// Two operands, and the ends of the result.
+pub type Row = (Ends, Ends, Ends);
+
+/// Checks an operator on the rows of a table.
+pub fn check_rows(rt: &impl Abort, op: AluOp, width: Width, rows: &[Row]) {
+    for &(a, b, want) in rows {
+        assert_eq!(rt;
+            ends(Interval::alu(op, width, interval(a), interval(b))),
+            want,
+            "{a:?} {b:?}"
+        );
+    }
+}
+
+#[test]
+fn intervals_have_ends(rt: HostRuntime) {
+    assert_eq!(rt; ends(Interval::top()), ALL_64);
+    assert_eq!(rt; ends(Interval::exact(0)), (0, 0));
+    assert_eq!(rt; ends(Interval::exact(L64)), (L64, L64));
+    assert_eq!(rt; ends(Interval::range(L31, S63)), (L31, S63));
+}
+
+#[test]
+fn intervals_cover_those_within(rt: HostRuntime) {
+    let rows = [
+        ((0, 10), (0, 10), true),
+        ((0, 10), (1, 9), true),
+        ((1, 10), (0, 10), false),
+        ((0, 9), (0, 10), false),
+        ((0, 10), (11, 12), false),
+        ((5, 6), ALL_64, false),
+        (ALL_64, (5, 6), true),
+        (ALL_64, ALL_64, true),
+        (ALL_32, (0, S32), false),
+    ];
+    for (a, b, want) in rows {
+        assert_eq!(rt; interval(a).covers(interval(b)), want, "{a:?} {b:?}");
+    }
+}
