@@ -64,14 +64,14 @@ moved kind place = do
   k ← ok_or place PointerArithmetic
   Ok (kind k)
 
--- a number of numbers, or a pointer that is moved
+-- two numbers give a number, and a pointer is moved by an exact number
 abbrev pub alu_result : AluOp → Width → AbstractValue → AbstractValue → Result AbstractValue Reason
 alu_result op w (Scalar a) (Scalar b) = Ok (Scalar (number_alu op w a b))
 alu_result op w (Data anchor k) (Scalar (Exact b)) = moved (Data anchor) (moved_place op w k b)
 alu_result op w (Stack k) (Scalar (Exact b)) = moved Stack (moved_place op w k b)
 alu_result op w _ _ = Err PointerArithmetic
 
--- a number of a number
+-- a number gives a number
 abbrev pub number_of_one : UnaryOp → AbstractValue → Result AbstractValue Reason
 number_of_one op (Scalar a) = Ok (Scalar (number_unary op a))
 number_of_one op _ = Err PointerArithmetic
