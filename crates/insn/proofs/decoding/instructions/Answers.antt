@@ -14,3 +14,6 @@ loop-rest-preserved c =
     let after : c.split_at.result.1.now ≡ drop (8 * slots_of c.in_ok-insn.insn) c.loop-rest.rest.now = search rules in
     let more = HasRead-push _ _ _ _ _ c.in_ok-insn.insn c.loop-rest.invariant read.0 read.1 after read.2 in
     rw (pushed, c.slots.ensures) more
+
+pub returns-in_err-insn-clause-refused : goal.returns-in_err-insn-clause-refused
+returns-in_err-insn-clause-refused c = search rules
