@@ -1,7 +1,7 @@
 //! How instructions and the refusals of a decoder are spelled, and which file is refused by which.
 
 use super::{Verified, program};
-use insn::{DecodeError, decode, encode};
+use insn::{DecodeError, decode, encode, read_back};
 use std::process::Abort;
 use std::test::Fail;
 
@@ -176,7 +176,7 @@ static SPELLED: [Spelled; 20] = [
     },
 ];
 
-/// Decodes each row, and compares its lines, and its encoding with the bytes.
+/// Decodes each row, and compares its lines, its encoding with the bytes, and what is read back.
 fn expect_lines<R: Abort + AllocGlobal>(rt: &R, rows: &[Spelled]) -> Result<(), Fail> {
     for row in rows {
         let file = program(rt, row.slots)?;
@@ -188,6 +188,8 @@ fn expect_lines<R: Abort + AllocGlobal>(rt: &R, rows: &[Spelled]) -> Result<(), 
         assert_eq!(rt; shown.as_str(), row.lines);
         let again = encode(rt.alloc(), &code)?;
         assert_eq!(rt; again.as_slice(), file.as_slice());
+        let back = read_back(rt.alloc(), &code)?;
+        assert_eq!(rt; back.as_slice(), code.as_slice());
     }
     Ok(())
 }
