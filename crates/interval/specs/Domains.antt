@@ -29,6 +29,13 @@ abbrev pub Keeps : {D : Type 0} → (D → ℕ → Type 0) → Option (D × D) �
 Keeps Member None m n = ⊥
 Keeps Member (Some refined) m n = Member refined.0 m × Member refined.1 n
 
+-- both of a pair have a member
+pub record HasMembers {D : Type 0} (Member : D → ℕ → Type 0) (pair : D × D) : Type 0 where
+  pub first : ℕ
+  pub second : ℕ
+  pub of_first : Member pair.0 first
+  pub of_second : Member pair.1 second
+
 -- The laws: results of members are members; a refinement keeps each pair of members that passes the test, and is
 -- empty only where no pair passes it; where x covers y, members of y are members of x.
 pub record AreSound {D : Type 0} (ops : Operations D) (Member : D → ℕ → Type 0) : Type 0 where
@@ -41,3 +48,9 @@ pub record AreSound {D : Type 0} (ops : Operations D) (Member : D → ℕ → Ty
   pub unary : (op : UnaryOp) (x : D) (n : ℕ) → Member x n → Member (ops.unary op x) (unary op n)
   pub refine : (test : Test) (w : Width) (x y : D) (m n : ℕ) → Member x m → Member y n → passes test w m n ≡ true → Keeps Member (ops.refine test w x y) m n
   pub covers : (x y : D) (n : ℕ) → ops.covers x y ≡ true → Member y n → Member x n
+
+-- What refusals that are real need besides: an exact number has itself as its bounds, and what a refinement leaves of
+-- operands with members has members.
+pub record ArePrecise {D : Type 0} (ops : Operations D) (Member : D → ℕ → Type 0) : Type 0 where
+  pub exact : (n : ℕ) → n < 2 ^ 64 → ops.bounds (ops.exact n) ≡ record { lo = n; hi = n }
+  pub refine : (test : Test) (w : Width) (x y : D) (m n : ℕ) (left : D × D) → Member x m → Member y n → ops.refine test w x y ≡ Some left → HasMembers Member left

@@ -1,14 +1,14 @@
--- Intervals are a sound domain.
-use Rattle.std.proofs.Common.{◌≡◌, ℕ, ◌-◌, ◌^◌, true, arith}
+-- Intervals are a sound domain, and a precise one.
+use Rattle.std.proofs.Common.{◌≡◌, ℕ, ◌-◌, ◌^◌, true, refl, arith}
 use Rattle.std.specs.Prelude.{nat_le}
 use Rattle.std.proofs.lemmas.Bool.{leb-true, and_parts}
 use Rattle.interval.specs.declared.domain.Bounds.{Bounds}
-use Rattle.interval.specs.Domains.{AreSound}
+use Rattle.interval.specs.Domains.{AreSound, ArePrecise}
 use Rattle.interval.specs.Intervals.{IsMember, interval_ops, contains}
 use Rattle.interval.specs.IntervalLaws.Members.{is_member, between}
 use Rattle.interval.specs.IntervalLaws.Operators.{alu_sound}
 use Rattle.interval.specs.IntervalLaws.OneOperand.{unary_sound}
-use Rattle.interval.specs.IntervalLaws.Refinements.{refine_sound}
+use Rattle.interval.specs.IntervalLaws.Refinements.{refine_sound, refine_precise}
 pub mod Members
 pub mod Operators
 pub mod OneOperand
@@ -34,4 +34,10 @@ interval_laws = record {
   unary = λ op x n h. is_member _ _ (unary_sound op x n h);
   refine = λ test w x y m n h k passed. refine_sound x y m n h k w test passed;
   covers = covers_member;
+}
+
+pub interval_precise : ArePrecise interval_ops IsMember
+interval_precise = record {
+  exact = λ n lt. refl;
+  refine = λ test w x y m n pair h k e. refine_precise test w x y m n h k pair e;
 }

@@ -76,11 +76,9 @@ ranged SignedMod w x y = if are_positive w x y then remainder x y else all w
 ranged Xor w x y = from_to 0 (ones (max x.hi y.hi))
 ranged Arsh w x y = if nat_lt x.hi (modulus w / 2) then shifted_right w x y else all w
 
-abbrev pub computed : AluOp → Width → Bounds → Bounds → Bounds
-computed op w x y = if is_single x && is_single y then single (alu op w x.lo y.lo) else ranged op w x y
-
+-- exact on single numbers; else each operand is first cut to the width
 abbrev pub interval_alu : AluOp → Width → Bounds → Bounds → Bounds
-interval_alu op w x y = computed op w (narrowed w x) (narrowed w y)
+interval_alu op w x y = if is_single x && is_single y then single (alu op w x.lo y.lo) else ranged op w (narrowed w x) (narrowed w y)
 
 -- ---- operators with one operand
 
@@ -103,11 +101,8 @@ operand_width (Neg w) = w
 operand_width (SignExtend e) = target_of e
 operand_width (Swap op z) = W64
 
-abbrev pub computed_unary : UnaryOp → Bounds → Bounds
-computed_unary op x = if is_single x then single (unary op x.lo) else ranged_unary op x
-
 abbrev pub interval_unary : UnaryOp → Bounds → Bounds
-interval_unary op x = computed_unary op (narrowed (operand_width op) x)
+interval_unary op x = if is_single x then single (unary op x.lo) else ranged_unary op (narrowed (operand_width op) x)
 
 -- ---- refinement
 

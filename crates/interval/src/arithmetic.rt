@@ -175,12 +175,10 @@ fn ranged(op: AluOp, width: Width, a: Interval, b: Interval) -> Interval
 pub(crate) fn alu(op: AluOp, width: Width, a: Interval, b: Interval) -> Interval
     ensures { result ≡ interval_alu op width a b }
 {
-    let a = narrowed(width, a);
-    let b = narrowed(width, b);
     if a.is_single() && b.is_single() {
         Interval::single(insn::alu(op, width, a.ends().lo, b.ends().lo))
     } else {
-        ranged(op, width, a, b)
+        ranged(op, width, narrowed(width, a), narrowed(width, b))
     }
 }
 
@@ -248,10 +246,9 @@ fn operand_width(op: UnaryOp) -> Width
 pub(crate) fn unary(op: UnaryOp, a: Interval) -> Interval
     ensures { result ≡ interval_unary op a }
 {
-    let a = narrowed(operand_width(op), a);
     if a.is_single() {
         Interval::single(insn::unary(op, a.ends().lo))
     } else {
-        ranged_unary(op, a)
+        ranged_unary(op, narrowed(operand_width(op), a))
     }
 }

@@ -2,6 +2,7 @@
 
 ghost use Rattle.std.specs.Prelude.{◌≡◌, ℕ, ◌≤◌, Bool};
 ghost use Rattle.std.specs.Option.{option_map};
+ghost use Rattle.std.specs.Mem.{type_size};
 ghost use Rattle.interval.specs.Domains.{Operations, AreSound};
 
 use insn::{AluOp, Condition, UnaryOp, Width};
@@ -32,8 +33,8 @@ pub struct Refined<D> {
 /// Abstract numbers. Each stands for a set of 64-bit words, its members.
 ///
 /// An implementation gives its operations as functions, says what a member is, and proves that the operations are
-/// sound: what they answer has each result of members as a member. Nothing else is asked, so a domain may know as much
-/// or as little as it likes.
+/// sound: what they answer has each result of members as a member. So a domain may know as much or as little as it
+/// likes. Its numbers take at most 65,536 bytes each, so that states made of them fit in memory.
 pub trait Domain: Copy {
     ghost ops: { Operations Self };
 
@@ -74,4 +75,6 @@ pub trait Domain: Copy {
         ensures { result ≡ ops.covers self other };
 
     ghost laws: { AreSound ops Member };
+
+    ghost small: { type_size Self.row ≤ 65536 };
 }

@@ -3,6 +3,7 @@
 ghost use Rattle.std.specs.Prelude.{◌≡◌, ◌≤◌};
 ghost use Rattle.interval.specs.Intervals.{interval_ops, IsMember, all, from_to, single, is_single};
 ghost use Rattle.interval.specs.IntervalLaws.{interval_laws};
+ghost use Rattle.std.proofs.Common.{arith};
 
 use crate::arithmetic::{alu, unary};
 use crate::domain::{Bounds, Domain, Refined, Test};
@@ -112,4 +113,6 @@ impl Domain for Interval {
     }
 
     ghost laws = { interval_laws };
+
+    ghost small = { Prim.omega arith };
 }

@@ -1,8 +1,7 @@
-//! Tables of intervals, worked out by hand at the limits of the widths and of their signs, and a second domain.
+//! Tables of intervals, worked out by hand at the limits of the widths and of their signs.
 
 mod binary;
 mod bitwise;
-mod known;
 mod refined;
 mod signed;
 mod unary;

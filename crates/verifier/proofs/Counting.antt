@@ -15,11 +15,11 @@ use Rattle.semantics.specs.declared.fetching.Fetched.TheVariants.{Begins, Inside
 use Rattle.semantics.specs.declared.fetching.Branch.{Branch}
 use Rattle.semantics.specs.declared.fetching.Branch.TheVariants.{NotTaken, Taken}
 use Rattle.verifier.specs.PendingStates.{count_from, counts_from}
-use Rattle.verifier.specs.Successors.{One, Two, flow_successors, successors_of, successors_in}
-use Rattle.verifier.specs.Walk.{LeadsTo, GoesOn}
-use Rattle.verifier.specs.declared.abstract_state.AbstractState.{AbstractState}
-use Rattle.verifier.specs.declared.abstract_step.Next.{Next}
-use Rattle.verifier.specs.declared.abstract_step.Next.TheVariants as next
+use Rattle.absstate.specs.Successors.{One, Two, flow_successors, successors_of, successors_in}
+use Rattle.verifier.specs.Walk.{LeadsTo, IsNext, IsLeft, GoesOn}
+use Rattle.absstate.specs.declared.abstract_state.AbsState.{AbsState}
+use Rattle.absstate.specs.declared.abstract_step.Next.{Next}
+use Rattle.absstate.specs.declared.abstract_step.Next.TheVariants as next
 use Rattle.verifier.specs.declared.walk.Pending.{Pending}
 use Rattle.verifier.proofs.Branches.{branch_rises}
 
@@ -63,7 +63,7 @@ onwards_is : (branch : Branch) (r : Result ℕ Reason) (n : ℕ) (f : ℕ → Li
 onwards_is branch r n f e = ap (λ (q : Result ℕ Reason). length (path_onwards branch q f)) e ∙ length-map (f n) (λ (path : List Branch). branch ∷ path)
 
 -- the beginnings through a branch are at least those from the pending state that it leads to
-branch_counts : (code : List Insn) (slot : ℕ) (i : Insn) → fetch code slot ≡ Begins i → (branch : Branch) (known : AbstractState) (p : Pending) → LeadsTo code slot i branch known p
+branch_counts : {D : Type 0} (code : List Insn) (slot : ℕ) (i : Insn) → fetch code slot ≡ Begins i → (branch : Branch) (known : AbsState D) (p : Pending D) → LeadsTo code slot i branch known p
     → count_from code p ≤ length (path_onwards branch (branch_slot code slot i branch) (λ next. beginnings_from code (ahead code slot - 1) next))
 branch_counts code slot i begins branch known p point =
     let m : ℕ = ahead code slot - 1 in
@@ -108,25 +108,41 @@ two_branches : (code : List Insn) (slot m : ℕ) (i : Insn) → Two ≡ successo
 two_branches code slot m i e = two_ways code slot (slots_of i) m (flow_of i) e
 
 -- the number of beginnings from the current state, if there is one
-abbrev pub count_next : List Insn → Option Pending → ℕ
+abbrev pub count_next : {D : Type 0} → List Insn → Option (Pending D) → ℕ
 count_next code None = 0
 count_next code (Some p) = count_from code p
 
-onwards_count : (code : List Insn) (slot : ℕ) (i : Insn) → fetch code slot ≡ Begins i → (answer : Next) → successors_in answer ≡ successors_of i → (on : Option Pending) (left : List Pending) → GoesOn code slot i answer on left
-    → count_next code on + counts_from code left ≤ length (all_onwards code slot i (ahead code slot - 1))
-onwards_count code slot i begins (next.On b) successors_are (Some p) left goes =
-    let none : counts_from code left ≡ 0 = ap (counts_from code) goes.1 in
-    omega (arith, none, branch_counts code slot i begins NotTaken b p goes.0, one_branch code slot (ahead code slot - 1) i successors_are)
-onwards_count code slot i begins (next.On b) successors_are None left goes = absurd goes
-onwards_count code slot i begins (next.Fork not_taken taken) successors_are (Some p) left goes =
-    let one : counts_from code left ≡ 0 + count_from code goes.1 = ap (counts_from code) goes.3 in
-    omega (arith, one, branch_counts code slot i begins NotTaken not_taken p goes.0, branch_counts code slot i begins Taken taken goes.1 goes.2, two_branches code slot (ahead code slot - 1) i successors_are)
-onwards_count code slot i begins (next.Fork not_taken taken) successors_are None left goes = absurd goes
-onwards_count code slot i begins next.Exit successors_are (Some p) left goes = absurd goes
-onwards_count code slot i begins next.Exit successors_are None left goes = let none : counts_from code left ≡ 0 = ap (counts_from code) goes in omega (arith, none)
+module _ {D : Type 0} (code : List Insn) (slot : ℕ) (i : Insn) (begins : fetch code slot ≡ Begins i) where
+  next_counts : (branch : Branch) (state : Option (AbsState D)) (on : Option (Pending D)) → IsNext code slot i branch state on → count_next code on ≤ length (branch_onwards code slot i branch (ahead code slot - 1))
+  next_counts branch None None is = omega arith
+  next_counts branch None (Some p) is = absurd is
+  next_counts branch (Some state) None is = absurd is
+  next_counts branch (Some state) (Some p) is = branch_counts code slot i begins branch state p is
+
+  left_counts : (branch : Branch) (state : Option (AbsState D)) (left : List (Pending D)) → IsLeft code slot i branch state left → counts_from code left ≤ length (branch_onwards code slot i branch (ahead code slot - 1))
+  left_counts branch None left is = let none : counts_from code left ≡ 0 = ap (counts_from code) is in omega (arith, none)
+  left_counts branch (Some state) left is =
+      let one : counts_from code left ≡ 0 + count_from code is.0 = ap (counts_from code) is.2 in
+      omega (arith, one, branch_counts code slot i begins branch state is.0 is.1)
+
+  -- where no state is behind a branch, nothing is followed or left
+  no_next : (on : Option (Pending D)) → IsNext code slot i NotTaken None on → count_next code on ≡ 0
+  no_next None is = refl
+  no_next (Some p) is = absurd is
+
+  onwards_count : (answer : Next D) → successors_in answer ≡ successors_of i → (on : Option (Pending D)) (left : List (Pending D)) → GoesOn code slot i answer on left
+      → count_next code on + counts_from code left ≤ length (all_onwards code slot i (ahead code slot - 1))
+  onwards_count (next.On b) successors_are on left goes =
+      let none : counts_from code left ≡ 0 = ap (counts_from code) goes.1 in
+      omega (arith, none, next_counts NotTaken (Some b) on goes.0, one_branch code slot (ahead code slot - 1) i successors_are)
+  onwards_count (next.Fork not_taken taken) successors_are on left goes =
+      omega (arith, next_counts NotTaken not_taken on goes.0, left_counts Taken taken left goes.1, two_branches code slot (ahead code slot - 1) i successors_are)
+  onwards_count next.Exit successors_are on left goes =
+      let none : counts_from code left ≡ 0 = ap (counts_from code) goes.1 in
+      omega (arith, none, no_next on goes.0)
 
 -- a step takes one of the beginnings from its pending state
-pub counts_before : (code : List Insn) (here : Pending) (i : Insn) → fetch code here.slot ≡ Begins i → (answer : Next) → successors_in answer ≡ successors_of i → (on : Option Pending) (left : List Pending) → GoesOn code here.slot i answer on left
+pub counts_before : {D : Type 0} (code : List Insn) (here : Pending D) (i : Insn) → fetch code here.slot ≡ Begins i → (answer : Next D) → successors_in answer ≡ successors_of i → (on : Option (Pending D)) (left : List (Pending D)) → GoesOn code here.slot i answer on left
     → 1 + (count_next code on + counts_from code left) ≤ count_from code here
 counts_before code here i begins answer successors_are on left goes =
     let m : ℕ = ahead code here.slot - 1 in

@@ -1,13 +1,8 @@
+pub mod Sizes
 pub mod Positions
-pub mod Agreement
-pub mod Bounds
-pub mod LoadValues
 pub mod Branches
-pub mod Members
-pub mod Simulation
-pub mod Advancing
+pub mod Counting
 pub mod Safety
 pub mod Reaching
-pub mod Counting
 pub mod Walking
 pub mod Verdicts

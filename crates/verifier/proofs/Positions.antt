@@ -13,7 +13,7 @@ use Rattle.semantics.specs.declared.fetching.Fetched.{Fetched}
 use Rattle.semantics.specs.declared.fetching.Fetched.TheVariants.{Begins, Inside, Past}
 use Rattle.semantics.specs.declared.fetching.Position.{Position}
 use Rattle.verifier.specs.Layout.{jump_checked, fetched_checked, slot_checked, HasGoodJumps, EndsInExit, IsFirstFaultyJump, IsLayoutFault}
-use Rattle.verifier.specs.Successors.{Successors, One, Two, Ends, successors_of}
+use Rattle.absstate.specs.Successors.{Successors, One, Two, Ends, successors_of}
 
 pub landing_ok : (p : Fetched) (g n : ℕ) → landing p g ≡ Ok n → (i : Insn) × (p ≡ Begins i) × (g ≡ n)
 landing_ok (Begins i) g n e = (i, refl, cc)

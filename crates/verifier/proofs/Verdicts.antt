@@ -1,10 +1,12 @@
 -- A fault of the layout is the verdict.
 use Rattle.std.proofs.Common.{◌≡◌, ℕ, List, Result, Ok, Err, inl, inr, sym, ap, ◌∙◌, arith}
+use Rattle.std.specs.Prelude.{IfErr}
 use Rattle.std.proofs.lemmas.Bool.{cases_lt}
 use Rattle.insn.specs.declared.instruction.Insn.{Insn}
 use Rattle.semantics.specs.declared.reason.Reason.{Reason}
 use Rattle.verifier.specs.Layout.{slot_checked, IsFirstFaultyJump, IsLayoutFault, IsLayoutRefusal}
-use Rattle.verifier.specs.Refusing.{IsVerdict}
+use Rattle.interval.specs.Domains.{Operations, ArePrecise}
+use Rattle.verifier.specs.Refusing.{MayRefuseWhere, MayRefuse, MayRefuseOver, IsVerdictOf, IsVerdict, IsVerdictOver}
 use Rattle.verifier.specs.declared.refusal.Refusal.{Refusal}
 use Rattle.verifier.specs.declared.refusal.Refusal.TheVariants as refusal
 
@@ -30,12 +32,31 @@ one_fault code m n i j (inl f) (inr g) = absurd (passes_and_fails (slot_checked 
 one_fault code m n i j (inr f) (inl g) = absurd (passes_and_fails (slot_checked code j) n (f.jumps j) g.faulty)
 one_fault code m n i j (inr f) (inr g) = (f.reason_is ∙ sym g.reason_is, f.slot_is ∙ sym g.slot_is)
 
-pub layout_verdict : {T : Type 0} (code : List Insn) (budget : ℕ) (e : Refusal) → IsLayoutRefusal code e → IsVerdict {T = T} code budget (Err e)
-layout_verdict code budget (refusal.Stuck reason slot) fault = record {
+pub layout_verdict : {T : Type 0} (IsReal : Reason → ℕ → Type 0) (code : List Insn) (budget : ℕ) (e : Refusal) → IsLayoutRefusal code e → IsVerdictOf {T = T} (MayRefuseWhere IsReal code budget) code (Err e)
+layout_verdict IsReal code budget (refusal.Stuck reason slot) fault = record {
   safe = tt;
   laid_out = tt;
   layout = λ other at found. let same = one_fault code reason other slot at fault found in (λ k. Err (refusal.Stuck (same.0 k) (same.1 k)));
   refused = inl fault;
 }
-layout_verdict code budget (refusal.Budget slot) fault = absurd fault
-layout_verdict code budget (refusal.Memory slot) fault = absurd fault
+layout_verdict IsReal code budget (refusal.Budget slot) fault = absurd fault
+layout_verdict IsReal code budget (refusal.Memory slot) fault = absurd fault
+
+-- where a domain is precise, what may be refused over it may be refused
+real_refusal : {D : Type 0} (ops : Operations D) (Member : D → ℕ → Type 0) → ArePrecise ops Member → (code : List Insn) (budget : ℕ) (e : Refusal) → MayRefuseOver ops Member code budget e → MayRefuse code budget e
+real_refusal ops Member precise code budget (refusal.Stuck reason slot) (inl fault) = inl fault
+real_refusal ops Member precise code budget (refusal.Stuck reason slot) (inr step) = inr (step.0, step.1, step.2 precise)
+real_refusal ops Member precise code budget (refusal.Budget slot) may = may
+real_refusal ops Member precise code budget (refusal.Memory slot) may = may
+
+real_if : {D T : Type 0} (ops : Operations D) (Member : D → ℕ → Type 0) → ArePrecise ops Member → (code : List Insn) (budget : ℕ) (r : Result T Refusal) → IfErr r (MayRefuseOver ops Member code budget) → IfErr r (MayRefuse code budget)
+real_if ops Member precise code budget (Ok v) may = tt
+real_if ops Member precise code budget (Err e) may = real_refusal ops Member precise code budget e may
+
+pub real_verdict : {D T : Type 0} (ops : Operations D) (Member : D → ℕ → Type 0) → ArePrecise ops Member → (code : List Insn) (budget : ℕ) (r : Result T Refusal) → IsVerdictOver ops Member code budget r → IsVerdict code budget r
+real_verdict ops Member precise code budget r verdict = record {
+  safe = verdict.safe;
+  laid_out = verdict.laid_out;
+  layout = verdict.layout;
+  refused = real_if ops Member precise code budget r verdict.refused;
+}

@@ -67,23 +67,3 @@ abbrev pub IsLayoutRefusal : List Insn → Refusal → Type 0
 IsLayoutRefusal code (refusal.Stuck reason slot) = IsLayoutFault code reason slot
 IsLayoutRefusal code (refusal.Budget slot) = ⊥
 IsLayoutRefusal code (refusal.Memory slot) = ⊥
-
--- the reasons of the layout, and those of the steps on a path
-abbrev pub IsStepReason : Reason → Type 0
-IsStepReason reasons.JumpBackward = ⊥
-IsStepReason reasons.JumpOutside = ⊥
-IsStepReason reasons.JumpIntoWide = ⊥
-IsStepReason reasons.FallsOffEnd = ⊥
-IsStepReason reasons.UninitRegister = Unit {0}
-IsStepReason reasons.UninitStack = Unit {0}
-IsStepReason reasons.WritesFramePointer = Unit {0}
-IsStepReason reasons.StackBounds = Unit {0}
-IsStepReason reasons.ContextAccess = Unit {0}
-IsStepReason reasons.DatagramBounds = Unit {0}
-IsStepReason reasons.PointerArithmetic = Unit {0}
-IsStepReason reasons.PointerCompare = Unit {0}
-IsStepReason reasons.PointerStored = Unit {0}
-IsStepReason reasons.UnknownHelper = Unit {0}
-IsStepReason (reasons.HelperArgument k) = Unit {0}
-IsStepReason reasons.ExitNotScalar = Unit {0}
-IsStepReason reasons.NotAPointer = Unit {0}

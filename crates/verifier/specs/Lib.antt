@@ -1,8 +1,4 @@
-pub mod AbstractStates
-pub mod AbstractSteps
-pub mod Membership
 pub mod Layout
-pub mod Successors
 pub mod Walk
 pub mod Refusing
 pub mod PendingStates

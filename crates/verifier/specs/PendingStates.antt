@@ -7,7 +7,7 @@ use Rattle.semantics.specs.Machine.{State, Surroundings, start}
 use Rattle.semantics.specs.Slots.{ahead}
 use Rattle.semantics.specs.Runs.{Exited, run, AreReal, IsSafe}
 use Rattle.semantics.specs.LooseRuns.{Loosens, LooselyReaches, beginnings_from}
-use Rattle.verifier.specs.Membership.{Places, Loose, Strict, IsMember}
+use Rattle.absstate.specs.Membership.{Places, Loose, Strict, IsMember}
 use Rattle.verifier.specs.declared.walk.Pending.{Pending}
 
 -- ---- accepted code exits
@@ -17,8 +17,8 @@ abbrev pub ExitsFrom : Surroundings → List Insn → State → Type 0
 ExitsFrom w code s = (verdict : ℕ) × ((run w code (ahead code s.slot) s).ending ≡ Exited verdict)
 
 -- so does every run, in real surroundings, from every member of a pending state
-abbrev pub AllRunsExit : List Insn → Pending → Type 0
-AllRunsExit code p = (w : Surroundings) (places : Places) (s : State) → AreReal w → s.slot ≡ p.slot → IsMember Loose places p.state s → ExitsFrom w code s
+abbrev pub AllRunsExit : {D : Type 0} → (D → ℕ → Type 0) → List Insn → Pending D → Type 0
+AllRunsExit Member code p = (w : Surroundings) (places : Places) (s : State) → AreReal w → s.slot ≡ p.slot → IsMember Member Loose places p.state s → ExitsFrom w code s
 
 -- a verified program is safe, and not too long
 pub record IsVerified (code : List Insn) : Type 0 where
@@ -35,7 +35,7 @@ some_surroundings = record {
 }
 
 -- a loose run over a datagram of n bytes, loosened once more at its end, reaches a member of a pending state
-pub record IsReachedOver (code : List Insn) (p : Pending) (n : ℕ) : Type 0 where
+pub record IsReachedOver {D : Type 0} (Member : D → ℕ → Type 0) (code : List Insn) (p : Pending D) (n : ℕ) : Type 0 where
   pub datagram : List ℕ
   pub bytes_fit : All (λ b. b < 256) datagram
   pub steps : ℕ
@@ -46,18 +46,18 @@ pub record IsReachedOver (code : List Insn) (p : Pending) (n : ℕ) : Type 0 whe
   pub loosens : Loosens last loosened
   pub slot : loosened.slot ≡ p.slot
   pub size : loosened.memory.length ≡ n
-  pub member : IsMember Strict places p.state loosened
+  pub member : IsMember Member Strict places p.state loosened
 
 -- over each datagram that has the bytes that are proved, a loose run reaches the pending state
-pub record IsReached (code : List Insn) (p : Pending) : Type 0 where
+pub record IsReached {D : Type 0} (Member : D → ℕ → Type 0) (code : List Insn) (p : Pending D) : Type 0 where
   pub not_negative : pos 0 ≤ℤ p.state.proved
-  pub over : (n : ℕ) → p.state.proved ≤ℤ pos n → IsReachedOver code p n
+  pub over : (n : ℕ) → p.state.proved ≤ℤ pos n → IsReachedOver Member code p n
 
 -- ---- beginnings of paths
 
 -- the number of the beginnings of paths from a pending state on
-abbrev pub count_from : List Insn → Pending → ℕ
+abbrev pub count_from : {D : Type 0} → List Insn → Pending D → ℕ
 count_from code p = length (beginnings_from code (ahead code p.slot) p.slot)
 
-abbrev pub counts_from : List Insn → List Pending → ℕ
+abbrev pub counts_from : {D : Type 0} → List Insn → List (Pending D) → ℕ
 counts_from code pending = sum_by (count_from code) pending

@@ -8,59 +8,77 @@ use Rattle.semantics.specs.declared.reason.Reason.{Reason}
 use Rattle.semantics.specs.declared.fetching.Fetched.TheVariants.{Begins}
 use Rattle.semantics.specs.declared.fetching.Branch.{Branch}
 use Rattle.semantics.specs.declared.fetching.Branch.TheVariants.{NotTaken, Taken}
+use Rattle.interval.specs.Domains.{Operations}
+use Rattle.absstate.specs.AbstractSteps.{step}
+use Rattle.absstate.specs.MemberSteps.{state_behind}
+use Rattle.absstate.specs.declared.abstract_state.AbsState.{AbsState}
+use Rattle.absstate.specs.declared.abstract_step.Next.{Next}
 use Rattle.verifier.specs.Layout.{StartsAt}
-use Rattle.verifier.specs.AbstractSteps.{step}
-use Rattle.verifier.specs.declared.abstract_state.AbstractState.{AbstractState}
-use Rattle.verifier.specs.declared.abstract_step.Next.{Next}
-use Rattle.verifier.specs.declared.abstract_step.Next.TheVariants as answer
 use Rattle.verifier.specs.declared.refusal.Refusal.{Refusal}
 use Rattle.verifier.specs.declared.refusal.Refusal.TheVariants as refusal
 use Rattle.verifier.specs.declared.walk.Pending.{Pending}
 
 -- an instruction begins at the slot of a pending state
-abbrev pub IsInside : List Insn → Pending → Type 0
+abbrev pub IsInside : {D : Type 0} → List Insn → Pending D → Type 0
 IsInside code p = StartsAt code p.slot
 
 -- the pending state that a branch of the instruction at a slot leads to
-pub record LeadsTo (code : List Insn) (here : ℕ) (i : Insn) (branch : Branch) (state : AbstractState) (p : Pending) : Type 0 where
+pub record LeadsTo {D : Type 0} (code : List Insn) (here : ℕ) (i : Insn) (branch : Branch) (state : AbsState D) (p : Pending D) : Type 0 where
   pub leads : branch_slot code here i branch ≡ Ok p.slot
   pub state_is : p.state ≡ state
 
--- the state that is followed next, and those that are left pending: the branch not taken comes first
-abbrev pub GoesOn : List Insn → ℕ → Insn → Next → Option Pending → List Pending → Type 0
-GoesOn code here i (answer.On known) (Some p) left = LeadsTo code here i NotTaken known p × (left ≡ [])
-GoesOn code here i (answer.On known) None left = ⊥
-GoesOn code here i (answer.Fork not_taken taken) (Some p) left = LeadsTo code here i NotTaken not_taken p × (q : Pending) × LeadsTo code here i Taken taken q × (left ≡ q ∷ [])
-GoesOn code here i (answer.Fork not_taken taken) None left = ⊥
-GoesOn code here i answer.Exit (Some p) left = ⊥
-GoesOn code here i answer.Exit None left = left ≡ []
+-- the state of a branch, if that can be taken, is followed next
+abbrev pub IsNext : {D : Type 0} → List Insn → ℕ → Insn → Branch → Option (AbsState D) → Option (Pending D) → Type 0
+IsNext code here i branch None None = Unit {0}
+IsNext code here i branch None (Some p) = ⊥
+IsNext code here i branch (Some state) None = ⊥
+IsNext code here i branch (Some state) (Some p) = LeadsTo code here i branch state p
+
+-- the state of a branch, if that can be taken, is left pending, and no other
+abbrev pub IsLeft : {D : Type 0} → List Insn → ℕ → Insn → Branch → Option (AbsState D) → List (Pending D) → Type 0
+IsLeft code here i branch None left = left ≡ []
+IsLeft {D = D} code here i branch (Some state) left = (p : Pending D) × LeadsTo code here i branch state p × (left ≡ p ∷ [])
+
+-- the list of pending states is longer by it
+abbrev pub Leaves : {D : Type 0} → List Insn → ℕ → Insn → Option (AbsState D) → List (Pending D) → List (Pending D) → Type 0
+Leaves {D = D} code here i state old new = (left : List (Pending D)) × (new ≡ old ++ left) × IsLeft code here i Taken state left
+
+-- the branch that isn't taken is followed next, and the one that is taken is left pending
+abbrev pub GoesOn : {D : Type 0} → List Insn → ℕ → Insn → Next D → Option (Pending D) → List (Pending D) → Type 0
+GoesOn code here i answer on left = IsNext code here i NotTaken (state_behind answer NotTaken) on × IsLeft code here i Taken (state_behind answer Taken) left
 
 -- one step of a path: its instruction is accepted, and the walk goes on so
-pub record Advances (code : List Insn) (here : Pending) (old : List Pending) (next : Option Pending) (new : List Pending) : Type 0 where
+pub record Advances {D : Type 0} (ops : Operations D) (code : List Insn) (here : Pending D) (old : List (Pending D)) (next : Option (Pending D)) (new : List (Pending D)) : Type 0 where
   pub insn : Insn
   pub begins : fetch code here.slot ≡ Begins insn
   pub fits : Fits insn
-  pub accepted : Next
-  pub step_is : step here.state insn ≡ Ok accepted
-  pub left : List Pending
+  pub accepted : Next D
+  pub step_is : step ops here.state insn ≡ Ok accepted
+  pub left : List (Pending D)
   pub new_is : new ≡ old ++ left
   pub goes_on : GoesOn code here.slot insn accepted next left
 
 -- the step from a pending state is refused for a reason
-pub record IsRefusedAt (code : List Insn) (here : Pending) (reason : Reason) : Type 0 where
+pub record IsRefusedAt {D : Type 0} (ops : Operations D) (code : List Insn) (here : Pending D) (reason : Reason) : Type 0 where
   pub insn : Insn
   pub begins : fetch code here.slot ≡ Begins insn
   pub fits : Fits insn
-  pub step_is : step here.state insn ≡ Err reason
+  pub step_is : step ops here.state insn ≡ Err reason
+
+-- want of memory, with the instruction at a slot in hand
+abbrev pub IsOutOfMemory : ℕ → Refusal → Type 0
+IsOutOfMemory here (refusal.Stuck reason slot) = ⊥
+IsOutOfMemory here (refusal.Budget slot) = ⊥
+IsOutOfMemory here (refusal.Memory slot) = slot ≡ here
 
 -- a refusal of one step: a refused step of the path, or want of memory
-abbrev pub IsStepRefusal : List Insn → Pending → Refusal → Type 0
-IsStepRefusal code here (refusal.Stuck reason slot) = (slot ≡ here.slot) × IsRefusedAt code here reason
-IsStepRefusal code here (refusal.Budget slot) = ⊥
-IsStepRefusal code here (refusal.Memory slot) = Unit {0}
+abbrev pub IsStepRefusal : {D : Type 0} → Operations D → List Insn → Pending D → Refusal → Type 0
+IsStepRefusal ops code here (refusal.Stuck reason slot) = (slot ≡ here.slot) × IsRefusedAt ops code here reason
+IsStepRefusal ops code here (refusal.Budget slot) = ⊥
+IsStepRefusal ops code here (refusal.Memory slot) = Unit {0}
 
 -- the state that is followed: the next one of the path, or behind its exit the last one left pending
-abbrev pub Picks : Option Pending → List Pending → Option Pending → List Pending → Type 0
+abbrev pub Picks : {D : Type 0} → Option (Pending D) → List (Pending D) → Option (Pending D) → List (Pending D) → Type 0
 Picks (Some p) old picked new = (picked ≡ Some p) × (new ≡ old)
 Picks None old (Some p) new = old ≡ new ++ p ∷ []
 Picks None old None new = (old ≡ []) × (new ≡ [])

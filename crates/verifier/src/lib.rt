@@ -1,8 +1,6 @@
 //! The walk over all paths of a program, which accepts it or names the refusal.
 #![tactic(auto)]
 
-mod abstract_state;
-mod abstract_step;
 mod layout;
 mod refusal;
 mod steps;
@@ -10,4 +8,4 @@ mod walk;
 
 pub use refusal::Refusal;
 pub use steps::Steps;
-pub use walk::{Verified, verify};
+pub use walk::{Verified, verify, verify_with};

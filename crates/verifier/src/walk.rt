@@ -6,26 +6,35 @@ ghost use Rattle.insn.specs.declared.decoding.TheConstants.{MAX_SLOTS};
 ghost use Rattle.semantics.specs.Runs.{IsSafe};
 ghost use Rattle.semantics.specs.Flow.{branch_slot};
 ghost use Rattle.verifier.specs.Layout.{IsLaidOut};
-ghost use Rattle.verifier.specs.Refusing.{MayRefuse, IsVerdict, CountsSteps};
-ghost use Rattle.verifier.specs.Walk.{IsStepRefusal, IsInside, Advances, Picks};
+ghost use Rattle.verifier.specs.Refusing.{MayRefuseOver, IsVerdict, IsVerdictOver, CountsSteps};
+ghost use Rattle.verifier.specs.Walk.{IsStepRefusal, IsInside, IsNext, IsOutOfMemory, Leaves, Advances, Picks};
+ghost use Rattle.semantics.specs.declared.fetching.Branch.TheVariants.{NotTaken, Taken};
 
-use crate::abstract_state::AbstractState;
-use crate::abstract_step::{Next, step};
 use crate::layout::check_layout;
 use crate::refusal::Refusal;
 use crate::steps::Steps;
+use absstate::{AbsState, Next};
 use insn::Insn;
+use interval::{Domain, Interval};
 use semantics::{Branch, Fetched, Program};
-use std::alloc::Global;
+use std::alloc::{AllocError, Global};
 use std::marker::Model;
 use std::sync::ledger::Ledger;
 
 /// An abstract state at a slot, from which paths are still to be followed.
-#[derive(Clone, Copy, Debug, PartialEq, Eq)]
-pub struct Pending {
+#[derive(Debug, PartialEq, Eq)]
+pub struct Pending<D> {
     pub slot: usize,
-    pub state: AbstractState,
+    pub state: AbsState<D>,
 }
+
+impl<D: Copy> Clone for Pending<D> {
+    fn clone(&self) -> Result<Self, AllocError> {
+        Ok(*self)
+    }
+}
+
+impl<D: Copy> Copy for Pending<D> {}
 
 /// A program that `verify` accepted: every run of it exits. Only `verify` makes one.
 #[derive(Drop)]
@@ -79,46 +88,80 @@ fn slot_after(program: &Program, slot: usize, insn: Insn, branch: Branch) -> usi
     }
 }
 
-/// Makes one step of a path, and returns the state to follow next, `None` at an exit. The taken branch of a
-/// conditional jump is left pending.
-fn advance(
+/// Returns the state of the branch not taken, at the slot that it leads to, if that branch can be taken.
+fn behind<D: Copy>(
     program: &Program,
-    here: Pending,
-    pending: &mut Vec<Pending>,
-) -> Result<Option<Pending>, Refusal>
+    slot: usize,
+    insn: Insn,
+    state: Option<AbsState<D>>,
+) -> Option<Pending<D>>
+    requires few { slot_count program.now ≤ MAX_SLOTS }
+    requires inside { slot < slot_count program.now }
+    requires good { IsOk (branch_slot program.now slot insn NotTaken) }
+    ensures { IsNext program.now slot insn NotTaken state result }
+{
+    let state = state?;
+    let slot = slot_after(program, slot, insn, Branch::NotTaken);
+    Some(Pending { slot, state })
+}
+
+/// Leaves the state of a taken branch pending, if that branch can be taken.
+fn leave<D: Copy>(
+    program: &Program,
+    slot: usize,
+    insn: Insn,
+    state: Option<AbsState<D>>,
+    pending: &mut Vec<Pending<D>>,
+) -> Result<(), Refusal>
+    requires few { slot_count program.now ≤ MAX_SLOTS }
+    requires inside { slot < slot_count program.now }
+    requires good { IsOk (branch_slot program.now slot insn Taken) }
+    ensures left { OnOk result (Leaves program.now slot insn state pending.old.items pending.new.items) }
+    ensures memory { IfErr result (IsOutOfMemory slot) }
+{
+    if let Some(state) = state {
+        let goal = slot_after(program, slot, insn, Branch::Taken);
+        let taken = Pending { slot: goal, state };
+        if pending.push(taken).is_err() {
+            return Err(Refusal::Memory { slot });
+        }
+    }
+    Ok(())
+}
+
+/// Makes one step of a path, and returns the state to follow next: that of the branch not taken. The taken branch of a
+/// conditional jump is left pending.
+fn advance<D: Domain>(
+    program: &Program,
+    here: Pending<D>,
+    pending: &mut Vec<Pending<D>>,
+) -> Result<Option<Pending<D>>, Refusal>
     requires few { slot_count program.now ≤ MAX_SLOTS }
     requires laid_out { IsLaidOut program.now }
     requires inside { IsInside program.now here }
-    ensures advanced { IfOk result (λ next. Advances program.now here pending.old.items next pending.new.items) }
-    ensures refused { IfErr result (IsStepRefusal program.now here) }
+    ensures advanced { IfOk result (λ next. Advances D.ops program.now here pending.old.items next pending.new.items) }
+    ensures refused { IfErr result (IsStepRefusal D.ops program.now here) }
 {
     let slot = here.slot;
     let Fetched::Begins(insn) = program.fetch(slot) else {
         unreachable!()
     };
-    let next = step(&here.state, &insn).map_err(|reason| Refusal::Stuck { reason, slot })?;
+    let next = here
+        .state
+        .step(&insn)
+        .map_err(|reason| Refusal::Stuck { reason, slot })?;
     match next {
         Next::Exit => Ok(None),
-        Next::On(state) => {
-            let slot = slot_after(program, slot, insn, Branch::NotTaken);
-            Ok(Some(Pending { slot, state }))
-        }
+        Next::On(state) => Ok(behind(program, slot, insn, Some(state))),
         Next::Fork { not_taken, taken } => {
-            let goal = slot_after(program, slot, insn, Branch::Taken);
-            let left = Pending {
-                slot: goal,
-                state: taken,
-            };
-            pending.push(left).map_err(|_| Refusal::Memory { slot })?;
-            let slot = slot_after(program, slot, insn, Branch::NotTaken);
-            let state = not_taken;
-            Ok(Some(Pending { slot, state }))
+            leave(program, slot, insn, taken, pending)?;
+            Ok(behind(program, slot, insn, not_taken))
         }
     }
 }
 
-/// Returns the state to follow next: that of the current path, or, after its exit, the last pending one.
-fn following(next: Option<Pending>, pending: &mut Vec<Pending>) -> Option<Pending>
+/// Returns the state to follow next: that of the current path, or, after its end, the last pending one.
+fn following<D: Copy>(next: Option<Pending<D>>, pending: &mut Vec<Pending<D>>) -> Option<Pending<D>>
     ensures { Picks next pending.old.items result pending.new.items }
 {
     match next {
@@ -131,7 +174,7 @@ fn following(next: Option<Pending>, pending: &mut Vec<Pending>) -> Option<Pendin
 ///
 /// # Errors
 /// The first refusal that is met.
-fn walk<L: Ledger>(
+fn walk<D: Domain, L: Ledger>(
     alloc: Global,
     program: &Program,
     budget: usize,
@@ -140,13 +183,13 @@ fn walk<L: Ledger>(
     requires few { slot_count program.now ≤ MAX_SLOTS }
     requires laid_out { IsLaidOut program.now }
     ensures safe { OnOk result (IsSafe program.now) }
-    ensures refused { IfErr result (MayRefuse program.now budget) }
+    ensures refused { IfErr result (MayRefuseOver D.ops D.Member program.now budget) }
     ensures counts { CountsSteps budget steps.old steps.new result }
 {
     let mut pending = Vec::new(alloc);
-    let mut here = Pending {
+    let mut here = Pending::<D> {
         slot: 0,
-        state: AbstractState::start(),
+        state: AbsState::start(),
     };
     for _ in 0..budget {
         steps.tick();
@@ -159,8 +202,30 @@ fn walk<L: Ledger>(
     Err(Refusal::Budget { slot: here.slot })
 }
 
-/// Verifies a program: accepts it if no step of it, on any path, can be stuck. `steps` counts one for each abstract
-/// step, of which at most `budget` are made.
+/// Verifies a program, with what a numeric domain knows of its numbers: accepts it if no step of it, on any path, can be
+/// stuck. `steps` counts one for each abstract step, of which at most `budget` are made.
+///
+/// # Errors
+/// As [`verify`]; over a domain that isn't precise, a step may be refused at which no loose run is stuck.
+pub fn verify_with<D: Domain, L: Ledger>(
+    alloc: Global,
+    code: &[Insn],
+    budget: usize,
+    steps: &mut Steps<L>,
+) -> Result<Verified, Refusal>
+    requires { slot_count code.now ≤ MAX_SLOTS }
+    ensures code { IfOk result (λ v. v ≡ code.now) }
+    ensures verdict { IsVerdictOver D.ops D.Member code.now budget result }
+    ensures counts { CountsSteps budget steps.old steps.new result }
+{
+    check_layout(code)?;
+    let program = Program::new(alloc, code).map_err(|_| Refusal::Memory { slot: 0 })?;
+    walk::<D, L>(alloc, &program, budget, steps)?;
+    Ok(Verified { program })
+}
+
+/// Verifies a program with intervals: accepts it if no step of it, on any path, can be stuck. `steps` counts one for each
+/// abstract step, of which at most `budget` are made.
 ///
 /// # Errors
 /// A fault of the layout: the first faulty jump (V1 to V3), or a last instruction that is no exit (V4). Else the
@@ -177,8 +242,5 @@ pub fn verify<L: Ledger>(
     ensures verdict { IsVerdict code.now budget result }
     ensures counts { CountsSteps budget steps.old steps.new result }
 {
-    check_layout(code)?;
-    let program = Program::new(alloc, code).map_err(|_| Refusal::Memory { slot: 0 })?;
-    walk(alloc, &program, budget, steps)?;
-    Ok(Verified { program })
+    verify_with::<Interval, L>(alloc, code, budget, steps)
 }

@@ -63,9 +63,6 @@ cut_up_to w hi n word below = between 0 hi (cut w n) word (omega arith) (omega (
 pub cut_any : (w : Width) (n : ℕ) → LiesInWords (all w) (cut w n)
 cut_any w n = between 0 (modulus w - 1) (cut w n) (omega (arith, modulus_fits w, modulus_positive w)) (omega arith) (omega (arith, cut_below w n))
 
-pub is_itself : (w : Width) (n : ℕ) → LiesInWords (single (cut w n)) (cut w n)
-is_itself w n = between (cut w n) (cut w n) (cut w n) (omega (arith, cut_below w n, modulus_fits w)) (omega arith) (omega arith)
-
 -- where a choice is one of two intervals
 pub chosen : (b : Bool) (x y : Bounds) (n : ℕ) → (b ≡ true → LiesInWords x n) → (b ≡ false → LiesInWords y n) → LiesInWords (if b then x else y) n
 chosen b x y n p q = cond_both b x y (λ z. LiesInWords z n) p q
@@ -83,3 +80,6 @@ narrowed_within w x n h =
 -- the one member of a single interval
 pub the_member : (x : Bounds) (n M : ℕ) → is_single x ≡ true → IsWithin M x n → x.lo ≡ n
 the_member x n M e h = let same = eqb-true x.lo x.hi e in omega (arith, h.above, h.below)
+
+pub only_member : (x : Bounds) (n : ℕ) → is_single x ≡ true → IsMember x n → x.lo ≡ n
+only_member x n e h = let same = eqb-true x.lo x.hi e in omega (arith, h.above, h.below)

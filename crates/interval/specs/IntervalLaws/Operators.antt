@@ -14,7 +14,7 @@ use Rattle.insn.specs.declared.operator.AluOp.{AluOp}
 use Rattle.insn.specs.declared.operator.AluOp.TheVariants.{Add, Sub, Mul, Div, SignedDiv, Or, And, Lsh, Rsh, Mod, SignedMod, Xor, Arsh}
 use Rattle.interval.specs.declared.domain.Bounds.{Bounds}
 use Rattle.interval.specs.Intervals.{IsMember, from_to, single, all, narrowed, is_single, are_positive, divided, remainder, ones, shifted_right, ranged, interval_alu}
-use Rattle.interval.specs.IntervalLaws.Members.{IsWithin, LiesInWords, modulus_fits, number_small, cut_below, cut_cut, cut_between, cut_up_to, cut_any, is_itself, chosen, narrowed_within, the_member}
+use Rattle.interval.specs.IntervalLaws.Members.{IsWithin, LiesInWords, modulus_fits, number_small, cut_below, cut_cut, cut_between, cut_up_to, cut_any, chosen, narrowed_within, the_member, only_member}
 
 -- ---- plain numbers
 
@@ -198,17 +198,12 @@ alu_fits op w m n = omega (arith, cut_below w (whole op w (cut w m) (cut w n)), 
 -- operands that are both single are computed on
 pub alu_sound : (op : AluOp) (w : Width) (x y : Bounds) (m n : ℕ) → IsMember x m → IsMember y n → LiesInWords (interval_alu op w x y) (alu op w m n)
 alu_sound op w x y m n h k =
-    let p = narrowed_within w x m h in
-    let q = narrowed_within w y n k in
-    let x' = narrowed w x in
-    let y' = narrowed w y in
-    chosen (is_single x' && is_single y') (single (alu op w x'.lo y'.lo)) (ranged op w x' y') (alu op w m n)
+    chosen (is_single x && is_single y) (single (alu op w x.lo y.lo)) (ranged op w (narrowed w x) (narrowed w y)) (alu op w m n)
     (λ e.
-    let both = and_parts (is_single x') (is_single y') e in
-    let s : x'.lo ≡ cut w m = the_member x' (cut w m) (modulus w) both.0 p in
-    let t : y'.lo ≡ cut w n = the_member y' (cut w n) (modulus w) both.1 q in
-    let left : cut w x'.lo ≡ cut w m = ap (cut w) s ∙ cut_cut w m in
-    let right : cut w y'.lo ≡ cut w n = ap (cut w) t ∙ cut_cut w n in
-    let same : alu op w x'.lo y'.lo ≡ alu op w m n = λ i. cut w (whole op w (left i) (right i)) in
-    subst (λ (k : ℕ). LiesInWords (single k) (alu op w m n)) (sym same) (is_itself w (whole op w (cut w m) (cut w n))))
-    (λ e. row w x' y' (cut w m) (cut w n) p q op)
+    let both = and_parts (is_single x) (is_single y) e in
+    let left : x.lo ≡ m = only_member x m both.0 h in
+    let right : y.lo ≡ n = only_member y n both.1 k in
+    let same : alu op w x.lo y.lo ≡ alu op w m n = λ i. alu op w (left i) (right i) in
+    let fits = alu_fits op w m n in
+    record { word = omega (arith, same, fits); above = omega (arith, same); below = omega (arith, same) })
+    (λ e. row w (narrowed w x) (narrowed w y) (cut w m) (cut w n) (narrowed_within w x m h) (narrowed_within w y n k) op)

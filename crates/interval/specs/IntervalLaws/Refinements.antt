@@ -1,5 +1,5 @@
 -- Refinement: one lemma for each row of the table.
-use Rattle.std.proofs.Common.{◌≡◌, ℕ, ◌+◌, ◌-◌, ◌/◌, ◌^◌, ◌≤◌, ◌<◌, min, max, Bool, true, false, ◌==◌, Option, Some, None, refl, sym, ◌∙◌, arith, ℤ, pos}
+use Rattle.std.proofs.Common.{◌≡◌, ℕ, ◌+◌, ◌-◌, ◌/◌, ◌^◌, ◌≤◌, ◌<◌, min, max, Bool, true, false, ◌==◌, Option, Some, None, refl, sym, ◌∙◌, subst, arith, ℤ, pos}
 use Rattle.std.specs.Prelude.{nat_lt, nat_le, int_lt, int_le, ◌&&◌, if◌then◌else◌}
 use Rattle.std.specs.Int.{cast_signed}
 use Rattle.std.proofs.lemmas.Bool.{cond_both, ltb-true, leb-true, ltb-false, leb-false, eqb-true, and_parts, not-true, not-false, true≢false}
@@ -8,12 +8,12 @@ use Rattle.insn.specs.Words.{int_width, modulus, compares, holds}
 use Rattle.insn.specs.declared.width.Width.{Width}
 use Rattle.insn.specs.declared.condition.Condition.{Condition}
 use Rattle.insn.specs.declared.condition.Condition.TheVariants.{Eq, Gt, Ge, Set, Ne, SignedGt, SignedGe, Lt, Le, SignedLt, SignedLe}
-use Rattle.interval.specs.Domains.{passes, Keeps}
+use Rattle.interval.specs.Domains.{passes, Keeps, HasMembers}
 use Rattle.interval.specs.declared.domain.Bounds.{Bounds}
 use Rattle.interval.specs.declared.domain.Test.{Test}
 use Rattle.interval.specs.declared.domain.Test.TheVariants.{Holds, Fails}
 use Rattle.interval.specs.Intervals.{IsMember, from_to, is_single, are_positive, if_any, both, exchanged, greater, at_least, equal, is_signed, where_it_holds, where_it_fails, condition_of, left, can_refine, interval_refine}
-use Rattle.interval.specs.IntervalLaws.Members.{LiesInWords, is_member, cut_small, modulus_fits}
+use Rattle.interval.specs.IntervalLaws.Members.{LiesInWords, is_member, only_member, cut_small, modulus_fits}
 use Rattle.interval.specs.IntervalLaws.Operators.{positive}
 
 abbrev AreKept : Option (Bounds × Bounds) → ℕ → ℕ → Type 0
@@ -153,16 +153,98 @@ module _ (x y : Bounds) (m n : ℕ) (h : IsMember x m) (k : IsMember y n) (w : W
       let b = member_of y n known.second_small second_lies in
       kept_as (left test x y) m n (passing x y m n a b w test known.own (omega (arith, known.first_small, a.below)) (omega (arith, known.second_small, b.below)) passed)
 
-  single_is : (z : Bounds) (i : ℕ) → is_single z ≡ true → IsMember z i → z.lo ≡ i
-  single_is z i e j = let same = eqb-true z.lo z.hi e in omega (arith, j.above, j.below)
-
   pub refine_sound : (test : Test) → passes test w m n ≡ true → Keeps IsMember (interval_refine test w x y) m n
   refine_sound test passed =
       cond_both (is_single x && is_single y) (if passes test w x.lo y.lo then Some (x, y) else None) (if can_refine test w x y then left test x y else Some (x, y)) (λ r. Keeps IsMember r m n)
       (λ e.
       let both = and_parts (is_single x) (is_single y) e in
-      let first : x.lo ≡ m = single_is x m both.0 first_lies in
-      let second : y.lo ≡ n = single_is y n both.1 second_lies in
+      let first : x.lo ≡ m = only_member x m both.0 first_lies in
+      let second : y.lo ≡ n = only_member y n both.1 second_lies in
       let same : passes test w x.lo y.lo ≡ true = (λ i. passes test w (first i) (second i)) ∙ passed in
       cond_both (passes test w x.lo y.lo) (Some (x, y)) None (λ r. Keeps IsMember r m n) (λ t. (h, k)) (λ t. absurd (true≢false (sym same ∙ t))))
       (λ e. cond_both (can_refine test w x y) (left test x y) (Some (x, y)) (λ r. Keeps IsMember r m n) (λ t. refined test t passed) (λ t. (h, k)))
+
+-- ---- what is left has members
+
+-- two intervals, if they are left, have their least words as members
+abbrev AreLeft : Option (Bounds × Bounds) → Type 0
+AreLeft None = Unit {0}
+AreLeft (Some pair) = IsMember pair.0 pair.0.lo × IsMember pair.1 pair.1.lo
+
+least_member : (x : Bounds) (n : ℕ) → IsMember x n → IsMember x x.lo
+least_member x n h = record { word = omega (arith, h.word, h.above); above = omega arith; below = omega (arith, h.above, h.below) }
+
+if_left : (x y : Bounds) → x.hi < 2 ^ 64 → y.hi < 2 ^ 64 → AreLeft (both (if_any x) (if_any y))
+if_left x y p q =
+    cond_both (nat_le x.lo x.hi) (Some x) None (λ r. AreLeft (both r (if_any y)))
+    (λ e.
+    let a = leb-true x.lo x.hi e in
+    cond_both (nat_le y.lo y.hi) (Some y) None (λ r. AreLeft (both (Some x) r))
+    (λ f. let b = leb-true y.lo y.hi f in (record { word = omega arith; above = omega arith; below = a }, record { word = omega arith; above = omega arith; below = b }))
+    (λ f. tt))
+    (λ e. tt)
+
+exchanged_left : (pairs : Option (Bounds × Bounds)) → AreLeft pairs → AreLeft (exchanged pairs)
+exchanged_left None h = h
+exchanged_left (Some pair) h = (h.1, h.0)
+
+greater_left : (x y : Bounds) → x.hi < 2 ^ 64 → y.hi < 2 ^ 64 → AreLeft (greater x y)
+greater_left x y p q =
+    cond_both (nat_lt y.lo x.hi) (both (if_any (from_to (max x.lo (y.lo + 1)) x.hi)) (if_any (from_to y.lo (min y.hi (x.hi - 1))))) None AreLeft
+    (λ e. if_left (from_to (max x.lo (y.lo + 1)) x.hi) (from_to y.lo (min y.hi (x.hi - 1))) p (omega arith)) (λ e. tt)
+
+at_least_left : (x y : Bounds) → x.hi < 2 ^ 64 → y.hi < 2 ^ 64 → AreLeft (at_least x y)
+at_least_left x y p q = if_left (from_to (max x.lo y.lo) x.hi) (from_to y.lo (min y.hi x.hi)) p (omega arith)
+
+equal_left : (x y : Bounds) → x.hi < 2 ^ 64 → y.hi < 2 ^ 64 → AreLeft (equal x y)
+equal_left x y p q = if_left (from_to (max x.lo y.lo) (min x.hi y.hi)) (from_to (max x.lo y.lo) (min x.hi y.hi)) (omega arith) (omega arith)
+
+module _ (x y : Bounds) (p : x.hi < 2 ^ 64) (q : y.hi < 2 ^ 64) (as_they_are : AreLeft (Some (x, y))) where
+  holding_left : (c : Condition) → AreLeft (where_it_holds c x y)
+  holding_left Eq = equal_left x y p q
+  holding_left Gt = greater_left x y p q
+  holding_left Ge = at_least_left x y p q
+  holding_left Set = as_they_are
+  holding_left Ne = as_they_are
+  holding_left SignedGt = greater_left x y p q
+  holding_left SignedGe = at_least_left x y p q
+  holding_left Lt = exchanged_left (greater y x) (greater_left y x q p)
+  holding_left Le = exchanged_left (at_least y x) (at_least_left y x q p)
+  holding_left SignedLt = exchanged_left (greater y x) (greater_left y x q p)
+  holding_left SignedLe = exchanged_left (at_least y x) (at_least_left y x q p)
+
+  failing_left : (c : Condition) → AreLeft (where_it_fails c x y)
+  failing_left Eq = as_they_are
+  failing_left Gt = exchanged_left (at_least y x) (at_least_left y x q p)
+  failing_left Ge = exchanged_left (greater y x) (greater_left y x q p)
+  failing_left Set = as_they_are
+  failing_left Ne = equal_left x y p q
+  failing_left SignedGt = exchanged_left (at_least y x) (at_least_left y x q p)
+  failing_left SignedGe = exchanged_left (greater y x) (greater_left y x q p)
+  failing_left Lt = at_least_left x y p q
+  failing_left Le = greater_left x y p q
+  failing_left SignedLt = at_least_left x y p q
+  failing_left SignedLe = greater_left x y p q
+
+  passing_left : (test : Test) → AreLeft (left test x y)
+  passing_left (Holds c) = holding_left c
+  passing_left (Fails c) = failing_left c
+
+module _ (test : Test) (w : Width) (x y : Bounds) (m n : ℕ) (h : IsMember x m) (k : IsMember y n) where
+  as_they_are : AreLeft (Some (x, y))
+  as_they_are = (least_member x m h, least_member y n k)
+
+  all_left : AreLeft (interval_refine test w x y)
+  all_left =
+      cond_both (is_single x && is_single y) (if passes test w x.lo y.lo then Some (x, y) else None) (if can_refine test w x y then left test x y else Some (x, y)) AreLeft
+      (λ e. cond_both (passes test w x.lo y.lo) (Some (x, y)) None AreLeft (λ t. as_they_are) (λ t. tt))
+      (λ e.
+      cond_both (can_refine test w x y) (left test x y) (Some (x, y)) AreLeft
+      (λ t.
+      let known = readable x y m n h k w (is_signed (condition_of test)) (condition_of test) refl t in
+      passing_left x y (omega (arith, known.first_small, modulus_fits w)) (omega (arith, known.second_small, modulus_fits w)) as_they_are test)
+      (λ t. as_they_are))
+
+  -- what is left of intervals with members has members
+  pub refine_precise : (pair : Bounds × Bounds) → interval_refine test w x y ≡ Some pair → HasMembers IsMember pair
+  refine_precise pair e = let least = subst AreLeft e all_left in record { first = pair.0.lo; second = pair.1.lo; of_first = least.0; of_second = least.1 }

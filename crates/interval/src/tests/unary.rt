@@ -10,7 +10,7 @@ fn copies_and_negations(rt: HostRuntime) {
         (UnaryOp::Mov(Width::W64), (3, L64), (3, L64)),
         (UnaryOp::Mov(Width::W32), (3, L32), (3, L32)),
         (UnaryOp::Mov(Width::W32), (3, S32), ALL_32),
-        (UnaryOp::Mov(Width::W32), (L64, L64), ALL_32),
+        (UnaryOp::Mov(Width::W32), (L64, L64), (L32, L32)),
         (UnaryOp::Neg(Width::W64), (1, 2), ALL_64),
         (UnaryOp::Neg(Width::W64), (1, 1), (L64, L64)),
         (UnaryOp::Neg(Width::W64), (0, 0), (0, 0)),

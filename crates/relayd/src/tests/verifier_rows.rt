@@ -5,7 +5,7 @@ ghost use Rattle.insn.specs.Encoding.{slot_count};
 ghost use Rattle.insn.specs.declared.decoding.TheConstants.{MAX_SLOTS};
 
 use super::{FIFTH_BYTE, FIFTH_BYTE_CHECKED, FOURTH_BYTE, Verified};
-use insn::{Condition, Insn, Operand, Reg, Width};
+use insn::{Condition, Insn, Operand, Reg, Size, Width};
 use semantics::Reason;
 use std::marker::Brand;
 use std::sync::ledger::{Blank, Ledger};
@@ -468,16 +468,14 @@ pub static REPEATED: [Repeated; 5] = [
         line: "refused E3\n",
         status: 1,
     },
-    // `mov r0, 0`, and 30 times `jeq r0, 0, +1` over another. One step stands before the first jump, and the one
-    // that would pass 100,000 is the 100,000th from there on: the `mov` behind the last jump, on the path that
-    // takes the 15th, 21st, 25th and 28th.
+    // `mov r0, 0`, and 30 times `jeq r0, 0, +1` over another: each jump is always taken, and one path is followed
     Repeated {
         head: "b700000000000000",
         body: "1500010000000000 b700000000000000",
         times: 30,
         tail: "9500000000000000",
-        line: "refused V17 at 60\n",
-        status: 1,
+        line: "accepted 62 instructions\n",
+        status: 0,
     },
     // `jset r5, 1, +1` over `mov r0, 0`, on a byte that was read. 15 times it is 98,302 steps, and 8 for the rest.
     Repeated {
@@ -566,7 +564,34 @@ fn verified(rt: &HostRuntime, code: &[Insn], budget: usize) -> Result<usize, Ref
 
 #[test]
 fn the_budget_counts_steps_on_every_path(rt: HostRuntime) {
-    // `mov r0, 0`, `jeq r0, 0, +0`, `exit`: four steps, two of them the exit
+    // `ldxdw r2, [r1+0]`, `ldxb r0, [r2-1]`, `jeq r0, 0, +0`, `exit`: five steps, two of them the exit
+    let load = |size, dst, base, offset| Insn::Load {
+        size,
+        dst,
+        base,
+        offset,
+    };
+    let jump = Insn::JumpIf {
+        width: Width::W64,
+        condition: Condition::Eq,
+        dst: Reg::R0,
+        operand: Operand::Imm(0),
+        offset: 0,
+    };
+    let code = [
+        load(Size::Double, Reg::R2, Reg::R1, 0),
+        load(Size::Byte, Reg::R0, Reg::R2, -1),
+        jump,
+        Insn::Exit,
+    ];
+    assert_eq!(rt; verified(&rt, &code, 5), Ok(4));
+    assert_eq!(rt; verified(&rt, &code, 4), Err(Refusal::Budget { slot: 3 }));
+    assert_eq!(rt; verified(&rt, &code, 0), Err(Refusal::Budget { slot: 0 }));
+}
+
+#[test]
+fn a_branch_that_cannot_be_taken_costs_no_step(rt: HostRuntime) {
+    // `mov r0, 0`, `jeq r0, 0, +0`, `exit`: three steps, since the jump is always taken
     let (dst, operand) = (Reg::R0, Operand::Imm(0));
     let code = [
         Insn::Mov {
@@ -583,7 +608,6 @@ fn the_budget_counts_steps_on_every_path(rt: HostRuntime) {
         },
         Insn::Exit,
     ];
-    assert_eq!(rt; verified(&rt, &code, 4), Ok(3));
-    assert_eq!(rt; verified(&rt, &code, 3), Err(Refusal::Budget { slot: 2 }));
-    assert_eq!(rt; verified(&rt, &code, 0), Err(Refusal::Budget { slot: 0 }));
+    assert_eq!(rt; verified(&rt, &code, 3), Ok(3));
+    assert_eq!(rt; verified(&rt, &code, 2), Err(Refusal::Budget { slot: 2 }));
 }

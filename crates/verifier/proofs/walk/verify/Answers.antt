@@ -1,43 +1,7 @@
-use Rattle.std.proofs.Common.{◌≡◌, ◌≤◌, ℕ, List, Result, Ok, Err, inl, inr, sym, ◌∙◌, subst, rules}
-use Rattle.std.proofs.lemmas.Result.{err_from_is_err_and}
-use Rattle.insn.specs.Encoding.{slot_count}
-use Rattle.insn.specs.declared.instruction.Insn.{Insn}
-use Rattle.insn.specs.declared.decoding.TheConstants.{MAX_SLOTS}
-use Rattle.semantics.specs.Runs.{IsSafe}
-use Rattle.semantics.specs.declared.reason.Reason.{Reason}
-use Rattle.verifier.specs.Layout.{IsLaidOut, IsLayoutFault}
-use Rattle.verifier.proofs.Verdicts.{layout_verdict}
+use Rattle.interval.specs.Intervals.{IsMember, interval_ops}
+use Rattle.interval.specs.IntervalLaws.{interval_precise}
+use Rattle.verifier.proofs.Verdicts.{real_verdict}
 use Rattle.verifier.proofs.walk.verify.Goals as goal
 
-pub returns-in_err-check_layout-clause-verdict : goal.returns-in_err-check_layout-clause-verdict
-returns-in_err-check_layout-clause-verdict g c =
-    let p = err_from_is_err_and c.from_residual.result c.from_residual.ensures.1 in
-    rw (p.1, p.2) (layout_verdict c.args.code.now c.args.budget c.in_err-check_layout.field-0.0 c.in_err-check_layout.ensures.err)
-
--- what is laid out has no fault of its layout
-no_fault : (code : List Insn) (reason : Reason) (slot : ℕ) → IsLaidOut code → IsLayoutFault code reason slot → ⊥
-no_fault code reason slot laid_out (inl fault) = let bad : ◌≡◌ {A = Result (Unit {0}) Reason} (Ok tt) (Err reason) = sym (laid_out.jumps slot) ∙ fault.faulty in absurd cc
-no_fault code reason slot laid_out (inr fault) = absurd (fault.no_exit laid_out.exit)
-
-pub returns-clause-code : goal.returns-clause-code
-returns-clause-code g c = search rules
-
-pub invariant_of-result : goal.invariant_of-result
-invariant_of-result g c =
-    let is : c.in_ok-program.program ≡ c.args.code.now = returns-clause-code g c in
-    let safe : IsSafe c.in_ok-program.program = search rules in
-    record { safe = safe; few = subst (λ (code : List Insn). slot_count code ≤ MAX_SLOTS) (sym is) c.requires }
-
 pub returns-clause-verdict : goal.returns-clause-verdict
-returns-clause-verdict g c =
-    let is : c.in_ok-program.program ≡ c.args.code.now = returns-clause-code g c in
-    let safe : IsSafe c.in_ok-program.program = search rules in
-    record {
-      safe = subst IsSafe is safe;
-      laid_out = c.in_ok-check_layout.ensures.ok;
-      layout = λ reason slot fault. absurd (no_fault c.args.code.now reason slot c.in_ok-check_layout.ensures.ok fault);
-      refused = tt;
-    }
-
-pub returns-clause-counts : goal.returns-clause-counts
-returns-clause-counts g c = record { bound = c.walk.ensures.counts.bound; budget_made = tt }
+returns-clause-verdict g c = real_verdict interval_ops IsMember interval_precise c.args.code.now c.args.budget c.verify_with.result c.verify_with.ensures.verdict

@@ -5,5 +5,5 @@ use Rattle.verifier.proofs.walk.walk.Given as goal
 abbrev pub invariant-loop : goal.invariant-loop
 invariant-loop g l = record {
   count : l.steps ≡ l.initial.steps + l.counter;
-  walking : IsWalking l.program l.counter l.here l.pending.items;
+  walking : IsWalking g.D.Domain.ops g.D.Domain.Member g.met.D.Domain.laws l.program l.counter l.here l.pending.items;
 }

@@ -1,0 +1,5 @@
+use Rattle.std.proofs.Common.{rules}
+use Rattle.absstate.proofs.abstract_step.alu_step.Goals as goal
+
+pub returns : goal.returns
+returns g c = search rules

@@ -1,0 +1,8 @@
+use Rattle.std.proofs.Common.{rules}
+use Rattle.absstate.proofs.branching.with_operands.Goals as goal
+
+pub returns-in-Imm : goal.returns-in-Imm
+returns-in-Imm g c = search rules
+
+pub returns-in-Reg : goal.returns-in-Reg
+returns-in-Reg g c = search rules

@@ -1,0 +1,52 @@
+-- The abstract state at a slot of a path: what the verifier knows of each machine state that can be there. Its numbers
+-- are those of a domain D.
+use Rattle.std.specs.Prelude.{ℕ, zero, suc, ◌/◌, ◌%◌, ◌^◌, Bool, true, ◌&&◌, ◌==◌, ℤ, pos, int_lt, List, [], ◌∷◌, Option, Some, None, slice_index_or, slice_set, if◌then◌else◌}
+use Rattle.insn.specs.Register.{number_of}
+use Rattle.insn.specs.declared.register.Reg.{Reg}
+use Rattle.absstate.specs.declared.abstract_state.AbstractValue.{AbstractValue}
+use Rattle.absstate.specs.declared.abstract_state.AbstractValue.TheVariants.{Nothing, Ctx, Stack}
+use Rattle.absstate.specs.declared.abstract_state.Anchor.{Anchor}
+use Rattle.absstate.specs.declared.abstract_state.Anchor.TheVariants.{First}
+use Rattle.absstate.specs.declared.abstract_state.Marks.{Marks}
+use Rattle.absstate.specs.declared.abstract_state.AbsState.{AbsState}
+
+abbrev pub abstract_at : {D : Type 0} → List (AbstractValue D) → Reg → AbstractValue D
+abstract_at registers r = slice_index_or registers (number_of r) Nothing
+
+-- no stack byte is set
+abbrev pub no_marks : Marks
+no_marks = record { words = 0 ∷ 0 ∷ 0 ∷ 0 ∷ 0 ∷ 0 ∷ 0 ∷ 0 ∷ [] }
+
+-- whether a stack byte is set, by its index from the first one: a bit of eight words
+abbrev pub is_marked : Marks → ℕ → Bool
+is_marked m i = (slice_index_or m.words (i / 64) 0 / 2 ^ (i % 64)) % 2 == 1
+
+-- whether n bytes from an index on are set
+abbrev pub are_marked : Marks → ℕ → ℕ → Bool
+are_marked m i zero = true
+are_marked m i (suc n) = is_marked m i && are_marked m (suc i) n
+
+-- before the first instruction r1 holds the context and r10 the end of the stack
+abbrev pub first_state : {D : Type 0} → AbsState D
+first_state = record {
+  registers = Nothing ∷ Ctx ∷ Nothing ∷ Nothing ∷ Nothing ∷ Nothing ∷ Nothing ∷ Nothing ∷ Nothing ∷ Nothing ∷ Stack (pos 0) ∷ [];
+  marks = no_marks;
+  proved = pos 0;
+}
+
+-- how far from an anchor on the datagram is proved to reach
+abbrev pub proved_of : {D : Type 0} → AbsState D → Anchor → ℤ
+proved_of a First = a.proved
+
+-- the state with a register written
+abbrev pub with_value : {D : Type 0} → AbsState D → Reg → AbstractValue D → AbsState D
+with_value a r k = record a { registers = slice_set a.registers (number_of r) k }
+
+-- the state in which the datagram has at least n bytes
+abbrev pub with_length : {D : Type 0} → AbsState D → ℤ → AbsState D
+with_length a n = record a { proved = if int_lt a.proved n then n else a.proved }
+
+-- a least length, where a branch implies one
+abbrev pub with_least : {D : Type 0} → AbsState D → Option ℤ → AbsState D
+with_least a None = a
+with_least a (Some n) = with_length a n

@@ -1,0 +1,7 @@
+pub mod AbstractStates
+pub mod AbstractSteps
+pub mod Membership
+pub mod MemberSteps
+pub mod Successors
+pub mod StepReasons
+pub mod StepLaws

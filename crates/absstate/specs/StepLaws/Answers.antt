@@ -1,0 +1,218 @@
+-- An accepted step has as many successors as its instruction, and a refused one a reason of the steps.
+use Rattle.std.proofs.Common.{◌≡◌, ℕ, Bool, true, false, Result, Ok, Err, refl}
+use Rattle.std.specs.Prelude.{ℤ, pos, negsuc, ◌==◌, if◌then◌else◌, Option, Some, None, ◌+ℤ◌, IfOk, IfErr}
+use Rattle.std.specs.Option.{ok_or}
+use Rattle.insn.specs.Codes.{byte_count, unsigned_size}
+use Rattle.insn.specs.declared.register.Reg.{Reg}
+use Rattle.insn.specs.declared.register.Reg.TheVariants as reg
+use Rattle.insn.specs.declared.width.Width.{Width}
+use Rattle.insn.specs.declared.width.Width.TheVariants.{W32, W64}
+use Rattle.insn.specs.declared.operator.AluOp.{AluOp}
+use Rattle.insn.specs.declared.operator.UnaryOp.{UnaryOp}
+use Rattle.insn.specs.declared.operator.UnaryOp.TheVariants.{Mov, Neg, SignExtend, Swap}
+use Rattle.insn.specs.declared.condition.Condition.{Condition}
+use Rattle.insn.specs.declared.size.Size.{Size}
+use Rattle.insn.specs.declared.size.Size.TheVariants as size
+use Rattle.insn.specs.declared.instruction.Operand.{Operand}
+use Rattle.insn.specs.declared.instruction.Operand.TheVariants as operand
+use Rattle.insn.specs.declared.instruction.Insn.{Insn}
+use Rattle.insn.specs.declared.instruction.Insn.TheVariants as insn
+use Rattle.semantics.specs.Fallible.{◌>>=◌, check}
+use Rattle.semantics.specs.Loading.{is_within, index_within, stack_first, headroom_first}
+use Rattle.semantics.specs.Effects.{is_writable, writable}
+use Rattle.semantics.specs.LooseRuns.{Bound, data_bound, exchanged}
+use Rattle.semantics.specs.declared.fetching.Branch.{Branch}
+use Rattle.semantics.specs.declared.limits.TheConstants.{TAILROOM}
+use Rattle.semantics.specs.declared.reason.Reason.{Reason}
+use Rattle.semantics.specs.declared.reason.Reason.TheVariants as reasons
+use Rattle.interval.specs.Domains.{Operations}
+use Rattle.absstate.specs.AbstractStates.{abstract_at, are_marked, proved_of}
+use Rattle.absstate.specs.AbstractSteps as abstract
+use Rattle.absstate.specs.StepReasons.{IsStepReason}
+use Rattle.absstate.specs.Successors.{One, Two, successors_of, successors_in}
+use Rattle.absstate.specs.declared.abstract_state.AbsState.{AbsState}
+use Rattle.absstate.specs.declared.abstract_state.Marks.{Marks}
+use Rattle.absstate.specs.declared.abstract_state.Anchor.TheVariants.{First}
+use Rattle.absstate.specs.declared.abstract_state.AbstractValue.{AbstractValue}
+use Rattle.absstate.specs.declared.abstract_state.AbstractValue.TheVariants as known
+use Rattle.absstate.specs.declared.abstract_step.Next.{Next}
+
+-- ---- accepted steps
+
+every : {A B : Type 0} (P : B → Type 0) (x : Result A Reason) (f : A → Result B Reason) → ((v : A) → IfOk (f v) P) → IfOk (x >>= f) P
+every P (Ok v) f h = h v
+every P (Err e) f h = tt
+
+faults : {A B : Type 0} (P : Reason → Type 0) (x : Result A Reason) (f : A → Result B Reason) → IfErr x P → ((v : A) → IfErr (f v) P) → IfErr (x >>= f) P
+faults P (Ok v) f h g = g v
+faults P (Err e) f h g = h
+
+module _ {D : Type 0} (ops : Operations D) where
+  HasOne : Next D → Type 0
+  HasOne answer = successors_in answer ≡ One
+
+  HasTwo : Next D → Type 0
+  HasTwo answer = successors_in answer ≡ Two
+
+  goes_straight : (a : AbsState D) (dst : Reg) (known : Result (AbstractValue D) Reason) → IfOk (abstract.written a dst known) HasOne
+  unfolding HasOne
+  goes_straight a dst known = every HasOne (writable dst) _ (λ u. every HasOne known _ (λ k. refl))
+
+  unary_straight : (a : AbsState D) (op : UnaryOp) (dst : Reg) (o : Operand) → IfOk (abstract.unary_step ops a op dst o) HasOne
+  unary_straight a op dst o = every HasOne (abstract.operand_abstract ops a o) _ (λ x. goes_straight a dst (abstract.unary_result ops op x))
+
+  load_straight : (a : AbsState D) (loaded : AbstractValue D → Result (AbstractValue D) Reason) (dst base : Reg) → IfOk (abstract.loaded_step a loaded dst base) HasOne
+  load_straight a loaded dst base = every HasOne (abstract.read a base) _ (λ x. goes_straight a dst (loaded x))
+
+  places_forks : (a : AbsState D) (w : Width) (c : Condition) (x y : AbstractValue D) → IfOk (abstract.places_fork a w c x y) HasTwo
+  unfolding HasTwo
+  places_forks a w c x y = every HasTwo (abstract.places_compared w c x y) _ (λ t. refl)
+
+  forks : (a : AbsState D) (w : Width) (c : Condition) (dst : Reg) (o : Operand) (x y : AbstractValue D) → IfOk (abstract.fork ops a w c dst o x y) HasTwo
+  unfolding HasTwo
+  forks a w c dst o (known.Scalar x) (known.Scalar y) = refl
+  forks a w c dst o x y = places_forks a w c x y
+
+  exits : (k : AbstractValue D) → IfOk (abstract.exit_with k) (λ (answer : Next D). successors_in answer ≡ successors_of insn.Exit)
+  exits (known.Scalar n) = refl
+  exits k = tt
+
+  -- an accepted step has the successors of its instruction
+  pub step_successors : (a : AbsState D) (i : Insn) → IfOk (abstract.step ops a i) (λ answer. successors_in answer ≡ successors_of i)
+  unfolding HasOne HasTwo
+  step_successors a (insn.Alu w op dst o) = every HasOne (abstract.read a dst) _ (λ x. every HasOne (abstract.operand_abstract ops a o) _ (λ y. goes_straight a dst (abstract.alu_result ops op w x y)))
+  step_successors a (insn.Mov w dst o) = unary_straight a (Mov w) dst o
+  step_successors a (insn.Neg w dst) = unary_straight a (Neg w) dst (operand.Reg dst)
+  step_successors a (insn.SignExtend e dst src) = unary_straight a (SignExtend e) dst (operand.Reg src)
+  step_successors a (insn.Swap op z dst) = unary_straight a (Swap op z) dst (operand.Reg dst)
+  step_successors a (insn.Jump offset) = refl
+  step_successors a (insn.LongJump offset) = refl
+  step_successors a (insn.JumpIf w c dst o offset) = every HasTwo (abstract.read a dst) _ (λ x. every HasTwo (abstract.operand_abstract ops a o) _ (λ y. forks a w c dst o x y))
+  step_successors a (insn.Load z dst base d) = load_straight a (λ pointer. abstract.load ops a pointer d z) dst base
+  step_successors a (insn.LoadSigned z dst base d) = load_straight a (λ pointer. abstract.load_signed ops a pointer d z) dst base
+  step_successors a (insn.LoadImm dst value) = goes_straight a dst (Ok (known.Scalar (ops.exact value)))
+  step_successors a insn.Exit = every (λ (answer : Next D). successors_in answer ≡ successors_of insn.Exit) (abstract.read a reg.R0) _ exits
+
+  -- ---- refused steps
+
+  checked : (b : Bool) (r : Reason) → IsStepReason r → IfErr (check b r) IsStepReason
+  checked true r h = tt
+  checked false r h = h
+
+  found : {X : Type 0} (o : Option X) (r : Reason) → IsStepReason r → IfErr (ok_or o r) IsStepReason
+  found None r h = h
+  found (Some x) r h = tt
+
+  held_reasons : (k : AbstractValue D) → IfErr (abstract.held k) IsStepReason
+  held_reasons known.Nothing = tt
+  held_reasons k = tt
+
+  operand_reasons : (a : AbsState D) (o : Operand) → IfErr (abstract.operand_abstract ops a o) IsStepReason
+  operand_reasons a (operand.Reg r) = held_reasons (abstract_at a.registers r)
+  operand_reasons a (operand.Imm n) = tt
+
+  moved_reasons : (kind : ℤ → AbstractValue D) (o : Option ℤ) → IfErr (abstract.moved kind o) IsStepReason
+  moved_reasons kind None = tt
+  moved_reasons kind (Some place) = tt
+
+  alu_reasons : (op : AluOp) (w : Width) (x y : AbstractValue D) → IfErr (abstract.alu_result ops op w x y) IsStepReason
+  alu_reasons op w (known.Scalar m) (known.Scalar n) = tt
+  alu_reasons op w (known.Data anchor k) (known.Scalar n) = moved_reasons (known.Data anchor) (abstract.moved_by op w k (abstract.single_of ops n))
+  alu_reasons op w (known.Stack k) (known.Scalar n) = moved_reasons known.Stack (abstract.moved_by op w k (abstract.single_of ops n))
+  alu_reasons op w x y = tt
+
+  one_reasons : (op : UnaryOp) (x : AbstractValue D) → IfErr (abstract.number_of_one ops op x) IsStepReason
+  one_reasons op (known.Scalar m) = tt
+  one_reasons op x = tt
+
+  unary_reasons : (op : UnaryOp) (x : AbstractValue D) → IfErr (abstract.unary_result ops op x) IsStepReason
+  unary_reasons (Mov W64) x = tt
+  unary_reasons (Mov W32) x = one_reasons (Mov W32) x
+  unary_reasons (Neg w) x = one_reasons (Neg w) x
+  unary_reasons (SignExtend e) x = one_reasons (SignExtend e) x
+  unary_reasons (Swap op z) x = one_reasons (Swap op z) x
+
+  order_reasons : (c : Condition) (bound : Branch → Option Bound) → IfErr (abstract.order_implies c bound) IsStepReason
+  order_reasons c bound = faults IsStepReason (check (abstract.is_order c) reasons.PointerCompare) _ (checked (abstract.is_order c) reasons.PointerCompare tt) (λ u. tt)
+
+  compared_reasons : (w : Width) (c : Condition) (x y : AbstractValue D) → IfErr (abstract.places_compared w c x y) IsStepReason
+  compared_reasons w c (known.Scalar x) y = tt
+  compared_reasons W64 c (known.Data First k) known.End = order_reasons c (data_bound c k)
+  compared_reasons W64 c known.End (known.Data First k) = order_reasons c (data_bound (exchanged c) k)
+  compared_reasons w c x y = tt
+
+  places_reasons : (a : AbsState D) (w : Width) (c : Condition) (x y : AbstractValue D) → IfErr (abstract.places_fork a w c x y) IsStepReason
+  places_reasons a w c x y = faults IsStepReason (abstract.places_compared w c x y) _ (compared_reasons w c x y) (λ t. tt)
+
+  fork_reasons : (a : AbsState D) (w : Width) (c : Condition) (dst : Reg) (o : Operand) (x y : AbstractValue D) → IfErr (abstract.fork ops a w c dst o x y) IsStepReason
+  fork_reasons a w c dst o (known.Scalar x) (known.Scalar y) = tt
+  fork_reasons a w c dst o x y = places_reasons a w c x y
+
+  field_reason : (b b' : Bool) (x y : AbstractValue D) → IfErr (if b then Ok x else (if b' then Ok y else Err reasons.ContextAccess)) IsStepReason
+  field_reason true b' x y = tt
+  field_reason false true x y = tt
+  field_reason false false x y = tt
+
+  field_reasons : (d : ℤ) (z : Size) → IfErr (abstract.field {D = D} d z) IsStepReason
+  field_reasons (pos n) size.Double = field_reason (n == 0) (n == 8) (known.Data First (pos 0)) known.End
+  field_reasons (pos n) z = tt
+  field_reasons (negsuc n) z = tt
+
+  stack_reasons : (m : Marks) (place : ℤ) (n : ℕ) → IfErr (abstract.stack_readable m place n) IsStepReason
+  stack_reasons m place n =
+      faults IsStepReason (ok_or (index_within place n stack_first stack_first (pos 0)) reasons.StackBounds) _ (found (index_within place n stack_first stack_first (pos 0)) reasons.StackBounds tt)
+      (λ i. checked (are_marked m i n) reasons.UninitStack tt)
+
+  readable_reasons : (a : AbsState D) (x : AbstractValue D) (d : ℤ) (n : ℕ) → IfErr (abstract.readable a x d n) IsStepReason
+  readable_reasons a known.Nothing d n = tt
+  readable_reasons a (known.Scalar m) d n = tt
+  readable_reasons a known.Ctx d n = tt
+  readable_reasons a (known.Stack k) d n = stack_reasons a.marks (k +ℤ d) n
+  readable_reasons a (known.Data anchor k) d n = checked (is_within (k +ℤ d) n headroom_first (proved_of a anchor)) reasons.DatagramBounds tt
+  readable_reasons a known.End d n = checked (is_within (pos 0 +ℤ d) n (pos 0) (pos TAILROOM)) reasons.DatagramBounds tt
+
+  number_reasons : (a : AbsState D) (x : AbstractValue D) (d : ℤ) (n : ℕ) (number : D) → IfErr (abstract.load_number a x d n number) IsStepReason
+  number_reasons a x d n number = faults IsStepReason (abstract.readable a x d n) _ (readable_reasons a x d n) (λ u. tt)
+
+  load_reasons : (a : AbsState D) (x : AbstractValue D) (d : ℤ) (z : Size) → IfErr (abstract.load ops a x d z) IsStepReason
+  load_reasons a known.Ctx d z = field_reasons d z
+  load_reasons a known.Nothing d z = number_reasons a known.Nothing d (byte_count z) (abstract.number_of_size ops z)
+  load_reasons a (known.Scalar n) d z = number_reasons a (known.Scalar n) d (byte_count z) (abstract.number_of_size ops z)
+  load_reasons a (known.Stack k) d z = number_reasons a (known.Stack k) d (byte_count z) (abstract.number_of_size ops z)
+  load_reasons a (known.Data anchor k) d z = number_reasons a (known.Data anchor k) d (byte_count z) (abstract.number_of_size ops z)
+  load_reasons a known.End d z = number_reasons a known.End d (byte_count z) (abstract.number_of_size ops z)
+
+  exit_reasons : (k : AbstractValue D) → IfErr (abstract.exit_with k) IsStepReason
+  exit_reasons (known.Scalar n) = tt
+  exit_reasons k = tt
+
+  may_write : (r : Reg) → IfErr (writable r) IsStepReason
+  may_write r = checked (is_writable r) reasons.WritesFramePointer tt
+
+  written_reasons : (a : AbsState D) (dst : Reg) (known : Result (AbstractValue D) Reason) → IfErr known IsStepReason → IfErr (abstract.written a dst known) IsStepReason
+  written_reasons a dst known h = faults IsStepReason (writable dst) _ (may_write dst) (λ u. faults IsStepReason known _ h (λ k. tt))
+
+  one_step_reasons : (a : AbsState D) (op : UnaryOp) (dst : Reg) (o : Operand) → IfErr (abstract.unary_step ops a op dst o) IsStepReason
+  one_step_reasons a op dst o = faults IsStepReason (abstract.operand_abstract ops a o) _ (operand_reasons a o) (λ x. written_reasons a dst (abstract.unary_result ops op x) (unary_reasons op x))
+
+  load_step_reasons : (a : AbsState D) (loaded : AbstractValue D → Result (AbstractValue D) Reason) (dst base : Reg) → ((x : AbstractValue D) → IfErr (loaded x) IsStepReason) → IfErr (abstract.loaded_step a loaded dst base) IsStepReason
+  load_step_reasons a loaded dst base h = faults IsStepReason (abstract.read a base) _ (held_reasons (abstract_at a.registers base)) (λ x. written_reasons a dst (loaded x) (h x))
+
+  -- a refused step has one of the reasons of steps
+  pub step_reasons : (a : AbsState D) (i : Insn) → IfErr (abstract.step ops a i) IsStepReason
+  step_reasons a (insn.Alu w op dst o) =
+      faults IsStepReason (abstract.read a dst) _ (held_reasons (abstract_at a.registers dst)) (λ x. faults IsStepReason (abstract.operand_abstract ops a o) _ (operand_reasons a o)
+      (λ y. written_reasons a dst (abstract.alu_result ops op w x y) (alu_reasons op w x y)))
+  step_reasons a (insn.Mov w dst o) = one_step_reasons a (Mov w) dst o
+  step_reasons a (insn.Neg w dst) = one_step_reasons a (Neg w) dst (operand.Reg dst)
+  step_reasons a (insn.SignExtend e dst src) = one_step_reasons a (SignExtend e) dst (operand.Reg src)
+  step_reasons a (insn.Swap op z dst) = one_step_reasons a (Swap op z) dst (operand.Reg dst)
+  step_reasons a (insn.Jump offset) = tt
+  step_reasons a (insn.LongJump offset) = tt
+  step_reasons a (insn.JumpIf w c dst o offset) =
+      faults IsStepReason (abstract.read a dst) _ (held_reasons (abstract_at a.registers dst)) (λ x. faults IsStepReason (abstract.operand_abstract ops a o) _ (operand_reasons a o)
+      (λ y. fork_reasons a w c dst o x y))
+  step_reasons a (insn.Load z dst base d) = load_step_reasons a (λ pointer. abstract.load ops a pointer d z) dst base (λ x. load_reasons a x d z)
+  step_reasons a (insn.LoadSigned z dst base d) = load_step_reasons a (λ pointer. abstract.load_signed ops a pointer d z) dst base (λ x. number_reasons a x d (byte_count (unsigned_size z)) ops.top)
+  step_reasons a (insn.LoadImm dst value) = written_reasons a dst (Ok (known.Scalar (ops.exact value))) tt
+  step_reasons a insn.Exit = faults IsStepReason (abstract.read a reg.R0) _ (held_reasons (abstract_at a.registers reg.R0)) exit_reasons

@@ -1,0 +1,242 @@
+//! The abstract step. Its tests come in the order of the tagged machine.
+
+ghost use Rattle.std.specs.Prelude.{◌≡◌, ◌≤◌};
+ghost use Rattle.std.specs.Option.{ok_or};
+ghost use Rattle.insn.specs.Encoding.{Fits};
+ghost use Rattle.absstate.specs.AbstractSteps.{read, operand_abstract, single_of, moved_by, alu_result, unary_result, written, alu_step, unary_step, exit_step, step};
+ghost use Rattle.semantics.specs.declared.reason.Reason.TheVariants.{PointerArithmetic};
+
+use crate::abstract_state::{AbsState, AbstractValue};
+use crate::branching::branch_step;
+use crate::loading::{load_signed_step, load_step};
+use insn::{AluOp, Insn, Operand, Reg, UnaryOp, Width, extended};
+use interval::{Bounds, Domain};
+use semantics::{Reason, moved_place, writable};
+use std::alloc::AllocError;
+
+/// The states behind an accepted step.
+#[derive(Debug, PartialEq, Eq)]
+pub enum Next<D> {
+    /// The one state that follows.
+    On(AbsState<D>),
+    /// The states of the two branches of a conditional jump, `None` for a branch that can't be taken.
+    Fork {
+        not_taken: Option<AbsState<D>>,
+        taken: Option<AbsState<D>>,
+    },
+    /// The end of the program.
+    Exit,
+}
+
+impl<D: Copy> Clone for Next<D> {
+    fn clone(&self) -> Result<Self, AllocError> {
+        Ok(*self)
+    }
+}
+
+impl<D: Copy> Copy for Next<D> {}
+
+/// Returns the value of a register that is read.
+pub(crate) fn read<D: Copy>(state: &AbsState<D>, reg: Reg) -> Result<AbstractValue<D>, Reason>
+    ensures { result ≡ read state.now reg }
+{
+    match state.registers[reg.number() as usize] {
+        AbstractValue::Nothing => Err(Reason::UninitRegister),
+        known => Ok(known),
+    }
+}
+
+/// Returns the value of an operand.
+pub(crate) fn operand_abstract<D: Domain>(
+    state: &AbsState<D>,
+    operand: Operand,
+) -> Result<AbstractValue<D>, Reason>
+    ensures { result ≡ operand_abstract D.ops state.now operand }
+{
+    match operand {
+        Operand::Reg(reg) => read(state, reg),
+        Operand::Imm(n) => Ok(AbstractValue::Scalar(D::exact(extended(n)))),
+    }
+}
+
+/// Returns the one number within the bounds of an abstract number, if there is one alone.
+fn single_of<D: Domain>(number: D) -> Option<u64>
+    ensures { result ≡ single_of D.ops number }
+{
+    let Bounds { lo, hi } = number.bounds();
+    if lo == hi { Some(lo) } else { None }
+}
+
+/// Moves an offset by a single number.
+///
+/// # Errors
+/// `PointerArithmetic` where the number isn't a single one, where the operator moves no pointer, or where it would lead
+/// too far.
+fn moved(op: AluOp, width: Width, offset: i32, by: Option<u64>) -> Result<i32, Reason>
+    ensures { result ≡ ok_or (moved_by op width offset by) PointerArithmetic }
+{
+    let by = by.ok_or(Reason::PointerArithmetic)?;
+    let place = moved_place(op, width, i64::from(offset), by).ok_or(Reason::PointerArithmetic)?;
+    Ok(place as i32)
+}
+
+fn alu_result<D: Domain>(
+    op: AluOp,
+    width: Width,
+    a: AbstractValue<D>,
+    b: AbstractValue<D>,
+) -> Result<AbstractValue<D>, Reason>
+    ensures { result ≡ alu_result D.ops op width a b }
+{
+    match (a, b) {
+        (AbstractValue::Scalar(a), AbstractValue::Scalar(b)) => Ok(AbstractValue::Scalar(D::alu(
+            op, width, a, b,
+        ))),
+        (AbstractValue::Data { anchor, offset }, AbstractValue::Scalar(b)) => {
+            let offset = moved(op, width, offset, single_of(b))?;
+            Ok(AbstractValue::Data { anchor, offset })
+        }
+        (AbstractValue::Stack(offset), AbstractValue::Scalar(b)) => {
+            let offset = moved(op, width, offset, single_of(b))?;
+            Ok(AbstractValue::Stack(offset))
+        }
+        _ => Err(Reason::PointerArithmetic),
+    }
+}
+
+fn unary_result<D: Domain>(op: UnaryOp, a: AbstractValue<D>) -> Result<AbstractValue<D>, Reason>
+    ensures { result ≡ unary_result D.ops op a }
+{
+    match (op, a) {
+        (UnaryOp::Mov(Width::W64), known) => Ok(known),
+        (op, AbstractValue::Scalar(a)) => Ok(AbstractValue::Scalar(D::unary(op, a))),
+        _ => Err(Reason::PointerArithmetic),
+    }
+}
+
+/// Returns the state with a register written, if it may be written and there is a result.
+pub(crate) fn written<D: Copy>(
+    state: &AbsState<D>,
+    dst: Reg,
+    known: Result<AbstractValue<D>, Reason>,
+) -> Result<Next<D>, Reason>
+    ensures { result ≡ written state.now dst known }
+{
+    writable(dst)?;
+    Ok(Next::On(state.with(dst, known?)))
+}
+
+fn alu_step<D: Domain>(
+    state: &AbsState<D>,
+    width: Width,
+    op: AluOp,
+    dst: Reg,
+    operand: Operand,
+) -> Result<Next<D>, Reason>
+    ensures { result ≡ alu_step D.ops state.now width op dst operand }
+{
+    let a = read(state, dst)?;
+    let b = operand_abstract(state, operand)?;
+    written(state, dst, alu_result(op, width, a, b))
+}
+
+fn unary_step<D: Domain>(
+    state: &AbsState<D>,
+    op: UnaryOp,
+    dst: Reg,
+    operand: Operand,
+) -> Result<Next<D>, Reason>
+    ensures { result ≡ unary_step D.ops state.now op dst operand }
+{
+    let a = operand_abstract(state, operand)?;
+    written(state, dst, unary_result(op, a))
+}
+
+fn exit_step<D: Copy>(state: &AbsState<D>) -> Result<Next<D>, Reason>
+    ensures { result ≡ exit_step state.now }
+{
+    match read(state, Reg::R0)? {
+        AbstractValue::Scalar(_) => Ok(Next::Exit),
+        _ => Err(Reason::ExitNotScalar),
+    }
+}
+
+/// Makes the abstract step of an instruction, by its form.
+fn step_of<D: Domain>(state: &AbsState<D>, insn: Insn) -> Result<Next<D>, Reason>
+    ensures step { result ≡ step D.ops state.now insn }
+    ensures fits { Fits insn }
+{
+    match insn {
+        Insn::Alu {
+            width,
+            op,
+            dst,
+            operand,
+        } => alu_step(state, width, op, dst, operand),
+        Insn::Mov {
+            width,
+            dst,
+            operand,
+        } => unary_step(state, UnaryOp::Mov(width), dst, operand),
+        Insn::Neg { width, dst } => {
+            unary_step(state, UnaryOp::Neg(width), dst, Operand::Reg(dst))
+        }
+        Insn::SignExtend {
+            extension,
+            dst,
+            src,
+        } => unary_step(
+            state,
+            UnaryOp::SignExtend(extension),
+            dst,
+            Operand::Reg(src),
+        ),
+        Insn::Swap { op, size, dst } => {
+            unary_step(state, UnaryOp::Swap(op, size), dst, Operand::Reg(dst))
+        }
+        Insn::Jump { .. } | Insn::LongJump { .. } => Ok(Next::On(*state)),
+        Insn::JumpIf {
+            width,
+            condition,
+            dst,
+            operand,
+            ..
+        } => branch_step(state, width, condition, dst, operand),
+        Insn::Load {
+            size,
+            dst,
+            base,
+            offset,
+        } => load_step(state, size, dst, base, offset),
+        Insn::LoadSigned {
+            size,
+            dst,
+            base,
+            offset,
+        } => load_signed_step(state, size, dst, base, offset),
+        Insn::LoadImm { dst, value } => {
+            written(state, dst, Ok(AbstractValue::Scalar(D::exact(value))))
+        }
+        Insn::Exit => exit_step(state),
+    }
+}
+
+impl<D: Domain> AbsState<D> {
+    ghost use Rattle.std.specs.Prelude.{◌≡◌, IfOk};
+    ghost use Rattle.absstate.specs.AbstractSteps.{step};
+    ghost use Rattle.absstate.specs.MemberSteps.{StepsFollow};
+
+    /// Makes the abstract step of an instruction.
+    ///
+    /// Where it is accepted, the machine's step from each member of the state isn't stuck: it exits where the answer is
+    /// `Exit`, and else leads to a member of the state behind it, of the branch that it takes.
+    ///
+    /// # Errors
+    /// The reason for which a step from a member of the state could be stuck.
+    pub fn step(&self, insn: &Insn) -> Result<Next<D>, Reason>
+        ensures step { result ≡ step D.ops self.now insn.now }
+        ensures members { IfOk result (λ next. StepsFollow D.Member self.now insn.now next) }
+    {
+        step_of(self, *insn)
+    }
+}

@@ -1,0 +1,176 @@
+//! The abstract step of a conditional jump.
+
+ghost use Rattle.std.specs.Prelude.{◌≡◌};
+ghost use Rattle.semantics.specs.LooseRuns.{data_bound, exchanged};
+ghost use Rattle.absstate.specs.AbstractSteps.{with_operands, passed, order_implies, places_compared, places_fork, fork, branch_step};
+
+use crate::abstract_state::{AbsState, AbstractValue, Anchor};
+use crate::abstract_step::{Next, operand_abstract, read};
+use insn::{Condition, Operand, Reg, Width};
+use interval::{Domain, Refined, Test};
+use semantics::Reason;
+
+/// Returns the state in which the operands of a test that was passed are what is left of them. An imm isn't changed,
+/// and of a register that is compared with itself no more is known.
+fn with_operands<D: Copy>(
+    state: &AbsState<D>,
+    dst: Reg,
+    operand: Operand,
+    left: Refined<D>,
+) -> AbsState<D>
+    ensures { result ≡ with_operands state.now dst operand (left.a, left.b) }
+{
+    let refined = state.with(dst, AbstractValue::Scalar(left.a));
+    match operand {
+        Operand::Imm(_) => refined,
+        Operand::Reg(src) if src.number() == dst.number() => *state,
+        Operand::Reg(src) => refined.with(src, AbstractValue::Scalar(left.b)),
+    }
+}
+
+/// Returns the state behind a test on two numbers that was passed, `None` where no two of them pass it.
+fn passed<D: Domain>(
+    state: &AbsState<D>,
+    test: Test,
+    width: Width,
+    dst: Reg,
+    operand: Operand,
+    a: D,
+    b: D,
+) -> Option<AbsState<D>>
+    ensures { result ≡ passed D.ops state.now test width dst operand a b }
+{
+    let left = D::refine(test, width, a, b)?;
+    Some(with_operands(state, dst, operand, left))
+}
+
+/// The least length of the datagram that each branch of a jump implies, if it implies one.
+#[derive(Clone, Copy, Debug, PartialEq, Eq)]
+pub(crate) struct Implied {
+    pub(crate) not_taken: Option<i64>,
+    pub(crate) taken: Option<i64>,
+}
+
+/// Returns what the branches of `offset CONDITION End` imply.
+fn data_implies(condition: Condition, offset: i32) -> Result<Implied, Reason>
+    ensures { result ≡ order_implies condition (data_bound condition offset) }
+{
+    let at_most = Some(i64::from(offset));
+    let below = Some(i64::from(offset) + 1);
+    match condition {
+        Condition::Gt => Ok(Implied {
+            not_taken: at_most,
+            taken: None,
+        }),
+        Condition::Ge => Ok(Implied {
+            not_taken: below,
+            taken: None,
+        }),
+        Condition::Lt => Ok(Implied {
+            not_taken: None,
+            taken: below,
+        }),
+        Condition::Le => Ok(Implied {
+            not_taken: None,
+            taken: at_most,
+        }),
+        _ => Err(Reason::PointerCompare),
+    }
+}
+
+/// Returns what the branches of `End CONDITION offset` imply.
+fn end_implies(condition: Condition, offset: i32) -> Result<Implied, Reason>
+    ensures { result ≡ order_implies condition (data_bound (exchanged condition) offset) }
+{
+    match condition {
+        Condition::Gt => data_implies(Condition::Lt, offset),
+        Condition::Ge => data_implies(Condition::Le, offset),
+        Condition::Lt => data_implies(Condition::Gt, offset),
+        Condition::Le => data_implies(Condition::Ge, offset),
+        _ => Err(Reason::PointerCompare),
+    }
+}
+
+/// Returns what the branches of a comparison of pointers imply.
+///
+/// # Errors
+/// `PointerCompare` unless a place of the datagram is compared with its end, on 64 bits and by an unsigned order.
+fn places_compared<D: Copy>(
+    width: Width,
+    condition: Condition,
+    a: AbstractValue<D>,
+    b: AbstractValue<D>,
+) -> Result<Implied, Reason>
+    ensures { result ≡ places_compared width condition a b }
+{
+    match (width, a, b) {
+        (
+            Width::W64,
+            AbstractValue::Data {
+                anchor: Anchor::First,
+                offset,
+            },
+            AbstractValue::End,
+        ) => { data_implies(condition, offset) }
+        (
+            Width::W64,
+            AbstractValue::End,
+            AbstractValue::Data {
+                anchor: Anchor::First,
+                offset,
+            },
+        ) => { end_implies(condition, offset) }
+        _ => Err(Reason::PointerCompare),
+    }
+}
+
+fn places_fork<D: Copy>(
+    state: &AbsState<D>,
+    width: Width,
+    condition: Condition,
+    a: AbstractValue<D>,
+    b: AbstractValue<D>,
+) -> Result<Next<D>, Reason>
+    ensures { result ≡ places_fork state.now width condition a b }
+{
+    let implied = places_compared(width, condition, a, b)?;
+    Ok(Next::Fork {
+        not_taken: Some(state.with_least(implied.not_taken)),
+        taken: Some(state.with_least(implied.taken)),
+    })
+}
+
+fn fork<D: Domain>(
+    state: &AbsState<D>,
+    width: Width,
+    condition: Condition,
+    dst: Reg,
+    operand: Operand,
+    a: AbstractValue<D>,
+    b: AbstractValue<D>,
+) -> Result<Next<D>, Reason>
+    ensures { result ≡ fork D.ops state.now width condition dst operand a b }
+{
+    match (a, b) {
+        (AbstractValue::Scalar(a), AbstractValue::Scalar(b)) => Ok(Next::Fork {
+            not_taken: passed(state, Test::Fails(condition), width, dst, operand, a, b),
+            taken: passed(state, Test::Holds(condition), width, dst, operand, a, b),
+        }),
+        _ => places_fork(state, width, condition, a, b),
+    }
+}
+
+/// Makes the abstract step of a conditional jump.
+pub(crate) fn branch_step<D: Domain>(
+    state: &AbsState<D>,
+    width: Width,
+    condition: Condition,
+    dst: Reg,
+    operand: Operand,
+) -> Result<Next<D>, Reason>
+    ensures { result ≡ branch_step D.ops state.now width condition dst operand }
+{
+    let a = read(state, dst)?;
+    let b = operand_abstract(state, operand)?;
+    fork(state, width, condition, dst, operand, a, b)
+}

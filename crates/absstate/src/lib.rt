@@ -1,0 +1,10 @@
+//! What the verifier knows of the machine at a slot of a path, over any numeric domain, and how a step changes it.
+#![tactic(auto)]
+
+mod abstract_state;
+mod abstract_step;
+mod branching;
+mod loading;
+
+pub use abstract_state::{AbsState, AbstractValue, Anchor, Marks};
+pub use abstract_step::Next;

@@ -1,0 +1,13 @@
+//! Tests of the crates `absstate` and `verifier`, over intervals and over a second domain.
+#![tactic(auto)]
+
+#[cfg(test)]
+mod assembly;
+#[cfg(test)]
+mod budgets;
+#[cfg(test)]
+mod known;
+#[cfg(test)]
+mod steps;
+#[cfg(test)]
+mod verdicts;
