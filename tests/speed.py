@@ -1,5 +1,8 @@
 """Prints how fast the built relayd decodes, verifies and traces. Nothing is asserted.
 
+    tests/speed.py [PROGRAM ..]
+
+The same figures are printed of each PROGRAM, an earlier build of relayd for instance, so that a slowdown is seen.
 A figure is the best of several runs, less that of the shortest program, so that the start of the process
 isn't counted.
 """
@@ -31,29 +34,28 @@ def forked(jumps):
     return CHECK + over + FIRST_BYTE + FORK * jumps + EXIT
 
 
-def best(words):
-    """Returns the shortest time of a run on these words, in seconds."""
+def best(words, relayd):
+    """Returns the shortest time of a run of relayd on these words, in seconds."""
     times = []
     for _ in range(ROUNDS):
         start = time.perf_counter()
-        status, out, _ = run(words, PROGRAM)
+        status, out, _ = run(words, relayd)
         if status:
             sys.exit(f"{words}: {out}")
         times.append(time.perf_counter() - start)
     return min(times)
 
 
-def main():
-    """Prints the figures."""
-    build()
+def print_figures(relayd):
+    """Prints the figures of a build."""
     with tempfile.TemporaryDirectory() as folder:
         path = pathlib.Path(folder) / "program.bpf"
 
         def timed(command, program):
             path.write_bytes(MOV + EXIT)
-            start = best([command, path])
+            start = best([command, path], relayd)
             path.write_bytes(program)
-            return max(best([command, path]) - start, 1e-9)
+            return max(best([command, path], relayd) - start, 1e-9)
 
         for jumps in (12, 13, 14):
             # both branches of each jump are followed to the exit
@@ -67,6 +69,14 @@ def main():
             print(f"decode and verify: {slots} slots in {taken * 1e3:.2f} ms")
             taken = timed("trace", program)
             print(f"trace: {slots} steps and their lines in {taken * 1e3:.2f} ms")
+
+
+def main():
+    """Prints the figures of the built program, and of each one that is named."""
+    build()
+    for relayd in (PROGRAM, *sys.argv[1:]):
+        print(relayd)
+        print_figures(relayd)
 
 
 if __name__ == "__main__":

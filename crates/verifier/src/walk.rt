@@ -36,7 +36,7 @@ impl<D: Copy> Clone for Pending<D> {
 
 impl<D: Copy> Copy for Pending<D> {}
 
-/// A program that `verify` accepted: every run of it exits. Only `verify` makes one.
+/// A program that was accepted: every run of it exits. Only `verify_with` makes one.
 #[derive(Drop)]
 pub struct Verified {
     program: Program,
