@@ -31,6 +31,10 @@ pub enum AbstractValue<D> {
 }
 
 impl<D: Copy> Clone for AbstractValue<D> {
+    ghost is_clone = { λ s r. r ≡ s };
+
+    ghost is_infallible = { λ _. Unit {0} };
+
     fn clone(&self) -> Result<Self, AllocError> {
         Ok(*self)
     }
@@ -86,6 +90,10 @@ pub struct AbsState<D> {
 }
 
 impl<D: Copy> Clone for AbsState<D> {
+    ghost is_clone = { λ s r. r ≡ s };
+
+    ghost is_infallible = { λ _. Unit {0} };
+
     fn clone(&self) -> Result<Self, AllocError> {
         Ok(*self)
     }

@@ -29,6 +29,10 @@ pub enum Next<D> {
 }
 
 impl<D: Copy> Clone for Next<D> {
+    ghost is_clone = { λ s r. r ≡ s };
+
+    ghost is_infallible = { λ _. Unit {0} };
+
     fn clone(&self) -> Result<Self, AllocError> {
         Ok(*self)
     }

@@ -29,6 +29,10 @@ pub struct Pending<D> {
 }
 
 impl<D: Copy> Clone for Pending<D> {
+    ghost is_clone = { λ s r. r ≡ s };
+
+    ghost is_infallible = { λ _. Unit {0} };
+
     fn clone(&self) -> Result<Self, AllocError> {
         Ok(*self)
     }
