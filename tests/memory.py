@@ -13,19 +13,21 @@ import tempfile
 from program import PROGRAM, build, finish, run
 
 MOV = bytes.fromhex("b700000000000000")
-# `jeq r0, 0, +1`
-JUMP = bytes.fromhex("1500010000000000")
+# `ldxdw r2, [r1+0]`, `ldxb r5, [r2-1]`: a byte of which nothing is known
+BYTE = bytes.fromhex("7912000000000000 7125ffff00000000")
+# `jset r5, 1, +1`
+JUMP = bytes.fromhex("4505010001000000")
 EXIT = bytes.fromhex("9500000000000000")
 # the bytes that the process may take, its code and its stack included
 LIMIT = 16 * 2**20
 # The number of jumps, and the slot of the step that would pass the budget. A jump with k jumps behind it
-# takes S(k) = 2 + 2 S(k - 1) steps, where S(-1) = 1 for the exit, and one step stands before the first jump.
-CASES = [(30, 60), (2047, 4090)]
+# takes S(k) = 2 + 2 S(k - 1) steps, where S(-1) = 1 for the exit, and three steps stand before the first jump.
+CASES = [(30, 60), (2046, 4090)]
 
 
 def over_movs(jumps):
-    """Returns `mov r0, 0`, `jumps` jumps that each skip another one, and `exit`."""
-    return MOV + (JUMP + MOV) * jumps + EXIT
+    """Returns a read byte, `mov r0, 0`, `jumps` jumps that each skip another one, and `exit`."""
+    return BYTE + MOV + (JUMP + MOV) * jumps + EXIT
 
 
 def limit_memory():
