@@ -1,5 +1,6 @@
 pub mod AbstractStates
 pub mod AbstractSteps
+pub mod Changes
 pub mod Membership
 pub mod MemberSteps
 pub mod Successors

@@ -125,32 +125,20 @@ impl<D: Copy> AbsState<D> {
         }
     }
 
-    /// Returns the state with a register written.
-    pub(crate) fn with(self, reg: Reg, known: AbstractValue<D>) -> AbsState<D>
-        ensures { result ≡ with_value self reg known }
+    /// Writes a register.
+    pub(crate) fn set(&mut self, reg: Reg, known: AbstractValue<D>)
+        ensures { self.new ≡ with_value self.old reg known }
     {
-        let mut registers = self.registers;
-        registers[reg.number() as usize] = known;
-        AbsState {
-            registers,
-            marks: self.marks,
-            proved: self.proved,
-        }
+        self.registers[reg.number() as usize] = known;
     }
 
-    /// Returns the state in which the datagram has a least length, if there is one.
-    pub(crate) fn with_least(self, least: Option<i64>) -> AbsState<D>
-        ensures { result ≡ with_least self least }
+    /// Raises the least length of the datagram to another one, if there is one.
+    pub(crate) fn set_least(&mut self, least: Option<i64>)
+        ensures { self.new ≡ with_least self.old least }
     {
-        let registers = self.registers;
-        let proved = match least {
-            Some(least) if self.proved < least => least,
-            _ => self.proved,
-        };
-        AbsState {
-            registers,
-            marks: self.marks,
-            proved,
+        match least {
+            Some(least) if self.proved < least => self.proved = least,
+            _ => {}
         }
     }
 }

@@ -4,10 +4,13 @@ ghost use Rattle.std.specs.Prelude.{◌≡◌, ◌≤◌};
 ghost use Rattle.std.specs.Option.{ok_or};
 ghost use Rattle.insn.specs.Encoding.{Fits};
 ghost use Rattle.absstate.specs.AbstractSteps.{read, operand_abstract, single_of, moved_by, alu_result, unary_result, written, alu_step, unary_step, exit_step, step};
+ghost use Rattle.absstate.specs.Changes.{answer_of};
+ghost use Rattle.absstate.specs.declared.abstract_state.AbsState.{AbsState};
 ghost use Rattle.semantics.specs.declared.reason.Reason.TheVariants.{PointerArithmetic};
 
 use crate::abstract_state::{AbsState, AbstractValue};
 use crate::branching::branch_step;
+use crate::change::{Change, Effect};
 use crate::loading::{load_signed_step, load_step};
 use insn::{AluOp, Insn, Operand, Reg, UnaryOp, Width, extended};
 use interval::{Bounds, Domain};
@@ -118,16 +121,18 @@ fn unary_result<D: Domain>(op: UnaryOp, a: AbstractValue<D>) -> Result<AbstractV
     }
 }
 
-/// Returns the state with a register written, if it may be written and there is a result.
+/// Returns the change that writes a register, if it may be written and there is a result.
 pub(crate) fn written<D: Copy>(
-    state: &AbsState<D>,
     dst: Reg,
     known: Result<AbstractValue<D>, Reason>,
-) -> Result<Next<D>, Reason>
-    ensures { result ≡ written state.now dst known }
+) -> Result<Effect<D>, Reason>
+    ensures { (a : AbsState D) → answer_of a result ≡ written a dst known }
 {
     writable(dst)?;
-    Ok(Next::On(state.with(dst, known?)))
+    Ok(Effect::On(Change::Register {
+        reg: dst,
+        known: known?,
+    }))
 }
 
 fn alu_step<D: Domain>(
@@ -136,12 +141,12 @@ fn alu_step<D: Domain>(
     op: AluOp,
     dst: Reg,
     operand: Operand,
-) -> Result<Next<D>, Reason>
-    ensures { result ≡ alu_step D.ops state.now width op dst operand }
+) -> Result<Effect<D>, Reason>
+    ensures { answer_of state.now result ≡ alu_step D.ops state.now width op dst operand }
 {
     let a = read(state, dst)?;
     let b = operand_abstract(state, operand)?;
-    written(state, dst, alu_result(op, width, a, b))
+    written(dst, alu_result(op, width, a, b))
 }
 
 fn unary_step<D: Domain>(
@@ -149,25 +154,25 @@ fn unary_step<D: Domain>(
     op: UnaryOp,
     dst: Reg,
     operand: Operand,
-) -> Result<Next<D>, Reason>
-    ensures { result ≡ unary_step D.ops state.now op dst operand }
+) -> Result<Effect<D>, Reason>
+    ensures { answer_of state.now result ≡ unary_step D.ops state.now op dst operand }
 {
     let a = operand_abstract(state, operand)?;
-    written(state, dst, unary_result(op, a))
+    written(dst, unary_result(op, a))
 }
 
-fn exit_step<D: Copy>(state: &AbsState<D>) -> Result<Next<D>, Reason>
-    ensures { result ≡ exit_step state.now }
+fn exit_step<D: Copy>(state: &AbsState<D>) -> Result<Effect<D>, Reason>
+    ensures { answer_of state.now result ≡ exit_step state.now }
 {
     match read(state, Reg::R0)? {
-        AbstractValue::Scalar(_) => Ok(Next::Exit),
+        AbstractValue::Scalar(_) => Ok(Effect::Exit),
         _ => Err(Reason::ExitNotScalar),
     }
 }
 
-/// Makes the abstract step of an instruction, by its form.
-fn step_of<D: Domain>(state: &AbsState<D>, insn: Insn) -> Result<Next<D>, Reason>
-    ensures step { result ≡ step D.ops state.now insn }
+/// Returns what the abstract step of an instruction changes, by the instruction's form.
+fn effect_of<D: Domain>(state: &AbsState<D>, insn: Insn) -> Result<Effect<D>, Reason>
+    ensures step { answer_of state.now result ≡ step D.ops state.now insn }
     ensures fits { Fits insn }
 {
     match insn {
@@ -198,7 +203,7 @@ fn step_of<D: Domain>(state: &AbsState<D>, insn: Insn) -> Result<Next<D>, Reason
         Insn::Swap { op, size, dst } => {
             unary_step(state, UnaryOp::Swap(op, size), dst, Operand::Reg(dst))
         }
-        Insn::Jump { .. } | Insn::LongJump { .. } => Ok(Next::On(*state)),
+        Insn::Jump { .. } | Insn::LongJump { .. } => Ok(Effect::On(Change::Nothing)),
         Insn::JumpIf {
             width,
             condition,
@@ -218,9 +223,7 @@ fn step_of<D: Domain>(state: &AbsState<D>, insn: Insn) -> Result<Next<D>, Reason
             base,
             offset,
         } => load_signed_step(state, size, dst, base, offset),
-        Insn::LoadImm { dst, value } => {
-            written(state, dst, Ok(AbstractValue::Scalar(D::exact(value))))
-        }
+        Insn::LoadImm { dst, value } => { written(dst, Ok(AbstractValue::Scalar(D::exact(value)))) }
         Insn::Exit => exit_step(state),
     }
 }
@@ -228,7 +231,18 @@ fn step_of<D: Domain>(state: &AbsState<D>, insn: Insn) -> Result<Next<D>, Reason
 impl<D: Domain> AbsState<D> {
     ghost use Rattle.std.specs.Prelude.{◌≡◌, IfOk};
     ghost use Rattle.absstate.specs.AbstractSteps.{step};
+    ghost use Rattle.absstate.specs.Changes.{answer_of};
     ghost use Rattle.absstate.specs.MemberSteps.{StepsFollow};
+
+    /// Returns what the abstract step of an instruction changes.
+    ///
+    /// # Errors
+    /// As [`AbsState::step`].
+    pub fn effect(&self, insn: &Insn) -> Result<Effect<D>, Reason>
+        ensures { answer_of self.now result ≡ step D.ops self.now insn.now }
+    {
+        effect_of(self, *insn)
+    }
 
     /// Makes the abstract step of an instruction.
     ///
@@ -241,6 +255,7 @@ impl<D: Domain> AbsState<D> {
         ensures step { result ≡ step D.ops self.now insn.now }
         ensures members { IfOk result (λ next. StepsFollow D.Member self.now insn.now next) }
     {
-        step_of(self, *insn)
+        let effect = effect_of(self, *insn)?;
+        Ok(self.behind(effect))
     }
 }

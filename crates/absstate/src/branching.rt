@@ -2,46 +2,46 @@
 
 ghost use Rattle.std.specs.Prelude.{◌≡◌};
 ghost use Rattle.semantics.specs.LooseRuns.{data_bound, exchanged};
+ghost use Rattle.std.specs.Option.{option_map};
+ghost use Rattle.absstate.specs.Changes.{changed, answer_of};
+ghost use Rattle.absstate.specs.declared.abstract_state.AbsState.{AbsState};
 ghost use Rattle.absstate.specs.AbstractSteps.{with_operands, passed, order_implies, places_compared, places_fork, fork, branch_step};
 
 use crate::abstract_state::{AbsState, AbstractValue, Anchor};
-use crate::abstract_step::{Next, operand_abstract, read};
+use crate::abstract_step::{operand_abstract, read};
+use crate::change::{Change, Effect};
 use insn::{Condition, Operand, Reg, Width};
 use interval::{Domain, Refined, Test};
 use semantics::Reason;
 
-/// Returns the state in which the operands of a test that was passed are what is left of them. An imm isn't changed,
+/// Returns the change by which the operands of a test that was passed become what is left of them. An imm isn't changed,
 /// and of a register that is compared with itself no more is known.
-fn with_operands<D: Copy>(
-    state: &AbsState<D>,
-    dst: Reg,
-    operand: Operand,
-    left: Refined<D>,
-) -> AbsState<D>
-    ensures { result ≡ with_operands state.now dst operand (left.a, left.b) }
+fn with_operands<D: Copy>(dst: Reg, operand: Operand, left: Refined<D>) -> Change<D>
+    ensures { (state : AbsState D) → changed state result ≡ with_operands state dst operand (left.a, left.b) }
 {
-    let refined = state.with(dst, AbstractValue::Scalar(left.a));
     match operand {
-        Operand::Imm(_) => refined,
-        Operand::Reg(src) if src.number() == dst.number() => *state,
-        Operand::Reg(src) => refined.with(src, AbstractValue::Scalar(left.b)),
+        Operand::Imm(_) => Change::Register {
+            reg: dst,
+            known: AbstractValue::Scalar(left.a),
+        },
+        Operand::Reg(src) if src.number() == dst.number() => Change::Nothing,
+        Operand::Reg(src) => Change::Numbers { dst, src, left },
     }
 }
 
-/// Returns the state behind a test on two numbers that was passed, `None` where no two of them pass it.
+/// Returns the change behind a test on two numbers that was passed, `None` where no two of them pass it.
 fn passed<D: Domain>(
-    state: &AbsState<D>,
     test: Test,
     width: Width,
     dst: Reg,
     operand: Operand,
     a: D,
     b: D,
-) -> Option<AbsState<D>>
-    ensures { result ≡ passed D.ops state.now test width dst operand a b }
+) -> Option<Change<D>>
+    ensures { (state : AbsState D) → option_map (changed state) result ≡ passed D.ops state test width dst operand a b }
 {
     let left = D::refine(test, width, a, b)?;
-    Some(with_operands(state, dst, operand, left))
+    Some(with_operands(dst, operand, left))
 }
 
 /// The least length of the datagram that each branch of a jump implies, if it implies one.
@@ -125,38 +125,36 @@ fn places_compared<D: Copy>(
 }
 
 fn places_fork<D: Copy>(
-    state: &AbsState<D>,
     width: Width,
     condition: Condition,
     a: AbstractValue<D>,
     b: AbstractValue<D>,
-) -> Result<Next<D>, Reason>
-    ensures { result ≡ places_fork state.now width condition a b }
+) -> Result<Effect<D>, Reason>
+    ensures { (state : AbsState D) → answer_of state result ≡ places_fork state width condition a b }
 {
     let implied = places_compared(width, condition, a, b)?;
-    Ok(Next::Fork {
-        not_taken: Some(state.with_least(implied.not_taken)),
-        taken: Some(state.with_least(implied.taken)),
+    Ok(Effect::Fork {
+        not_taken: Some(Change::Least(implied.not_taken)),
+        taken: Some(Change::Least(implied.taken)),
     })
 }
 
 fn fork<D: Domain>(
-    state: &AbsState<D>,
     width: Width,
     condition: Condition,
     dst: Reg,
     operand: Operand,
     a: AbstractValue<D>,
     b: AbstractValue<D>,
-) -> Result<Next<D>, Reason>
-    ensures { result ≡ fork D.ops state.now width condition dst operand a b }
+) -> Result<Effect<D>, Reason>
+    ensures { (state : AbsState D) → answer_of state result ≡ fork D.ops state width condition dst operand a b }
 {
     match (a, b) {
-        (AbstractValue::Scalar(a), AbstractValue::Scalar(b)) => Ok(Next::Fork {
-            not_taken: passed(state, Test::Fails(condition), width, dst, operand, a, b),
-            taken: passed(state, Test::Holds(condition), width, dst, operand, a, b),
+        (AbstractValue::Scalar(a), AbstractValue::Scalar(b)) => Ok(Effect::Fork {
+            not_taken: passed(Test::Fails(condition), width, dst, operand, a, b),
+            taken: passed(Test::Holds(condition), width, dst, operand, a, b),
         }),
-        _ => places_fork(state, width, condition, a, b),
+        _ => places_fork(width, condition, a, b),
     }
 }
 
@@ -167,10 +165,10 @@ pub(crate) fn branch_step<D: Domain>(
     condition: Condition,
     dst: Reg,
     operand: Operand,
-) -> Result<Next<D>, Reason>
-    ensures { result ≡ branch_step D.ops state.now width condition dst operand }
+) -> Result<Effect<D>, Reason>
+    ensures { answer_of state.now result ≡ branch_step D.ops state.now width condition dst operand }
 {
     let a = read(state, dst)?;
     let b = operand_abstract(state, operand)?;
-    fork(state, width, condition, dst, operand, a, b)
+    fork(width, condition, dst, operand, a, b)
 }

@@ -4,7 +4,9 @@
 mod abstract_state;
 mod abstract_step;
 mod branching;
+mod change;
 mod loading;
 
 pub use abstract_state::{AbsState, AbstractValue, Anchor, Marks};
 pub use abstract_step::Next;
+pub use change::{Change, Effect};

@@ -2,10 +2,12 @@
 
 ghost use Rattle.std.specs.Prelude.{◌≡◌, ◌≤◌, ◌+ℤ◌};
 ghost use Rattle.insn.specs.Codes.{byte_count, unsigned_size};
+ghost use Rattle.absstate.specs.Changes.{answer_of};
 ghost use Rattle.absstate.specs.AbstractSteps.{field, stack_readable, bytes_readable, readable, load_number, number_of_size, load, load_signed, load_step, load_signed_step};
 
 use crate::abstract_state::{AbsState, AbstractValue, Anchor, Marks};
-use crate::abstract_step::{Next, read, written};
+use crate::abstract_step::{read, written};
+use crate::change::Effect;
 use insn::{Reg, SignedSize, Size};
 use interval::Domain;
 use semantics::{HEADROOM_FIRST, Reason, TAILROOM, index_in_stack, is_within};
@@ -144,11 +146,11 @@ pub(crate) fn load_step<D: Domain>(
     dst: Reg,
     base: Reg,
     displacement: i16,
-) -> Result<Next<D>, Reason>
-    ensures { result ≡ load_step D.ops state.now size dst base displacement }
+) -> Result<Effect<D>, Reason>
+    ensures { answer_of state.now result ≡ load_step D.ops state.now size dst base displacement }
 {
     let pointer = read(state, base)?;
-    written(state, dst, load(state, pointer, displacement, size))
+    written(dst, load(state, pointer, displacement, size))
 }
 
 /// Makes the abstract step of a load that extends the sign.
@@ -158,15 +160,11 @@ pub(crate) fn load_signed_step<D: Domain>(
     dst: Reg,
     base: Reg,
     displacement: i16,
-) -> Result<Next<D>, Reason>
-    ensures { result ≡ load_signed_step D.ops state.now size dst base displacement }
+) -> Result<Effect<D>, Reason>
+    ensures { answer_of state.now result ≡ load_signed_step D.ops state.now size dst base displacement }
 {
     let pointer = read(state, base)?;
     let n = size.unsigned().bytes();
     let number = D::top();
-    written(
-        state,
-        dst,
-        load_number(state, pointer, displacement, n, number),
-    )
+    written(dst, load_number(state, pointer, displacement, n, number))
 }

@@ -33,17 +33,6 @@ state_align a = max (value_align a) 8
 abbrev pub state_size : ℕ → ℕ → ℕ
 state_size a s = up (state_align a) (up 8 (up 8 (up (value_align a) 0 + 11 * value_size a s) + 64) + 8)
 
-abbrev pub option_align : ℕ → ℕ
-option_align a = max 1 (max (max (state_align a) 1) 1)
-
-abbrev pub option_size : ℕ → ℕ → ℕ
-option_size a s = up (option_align a) (max 1 (max (up (state_align a) 1 + state_size a s) 1))
-
-abbrev pub next_size : ℕ → ℕ → ℕ
-next_size a s =
-    up (max (max (state_align a) 1) (max (max (option_align a) (max (option_align a) 1)) 1))
-    (max (up (state_align a) 1 + state_size a s) (max (up (option_align a) (up (option_align a) 1 + option_size a s) + option_size a s) 1))
-
 abbrev pub pending_size : ℕ → ℕ → ℕ
 pending_size a s = up (max 8 (max (state_align a) 1)) (up (state_align a) 8 + state_size a s)
 
@@ -63,22 +52,6 @@ module _ (a s : ℕ) (aligned : a ≤ 16) (small : s ≤ 65536) where
         up_le (value_align a) 0,
       )
 
-  option_small : option_size a s ≤ 1100000
-  option_small = omega (arith, state_small, aligned, up_le (option_align a) (max 1 (max (up (state_align a) 1 + state_size a s) 1)), up_le (state_align a) 1)
-
-  next_small : next_size a s < 2 ^ 63
-  next_small =
-      omega (
-        arith,
-        state_small,
-        option_small,
-        aligned,
-        up_le (max (max (state_align a) 1) (max (max (option_align a) (max (option_align a) 1)) 1)) (max (up (state_align a) 1 + state_size a s) (max (up (option_align a) (up (option_align a) 1 + option_size a s) + option_size a s) 1)),
-        up_le (state_align a) 1,
-        up_le (option_align a) (up (option_align a) 1 + option_size a s),
-        up_le (option_align a) 1,
-      )
-
   pending_small : pending_size a s < 2 ^ 63
   pending_small = omega (arith, state_small, aligned, up_le (max 8 (max (state_align a) 1)) (up (state_align a) 8 + state_size a s), up_le (state_align a) 8)
 
@@ -86,9 +59,6 @@ module _ (a s : ℕ) (aligned : a ≤ 16) (small : s ≤ 65536) where
 module _ (t : Ty) (small : size t ≤ 65536) where
   pub state_fits : state_size (align t) (size t) < 2 ^ 63
   state_fits = omega (arith, state_small (align t) (size t) (small_alignment t) small)
-
-  pub next_fits : next_size (align t) (size t) < 2 ^ 63
-  next_fits = next_small (align t) (size t) (small_alignment t) small
 
   pub pending_fits : pending_size (align t) (size t) < 2 ^ 63
   pending_fits = pending_small (align t) (size t) (small_alignment t) small

@@ -1,5 +1,5 @@
 -- The walk over all paths: how it goes on from a step, and the refusals of a step.
-use Rattle.std.specs.Prelude.{◌≡◌, ℕ, List, [], ◌∷◌, ◌++◌, Option, Some, None, Ok, Err}
+use Rattle.std.specs.Prelude.{◌≡◌, ℕ, Bool, true, false, List, [], ◌∷◌, ◌++◌, Option, Some, None, Ok, Err}
 use Rattle.insn.specs.Encoding.{Fits}
 use Rattle.insn.specs.declared.instruction.Insn.{Insn}
 use Rattle.semantics.specs.Slots.{fetch}
@@ -26,6 +26,11 @@ IsInside code p = StartsAt code p.slot
 pub record LeadsTo {D : Type 0} (code : List Insn) (here : ℕ) (i : Insn) (branch : Branch) (state : AbsState D) (p : Pending D) : Type 0 where
   pub leads : branch_slot code here i branch ≡ Ok p.slot
   pub state_is : p.state ≡ state
+
+-- a pending state, where the path goes on
+abbrev pub followed : {D : Type 0} → Bool → Pending D → Option (Pending D)
+followed true p = Some p
+followed false p = None
 
 -- the state of a branch, if that can be taken, is followed next
 abbrev pub IsNext : {D : Type 0} → List Insn → ℕ → Insn → Branch → Option (AbsState D) → Option (Pending D) → Type 0

@@ -1,19 +1,21 @@
 //! The walk: every path is followed from the first slot, the branch that is not taken first.
 
 ghost use Rattle.std.specs.Prelude.{◌≡◌, ◌≤◌, ◌<◌, Ok, IfOk, IfErr, OnOk, IsOk};
+ghost use Rattle.std.specs.Option.{option_map};
 ghost use Rattle.insn.specs.Encoding.{slot_count};
 ghost use Rattle.insn.specs.declared.decoding.TheConstants.{MAX_SLOTS};
 ghost use Rattle.semantics.specs.Runs.{IsSafe};
 ghost use Rattle.semantics.specs.Flow.{branch_slot};
+ghost use Rattle.absstate.specs.Changes.{changed};
 ghost use Rattle.verifier.specs.Layout.{IsLaidOut};
 ghost use Rattle.verifier.specs.Refusing.{MayRefuseOver, IsVerdict, IsVerdictOver, CountsSteps};
-ghost use Rattle.verifier.specs.Walk.{IsStepRefusal, IsInside, IsNext, IsOutOfMemory, Leaves, Advances, Picks};
+ghost use Rattle.verifier.specs.Walk.{IsStepRefusal, IsInside, IsNext, IsOutOfMemory, Leaves, Advances, Picks, followed};
 ghost use Rattle.semantics.specs.declared.fetching.Branch.TheVariants.{NotTaken, Taken};
 
 use crate::layout::check_layout;
 use crate::refusal::Refusal;
 use crate::steps::Steps;
-use absstate::{AbsState, Next};
+use absstate::{AbsState, Change, Effect};
 use insn::Insn;
 use interval::{Domain, Interval};
 use semantics::{Branch, Fetched, Program};
@@ -92,85 +94,97 @@ fn slot_after(program: &Program, slot: usize, insn: Insn, branch: Branch) -> usi
     }
 }
 
-/// Returns the state of the branch not taken, at the slot that it leads to, if that branch can be taken.
-fn behind<D: Copy>(
+/// Goes on by the branch not taken, if that can be taken: changes the state to that of the branch, at the slot that it
+/// leads to. Returns whether it can.
+fn go_on<D: Copy>(
     program: &Program,
-    slot: usize,
     insn: Insn,
-    state: Option<AbsState<D>>,
-) -> Option<Pending<D>>
+    change: Option<Change<D>>,
+    here: &mut Pending<D>,
+) -> bool
     requires few { slot_count program.now ≤ MAX_SLOTS }
-    requires inside { slot < slot_count program.now }
-    requires good { IsOk (branch_slot program.now slot insn NotTaken) }
-    ensures { IsNext program.now slot insn NotTaken state result }
+    requires inside { here.old.slot < slot_count program.now }
+    requires good { IsOk (branch_slot program.now here.old.slot insn NotTaken) }
+    ensures { IsNext program.now here.old.slot insn NotTaken (option_map (changed here.old.state) change) (followed result here.new) }
 {
-    let state = state?;
-    let slot = slot_after(program, slot, insn, Branch::NotTaken);
-    Some(Pending { slot, state })
+    let Some(change) = change else {
+        return false;
+    };
+    here.state.change(change);
+    here.slot = slot_after(program, here.slot, insn, Branch::NotTaken);
+    true
 }
 
 /// Leaves the state of a taken branch pending, if that branch can be taken.
 fn leave<D: Copy>(
     program: &Program,
-    slot: usize,
     insn: Insn,
-    state: Option<AbsState<D>>,
+    change: Option<Change<D>>,
+    here: &Pending<D>,
     pending: &mut Vec<Pending<D>>,
 ) -> Result<(), Refusal>
     requires few { slot_count program.now ≤ MAX_SLOTS }
-    requires inside { slot < slot_count program.now }
-    requires good { IsOk (branch_slot program.now slot insn Taken) }
-    ensures left { OnOk result (Leaves program.now slot insn state pending.old.items pending.new.items) }
-    ensures memory { IfErr result (IsOutOfMemory slot) }
+    requires inside { here.now.slot < slot_count program.now }
+    requires good { IsOk (branch_slot program.now here.now.slot insn Taken) }
+    ensures left { OnOk result (Leaves program.now here.now.slot insn (option_map (changed here.now.state) change) pending.old.items pending.new.items) }
+    ensures memory { IfErr result (IsOutOfMemory here.now.slot) }
 {
-    if let Some(state) = state {
-        let goal = slot_after(program, slot, insn, Branch::Taken);
-        let taken = Pending { slot: goal, state };
+    if let Some(change) = change {
+        let mut taken = *here;
+        taken.state.change(change);
+        taken.slot = slot_after(program, here.slot, insn, Branch::Taken);
         if pending.push(taken).is_err() {
-            return Err(Refusal::Memory { slot });
+            return Err(Refusal::Memory { slot: here.slot });
         }
     }
     Ok(())
 }
 
-/// Makes one step of a path, and returns the state to follow next: that of the branch not taken. The taken branch of a
-/// conditional jump is left pending.
+/// Makes one step of a path, and goes on to the state to follow next: that of the branch not taken. Returns whether there
+/// is one. The taken branch of a conditional jump is left pending.
 fn advance<D: Domain>(
     program: &Program,
-    here: Pending<D>,
+    here: &mut Pending<D>,
     pending: &mut Vec<Pending<D>>,
-) -> Result<Option<Pending<D>>, Refusal>
+) -> Result<bool, Refusal>
     requires few { slot_count program.now ≤ MAX_SLOTS }
     requires laid_out { IsLaidOut program.now }
-    requires inside { IsInside program.now here }
-    ensures advanced { IfOk result (λ next. Advances D.ops program.now here pending.old.items next pending.new.items) }
-    ensures refused { IfErr result (IsStepRefusal D.ops program.now here) }
+    requires inside { IsInside program.now here.old }
+    ensures advanced { IfOk result (λ on. Advances D.ops program.now here.old pending.old.items (followed on here.new) pending.new.items) }
+    ensures refused { IfErr result (IsStepRefusal D.ops program.now here.old) }
 {
     let slot = here.slot;
     let Fetched::Begins(insn) = program.fetch(slot) else {
         unreachable!()
     };
-    let next = here
+    let effect = here
         .state
-        .step(&insn)
+        .effect(&insn)
         .map_err(|reason| Refusal::Stuck { reason, slot })?;
-    match next {
-        Next::Exit => Ok(None),
-        Next::On(state) => Ok(behind(program, slot, insn, Some(state))),
-        Next::Fork { not_taken, taken } => {
-            leave(program, slot, insn, taken, pending)?;
-            Ok(behind(program, slot, insn, not_taken))
+    match effect {
+        Effect::Exit => Ok(false),
+        Effect::On(change) => Ok(go_on(program, insn, Some(change), here)),
+        Effect::Fork { not_taken, taken } => {
+            leave(program, insn, taken, here, pending)?;
+            Ok(go_on(program, insn, not_taken, here))
         }
     }
 }
 
-/// Returns the state to follow next: that of the current path, or, after its end, the last pending one.
-fn following<D: Copy>(next: Option<Pending<D>>, pending: &mut Vec<Pending<D>>) -> Option<Pending<D>>
-    ensures { Picks next pending.old.items result pending.new.items }
+/// Goes on to the state to follow next: that of the current path, or, after its end, the last pending one. Returns
+/// whether there is one.
+fn follow<D: Copy>(on: bool, here: &mut Pending<D>, pending: &mut Vec<Pending<D>>) -> bool
+    ensures { Picks (followed on here.old) pending.old.items (followed result here.new) pending.new.items }
 {
-    match next {
-        Some(next) => Some(next),
-        None => pending.pop(),
+    if on {
+        return true;
+    }
+    match pending.pop() {
+        Some(last) => {
+            *here = last;
+            true
+        }
+        None => false,
     }
 }
 
@@ -197,10 +211,9 @@ fn walk<D: Domain, L: Ledger>(
     };
     for _ in 0..budget {
         steps.tick();
-        let next = advance(program, here, &mut pending)?;
-        match following(next, &mut pending) {
-            Some(next) => here = next,
-            None => return Ok(()),
+        let on = advance(program, &mut here, &mut pending)?;
+        if !follow(on, &mut here, &mut pending) {
+            return Ok(());
         }
     }
     Err(Refusal::Budget { slot: here.slot })
