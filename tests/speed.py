@@ -58,8 +58,8 @@ def print_figures(relayd):
             return max(best([command, path], relayd) - start, 1e-9)
 
         for jumps in (12, 13, 14):
-            # both branches of each jump are followed to the exit
-            steps = 6 * 2**jumps
+            # both branches of each jump are followed to the exit: behind the first 6 steps, each jump doubles 3
+            steps = 3 * 2**jumps + 6
             taken = timed("verify", forked(jumps))
             rate = steps / taken / 1e6
             print(f"verify: about {steps} abstract steps, {rate:.1f} million a second")

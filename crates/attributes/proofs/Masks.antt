@@ -32,6 +32,11 @@ masked_back n value mask number ip long fit number_is ip_is small =
     ∙ ap (big_bytes n) number_is
     ∙ bytes_back n (drop 4 value) (omega (arith, long, length-drop 4 value)) (all_fit (drop 4 value) (fit_behind 4 value fit))
 
+-- they are the bytes behind the first four, masked
+pub masked_is : (n : ℕ) (value : List ℕ) (mask number : ℕ) (ip : List ℕ) → number ≡ big_number n (drop 4 value) → ip ≡ bytes_high_first n (bit_xor number mask) → ip ≡ masked n (drop 4 value) mask
+unfolding masked
+masked_is n value mask number ip number_is ip_is = ip_is ∙ ap (λ (y : ℕ). big_bytes n (bit_xor y mask)) number_is
+
 pub below : (n : ℕ) (value : List ℕ) (number : ℕ) → ((i : ℕ) → Fits w8 (get_or value i 0)) → number ≡ big_number n (drop 4 value) → number < 256 ^ n
 below n value number fit is = subst (λ (k : ℕ). k < 256 ^ n) (sym is) (big_from-lt 0 n (drop 4 value) (λ i. (fit_behind 4 value fit i).fits))
 

@@ -1,5 +1,5 @@
 -- The values of XOR addresses (RFC 8489, section 14.2).
-use Rattle.std.specs.Prelude.{◌≡◌, ℕ, ◌/◌, ◌<◌, List, ◌∷◌, ◌++◌, length, slice_index, bit_xor}
+use Rattle.std.specs.Prelude.{◌≡◌, ℕ, ◌/◌, ◌<◌, Bool, ◌&&◌, List, ◌∷◌, ◌++◌, length, drop, slice_index, bit_xor, nat_eq, Option, Some, None, if◌then◌else◌}
 use Rattle.stun.specs.Endian.{big_bytes, big_number}
 use Rattle.stun.specs.Registry.{magic_cookie}
 use Rattle.stun.specs.declared.registry.family.TheConstants.{IPV4, IPV6}
@@ -30,6 +30,15 @@ abbrev pub IsAddress : Addr → Type 0
 IsAddress (V4 ip port) = HasWidth 4 ip port
 IsAddress (V6 ip port) = HasWidth 16 ip port
 
+-- the bytes of the IP address, and the port
+abbrev pub ip_of : Addr → List ℕ
+ip_of (V4 ip port) = ip
+ip_of (V6 ip port) = ip
+
+abbrev pub port_of : Addr → ℕ
+port_of (V4 ip port) = port
+port_of (V6 ip port) = port
+
 -- behind the first byte: the family, the port xored with half the cookie, and the address xored with the cookie, for
 -- IPv6 with the transaction id behind it
 abbrev pub address_tail : Addr → List ℕ → List ℕ
@@ -41,6 +50,20 @@ pub record IsAddressValue (address : Addr) (transaction_id value : List ℕ) : T
   pub fits : IsAddress address
   pub first : ℕ
   pub spelled : value ≡ first ∷ address_tail address transaction_id
+
+-- whether a value has this length and this family
+abbrev pub has_family : ℕ → ℕ → List ℕ → Bool
+has_family size family value = nat_eq (length value) size && nat_eq (slice_index value 1) family
+
+abbrev pub port_in : List ℕ → ℕ
+port_in value = bit_xor (big_number 2 (drop 2 value)) cookie_half
+
+-- the address of a value, if it has one
+abbrev pub address_in : List ℕ → List ℕ → Option Addr
+address_in transaction_id value =
+    if has_family 8 IPV4 value then Some (V4 (masked 4 (drop 4 value) magic_cookie) (port_in value))
+    else if has_family 20 IPV6 value then Some (V6 (masked 16 (drop 4 value) (ipv6_mask transaction_id)) (port_in value))
+    else None
 
 -- it is written as zero
 unfoldable pub address_value : Addr → List ℕ → List ℕ

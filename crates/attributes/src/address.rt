@@ -1,11 +1,12 @@
 //! Transport addresses (RFC 8489, section 14.2).
 
 ghost use Rattle.std.specs.Prelude.{◌≡◌, ℕ, List, ◌<◌, ◌+◌, slice_index, ◌≤◌, ◌∷◌, ◌++◌, length, take, drop, IfOk, IfErr, IsOkAnd, OnOk, OnErr, bit_xor};
+ghost use Rattle.std.specs.Result.{result_ok};
 ghost use Rattle.stun.specs.Endian.{big_bytes};
 ghost use Rattle.stun.specs.Builders.{used_of, room_of, SameBuffer, Appends, HasNoRoom};
 ghost use Rattle.stun.specs.Registry.{magic_cookie};
 ghost use Rattle.stun.specs.declared.registry.family.TheConstants.{IPV4, IPV6};
-ghost use Rattle.attributes.specs.Addresses.{HasWidth, IsAddress, IsAddressValue, address_value, value_in, cookie_half, ipv6_mask, masked};
+ghost use Rattle.attributes.specs.Addresses.{HasWidth, IsAddress, IsAddressValue, address_value, address_in, port_in, value_in, cookie_half, ipv6_mask, masked};
 ghost use Rattle.attributes.specs.declared.address.Addr as addr;
 ghost use Rattle.attributes.specs.declared.refusal.ValueKind.TheVariants as kinds;
 
@@ -20,6 +21,40 @@ use stun::{Builder, NoRoom};
 pub enum Addr {
     V4 { ip: [u8; 4], port: u16 },
     V6 { ip: [u8; 16], port: u16 },
+}
+
+impl Addr {
+    ghost use Rattle.std.specs.Prelude.{◌≡◌};
+    ghost use Rattle.attributes.specs.Addresses.{ip_of, port_of};
+
+    /// Returns the bytes of the IP address: 4 of IPv4, 16 of IPv6.
+    pub fn ip(&self) -> &[u8]
+        ensures { result.now ≡ ip_of self.now }
+    {
+        match self {
+            Addr::V4 { ip, .. } => ip,
+            Addr::V6 { ip, .. } => ip,
+        }
+    }
+
+    /// Returns the port.
+    pub fn port(&self) -> u16
+        ensures { result ≡ port_of self.now }
+    {
+        match self {
+            Addr::V4 { port, .. } | Addr::V6 { port, .. } => *port,
+        }
+    }
+}
+
+impl Default for Addr {
+    /// Returns the unspecified address of IPv4, 0.0.0.0, with the port 0.
+    fn default() -> Self {
+        Addr::V4 {
+            ip: [0; 4],
+            port: 0,
+        }
+    }
 }
 
 impl fmt::Display for Addr {
@@ -64,7 +99,8 @@ fn ipv6_mask(tx: &[u8; 12]) -> u128
 /// Returns the port in the value of an address.
 fn port_in(value: &[u8]) -> u16
     requires { 8 ≤ length value.now }
-    ensures { big_bytes 2 (bit_xor result cookie_half) ≡ take 2 (drop 2 value.now) }
+    ensures spelled { big_bytes 2 (bit_xor result cookie_half) ≡ take 2 (drop 2 value.now) }
+    ensures port { result ≡ port_in value.now }
 {
     let (_, rest) = value.split_at(2);
     BigEndian::read_u16(rest) ^ COOKIE_HALF
@@ -73,7 +109,8 @@ fn port_in(value: &[u8]) -> u16
 /// Returns the IPv4 address in a value.
 fn ipv4_in(value: &[u8]) -> [u8; 4]
     requires { 8 ≤ length value.now }
-    ensures { masked 4 result magic_cookie ≡ take 4 (drop 4 value.now) }
+    ensures spelled { masked 4 result magic_cookie ≡ take 4 (drop 4 value.now) }
+    ensures ip { result ≡ masked 4 (drop 4 value.now) magic_cookie }
 {
     let (_, rest) = value.split_at(4);
     (BigEndian::read_u32(rest) ^ MAGIC_COOKIE).to_be_bytes()
@@ -82,7 +119,8 @@ fn ipv4_in(value: &[u8]) -> [u8; 4]
 /// Returns the IPv6 address in a value.
 fn ipv6_in(value: &[u8], tx: &[u8; 12]) -> [u8; 16]
     requires { 20 ≤ length value.now }
-    ensures { masked 16 result (ipv6_mask tx.now) ≡ take 16 (drop 4 value.now) }
+    ensures spelled { masked 16 result (ipv6_mask tx.now) ≡ take 16 (drop 4 value.now) }
+    ensures ip { result ≡ masked 16 (drop 4 value.now) (ipv6_mask tx.now) }
 {
     let (_, rest) = value.split_at(4);
     (BigEndian::read_u128(rest) ^ ipv6_mask(tx)).to_be_bytes()
@@ -94,6 +132,7 @@ fn ipv6_in(value: &[u8], tx: &[u8; 12]) -> [u8; 16]
 /// # Errors
 /// Returns A1 for a value that has neither 8 bytes and the family of IPv4 nor 20 bytes and that of IPv6.
 pub fn read_xor_addr(value: &[u8], tx: &[u8; 12]) -> Result<Addr, BadValue>
+    ensures reads { result_ok result ≡ address_in tx.now value.now }
     ensures found { IfOk result (λ a. IsAddressValue a tx.now value.now) }
     ensures kind { IfErr result (λ e. e.0 ≡ kinds.Address) }
     ensures refused { IfErr result (λ e. (a : addr.Addr) → IsAddressValue a tx.now value.now → ⊥) }

@@ -2,7 +2,8 @@
 
 ghost use Rattle.std.specs.Prelude.{◌≡◌, ℕ, List, ◌<◌, ◌^◌, IfOk, IfErr};
 ghost use Rattle.stun.specs.Endian.{big_bytes};
-ghost use Rattle.attributes.specs.Values.{IsNumberValue};
+ghost use Rattle.std.specs.Result.{result_ok};
+ghost use Rattle.attributes.specs.Values.{IsNumberValue, number_in};
 ghost use Rattle.attributes.specs.declared.refusal.ValueKind.TheVariants as kinds;
 
 use crate::refusal::{BadValue, ValueKind};
@@ -17,6 +18,7 @@ const LENGTH: usize = 4;
 /// Returns A1 for a value of another length.
 #[tactic(auto, using(crate::proofs::Numbers::number_read))]
 pub fn lifetime(value: &[u8]) -> Result<u32, BadValue>
+    ensures reads { result_ok result ≡ number_in 4 value.now }
     ensures found { IfOk result (λ n. IsNumberValue 4 n value.now) }
     ensures refused { IfErr result (λ e. (n : ℕ) → IsNumberValue 4 n value.now → ⊥) }
     ensures kind { IfErr result (λ e. e.0 ≡ kinds.Lifetime) }
@@ -35,6 +37,7 @@ pub fn lifetime(value: &[u8]) -> Result<u32, BadValue>
 /// Returns A1 for a value of another length.
 #[tactic(auto, using(crate::proofs::Numbers::number_read))]
 pub fn channel_number(value: &[u8]) -> Result<u16, BadValue>
+    ensures reads { result_ok result ≡ number_in 2 value.now }
     ensures found { IfOk result (λ n. IsNumberValue 2 n value.now) }
     ensures refused { IfErr result (λ e. (n : ℕ) → IsNumberValue 2 n value.now → ⊥) }
     ensures kind { IfErr result (λ e. e.0 ≡ kinds.ChannelNumber) }
@@ -53,6 +56,7 @@ pub fn channel_number(value: &[u8]) -> Result<u16, BadValue>
 /// Returns A1 for a value of another length.
 #[tactic(auto, using(crate::proofs::Numbers::first_read))]
 pub fn requested_transport(value: &[u8]) -> Result<u8, BadValue>
+    ensures reads { result_ok result ≡ number_in 1 value.now }
     ensures found { IfOk result (λ n. IsNumberValue 1 n value.now) }
     ensures refused { IfErr result (λ e. (n : ℕ) → IsNumberValue 1 n value.now → ⊥) }
     ensures kind { IfErr result (λ e. e.0 ≡ kinds.RequestedTransport) }
@@ -71,6 +75,7 @@ pub fn requested_transport(value: &[u8]) -> Result<u8, BadValue>
 /// Returns A1 for a value of another length.
 #[tactic(auto, using(crate::proofs::Numbers::first_read))]
 pub fn requested_family(value: &[u8]) -> Result<u8, BadValue>
+    ensures reads { result_ok result ≡ number_in 1 value.now }
     ensures found { IfOk result (λ n. IsNumberValue 1 n value.now) }
     ensures refused { IfErr result (λ e. (n : ℕ) → IsNumberValue 1 n value.now → ⊥) }
     ensures kind { IfErr result (λ e. e.0 ≡ kinds.RequestedFamily) }

@@ -1,0 +1,159 @@
+-- Addresses that are read one after the other, and those of them that differ.
+use Rattle.std.proofs.Common.{◌≡◌, ℕ, ◌<◌, ◌≤◌, ◌⊎◌, inl, inr, Bool, true, false, cond, ◌&&◌, ◌||◌, List, [], ◌∷◌, ◌++◌, length, nat_le, bytes_eq, filter_map, Option, Some, None, Result, Ok, Err, sym, ap, ◌∙◌, subst, refl, arith, append_assoc, append-nil}
+use Rattle.std.specs.List.{list_all, list_any, cons_option}
+use Rattle.std.specs.FinMap.{len}
+use Rattle.std.proofs.lemmas.Bool.{cases_Bool, both_ways, leb-true}
+use Rattle.std.proofs.lemmas.Bool.Decides.{leb_tells}
+use Rattle.std.proofs.lemmas.Option.{none-some, same_Some}
+use Rattle.std.proofs.lemmas.Slice.Eq.{bytes_eq-Decides}
+use Rattle.std.proofs.lemmas.List.{length-append}
+use Rattle.stun.specs.declared.registry.ErrorCode.{ErrorCode}
+use Rattle.stun.specs.declared.registry.ErrorCode.TheVariants.{BadRequest}
+use Rattle.attributes.specs.Addresses.{ip_of, address_in}
+use Rattle.attributes.specs.declared.address.Addr.{Addr}
+use Rattle.tables.specs.Permissions.{PermissionMap, with_all}
+use Rattle.tables.specs.PermitLaws.{HasIp, AreDistinct, permitted_again, permitted_many, distinct_push, StandsFor}
+use Rattle.tables.specs.declared.permissions.TheConstants.{MAX_PERMISSIONS}
+use Rattle.control.specs.Control.{◌>>=◌, both, addresses_in, some_addresses}
+use Rattle.control.specs.Peers.{with_peer}
+use Rattle.control.specs.Values.{is_ipv4}
+use Rattle.control.specs.declared.create_permission.TheConstants.{MAX_PEERS}
+
+-- ---- whether all are of IPv4
+
+-- what was found of the addresses before, with those that are left
+abbrev pub combined : Option Bool → Option (List Addr) → Result Bool ErrorCode
+combined found None = Err BadRequest
+combined None (Some []) = Err BadRequest
+combined None (Some (a ∷ rest)) = Ok (list_all is_ipv4 (a ∷ rest))
+combined (Some b) (Some rest) = Ok (b && list_all is_ipv4 rest)
+
+abbrev pub all_ipv4 : Option (List Addr) → Result Bool ErrorCode
+all_ipv4 peers = some_addresses peers >>= (λ peers. Ok (list_all is_ipv4 peers))
+
+pub at_first : (peers : Option (List Addr)) → combined None peers ≡ all_ipv4 peers
+at_first None = refl
+at_first (Some []) = refl
+at_first (Some (a ∷ rest)) = refl
+
+regrouped : (a b c : Bool) → ((a && b) && c) ≡ (a && (b && c))
+regrouped true b c = refl
+regrouped false b c = refl
+
+abbrev pub found_with : Option Bool → Addr → Bool
+found_with None a = true && is_ipv4 a
+found_with (Some b) a = b && is_ipv4 a
+
+pub one_more : (found : Option Bool) (a : Addr) (rest : Option (List Addr)) → combined (Some (found_with found a)) rest ≡ combined found (both (Some a) rest)
+one_more None a None = refl
+one_more (Some b) a None = refl
+one_more None a (Some rest) = refl
+one_more (Some b) a (Some rest) = ap Ok (regrouped b (is_ipv4 a) (list_all is_ipv4 rest))
+
+-- ---- those that differ
+
+is_there : (peer : Addr) (peers : List Addr) → list_any (λ known. bytes_eq (ip_of known) (ip_of peer)) peers ≡ true → HasIp (ip_of peer) peers
+is_there peer [] e = absurd (both_ways false refl e)
+is_there peer (x ∷ xs) e = elim (cases_Bool (bytes_eq (ip_of x) (ip_of peer))) [
+  | inl same ↦ inl (sym ((bytes_eq-Decides (ip_of x) (ip_of peer)).0 same))
+  | inr other ↦ inr (is_there peer xs (sym (ap (λ b. b || list_any (λ known. bytes_eq (ip_of known) (ip_of peer)) xs) other) ∙ e))
+]
+
+is_new : (peer : Addr) (peers : List Addr) → list_any (λ known. bytes_eq (ip_of known) (ip_of peer)) peers ≡ false → HasIp (ip_of peer) peers → ⊥
+is_new peer [] e there = there
+is_new peer (x ∷ xs) e (inl same) = both_ways false refl (sym e ∙ ap (λ b. b || list_any (λ known. bytes_eq (ip_of known) (ip_of peer)) xs) ((bytes_eq-Decides (ip_of x) (ip_of peer)).1 (sym same)))
+is_new peer (x ∷ xs) e (inr there) = elim (cases_Bool (bytes_eq (ip_of x) (ip_of peer))) [
+  | inl same ↦ both_ways false refl (sym e ∙ ap (λ b. b || list_any (λ known. bytes_eq (ip_of known) (ip_of peer)) xs) same)
+  | inr other ↦ is_new peer xs (sym (ap (λ b. b || list_any (λ known. bytes_eq (ip_of known) (ip_of peer)) xs) other) ∙ e) there
+]
+
+-- the addresses that were collected, before those that are left, stand for all; or there are too many
+pub record Collected (peers left all : List Addr) : Type 0 where
+  pub distinct : AreDistinct peers
+  pub few : length peers ≤ MAX_PEERS
+  pub stands : (m : PermissionMap) (end : ℕ) → (with_all m (peers ++ left) end ≡ with_all m all end) ⊎ ((length peers ≡ MAX_PEERS) × (MAX_PERMISSIONS < len (with_all m all end)))
+
+pub collected_first : (all : List Addr) → Collected [] all all
+collected_first all = record { distinct = tt; few = omega arith; stands = λ m end. inl refl }
+
+-- an address whose IP address was collected before
+collected_again : (peers : List Addr) (a : Addr) (left all : List Addr) → Collected peers (a ∷ left) all → HasIp (ip_of a) peers → Collected peers left all
+collected_again peers a left all c there = record {
+  distinct = c.distinct;
+  few = c.few;
+  stands = λ m end. elim (c.stands m end) [
+    | inl same ↦ inl (sym (permitted_again m peers a left end there) ∙ same)
+    | inr many ↦ inr many
+  ];
+}
+
+-- one where there is no room left
+collected_enough : (peers : List Addr) (a : Addr) (left all : List Addr) → Collected peers (a ∷ left) all → length peers ≡ MAX_PEERS → Collected peers left all
+collected_enough peers a left all c full = record {
+  distinct = c.distinct;
+  few = c.few;
+  stands = λ m end. elim (c.stands m end) [
+    | inl same ↦ inr (full, omega (arith, full, permitted_many m peers (a ∷ left) end c.distinct, ap len same))
+    | inr many ↦ inr many
+  ];
+}
+
+-- a new one
+collected_new : (peers : List Addr) (a : Addr) (left all : List Addr) → Collected peers (a ∷ left) all → length peers < MAX_PEERS → (HasIp (ip_of a) peers → ⊥) → Collected (peers ++ a ∷ []) left all
+collected_new peers a left all c room none = record {
+  distinct = distinct_push peers a c.distinct none;
+  few = omega (arith, room, length-append peers (a ∷ []));
+  stands = λ m end. elim (c.stands m end) [
+    | inl same ↦ inl (ap (λ (xs : List Addr). with_all m xs end) (append_assoc peers (a ∷ []) left) ∙ same)
+    | inr many ↦ absurd (omega (arith, room, many.0))
+  ];
+}
+
+under : (n k : ℕ) → nat_le n k ≡ false → k < n
+under n k f = elim (leb_tells n k) [ inl t ↦ absurd (both_ways (nat_le n k) f t.0) | inr t ↦ t.1 ]
+
+pub collected_peer : (peers : List Addr) (a : Addr) (left all : List Addr) → Collected peers (a ∷ left) all → Collected (with_peer peers a) left all
+collected_peer peers a left all c =
+    let there : Bool = list_any (λ known. bytes_eq (ip_of known) (ip_of a)) peers in
+    let full : Bool = nat_le MAX_PEERS (length peers) in
+    let P : Bool → Bool → Type 0 = λ b d. Collected (cond (b || d) peers (peers ++ a ∷ [])) left all in
+    elim (cases_Bool there) [
+      | inl e ↦ subst (λ b. P b full) (sym e) (collected_again peers a left all c (is_there a peers e))
+      | inr e ↦ subst (λ b. P b full) (sym e) (elim (cases_Bool full) [
+        | inl f ↦ subst (λ d. P false d) (sym f) (collected_enough peers a left all c (omega (arith, c.few, leb-true MAX_PEERS (length peers) f)))
+        | inr f ↦ subst (λ d. P false d) (sym f) (collected_new peers a left all c (under MAX_PEERS (length peers) f) (is_new a peers e))
+      ])
+    ]
+
+pub collected_all : (peers all : List Addr) → Collected peers [] all → StandsFor peers all
+collected_all peers all c m end = elim (c.stands m end) [
+  | inl same ↦ inl (ap (λ (xs : List Addr). with_all m xs end) (sym (append-nil peers)) ∙ same)
+  | inr many ↦ inr (omega (arith, many.0, subst (λ (xs : List Addr). length peers ≤ len (with_all m xs end)) (append-nil peers) (permitted_many m peers [] end c.distinct)), many.1)
+]
+
+-- ---- as the values are read
+
+pub collected_value : (tx : List ℕ) (peers more : List Addr) (a : Addr) (value : List ℕ) (values before : List (List ℕ)) (all : List Addr)
+    → before ≡ value ∷ values → address_in tx value ≡ Some a → more ≡ with_peer peers a
+    → Collected peers (filter_map (address_in tx) before) all → Collected more (filter_map (address_in tx) values) all
+collected_value tx peers more a value values before all first read added c =
+    let left : List Addr = filter_map (address_in tx) values in
+    let begun : filter_map (address_in tx) before ≡ a ∷ left = ap (filter_map (address_in tx)) first ∙ ap (λ o. cons_option o left) read in
+    subst (λ (xs : List Addr). Collected xs left all) (sym added) (collected_peer peers a left all (subst (λ (xs : List Addr). Collected peers xs all) begun c))
+
+pub collected_end : (tx : List ℕ) (peers : List Addr) (values : List (List ℕ)) (all : List Addr) → values ≡ [] → Collected peers (filter_map (address_in tx) values) all → StandsFor peers all
+collected_end tx peers values all none c = collected_all peers all (subst (λ (vs : List (List ℕ)). Collected peers (filter_map (address_in tx) vs) all) none c)
+
+-- ---- the addresses of a request
+
+-- all addresses of a request that are read are those that are well formed
+pub all_read : (tx : List ℕ) (values : List (List ℕ)) (peers : List Addr) → addresses_in tx values ≡ Some peers → filter_map (address_in tx) values ≡ peers
+all_read tx [] peers e = same_Some [] peers e
+all_read tx (value ∷ values) peers e =
+    elim (address_in tx value) as (λ o. both o (addresses_in tx values) ≡ Some peers → cons_option o (filter_map (address_in tx) values) ≡ peers) [
+      | None ↦ λ h. absurd (none-some peers h)
+      | Some a ↦ λ h. elim (addresses_in tx values) as (λ r. addresses_in tx values ≡ r → both (Some a) r ≡ Some peers → a ∷ filter_map (address_in tx) values ≡ peers) [
+        | None ↦ λ is k. absurd (none-some peers k)
+        | Some rest ↦ λ is k. ap (λ (xs : List Addr). a ∷ xs) (all_read tx values rest is) ∙ same_Some (a ∷ rest) peers k
+      ] refl h
+    ] e

@@ -1,0 +1,12 @@
+use Rattle.std.proofs.Common.{filter_map}
+use Rattle.attributes.specs.Addresses.{address_in}
+use Rattle.control.specs.Peers.{peers_of}
+use Rattle.control.proofs.Peers.{Collected}
+use Rattle.control.proofs.create_permission.distinct_peers.Given as goal
+
+abbrev pub invariant-loop-value : goal.invariant-loop-value
+invariant-loop-value l = record {
+  can : (goal.iterator-loop-value).can_next l.value-iterator;
+  finite : (goal.iterator-loop-value).is_finite l.value-iterator;
+  collected : Collected l.peers.items (filter_map (address_in l.message.transaction_id) l.value-iterator) (peers_of l.message);
+}

@@ -1,0 +1,38 @@
+use Rattle.std.proofs.Common.{Ok, Err, Some, None, ap, ◌∙◌, refl, string_bytes}
+use Rattle.stun.specs.Messages.{parts_bytes}
+use Rattle.credentials.specs.Checks.{names_of, user_key}
+use Rattle.tables.specs.Rows.{rows_at}
+use Rattle.control.specs.Control.{understood_and_served}
+use Rattle.control.specs.Replies.{reply_to}
+use Rattle.control.proofs.Outcomes.{rows_given, grant_given}
+use Rattle.control.proofs.responding.answer_user.Goals as goal
+
+pub returns-in-Ok-clause-answer : goal.returns-in-Ok-clause-answer
+returns-in-Ok-clause-answer c =
+    let config = c.args.config.now in
+    let p = c.args.message.now in
+    let old = c.args.tables.now in
+    let user = c.in-Ok.authenticated.user in
+    let key = user_key (string_bytes config.realm) (names_of config.users.items) user in
+    let served = understood_and_served c.args.request c.args.client user p old (rows_at c.args.now old) in
+    record {
+      checked = Ok user;
+      is_checked = c.in-Ok.ensures.found;
+      answer = record {
+        rows = rows_given served old c.serve-outcome.new.tables c.serve-outcome.result c.serve-outcome.ensures.gives;
+        bytes =
+            c.write_reply.ensures.bytes
+            ∙ ap (λ k. parts_bytes (reply_to config c.args.request c.args.client p (Some k) c.serve-outcome.result)) c.in-Ok.ensures.key
+            ∙ ap (λ result. parts_bytes (reply_to config c.args.request c.args.client p (Some key) result)) (grant_given served old c.serve-outcome.new.tables c.serve-outcome.result c.serve-outcome.ensures.gives);
+      };
+    }
+
+pub returns-in-Err-clause-answer : goal.returns-in-Err-clause-answer
+returns-in-Err-clause-answer c = record {
+  checked = Err c.in-Err.error;
+  is_checked = c.in-Err.ensures.refused;
+  answer = record {
+    rows = refl;
+    bytes = c.write_reply-in-Err.ensures.bytes ∙ ap (λ error. parts_bytes (reply_to c.args.config.now c.args.request c.args.client c.args.message.now None (Err error))) c.refused_credentials.ensures;
+  };
+}

@@ -1,0 +1,45 @@
+-- Configurations, and the first of their fields that is outside its limits.
+use Rattle.std.specs.Prelude.{ℕ, ◌+◌, Bool, true, not, ◌&&◌, List, [], ◌∷◌, length, find, ◌==◌, nat_le, bytes_eq, string_bytes, Option}
+use Rattle.std.specs.List.{list_all, list_any}
+use Rattle.credentials.specs.declared.checking.User.{User}
+use Rattle.control.specs.declared.config.Config.{Config}
+use Rattle.control.specs.declared.config.Field.{Field}
+use Rattle.control.specs.declared.config.Field.TheVariants.{FirstPort, Slots, Realm, Nonce, Users}
+
+abbrev pub is_between : ℕ → ℕ → ℕ → Bool
+is_between low high n = nat_le low n && nat_le n high
+
+-- printable bytes from the lowest on, at least one of them
+abbrev pub is_text : ℕ → ℕ → List ℕ → Bool
+is_text lowest longest text = is_between 1 longest (length text) && list_all (is_between lowest 0x7e) text
+
+-- a name has no blank, and no colon, which ends it where user and password are written as one
+abbrev pub is_name : List ℕ → Bool
+is_name name = is_text 0x21 128 name && not (list_any (λ b. b == 0x3a) name)
+
+abbrev pub is_user : User → Bool
+is_user user = is_name (string_bytes user.name) && is_text 0x20 128 (string_bytes user.password)
+
+-- whether one of these users has a name
+abbrev pub has_name : List User → List ℕ → Bool
+has_name users name = list_any (λ user. bytes_eq name (string_bytes user.name)) users
+
+-- whether no two users have one name
+abbrev pub are_distinct : List User → Bool
+are_distinct [] = true
+are_distinct (user ∷ users) = not (has_name users (string_bytes user.name)) && are_distinct users
+
+-- whether a field is within its limits
+abbrev pub is_valid : Config → Field → Bool
+is_valid c FirstPort = nat_le 1 c.first_port
+is_valid c Slots = is_between 1 256 c.slots && nat_le (c.first_port + c.slots) 0x10000
+is_valid c Realm = is_text 0x20 128 (string_bytes c.realm)
+is_valid c Nonce = is_text 0x21 64 c.nonce.bytes
+is_valid c Users = is_between 1 64 (length c.users.items) && list_all is_user c.users.items && are_distinct c.users.items
+
+-- the fields that have limits, in their order
+abbrev pub fields : List Field
+fields = FirstPort ∷ Slots ∷ Realm ∷ Nonce ∷ Users ∷ []
+
+abbrev pub fault : Config → Option Field
+fault c = find (λ field. not (is_valid c field)) fields

@@ -1,0 +1,237 @@
+-- How requests are answered: credentials, then attributes that are not understood, then the tests of the method in their
+-- order (RFC 8489, section 9.2.4; RFC 8656, sections 7, 8, 10 and 12). The first that fails gives the error.
+use Rattle.std.specs.Prelude.{◌≡◌, ℕ, ◌<◌, Bool, true, false, ◌&&◌, List, [], ◌∷◌, max, min, nat_eq, bytes_eq, Option, None, Some, Result, Ok, Err, ok_or, if◌then◌else◌}
+use Rattle.std.specs.List.{list_all}
+use Rattle.stun.specs.Attributes.{values_of}
+use Rattle.stun.specs.Messages.{Parts, message_of}
+use Rattle.stun.specs.declared.registry.attribute.TheConstants.{CHANNEL_NUMBER, LIFETIME, XOR_PEER_ADDRESS, REQUESTED_ADDRESS_FAMILY, REQUESTED_TRANSPORT}
+use Rattle.stun.specs.declared.registry.family.TheConstants.{IPV4}
+use Rattle.stun.specs.declared.registry.ErrorCode.{ErrorCode}
+use Rattle.stun.specs.declared.registry.ErrorCode.TheVariants.{BadRequest, Unauthenticated, UnknownAttribute, AllocationMismatch, StaleNonce, AddressFamilyNotSupported, WrongCredentials, UnsupportedTransport, PeerAddressFamilyMismatch, InsufficientCapacity}
+use Rattle.attributes.specs.declared.address.Addr.{Addr}
+use Rattle.attributes.specs.Addresses.{address_in}
+use Rattle.attributes.specs.Values.{number_in}
+use Rattle.credentials.specs.Checks.{value_in}
+use Rattle.credentials.specs.declared.checking.AuthError.{AuthError}
+use Rattle.credentials.specs.declared.checking.AuthError.TheVariants.{Missing, Incomplete, UnknownUser, WrongCode}
+use Rattle.credentials.specs.declared.checking.AuthError.TheVariants as auth
+use Rattle.tables.specs.Rows.{Rows}
+use Rattle.tables.specs.Channels.{is_none_or}
+use Rattle.tables.specs.Changes.{Change}
+use Rattle.tables.specs.Changes as tables
+use Rattle.tables.specs.LookUps.{allocation_of}
+use Rattle.tables.specs.declared.allocation.Allocation.{Allocation}
+use Rattle.tables.specs.declared.refusal.Refused.{Refused}
+use Rattle.tables.specs.declared.refusal.Refused.TheVariants.{Mismatch, Capacity, Conflict, NoAllocation}
+use Rattle.control.specs.Configs.{is_between}
+use Rattle.control.specs.Unknown.{unknown_types}
+use Rattle.control.specs.Values.{is_ipv4, optional, required}
+use Rattle.control.specs.declared.allocate.TheConstants.{UDP}
+use Rattle.control.specs.declared.lifetime.TheConstants.{MIN_LIFETIME, MAX_LIFETIME}
+use Rattle.control.specs.declared.reply.Grant.{Grant}
+use Rattle.control.specs.declared.reply.Grant.TheVariants.{Mapped, Allocated, Refreshed, Done}
+use Rattle.control.specs.declared.request.Request.{Request}
+use Rattle.control.specs.declared.request.Request.TheVariants as request
+
+-- what is granted, and the rows then, or the error
+abbrev pub Outcome : Type 0
+Outcome = Result (Grant × Rows) ErrorCode
+
+-- A grant comes with its rows; an error leaves the rows as they were.
+abbrev pub Gives : Outcome → Rows → Result Grant ErrorCode → Rows → Type 0
+Gives (Ok granted) old result new = (result ≡ Ok granted.0) × (new ≡ granted.1)
+Gives (Err error) old result new = (result ≡ Err error) × (new ≡ old)
+
+-- the slot of a grant is one of so many
+abbrev pub IsInside : ℕ → Grant → Type 0
+IsInside slots Mapped = Unit {0}
+IsInside slots (Allocated slot lifetime) = slot < slots
+IsInside slots (Refreshed lifetime) = Unit {0}
+IsInside slots Done = Unit {0}
+
+infixl 10 ◌>>=◌
+abbrev pub ◌>>=◌ : {A B : Type 0} → Result A ErrorCode → (A → Result B ErrorCode) → Result B ErrorCode
+(Ok x) >>= f = f x
+(Err error) >>= f = Err error
+
+-- goes on where the test passes
+abbrev pub check : Bool → ErrorCode → Result (Unit {0}) ErrorCode
+check passed error = if passed then Ok tt else Err error
+
+-- the error of a refused change
+abbrev pub error_of : Refused → ErrorCode
+error_of Mismatch = AllocationMismatch
+error_of Capacity = InsufficientCapacity
+error_of Conflict = BadRequest
+error_of NoAllocation = AllocationMismatch
+
+abbrev pub changed : {A : Type 0} → Change A → Result (A × Rows) ErrorCode
+changed (Ok made) = Ok made
+changed (Err refused) = Err (error_of refused)
+
+-- ---- values
+
+-- the lifetime that is given, in seconds, where one or none is requested
+abbrev pub lifetime_for : Option ℕ → ℕ
+lifetime_for None = MIN_LIFETIME
+lifetime_for (Some requested) = max MIN_LIFETIME (min requested MAX_LIFETIME)
+
+abbrev pub requested_lifetime : Parts → Result (Option ℕ) ErrorCode
+requested_lifetime p = optional (number_in 4) (value_in p LIFETIME)
+
+abbrev pub requested_family : Parts → Result (Option ℕ) ErrorCode
+requested_family p = optional (number_in 1) (value_in p REQUESTED_ADDRESS_FAMILY)
+
+-- ---- Allocate (RFC 8656, section 7)
+
+-- a repeated request gets the first success again
+abbrev pub is_repeated : Allocation → ℕ → Parts → Bool
+is_repeated a user p = bytes_eq a.tx p.transaction_id && nat_eq a.user user
+
+-- the lifetime to give, where all values can be granted
+abbrev pub acceptable_lifetime : Parts → Result ℕ ErrorCode
+acceptable_lifetime p = do
+  transport ← required (number_in 1) (value_in p REQUESTED_TRANSPORT)
+  _ ← check (nat_eq transport UDP) UnsupportedTransport
+  family ← requested_family p
+  _ ← check (is_none_or (nat_eq IPV4) family) AddressFamilyNotSupported
+  requested ← requested_lifetime p
+  Ok (lifetime_for requested)
+
+abbrev pub allocate_anew : Addr → ℕ → Parts → Rows → Outcome
+allocate_anew client user p rows = do
+  lifetime ← acceptable_lifetime p
+  made ← changed (tables.allocate client user p.transaction_id lifetime rows)
+  Ok (Allocated made.0 lifetime, made.1)
+
+-- where the client has an allocation, and where it has none
+abbrev pub allocate_beside : Option Allocation → Addr → ℕ → Parts → Rows → Rows → Outcome
+allocate_beside None client user p old rows = allocate_anew client user p rows
+allocate_beside (Some a) client user p old rows = do
+  _ ← check (is_repeated a user p) AllocationMismatch
+  Ok (Allocated a.slot a.lifetime, old)
+
+abbrev pub allocate : Addr → ℕ → Parts → Rows → Rows → Outcome
+allocate client user p old rows = allocate_beside (allocation_of client rows) client user p old rows
+
+-- ---- Refresh (section 8)
+
+-- the client's allocation, which must be the user's
+abbrev pub own_allocation : Addr → ℕ → Rows → Result Allocation ErrorCode
+own_allocation client user rows = do
+  a ← ok_or (allocation_of client rows) AllocationMismatch
+  _ ← check (nat_eq a.user user) WrongCredentials
+  Ok a
+
+-- a lifetime of 0 is given as it is requested: it deletes the allocation
+abbrev pub refresh_for : Option ℕ → ℕ
+refresh_for None = lifetime_for None
+refresh_for (Some requested) = if nat_eq requested 0 then 0 else lifetime_for (Some requested)
+
+abbrev pub refresh : Addr → ℕ → Parts → Rows → Outcome
+refresh client user p rows = do
+  a ← own_allocation client user rows
+  family ← requested_family p
+  _ ← check (is_none_or (nat_eq IPV4) family) PeerAddressFamilyMismatch
+  requested ← requested_lifetime p
+  made ← changed (tables.refresh a.slot (refresh_for requested) rows)
+  Ok (Refreshed (refresh_for requested), made.1)
+
+-- ---- CreatePermission (section 10)
+
+abbrev pub both : Option Addr → Option (List Addr) → Option (List Addr)
+both None addresses = None
+both (Some a) None = None
+both (Some a) (Some addresses) = Some (a ∷ addresses)
+
+-- all addresses of a request, if each is well formed
+abbrev pub addresses_in : List ℕ → List (List ℕ) → Option (List Addr)
+addresses_in tx [] = Some []
+addresses_in tx (value ∷ values) = both (address_in tx value) (addresses_in tx values)
+
+-- the addresses, of which there must be one
+abbrev pub some_addresses : Option (List Addr) → Result (List Addr) ErrorCode
+some_addresses None = Err BadRequest
+some_addresses (Some []) = Err BadRequest
+some_addresses (Some (peer ∷ peers)) = Ok (peer ∷ peers)
+
+-- the addresses of a request
+abbrev pub peers_in : Parts → Result (List Addr) ErrorCode
+peers_in p = some_addresses (addresses_in p.transaction_id (values_of XOR_PEER_ADDRESS (message_of p).attributes))
+
+abbrev pub are_ipv4 : Parts → Result Bool ErrorCode
+are_ipv4 p = do
+  peers ← peers_in p
+  Ok (list_all is_ipv4 peers)
+
+abbrev pub create_permission : Addr → ℕ → Parts → Rows → Outcome
+create_permission client user p rows = do
+  a ← own_allocation client user rows
+  peers ← peers_in p
+  _ ← check (list_all is_ipv4 peers) PeerAddressFamilyMismatch
+  made ← changed (tables.permit a.slot peers rows)
+  Ok (Done, made.1)
+
+-- ---- ChannelBind (section 12)
+
+abbrev pub channel_bind : Addr → ℕ → Parts → Rows → Outcome
+channel_bind client user p rows = do
+  a ← own_allocation client user rows
+  number ← required (number_in 2) (value_in p CHANNEL_NUMBER)
+  peer ← required (address_in p.transaction_id) (value_in p XOR_PEER_ADDRESS)
+  _ ← check (is_between 0x4000 0x4fff number) BadRequest
+  _ ← check (is_ipv4 peer) PeerAddressFamilyMismatch
+  made ← changed (tables.bind a.slot number peer rows)
+  Ok (Done, made.1)
+
+-- ---- all requests
+
+-- the error of credentials that are refused
+abbrev pub refused_credentials : AuthError → ErrorCode
+refused_credentials Missing = Unauthenticated
+refused_credentials Incomplete = BadRequest
+refused_credentials auth.StaleNonce = StaleNonce
+refused_credentials UnknownUser = Unauthenticated
+refused_credentials WrongCode = Unauthenticated
+
+abbrev pub authenticated : Result ℕ AuthError → Result ℕ ErrorCode
+authenticated (Ok user) = Ok user
+authenticated (Err e) = Err (refused_credentials e)
+
+abbrev pub is_empty : List ℕ → Bool
+is_empty [] = true
+is_empty (kind ∷ kinds) = false
+
+abbrev pub all_understood : Parts → Result (Unit {0}) ErrorCode
+all_understood p = check (is_empty (unknown_types p)) UnknownAttribute
+
+-- a request of a user whose credentials were accepted; Binding needs none
+abbrev pub served : Request → Addr → ℕ → Parts → Rows → Rows → Outcome
+served request.Binding client user p old rows = Ok (Mapped, old)
+served request.Allocate client user p old rows = allocate client user p old rows
+served request.Refresh client user p old rows = refresh client user p rows
+served request.CreatePermission client user p old rows = create_permission client user p rows
+served request.ChannelBind client user p old rows = channel_bind client user p rows
+
+-- where all attributes are understood
+abbrev pub understood_and_served : Request → Addr → ℕ → Parts → Rows → Rows → Outcome
+understood_and_served r client user p old rows = do
+  _ ← all_understood p
+  served r client user p old rows
+
+-- with the result of the check of the credentials
+abbrev pub outcome : Request → Result ℕ AuthError → Addr → Parts → Rows → Rows → Outcome
+outcome r checked client p old rows = do
+  user ← authenticated checked
+  understood_and_served r client user p old rows
+
+-- Binding
+abbrev pub binding : Parts → Rows → Outcome
+binding p old = do
+  _ ← all_understood p
+  Ok (Mapped, old)
+
+abbrev pub binding_grant : Parts → Result Grant ErrorCode
+binding_grant p = do
+  _ ← all_understood p
+  Ok Mapped

@@ -1,0 +1,112 @@
+-- Replies: their attributes in order, and their bytes.
+use Rattle.std.specs.Prelude.{◌≡◌, ℕ, ◌+◌, ◌<◌, ◌≤◌, List, [], ◌∷◌, Option, None, Some, Result, Ok, Err, string_bytes}
+use Rattle.stun.specs.Builders.{parts_of, used_of, room_of, SameBuffer}
+use Rattle.stun.specs.Endian.{big_bytes}
+use Rattle.stun.specs.Messages.{Attribute, Parts, started, with_attribute}
+use Rattle.stun.specs.Types.{type_number}
+use Rattle.stun.specs.declared.building.Builder.{Builder}
+use Rattle.stun.specs.declared.registry.Class.{Class}
+use Rattle.stun.specs.declared.registry.ErrorCode.{ErrorCode}
+use Rattle.stun.specs.declared.registry.ErrorCode.TheVariants.{BadRequest, Unauthenticated, UnknownAttribute, AllocationMismatch, StaleNonce, AddressFamilyNotSupported, WrongCredentials, UnsupportedTransport, PeerAddressFamilyMismatch, InsufficientCapacity}
+use Rattle.stun.specs.declared.registry.Class.TheVariants as class
+use Rattle.stun.specs.declared.registry.MessageType.{MessageType}
+use Rattle.stun.specs.declared.registry.Method.{Method}
+use Rattle.stun.specs.declared.registry.Method.TheVariants as method
+use Rattle.stun.specs.declared.registry.attribute.TheConstants.{ERROR_CODE, UNKNOWN_ATTRIBUTES, LIFETIME, REALM, NONCE, XOR_RELAYED_ADDRESS, XOR_MAPPED_ADDRESS}
+use Rattle.attributes.specs.Addresses.{address_value}
+use Rattle.attributes.specs.Errors.{error_value, unknown_value}
+use Rattle.attributes.specs.declared.address.Addr.{Addr}
+use Rattle.attributes.specs.declared.address.Addr.TheVariants.{V4}
+use Rattle.credentials.specs.Signs.{signed}
+use Rattle.control.specs.Unknown.{unknown_types}
+use Rattle.control.specs.declared.config.Config.{Config}
+use Rattle.control.specs.declared.reply.Grant.{Grant}
+use Rattle.control.specs.declared.reply.Grant.TheVariants as grant
+use Rattle.control.specs.declared.request.Request.{Request}
+use Rattle.control.specs.declared.request.Request.TheVariants as request
+
+abbrev pub attribute : ℕ → List ℕ → Attribute
+attribute kind value = record { kind = kind; value = value }
+
+-- the relayed address of a slot
+abbrev pub relayed_address : Config → ℕ → Addr
+relayed_address config slot = V4 config.ip (config.first_port + slot)
+
+-- the attributes of a success response
+abbrev pub grant_attributes : Config → Addr → List ℕ → Grant → List Attribute
+grant_attributes config client tx grant.Mapped = attribute XOR_MAPPED_ADDRESS (address_value client tx) ∷ []
+grant_attributes config client tx (grant.Allocated slot lifetime) =
+    attribute XOR_RELAYED_ADDRESS (address_value (relayed_address config slot) tx)
+    ∷ attribute LIFETIME (big_bytes 4 lifetime)
+    ∷ attribute XOR_MAPPED_ADDRESS (address_value client tx)
+    ∷ []
+grant_attributes config client tx (grant.Refreshed lifetime) = attribute LIFETIME (big_bytes 4 lifetime) ∷ []
+grant_attributes config client tx grant.Done = []
+
+-- a relayed address has a port
+abbrev pub HasPort : Config → Grant → Type 0
+HasPort config grant.Mapped = Unit {0}
+HasPort config (grant.Allocated slot lifetime) = config.first_port + slot < 0x10000
+HasPort config (grant.Refreshed lifetime) = Unit {0}
+HasPort config grant.Done = Unit {0}
+
+-- what a client needs to ask again with credentials
+abbrev pub demand : Config → List Attribute
+demand config = attribute REALM (string_bytes config.realm) ∷ attribute NONCE config.nonce.bytes ∷ []
+
+-- the attributes behind ERROR-CODE
+abbrev pub error_details : Config → Parts → ErrorCode → List Attribute
+error_details config p Unauthenticated = demand config
+error_details config p StaleNonce = demand config
+error_details config p UnknownAttribute = attribute UNKNOWN_ATTRIBUTES (unknown_value (unknown_types p)) ∷ []
+error_details config p BadRequest = []
+error_details config p AllocationMismatch = []
+error_details config p AddressFamilyNotSupported = []
+error_details config p WrongCredentials = []
+error_details config p UnsupportedTransport = []
+error_details config p PeerAddressFamilyMismatch = []
+error_details config p InsufficientCapacity = []
+
+-- the attributes of an error response
+abbrev pub error_attributes : Config → Parts → ErrorCode → List Attribute
+error_attributes config p error = attribute ERROR_CODE (error_value error) ∷ error_details config p error
+
+-- a message of a type and an id with these attributes, in their order
+abbrev pub with_attributes : Parts → List Attribute → Parts
+with_attributes p [] = p
+with_attributes p (a ∷ rest) = with_attributes (with_attribute p a.kind a.value) rest
+
+-- it is signed where there is a key
+abbrev pub signed_if : Option (List ℕ) → Parts → Parts
+signed_if None p = p
+signed_if (Some key) p = signed key p
+
+abbrev pub method_of : Request → Method
+method_of request.Binding = method.Binding
+method_of request.Allocate = method.Allocate
+method_of request.Refresh = method.Refresh
+method_of request.CreatePermission = method.CreatePermission
+method_of request.ChannelBind = method.ChannelBind
+
+-- the type of a request, or of a reply to it, and its number
+abbrev pub type_of : Request → Class → MessageType
+type_of r class = record { method = method_of r; class = class }
+
+abbrev pub kind_of : Request → Class → ℕ
+kind_of r class = type_number (type_of r class)
+
+-- the reply to a request
+abbrev pub reply : Request → Class → List ℕ → List Attribute → Option (List ℕ) → Parts
+reply r class tx attributes key = signed_if key (with_attributes (started (kind_of r class) tx) attributes)
+
+-- the reply that gives a grant or an error
+abbrev pub reply_to : Config → Request → Addr → Parts → Option (List ℕ) → Result Grant ErrorCode → Parts
+reply_to config r client p key (Ok grant) = reply r class.Success p.transaction_id (grant_attributes config client p.transaction_id grant) key
+reply_to config r client p key (Err error) = reply r class.Error p.transaction_id (error_attributes config p error) key
+
+-- a builder's message has these attributes more, which take so many bytes at most
+pub record Pushes (attributes : List Attribute) (most : ℕ) (old new : Builder) : Type 0 where
+  pub parts : parts_of new ≡ with_attributes (parts_of old) attributes
+  pub used : used_of new ≤ used_of old + most
+  pub room : room_of new ≡ room_of old
+  pub same_buffer : SameBuffer old new

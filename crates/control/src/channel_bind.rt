@@ -1,0 +1,41 @@
+//! ChannelBind (RFC 8656, section 12).
+
+ghost use Rattle.std.specs.Prelude.{◌≡◌};
+ghost use Rattle.tables.specs.Rows.{rows_at};
+ghost use Rattle.control.specs.Control.{Gives, channel_bind};
+
+use crate::owning::{error_of, own_allocation};
+use crate::reply::Grant;
+use crate::values::{channel_of, is_ipv4, peer_of};
+use attributes::Addr;
+use stun::Message;
+use stun::registry::ErrorCode;
+use tables::Tables;
+
+/// Answers a ChannelBind request of a user.
+///
+/// # Errors
+/// The error of the first test that fails.
+pub(crate) fn channel_bind(
+    tables: &mut Tables,
+    client: Addr,
+    user: usize,
+    message: &Message<'_>,
+    now: u64,
+) -> Result<Grant, ErrorCode>
+    ensures { Gives (channel_bind client user message.now (rows_at now tables.old)) tables.old result tables.new }
+{
+    let allocation = own_allocation(tables, client, user, now)?;
+    let number = channel_of(message)?;
+    let peer = peer_of(message)?;
+    if !(0x4000..=0x4fff).contains(&number) {
+        return Err(ErrorCode::BadRequest);
+    }
+    if !is_ipv4(&peer) {
+        return Err(ErrorCode::PeerAddressFamilyMismatch);
+    }
+    match tables.bind(now, allocation.slot, number, peer) {
+        Ok(()) => Ok(Grant::Done),
+        Err(refused) => Err(error_of(refused)),
+    }
+}

@@ -1,0 +1,141 @@
+//! The configuration of a relay.
+
+ghost use Rattle.std.specs.Prelude.{◌≡◌};
+ghost use Rattle.std.specs.List.{list_all};
+ghost use Rattle.control.specs.Configs.{is_between, is_text, is_user, has_name, are_distinct};
+
+use arrayvec::ArrayString;
+use credentials::User;
+use std::fmt;
+
+/// The configuration of a relay.
+#[derive(Drop)]
+pub struct Config {
+    /// The relayed IP address.
+    pub ip: [u8; 4],
+    /// The relayed port of slot 0, at least 1. That of a slot is as many above it.
+    pub first_port: u16,
+    /// The number of slots, 1 to 256; the last port is at most 65,535.
+    pub slots: usize,
+    /// The realm: 1 to 128 bytes of 0x20 to 0x7E.
+    pub realm: String,
+    /// The current nonce: 1 to 64 bytes of 0x21 to 0x7E.
+    pub nonce: ArrayString<64>,
+    /// The users, 1 to 64, with distinct names of 1 to 128 bytes of 0x21 to 0x7E without `:`, and passwords of 1 to 128
+    /// bytes of 0x20 to 0x7E.
+    pub users: Vec<User>,
+}
+
+/// A field of a configuration that may lie outside its limits. It displays as its name.
+#[derive(Clone, Copy, Debug, PartialEq, Eq)]
+pub enum Field {
+    FirstPort,
+    Slots,
+    Realm,
+    Nonce,
+    Users,
+}
+
+impl fmt::Display for Field {
+    fn fmt<W: fmt::Write>(&self, f: &mut fmt::Formatter<W>) -> fmt::Result {
+        match self {
+            Field::FirstPort => f.write_str("first_port"),
+            Field::Slots => f.write_str("slots"),
+            Field::Realm => f.write_str("realm"),
+            Field::Nonce => f.write_str("nonce"),
+            Field::Users => f.write_str("users"),
+        }
+    }
+}
+
+/// The fields that have limits, in their order.
+const FIELDS: [Field; 5] = [
+    Field::FirstPort,
+    Field::Slots,
+    Field::Realm,
+    Field::Nonce,
+    Field::Users,
+];
+
+/// Returns whether each byte lies between `lowest` and `~`.
+fn are_printable(text: &[u8], lowest: u8) -> bool
+    ensures { result ≡ list_all (is_between lowest 0x7e) text.now }
+{
+    text.iter().all(|byte| (lowest..=b'~').contains(byte))
+}
+
+/// Returns whether a text has at least one byte and at most `longest`, each between `lowest` and `~`.
+fn is_text(text: &[u8], lowest: u8, longest: usize) -> bool
+    ensures { result ≡ is_text lowest longest text.now }
+{
+    (1..=longest).contains(&text.len()) && are_printable(text, lowest)
+}
+
+/// Returns whether a user's name and password lie within their limits.
+fn is_user(user: &User) -> bool
+    ensures { result ≡ is_user user.now }
+{
+    is_text(user.name.as_bytes(), 0x21, 128)
+        && !user.name.as_bytes().contains(&b':')
+        && is_text(user.password.as_bytes(), 0x20, 128)
+}
+
+/// Returns whether all users lie within their limits.
+fn are_users(users: &[User]) -> bool
+    ensures { result ≡ list_all is_user users.now }
+{
+    users.iter().all(|user| is_user(user))
+}
+
+/// Returns whether one of some users has a name.
+fn has_name(users: &[User], name: &str) -> bool
+    ensures { result ≡ has_name users.now name.now }
+{
+    users.iter().any(|user| name == user.name.as_str())
+}
+
+/// Returns whether no two users have one name.
+fn are_distinct(users: &[User]) -> bool
+    ensures { result ≡ are_distinct users.now }
+{
+    let mut rest = users;
+    while let Some((user, others)) = rest.split_first() {
+        if has_name(others, &user.name) {
+            return false;
+        }
+        rest = others;
+    }
+    true
+}
+
+impl Config {
+    ghost use Rattle.std.specs.Prelude.{◌≡◌};
+    ghost use Rattle.control.specs.Configs.{is_valid, fault};
+
+    /// Returns whether a field lies within its limits.
+    fn is_valid(&self, field: Field) -> bool
+        ensures { result ≡ is_valid self.now field }
+    {
+        match field {
+            Field::FirstPort => self.first_port >= 1,
+            Field::Slots => {
+                (1..=256).contains(&self.slots)
+                    && usize::from(self.first_port) + self.slots <= 65_536
+            }
+            Field::Realm => is_text(self.realm.as_bytes(), 0x20, 128),
+            Field::Nonce => is_text(self.nonce.as_bytes(), 0x21, 64),
+            Field::Users => {
+                (1..=64).contains(&self.users.len())
+                    && are_users(&self.users)
+                    && are_distinct(&self.users)
+            }
+        }
+    }
+
+    /// Returns the first field that lies outside its limits, in their order; `None` where all lie within them.
+    pub fn fault(&self) -> Option<Field>
+        ensures { result ≡ fault self.now }
+    {
+        FIELDS.iter().find(|field| !self.is_valid(**field)).copied()
+    }
+}

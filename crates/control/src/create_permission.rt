@@ -1,0 +1,95 @@
+//! CreatePermission (RFC 8656, section 10).
+
+ghost use Rattle.std.specs.Prelude.{◌≡◌, bytes_eq};
+ghost use Rattle.std.specs.List.{list_any};
+ghost use Rattle.attributes.specs.Addresses.{ip_of};
+ghost use Rattle.tables.specs.Rows.{rows_at};
+ghost use Rattle.control.specs.Control.{Gives, create_permission, are_ipv4};
+ghost use Rattle.tables.specs.PermitLaws.{StandsFor};
+ghost use Rattle.control.specs.Peers.{peers_of, with_peer};
+
+use crate::owning::{error_of, own_allocation};
+use crate::reply::Grant;
+use crate::values::{address_in, is_ipv4};
+use arrayvec::ArrayVec;
+use attributes::Addr;
+use stun::Message;
+use stun::registry::ErrorCode;
+use stun::registry::attribute::XOR_PEER_ADDRESS;
+use tables::{MAX_PERMISSIONS, Tables};
+
+/// One address more than an allocation may permit.
+pub const MAX_PEERS: usize = MAX_PERMISSIONS + 1;
+
+/// Returns whether all addresses of a request are of IPv4.
+///
+/// # Errors
+/// 400 where there is no address, or one is malformed.
+fn are_ipv4(message: &Message<'_>) -> Result<bool, ErrorCode>
+    ensures { result ≡ are_ipv4 message.now }
+{
+    let tx = message.tx();
+    let mut found = None;
+    for value in message.values_of(XOR_PEER_ADDRESS) {
+        let Some(peer) = address_in(value, &tx) else {
+            return Err(ErrorCode::BadRequest);
+        };
+        found = Some(found.unwrap_or(true) && is_ipv4(&peer));
+    }
+    found.ok_or(ErrorCode::BadRequest)
+}
+
+/// Returns whether an IP address is among some.
+fn has_ip(peers: &[Addr], peer: &Addr) -> bool
+    ensures { result ≡ list_any (λ known. bytes_eq (ip_of known) (ip_of peer.now)) peers.now }
+{
+    peers.iter().any(|known| known.ip() == peer.ip())
+}
+
+/// Adds an address to those that differ, if its IP address isn't among them and there is room.
+fn add_peer(peers: &mut ArrayVec<Addr, MAX_PEERS>, peer: Addr)
+    ensures { peers.new.items ≡ with_peer peers.old.items peer }
+{
+    if !has_ip(peers, &peer) && !peers.is_full() {
+        peers.push(peer);
+    }
+}
+
+/// Returns the first [`MAX_PEERS`] addresses of a request whose IP addresses differ: a permission for each of them is
+/// granted or refused as one for all addresses is.
+fn distinct_peers(message: &Message<'_>) -> ArrayVec<Addr, MAX_PEERS>
+    ensures { StandsFor result.items (peers_of message.now) }
+{
+    let tx = message.tx();
+    let mut peers = ArrayVec::new();
+    for value in message.values_of(XOR_PEER_ADDRESS) {
+        if let Some(peer) = address_in(value, &tx) {
+            add_peer(&mut peers, peer);
+        }
+    }
+    peers
+}
+
+/// Answers a CreatePermission request of a user.
+///
+/// # Errors
+/// The error of the first test that fails.
+pub(crate) fn create_permission(
+    tables: &mut Tables,
+    client: Addr,
+    user: usize,
+    message: &Message<'_>,
+    now: u64,
+) -> Result<Grant, ErrorCode>
+    ensures { Gives (create_permission client user message.now (rows_at now tables.old)) tables.old result tables.new }
+{
+    let allocation = own_allocation(tables, client, user, now)?;
+    if !are_ipv4(message)? {
+        return Err(ErrorCode::PeerAddressFamilyMismatch);
+    }
+    let peers = distinct_peers(message);
+    match tables.permit(now, allocation.slot, &peers) {
+        Ok(()) => Ok(Grant::Done),
+        Err(refused) => Err(error_of(refused)),
+    }
+}

@@ -1,0 +1,19 @@
+//! How the relay answers requests (RFC 8489, RFC 8656): one ordered list of tests for each method, over the tables.
+#![tactic(auto)]
+
+mod allocate;
+mod channel_bind;
+mod config;
+mod create_permission;
+mod lifetime;
+mod owning;
+mod refresh;
+mod reply;
+mod request;
+mod responding;
+mod unknown;
+mod values;
+
+pub use config::{Config, Field};
+pub use lifetime::{MAX_LIFETIME, MIN_LIFETIME};
+pub use responding::respond;

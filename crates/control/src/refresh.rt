@@ -1,0 +1,38 @@
+//! Refresh (RFC 8656, section 8).
+
+ghost use Rattle.std.specs.Prelude.{◌≡◌};
+ghost use Rattle.tables.specs.Rows.{rows_at};
+ghost use Rattle.control.specs.Control.{Gives, refresh};
+
+use crate::lifetime::refresh_for;
+use crate::owning::{error_of, own_allocation};
+use crate::reply::Grant;
+use crate::values::{family_of, lifetime_of};
+use attributes::Addr;
+use stun::Message;
+use stun::registry::{ErrorCode, family};
+use tables::Tables;
+
+/// Answers a Refresh request of a user.
+///
+/// # Errors
+/// The error of the first test that fails.
+pub(crate) fn refresh(
+    tables: &mut Tables,
+    client: Addr,
+    user: usize,
+    message: &Message<'_>,
+    now: u64,
+) -> Result<Grant, ErrorCode>
+    ensures { Gives (refresh client user message.now (rows_at now tables.old)) tables.old result tables.new }
+{
+    let allocation = own_allocation(tables, client, user, now)?;
+    if family_of(message)?.is_some_and(|requested| requested != family::IPV4) {
+        return Err(ErrorCode::PeerAddressFamilyMismatch);
+    }
+    let lifetime = refresh_for(lifetime_of(message)?);
+    match tables.refresh(now, allocation.slot, lifetime) {
+        Ok(()) => Ok(Grant::Refreshed { lifetime }),
+        Err(refused) => Err(error_of(refused)),
+    }
+}

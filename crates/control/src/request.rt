@@ -1,0 +1,71 @@
+//! The requests that are answered.
+
+ghost use Rattle.std.specs.Prelude.{◌≡◌};
+
+use stun::Message;
+use stun::registry::{Class, MessageType, Method};
+
+/// A request that is answered, by its method.
+#[derive(Clone, Copy, Debug, PartialEq, Eq)]
+pub enum Request {
+    Binding,
+    Allocate,
+    Refresh,
+    CreatePermission,
+    ChannelBind,
+}
+
+impl Request {
+    ghost use Rattle.std.specs.Prelude.{◌≡◌, ◌<◌, Some, IfSome};
+    ghost use Rattle.control.specs.Replies.{method_of, type_of, kind_of};
+    ghost use Rattle.stun.specs.declared.registry.Class.TheVariants as class;
+    ghost use Rattle.control.specs.declared.request.Request as declared;
+
+    /// Returns the method.
+    pub(crate) fn method(self) -> Method
+        ensures { result ≡ method_of self }
+    {
+        match self {
+            Request::Binding => Method::Binding,
+            Request::Allocate => Method::Allocate,
+            Request::Refresh => Method::Refresh,
+            Request::CreatePermission => Method::CreatePermission,
+            Request::ChannelBind => Method::ChannelBind,
+        }
+    }
+
+    /// Returns the number of the type of a reply.
+    pub(crate) fn kind(self, class: Class) -> u16
+        ensures kind { result ≡ kind_of self class }
+        ensures fits { result < 0x4000 }
+    {
+        let method = self.method();
+        MessageType { method, class }.kind()
+    }
+
+    /// Returns the request that a message is, if it is one that is answered.
+    pub(crate) fn of(message: &Message<'_>) -> Option<Request>
+        ensures found { IfSome result (λ r. kind_of r class.Request ≡ message.now.kind) }
+        ensures only { (r : declared.Request) → kind_of r class.Request ≡ message.now.kind → result ≡ Some r }
+    {
+        let Some(found) = MessageType::from_kind(message.kind()) else {
+            return None;
+        };
+        Request::of_type(found)
+    }
+
+    /// Returns the request of a message type, if it is one that is answered.
+    fn of_type(found: MessageType) -> Option<Request>
+        ensures found { IfSome result (λ r. type_of r class.Request ≡ found) }
+        ensures only { (r : declared.Request) → type_of r class.Request ≡ found → result ≡ Some r }
+    {
+        match (found.method, found.class) {
+            (Method::Binding, Class::Request) => Some(Request::Binding),
+            (Method::Allocate, Class::Request) => Some(Request::Allocate),
+            (Method::Refresh, Class::Request) => Some(Request::Refresh),
+            (Method::CreatePermission, Class::Request) => Some(Request::CreatePermission),
+            (Method::ChannelBind, Class::Request) => Some(Request::ChannelBind),
+            _ => None,
+        }
+    }
+}

@@ -1,0 +1,166 @@
+//! The answers to messages.
+
+ghost use Rattle.std.specs.Prelude.{◌≡◌, ◌≤◌, ◌+◌, None, Ok, Err, length, take, IfOk, IfErr, string_bytes};
+ghost use Rattle.credentials.specs.Checks.{IsChecked, names_of, user_key};
+ghost use Rattle.credentials.specs.Keys.{key_bytes};
+ghost use Rattle.tables.specs.Rows.{rows_at};
+ghost use Rattle.control.specs.Configs.{fault};
+ghost use Rattle.control.specs.Control.{Gives, IsInside, all_understood, binding_grant, understood_and_served, refused_credentials};
+ghost use Rattle.control.specs.Responding.{IsCheckedAnswer, Responds};
+
+use crate::allocate::allocate;
+use crate::channel_bind::channel_bind;
+use crate::config::Config;
+use crate::create_permission::create_permission;
+use crate::refresh::refresh;
+use crate::reply::{Grant, write_reply};
+use crate::request::Request;
+use crate::unknown::unknown_types;
+use crate::values::is_ipv4;
+use attributes::Addr;
+use credentials::{AuthError, Authenticated, authenticate};
+use stun::Message;
+use stun::registry::ErrorCode;
+use tables::Tables;
+
+/// Returns the error of credentials that are refused.
+fn refused_credentials(error: AuthError) -> ErrorCode
+    ensures { result ≡ refused_credentials error }
+{
+    match error {
+        AuthError::Missing | AuthError::UnknownUser | AuthError::WrongCode => {
+            ErrorCode::Unauthenticated
+        }
+        AuthError::Incomplete => ErrorCode::BadRequest,
+        AuthError::StaleNonce => ErrorCode::StaleNonce,
+    }
+}
+
+/// Requires all attributes of a request to be understood.
+///
+/// # Errors
+/// 420 where one isn't.
+fn all_understood(message: &Message<'_>) -> Result<(), ErrorCode>
+    ensures { result ≡ all_understood message.now }
+{
+    if unknown_types(message).is_empty() {
+        Ok(())
+    } else {
+        Err(ErrorCode::UnknownAttribute)
+    }
+}
+
+/// Answers a Binding request (RFC 8489, section 12).
+///
+/// # Errors
+/// 420 where an attribute isn't understood.
+fn bind(message: &Message<'_>) -> Result<Grant, ErrorCode>
+    ensures { result ≡ binding_grant message.now }
+{
+    all_understood(message)?;
+    Ok(Grant::Mapped)
+}
+
+/// Answers a request of a user whose credentials were accepted.
+///
+/// # Errors
+/// The error of the first test that fails.
+fn serve(
+    tables: &mut Tables,
+    request: Request,
+    client: Addr,
+    user: usize,
+    message: &Message<'_>,
+    now: u64,
+) -> Result<Grant, ErrorCode>
+    ensures gives { Gives (understood_and_served request client user message.now tables.old (rows_at now tables.old)) tables.old result tables.new }
+    ensures inside { IfOk result (IsInside (length tables.old.slots)) }
+{
+    all_understood(message)?;
+    match request {
+        Request::Binding => Ok(Grant::Mapped),
+        Request::Allocate => allocate(tables, client, user, message, now),
+        Request::Refresh => refresh(tables, client, user, message, now),
+        Request::CreatePermission => create_permission(tables, client, user, message, now),
+        Request::ChannelBind => channel_bind(tables, client, user, message, now),
+    }
+}
+
+/// Checks the credentials of a request, with the realm, the users and the nonce of a configuration.
+///
+/// # Errors
+/// The first test that fails, in the order of [`AuthError`].
+fn check_credentials(config: &Config, message: &Message<'_>) -> Result<Authenticated, AuthError>
+    ensures found { IfOk result (λ a. IsChecked message.now (string_bytes config.now.realm) (names_of config.now.users.items) config.now.nonce.bytes (Ok a.user)) }
+    ensures key { IfOk result (λ a. key_bytes a.key ≡ user_key (string_bytes config.now.realm) (names_of config.now.users.items) a.user) }
+    ensures refused { IfErr result (λ e. IsChecked message.now (string_bytes config.now.realm) (names_of config.now.users.items) config.now.nonce.bytes (Err e)) }
+{
+    authenticate(message, &config.realm, &config.users, config.nonce.as_str())
+}
+
+/// Answers a request whose credentials are asked for, and returns the length of the reply.
+fn answer_user(
+    tables: &mut Tables,
+    config: &Config,
+    now: u64,
+    client: Addr,
+    request: Request,
+    message: &Message<'_>,
+    out: &mut [u8],
+) -> usize
+    requires room { 1500 ≤ length out.old }
+    requires realm { length (string_bytes config.now.realm) ≤ 128 }
+    requires ports { config.now.first_port + config.now.slots ≤ 0x10000 }
+    requires slots { length tables.old.slots ≡ config.now.slots }
+    ensures inside { result ≤ length out.new }
+    ensures answer { IsCheckedAnswer config.now now request client message.now tables.old tables.new (take result out.new) }
+{
+    match check_credentials(config, message) {
+        Ok(authenticated) => {
+            let user = authenticated.user;
+            let outcome = serve(tables, request, client, user, message, now);
+            let key = Some(authenticated.key);
+            write_reply(out, config, request, &client, message, outcome, key)
+        }
+        Err(error) => {
+            let outcome = Err(refused_credentials(error));
+            write_reply(out, config, request, &client, message, outcome, None)
+        }
+    }
+}
+
+/// Answers a message of a client at a moment, in seconds: changes the tables, writes the reply over the first bytes of
+/// `out`, and returns its length, 0 where there is none. Requests of the methods Binding, Allocate, Refresh,
+/// CreatePermission and ChannelBind are answered, and those of clients over IPv4 alone; nothing else changes anything. An
+/// error response changes no table.
+///
+/// `out` has at least 1,500 bytes, which every reply fits in; the configuration has no fault, and the tables have its
+/// slots.
+pub fn respond(
+    tables: &mut Tables,
+    config: &Config,
+    now: u64,
+    client: Addr,
+    message: &Message<'_>,
+    out: &mut [u8],
+) -> usize
+    requires room { 1500 ≤ length out.old }
+    requires config { fault config.now ≡ None }
+    requires slots { length tables.old.slots ≡ config.now.slots }
+    ensures inside { result ≤ length out.new }
+    ensures responds { Responds config.now now client message.now tables.old tables.new (take result out.new) }
+{
+    let Some(request) = Request::of(message) else {
+        return 0;
+    };
+    if !is_ipv4(&client) {
+        return 0;
+    }
+    match request {
+        Request::Binding => {
+            let outcome = bind(message);
+            write_reply(out, config, request, &client, message, outcome, None)
+        }
+        _ => answer_user(tables, config, now, client, request, message, out),
+    }
+}

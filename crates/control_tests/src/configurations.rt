@@ -1,0 +1,53 @@
+//! Configurations: a relay's, and the first field that lies outside its limits.
+
+use arrayvec::ArrayString;
+use control::{Config, Field};
+use credentials::User;
+use std::alloc::{AllocError, Global};
+use std::process::Abort;
+use std::test::Fail;
+
+fn user(alloc: Global, name: &str, password: &str) -> Result<User, AllocError> {
+    Ok(User {
+        name: String::from_str(alloc, name)?,
+        password: String::from_str(alloc, password)?,
+    })
+}
+
+/// Returns the configuration of the tests: two slots from 203.0.113.1:49152 on, the realm `relay`, the nonce `n1`, and the
+/// users `user` with password `pass` and `other` with `word`.
+pub fn config(rt: &impl Abort, alloc: Global) -> Result<Config, AllocError> {
+    let mut users = Vec::new(alloc);
+    users.push(user(alloc, "user", "pass")?)?;
+    users.push(user(alloc, "other", "word")?)?;
+    let mut nonce = ArrayString::new();
+    assert!(rt; nonce.try_push_str("n1").is_ok());
+    Ok(Config {
+        ip: [203, 0, 113, 1],
+        first_port: 49152,
+        slots: 2,
+        realm: String::from_str(alloc, "relay")?,
+        nonce,
+        users,
+    })
+}
+
+#[test]
+fn a_field_outside_its_limits_is_named(rt: HostRuntime) -> Result<(), Fail> {
+    let mut config = config(&rt, rt.alloc())?;
+    assert_eq!(rt; config.fault(), None);
+    config.first_port = 65_535;
+    assert_eq!(rt; config.fault(), Some(Field::Slots));
+    config.slots = 1;
+    assert_eq!(rt; config.fault(), None);
+    config.first_port = 0;
+    assert_eq!(rt; config.fault(), Some(Field::FirstPort));
+    config.first_port = 1;
+    config.slots = 256;
+    assert_eq!(rt; config.fault(), None);
+    config.slots = 257;
+    assert_eq!(rt; config.fault(), Some(Field::Slots));
+    config.slots = 0;
+    assert_eq!(rt; config.fault(), Some(Field::Slots));
+    Ok(())
+}

@@ -1,0 +1,94 @@
+-- The slots as they are stored, and the rows that count.
+use Rattle.std.proofs.Common.{◌≡◌, ℕ, zero, suc, ◌<◌, ◌≤◌, ◌+◌, true, false, cond, List, ◌∷◌, length, get_or, set, drop, find, replicate, slice_get, nat_lt, Option, Some, None, is_some, is_none, IfSome, option_and_then, option_copied, sym, refl, ap, ◌∙◌, Bor, arith}
+use Rattle.std.specs.List.{position_or_len}
+use Rattle.std.specs.Option.{option_flatten}
+use Rattle.std.proofs.lemmas.Bool.{cond-true, cond-false, ltb-true, lt-ltb, le-ltb, both_ways}
+use Rattle.std.proofs.lemmas.List.{map-set, length-map, at_drop_more, at_drop_all}
+use Rattle.std.proofs.lemmas.List.Sums.{position_or_len_is}
+use Rattle.std.proofs.lemmas.Option.{slice_get-get_or, slice_get_read}
+use Rattle.tables.specs.Addresses.{is_same_address}
+use Rattle.attributes.specs.declared.address.Addr.{Addr}
+use Rattle.tables.specs.Rows.{Rows, held_at, slots_at, counting}
+use Rattle.tables.specs.LookUps.{held_in, held_by, is_of}
+use Rattle.tables.specs.Changes.{with_held, first_free}
+use Rattle.tables.specs.RowLaws.{counting_again, held_in-counting, held_at-counts}
+use Rattle.tables.specs.declared.held.Held.{Held}
+
+-- `now` is the rows of what is stored
+abbrev pub ShowsStored : ℕ → List (Option Held) → Rows → Type 0
+ShowsStored moment slots now = counting moment (record { moment = moment; slots = slots }) ≡ now
+
+module _ (last : ℕ) (slots : List (Option Held)) (now : Rows) (shows : ShowsStored last slots now) (t : ℕ) (later : now.moment ≤ t) where
+  pub counting-stored : counting t now ≡ record { moment = t; slots = slots_at t slots }
+  counting-stored =
+      let since : last ≤ t = omega (arith, ap (λ (r : Rows). r.moment) shows, later) in
+      ap (counting t) (sym shows) ∙ counting_again last t (record { moment = last; slots = slots }) since
+
+  pub held_in-stored : (slot : ℕ) → held_in (counting t now) slot ≡ option_and_then (held_at t) (option_flatten (slice_get slots slot))
+  held_in-stored slot = ap (λ (r : Rows). held_in r slot) counting-stored ∙ held_in-counting t slot (record { moment = t; slots = slots })
+
+  pub with_held-stored : (slot : ℕ) (held : Held) → counting t (record { moment = t; slots = set slots slot (Some held) }) ≡ with_held (counting t now) slot held
+  with_held-stored slot held =
+      (λ i. record { moment = t; slots = map-set (option_and_then (held_at t)) slots slot (Some held) i })
+      ∙ ap (λ (r : Rows). with_held r slot held) (sym counting-stored)
+
+  pub held_by-stored : (client : Addr) → held_by client (counting t now) ≡ option_flatten (find (is_of client) (slots_at t slots))
+  held_by-stored client = ap (held_by client) counting-stored
+
+  pub length-stored : length (counting t now).slots ≡ length slots
+  length-stored = ap (λ (r : Rows). length r.slots) counting-stored ∙ length-map slots (option_and_then (held_at t))
+
+-- ---- a slot
+
+-- what `get` gives
+pub slot_shown : (shown slots : List (Option Held)) (i : ℕ) (slot : Option Held) → shown ≡ slots → true ≡ nat_lt i (length shown) → slot ≡ get_or shown i slot → slice_get slots i ≡ Some slot
+slot_shown shown slots i slot same within at = ap (λ s. slice_get s i) (sym same) ∙ slice_get_read shown (length shown) i slot refl (ltb-true i (length shown) (sym within)) at
+
+-- ---- a client
+
+pub found_by : (t : ℕ) (client : Addr) (shown : List (Option Held)) (i : ℕ) (slot : Option Held) (held : Held) → i < length shown → slot ≡ get_or shown i slot → slot ≡ Some held
+    → t < held.allocation.end → is_same_address client held.allocation.client ≡ true → find (is_of client) (slots_at t (drop i shown)) ≡ Some (held_at t held)
+found_by t client shown i slot held l at is counts same =
+    let rest : List (Option Held) = slots_at t (drop (i + 1) shown) in
+    let own : is_of client (held_at t held) ≡ true = ap (is_of client) (held_at-counts t held (lt-ltb t held.allocation.end counts)) ∙ same in
+    at_drop_more (λ s. find (is_of client) (slots_at t s)) shown i slot l
+    ∙ ap (λ o. find (is_of client) (option_and_then (held_at t) o ∷ rest)) (sym at ∙ is)
+    ∙ cond-true (is_of client (held_at t held)) (Some (held_at t held)) (find (is_of client) rest) own
+
+pub unfound : (t : ℕ) (client : Addr) (shown : List (Option Held)) (i : ℕ) → length shown ≤ i → find (is_of client) (slots_at t (drop i shown)) ≡ None
+unfound t client shown i l = at_drop_all (λ s. find (is_of client) (slots_at t s)) shown i l
+
+-- ---- a free slot
+
+get_flat : (slots : List (Option Held)) (i : ℕ) (d : Option Held) → i < length slots → option_flatten (slice_get slots i) ≡ get_or slots i d
+get_flat slots i d l = ap option_flatten (slice_get-get_or slots i d l)
+
+pub free_at : (rows : Rows) (i : ℕ) → i < length rows.slots → ((k : ℕ) → k < i → is_none (held_in rows k) ≡ false) → held_in rows i ≡ None → first_free rows ≡ Some i
+free_at rows i l before here =
+    let slots = rows.slots in
+    let first : position_or_len is_none slots ≡ i =
+    position_or_len_is is_none slots i None (omega (arith, l)) (λ k p. ap is_none (sym (get_flat slots k None (omega (arith, p, l)))) ∙ before k p) (λ _. ap is_none (sym (get_flat slots i None l) ∙ here)) in
+    ap (λ n. cond (nat_lt n (length slots)) (Some n) None) first ∙ cond-true (nat_lt i (length slots)) (Some i) None (lt-ltb i (length slots) l)
+
+pub free_none : (rows : Rows) (n : ℕ) → length rows.slots ≤ n → ((k : ℕ) → k < n → is_none (held_in rows k) ≡ false) → first_free rows ≡ None
+free_none rows n l before =
+    let slots = rows.slots in
+    let m : ℕ = length slots in
+    let first : position_or_len is_none slots ≡ m =
+    position_or_len_is is_none slots m None (omega arith) (λ k p. ap is_none (sym (get_flat slots k None p)) ∙ before k (omega (arith, p, l))) (λ p. absurd (omega (arith, p))) in
+    ap (λ n. cond (nat_lt n m) (Some n) None) first ∙ cond-false (nat_lt m m) (Some m) None (le-ltb m m (omega arith))
+
+-- what is held, by what a look-up gave
+pub held_none : (t : ℕ) (r : Option (Bor Held)) (o : Option Held) → option_and_then (held_at t) (option_copied r) ≡ o → is_some r ≡ false → o ≡ None
+held_none t None o e h = sym e
+held_none t (Some held) o e h = absurd (both_ways true h refl)
+
+pub held_some : (t : ℕ) (r : Option (Bor Held)) (o : Option Held) → option_and_then (held_at t) (option_copied r) ≡ o → IfSome r (λ held. t < held.now.allocation.end) → is_some r ≡ true → is_none o ≡ false
+held_some t None o e counts h = absurd (both_ways false refl h)
+held_some t (Some held) o e counts h = ap is_none (sym e) ∙ ap is_none (held_at-counts t held.now (lt-ltb t held.now.allocation.end counts))
+
+-- ---- no rows
+
+pub slots_at-none : (t n : ℕ) → slots_at t (replicate n None) ≡ replicate n None
+slots_at-none t zero = refl
+slots_at-none t (suc n) = λ i. None ∷ slots_at-none t n i

@@ -1,0 +1,87 @@
+-- Changes of the rows that count at the moment of the change, or the first refusal that applies.
+use Rattle.std.specs.Prelude.{◌≡◌, ℕ, ◌+◌, Bool, List, Option, Result, Ok, Err, ok_or, slice_set, position, nat_le, is_none, if◌then◌else◌}
+use Rattle.std.specs.FinMap.{insert, empty, len}
+use Rattle.attributes.specs.Addresses.{ip_of}
+use Rattle.attributes.specs.declared.address.Addr.{Addr}
+use Rattle.tables.specs.Permissions.{PermissionMap, with_all}
+use Rattle.tables.specs.Channels.{ChannelMap, may_bind}
+use Rattle.tables.specs.Rows.{Rows, held_at}
+use Rattle.tables.specs.LookUps.{held_in, allocation_of}
+use Rattle.tables.specs.declared.allocation.Allocation.{Allocation}
+use Rattle.tables.specs.declared.channels.TheConstants.{CHANNEL_LIFETIME, MAX_CHANNELS}
+use Rattle.tables.specs.declared.held.Held.{Held}
+use Rattle.tables.specs.declared.permissions.TheConstants.{PERMISSION_LIFETIME, MAX_PERMISSIONS}
+use Rattle.tables.specs.declared.refusal.Refused.{Refused}
+use Rattle.tables.specs.declared.refusal.Refused.TheVariants.{Mismatch, Capacity, Conflict, NoAllocation}
+
+-- an answer with the new rows, or a refusal
+abbrev pub Change : Type 0 → Type 0
+Change A = Result (A × Rows) Refused
+
+infixl 10 ◌>>=◌
+abbrev pub ◌>>=◌ : {A B : Type 0} → Result A Refused → (A → Result B Refused) → Result B Refused
+(Ok x) >>= f = f x
+(Err refused) >>= f = Err refused
+
+-- goes on where the test passes
+abbrev pub check : Bool → Refused → Result (Unit {0}) Refused
+check passed refused = if passed then Ok tt else Err refused
+
+-- A change that is made gives its answer and leaves its rows; a refused one leaves the rows as they were.
+abbrev pub Follows : {A : Type 0} → Change A → Rows → Result A Refused → Rows → Type 0
+Follows (Ok made) old result new = (result ≡ Ok made.0) × (new ≡ made.1)
+Follows (Err refused) old result new = (result ≡ Err refused) × (new ≡ old)
+
+-- the rows where a slot holds this, as far as that counts
+abbrev pub with_held : Rows → ℕ → Held → Rows
+with_held rows slot held = record rows { slots = slice_set rows.slots slot (held_at rows.moment held) }
+
+-- ---- allocations
+
+-- the lowest slot that holds nothing
+abbrev pub first_free : Rows → Option ℕ
+first_free rows = position is_none rows.slots
+
+-- an allocation as it is made: it has no permissions and no channels
+abbrev pub fresh : Allocation → Held
+fresh allocation = record { allocation = allocation; permissions = empty; channels = empty }
+
+abbrev pub allocate : Addr → ℕ → List ℕ → ℕ → Rows → Change ℕ
+allocate client user tx lifetime rows = do
+  _ ← check (is_none (allocation_of client rows)) Mismatch
+  slot ← ok_or (first_free rows) Capacity
+  Ok (slot, with_held rows slot (fresh (record { slot = slot; client = client; user = user; tx = tx; lifetime = lifetime; end = rows.moment + lifetime })))
+
+-- a new end; with a lifetime of 0 the allocation has ended
+abbrev pub refresh : ℕ → ℕ → Rows → Change (Unit {0})
+refresh slot lifetime rows = do
+  held ← ok_or (held_in rows slot) NoAllocation
+  Ok (tt, with_held rows slot (record held { allocation = record held.allocation { end = rows.moment + lifetime } }))
+
+-- ---- permissions
+
+abbrev pub permission_end : Rows → ℕ
+permission_end rows = rows.moment + PERMISSION_LIFETIME
+
+abbrev pub permit : ℕ → List Addr → Rows → Change (Unit {0})
+permit slot ips rows = do
+  held ← ok_or (held_in rows slot) NoAllocation
+  _ ← check (nat_le (len (with_all held.permissions ips (permission_end rows))) MAX_PERMISSIONS) Capacity
+  Ok (tt, with_held rows slot (record held { permissions = with_all held.permissions ips (permission_end rows) }))
+
+-- ---- channels
+
+abbrev pub with_channel : ChannelMap → ℕ → Addr → Rows → ChannelMap
+with_channel channels number peer rows = insert channels number (record { peer = peer; end = rows.moment + CHANNEL_LIFETIME })
+
+abbrev pub with_peer : PermissionMap → Addr → Rows → PermissionMap
+with_peer permissions peer rows = insert permissions (ip_of peer) (permission_end rows)
+
+-- binding a channel also permits its peer's IP address
+abbrev pub bind : ℕ → ℕ → Addr → Rows → Change (Unit {0})
+bind slot number peer rows = do
+  held ← ok_or (held_in rows slot) NoAllocation
+  _ ← check (may_bind held.channels number peer) Conflict
+  _ ← check (nat_le (len (with_channel held.channels number peer rows)) MAX_CHANNELS) Capacity
+  _ ← check (nat_le (len (with_peer held.permissions peer rows)) MAX_PERMISSIONS) Capacity
+  Ok (tt, with_held rows slot (record held { channels = with_channel held.channels number peer rows; permissions = with_peer held.permissions peer rows }))

@@ -1,0 +1,11 @@
+pub mod Moments
+pub mod Addresses
+pub mod Permissions
+pub mod Channels
+pub mod Rows
+pub mod LookUps
+pub mod Changes
+pub mod Storage
+pub mod Retained
+pub mod RowLaws
+pub mod PermitLaws

@@ -1,0 +1,43 @@
+-- Look-ups in the rows that count.
+use Rattle.std.specs.Prelude.{ℕ, Bool, false, Option, None, Some, slice_get, is_some, find}
+use Rattle.std.specs.Option.{option_map, option_and_then, option_flatten}
+use Rattle.std.specs.FinMap.{get}
+use Rattle.attributes.specs.Addresses.{ip_of}
+use Rattle.attributes.specs.declared.address.Addr.{Addr}
+use Rattle.tables.specs.Addresses.{is_same_address}
+use Rattle.tables.specs.Channels.{number_to}
+use Rattle.tables.specs.Rows.{Rows}
+use Rattle.tables.specs.declared.allocation.Allocation.{Allocation}
+use Rattle.tables.specs.declared.held.Held.{Held}
+
+-- what a slot holds; a slot that isn't there holds nothing
+abbrev pub held_in : Rows → ℕ → Option Held
+held_in rows slot = option_flatten (slice_get rows.slots slot)
+
+abbrev pub is_of : Addr → Option Held → Bool
+is_of client None = false
+is_of client (Some held) = is_same_address client held.allocation.client
+
+-- what the slot of a client holds
+abbrev pub held_by : Addr → Rows → Option Held
+held_by client rows = option_flatten (find (is_of client) rows.slots)
+
+-- the allocation of a client
+abbrev pub allocation_of : Addr → Rows → Option Allocation
+allocation_of client rows = option_map (λ held. held.allocation) (held_by client rows)
+
+-- the allocation at a slot
+abbrev pub allocation_at : ℕ → Rows → Option Allocation
+allocation_at slot rows = option_map (λ held. held.allocation) (held_in rows slot)
+
+-- the peer that a channel of a slot is bound to
+abbrev pub peer_of : ℕ → ℕ → Rows → Option Addr
+peer_of slot number rows = option_and_then (λ held. option_map (λ b. b.peer) (get held.channels number)) (held_in rows slot)
+
+-- the channel of a slot that is bound to a peer
+abbrev pub channel_of : ℕ → Addr → Rows → Option ℕ
+channel_of slot peer rows = option_and_then (λ held. number_to peer held.channels) (held_in rows slot)
+
+-- whether an IP address has a permission at a slot
+abbrev pub permitted : ℕ → Addr → Rows → Bool
+permitted slot ip rows = is_some (option_and_then (λ held. get held.permissions (ip_of ip)) (held_in rows slot))

@@ -1,0 +1,140 @@
+-- Laws of the rows that count.
+use Rattle.std.specs.Prelude.{◌≡◌, ℕ, ◌≤◌, Bool, true, false, cond, nat_lt, List, [], ◌∷◌, slice_get, Option, None, Some, is_some, refl}
+use Rattle.std.specs.Option.{option_map, option_and_then, option_flatten}
+use Rattle.std.specs.Cmp.{IsTotalOrder, nat_cmp_total}
+use Rattle.std.specs.Cmp.Lexicographic.{nat_list_cmp_total}
+use Rattle.std.specs.FinMap.{IsAntisymmetric, get, nat_cmp-IsAntisymmetric, slice_cmp-IsAntisymmetric}
+use Rattle.std.proofs.Common.{sym, ap, ◌∙◌, inl, inr, arith}
+use Rattle.std.proofs.lemmas.Bool.{cases_Bool, cond-true, cond-false, both_ways, ltb-true, lt-ltb}
+use Rattle.std.proofs.lemmas.Option.{none-some, slice_get-map}
+use Rattle.attributes.specs.Addresses.{ip_of}
+use Rattle.attributes.specs.declared.address.Addr.{Addr}
+use Rattle.tables.specs.Addresses.{ip_cmp}
+use Rattle.tables.specs.Moments.{counts_at}
+use Rattle.tables.specs.Permissions.{PermissionMap, permissions_at}
+use Rattle.tables.specs.Channels.{ChannelMap, channels_at}
+use Rattle.tables.specs.Rows.{Rows, held_at, slots_at, counting}
+use Rattle.tables.specs.LookUps.{held_in, allocation_at, peer_of, permitted}
+use Rattle.tables.specs.Retained.{get-kept_of, kept_before, kept_of_again}
+use Rattle.tables.specs.declared.allocation.Allocation.{Allocation}
+use Rattle.tables.specs.declared.channels.Binding.{Binding}
+use Rattle.tables.specs.declared.held.Held.{Held}
+
+pub ip_total : IsTotalOrder ip_cmp
+ip_total = nat_list_cmp_total
+
+pub ip_antisymmetric : IsAntisymmetric ip_cmp
+ip_antisymmetric = slice_cmp-IsAntisymmetric nat_cmp-IsAntisymmetric
+
+-- what has not ended at a moment had not ended before
+pub counts_before : (t u end : ℕ) → t ≤ u → nat_lt u end ≡ true → nat_lt t end ≡ true
+counts_before t u end le h = lt-ltb t end (omega (arith, ltb-true u end h, le))
+
+pub ended_after : (t u end : ℕ) → t ≤ u → nat_lt t end ≡ false → nat_lt u end ≡ false
+ended_after t u end le e = elim (cases_Bool (nat_lt u end)) [ inl h ↦ absurd (both_ways (nat_lt t end) e (counts_before t u end le h)) | inr f ↦ f ]
+
+-- whether a binding counts
+abbrev pub binding_counts : ℕ → Option Binding → Bool
+binding_counts t b = counts_at t (option_map (λ b. b.end) b)
+
+pub permissions_again : (t u : ℕ) (m : PermissionMap) → t ≤ u → permissions_at u (permissions_at t m) ≡ permissions_at u m
+permissions_again t u m le = kept_of_again (counts_at t) (counts_at u) (λ end h. counts_before t u end le h) ip_total ip_antisymmetric m
+
+pub channels_again : (t u : ℕ) (m : ChannelMap) → t ≤ u → channels_at u (channels_at t m) ≡ channels_at u m
+channels_again t u m le = kept_of_again (binding_counts t) (binding_counts u) (λ b h. counts_before t u b.end le h) nat_cmp_total nat_cmp-IsAntisymmetric m
+
+-- ---- what a slot holds
+
+-- what is left of what a slot holds
+abbrev pub counted : ℕ → Held → Held
+counted t held = record held { permissions = permissions_at t held.permissions; channels = channels_at t held.channels }
+
+pub held_at-counts : (t : ℕ) (held : Held) → nat_lt t held.allocation.end ≡ true → held_at t held ≡ Some (counted t held)
+held_at-counts t held h = cond-true (nat_lt t held.allocation.end) (Some (counted t held)) None h
+
+pub held_at-ended : (t : ℕ) (held : Held) → nat_lt t held.allocation.end ≡ false → held_at t held ≡ None
+held_at-ended t held e = cond-false (nat_lt t held.allocation.end) (Some (counted t held)) None e
+
+held_again : (t u : ℕ) (held : Held) → t ≤ u → option_and_then (held_at u) (held_at t held) ≡ held_at u held
+held_again t u held le = elim (cases_Bool (nat_lt t held.allocation.end)) [
+  | inl h ↦ ap (option_and_then (held_at u)) (held_at-counts t held h)
+      ∙ (λ i. cond (nat_lt u held.allocation.end) (Some (record held { permissions = permissions_again t u held.permissions le i; channels = channels_again t u held.channels le i })) None)
+  | inr e ↦ ap (option_and_then (held_at u)) (held_at-ended t held e) ∙ sym (held_at-ended u held (ended_after t u held.allocation.end le e))
+]
+
+slot_again : (t u : ℕ) (slot : Option Held) → t ≤ u → option_and_then (held_at u) (option_and_then (held_at t) slot) ≡ option_and_then (held_at u) slot
+slot_again t u None le = refl
+slot_again t u (Some held) le = held_again t u held le
+
+pub slots_again : (t u : ℕ) (slots : List (Option Held)) → t ≤ u → slots_at u (slots_at t slots) ≡ slots_at u slots
+slots_again t u [] le = refl
+slots_again t u (slot ∷ slots) le = λ i. slot_again t u slot le i ∷ slots_again t u slots le i
+
+-- what counts at a moment is found from what counted before
+pub counting_again : (t u : ℕ) (rows : Rows) → t ≤ u → counting u (counting t rows) ≡ counting u rows
+counting_again t u rows le = λ i. record { moment = u; slots = slots_again t u rows.slots le i }
+
+flattened : (t : ℕ) (slot : Option (Option Held)) → option_flatten (option_map (option_and_then (held_at t)) slot) ≡ option_and_then (held_at t) (option_flatten slot)
+flattened t None = refl
+flattened t (Some None) = refl
+flattened t (Some (Some held)) = refl
+
+pub held_in-counting : (t slot : ℕ) (rows : Rows) → held_in (counting t rows) slot ≡ option_and_then (held_at t) (held_in rows slot)
+held_in-counting t slot rows = ap option_flatten (slice_get-map (option_and_then (held_at t)) rows.slots slot) ∙ flattened t (slice_get rows.slots slot)
+
+-- ---- a greater moment never brings a row back
+
+-- what holds of what is left at a moment holds of what was left before
+before : {A : Type 0} (t u : ℕ) (f : Held → Option A) → t ≤ u → ((held : Held) (a : A) → f (counted u held) ≡ Some a → f (counted t held) ≡ Some a)
+    → (slot : Option Held) (a : A) → option_and_then f (option_and_then (held_at u) slot) ≡ Some a → option_and_then f (option_and_then (held_at t) slot) ≡ Some a
+before t u f le each None a h = h
+before t u f le each (Some held) a h = elim (cases_Bool (nat_lt u held.allocation.end)) [
+  | inl c ↦ ap (option_and_then f) (held_at-counts t held (counts_before t u held.allocation.end le c)) ∙ each held a (sym (ap (option_and_then f) (held_at-counts u held c)) ∙ h)
+  | inr e ↦ absurd (none-some a (sym (ap (option_and_then f) (held_at-ended u held e)) ∙ h))
+]
+
+before_in : {A : Type 0} (t u slot : ℕ) (rows : Rows) (f : Held → Option A) → t ≤ u → ((held : Held) (a : A) → f (counted u held) ≡ Some a → f (counted t held) ≡ Some a)
+    → (a : A) → option_and_then f (held_in (counting u rows) slot) ≡ Some a → option_and_then f (held_in (counting t rows) slot) ≡ Some a
+before_in t u slot rows f le each a h =
+    ap (option_and_then f) (held_in-counting t slot rows)
+    ∙ before t u f le each (held_in rows slot) a (sym (ap (option_and_then f) (held_in-counting u slot rows)) ∙ h)
+
+mapped : {A B : Type 0} (f : A → B) (o : Option A) → option_map f o ≡ option_and_then (λ x. Some (f x)) o
+mapped f None = refl
+mapped f (Some x) = refl
+
+pub allocation_counted : (t u slot : ℕ) (rows : Rows) (a : Allocation) → t ≤ u → allocation_at slot (counting u rows) ≡ Some a → allocation_at slot (counting t rows) ≡ Some a
+allocation_counted t u slot rows a le h =
+    mapped (λ held. held.allocation) (held_in (counting t rows) slot)
+    ∙ before_in t u slot rows (λ held. Some held.allocation) le (λ held a e. e) a (sym (mapped (λ held. held.allocation) (held_in (counting u rows) slot)) ∙ h)
+
+some_of : {A : Type 0} (o : Option A) → is_some o ≡ true → (a : A) × (o ≡ Some a)
+some_of None h = absurd (both_ways false refl h)
+some_of (Some a) h = (a, refl)
+
+permission_before : (t u : ℕ) (ip : Addr) → t ≤ u → (held : Held) (end : ℕ) → get (permissions_at u held.permissions) (ip_of ip) ≡ Some end → get (permissions_at t held.permissions) (ip_of ip) ≡ Some end
+permission_before t u ip le held end h =
+    let at_u = get-kept_of ip_total (counts_at u) held.permissions (ip_of ip) in
+    let at_t = get-kept_of ip_total (counts_at t) held.permissions (ip_of ip) in
+    elim (kept_before (counts_at t) (counts_at u) (λ end c. counts_before t u end le c) (get held.permissions (ip_of ip))) [
+      | inl none ↦ absurd (none-some end (sym (at_u ∙ none) ∙ h))
+      | inr same ↦ at_t ∙ sym (at_u ∙ same) ∙ h
+    ]
+
+pub permission_counted : (t u slot : ℕ) (ip : Addr) (rows : Rows) → t ≤ u → permitted slot ip (counting u rows) ≡ true → permitted slot ip (counting t rows) ≡ true
+permission_counted t u slot ip rows le h =
+    let found = some_of (option_and_then (λ held. get held.permissions (ip_of ip)) (held_in (counting u rows) slot)) h in
+    ap is_some (before_in t u slot rows (λ held. get held.permissions (ip_of ip)) le (permission_before t u ip le) found.0 found.1)
+
+peer_before : (t u number : ℕ) → t ≤ u → (held : Held) (peer : Addr) → option_map (λ b. b.peer) (get (channels_at u held.channels) number) ≡ Some peer → option_map (λ b. b.peer) (get (channels_at t held.channels) number) ≡ Some peer
+peer_before t u number le held peer h =
+    let peer_in : Option Binding → Option Addr = option_map (λ b. b.peer) in
+    let at_u = get-kept_of nat_cmp_total (binding_counts u) held.channels number in
+    let at_t = get-kept_of nat_cmp_total (binding_counts t) held.channels number in
+    elim (kept_before (binding_counts t) (binding_counts u) (λ b c. counts_before t u b.end le c) (get held.channels number)) [
+      | inl none ↦ absurd (none-some peer (sym (ap peer_in (at_u ∙ none)) ∙ h))
+      | inr same ↦ ap peer_in (at_t ∙ sym (at_u ∙ same)) ∙ h
+    ]
+
+pub channel_counted : (t u slot number : ℕ) (peer : Addr) (rows : Rows) → t ≤ u → peer_of slot number (counting u rows) ≡ Some peer → peer_of slot number (counting t rows) ≡ Some peer
+channel_counted t u slot number peer rows le h = before_in t u slot rows (λ held. option_map (λ b. b.peer) (get held.channels number)) le (peer_before t u number le) peer h

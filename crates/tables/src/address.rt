@@ -1,0 +1,22 @@
+//! Addresses, compared.
+
+ghost use Rattle.std.specs.Prelude.{◌≡◌};
+ghost use Rattle.std.specs.Ordering.{eq_by_cmp};
+ghost use Rattle.attributes.specs.Addresses.{ip_of};
+ghost use Rattle.tables.specs.Addresses.{ip_cmp, is_same_address};
+
+use attributes::Addr;
+
+/// Returns whether two addresses have the same IP address.
+pub(crate) fn is_same_ip(a: &Addr, b: &Addr) -> bool
+    ensures { result ≡ eq_by_cmp ip_cmp (ip_of a.now) (ip_of b.now) }
+{
+    a.ip() == b.ip()
+}
+
+/// Returns whether two addresses have the same IP address and the same port.
+pub(crate) fn is_same(a: &Addr, b: &Addr) -> bool
+    ensures { result ≡ is_same_address a.now b.now }
+{
+    is_same_ip(a, b) && a.port() == b.port()
+}

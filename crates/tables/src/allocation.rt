@@ -1,0 +1,20 @@
+//! Allocations (RFC 8656, section 6).
+
+use attributes::Addr;
+
+/// An allocation of a client (RFC 8656, section 6).
+#[derive(Clone, Copy, Debug, PartialEq, Eq)]
+pub struct Allocation {
+    /// The slot whose relayed address it has.
+    pub slot: usize,
+    /// The client's address and port.
+    pub client: Addr,
+    /// The user whose credentials made it, by index.
+    pub user: usize,
+    /// The transaction id of the Allocate request that made it.
+    pub tx: [u8; 12],
+    /// The lifetime that this request was given, in seconds.
+    pub lifetime: u32,
+    /// The first moment at which it doesn't count any more, in seconds.
+    pub end: u64,
+}

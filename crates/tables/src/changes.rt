@@ -1,0 +1,133 @@
+//! Changes. A refused one changes nothing.
+
+use crate::allocation::Allocation;
+use crate::channels::{Binding, CHANNEL_LIFETIME, Channels};
+use crate::held::Held;
+use crate::permissions::{PERMISSION_LIFETIME, Permissions};
+use crate::refusal::Refused;
+use crate::storage::Tables;
+use attributes::Addr;
+
+impl Tables {
+    ghost use Rattle.std.specs.Prelude.{◌≡◌, ◌≤◌, ◌<◌, IfOk, List, length};
+    ghost use Rattle.tables.specs.Rows.{rows_at};
+    ghost use Rattle.tables.specs.Changes.{Follows, allocate, refresh, permit, bind};
+
+    /// Makes an allocation at the lowest free slot, with no permissions and no channels, and returns the slot. Its end is
+    /// the lifetime, in seconds, after the moment (RFC 8656, section 7).
+    ///
+    /// # Errors
+    /// `Mismatch` where the client has an allocation; `Capacity` where no slot is free.
+    pub fn allocate(
+        &mut self,
+        now: u64,
+        client: Addr,
+        user: usize,
+        tx: [u8; 12],
+        lifetime: u32,
+    ) -> Result<usize, Refused>
+        ensures follows { Follows (allocate client user tx lifetime (rows_at now self.old)) self.old result self.new }
+        ensures inside { IfOk result (λ slot. slot < length self.old.slots) }
+    {
+        let moment = self.moment_at(now);
+        if self.held_by(&client, moment).is_some() {
+            return Err(Refused::Mismatch);
+        }
+        let slot = self.first_free(moment).ok_or(Refused::Capacity)?;
+        let allocation = Allocation {
+            slot,
+            client,
+            user,
+            tx,
+            lifetime,
+            end: moment + u64::from(lifetime),
+        };
+        self.hold(
+            slot,
+            moment,
+            Held {
+                allocation,
+                permissions: Permissions::new(),
+                channels: Channels::new(),
+            },
+        );
+        Ok(slot)
+    }
+
+    /// Gives the allocation at a slot a new end, the lifetime, in seconds, after the moment (RFC 8656, section 8). With a
+    /// lifetime of 0 it has ended.
+    ///
+    /// # Errors
+    /// `NoAllocation` where the slot has none.
+    pub fn refresh(&mut self, now: u64, slot: usize, lifetime: u32) -> Result<(), Refused>
+        ensures { Follows (refresh slot lifetime (rows_at now self.old)) self.old result self.new }
+    {
+        let moment = self.moment_at(now);
+        let held = self.held(slot, moment).ok_or(Refused::NoAllocation)?;
+        let held = Held {
+            allocation: Allocation {
+                end: moment + u64::from(lifetime),
+                ..held.allocation
+            },
+            permissions: held.permissions.at(moment),
+            channels: held.channels.at(moment),
+        };
+        self.hold(slot, moment, held);
+        Ok(())
+    }
+
+    /// Permits IP addresses at a slot for [`PERMISSION_LIFETIME`], or renews their permissions (RFC 8656, section 9): all of
+    /// them or none. Ports are not looked at. An empty list is a change too.
+    ///
+    /// # Errors
+    /// `NoAllocation` where the slot has none; `Capacity` where it would have more than [`MAX_PERMISSIONS`] permissions.
+    ///
+    /// [`MAX_PERMISSIONS`]: crate::MAX_PERMISSIONS
+    pub fn permit(&mut self, now: u64, slot: usize, ips: &[Addr]) -> Result<(), Refused>
+        ensures { Follows (permit slot ips.now (rows_at now self.old)) self.old result self.new }
+    {
+        let moment = self.moment_at(now);
+        let held = self.held(slot, moment).ok_or(Refused::NoAllocation)?;
+        let mut permissions = held.permissions.at(moment);
+        permissions.put_all(ips, moment + PERMISSION_LIFETIME)?;
+        let held = Held {
+            allocation: held.allocation,
+            permissions,
+            channels: held.channels.at(moment),
+        };
+        self.hold(slot, moment, held);
+        Ok(())
+    }
+
+    /// Binds a channel number to a peer at a slot for [`CHANNEL_LIFETIME`], or renews that, and permits the peer's IP
+    /// address as [`Tables::permit`] does (RFC 8656, section 12).
+    ///
+    /// # Errors
+    /// `NoAllocation` where the slot has none; `Conflict` where the number is bound to another peer, or the peer to another
+    /// number; `Capacity` where there would be more than [`MAX_CHANNELS`] channels or [`MAX_PERMISSIONS`] permissions.
+    ///
+    /// [`MAX_CHANNELS`]: crate::MAX_CHANNELS
+    /// [`MAX_PERMISSIONS`]: crate::MAX_PERMISSIONS
+    pub fn bind(&mut self, now: u64, slot: usize, number: u16, peer: Addr) -> Result<(), Refused>
+        requires range { (0x4000 ≤ number) × (number ≤ 0x4fff) }
+        ensures { Follows (bind slot number peer (rows_at now self.old)) self.old result self.new }
+    {
+        let moment = self.moment_at(now);
+        let held = self.held(slot, moment).ok_or(Refused::NoAllocation)?;
+        let mut channels = held.channels.at(moment);
+        if !channels.may_bind(number, &peer) {
+            return Err(Refused::Conflict);
+        }
+        let end = moment + CHANNEL_LIFETIME;
+        channels.put(number, Binding { peer, end })?;
+        let mut permissions = held.permissions.at(moment);
+        permissions.put(peer, moment + PERMISSION_LIFETIME)?;
+        let held = Held {
+            allocation: held.allocation,
+            permissions,
+            channels,
+        };
+        self.hold(slot, moment, held);
+        Ok(())
+    }
+}

@@ -1,0 +1,97 @@
+//! Look-ups. None of them changes the tables.
+
+use crate::allocation::Allocation;
+use crate::steps::Steps;
+use crate::storage::Tables;
+use attributes::Addr;
+use std::sync::ledger::Ledger;
+
+impl Tables {
+    ghost use Rattle.std.specs.Prelude.{◌≡◌, ◌≤◌, ◌<◌, IfSome, length};
+    ghost use Rattle.std.specs.Option.{option_copied};
+    ghost use Rattle.tables.specs.Rows.{rows_at};
+    ghost use Rattle.tables.specs.LookUps.{allocation_of, allocation_at, peer_of, channel_of, permitted};
+
+    /// Returns the allocation of a client at a moment.
+    pub fn allocation_of<L: Ledger>(
+        &self,
+        client: Addr,
+        now: u64,
+        steps: &mut Steps<L>,
+    ) -> Option<&Allocation>
+        ensures allocation { option_copied result ≡ allocation_of client (rows_at now self.now) }
+        ensures inside { IfSome result (λ a. a.now.slot < length self.now.slots) }
+    {
+        let held = self.held_by(&client, self.moment_at(now))?;
+        Some(&held.allocation)
+    }
+
+    /// Returns the allocation at a slot at a moment. A slot that isn't there has none.
+    pub fn allocation_at<L: Ledger>(
+        &self,
+        slot: usize,
+        now: u64,
+        steps: &mut Steps<L>,
+    ) -> Option<&Allocation>
+        ensures { option_copied result ≡ allocation_at slot (rows_at now self.now) }
+    {
+        let held = self.held(slot, self.moment_at(now))?;
+        Some(&held.allocation)
+    }
+
+    /// Returns the peer that a channel of a slot is bound to at a moment.
+    pub fn peer_of<L: Ledger>(
+        &self,
+        slot: usize,
+        number: u16,
+        now: u64,
+        steps: &mut Steps<L>,
+    ) -> Option<Addr>
+        ensures { result ≡ peer_of slot number (rows_at now self.now) }
+    {
+        let moment = self.moment_at(now);
+        let held = self.held(slot, moment)?;
+        let binding = held.channels.binding_of(number)?;
+        if moment < binding.end {
+            Some(binding.peer)
+        } else {
+            None
+        }
+    }
+
+    /// Returns the channel of a slot that is bound to a peer at a moment: a number from 0x4000 to 0x4FFF.
+    pub fn channel_of<L: Ledger>(
+        &self,
+        slot: usize,
+        peer: Addr,
+        now: u64,
+        steps: &mut Steps<L>,
+    ) -> Option<u16>
+        ensures number { result ≡ channel_of slot peer (rows_at now self.now) }
+        ensures range { IfSome result (λ n. (0x4000 ≤ n) × (n ≤ 0x4fff)) }
+    {
+        let moment = self.moment_at(now);
+        let held = self.held(slot, moment)?;
+        held.channels.number_at(&peer, moment)
+    }
+
+    /// Returns whether an IP address has a permission at a slot at a moment. The port is not looked at.
+    pub fn permitted<L: Ledger>(
+        &self,
+        slot: usize,
+        ip: Addr,
+        now: u64,
+        steps: &mut Steps<L>,
+    ) -> bool
+        ensures { result ≡ permitted slot ip (rows_at now self.now) }
+    {
+        let moment = self.moment_at(now);
+        let Some(held) = self.held(slot, moment) else {
+            return false;
+        };
+        match held.permissions.end_of(&ip) {
+            Some(end) => moment < end,
+            None => false,
+        }
+    }
+}

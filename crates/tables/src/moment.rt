@@ -1,0 +1,14 @@
+//! Moments, in whole seconds.
+
+ghost use Rattle.std.specs.Prelude.{◌≡◌};
+ghost use Rattle.tables.specs.Moments.{moment_of};
+
+/// The latest moment, in seconds. A later one counts as this.
+pub const LATEST: u64 = 1 << 62;
+
+/// Returns the moment that counts where one is handed in: at most the latest, and at least the greatest of the changes made.
+pub(crate) fn moment_of(greatest: u64, now: u64) -> u64
+    ensures { result ≡ moment_of greatest now }
+{
+    greatest.max(now.min(LATEST))
+}

@@ -1,0 +1,146 @@
+//! The permissions of an allocation (RFC 8656, section 9).
+
+ghost use Rattle.std.specs.Prelude.{◌≡◌, position};
+ghost use Rattle.std.specs.Ordering.{eq_by_cmp};
+ghost use Rattle.attributes.specs.Addresses.{ip_of};
+ghost use Rattle.tables.specs.Addresses.{ip_cmp};
+
+use crate::address::is_same_ip;
+use crate::refusal::Refused;
+use arrayvec::ArrayVec;
+use attributes::Addr;
+use std::marker::Model;
+
+/// The lifetime of a permission, in seconds (RFC 8656, section 9).
+pub const PERMISSION_LIFETIME: u64 = 300;
+
+/// The greatest number of permissions of an allocation.
+pub const MAX_PERMISSIONS: usize = 64;
+
+/// The permission of an IP address.
+#[derive(Clone, Copy, Debug, PartialEq, Eq)]
+pub(crate) struct Permission {
+    /// The address, whose port is not looked at.
+    pub(crate) ip: Addr,
+    /// The first moment at which it doesn't count any more, in seconds.
+    pub(crate) end: u64,
+}
+
+impl Default for Permission {
+    fn default() -> Self {
+        Self {
+            ip: Addr::V4 {
+                ip: [0; 4],
+                port: 0,
+            },
+            end: 0,
+        }
+    }
+}
+
+/// The permissions of an allocation: IP addresses with the ends of their permissions. Ended ones may still be among them.
+#[derive(Drop)]
+pub(crate) struct Permissions {
+    rows: ArrayVec<Permission, MAX_PERMISSIONS>,
+}
+
+impl Model for Permissions {
+    ghost use Rattle.tables.specs.Permissions.{PermissionMap, coded_permissions, permissions_of, ArePermissions};
+
+    ghost Value = { PermissionMap };
+
+    ghost coded = { coded_permissions };
+
+    ghost view = { λ p. permissions_of p.rows.items };
+
+    ghost invariant = { λ p. ArePermissions p.rows.items };
+}
+
+/// Returns the place of the permission of an IP address, if there is one.
+fn place_of(rows: &[Permission], ip: &Addr) -> Option<usize>
+    ensures { result ≡ position (λ row. eq_by_cmp ip_cmp (ip_of ip.now) (ip_of row.ip)) rows.now }
+{
+    rows.iter().position(|row| is_same_ip(ip, &row.ip))
+}
+
+impl Permissions {
+    ghost use Rattle.std.specs.Prelude.{◌≡◌, ◌<◌, ◌≤◌, OnOk, OnErr, IfErr};
+    ghost use Rattle.std.specs.FinMap.{empty, get, insert, len};
+    ghost use Rattle.attributes.specs.Addresses.{ip_of};
+    ghost use Rattle.tables.specs.Permissions.{permissions_at, with_all};
+    ghost use Rattle.tables.specs.declared.permissions.TheConstants.{MAX_PERMISSIONS};
+    ghost use Rattle.tables.specs.declared.refusal.Refused.TheVariants.{Capacity};
+
+    /// Makes a collection of no permissions.
+    pub(crate) fn new() -> Permissions
+        ensures { result ≡ empty }
+    {
+        Permissions {
+            rows: ArrayVec::new(),
+        }
+    }
+
+    /// Returns the end of the permission of an IP address, if there is one.
+    pub(crate) fn end_of(&self, ip: &Addr) -> Option<u64>
+        ensures { result ≡ get self.now (ip_of ip.now) }
+    {
+        let rows = self.rows.as_slice();
+        let Some(place) = place_of(rows, ip) else {
+            return None;
+        };
+        Some(rows[place].end)
+    }
+
+    /// Returns the permissions that count at a moment.
+    pub(crate) fn at(&self, moment: u64) -> Permissions
+        ensures left { result ≡ permissions_at moment self.now }
+        ensures few { len result ≤ MAX_PERMISSIONS }
+    {
+        let mut rows = ArrayVec::new();
+        for row in self.rows.as_slice() {
+            if moment < row.end {
+                rows.push(*row);
+            }
+        }
+        Permissions { rows }
+    }
+
+    /// Adds a permission, or gives it a new end where there is one.
+    ///
+    /// # Errors
+    /// `Capacity` where there would be more than [`MAX_PERMISSIONS`]. Nothing is changed then.
+    pub(crate) fn put(&mut self, ip: Addr, end: u64) -> Result<(), Refused>
+        ensures put { OnOk result (self.new ≡ insert self.old (ip_of ip) end) }
+        ensures few { OnOk result (len self.new ≤ MAX_PERMISSIONS) }
+        ensures why { IfErr result (λ e. e ≡ Capacity) }
+        ensures full { OnErr result (MAX_PERMISSIONS < len (insert self.old (ip_of ip) end)) }
+        ensures unchanged { OnErr result (self.new ≡ self.old) }
+    {
+        if let Some(place) = place_of(self.rows.as_slice(), &ip) {
+            self.rows[place].end = end;
+            return Ok(());
+        }
+        if self.rows.is_full() {
+            return Err(Refused::Capacity);
+        }
+        self.rows.push(Permission { ip, end });
+        Ok(())
+    }
+
+    /// Adds permissions for IP addresses, or gives them a new end.
+    ///
+    /// # Errors
+    /// `Capacity` where there would be more than [`MAX_PERMISSIONS`].
+    pub(crate) fn put_all(&mut self, ips: &[Addr], end: u64) -> Result<(), Refused>
+        requires { len self.old ≤ MAX_PERMISSIONS }
+        ensures put { OnOk result (self.new ≡ with_all self.old ips.now end) }
+        ensures few { OnOk result (len self.new ≤ MAX_PERMISSIONS) }
+        ensures why { IfErr result (λ e. e ≡ Capacity) }
+        ensures full { OnErr result (MAX_PERMISSIONS < len (with_all self.old ips.now end)) }
+    {
+        for ip in ips {
+            self.put(*ip, end)?;
+        }
+        Ok(())
+    }
+}

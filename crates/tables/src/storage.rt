@@ -1,0 +1,146 @@
+//! The tables.
+
+ghost use Rattle.std.specs.Prelude.{◌≡◌};
+
+use crate::address::is_same;
+use crate::held::Held;
+use crate::moment::moment_of;
+use attributes::Addr;
+use std::alloc::{AllocError, Global};
+use std::marker::Model;
+
+/// The greatest number of slots.
+pub const MAX_SLOTS: usize = 256;
+
+/// The tables: for each slot an allocation with its permissions and channels, or nothing. A row counts at a moment as long
+/// as that is smaller than its end, and its allocation counts. All memory is allocated by [`Tables::new`].
+///
+/// The model is the rows that count at the greatest moment of the changes made. What is stored may have ended.
+#[derive(Drop)]
+pub struct Tables {
+    pub(crate) moment: u64,
+    pub(crate) slots: Vec<Option<Held>>,
+}
+
+impl Model for Tables {
+    ghost use Rattle.tables.specs.Rows.{Rows, slots_at};
+    ghost use Rattle.tables.specs.Storage.{AreTables, coded_rows};
+    ghost use Rattle.tables.specs.contracts.held.Held as held;
+
+    ghost Value = { Rows };
+
+    ghost coded = { coded_rows held.the_row.coded };
+
+    ghost view = { λ t. record { moment = t.moment; slots = slots_at t.moment t.slots.items } };
+
+    ghost invariant = { λ t. AreTables t.moment t.slots.items };
+}
+
+impl Tables {
+    ghost use Rattle.std.specs.Prelude.{◌≡◌, ◌≤◌, ◌<◌, IfOk, IfSome, length, option_and_then};
+    ghost use Rattle.std.specs.Option.{option_copied};
+    ghost use Rattle.tables.specs.Moments.{moment_of};
+    ghost use Rattle.tables.specs.Rows.{no_rows, counting, held_at};
+    ghost use Rattle.tables.specs.LookUps.{held_in, held_by};
+    ghost use Rattle.tables.specs.Changes.{first_free, with_held};
+    ghost use Rattle.tables.specs.declared.moment.TheConstants.{LATEST};
+    ghost use Rattle.tables.specs.declared.storage.TheConstants.{MAX_SLOTS};
+
+    /// Makes tables of 1 to [`MAX_SLOTS`] slots, none of which has an allocation.
+    ///
+    /// # Errors
+    /// Where memory runs out.
+    pub fn new(alloc: Global, slots: usize) -> Result<Tables, AllocError>
+        requires some { 1 ≤ slots }
+        requires few { slots ≤ MAX_SLOTS }
+        ensures { IfOk result (λ t. t ≡ no_rows slots) }
+    {
+        let mut rows = Vec::with_capacity(alloc, slots)?;
+        for _ in 0..slots {
+            rows.push(None)?;
+        }
+        Ok(Tables {
+            moment: 0,
+            slots: rows,
+        })
+    }
+
+    /// Returns the number of slots.
+    pub fn slots(&self) -> usize
+        ensures { result ≡ length self.now.slots }
+    {
+        self.slots.len()
+    }
+
+    /// Returns the moment that counts where one is handed in.
+    pub(crate) fn moment_at(&self, now: u64) -> u64
+        ensures moment { result ≡ moment_of self.now.moment now }
+        ensures later { self.now.moment ≤ result }
+        ensures latest { result ≤ LATEST }
+    {
+        moment_of(self.moment, now)
+    }
+
+    /// Returns what a slot holds, if its allocation counts at a moment. Of the permissions and channels some may have ended.
+    pub(crate) fn held(&self, slot: usize, moment: u64) -> Option<&Held>
+        requires later { self.now.moment ≤ moment }
+        ensures held { option_and_then (held_at moment) (option_copied result) ≡ held_in (counting moment self.now) slot }
+        ensures counts { IfSome result (λ held. moment < held.now.allocation.end) }
+        ensures placed { IfSome result (λ held. held.now.allocation.slot < length self.now.slots) }
+    {
+        let Some(slot) = self.slots.get(slot) else {
+            return None;
+        };
+        let Some(held) = slot else {
+            return None;
+        };
+        if moment < held.allocation.end {
+            Some(held)
+        } else {
+            None
+        }
+    }
+
+    /// Returns what a client's slot holds, if its allocation counts at a moment.
+    pub(crate) fn held_by(&self, client: &Addr, moment: u64) -> Option<&Held>
+        requires later { self.now.moment ≤ moment }
+        ensures held { option_and_then (held_at moment) (option_copied result) ≡ held_by client.now (counting moment self.now) }
+        ensures counts { IfSome result (λ held. moment < held.now.allocation.end) }
+        ensures placed { IfSome result (λ held. held.now.allocation.slot < length self.now.slots) }
+    {
+        for slot in &self.slots {
+            if let Some(held) = slot
+                && moment < held.allocation.end
+                && is_same(client, &held.allocation.client)
+            {
+                return Some(held);
+            }
+        }
+        None
+    }
+
+    /// Returns the lowest slot that holds nothing at a moment.
+    pub(crate) fn first_free(&self, moment: u64) -> Option<usize>
+        requires later { self.now.moment ≤ moment }
+        ensures { result ≡ first_free (counting moment self.now) }
+    {
+        for slot in 0..self.slots.len() {
+            if self.held(slot, moment).is_none() {
+                return Some(slot);
+            }
+        }
+        None
+    }
+
+    /// Puts into a slot what it holds from a moment on, the greatest so far.
+    pub(crate) fn hold(&mut self, slot: usize, moment: u64, held: Held)
+        requires inside { slot < length self.old.slots }
+        requires placed { held.allocation.slot < length self.old.slots }
+        requires later { self.old.moment ≤ moment }
+        requires latest { moment ≤ LATEST }
+        ensures { self.new ≡ with_held (counting moment self.old) slot held }
+    {
+        self.moment = moment;
+        self.slots[slot] = Some(held);
+    }
+}
