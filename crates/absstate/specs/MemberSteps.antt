@@ -1,10 +1,14 @@
 -- The machine's step from a member of an abstract state, where the abstract step accepts the instruction.
-use Rattle.std.specs.Prelude.{◌≡◌, ℕ, List, Option, Some, None, Ok, IsOk}
+use Rattle.std.specs.Prelude.{◌≡◌, ℕ, List, Option, Some, None, Result, Ok, IsOk}
 use Rattle.insn.specs.declared.instruction.Insn.{Insn}
 use Rattle.semantics.specs.Machine.{State, Surroundings}
 use Rattle.semantics.specs.Slots.{fetch}
-use Rattle.semantics.specs.Flow.{branch_slot}
+use Rattle.semantics.specs.Effects.{effect}
+use Rattle.semantics.specs.Flow.{Flow, Straight, Jumps, Forks, Ends, flow_of, branch_slot}
+use Rattle.semantics.specs.LooseRuns.{effect_of_branch}
 use Rattle.semantics.specs.Runs.{StepResult, Goes, Exits, Sticks, AreReal, step}
+use Rattle.semantics.specs.declared.effect.Effect.{Effect}
+use Rattle.semantics.specs.declared.reason.Reason.{Reason}
 use Rattle.semantics.specs.declared.fetching.Fetched.TheVariants.{Begins}
 use Rattle.semantics.specs.declared.fetching.Branch.{Branch}
 use Rattle.semantics.specs.declared.fetching.Branch.TheVariants.{NotTaken, Taken}
@@ -38,15 +42,25 @@ IsExit next.Exit = Unit {0}
 IsExit (next.On b) = ⊥
 IsExit (next.Fork not_taken taken) = ⊥
 
+-- the branch that a machine takes by an effect: of a conditional jump, that of the comparison's result
+abbrev pub IsTakenBy : Flow → Result Effect Reason → Branch → Type 0
+IsTakenBy (Forks distance) e branch = e ≡ Ok (effect_of_branch distance branch)
+IsTakenBy Straight e branch = Unit {0}
+IsTakenBy (Jumps distance) e branch = Unit {0}
+IsTakenBy Ends e branch = Unit {0}
+
+abbrev pub IsTaken : Surroundings → State → Insn → Branch → Type 0
+IsTaken w s i branch = IsTakenBy (flow_of i) (effect w.context s.memory s.registers i) branch
+
 -- the step goes on to a member of the state behind the branch that it takes, or exits where the abstract step does
-abbrev pub Follows : {D : Type 0} → (D → ℕ → Type 0) → List Insn → Mode → Places → State → Insn → Next D → StepResult → Type 0
-Follows Member code mode places s i answer (Goes t) = (branch : Branch) × IsBehindSome Member code mode places s i branch (state_behind answer branch) t
-Follows Member code mode places s i answer (Exits verdict) = IsExit answer
-Follows Member code mode places s i answer (Sticks reason slot) = ⊥
+abbrev pub Follows : {D : Type 0} → (D → ℕ → Type 0) → Surroundings → List Insn → Mode → Places → State → Insn → Next D → StepResult → Type 0
+Follows Member w code mode places s i answer (Goes t) = (branch : Branch) × IsTaken w s i branch × IsBehindSome Member code mode places s i branch (state_behind answer branch) t
+Follows Member w code mode places s i answer (Exits verdict) = IsExit answer
+Follows Member w code mode places s i answer (Sticks reason slot) = ⊥
 
 -- Every step at the instruction, from a member, in real surroundings and in code in which each branch of the instruction
 -- leads to a slot. The step isn't stuck.
 abbrev pub StepsFollow : {D : Type 0} → (D → ℕ → Type 0) → AbsState D → Insn → Next D → Type 0
 StepsFollow Member a i answer = (w : Surroundings) (code : List Insn) (mode : Mode) (places : Places) (s : State)
     → AreReal w → fetch code s.slot ≡ Begins i → ((branch : Branch) → IsOk (branch_slot code s.slot i branch)) → IsMember Member mode places a s
-    → Follows Member code mode places s i answer (step w code s)
+    → Follows Member w code mode places s i answer (step w code s)

@@ -74,9 +74,9 @@ module _ {D : Type 0} (Member : D → ℕ → Type 0) (code : List Insn) (i : In
   good_left None left t next good goes behind = absurd behind
   good_left (Some b) left t next good goes behind = good_branch Taken b next.0 t next.1 goes behind (of_one (AllRunsExit Member code) left next.0 next.2 good)
 
-  good_from : (answer : Next D) (on : Option (Pending D)) (left : List (Pending D)) → GoesOn code s.slot i answer on left → IfSome on (AllRunsExit Member code) → All (AllRunsExit Member code) left → (r : StepResult) → step w code s ≡ r → Follows Member code Loose places s i answer r → ExitsFrom w code s
-  good_from answer on left goes good goods (Goes t) is (NotTaken, behind) = good_next (state_behind answer NotTaken) on t goes.0 good is behind
-  good_from answer on left goes good goods (Goes t) is (Taken, behind) = good_left (state_behind answer Taken) left t goes.1 goods is behind
+  good_from : (answer : Next D) (on : Option (Pending D)) (left : List (Pending D)) → GoesOn code s.slot i answer on left → IfSome on (AllRunsExit Member code) → All (AllRunsExit Member code) left → (r : StepResult) → step w code s ≡ r → Follows Member w code Loose places s i answer r → ExitsFrom w code s
+  good_from answer on left goes good goods (Goes t) is (NotTaken, taken, behind) = good_next (state_behind answer NotTaken) on t goes.0 good is behind
+  good_from answer on left goes good goods (Goes t) is (Taken, taken, behind) = good_left (state_behind answer Taken) left t goes.1 goods is behind
   good_from answer on left goes good goods (Exits verdict) is follows = exits_now Member code i s here w verdict is
   good_from answer on left goes good goods (Sticks reason slot) is follows = absurd follows
 

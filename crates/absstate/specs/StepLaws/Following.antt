@@ -19,7 +19,7 @@ use Rattle.semantics.specs.declared.fetching.Branch.TheVariants.{NotTaken, Taken
 use Rattle.interval.specs.Domains.{Operations, AreSound}
 use Rattle.absstate.specs.AbstractSteps as abstract
 use Rattle.absstate.specs.Membership.{Mode, Places, IsMember}
-use Rattle.absstate.specs.MemberSteps.{IsBehind, IsBehindSome, Follows, StepsFollow}
+use Rattle.absstate.specs.MemberSteps.{IsBehind, IsBehindSome, IsTakenBy, IsTaken, Follows, StepsFollow}
 use Rattle.absstate.specs.declared.abstract_state.AbsState.{AbsState}
 use Rattle.absstate.specs.declared.abstract_step.Next.{Next}
 use Rattle.absstate.specs.declared.abstract_step.Next.TheVariants as next
@@ -84,35 +84,40 @@ module _ {D : Type 0} (ops : Operations D) (Member : D → ℕ → Type 0) (soun
     behind : (branch : Branch) (b : AbsState D) → ((to : ℕ) → IsMember Member mode places b (record s { slot = to })) → (n : ℕ) → branch_slot code s.slot i branch ≡ Ok n → IsBehind Member code mode places s i branch b (record s { slot = n })
     behind branch b h n leads = record { leads = leads; memory = refl; member = h n }
 
-    effect_follows : (answer : Next D) (e : Effect) → IsEffectOf ops Member sound mode places a s i answer e → Follows Member code mode places s i answer (applied w code s i (Ok e))
-    effect_follows (next.On b) (effect.Write r v) is = (
+    -- that branch is taken, by the effect of the instruction
+    taken_by : (r : Result Effect Reason) (f : Flow) (branch : Branch) → effects.effect w.context s.memory s.registers i ≡ r → flow_of i ≡ f → IsTakenBy f r branch → IsTaken w s i branch
+    taken_by r f branch is flows h = subst (λ (x : Flow). IsTakenBy x (effects.effect w.context s.memory s.registers i) branch) (sym flows) (subst (λ (x : Result Effect Reason). IsTakenBy f x branch) (sym is) h)
+
+    effect_follows : (answer : Next D) (e : Effect) → effects.effect w.context s.memory s.registers i ≡ Ok e → IsEffectOf ops Member sound mode places a s i answer e → Follows Member w code mode places s i answer (applied w code s i (Ok e))
+    effect_follows (next.On b) (effect.Write r v) has is = (
       NotTaken,
+      taken_by (Ok (effect.Write r v)) flow.Straight NotTaken has is.3 tt,
       record {
         leads = straight_leads code s.slot i NotTaken is.3;
         memory = refl;
         member = subst (λ (c : AbsState D). IsMember Member mode places c (record s { slot = s.slot + slots_of i; registers = write_register s r v })) (sym is.1) (member_written Member mode places a s member r is.0 v (s.slot + slots_of i) is.2);
       },
     )
-    effect_follows (next.On b) (effect.Jump offset) is =
+    effect_follows (next.On b) (effect.Jump offset) has is =
         let to = ok_of (branch_slot code s.slot i NotTaken) (good NotTaken) in
-        subst (Follows Member code mode places s i (next.On b)) (sym (jump_goes w code s i offset NotTaken to.0 is.1 to.1))
-        (NotTaken, behind NotTaken b (λ n. subst (λ (c : AbsState D). IsMember Member mode places c (record s { slot = n })) (sym is.0) (member_moved Member mode places a s member n)) to.0 to.1)
-    effect_follows (next.On b) effect.Pass is = absurd is
-    effect_follows (next.On b) (effect.Exit verdict) is = absurd is
-    effect_follows (next.Fork not_taken taken) e f =
+        subst (Follows Member w code mode places s i (next.On b)) (sym (jump_goes w code s i offset NotTaken to.0 is.1 to.1))
+        (NotTaken, taken_by (Ok (effect.Jump offset)) (flow.Jumps offset) NotTaken has is.1 tt, behind NotTaken b (λ n. subst (λ (c : AbsState D). IsMember Member mode places c (record s { slot = n })) (sym is.0) (member_moved Member mode places a s member n)) to.0 to.1)
+    effect_follows (next.On b) effect.Pass has is = absurd is
+    effect_follows (next.On b) (effect.Exit verdict) has is = absurd is
+    effect_follows (next.Fork not_taken taken) e has f =
         let to = ok_of (branch_slot code s.slot i f.branch) (good f.branch) in
-        subst (Follows Member code mode places s i (next.Fork not_taken taken)) (sym (ap (λ (x : Effect). applied w code s i (Ok x)) f.effect_is ∙ branch_goes w code s i f.offset f.branch to.0 (ap flow_of f.jump) to.1))
-        (f.branch, subst (λ (o : Option (AbsState D)). IsBehindSome Member code mode places s i f.branch o (record s { slot = to.0 })) (sym f.behind_is) (behind f.branch f.behind f.member to.0 to.1))
-    effect_follows next.Exit (effect.Exit verdict) is = tt
-    effect_follows next.Exit (effect.Write r v) is = absurd is
-    effect_follows next.Exit (effect.Jump offset) is = absurd is
-    effect_follows next.Exit effect.Pass is = absurd is
+        subst (Follows Member w code mode places s i (next.Fork not_taken taken)) (sym (ap (λ (x : Effect). applied w code s i (Ok x)) f.effect_is ∙ branch_goes w code s i f.offset f.branch to.0 (ap flow_of f.jump) to.1))
+        (f.branch, taken_by (Ok e) (flow.Forks f.offset) f.branch has (ap flow_of f.jump) (ap Ok f.effect_is), subst (λ (o : Option (AbsState D)). IsBehindSome Member code mode places s i f.branch o (record s { slot = to.0 })) (sym f.behind_is) (behind f.branch f.behind f.member to.0 to.1))
+    effect_follows next.Exit (effect.Exit verdict) has is = tt
+    effect_follows next.Exit (effect.Write r v) has is = absurd is
+    effect_follows next.Exit (effect.Jump offset) has is = absurd is
+    effect_follows next.Exit effect.Pass has is = absurd is
 
   -- an accepted step is followed from every member
   pub steps_follow : (a : AbsState D) (i : Insn) → Fits i → (answer : Next D) → abstract.step ops a i ≡ Ok answer → StepsFollow Member a i answer
   steps_follow a i fit answer is w code mode places s real here good member =
       let agree = accepted_agree mode places a s member w.context i fit answer is in
-      subst (Follows Member code mode places s i answer) (sym (step_is w code s i (Ok agree.0) here agree.1)) (effect_follows w code mode places a s member i good answer agree.0 agree.2)
+      subst (Follows Member w code mode places s i answer) (sym (step_is w code s i (Ok agree.0) here agree.1)) (effect_follows w code mode places a s member i good answer agree.0 agree.1 agree.2)
 
   pub followed : (a : AbsState D) (i : Insn) → Fits i → (answer : Result (Next D) Reason) → answer ≡ abstract.step ops a i → IfOk answer (λ next. StepsFollow Member a i next)
   followed a i fit (Ok answer) is = steps_follow a i fit answer (sym is)

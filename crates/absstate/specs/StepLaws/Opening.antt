@@ -64,8 +64,8 @@ module _ {D : Type 0} (ops : Operations D) (Member : D → ℕ → Type 0) (soun
 
   module _ (precise : ArePrecise ops Member) (real : AreReal w) (here : fetch code s.slot ≡ Begins i) (good : (branch : Branch) → IsOk (branch_slot code s.slot i branch)) where
     -- the one state behind an instruction that doesn't fork
-    goes_on : (c b : AbsState D) (n : ℕ) → c ≡ b → branch_slot code s.slot i NotTaken ≡ Ok n → (r : StepResult) → step w code s ≡ r → Follows Member code Strict places s i (next.On c) r → Opens Member w code places s n b
-    goes_on c b n same leads (Goes t) e (NotTaken, behind) =
+    goes_on : (c b : AbsState D) (n : ℕ) → c ≡ b → branch_slot code s.slot i NotTaken ≡ Ok n → (r : StepResult) → step w code s ≡ r → Follows Member w code Strict places s i (next.On c) r → Opens Member w code places s n b
+    goes_on c b n same leads (Goes t) e (NotTaken, taken, behind) =
         let now : IsMember Member Strict places b t = subst (λ (x : AbsState D). IsMember Member Strict places x t) same behind.member in
         record {
           state = t;
@@ -76,7 +76,7 @@ module _ {D : Type 0} (ops : Operations D) (Member : D → ℕ → Type 0) (soun
           memory = behind.memory;
           member = now;
         }
-    goes_on c b n same leads (Goes t) e (Taken, behind) = absurd behind
+    goes_on c b n same leads (Goes t) e (Taken, taken, behind) = absurd behind
     goes_on c b n same leads (Exits verdict) e follows = absurd follows
     goes_on c b n same leads (Sticks reason slot) e follows = absurd follows
 
