@@ -52,6 +52,7 @@ fn allocate_anew(
 ) -> Result<Grant, ErrorCode>
     ensures gives { Gives (allocate_anew client user message.now (rows_at now tables.old)) tables.old result tables.new }
     ensures inside { IfOk result (IsInside (length tables.old.slots)) }
+    ensures slots { length tables.new.slots ≡ length tables.old.slots }
 {
     let lifetime = acceptable_lifetime(message)?;
     match tables.allocate(now, client, user, message.tx(), lifetime) {
@@ -74,6 +75,7 @@ pub(crate) fn allocate(
 ) -> Result<Grant, ErrorCode>
     ensures gives { Gives (allocate client user message.now tables.old (rows_at now tables.old)) tables.old result tables.new }
     ensures inside { IfOk result (IsInside (length tables.old.slots)) }
+    ensures slots { length tables.new.slots ≡ length tables.old.slots }
 {
     let Some(allocation) = allocation_of(tables, client, now) else {
         return allocate_anew(tables, client, user, message, now);

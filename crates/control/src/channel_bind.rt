@@ -1,6 +1,6 @@
 //! ChannelBind (RFC 8656, section 12).
 
-ghost use Rattle.std.specs.Prelude.{◌≡◌};
+ghost use Rattle.std.specs.Prelude.{◌≡◌, length};
 ghost use Rattle.tables.specs.Rows.{rows_at};
 ghost use Rattle.control.specs.Control.{Gives, channel_bind};
 
@@ -23,7 +23,8 @@ pub(crate) fn channel_bind(
     message: &Message<'_>,
     now: u64,
 ) -> Result<Grant, ErrorCode>
-    ensures { Gives (channel_bind client user message.now (rows_at now tables.old)) tables.old result tables.new }
+    ensures gives { Gives (channel_bind client user message.now (rows_at now tables.old)) tables.old result tables.new }
+    ensures slots { length tables.new.slots ≡ length tables.old.slots }
 {
     let allocation = own_allocation(tables, client, user, now)?;
     let number = channel_of(message)?;

@@ -1,6 +1,6 @@
 //! CreatePermission (RFC 8656, section 10).
 
-ghost use Rattle.std.specs.Prelude.{◌≡◌, bytes_eq};
+ghost use Rattle.std.specs.Prelude.{◌≡◌, bytes_eq, length};
 ghost use Rattle.std.specs.List.{list_any};
 ghost use Rattle.attributes.specs.Addresses.{ip_of};
 ghost use Rattle.tables.specs.Rows.{rows_at};
@@ -81,7 +81,8 @@ pub(crate) fn create_permission(
     message: &Message<'_>,
     now: u64,
 ) -> Result<Grant, ErrorCode>
-    ensures { Gives (create_permission client user message.now (rows_at now tables.old)) tables.old result tables.new }
+    ensures gives { Gives (create_permission client user message.now (rows_at now tables.old)) tables.old result tables.new }
+    ensures slots { length tables.new.slots ≡ length tables.old.slots }
 {
     let allocation = own_allocation(tables, client, user, now)?;
     if !are_ipv4(message)? {

@@ -1,6 +1,6 @@
 //! Refresh (RFC 8656, section 8).
 
-ghost use Rattle.std.specs.Prelude.{◌≡◌};
+ghost use Rattle.std.specs.Prelude.{◌≡◌, length};
 ghost use Rattle.tables.specs.Rows.{rows_at};
 ghost use Rattle.control.specs.Control.{Gives, refresh};
 
@@ -24,7 +24,8 @@ pub(crate) fn refresh(
     message: &Message<'_>,
     now: u64,
 ) -> Result<Grant, ErrorCode>
-    ensures { Gives (refresh client user message.now (rows_at now tables.old)) tables.old result tables.new }
+    ensures gives { Gives (refresh client user message.now (rows_at now tables.old)) tables.old result tables.new }
+    ensures slots { length tables.new.slots ≡ length tables.old.slots }
 {
     let allocation = own_allocation(tables, client, user, now)?;
     if family_of(message)?.is_some_and(|requested| requested != family::IPV4) {

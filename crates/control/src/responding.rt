@@ -75,6 +75,7 @@ fn serve(
 ) -> Result<Grant, ErrorCode>
     ensures gives { Gives (understood_and_served request client user message.now tables.old (rows_at now tables.old)) tables.old result tables.new }
     ensures inside { IfOk result (IsInside (length tables.old.slots)) }
+    ensures slots { length tables.new.slots ≡ length tables.old.slots }
 {
     all_understood(message)?;
     match request {
@@ -114,6 +115,7 @@ fn answer_user(
     requires slots { length tables.old.slots ≡ config.now.slots }
     ensures inside { result ≤ length out.new }
     ensures answer { IsCheckedAnswer config.now now request client message.now tables.old tables.new (take result out.new) }
+    ensures slots { length tables.new.slots ≡ length tables.old.slots }
 {
     match check_credentials(config, message) {
         Ok(authenticated) => {
@@ -149,6 +151,7 @@ pub fn respond(
     requires slots { length tables.old.slots ≡ config.now.slots }
     ensures inside { result ≤ length out.new }
     ensures responds { Responds config.now now client message.now tables.old tables.new (take result out.new) }
+    ensures slots { length tables.new.slots ≡ length tables.old.slots }
 {
     let Some(request) = Request::of(message) else {
         return 0;

@@ -28,6 +28,7 @@ impl Tables {
     ) -> Result<usize, Refused>
         ensures follows { Follows (allocate client user tx lifetime (rows_at now self.old)) self.old result self.new }
         ensures inside { IfOk result (λ slot. slot < length self.old.slots) }
+        ensures slots { length self.new.slots ≡ length self.old.slots }
     {
         let moment = self.moment_at(now);
         if self.held_by(&client, moment).is_some() {
@@ -60,7 +61,8 @@ impl Tables {
     /// # Errors
     /// `NoAllocation` where the slot has none.
     pub fn refresh(&mut self, now: u64, slot: usize, lifetime: u32) -> Result<(), Refused>
-        ensures { Follows (refresh slot lifetime (rows_at now self.old)) self.old result self.new }
+        ensures follows { Follows (refresh slot lifetime (rows_at now self.old)) self.old result self.new }
+        ensures slots { length self.new.slots ≡ length self.old.slots }
     {
         let moment = self.moment_at(now);
         let held = self.held(slot, moment).ok_or(Refused::NoAllocation)?;
@@ -84,7 +86,8 @@ impl Tables {
     ///
     /// [`MAX_PERMISSIONS`]: crate::MAX_PERMISSIONS
     pub fn permit(&mut self, now: u64, slot: usize, ips: &[Addr]) -> Result<(), Refused>
-        ensures { Follows (permit slot ips.now (rows_at now self.old)) self.old result self.new }
+        ensures follows { Follows (permit slot ips.now (rows_at now self.old)) self.old result self.new }
+        ensures slots { length self.new.slots ≡ length self.old.slots }
     {
         let moment = self.moment_at(now);
         let held = self.held(slot, moment).ok_or(Refused::NoAllocation)?;
@@ -110,7 +113,8 @@ impl Tables {
     /// [`MAX_PERMISSIONS`]: crate::MAX_PERMISSIONS
     pub fn bind(&mut self, now: u64, slot: usize, number: u16, peer: Addr) -> Result<(), Refused>
         requires range { (0x4000 ≤ number) × (number ≤ 0x4fff) }
-        ensures { Follows (bind slot number peer (rows_at now self.old)) self.old result self.new }
+        ensures follows { Follows (bind slot number peer (rows_at now self.old)) self.old result self.new }
+        ensures slots { length self.new.slots ≡ length self.old.slots }
     {
         let moment = self.moment_at(now);
         let held = self.held(slot, moment).ok_or(Refused::NoAllocation)?;

@@ -138,7 +138,8 @@ impl Tables {
         requires placed { held.allocation.slot < length self.old.slots }
         requires later { self.old.moment ≤ moment }
         requires latest { moment ≤ LATEST }
-        ensures { self.new ≡ with_held (counting moment self.old) slot held }
+        ensures held { self.new ≡ with_held (counting moment self.old) slot held }
+        ensures slots { length self.new.slots ≡ length self.old.slots }
     {
         self.moment = moment;
         self.slots[slot] = Some(held);
