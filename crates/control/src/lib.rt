@@ -2,6 +2,7 @@
 #![tactic(auto)]
 
 mod allocate;
+mod binding;
 mod channel_bind;
 mod config;
 mod create_permission;

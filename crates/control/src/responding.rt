@@ -5,17 +5,18 @@ ghost use Rattle.credentials.specs.Checks.{IsChecked, names_of, user_key};
 ghost use Rattle.credentials.specs.Keys.{key_bytes};
 ghost use Rattle.tables.specs.Rows.{rows_at};
 ghost use Rattle.control.specs.Configs.{fault};
-ghost use Rattle.control.specs.Control.{Gives, IsInside, all_understood, binding_grant, understood_and_served, refused_credentials};
+ghost use Rattle.control.specs.Control.{Gives, IsInside, understood_and_served, refused_credentials};
 ghost use Rattle.control.specs.Responding.{IsCheckedAnswer, Responds};
 
 use crate::allocate::allocate;
+use crate::binding::binding;
 use crate::channel_bind::channel_bind;
 use crate::config::Config;
 use crate::create_permission::create_permission;
 use crate::refresh::refresh;
 use crate::reply::{Grant, write_reply};
 use crate::request::Request;
-use crate::unknown::unknown_types;
+use crate::unknown::all_understood;
 use crate::values::is_ipv4;
 use attributes::Addr;
 use credentials::{AuthError, Authenticated, authenticate};
@@ -34,31 +35,6 @@ fn refused_credentials(error: AuthError) -> ErrorCode
         AuthError::Incomplete => ErrorCode::BadRequest,
         AuthError::StaleNonce => ErrorCode::StaleNonce,
     }
-}
-
-/// Requires all attributes of a request to be understood.
-///
-/// # Errors
-/// 420 where one isn't.
-fn all_understood(message: &Message<'_>) -> Result<(), ErrorCode>
-    ensures { result ≡ all_understood message.now }
-{
-    if unknown_types(message).is_empty() {
-        Ok(())
-    } else {
-        Err(ErrorCode::UnknownAttribute)
-    }
-}
-
-/// Answers a Binding request (RFC 8489, section 12).
-///
-/// # Errors
-/// 420 where an attribute isn't understood.
-fn bind(message: &Message<'_>) -> Result<Grant, ErrorCode>
-    ensures { result ≡ binding_grant message.now }
-{
-    all_understood(message)?;
-    Ok(Grant::Mapped)
 }
 
 /// Answers a request of a user whose credentials were accepted.
@@ -161,7 +137,7 @@ pub fn respond(
     }
     match request {
         Request::Binding => {
-            let outcome = bind(message);
+            let outcome = binding(message);
             write_reply(out, config, request, &client, message, outcome, None)
         }
         _ => answer_user(tables, config, now, client, request, message, out),

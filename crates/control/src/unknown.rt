@@ -1,12 +1,13 @@
 //! The types of attributes that are not understood (RFC 8489, section 6.3.1).
 
 ghost use Rattle.std.specs.Prelude.{◌≡◌, ◌≤◌, length, take};
+ghost use Rattle.control.specs.Control.{all_understood};
 ghost use Rattle.control.specs.Unknown.{unknown_types, with_type};
 ghost use Rattle.control.specs.declared.unknown.TheConstants.{MAX_UNKNOWN};
 
 use arrayvec::ArrayVec;
 use stun::Message;
-use stun::registry::is_understood;
+use stun::registry::{ErrorCode, is_understood};
 
 /// The greatest number of types that a reply lists.
 pub const MAX_UNKNOWN: usize = 16;
@@ -34,4 +35,18 @@ pub(crate) fn unknown_types(message: &Message<'_>) -> ArrayVec<u16, MAX_UNKNOWN>
         }
     }
     kinds
+}
+
+/// Requires all attributes of a request to be understood.
+///
+/// # Errors
+/// 420 where one isn't.
+pub(crate) fn all_understood(message: &Message<'_>) -> Result<(), ErrorCode>
+    ensures { result ≡ all_understood message.now }
+{
+    if unknown_types(message).is_empty() {
+        Ok(())
+    } else {
+        Err(ErrorCode::UnknownAttribute)
+    }
 }

@@ -51,3 +51,46 @@ fn a_field_outside_its_limits_is_named(rt: HostRuntime) -> Result<(), Fail> {
     assert_eq!(rt; config.fault(), Some(Field::Slots));
     Ok(())
 }
+
+/// Returns a text of `n` times the letter `a`.
+fn letters(alloc: Global, n: usize) -> Result<String, AllocError> {
+    let mut text = String::new(alloc);
+    for _ in 0..n {
+        text.push('a')?;
+    }
+    Ok(text)
+}
+
+#[test]
+fn texts_have_their_limits(rt: HostRuntime) -> Result<(), Fail> {
+    let alloc = rt.alloc();
+    let rows = [
+        ("", "pass"),
+        ("a b", "pass"),
+        ("a:b", "pass"),
+        ("\u{7f}", "pass"),
+        ("a", ""),
+        ("a", "\u{1f}"),
+        ("user", "pass"),
+    ];
+    for (name, password) in rows {
+        let mut config = config(&rt, alloc)?;
+        config.users.push(user(alloc, name, password)?)?;
+        assert_eq!(rt; config.fault(), Some(Field::Users), "{name} {password}");
+    }
+    let mut config = config(&rt, alloc)?;
+    config.users.push(user(alloc, "a", "with a blank:~")?)?;
+    assert_eq!(rt; config.fault(), None);
+    config.realm = letters(alloc, 128)?;
+    assert_eq!(rt; config.fault(), None);
+    config.realm = letters(alloc, 129)?;
+    assert_eq!(rt; config.fault(), Some(Field::Realm));
+    // the realm is named before the users
+    config.users.clear();
+    assert_eq!(rt; config.fault(), Some(Field::Realm));
+    config.realm = letters(alloc, 1)?;
+    assert_eq!(rt; config.fault(), Some(Field::Users));
+    config.nonce = ArrayString::new();
+    assert_eq!(rt; config.fault(), Some(Field::Nonce));
+    Ok(())
+}

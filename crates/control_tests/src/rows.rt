@@ -3,10 +3,10 @@
 ghost use Rattle.std.specs.Prelude.{◌≡◌, ◌<◌};
 
 use attributes::Addr;
+use std::alloc::{AllocError, Global};
 use std::marker::Brand;
 use std::process::Abort;
 use std::sync::ledger::{Blank, Ledger};
-use std::test::Fail;
 use tables::{Refused, Steps, Tables};
 
 /// The first client, which gets slot 0.
@@ -99,21 +99,80 @@ fn is_permitted(tables: &Tables, last: u8, now: u64) -> bool {
     is_permitted_by::<Brand>(tables, last, now, Blank::new(1))
 }
 
+/// A change, or a look-up, with its result.
+#[derive(Clone, Copy)]
+enum Step<'a> {
+    /// The client, the user and the lifetime of an allocation.
+    Allocate(u64, Addr, usize, u32, Result<usize, Refused>),
+    /// The slot and the lifetime of a refresh.
+    Refresh(u64, usize, u32, Result<(), Refused>),
+    /// The addresses that are permitted at slot 0.
+    Permit(u64, &'a [Addr], Result<(), Refused>),
+    /// The channel and the peer that are bound at slot 0.
+    Bind(u64, u16, Addr, Result<(), Refused>),
+    /// What is found.
+    Find(u64, Found),
+    /// Whether 192.0.2.x has a permission.
+    IsPermitted(u64, u8, bool),
+}
+
+/// Makes some steps on new tables, and checks their results.
+fn check_steps(
+    rt: &impl Abort,
+    alloc: Global,
+    slots: usize,
+    steps: &[Step<'_>],
+) -> Result<(), AllocError> {
+    assert!(rt; (1..=256).contains(&slots));
+    let mut tables = Tables::new(alloc, slots)?;
+    for (index, step) in steps.iter().enumerate() {
+        check_step(rt, &mut tables, index, *step);
+    }
+    assert_eq!(rt; tables.slots(), slots);
+    Ok(())
+}
+
+fn check_step(rt: &impl Abort, tables: &mut Tables, index: usize, step: Step<'_>) {
+    match step {
+        Step::Allocate(now, client, user, lifetime, result) => {
+            let made = tables.allocate(now, client, user, TX, lifetime);
+            assert_eq!(rt; made, result, "step {index}");
+        }
+        Step::Refresh(now, slot, lifetime, result) => {
+            let made = tables.refresh(now, slot, lifetime);
+            assert_eq!(rt; made, result, "step {index}");
+        }
+        Step::Permit(now, ips, result) => {
+            let made = tables.permit(now, 0, ips);
+            assert_eq!(rt; made, result, "step {index}");
+        }
+        Step::Bind(now, number, peer, result) => {
+            assert!(rt; (0x4000..=0x4fff).contains(&number));
+            let made = tables.bind(now, 0, number, peer);
+            assert_eq!(rt; made, result, "step {index}");
+        }
+        Step::Find(now, found) => assert_eq!(rt; look_up(tables, now), found, "step {index}"),
+        Step::IsPermitted(now, last, result) => {
+            assert_eq!(rt; is_permitted(tables, last, now), result, "step {index}");
+        }
+    }
+}
+
+/// The peer 192.0.2.7:5000.
+const PEER: Addr = Addr::V4 {
+    ip: [192, 0, 2, 7],
+    port: 5000,
+};
+
 #[test]
-fn an_allocation_ends_with_its_rows(rt: HostRuntime) -> Result<(), Fail> {
-    let mut tables = Tables::new(rt.alloc(), 2)?;
-    assert_eq!(rt; tables.slots(), 2);
-    assert_eq!(rt; look_up(&tables, 1000), NOTHING);
-    assert_eq!(rt; tables.allocate(1000, CLIENT, 3, TX, 600), Ok(0));
+fn an_allocation_ends_with_its_rows(rt: HostRuntime) -> Result<(), AllocError> {
     let allocated = Found {
         client: Some((0, 1600)),
         slot: Some((3, 600)),
         ..NOTHING
     };
-    assert_eq!(rt; look_up(&tables, 1000), allocated);
-    assert_eq!(rt; tables.bind(1000, 0, NUMBER, peer(7, 5000)), Ok(()));
     let bound = Found {
-        peer: Some(peer(7, 5000)),
+        peer: Some(PEER),
         channel: Some(NUMBER),
         is_permitted: true,
         ..allocated
@@ -122,119 +181,127 @@ fn an_allocation_ends_with_its_rows(rt: HostRuntime) -> Result<(), Fail> {
         is_permitted: false,
         ..bound
     };
-    // the permission ends at 1300, and both the channel and the allocation at 1600
-    assert_eq!(rt; look_up(&tables, 1299), bound);
-    assert_eq!(rt; look_up(&tables, 1300), lapsed);
-    assert_eq!(rt; look_up(&tables, 1599), lapsed);
-    assert_eq!(rt; look_up(&tables, 1600), NOTHING);
-    // a look-up changes nothing
-    assert_eq!(rt; look_up(&tables, 1000), bound);
-    // a moment before the greatest of the changes made counts as that
-    assert_eq!(rt; look_up(&tables, 0), bound);
-    Ok(())
+    let steps = [
+        Step::Find(1000, NOTHING),
+        Step::Allocate(1000, CLIENT, 3, 600, Ok(0)),
+        Step::Find(1000, allocated),
+        Step::Bind(1000, NUMBER, PEER, Ok(())),
+        // the permission ends at 1300, and both the channel and the allocation at 1600
+        Step::Find(1299, bound),
+        Step::Find(1300, lapsed),
+        Step::Find(1599, lapsed),
+        Step::Find(1600, NOTHING),
+        // a look-up changes nothing, and a moment before the greatest of the changes counts as that
+        Step::Find(1000, bound),
+        Step::Find(0, bound),
+    ];
+    check_steps(&rt, rt.alloc(), 2, &steps)
 }
 
 #[test]
-fn a_refreshed_allocation_keeps_its_rows(rt: HostRuntime) -> Result<(), Fail> {
-    let mut tables = Tables::new(rt.alloc(), 1)?;
-    assert_eq!(rt; tables.allocate(1000, CLIENT, 0, TX, 600), Ok(0));
-    assert_eq!(rt; tables.bind(1000, 0, NUMBER, peer(7, 5000)), Ok(()));
-    assert_eq!(rt; tables.refresh(1100, 0, 3600), Ok(()));
+fn a_refreshed_allocation_keeps_its_rows(rt: HostRuntime) -> Result<(), AllocError> {
     let kept = Found {
         client: Some((0, 4700)),
         slot: Some((0, 600)),
-        peer: Some(peer(7, 5000)),
+        peer: Some(PEER),
         channel: Some(NUMBER),
         is_permitted: true,
     };
-    assert_eq!(rt; look_up(&tables, 1299), kept);
     let ended = Found {
         peer: None,
         channel: None,
         is_permitted: false,
         ..kept
     };
-    assert_eq!(rt; look_up(&tables, 1600), ended);
-    assert_eq!(rt; look_up(&tables, 4699), ended);
-    assert_eq!(rt; look_up(&tables, 4700), NOTHING);
-    // a refresh at a smaller moment counts from the greatest one, and revives nothing
-    assert_eq!(rt; tables.refresh(5000, 0, 600), Err(Refused::NoAllocation));
-    assert_eq!(rt; look_up(&tables, 1299), kept);
-    assert_eq!(rt; tables.refresh(4699, 0, 600), Ok(()));
-    assert_eq!(rt; tables.refresh(1100, 0, 600), Ok(()));
     let moved = Found {
         client: Some((0, 5299)),
         ..ended
     };
-    assert_eq!(rt; look_up(&tables, 1100), moved);
-    Ok(())
+    let steps = [
+        Step::Allocate(1000, CLIENT, 0, 600, Ok(0)),
+        Step::Bind(1000, NUMBER, PEER, Ok(())),
+        Step::Refresh(1100, 0, 3600, Ok(())),
+        Step::Find(1299, kept),
+        Step::Find(1600, ended),
+        Step::Find(4699, ended),
+        Step::Find(4700, NOTHING),
+        // what is refused changes nothing, whatever its moment
+        Step::Refresh(5000, 0, 600, Err(Refused::NoAllocation)),
+        Step::Find(1299, kept),
+        // a refresh at a smaller moment counts from the greatest one
+        Step::Refresh(4699, 0, 600, Ok(())),
+        Step::Refresh(1100, 0, 600, Ok(())),
+        Step::Find(1100, moved),
+    ];
+    check_steps(&rt, rt.alloc(), 1, &steps)
 }
 
 #[test]
-fn a_deleted_allocation_takes_its_rows_along(rt: HostRuntime) -> Result<(), Fail> {
-    let mut tables = Tables::new(rt.alloc(), 1)?;
-    assert_eq!(rt; tables.allocate(1000, CLIENT, 0, TX, 600), Ok(0));
-    assert_eq!(rt; tables.bind(1000, 0, NUMBER, peer(7, 5000)), Ok(()));
-    assert_eq!(rt; tables.refresh(1000, 0, 0), Ok(()));
-    assert_eq!(rt; look_up(&tables, 1000), NOTHING);
-    // the next one at the slot starts with none
-    assert_eq!(rt; tables.allocate(1000, CLIENT, 1, TX, 700), Ok(0));
+fn a_deleted_allocation_takes_its_rows_along(rt: HostRuntime) -> Result<(), AllocError> {
     let fresh = Found {
         client: Some((0, 1700)),
         slot: Some((1, 700)),
         ..NOTHING
     };
-    assert_eq!(rt; look_up(&tables, 1000), fresh);
-    Ok(())
+    let steps = [
+        Step::Allocate(1000, CLIENT, 0, 600, Ok(0)),
+        Step::Bind(1000, NUMBER, PEER, Ok(())),
+        Step::Refresh(1000, 0, 0, Ok(())),
+        Step::Find(1000, NOTHING),
+        // the next one at the slot starts with none
+        Step::Allocate(1000, CLIENT, 1, 700, Ok(0)),
+        Step::Find(1000, fresh),
+    ];
+    check_steps(&rt, rt.alloc(), 1, &steps)
 }
 
 #[test]
-fn the_lowest_free_slot_is_taken(rt: HostRuntime) -> Result<(), Fail> {
-    let mut tables = Tables::new(rt.alloc(), 2)?;
-    assert_eq!(rt; tables.allocate(1000, OTHER_CLIENT, 0, TX, 600), Ok(0));
-    assert_eq!(rt; tables.allocate(1000, CLIENT, 0, TX, 700), Ok(1));
-    // the client's allocation is refused before the slots are looked at
-    assert_eq!(rt;
-        tables.allocate(1000, CLIENT, 0, TX, 700),
-        Err(Refused::Mismatch)
-    );
-    assert_eq!(rt;
-        tables.allocate(1599, THIRD_CLIENT, 0, TX, 600),
-        Err(Refused::Capacity)
-    );
-    assert_eq!(rt; tables.allocate(1600, THIRD_CLIENT, 0, TX, 600), Ok(0));
-    assert_eq!(rt; tables.refresh(1600, 2, 600), Err(Refused::NoAllocation));
-    Ok(())
+fn the_lowest_free_slot_is_taken(rt: HostRuntime) -> Result<(), AllocError> {
+    let steps = [
+        Step::Allocate(1000, OTHER_CLIENT, 0, 600, Ok(0)),
+        Step::Allocate(1000, CLIENT, 0, 700, Ok(1)),
+        // the client's allocation is refused before the slots are looked at
+        Step::Allocate(1000, CLIENT, 0, 700, Err(Refused::Mismatch)),
+        Step::Allocate(1599, THIRD_CLIENT, 0, 600, Err(Refused::Capacity)),
+        Step::Allocate(1600, THIRD_CLIENT, 0, 600, Ok(0)),
+        Step::Refresh(1600, 2, 600, Err(Refused::NoAllocation)),
+    ];
+    check_steps(&rt, rt.alloc(), 2, &steps)
 }
 
 #[test]
-fn a_channel_and_a_peer_belong_together(rt: HostRuntime) -> Result<(), Fail> {
-    let mut tables = Tables::new(rt.alloc(), 1)?;
-    assert_eq!(rt;
-        tables.bind(1000, 0, NUMBER, peer(7, 5000)),
-        Err(Refused::NoAllocation)
-    );
-    assert_eq!(rt; tables.allocate(1000, CLIENT, 0, TX, 3600), Ok(0));
-    assert_eq!(rt; tables.bind(1000, 0, NUMBER, peer(7, 5000)), Ok(()));
-    assert_eq!(rt;
-        tables.bind(1599, 0, NUMBER, peer(7, 5001)),
-        Err(Refused::Conflict)
-    );
-    assert_eq!(rt;
-        tables.bind(1599, 0, NUMBER, peer(8, 5000)),
-        Err(Refused::Conflict)
-    );
-    assert_eq!(rt;
-        tables.bind(1599, 0, 0x4002, peer(7, 5000)),
-        Err(Refused::Conflict)
-    );
-    assert_eq!(rt; tables.bind(1599, 0, 0x4002, peer(7, 5001)), Ok(()));
-    // the refused ones changed nothing, and the binding ends at 1600
-    assert_eq!(rt; look_up(&tables, 1599).channel, Some(NUMBER));
-    assert_eq!(rt; tables.bind(1600, 0, NUMBER, peer(8, 5000)), Ok(()));
-    assert_eq!(rt; look_up(&tables, 1600).peer, Some(peer(8, 5000)));
-    assert_eq!(rt; look_up(&tables, 1600).channel, None);
-    Ok(())
+fn a_channel_and_a_peer_belong_together(rt: HostRuntime) -> Result<(), AllocError> {
+    let held = Found {
+        client: Some((0, 4600)),
+        slot: Some((0, 3600)),
+        ..NOTHING
+    };
+    let bound = Found {
+        peer: Some(PEER),
+        channel: Some(NUMBER),
+        is_permitted: true,
+        ..held
+    };
+    // 192.0.2.7 was permitted with the other channel, until 1899
+    let moved = Found {
+        peer: Some(peer(8, 5000)),
+        is_permitted: true,
+        ..held
+    };
+    let steps = [
+        Step::Bind(1000, NUMBER, PEER, Err(Refused::NoAllocation)),
+        Step::Allocate(1000, CLIENT, 0, 3600, Ok(0)),
+        Step::Bind(1000, NUMBER, PEER, Ok(())),
+        Step::Bind(1599, NUMBER, peer(7, 5001), Err(Refused::Conflict)),
+        Step::Bind(1599, NUMBER, peer(8, 5000), Err(Refused::Conflict)),
+        Step::Bind(1599, 0x4002, PEER, Err(Refused::Conflict)),
+        Step::Bind(1599, 0x4002, peer(7, 5001), Ok(())),
+        // the refused ones changed nothing, and the binding ends at 1600
+        Step::Find(1599, bound),
+        Step::Bind(1600, NUMBER, peer(8, 5000), Ok(())),
+        Step::Find(1600, moved),
+    ];
+    check_steps(&rt, rt.alloc(), 1, &steps)
 }
 
 /// Returns the addresses 192.0.2.0 to 192.0.2.64.
@@ -247,61 +314,58 @@ fn addresses() -> [Addr; 65] {
 }
 
 #[test]
-fn only_distinct_addresses_that_count_fill_capacity(rt: HostRuntime) -> Result<(), Fail> {
-    let mut tables = Tables::new(rt.alloc(), 1)?;
+fn only_distinct_addresses_that_count_fill_capacity(rt: HostRuntime) -> Result<(), AllocError> {
     let addresses = addresses();
-    assert_eq!(rt;
-        tables.permit(1000, 0, &addresses),
-        Err(Refused::NoAllocation)
-    );
-    assert_eq!(rt; tables.allocate(1000, CLIENT, 0, TX, 3600), Ok(0));
-    // all or none
-    assert_eq!(rt; tables.permit(1000, 0, &addresses), Err(Refused::Capacity));
-    assert!(rt; !is_permitted(&tables, 0, 1000));
     let (front, last) = addresses.split_at(64);
-    assert_eq!(rt; tables.permit(1000, 0, front), Ok(()));
-    assert_eq!(rt; tables.permit(1299, 0, front), Ok(()));
-    assert_eq!(rt; tables.permit(1299, 0, last), Err(Refused::Capacity));
-    assert_eq!(rt;
-        tables.bind(1299, 0, NUMBER, peer(64, 1)),
-        Err(Refused::Capacity)
-    );
-    // ports don't tell addresses apart
-    assert_eq!(rt; tables.permit(1299, 0, &[peer(3, 1), peer(3, 2)]), Ok(()));
-    assert_eq!(rt; tables.permit(1299, 0, &[]), Ok(()));
-    // they end at 1599
-    assert!(rt; is_permitted(&tables, 63, 1598));
-    assert!(rt; !is_permitted(&tables, 63, 1599));
-    assert_eq!(rt; tables.permit(1599, 0, last), Ok(()));
-    assert!(rt; is_permitted(&tables, 64, 1599));
-    Ok(())
+    let twice = [peer(3, 1), peer(3, 2)];
+    let steps = [
+        Step::Permit(1000, &addresses, Err(Refused::NoAllocation)),
+        Step::Allocate(1000, CLIENT, 0, 3600, Ok(0)),
+        // all or none
+        Step::Permit(1000, &addresses, Err(Refused::Capacity)),
+        Step::IsPermitted(1000, 0, false),
+        Step::Permit(1000, front, Ok(())),
+        Step::Permit(1299, front, Ok(())),
+        Step::Permit(1299, last, Err(Refused::Capacity)),
+        Step::Bind(1299, NUMBER, peer(64, 1), Err(Refused::Capacity)),
+        // ports don't tell addresses apart
+        Step::Permit(1299, &twice, Ok(())),
+        Step::Permit(1299, &[], Ok(())),
+        // they end at 1599
+        Step::IsPermitted(1598, 63, true),
+        Step::IsPermitted(1599, 63, false),
+        Step::Permit(1599, last, Ok(())),
+        Step::IsPermitted(1599, 64, true),
+    ];
+    check_steps(&rt, rt.alloc(), 1, &steps)
 }
 
 #[test]
-fn what_is_refused_later_is_there_before(rt: HostRuntime) -> Result<(), Fail> {
-    let mut tables = Tables::new(rt.alloc(), 1)?;
+fn what_is_refused_later_is_there_before(rt: HostRuntime) -> Result<(), AllocError> {
     let addresses = addresses();
-    assert_eq!(rt; tables.allocate(1000, CLIENT, 0, TX, 3600), Ok(0));
     let (front, _) = addresses.split_at(64);
-    assert_eq!(rt; tables.permit(1000, 0, front), Ok(()));
-    // at 2000 all permissions have ended, and 65 are too many all the same
-    assert_eq!(rt; tables.permit(2000, 0, &addresses), Err(Refused::Capacity));
-    assert!(rt; is_permitted(&tables, 0, 1200));
-    assert!(rt; is_permitted(&tables, 63, 1200));
-    Ok(())
+    let steps = [
+        Step::Allocate(1000, CLIENT, 0, 3600, Ok(0)),
+        Step::Permit(1000, front, Ok(())),
+        // at 2000 all permissions have ended, and 65 are too many all the same
+        Step::Permit(2000, &addresses, Err(Refused::Capacity)),
+        Step::IsPermitted(1200, 0, true),
+        Step::IsPermitted(1200, 63, true),
+    ];
+    check_steps(&rt, rt.alloc(), 1, &steps)
 }
 
 #[test]
-fn a_moment_after_the_latest_counts_as_that(rt: HostRuntime) -> Result<(), Fail> {
-    let mut tables = Tables::new(rt.alloc(), 1)?;
-    let latest = 1 << 62;
-    assert_eq!(rt; tables.allocate(u64::MAX, CLIENT, 0, TX, 600), Ok(0));
+fn a_moment_after_the_latest_counts_as_that(rt: HostRuntime) -> Result<(), AllocError> {
     let allocated = Found {
-        client: Some((0, latest + 600)),
+        client: Some((0, (1 << 62) + 600)),
         slot: Some((0, 600)),
         ..NOTHING
     };
-    assert_eq!(rt; look_up(&tables, 0), allocated);
-    assert_eq!(rt; look_up(&tables, u64::MAX), allocated);
-    Ok(())
+    let steps = [
+        Step::Allocate(u64::MAX, CLIENT, 0, 600, Ok(0)),
+        Step::Find(0, allocated),
+        Step::Find(u64::MAX, allocated),
+    ];
+    check_steps(&rt, rt.alloc(), 1, &steps)
 }

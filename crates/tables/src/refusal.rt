@@ -2,19 +2,19 @@
 
 use thiserror::Error;
 
-/// Why a change is refused. Nothing is changed then.
+/// Why a change is refused. Nothing is changed then. It displays as its name.
 #[derive(Clone, Copy, Debug, PartialEq, Eq, Error)]
 pub enum Refused {
     /// The client has an allocation.
-    #[error("T1")]
+    #[error("Mismatch")]
     Mismatch,
     /// No slot is free, or the allocation would have more permissions or channels than there is room for.
-    #[error("T2")]
+    #[error("Capacity")]
     Capacity,
     /// The channel is bound to another peer, or the peer to another channel.
-    #[error("T3")]
+    #[error("Conflict")]
     Conflict,
     /// The slot has no allocation.
-    #[error("T4")]
+    #[error("NoAllocation")]
     NoAllocation,
 }
