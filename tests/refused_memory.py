@@ -16,6 +16,7 @@ from program import PROGRAM, TOP, build, finish, run
 EXAMPLES = TOP / "examples"
 FOURTH_BYTE = str(EXAMPLES / "fourth_byte.bpf")
 BRANCHES = str(EXAMPLES / "first_byte_class.bpf")
+HEADER = str(EXAMPLES / "channel_data_header.bpf")
 OUT_OF_MEMORY = (4, "", "out of memory\n")
 # more than the number of any allocation
 EVER = 10**9
@@ -26,6 +27,9 @@ CASES = [
     (["verify", str(EXAMPLES / "context_as_verdict.bpf")], 1),
     (["trace", FOURTH_BYTE, "--data", "01020304"], 0),
     (["trace", str(EXAMPLES / "unchecked_byte.bpf")], 1),
+    (["verify", HEADER], 0),
+    (["trace", HEADER, "--data", "616263"], 0),
+    (["trace", str(EXAMPLES / "permitted_source.bpf")], 0),
     (["trace", FOURTH_BYTE, "--data", "0"], 1),
     (["verify", "no such file"], 3),
     (["verify"], 2),

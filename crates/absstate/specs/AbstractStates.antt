@@ -1,10 +1,13 @@
 -- The abstract state at a slot of a path: what the verifier knows of each machine state that can be there. Its numbers
 -- are those of a domain D.
 use Rattle.std.specs.Prelude.{ℕ, zero, suc, ◌/◌, ◌%◌, ◌^◌, Bool, true, ◌&&◌, ◌==◌, ℤ, pos, int_lt, List, [], ◌∷◌, Option, Some, None, slice_index_or, slice_set, if◌then◌else◌}
+use Rattle.std.specs.Int.Bits.{bit_or}
 use Rattle.insn.specs.Register.{number_of}
 use Rattle.insn.specs.declared.register.Reg.{Reg}
+use Rattle.insn.specs.declared.register.Reg.TheVariants.{R0, R1, R2, R3, R4, R5}
+use Rattle.semantics.specs.declared.helper.TheConstants.{RECORD_BYTES}
 use Rattle.absstate.specs.declared.abstract_state.AbstractValue.{AbstractValue}
-use Rattle.absstate.specs.declared.abstract_state.AbstractValue.TheVariants.{Nothing, Ctx, Stack}
+use Rattle.absstate.specs.declared.abstract_state.AbstractValue.TheVariants.{Nothing, Scalar, Ctx, Stack}
 use Rattle.absstate.specs.declared.abstract_state.Anchor.{Anchor}
 use Rattle.absstate.specs.declared.abstract_state.Anchor.TheVariants.{First}
 use Rattle.absstate.specs.declared.abstract_state.Marks.{Marks}
@@ -25,6 +28,15 @@ is_marked m i = (slice_index_or m.words (i / 64) 0 / 2 ^ (i % 64)) % 2 == 1
 abbrev pub are_marked : Marks → ℕ → ℕ → Bool
 are_marked m i zero = true
 are_marked m i (suc n) = is_marked m i && are_marked m (suc i) n
+
+-- the marks with one byte more set
+abbrev pub mark : Marks → ℕ → Marks
+mark m i = record { words = slice_set m.words (i / 64) (bit_or (slice_index_or m.words (i / 64) 0) (2 ^ (i % 64))) }
+
+-- the marks with n bytes from an index on set
+abbrev pub marked : Marks → ℕ → ℕ → Marks
+marked m i zero = m
+marked m i (suc n) = marked (mark m i) (suc i) n
 
 -- before the first instruction r1 holds the context and r10 the end of the stack
 abbrev pub first_state : {D : Type 0} → AbsState D
@@ -50,3 +62,16 @@ with_length a n = record a { proved = if int_lt a.proved n then n else a.proved 
 abbrev pub with_least : {D : Type 0} → AbsState D → Option ℤ → AbsState D
 with_least a None = a
 with_least a (Some n) = with_length a n
+
+-- the state in which n stack bytes from an index on are set
+abbrev pub with_marks : {D : Type 0} → AbsState D → ℕ → ℕ → AbsState D
+with_marks a i n = record a { marks = marked a.marks i n }
+
+-- the state behind a call with an answer: r1 to r5 hold nothing
+abbrev pub with_answer : {D : Type 0} → AbsState D → D → AbsState D
+with_answer a answer = with_value (with_value (with_value (with_value (with_value (with_value a R0 (Scalar answer)) R1 Nothing) R2 Nothing) R3 Nothing) R4 Nothing) R5 Nothing
+
+-- the state in which the address record at an index is set, if one is written
+abbrev pub with_out : {D : Type 0} → AbsState D → Option ℕ → AbsState D
+with_out a None = a
+with_out a (Some i) = with_marks a i RECORD_BYTES

@@ -1,6 +1,6 @@
 -- The abstract step: the abstract states behind an instruction, or the reason for which a step from here could be
 -- stuck. The tests come in the order of the tagged machine. Numbers are computed by the operations of a domain.
-use Rattle.std.specs.Prelude.{ℕ, ◌-◌, ◌^◌, Bool, true, false, ℤ, pos, negsuc, ◌+ℤ◌, Option, Some, None, Result, Ok, Err, ◌==◌, if◌then◌else◌}
+use Rattle.std.specs.Prelude.{ℕ, ◌+◌, ◌-◌, ◌^◌, ◌≤◌, Bool, true, false, ℤ, pos, ◌+ℤ◌, Option, Some, None, Result, Ok, Err, ◌==◌, if◌then◌else◌}
 use Rattle.std.specs.Option.{ok_or, option_map}
 use Rattle.std.specs.Int.{w64, cast_unsigned}
 use Rattle.insn.specs.Codes.{byte_count, unsigned_size}
@@ -22,18 +22,25 @@ use Rattle.insn.specs.declared.instruction.Operand.TheVariants as operand
 use Rattle.insn.specs.declared.instruction.Insn.{Insn}
 use Rattle.insn.specs.declared.instruction.Insn.TheVariants as insn
 use Rattle.semantics.specs.Fallible.{◌>>=◌, check}
-use Rattle.semantics.specs.Loading.{is_within, index_within, stack_first, headroom_first}
+use Rattle.semantics.specs.Access.{is_within, index_within, stack_first, headroom_first}
+use Rattle.semantics.specs.Loading.{field_at}
+use Rattle.semantics.specs.Calls.{helper_of}
 use Rattle.semantics.specs.Effects.{writable, moved_place}
+use Rattle.semantics.specs.declared.helper.Helper.{Helper}
+use Rattle.semantics.specs.declared.helper.Helper.TheVariants as helper
+use Rattle.semantics.specs.declared.helper.TheConstants.{RECORD_BYTES}
 use Rattle.semantics.specs.LooseRuns.{Bound, AtMost, Below, data_bound, exchanged}
 use Rattle.semantics.specs.declared.fetching.Branch.{Branch}
 use Rattle.semantics.specs.declared.fetching.Branch.TheVariants.{NotTaken, Taken}
-use Rattle.semantics.specs.declared.limits.TheConstants.{TAILROOM}
+use Rattle.semantics.specs.declared.limits.TheConstants.{MAX_DATAGRAM, TAILROOM}
+use Rattle.semantics.specs.declared.loading.Field.{Field}
+use Rattle.semantics.specs.declared.loading.Field.TheVariants as field
 use Rattle.semantics.specs.declared.reason.Reason.{Reason}
-use Rattle.semantics.specs.declared.reason.Reason.TheVariants.{UninitRegister, UninitStack, StackBounds, ContextAccess, DatagramBounds, PointerArithmetic, PointerCompare, ExitNotScalar, NotAPointer}
+use Rattle.semantics.specs.declared.reason.Reason.TheVariants.{UninitRegister, UninitStack, StackBounds, ContextAccess, DatagramBounds, PointerArithmetic, PointerCompare, PointerStored, UnknownHelper, HelperArgument, ExitNotScalar, NotAPointer}
 use Rattle.interval.specs.Domains.{Operations}
 use Rattle.interval.specs.declared.domain.Test.{Test}
 use Rattle.interval.specs.declared.domain.Test.TheVariants.{Holds, Fails}
-use Rattle.absstate.specs.AbstractStates.{abstract_at, are_marked, proved_of, with_value, with_least}
+use Rattle.absstate.specs.AbstractStates.{abstract_at, are_marked, proved_of, with_value, with_least, with_marks, with_answer, with_out}
 use Rattle.absstate.specs.declared.abstract_state.Anchor.TheVariants.{First}
 use Rattle.absstate.specs.declared.abstract_state.AbstractValue.{AbstractValue}
 use Rattle.absstate.specs.declared.abstract_state.AbstractValue.TheVariants.{Nothing, Scalar, Ctx, Stack, Data, End}
@@ -42,6 +49,8 @@ use Rattle.absstate.specs.declared.abstract_state.Marks.{Marks}
 use Rattle.absstate.specs.declared.abstract_step.Next.{Next}
 use Rattle.absstate.specs.declared.abstract_step.Next.TheVariants as next
 use Rattle.absstate.specs.declared.branching.Implied.{Implied}
+use Rattle.absstate.specs.declared.memory.Region.{Region}
+use Rattle.absstate.specs.declared.memory.Region.TheVariants.{InStack, InBytes}
 
 -- ---- what is read
 
@@ -187,33 +196,69 @@ branch_step ops a w c dst o = do
   y ← operand_abstract ops a o
   fork ops a w c dst o x y
 
--- ---- loads and the end
+-- ---- memory
 
--- the fields of the context record
-abbrev pub field : {D : Type 0} → ℤ → Size → Result (AbstractValue D) Reason
-field (pos n) size.Double = if n == 0 then Ok (Data First (pos 0)) else (if n == 8 then Ok End else Err ContextAccess)
-field (pos n) size.Word = Err ContextAccess
-field (pos n) size.Half = Err ContextAccess
-field (pos n) size.Byte = Err ContextAccess
-field (negsuc n) z = Err ContextAccess
-
--- n bytes at a place of the stack, or of datagram and tailroom, may be read
-abbrev pub stack_readable : Marks → ℤ → ℕ → Result (Unit {0}) Reason
-stack_readable marks place n = do
+-- Where n bytes lie that a base with a displacement reaches, as far as that is known: in the stack by their index, in the
+-- datagram as far as is proved.
+abbrev pub in_stack : ℤ → ℕ → Result Region Reason
+in_stack place n = do
   i ← ok_or (index_within place n stack_first stack_first (pos 0)) StackBounds
-  check (are_marked marks i n) UninitStack
+  Ok (InStack i)
 
-abbrev pub bytes_readable : ℤ → ℕ → ℤ → ℤ → Result (Unit {0}) Reason
-bytes_readable place n low high = check (is_within place n low high) DatagramBounds
+abbrev pub in_bytes : ℤ → ℕ → ℤ → ℤ → Result Region Reason
+in_bytes place n low high = do
+  inside ← check (is_within place n low high) DatagramBounds
+  Ok InBytes
 
--- n bytes may be read: in the datagram as far as is proved
-abbrev pub readable : {D : Type 0} → AbsState D → AbstractValue D → ℤ → ℕ → Result (Unit {0}) Reason
-readable a Nothing d n = Err UninitRegister
-readable a (Scalar number) d n = Err NotAPointer
-readable a Ctx d n = Err ContextAccess
-readable a (Stack k) d n = stack_readable a.marks (k +ℤ d) n
-readable a (Data anchor k) d n = bytes_readable (k +ℤ d) n headroom_first (proved_of a anchor)
-readable a End d n = bytes_readable (pos 0 +ℤ d) n (pos 0) (pos TAILROOM)
+unfoldable pub located : {D : Type 0} → AbsState D → AbstractValue D → ℤ → ℕ → Result Region Reason
+located a Nothing d n = Err UninitRegister
+located a (Scalar number) d n = Err NotAPointer
+located a Ctx d n = Err ContextAccess
+located a (Stack k) d n = in_stack (k +ℤ d) n
+located a (Data anchor k) d n = in_bytes (k +ℤ d) n headroom_first (proved_of a anchor)
+located a End d n = in_bytes (pos 0 +ℤ d) n (pos 0) (pos TAILROOM)
+
+-- n bytes of a region of the stack lie inside
+abbrev pub IsInStack : ℕ → Region → Type 0
+IsInStack n (InStack i) = i + n ≤ 512
+IsInStack n InBytes = Unit {0}
+
+-- n bytes of a region may be read: of the stack those that are set
+abbrev pub region_readable : Marks → ℕ → Region → Result (Unit {0}) Reason
+region_readable marks n (InStack i) = check (are_marked marks i n) UninitStack
+region_readable marks n InBytes = Ok tt
+
+-- the state in which n bytes of a region are set
+abbrev pub with_region : {D : Type 0} → AbsState D → ℕ → Region → AbsState D
+with_region a n (InStack i) = with_marks a i n
+with_region a n InBytes = a
+
+-- ---- loads
+
+-- any number of that many bytes
+abbrev pub number_of_size : {D : Type 0} → Operations D → Size → D
+number_of_size ops z = ops.range 0 (256 ^ byte_count z - 1)
+
+-- the fields of the context record: a datagram has at most 65,507 bytes, and a side is 0 or 1
+abbrev pub field_known : {D : Type 0} → Operations D → Field → AbstractValue D
+field_known ops field.Datagram = Data First (pos 0)
+field_known ops field.End = End
+field_known ops field.Length = Scalar (ops.range 0 MAX_DATAGRAM)
+field_known ops field.Source = Scalar (number_of_size ops size.Double)
+field_known ops field.IdHead = Scalar (number_of_size ops size.Double)
+field_known ops field.IdTail = Scalar (number_of_size ops size.Word)
+field_known ops field.Side = Scalar (ops.range 0 1)
+
+abbrev pub load_field : {D : Type 0} → Operations D → ℤ → Size → Result (AbstractValue D) Reason
+load_field ops d z = do
+  f ← ok_or (field_at d z) ContextAccess
+  Ok (field_known ops f)
+
+-- n bytes may be read
+unfoldable pub readable : {D : Type 0} → AbsState D → AbstractValue D → ℤ → ℕ → Result (Unit {0}) Reason
+readable a base d n = do
+  r ← located a base d n
+  region_readable a.marks n r
 
 -- what is known of the number in n bytes that may be read
 abbrev pub load_number : {D : Type 0} → AbsState D → AbstractValue D → ℤ → ℕ → D → Result (AbstractValue D) Reason
@@ -221,12 +266,8 @@ load_number a base d n number = do
   allowed ← readable a base d n
   Ok (Scalar number)
 
--- any number of that many bytes
-abbrev pub number_of_size : {D : Type 0} → Operations D → Size → D
-number_of_size ops z = ops.range 0 (256 ^ byte_count z - 1)
-
 abbrev pub load : {D : Type 0} → Operations D → AbsState D → AbstractValue D → ℤ → Size → Result (AbstractValue D) Reason
-load ops a Ctx d z = field d z
+load ops a Ctx d z = load_field ops d z
 load ops a base d z = load_number a base d (byte_count z) (number_of_size ops z)
 
 abbrev pub load_signed : {D : Type 0} → Operations D → AbsState D → AbstractValue D → ℤ → SignedSize → Result (AbstractValue D) Reason
@@ -234,14 +275,111 @@ load_signed ops a base d z = load_number a base d (byte_count (unsigned_size z))
 
 abbrev pub loaded_step : {D : Type 0} → AbsState D → (AbstractValue D → Result (AbstractValue D) Reason) → Reg → Reg → Result (Next D) Reason
 loaded_step a loaded dst base = do
-  pointer ← read a base
-  written a dst (loaded pointer)
+  from ← read a base
+  written a dst (loaded from)
 
 abbrev pub load_step : {D : Type 0} → Operations D → AbsState D → Size → Reg → Reg → ℤ → Result (Next D) Reason
-load_step ops a z dst base d = loaded_step a (λ pointer. load ops a pointer d z) dst base
+load_step ops a z dst base d = loaded_step a (λ from. load ops a from d z) dst base
 
 abbrev pub load_signed_step : {D : Type 0} → Operations D → AbsState D → SignedSize → Reg → Reg → ℤ → Result (Next D) Reason
-load_signed_step ops a z dst base d = loaded_step a (λ pointer. load_signed ops a pointer d z) dst base
+load_signed_step ops a z dst base d = loaded_step a (λ from. load_signed ops a from d z) dst base
+
+-- ---- stores
+
+-- a number is no pointer
+abbrev pub pointer : {D : Type 0} → AbstractValue D → Result (Unit {0}) Reason
+pointer (Scalar number) = Err NotAPointer
+pointer _ = Ok tt
+
+-- no pointer is stored
+abbrev pub storable : {D : Type 0} → AbstractValue D → Result (Unit {0}) Reason
+storable (Scalar number) = Ok tt
+storable _ = Err PointerStored
+
+abbrev pub store_step : {D : Type 0} → Operations D → AbsState D → Size → Reg → Operand → ℤ → Result (Next D) Reason
+store_step ops a z base o d = do
+  to ← read a base
+  known ← operand_abstract ops a o
+  u ← pointer to
+  v ← storable known
+  r ← located a to d (byte_count z)
+  Ok (next.On (with_region a (byte_count z) r))
+
+-- ---- calls
+
+abbrev pub context_value : {D : Type 0} → AbstractValue D → Result (Unit {0}) Reason
+context_value Ctx = Ok tt
+context_value _ = Err (HelperArgument 1)
+
+abbrev pub context_argument : {D : Type 0} → AbsState D → Result (Unit {0}) Reason
+context_argument a = read a reg.R1 >>= context_value
+
+abbrev pub number_value : {D : Type 0} → Reg → AbstractValue D → Result (Unit {0}) Reason
+number_value r (Scalar number) = Ok tt
+number_value r _ = Err (HelperArgument (number_of r))
+
+abbrev pub number_argument : {D : Type 0} → AbsState D → Reg → Result (Unit {0}) Reason
+number_argument a r = read a r >>= number_value r
+
+-- the index, among the stack cells, of the eight bytes that a pointer points to
+abbrev pub stack_index : {D : Type 0} → AbstractValue D → Option ℕ
+stack_index (Stack k) = index_within (k +ℤ pos 0) RECORD_BYTES stack_first stack_first (pos 0)
+stack_index Nothing = None
+stack_index (Scalar number) = None
+stack_index Ctx = None
+stack_index (Data anchor k) = None
+stack_index End = None
+
+abbrev pub stack_value : {D : Type 0} → Reg → AbstractValue D → Result ℕ Reason
+stack_value r v = ok_or (stack_index v) (HelperArgument (number_of r))
+
+abbrev pub stack_argument : {D : Type 0} → AbsState D → Reg → Result ℕ Reason
+stack_argument a r = read a r >>= stack_value r
+
+-- the address record at an index of the stack may be read
+abbrev pub record_readable : Marks → ℕ → Result (Unit {0}) Reason
+record_readable marks i = check (are_marked marks i RECORD_BYTES) UninitStack
+
+abbrev pub record_argument : {D : Type 0} → AbsState D → Reg → Result (Unit {0}) Reason
+record_argument a r = stack_argument a r >>= record_readable a.marks
+
+-- the greatest answer of a helper
+abbrev pub greatest_answer : Helper → ℕ
+greatest_answer helper.ChannelPeer = 1
+greatest_answer helper.ChannelTo = 0x4fff
+greatest_answer helper.Permitted = 1
+greatest_answer helper.Window = 1
+greatest_answer helper.Destination = 1
+
+-- behind a call by which the eight bytes at an index are written, if one is given
+abbrev pub answered : {D : Type 0} → Operations D → AbsState D → Helper → Option ℕ → AbsState D
+answered ops a h out = with_out (with_answer a (ops.range 0 (greatest_answer h))) out
+
+abbrev pub address_step : {D : Type 0} → Operations D → AbsState D → Helper → Result (Next D) Reason
+address_step ops a h = do
+  u ← context_argument a
+  v ← record_argument a reg.R2
+  Ok (next.On (answered ops a h None))
+
+abbrev pub helper_step : {D : Type 0} → Operations D → AbsState D → Helper → Result (Next D) Reason
+helper_step ops a helper.ChannelPeer = do
+  u ← context_argument a
+  v ← number_argument a reg.R2
+  out ← stack_argument a reg.R3
+  Ok (next.On (answered ops a helper.ChannelPeer (Some out)))
+helper_step ops a helper.ChannelTo = address_step ops a helper.ChannelTo
+helper_step ops a helper.Permitted = address_step ops a helper.Permitted
+helper_step ops a helper.Window = do
+  u ← context_argument a
+  v ← number_argument a reg.R2
+  v' ← number_argument a reg.R3
+  Ok (next.On (answered ops a helper.Window None))
+helper_step ops a helper.Destination = address_step ops a helper.Destination
+
+abbrev pub call_step : {D : Type 0} → Operations D → AbsState D → ℤ → Result (Next D) Reason
+call_step ops a n = ok_or (helper_of n) UnknownHelper >>= helper_step ops a
+
+-- ---- the end
 
 abbrev pub exit_with : {D : Type 0} → AbstractValue D → Result (Next D) Reason
 exit_with (Scalar n) = Ok next.Exit
@@ -269,5 +407,7 @@ step ops a (insn.LongJump offset) = Ok (next.On a)
 step ops a (insn.JumpIf w c dst o offset) = branch_step ops a w c dst o
 step ops a (insn.Load z dst base d) = load_step ops a z dst base d
 step ops a (insn.LoadSigned z dst base d) = load_signed_step ops a z dst base d
+step ops a (insn.Store z base o d) = store_step ops a z base o d
 step ops a (insn.LoadImm dst value) = written a dst (Ok (Scalar (ops.exact value)))
+step ops a (insn.Call n) = call_step ops a n
 step ops a insn.Exit = exit_step a

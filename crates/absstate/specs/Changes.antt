@@ -1,8 +1,9 @@
 -- What a step changes of a state, and the states behind it.
 use Rattle.std.specs.Prelude.{Result, Ok, Err}
 use Rattle.std.specs.Option.{option_map}
+use Rattle.insn.specs.Codes.{byte_count}
 use Rattle.semantics.specs.declared.reason.Reason.{Reason}
-use Rattle.absstate.specs.AbstractStates.{with_value, with_least}
+use Rattle.absstate.specs.AbstractStates.{with_value, with_least, with_marks, with_answer, with_out}
 use Rattle.absstate.specs.declared.abstract_state.AbstractValue.TheVariants.{Scalar}
 use Rattle.absstate.specs.declared.abstract_state.AbsState.{AbsState}
 use Rattle.absstate.specs.declared.abstract_step.Next.{Next}
@@ -18,6 +19,8 @@ changed a change.Nothing = a
 changed a (change.Register r k) = with_value a r k
 changed a (change.Numbers dst src left) = with_value (with_value a dst (Scalar left.a)) src (Scalar left.b)
 changed a (change.Least least) = with_least a least
+changed a (change.Marks i z) = with_marks a i (byte_count z)
+changed a (change.Answer answer out) = with_out (with_answer a answer) out
 
 -- the states behind an accepted step
 abbrev pub next_of : {D : Type 0} → AbsState D → Effect D → Next D

@@ -1,5 +1,5 @@
 -- The machine's step from a member of an abstract state, where the abstract step accepts the instruction.
-use Rattle.std.specs.Prelude.{◌≡◌, ℕ, List, Option, Some, None, Result, Ok, IsOk}
+use Rattle.std.specs.Prelude.{◌≡◌, ℕ, ◌≤◌, List, Option, Some, None, Result, Ok, IsOk}
 use Rattle.insn.specs.declared.instruction.Insn.{Insn}
 use Rattle.semantics.specs.Machine.{State, Surroundings}
 use Rattle.semantics.specs.Slots.{fetch}
@@ -8,6 +8,7 @@ use Rattle.semantics.specs.Flow.{Flow, Straight, Jumps, Forks, Ends, flow_of, br
 use Rattle.semantics.specs.LooseRuns.{effect_of_branch}
 use Rattle.semantics.specs.Runs.{StepResult, Goes, Exits, Sticks, AreReal, step}
 use Rattle.semantics.specs.declared.effect.Effect.{Effect}
+use Rattle.semantics.specs.declared.limits.TheConstants.{MAX_DATAGRAM}
 use Rattle.semantics.specs.declared.reason.Reason.{Reason}
 use Rattle.semantics.specs.declared.fetching.Fetched.TheVariants.{Begins}
 use Rattle.semantics.specs.declared.fetching.Branch.{Branch}
@@ -17,11 +18,11 @@ use Rattle.absstate.specs.declared.abstract_state.AbsState.{AbsState}
 use Rattle.absstate.specs.declared.abstract_step.Next.{Next}
 use Rattle.absstate.specs.declared.abstract_step.Next.TheVariants as next
 
--- a next state stands at the slot that a branch leads to, with the memory as before, and is a member of the abstract state
--- there
+-- a next state stands at the slot that a branch leads to, over a datagram of the same length, and is a member of the
+-- abstract state there
 pub record IsBehind {D : Type 0} (Member : D → ℕ → Type 0) (code : List Insn) (mode : Mode) (places : Places) (s : State) (i : Insn) (branch : Branch) (b : AbsState D) (t : State) : Type 0 where
   pub leads : branch_slot code s.slot i branch ≡ Ok t.slot
-  pub memory : t.memory ≡ s.memory
+  pub size : t.memory.length ≡ s.memory.length
   pub member : IsMember Member mode places b t
 
 -- so is it where the state is that of a branch that can be taken
@@ -58,9 +59,9 @@ Follows Member w code mode places s i answer (Goes t) = (branch : Branch) × IsT
 Follows Member w code mode places s i answer (Exits verdict) = IsExit answer
 Follows Member w code mode places s i answer (Sticks reason slot) = ⊥
 
--- Every step at the instruction, from a member, in real surroundings and in code in which each branch of the instruction
--- leads to a slot. The step isn't stuck.
+-- Every step at the instruction, from a member with a datagram of at most 65,507 bytes, in real surroundings and in code
+-- in which each branch of the instruction leads to a slot. The step isn't stuck.
 abbrev pub StepsFollow : {D : Type 0} → (D → ℕ → Type 0) → AbsState D → Insn → Next D → Type 0
 StepsFollow Member a i answer = (w : Surroundings) (code : List Insn) (mode : Mode) (places : Places) (s : State)
-    → AreReal w → fetch code s.slot ≡ Begins i → ((branch : Branch) → IsOk (branch_slot code s.slot i branch)) → IsMember Member mode places a s
+    → AreReal w → fetch code s.slot ≡ Begins i → ((branch : Branch) → IsOk (branch_slot code s.slot i branch)) → s.memory.length ≤ MAX_DATAGRAM → IsMember Member mode places a s
     → Follows Member w code mode places s i answer (step w code s)

@@ -1,8 +1,9 @@
 -- The members of an abstract state: the machine states that it describes. Which words are members of an abstract number
 -- is the domain's.
-use Rattle.std.specs.Prelude.{◌≡◌, ℕ, ◌<◌, Bool, true, ℤ, pos, ◌+ℤ◌, ◌≤ℤ◌, length, Option, Some, None, is_some, slice_index_or, All}
+use Rattle.std.specs.Prelude.{◌≡◌, ℕ, ◌<◌, Bool, true, ℤ, pos, ◌+ℤ◌, ◌≤ℤ◌, length, Option, None, is_some, slice_index_or}
 use Rattle.insn.specs.declared.register.Reg.{Reg}
-use Rattle.semantics.specs.Machine.{Memory, State}
+use Rattle.semantics.specs.Machine.{State}
+use Rattle.semantics.specs.Kept.{IsMemory}
 use Rattle.semantics.specs.Effects.{value_at}
 use Rattle.semantics.specs.declared.value.Value.{Value}
 use Rattle.semantics.specs.declared.value.Value.TheVariants as value
@@ -68,12 +69,6 @@ pub record IsCell (mode : Mode) (marked : Bool) (cell : Option ℕ) : Type 0 whe
   pub held : marked ≡ true → is_some cell ≡ true
   pub no_other : mode ≡ Strict → is_some cell ≡ marked
 
--- what memory holds is bytes
-pub record HoldsBytes (m : Memory) : Type 0 where
-  pub count : length m.stack ≡ 512
-  pub cells : All (λ c. (b : ℕ) → c ≡ Some b → b < 256) m.stack
-  pub bytes : All (λ b. b < 256) m.bytes
-
 -- ---- states
 
 -- A machine state is a member where each anchor has a place such that the datagram reaches as far as is proved of the
@@ -82,7 +77,8 @@ pub record IsMember {D : Type 0} (Member : D → ℕ → Type 0) (mode : Mode) (
   pub anchored : (anchor : Anchor) → IsPlaceOf anchor (places anchor)
   pub reaches : (anchor : Anchor) → (places anchor +ℤ proved_of a anchor) ≤ℤ pos s.memory.length
   pub known_count : length a.registers ≡ 11
+  pub marks_count : length a.marks.words ≡ 8
   pub count : length s.registers ≡ 11
   pub registers : (r : Reg) → IsValue Member mode places (abstract_at a.registers r) (value_at s.registers r)
   pub cells : (i : ℕ) → i < 512 → IsCell mode (is_marked a.marks i) (slice_index_or s.memory.stack i None)
-  pub memory : HoldsBytes s.memory
+  pub memory : IsMemory s.memory

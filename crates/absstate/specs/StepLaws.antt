@@ -1,7 +1,9 @@
 -- Laws of the abstract step.
 pub mod Agreement
 pub mod Bounds
-pub mod LoadValues
+pub mod MemoryValues
+pub mod Marking
+pub mod Results
 pub mod Members
 pub mod Simulation
 pub mod Following

@@ -1,9 +1,10 @@
 //! The abstract state at a slot of a path: what the verifier knows of the machine there.
 
 ghost use Rattle.std.specs.Prelude.{◌≡◌, ◌+◌, ◌≤◌};
-ghost use Rattle.absstate.specs.AbstractStates.{no_marks, is_marked, are_marked, first_state, proved_of, with_value, with_least};
+ghost use Rattle.insn.specs.Codes.{byte_count};
+ghost use Rattle.absstate.specs.AbstractStates.{no_marks, is_marked, are_marked, mark, marked, first_state, proved_of, with_value, with_least, with_answer, with_out};
 
-use insn::Reg;
+use insn::{Reg, Size};
 use std::alloc::AllocError;
 
 /// A place of the datagram from which pointers count their offsets.
@@ -63,6 +64,25 @@ impl Marks {
         match self.words.get(index / 64) {
             Some(word) => (*word >> (index % 64)) % 2 == 1,
             None => false,
+        }
+    }
+
+    /// Sets a byte; there is none from the index 512 on.
+    fn set(&mut self, index: usize)
+        ensures { self.new ≡ mark self.old index }
+    {
+        if index < 512 {
+            self.words[index / 64] |= 1 << (index % 64);
+        }
+    }
+
+    /// Sets the bytes of an access of a size, from an index on.
+    pub(crate) fn set_all(&mut self, index: u16, size: Size)
+        ensures { self.new ≡ marked self.old index (byte_count size) }
+    {
+        let index = usize::from(index);
+        for i in index..index + size.bytes() {
+            self.set(i);
         }
     }
 
@@ -130,6 +150,27 @@ impl<D: Copy> AbsState<D> {
         ensures { self.new ≡ with_value self.old reg known }
     {
         self.registers[reg.number() as usize] = known;
+    }
+
+    /// Writes the answer of a call to `r0`; `r1` to `r5` hold nothing afterwards.
+    pub(crate) fn set_answer(&mut self, answer: D)
+        ensures { self.new ≡ with_answer self.old answer }
+    {
+        self.set(Reg::R0, AbstractValue::Scalar(answer));
+        self.set(Reg::R1, AbstractValue::Nothing);
+        self.set(Reg::R2, AbstractValue::Nothing);
+        self.set(Reg::R3, AbstractValue::Nothing);
+        self.set(Reg::R4, AbstractValue::Nothing);
+        self.set(Reg::R5, AbstractValue::Nothing);
+    }
+
+    /// Sets the eight bytes of an address record in the stack, if one is written.
+    pub(crate) fn set_out(&mut self, out: Option<u16>)
+        ensures { self.new ≡ with_out self.old out }
+    {
+        if let Some(index) = out {
+            self.marks.set_all(index, Size::Double);
+        }
     }
 
     /// Raises the least length of the datagram to another one, if there is one.

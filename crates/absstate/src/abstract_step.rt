@@ -10,8 +10,10 @@ ghost use Rattle.semantics.specs.declared.reason.Reason.TheVariants.{PointerArit
 
 use crate::abstract_state::{AbsState, AbstractValue};
 use crate::branching::branch_step;
+use crate::calling::call_step;
 use crate::change::{Change, Effect};
 use crate::loading::{load_signed_step, load_step};
+use crate::storing::store_step;
 use insn::{AluOp, Insn, Operand, Reg, UnaryOp, Width, extended};
 use interval::{Bounds, Domain};
 use semantics::{Reason, moved_place, writable};
@@ -223,13 +225,21 @@ fn effect_of<D: Domain>(state: &AbsState<D>, insn: Insn) -> Result<Effect<D>, Re
             base,
             offset,
         } => load_signed_step(state, size, dst, base, offset),
+        Insn::Store {
+            size,
+            base,
+            operand,
+            offset,
+        } => store_step(state, size, base, operand, offset),
         Insn::LoadImm { dst, value } => { written(dst, Ok(AbstractValue::Scalar(D::exact(value)))) }
+        Insn::Call { helper } => call_step(state, helper),
         Insn::Exit => exit_step(state),
     }
 }
 
 impl<D: Domain> AbsState<D> {
     ghost use Rattle.std.specs.Prelude.{◌≡◌, IfOk};
+    ghost use Rattle.insn.specs.Encoding.{Fits};
     ghost use Rattle.absstate.specs.AbstractSteps.{step};
     ghost use Rattle.absstate.specs.Changes.{answer_of};
     ghost use Rattle.absstate.specs.MemberSteps.{StepsFollow};
@@ -239,15 +249,17 @@ impl<D: Domain> AbsState<D> {
     /// # Errors
     /// As [`AbsState::step`].
     pub fn effect(&self, insn: &Insn) -> Result<Effect<D>, Reason>
-        ensures { answer_of self.now result ≡ step D.ops self.now insn.now }
+        ensures step { answer_of self.now result ≡ step D.ops self.now insn.now }
+        ensures fits { Fits insn.now }
     {
         effect_of(self, *insn)
     }
 
     /// Makes the abstract step of an instruction.
     ///
-    /// Where it is accepted, the machine's step from each member of the state isn't stuck: it exits where the answer is
-    /// `Exit`, and else leads to a member of the state behind it, of the branch that it takes.
+    /// Where it is accepted, the machine's step from each member of the state with a datagram of at most 65,507 bytes isn't
+    /// stuck: it exits where the answer is `Exit`, and else leads to a member of the state behind it, of the branch that it
+    /// takes.
     ///
     /// # Errors
     /// The reason for which a step from a member of the state could be stuck.

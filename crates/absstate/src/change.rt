@@ -6,7 +6,7 @@ ghost use Rattle.absstate.specs.Changes.{changed, next_of};
 
 use crate::abstract_state::{AbsState, AbstractValue};
 use crate::abstract_step::Next;
-use insn::Reg;
+use insn::{Reg, Size};
 use interval::Refined;
 
 /// What is changed of a state.
@@ -27,6 +27,16 @@ pub enum Change<D> {
     },
     /// The datagram has a least length, if there is one.
     Least(Option<i64>),
+    /// The stack bytes of an access are set, from an index on.
+    Marks {
+        index: u16,
+        size: Size,
+    },
+    /// A call answers, and the address record at the index `out` of the stack is set, if there is one.
+    Answer {
+        answer: D,
+        out: Option<u16>,
+    },
 }
 
 /// What an accepted step changes: as [`Next`], with changes in place of states.
@@ -56,6 +66,11 @@ impl<D: Copy> AbsState<D> {
                 self.set(src, AbstractValue::Scalar(left.b));
             }
             Change::Least(least) => self.set_least(least),
+            Change::Marks { index, size } => self.marks.set_all(index, size),
+            Change::Answer { answer, out } => {
+                self.set_answer(answer);
+                self.set_out(out);
+            }
         }
     }
 

@@ -4,8 +4,11 @@
 mod abstract_state;
 mod abstract_step;
 mod branching;
+mod calling;
 mod change;
 mod loading;
+mod memory;
+mod storing;
 
 pub use abstract_state::{AbsState, AbstractValue, Anchor, Marks};
 pub use abstract_step::Next;

@@ -1,65 +1,71 @@
 //! The abstract step of a load.
 
-ghost use Rattle.std.specs.Prelude.{◌≡◌, ◌≤◌, ◌+ℤ◌};
-ghost use Rattle.insn.specs.Codes.{byte_count, unsigned_size};
+ghost use Rattle.std.specs.Prelude.{◌≡◌, ◌≤◌};
 ghost use Rattle.absstate.specs.Changes.{answer_of};
-ghost use Rattle.absstate.specs.AbstractSteps.{field, stack_readable, bytes_readable, readable, load_number, number_of_size, load, load_signed, load_step, load_signed_step};
+ghost use Rattle.absstate.specs.AbstractSteps.{field_known, load_field, region_readable, IsInStack, readable, load_number, number_of_size, load, load_signed, load_step, load_signed_step};
 
 use crate::abstract_state::{AbsState, AbstractValue, Anchor, Marks};
 use crate::abstract_step::{read, written};
 use crate::change::Effect;
+use crate::memory::{Region, locate};
 use insn::{Reg, SignedSize, Size};
 use interval::Domain;
-use semantics::{HEADROOM_FIRST, Reason, TAILROOM, index_in_stack, is_within};
+use semantics::{Field, MAX_DATAGRAM, Reason, field_at};
 
-/// Returns the abstract value of a field of the context record.
-fn field<D: Copy>(displacement: i16, size: Size) -> Result<AbstractValue<D>, Reason>
-    ensures { result ≡ field displacement size }
+/// Returns the abstract number of all numbers of a size.
+fn number_of_size<D: Domain>(size: Size) -> D
+    ensures { result ≡ number_of_size D.ops size }
 {
-    match (displacement, size) {
-        (0, Size::Double) => Ok(AbstractValue::Data {
+    match size {
+        Size::Byte => D::range(0, 0xff),
+        Size::Half => D::range(0, 0xffff),
+        Size::Word => D::range(0, 0xffff_ffff),
+        Size::Double => D::range(0, u64::MAX),
+    }
+}
+
+/// Returns what is known of a field of the context record.
+fn field_known<D: Domain>(field: Field) -> AbstractValue<D>
+    ensures { result ≡ field_known D.ops field }
+{
+    match field {
+        Field::Datagram => AbstractValue::Data {
             anchor: Anchor::First,
             offset: 0,
-        }),
-        (8, Size::Double) => Ok(AbstractValue::End),
-        _ => Err(Reason::ContextAccess),
+        },
+        Field::End => AbstractValue::End,
+        Field::Length => AbstractValue::Scalar(D::range(0, MAX_DATAGRAM as u64)),
+        Field::Source | Field::IdHead => AbstractValue::Scalar(number_of_size(Size::Double)),
+        Field::IdTail => AbstractValue::Scalar(number_of_size(Size::Word)),
+        Field::Side => AbstractValue::Scalar(D::range(0, 1)),
     }
 }
 
-/// Tests whether the `n` bytes at a place of the stack may be read.
-///
-/// # Errors
-/// `StackBounds` outside the stack, `UninitStack` where a byte isn't known to be set.
-fn stack_readable(marks: &Marks, offset: i32, displacement: i16, n: usize) -> Result<(), Reason>
-    requires { n ≤ 8 }
-    ensures { result ≡ stack_readable marks.now (offset +ℤ displacement) n }
+/// Returns what is known of what an access to the context record reads.
+fn load_field<D: Domain>(displacement: i16, size: Size) -> Result<AbstractValue<D>, Reason>
+    ensures { result ≡ load_field D.ops displacement size }
 {
-    let index = index_in_stack(i64::from(offset), displacement, n).ok_or(Reason::StackBounds)?;
-    if marks.are_set(index, n) {
-        Ok(())
-    } else {
-        Err(Reason::UninitStack)
-    }
+    let field = field_at(displacement, size).ok_or(Reason::ContextAccess)?;
+    Ok(field_known(field))
 }
 
-/// Tests whether the `n` bytes at a place from `low` on end at `high` at most.
+/// Tests whether the `n` bytes of a region may be read.
 ///
 /// # Errors
-/// `DatagramBounds`.
-fn bytes_readable(
-    offset: i32,
-    displacement: i16,
-    n: usize,
-    low: i64,
-    high: i64,
-) -> Result<(), Reason>
-    requires { n ≤ 8 }
-    ensures { result ≡ bytes_readable (offset +ℤ displacement) n low high }
+/// `UninitStack` where a byte isn't known to be set.
+fn region_readable(marks: &Marks, n: usize, region: Region) -> Result<(), Reason>
+    requires { IsInStack n region }
+    ensures { result ≡ region_readable marks.now n region }
 {
-    if is_within(i64::from(offset), displacement, n, low, high) {
-        Ok(())
-    } else {
-        Err(Reason::DatagramBounds)
+    match region {
+        Region::InStack(index) => {
+            if marks.are_set(index, n) {
+                Ok(())
+            } else {
+                Err(Reason::UninitStack)
+            }
+        }
+        Region::InBytes => Ok(()),
     }
 }
 
@@ -67,6 +73,7 @@ fn bytes_readable(
 ///
 /// # Errors
 /// The reason for which a load could be stuck.
+#[tactic(auto, unfolding(crate::specs::AbstractSteps::readable))]
 fn readable<D: Copy>(
     state: &AbsState<D>,
     base: AbstractValue<D>,
@@ -76,20 +83,8 @@ fn readable<D: Copy>(
     requires { n ≤ 8 }
     ensures { result ≡ readable state.now base displacement n }
 {
-    match base {
-        AbstractValue::Nothing => Err(Reason::UninitRegister),
-        AbstractValue::Scalar(_) => Err(Reason::NotAPointer),
-        AbstractValue::Ctx => Err(Reason::ContextAccess),
-        AbstractValue::Stack(offset) => stack_readable(&state.marks, offset, displacement, n),
-        AbstractValue::Data { anchor, offset } => bytes_readable(
-            offset,
-            displacement,
-            n,
-            HEADROOM_FIRST,
-            state.proved_of(anchor),
-        ),
-        AbstractValue::End => bytes_readable(0, displacement, n, 0, TAILROOM as i64),
-    }
+    let to = locate(state, base, displacement, n)?;
+    region_readable(&state.marks, n, to)
 }
 
 /// Returns what is known of the number in `n` bytes, where they may be read.
@@ -107,18 +102,6 @@ fn load_number<D: Copy>(
     Ok(AbstractValue::Scalar(number))
 }
 
-/// Returns the abstract number of all numbers of a size.
-fn number_of_size<D: Domain>(size: Size) -> D
-    ensures { result ≡ number_of_size D.ops size }
-{
-    match size {
-        Size::Byte => D::range(0, 0xff),
-        Size::Half => D::range(0, 0xffff),
-        Size::Word => D::range(0, 0xffff_ffff),
-        Size::Double => D::range(0, u64::MAX),
-    }
-}
-
 fn load<D: Domain>(
     state: &AbsState<D>,
     base: AbstractValue<D>,
@@ -128,7 +111,7 @@ fn load<D: Domain>(
     ensures { result ≡ load D.ops state.now base displacement size }
 {
     match base {
-        AbstractValue::Ctx => field(displacement, size),
+        AbstractValue::Ctx => load_field(displacement, size),
         _ => load_number(
             state,
             base,
@@ -149,8 +132,8 @@ pub(crate) fn load_step<D: Domain>(
 ) -> Result<Effect<D>, Reason>
     ensures { answer_of state.now result ≡ load_step D.ops state.now size dst base displacement }
 {
-    let pointer = read(state, base)?;
-    written(dst, load(state, pointer, displacement, size))
+    let from = read(state, base)?;
+    written(dst, load(state, from, displacement, size))
 }
 
 /// Makes the abstract step of a load that extends the sign.
@@ -163,8 +146,8 @@ pub(crate) fn load_signed_step<D: Domain>(
 ) -> Result<Effect<D>, Reason>
     ensures { answer_of state.now result ≡ load_signed_step D.ops state.now size dst base displacement }
 {
-    let pointer = read(state, base)?;
+    let from = read(state, base)?;
     let n = size.unsigned().bytes();
     let number = D::top();
-    written(dst, load_number(state, pointer, displacement, n, number))
+    written(dst, load_number(state, from, displacement, n, number))
 }

@@ -30,7 +30,7 @@ use Rattle.insn.specs.declared.opcode.Opcode.TheVariants as opcode
 use Rattle.insn.specs.declared.instruction.Operand.{Operand}
 use Rattle.insn.specs.declared.instruction.Operand.TheVariants as operand
 use Rattle.insn.specs.declared.instruction.Insn.{Insn}
-use Rattle.insn.specs.declared.instruction.Insn.TheVariants.{Alu, Mov, Neg, SignExtend, Swap, Jump, LongJump, JumpIf, Load, LoadSigned, LoadImm, Exit}
+use Rattle.insn.specs.declared.instruction.Insn.TheVariants.{Alu, Mov, Neg, SignExtend, Swap, Jump, LongJump, JumpIf, Load, LoadSigned, Store, LoadImm, Call, Exit}
 use Rattle.insn.specs.declared.refusal.SlotFault.{SlotFault}
 use Rattle.insn.specs.declared.refusal.SlotFault.TheVariants as fault
 use Rattle.insn.specs.declared.refusal.DecodeError.{DecodeError}
@@ -98,7 +98,9 @@ have_room (LongJump distance) fits = room_for (opcode.Jump W32) reg.R0 0 (pos 0)
 have_room (JumpIf w c dst o distance) fits = room_for (opcode.JumpIf w c (source_of o)) dst (src_of o) distance (imm_of o) (src_small o) fits.1 (imm_fits o fits.0)
 have_room (Load z dst base displacement) fits = room_for (opcode.Load z) dst (number_of base) displacement (pos 0) (number_small base) fits zero32
 have_room (LoadSigned z dst base displacement) fits = room_for (opcode.LoadSigned z) dst (number_of base) displacement (pos 0) (number_small base) fits zero32
+have_room (Store z base o displacement) fits = room_for (opcode.Store z (source_of o)) base (src_of o) displacement (imm_of o) (src_small o) fits.1 (imm_fits o fits.0)
 have_room (LoadImm dst value) fits = room_for opcode.LoadImm dst 0 (pos 0) (low_half value) (omega arith) zero16 (half_fits (value % 2 ^ 32) (omega arith))
+have_room (Call helper) fits = room_for opcode.Call reg.R0 0 (pos 0) helper (omega arith) zero16 fits
 have_room Exit fits = room_for opcode.Exit reg.R0 0 (pos 0) (pos 0) (omega arith) zero16 zero32
 
 -- no encoding begins another

@@ -115,9 +115,12 @@ form_fits (opcode.Jump W32) d s offset imm high p q r = q
 form_fits (opcode.Jump W64) d s offset imm high p q r = p
 form_fits (opcode.JumpIf w c source.Imm) d s offset imm high p q r = (q, p)
 form_fits (opcode.JumpIf w c source.Reg) d s offset imm high p q r = (tt, p)
+form_fits opcode.Call d s offset imm high p q r = q
 form_fits opcode.Exit d s offset imm high p q r = tt
 form_fits (opcode.Load z) d s offset imm high p q r = p
 form_fits (opcode.LoadSigned z) d s offset imm high p q r = p
+form_fits (opcode.Store z source.Imm) d s offset imm high p q r = (q, p)
+form_fits (opcode.Store z source.Reg) d s offset imm high p q r = (tt, p)
 form_fits opcode.LoadImm d s offset imm high p q r = omega (arith, bits_of_4 imm q, bits_of_4 high r)
 
 -- ---- the code's `==` on fields

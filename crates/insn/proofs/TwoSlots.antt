@@ -12,7 +12,7 @@ use Rattle.insn.specs.declared.fields.Fields.{Fields}
 use Rattle.insn.specs.declared.opcode.Opcode.{Opcode}
 use Rattle.insn.specs.declared.opcode.Opcode.TheVariants as opcode
 use Rattle.insn.specs.declared.instruction.Insn.{Insn}
-use Rattle.insn.specs.declared.instruction.Insn.TheVariants.{Alu, Mov, Neg, SignExtend, Swap, Jump, LongJump, JumpIf, Load, LoadSigned, LoadImm, Exit}
+use Rattle.insn.specs.declared.instruction.Insn.TheVariants.{Alu, Mov, Neg, SignExtend, Swap, Jump, LongJump, JumpIf, Load, LoadSigned, Store, LoadImm, Call, Exit}
 use Rattle.insn.proofs.Unique.{are_of, byte_of-injective, fields_of-injective}
 use Rattle.insn.proofs.Slots.{slot_bytes-injective}
 
@@ -42,6 +42,8 @@ slots_in (LongJump distance) fits = narrow refl refl
 slots_in (JumpIf w c dst x distance) fits = narrow refl refl
 slots_in (Load z dst base displacement) fits = narrow refl refl
 slots_in (LoadSigned z dst base displacement) fits = narrow refl refl
+slots_in (Store z base x displacement) fits = narrow refl refl
+slots_in (Call helper) fits = narrow refl refl
 slots_in Exit fits = narrow refl refl
 
 not_both : (o : Opcode) → is_wide o ≡ false → o ≡ opcode.LoadImm → ⊥

@@ -35,7 +35,7 @@ use Rattle.insn.specs.declared.opcode.Opcode.TheVariants as opcode
 use Rattle.insn.specs.declared.instruction.Operand.{Operand}
 use Rattle.insn.specs.declared.instruction.Operand.TheVariants as operand
 use Rattle.insn.specs.declared.instruction.Insn.{Insn}
-use Rattle.insn.specs.declared.instruction.Insn.TheVariants.{Alu, Mov, Neg, SignExtend, Swap, Jump, LongJump, JumpIf, Load, LoadSigned, LoadImm, Exit}
+use Rattle.insn.specs.declared.instruction.Insn.TheVariants.{Alu, Mov, Neg, SignExtend, Swap, Jump, LongJump, JumpIf, Load, LoadSigned, Store, LoadImm, Call, Exit}
 use Rattle.std.specs.Int.{w32}
 use Rattle.std.proofs.lemmas.Int.{of_z-to_z}
 use Rattle.insn.proofs.Tables.{Among, at, among_at, among-map, among-flat_map, one_value, code_below}
@@ -165,7 +165,8 @@ with_sources_stands form all w x s h =
 groups : List (List Opcode)
 groups =
     with_sources opcode.Alu codes ∷ flat_map (λ w. map (opcode.Mov w) sources) widths ∷ map opcode.Neg widths ∷ map opcode.Swap swaps ∷ map opcode.Jump widths
-    ∷ with_sources opcode.JumpIf conditions ∷ (opcode.Exit ∷ []) ∷ map opcode.Load sizes ∷ map opcode.LoadSigned signed_sizes ∷ (opcode.LoadImm ∷ []) ∷ []
+    ∷ with_sources opcode.JumpIf conditions ∷ (opcode.Exit ∷ []) ∷ map opcode.Load sizes ∷ map opcode.LoadSigned signed_sizes ∷ (opcode.LoadImm ∷ [])
+    ∷ flat_map (λ z. map (opcode.Store z) sources) sizes ∷ (opcode.Call ∷ []) ∷ []
 
 opcodes : List Opcode
 opcodes = flat_map (λ g. g) groups
@@ -186,6 +187,8 @@ opcode_stands opcode.Exit = in_group 6 (opcode.Exit ∷ []) opcode.Exit refl (in
 opcode_stands (opcode.Load z) = in_group 7 _ _ refl (among-map opcode.Load sizes z (stands sizes size_at z))
 opcode_stands (opcode.LoadSigned z) = in_group 8 _ _ refl (among-map opcode.LoadSigned signed_sizes z (stands signed_sizes signed_size_at z))
 opcode_stands opcode.LoadImm = in_group 9 (opcode.LoadImm ∷ []) opcode.LoadImm refl (inl refl)
+opcode_stands (opcode.Store z s) = in_group 10 _ _ refl (among-flat_map (λ y. map (opcode.Store y) sources) sizes z _ (stands sizes size_at z) (among-map (opcode.Store z) sources s (stands sources source_at s)))
+opcode_stands opcode.Call = in_group 11 (opcode.Call ∷ []) opcode.Call refl (inl refl)
 
 pub byte_of-injective : (o p : Opcode) → byte_of o ≡ byte_of p → o ≡ p
 unfolding opcodes groups with_sources codes widths sources conditions swaps sizes signed_sizes
@@ -226,7 +229,9 @@ are_of (LongJump distance) = record { opcode = opcode.Jump W32; dst = reg.R0; sr
 are_of (JumpIf w c dst x distance) = record { opcode = opcode.JumpIf w c (source_of x); dst = dst; src = src_register x; opcode_is = refl; dst_is = refl; src_is = src_register_is x }
 are_of (Load z dst base displacement) = record { opcode = opcode.Load z; dst = dst; src = base; opcode_is = refl; dst_is = refl; src_is = refl }
 are_of (LoadSigned z dst base displacement) = record { opcode = opcode.LoadSigned z; dst = dst; src = base; opcode_is = refl; dst_is = refl; src_is = refl }
+are_of (Store z base x displacement) = record { opcode = opcode.Store z (source_of x); dst = base; src = src_register x; opcode_is = refl; dst_is = refl; src_is = src_register_is x }
 are_of (LoadImm dst value) = record { opcode = opcode.LoadImm; dst = dst; src = reg.R0; opcode_is = refl; dst_is = refl; src_is = refl }
+are_of (Call helper) = record { opcode = opcode.Call; dst = reg.R0; src = reg.R0; opcode_is = refl; dst_is = refl; src_is = refl }
 are_of Exit = record { opcode = opcode.Exit; dst = reg.R0; src = reg.R0; opcode_is = refl; dst_is = refl; src_is = refl }
 
 -- ---- the fields choose the instruction
@@ -288,7 +293,9 @@ own_form (LongJump distance) fits = refl
 own_form (JumpIf w c dst x distance) fits = ap (λ (y : Operand). JumpIf w c dst y distance) (operand_is x)
 own_form (Load z dst base displacement) fits = refl
 own_form (LoadSigned z dst base displacement) fits = refl
+own_form (Store z base x displacement) fits = ap (λ (y : Operand). Store z base y displacement) (operand_is x)
 own_form (LoadImm dst value) fits = ap (LoadImm dst) (joined_is value fits)
+own_form (Call helper) fits = refl
 own_form Exit fits = refl
 
 -- the instruction with these fields is the form of the opcode, the registers and the numbers that they are of

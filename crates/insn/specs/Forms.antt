@@ -24,7 +24,7 @@ use Rattle.insn.specs.declared.opcode.Opcode.TheVariants as opcode
 use Rattle.insn.specs.declared.instruction.Operand.{Operand}
 use Rattle.insn.specs.declared.instruction.Operand.TheVariants as operand
 use Rattle.insn.specs.declared.instruction.Insn.{Insn}
-use Rattle.insn.specs.declared.instruction.Insn.TheVariants.{Alu, Mov, Neg, SignExtend, Swap, Jump, LongJump, JumpIf, Load, LoadSigned, LoadImm, Exit}
+use Rattle.insn.specs.declared.instruction.Insn.TheVariants.{Alu, Mov, Neg, SignExtend, Swap, Jump, LongJump, JumpIf, Load, LoadSigned, Store, LoadImm, Call, Exit}
 use Rattle.insn.specs.declared.decoding.Head.{Head}
 use Rattle.insn.specs.declared.refusal.SlotFault.{SlotFault}
 use Rattle.insn.specs.declared.refusal.SlotFault.TheVariants as fault
@@ -82,9 +82,11 @@ form (opcode.Jump W32) dst src offset imm high = LongJump imm
 form (opcode.Jump W64) dst src offset imm high = Jump offset
 form (opcode.JumpIf width condition s) dst src offset imm high = JumpIf width condition dst (with_source s src imm) offset
 form opcode.LoadImm dst src offset imm high = LoadImm dst (joined imm high)
+form opcode.Call dst src offset imm high = Call imm
 form opcode.Exit dst src offset imm high = Exit
 form (opcode.Load size) dst src offset imm high = Load size dst src offset
 form (opcode.LoadSigned size) dst src offset imm high = LoadSigned size dst src offset
+form (opcode.Store size s) dst src offset imm high = Store size dst (with_source s src imm) offset
 
 -- the opcode and the registers of a slot
 pub record HasHead (f : Fields) (h : Head) : Type 0 where

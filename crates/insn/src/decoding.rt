@@ -93,10 +93,17 @@ fn insn_of(head: Head, offset: i16, imm: i32, high: i32) -> Insn
             base: src,
             offset,
         },
+        Opcode::Store(size, source) => Insn::Store {
+            size,
+            base: dst,
+            operand: operand_of(source, src, imm),
+            offset,
+        },
         Opcode::LoadImm => Insn::LoadImm {
             dst,
             value: joined(imm, high),
         },
+        Opcode::Call => Insn::Call { helper: imm },
         Opcode::Exit => Insn::Exit,
     }
 }

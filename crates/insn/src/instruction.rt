@@ -84,10 +84,22 @@ pub enum Insn {
         base: Reg,
         offset: i16,
     },
+    /// `MEM` of class `ST` (an imm) or `STX` (a register): stores the low `size` bytes of the operand at
+    /// `base + offset`.
+    Store {
+        size: Size,
+        base: Reg,
+        operand: Operand,
+        offset: i16,
+    },
     /// `IMM` of class `LD`, which takes two slots: loads a number of 64 bits.
     LoadImm {
         dst: Reg,
         value: u64,
+    },
+    /// `CALL` of class `JMP`: calls a helper by its number.
+    Call {
+        helper: i32,
     },
     /// `EXIT` of class `JMP`: ends the program with the verdict in `r0`.
     Exit,
@@ -271,12 +283,31 @@ impl Insn {
                 offset,
                 imm: 0,
             },
+            Insn::Store {
+                size,
+                base,
+                operand,
+                offset,
+            } => Fields {
+                opcode: Opcode::Store(size, operand.source()).byte(),
+                dst: base.number(),
+                src: operand.src(),
+                offset,
+                imm: operand.imm(),
+            },
             Insn::LoadImm { dst, value } => Fields {
                 opcode: Opcode::LoadImm.byte(),
                 dst: dst.number(),
                 src: 0,
                 offset: 0,
                 imm: low_half(value),
+            },
+            Insn::Call { helper } => Fields {
+                opcode: Opcode::Call.byte(),
+                dst: 0,
+                src: 0,
+                offset: 0,
+                imm: helper,
             },
             Insn::Exit => Fields {
                 opcode: Opcode::Exit.byte(),

@@ -24,4 +24,4 @@ pub use refusal::DecodeError;
 pub use register::Reg;
 pub use size::{SignedSize, Size, SwapSize};
 pub use width::Width;
-pub use word::{alu, extended, holds, little_endian, sign_extended, unary};
+pub use word::{alu, extended, holds, little_endian, sign_extended, unary, write_little_endian};

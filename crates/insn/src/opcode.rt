@@ -1,7 +1,7 @@
 //! The opcode, a slot's first byte (RFC 9669, section 3.1).
 
 ghost use Rattle.std.specs.Prelude.{◌≡◌, ◌≢◌, ◌%◌, Some, IfSome};
-ghost use Rattle.insn.specs.Codes.{alu_code, alu_class, jump_class};
+ghost use Rattle.insn.specs.Codes.{alu_code, alu_class, jump_class, store_class};
 ghost use Rattle.insn.specs.Opcode.{source_bit, byte_of};
 ghost use Rattle.insn.specs.declared.operator.SwapOp.{SwapOp};
 ghost use Rattle.insn.specs.declared.opcode.Opcode.TheVariants.{Swap};
@@ -51,17 +51,25 @@ pub enum Opcode {
     Jump(Width),
     /// A conditional jump, classes `JMP` and `JMP32`.
     JumpIf(Width, Condition, Source),
+    /// `CALL` of class `JMP`, by the number of a helper.
+    Call,
     /// `EXIT` of class `JMP`.
     Exit,
     /// `MEM` of class `LDX`.
     Load(Size),
     /// `MEMSX` of class `LDX`.
     LoadSigned(SignedSize),
+    /// `MEM` of class `ST` or `STX`.
+    Store(Size, Source),
     /// `IMM` of class `LD`, in two slots.
     LoadImm,
 }
 
 const CLASS_LDX: u8 = 0x1;
+
+const CLASS_ST: u8 = 0x2;
+
+const CLASS_STX: u8 = 0x3;
 
 const CLASS_ALU: u8 = 0x4;
 
@@ -80,6 +88,8 @@ const OPCODE_LE: u8 = 0xd4;
 const OPCODE_BE: u8 = 0xdc;
 
 const OPCODE_SWAP: u8 = 0xd7;
+
+const OPCODE_CALL: u8 = 0x85;
 
 const OPCODE_EXIT: u8 = 0x95;
 
@@ -170,6 +180,15 @@ fn jump_class(width: Width) -> u8
     }
 }
 
+fn store_class(source: Source) -> u8
+    ensures { result ≡ store_class source }
+{
+    match source {
+        Source::Imm => CLASS_ST,
+        Source::Reg => CLASS_STX,
+    }
+}
+
 impl Opcode {
     /// Returns the byte of the opcode.
     pub fn byte(self) -> u8
@@ -188,9 +207,11 @@ impl Opcode {
             Opcode::JumpIf(width, condition, source) => {
                 16 * condition.code() + 8 * source.bit() + jump_class(width)
             }
+            Opcode::Call => OPCODE_CALL,
             Opcode::Exit => OPCODE_EXIT,
             Opcode::Load(size) => 32 * MODE_MEM + 8 * size.code() + CLASS_LDX,
             Opcode::LoadSigned(size) => 32 * MODE_MEMSX + 8 * size.unsigned().code() + CLASS_LDX,
+            Opcode::Store(size, source) => 32 * MODE_MEM + 8 * size.code() + store_class(source),
             Opcode::LoadImm => OPCODE_LDDW,
         }
     }
@@ -206,6 +227,8 @@ impl Opcode {
             CLASS_JMP => Opcode::jump_of(byte, Width::W64),
             CLASS_JMP32 => Opcode::jump_of(byte, Width::W32),
             CLASS_LDX => Opcode::load_of(byte),
+            CLASS_ST => Opcode::store_of(byte, Source::Imm),
+            CLASS_STX => Opcode::store_of(byte, Source::Reg),
             _ => {
                 if byte == OPCODE_LDDW {
                     Some(Opcode::LoadImm)
@@ -257,6 +280,9 @@ impl Opcode {
         if byte / 8 == 0 {
             return Some(Opcode::Jump(width));
         }
+        if byte == OPCODE_CALL {
+            return Some(Opcode::Call);
+        }
         if byte == OPCODE_EXIT {
             return Some(Opcode::Exit);
         }
@@ -274,6 +300,18 @@ impl Opcode {
         match byte / 32 {
             MODE_MEM => Some(Opcode::Load(size)),
             MODE_MEMSX => Some(Opcode::LoadSigned(SignedSize::of(size)?)),
+            _ => None,
+        }
+    }
+
+    fn store_of(byte: u8, source: Source) -> Option<Opcode>
+        requires { byte % 8 ≡ store_class source }
+        ensures found { IfSome result (λ o. byte_of o ≡ byte) }
+        ensures only { (o : Opcode) → byte_of o ≡ byte → result ≡ Some o }
+    {
+        let size = Size::from_code(byte / 8 % 4)?;
+        match byte / 32 {
+            MODE_MEM => Some(Opcode::Store(size, source)),
             _ => None,
         }
     }

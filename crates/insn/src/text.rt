@@ -156,7 +156,20 @@ impl fmt::Display for Insn {
                 let size = size.unsigned();
                 write!(f, "ldxs{size} {dst}, [{base}{offset:+}]")
             }
+            Insn::Store {
+                size,
+                base,
+                operand,
+                offset,
+            } => {
+                let class = match operand {
+                    Operand::Imm(_) => "st",
+                    Operand::Reg(_) => "stx",
+                };
+                write!(f, "{class}{size} [{base}{offset:+}], {operand}")
+            }
             Insn::LoadImm { dst, value } => write!(f, "lddw {dst}, {value}"),
+            Insn::Call { helper } => write!(f, "call {helper}"),
             Insn::Exit => write!(f, "exit"),
         }
     }

@@ -3,7 +3,7 @@
 ghost use Rattle.std.specs.Prelude.{◌≡◌, ◌≤◌, ◌<◌, ◌%◌, ◌^◌, ◌==◌, length, if◌then◌else◌};
 ghost use Rattle.std.specs.Int.{w64, cast_unsigned, cast_signed, swap_bytes};
 ghost use Rattle.std.specs.Int.RustNames.{int_div, int_rem};
-ghost use Rattle.byteorder.specs.Endian.{little_number};
+ghost use Rattle.byteorder.specs.Endian.{little_number, little_bytes};
 ghost use Rattle.insn.specs.Words.{modulus, cut, whole, alu, unary, holds, sign_extended, swap_width};
 ghost use mir.Val.{bits};
 
@@ -152,4 +152,12 @@ pub fn little_endian(bytes: &[u8]) -> u64
     ensures { result ≡ little_number (length bytes.now) bytes.now }
 {
     LittleEndian::read_uint(bytes, bytes.len())
+}
+
+/// Writes the low bytes of a number, least first: as many as there are, at most eight.
+pub fn write_little_endian(bytes: &mut [u8], value: u64)
+    requires { length bytes.old ≤ 8 }
+    ensures { bytes.new ≡ little_bytes (length bytes.old) value }
+{
+    bytes.copy_from_slice(&value.to_le_bytes()[..bytes.len()])
 }

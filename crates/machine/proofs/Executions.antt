@@ -3,7 +3,8 @@ use Rattle.std.proofs.Common.{◌≡◌, ℕ, suc, ◌+◌, ◌-◌, ◌≤◌, 
 use Rattle.std.proofs.lemmas.List.{length-append, append-nil}
 use Rattle.insn.specs.declared.instruction.Insn.{Insn}
 use Rattle.semantics.specs.Effects.{effect}
-use Rattle.semantics.specs.Machine.{Memory, State, Surroundings, first_registers}
+use Rattle.semantics.specs.Machine.{Context, Memory, State, Surroundings, first_registers, no_plan}
+use Rattle.semantics.specs.declared.plan.Plan.{Plan}
 use Rattle.semantics.specs.Slots.{fetch, last_slot, IsAt}
 use Rattle.semantics.specs.SlotLaws.{at_start}
 use Rattle.semantics.specs.Runs as runs
@@ -15,7 +16,8 @@ use Rattle.semantics.specs.declared.fetching.Fetched.{Fetched}
 use Rattle.semantics.specs.declared.fetching.Fetched.TheVariants.{Begins, Inside, Past}
 use Rattle.semantics.specs.declared.fetching.Position.{Position}
 use Rattle.semantics.specs.declared.fetching.Visit.{Visit}
-use Rattle.machine.specs.Execution.{state_at, result_of, whole_run, GoesAhead, IsWholeRun}
+use Rattle.machine.specs.Execution.{Answers, around, IsRecordOf, state_at, result_of, whole_run, GoesAhead, IsWholeRun}
+use Rattle.machine.specs.declared.execution.StepResult.{StepResult}
 use Rattle.machine.specs.declared.execution.StepResult.TheVariants as code
 
 abbrev visit : ℕ → Insn → Visit
@@ -33,29 +35,30 @@ one_more n steps index p q = omega arith
 less_one : (n steps : ℕ) → n - steps ≡ n + 1 - (steps + 1)
 less_one n steps = omega arith
 
--- the loop is at a position behind a path, and what is left of the run goes on from there
-pub record HasRun {Log : Type 0} (with_step : Log → Visit → Log) (program : List Insn) (memory : Memory) (at : Position) (registers : List Value) (steps : ℕ) (old new : Log) : Type 0 where
+-- The loop is at a position behind a path, and what is left of the run goes on from there, in the memory that the steps
+-- so far have made of the first one.
+pub record HasRun {Log : Type 0} (with_step : Log → Visit → Log) (program : List Insn) (answers : Answers) (context : List ℕ) (first memory : Memory) (plan : Plan) (at : Position) (registers : List Value) (steps : ℕ) (old new : Log) : Type 0 where
   pub is_at : IsAt program at
   pub path : List Visit
   pub count : length path ≡ steps
   pub early : steps ≤ at.index
-  pub so_far : (w : Surroundings) → whole_run w program memory ≡ after path (run w program (length program + 1 - steps) (state_at at.slot registers memory))
+  pub so_far : (c : Context) → IsRecordOf context first.length c → whole_run (around c answers) program first ≡ after path (run (around c answers) program (length program + 1 - steps) (state_at at.slot registers memory plan))
   pub logged : new ≡ fold with_step old path
 
-pub starts : {Log : Type 0} (with_step : Log → Visit → Log) (program : List Insn) (memory : Memory) (old : Log) → HasRun with_step program memory (record { slot = 0; index = 0 }) first_registers 0 old old
-starts with_step program memory old = record {
+pub starts : {Log : Type 0} (with_step : Log → Visit → Log) (program : List Insn) (answers : Answers) (context : List ℕ) (memory : Memory) (old : Log) → HasRun with_step program answers context memory memory no_plan (record { slot = 0; index = 0 }) first_registers 0 old old
+starts with_step program answers context memory old = record {
   is_at = at_start program;
   path = [];
   count = refl;
   early = omega arith;
-  so_far = λ w. ap (λ (k : ℕ). run w program k (state_at 0 first_registers memory)) (whole_fuel (length program));
+  so_far = λ c is. ap (λ (k : ℕ). run (around c answers) program k (state_at 0 first_registers memory no_plan)) (whole_fuel (length program));
   logged = refl;
 }
 
 -- one turn of the loop, at what stands at the slot
-abbrev turned_to : Surroundings → List Insn → Memory → ℕ → List Value → ℕ → List Visit → List Visit → runs.StepResult → Run
-turned_to w program memory slot registers steps path more r =
-    after (path ++ more) (onwards (state_at slot registers memory) r (λ next. run w program (length program - steps) next))
+abbrev turned_to : Surroundings → List Insn → Memory → Plan → ℕ → List Value → ℕ → List Visit → List Visit → runs.StepResult → Run
+turned_to w program memory plan slot registers steps path more r =
+    after (path ++ more) (onwards (state_at slot registers memory plan) r (λ next. run w program (length program - steps) next))
 
 fold-push : {T X : Type 0} (f : T → X → T) (a : T) (xs : List X) (x : X) → fold f a (xs ++ x ∷ []) ≡ f (fold f a xs) x
 fold-push f a [] x = refl
@@ -64,75 +67,85 @@ fold-push f a (y ∷ xs) x = fold-push f (f a y) xs x
 end_count : (path : List Visit) (v : Visit) (steps : ℕ) → length path ≡ steps → length ((path ++ v ∷ []) ++ []) ≡ steps + 1
 end_count path v steps e = omega (arith, length-append (path ++ v ∷ []) [], length-append path (v ∷ []))
 
-module _ {Log : Type 0} (with_step : Log → Visit → Log) (program : List Insn) (memory : Memory) (at : Position) (registers : List Value) (steps : ℕ) (old new : Log) (has : HasRun with_step program memory at registers steps old new) where
-  turned : (f : Fetched) → fetch program at.slot ≡ f → (w : Surroundings)
-      → whole_run w program memory ≡ turned_to w program memory at.slot registers steps has.path (visited at.slot f) (stepped w program (state_at at.slot registers memory) f)
-  turned f here w =
-      let s : State = state_at at.slot registers memory in
+-- the result of a step that makes these registers, this memory and this plan of those before it
+abbrev StepsTo : List Insn → Answers → List ℕ → ℕ → ℕ → List Value → Memory → Plan → Insn → List Value → Memory → Plan → StepResult → Type 0
+StepsTo program answers context size slot registers memory plan i registers' memory' plan' result =
+    (c : Context) → IsRecordOf context size c → result_of slot registers' memory' plan' result ≡ applied (around c answers) program (state_at slot registers memory plan) i (effect c memory registers i)
+
+module _ {Log : Type 0} (with_step : Log → Visit → Log) (program : List Insn) (answers : Answers) (context : List ℕ) (first memory : Memory) (plan : Plan) (at : Position) (registers : List Value) (steps : ℕ) (old new : Log) (has : HasRun with_step program answers context first memory plan at registers steps old new) where
+  turned : (f : Fetched) → fetch program at.slot ≡ f → (c : Context) → IsRecordOf context first.length c
+      → whole_run (around c answers) program first ≡ turned_to (around c answers) program memory plan at.slot registers steps has.path (visited at.slot f) (stepped (around c answers) program (state_at at.slot registers memory plan) f)
+  turned f here c is =
+      let s : State = state_at at.slot registers memory plan in
       let fuel : length program + 1 - steps ≡ suc (length program - steps) = one_more (length program) steps at.index has.early has.is_at.inside in
-      has.so_far w
-      ∙ ap (λ (k : ℕ). after has.path (run w program k s)) fuel
-      ∙ ap (λ (q : Fetched). after has.path (after (visited at.slot q) (onwards s (stepped w program s q) (λ next. run w program (length program - steps) next)))) here
-      ∙ after_after has.path (visited at.slot f) (onwards s (stepped w program s f) (λ next. run w program (length program - steps) next))
+      has.so_far c is
+      ∙ ap (λ (k : ℕ). after has.path (run (around c answers) program k s)) fuel
+      ∙ ap (λ (q : Fetched). after has.path (after (visited at.slot q) (onwards s (stepped (around c answers) program s q) (λ next. run (around c answers) program (length program - steps) next)))) here
+      ∙ after_after has.path (visited at.slot f) (onwards s (stepped (around c answers) program s f) (λ next. run (around c answers) program (length program - steps) next))
+
+  -- a step behind the run so far
+  stepped_to : (i : Insn) (r : StepResult) (registers' : List Value) (memory' : Memory) (plan' : Plan) → fetch program at.slot ≡ Begins i → StepsTo program answers context first.length at.slot registers memory plan i registers' memory' plan' r
+      → (c : Context) → IsRecordOf context first.length c
+      → whole_run (around c answers) program first ≡ turned_to (around c answers) program memory plan at.slot registers steps has.path (visit at.slot i ∷ []) (result_of at.slot registers' memory' plan' r)
+  stepped_to i r registers' memory' plan' here result c is =
+      turned (Begins i) here c is
+      ∙ ap (λ (q : runs.StepResult). turned_to (around c answers) program memory plan at.slot registers steps has.path (visit at.slot i ∷ []) q) (sym (result c is))
 
   logged_more : (last : Log) (v : Visit) → last ≡ with_step new v → last ≡ fold with_step old (has.path ++ v ∷ [])
   logged_more last v e = e ∙ ap (λ t. with_step t v) has.logged ∙ sym (fold-push with_step old has.path v)
 
   -- the loop goes on
-  pub goes_on : (to : Position) (registers' : List Value) (last : Log) (i : Insn) → fetch program at.slot ≡ Begins i → last ≡ with_step new (visit at.slot i)
-      → ((w : Surroundings) → result_of at.slot registers' memory (code.Goes to) ≡ applied w program (state_at at.slot registers memory) i (effect w.context memory registers i)) → GoesAhead program at to
-      → HasRun with_step program memory to registers' (steps + 1) old last
-  goes_on to registers' last i here logs result ahead = record {
+  pub goes_on : (to : Position) (registers' : List Value) (memory' : Memory) (plan' : Plan) (last : Log) (i : Insn) → fetch program at.slot ≡ Begins i → last ≡ with_step new (visit at.slot i)
+      → StepsTo program answers context first.length at.slot registers memory plan i registers' memory' plan' (code.Goes to) → GoesAhead program at to
+      → HasRun with_step program answers context first memory' plan' to registers' (steps + 1) old last
+  goes_on to registers' memory' plan' last i here logs result ahead = record {
     is_at = ahead.is_at;
     path = has.path ++ visit at.slot i ∷ [];
     count = omega (arith, length-append has.path (visit at.slot i ∷ []), has.count);
     early = omega (arith, has.early, ahead.later);
-    so_far = λ w.
-        turned (Begins i) here w
-        ∙ ap (λ (r : runs.StepResult). turned_to w program memory at.slot registers steps has.path (visit at.slot i ∷ []) r) (sym (result w))
-        ∙ ap (λ (k : ℕ). after (has.path ++ visit at.slot i ∷ []) (run w program k (state_at to.slot registers' memory))) (less_one (length program) steps);
+    so_far = λ c is.
+        stepped_to i (code.Goes to) registers' memory' plan' here result c is
+        ∙ ap (λ (k : ℕ). after (has.path ++ visit at.slot i ∷ []) (run (around c answers) program k (state_at to.slot registers' memory' plan'))) (less_one (length program) steps);
     logged = logged_more last (visit at.slot i) logs;
   }
 
   -- ---- the ends
 
-  pub over_at_exit : (registers' : List Value) (verdict : ℕ) (last : Log) (i : Insn) → fetch program at.slot ≡ Begins i → last ≡ with_step new (visit at.slot i)
-      → ((w : Surroundings) → result_of at.slot registers' memory (code.Exits verdict) ≡ applied w program (state_at at.slot registers memory) i (effect w.context memory registers i))
-      → IsWholeRun with_step program memory old last (Ok (record { verdict = verdict; steps = steps + 1 }))
-  over_at_exit registers' verdict last i here logs result =
-      let whole = λ (w : Surroundings).
-      turned (Begins i) here w
-      ∙ ap (λ (r : runs.StepResult). turned_to w program memory at.slot registers steps has.path (visit at.slot i ∷ []) r) (sym (result w)) in
+  pub over_at_exit : (registers' : List Value) (left : Memory) (plan' : Plan) (verdict : ℕ) (last : Log) (i : Insn) → fetch program at.slot ≡ Begins i → last ≡ with_step new (visit at.slot i)
+      → StepsTo program answers context first.length at.slot registers memory plan i registers' left plan' (code.Exits verdict) → left ≡ memory → plan' ≡ plan
+      → IsWholeRun with_step program answers context first left plan' old last (Ok (record { verdict = verdict; steps = steps + 1 }))
+  over_at_exit registers' left plan' verdict last i here logs result kept planned =
+      let whole = stepped_to i (code.Exits verdict) registers' left plan' here result in
       record {
-        ending = λ w. (ap (λ (r : Run). r.ending) (whole w), ap (λ (r : Run). length r.path) (whole w) ∙ end_count has.path (visit at.slot i) steps has.count);
-        kept = λ w. ap (λ (r : Run). r.state.memory) (whole w);
-        planless = λ w. ap (λ (r : Run). r.state.plan) (whole w);
-        logged = λ w. logged_more last (visit at.slot i) logs ∙ ap (fold with_step old) (sym (append-nil (has.path ++ visit at.slot i ∷ []))) ∙ sym (ap (λ (r : Run). fold with_step old r.path) (whole w));
+        ending = λ c is. (ap (λ (r : Run). r.ending) (whole c is), ap (λ (r : Run). length r.path) (whole c is) ∙ end_count has.path (visit at.slot i) steps has.count);
+        memory_is = λ c is. ap (λ (r : Run). r.state.memory) (whole c is) ∙ sym kept;
+        plan_is = λ c is. ap (λ (r : Run). r.state.plan) (whole c is) ∙ sym planned;
+        logged = λ c is. logged_more last (visit at.slot i) logs ∙ ap (fold with_step old) (sym (append-nil (has.path ++ visit at.slot i ∷ []))) ∙ sym (ap (λ (r : Run). fold with_step old r.path) (whole c is));
       }
 
   -- a run that is stuck behind a path
-  stuck_behind : (more : List Visit) (last : Log) (reason : Reason) (slot : ℕ) → last ≡ fold with_step old (has.path ++ more)
-      → ((w : Surroundings) → whole_run w program memory ≡ turned_to w program memory at.slot registers steps has.path more (runs.Sticks reason slot))
-      → IsWholeRun with_step program memory old last (Err (record { reason = reason; slot = slot }))
-  stuck_behind more last reason slot logs whole = record {
-    ending = λ w. ap (λ (r : Run). r.ending) (whole w);
-    kept = λ w. ap (λ (r : Run). r.state.memory) (whole w);
-    planless = λ w. ap (λ (r : Run). r.state.plan) (whole w);
-    logged = λ w. logs ∙ ap (fold with_step old) (sym (append-nil (has.path ++ more))) ∙ sym (ap (λ (r : Run). fold with_step old r.path) (whole w));
+  stuck_behind : (more : List Visit) (left : Memory) (plan' : Plan) (last : Log) (reason : Reason) (slot : ℕ) → left ≡ memory → plan' ≡ plan → last ≡ fold with_step old (has.path ++ more)
+      → ((c : Context) → IsRecordOf context first.length c → whole_run (around c answers) program first ≡ turned_to (around c answers) program memory plan at.slot registers steps has.path more (runs.Sticks reason slot))
+      → IsWholeRun with_step program answers context first left plan' old last (Err (record { reason = reason; slot = slot }))
+  stuck_behind more left plan' last reason slot kept planned logs whole = record {
+    ending = λ c is. ap (λ (r : Run). r.ending) (whole c is);
+    memory_is = λ c is. ap (λ (r : Run). r.state.memory) (whole c is) ∙ sym kept;
+    plan_is = λ c is. ap (λ (r : Run). r.state.plan) (whole c is) ∙ sym planned;
+    logged = λ c is. logs ∙ ap (fold with_step old) (sym (append-nil (has.path ++ more))) ∙ sym (ap (λ (r : Run). fold with_step old r.path) (whole c is));
   }
 
-  pub over_at_stuck : (registers' : List Value) (reason : Reason) (last : Log) (i : Insn) → fetch program at.slot ≡ Begins i → last ≡ with_step new (visit at.slot i)
-      → ((w : Surroundings) → result_of at.slot registers' memory (code.Sticks reason) ≡ applied w program (state_at at.slot registers memory) i (effect w.context memory registers i))
-      → IsWholeRun with_step program memory old last (Err (record { reason = reason; slot = at.slot }))
-  over_at_stuck registers' reason last i here logs result = stuck_behind (visit at.slot i ∷ []) last reason at.slot (logged_more last (visit at.slot i) logs)
-      (λ w. turned (Begins i) here w ∙ ap (λ (r : runs.StepResult). turned_to w program memory at.slot registers steps has.path (visit at.slot i ∷ []) r) (sym (result w)))
+  pub over_at_stuck : (registers' : List Value) (left : Memory) (plan' : Plan) (reason : Reason) (last : Log) (i : Insn) → fetch program at.slot ≡ Begins i → last ≡ with_step new (visit at.slot i)
+      → StepsTo program answers context first.length at.slot registers memory plan i registers' left plan' (code.Sticks reason) → left ≡ memory → plan' ≡ plan
+      → IsWholeRun with_step program answers context first left plan' old last (Err (record { reason = reason; slot = at.slot }))
+  over_at_stuck registers' left plan' reason last i here logs result kept planned =
+      stuck_behind (visit at.slot i ∷ []) left plan' last reason at.slot kept planned (logged_more last (visit at.slot i) logs) (stepped_to i (code.Sticks reason) registers' left plan' here result)
 
   logged_here : new ≡ fold with_step old (has.path ++ [])
   logged_here = has.logged ∙ ap (fold with_step old) (sym (append-nil has.path))
 
   -- past the last instruction, and inside one, no step is reported
-  pub over_past : fetch program at.slot ≡ Past → IsWholeRun with_step program memory old new (Err (record { reason = FallsOffEnd; slot = last_slot program }))
-  over_past here = stuck_behind [] new FallsOffEnd (last_slot program) logged_here (turned Past here)
+  pub over_past : fetch program at.slot ≡ Past → IsWholeRun with_step program answers context first memory plan old new (Err (record { reason = FallsOffEnd; slot = last_slot program }))
+  over_past here = stuck_behind [] memory plan new FallsOffEnd (last_slot program) refl refl logged_here (turned Past here)
 
-  pub over_inside : fetch program at.slot ≡ Inside → IsWholeRun with_step program memory old new (Err (record { reason = JumpIntoWide; slot = at.slot }))
-  over_inside here = stuck_behind [] new JumpIntoWide at.slot logged_here (turned Inside here)
+  pub over_inside : fetch program at.slot ≡ Inside → IsWholeRun with_step program answers context first memory plan old new (Err (record { reason = JumpIntoWide; slot = at.slot }))
+  over_inside here = stuck_behind [] memory plan new JumpIntoWide at.slot refl refl logged_here (turned Inside here)

@@ -1,14 +1,24 @@
 -- The bytes of a frame that was started.
-use Rattle.std.proofs.Common.{◌≡◌, ℕ, ◌+◌, ◌-◌, ◌≤◌, true, false, List, [], ◌∷◌, ◌++◌, length, take, drop, replicate, Option, None, refl, sym, ap, ◌∙◌, arith, append_assoc}
+use Rattle.std.proofs.Common.{◌≡◌, ℕ, ◌+◌, ◌-◌, ◌≤◌, true, false, List, [], ◌∷◌, ◌++◌, length, take, drop, replicate, Option, None, Result, Ok, Err, refl, sym, ap, ◌∙◌, subst, arith, append_assoc}
 use Rattle.std.proofs.lemmas.List.{length-append, length-take-le, length-drop, take_at, take-append-drop, drop-drop, drop_all, append-nil}
+use Rattle.std.specs.Prelude.{option_map}
 use Rattle.std.proofs.lemmas.Slice.{drop-append-drop}
 use Rattle.std.proofs.Math.Seq.{take-append-add}
-use Rattle.semantics.specs.Machine.{Memory, Plan, headroom, surrounded, empty_stack, start, no_plan}
+use Rattle.insn.specs.declared.instruction.Insn.{Insn}
+use Rattle.semantics.specs.Machine.{IsContext, Memory, context_bytes, headroom, surrounded, empty_stack, start}
+use Rattle.semantics.specs.declared.plan.Plan.{Plan}
 use Rattle.semantics.specs.Runs.{Run}
-use Rattle.semantics.specs.StartLaws.{length-headroom, length-surrounded}
+use Rattle.semantics.specs.StartLaws.{length-headroom, length-surrounded, length-empty_stack}
 use Rattle.machine.specs.Contents.{Contents, HoldsDatagram, datagram_of, with_room}
 use Rattle.machine.specs.FrameLaws.{datagram_inside}
-use Rattle.machine.specs.Tracing.{left_by}
+use Rattle.semantics.specs.Views.{memory_with}
+use Rattle.semantics.specs.declared.fetching.Visit.{Visit}
+use Rattle.machine.specs.Contexts.{address_of, context_of}
+use Rattle.machine.specs.Execution.{Answers, IsRecordOf, IsWholeRun}
+use Rattle.machine.specs.Tracing.{run_of, left_by, RunsOver, IsFrameRun}
+use Rattle.attributes.specs.declared.address.Addr.{Addr}
+use Rattle.machine.specs.declared.execution.Exited.{Exited}
+use Rattle.machine.specs.declared.outcome.Stuck.{Stuck}
 
 -- zeros before the datagram, and then behind it
 surround_is : (h z old middle new : List ℕ) (n : ℕ) → length h ≡ 64 → length z ≡ 3 → 67 + n ≤ length old → middle ≡ take 0 old ++ h ++ drop (0 + 64) old → new ≡ take (64 + n) middle ++ z ++ drop (64 + n + 3) middle
@@ -42,40 +52,73 @@ is_frame old area stack n long short empty e =
     record {
       long = ap length e ∙ frame_long (length (surrounded d)) (length rest) n (length (surrounded d ++ rest)) (length-append (surrounded d) rest) (length-surrounded d ∙ ap (λ (k : ℕ). 67 + k) d_long) (length-drop (67 + n) old ∙ ap (λ (k : ℕ). k - (67 + n)) long) short;
       short = short;
-      empty = empty;
+      cells = ap length empty ∙ length-empty_stack;
+      empty = λ started. empty;
       ready = λ started. front ∙ ap surrounded (sym datagram);
       inside = tt;
     }
-
-abbrev pub record_of : List (Option ℕ) → List ℕ → ℕ → Memory
-record_of cells bytes n = record { stack = cells; bytes = bytes; length = n }
 
 -- the datagram has its length
 pub datagram_length : (area : List ℕ) (n : ℕ) → length area ≡ 65574 → n ≤ 65507 → length (take n (drop 64 area)) ≡ n
 datagram_length area n long short = length-take-le n (drop 64 area) (omega (arith, length-drop 64 area))
 
 -- the memory of a started frame is that of the start with its datagram
-pub memory_is : (area bytes : List ℕ) (stack cells : List (Option ℕ)) (n : ℕ) (window : Option (ℕ × ℕ)) → HoldsDatagram area stack n true window → cells ≡ stack → bytes ≡ take (64 + n + 3) area
-    → record_of cells bytes n ≡ (start (take n (drop 64 area))).memory
-memory_is area bytes stack cells n window frame same front =
-    let places : 64 + n + 3 ≡ 67 + n = omega arith in
-    let bytes_are : bytes ≡ surrounded (take n (drop 64 area)) = front ∙ ap (λ (k : ℕ). take k area) places ∙ frame.ready refl in
-    let room : n ≤ length (drop 64 area) = omega (arith, length-drop 64 area, frame.long, frame.short) in
-    let count : n ≡ length (take n (drop 64 area)) = sym (length-take-le n (drop 64 area) room) in
-    λ i. record { stack = (same ∙ frame.empty) i; bytes = bytes_are i; length = count i }
+memory_is : (area : List ℕ) (stack : List (Option ℕ)) (n : ℕ) (window : Option (ℕ × ℕ)) → HoldsDatagram area stack n true window → memory_with stack (take (67 + n) area) n ≡ (start (take n (drop 64 area))).memory
+memory_is area stack n window frame =
+    let count : n ≡ length (take n (drop 64 area)) = sym (datagram_length area n frame.long frame.short) in
+    λ i. memory_with (frame.empty refl i) (frame.ready refl i) (count i)
 
--- the area of a started frame: headroom, datagram and tailroom, and what is left of the room
-pub around : (area : List ℕ) (n : ℕ) → take (67 + n) area ≡ surrounded (take n (drop 64 area)) → area ≡ surrounded (take n (drop 64 area)) ++ drop (67 + n) area
-around area n ready = sym (take-append-drop (67 + n) area) ∙ ap (λ (b : List ℕ). b ++ drop (67 + n) area) ready
+-- a frame with the bytes and the window that a run left, before what stands behind the tailroom
+frame_left : (f : Contents) (area : List ℕ) (plan : Plan) (r : Run) → r.state.memory.bytes ≡ take (67 + f.length) area → drop (67 + f.length) area ≡ drop (67 + f.length) f.area → r.state.plan ≡ plan
+    → record f { area = area; is_started = false; window = plan.window } ≡ left_by f r
+frame_left f area plan r bytes behind planned =
+    let whole : area ≡ r.state.memory.bytes ++ drop (67 + f.length) f.area = sym (take-append-drop (67 + f.length) area) ∙ (λ i. sym bytes i ++ behind i) in
+    let window : r.state.plan.window ≡ plan.window = ap (λ (p : Plan). p.window) planned in
+    λ i. record f { area = whole i; is_started = false; window = sym window i }
 
--- a run that kept the memory leaves the frame as it was, but for its start and its window
-pub left_alone : (f new : Contents) (r : Run) → f.area ≡ surrounded (datagram_of f) ++ drop (67 + f.length) f.area → r.state.memory ≡ (start (datagram_of f)).memory → r.state.plan ≡ no_plan
-    → new ≡ record f { is_started = false; window = None } → new ≡ left_by f r
-left_alone f new r area kept planless is =
-    let bytes : r.state.memory.bytes ≡ surrounded (datagram_of f) = ap (λ (m : Memory). m.bytes) kept in
-    let whole : f.area ≡ r.state.memory.bytes ++ drop (67 + f.length) f.area = area ∙ ap (λ (b : List ℕ). b ++ drop (67 + f.length) f.area) (sym bytes) in
-    let window : r.state.plan.window ≡ None = ap (λ (p : Plan). p.window) planless in
-    is ∙ (λ i. record f { area = whole i; is_started = false; window = sym window i })
+-- a run in the memory of a started frame is the frame's run
+pub frame_run : {Log : Type 0} (with_step : Log → Visit → Log) (program : List Insn) (answers : Answers) (f : Contents) (context : List ℕ) (stack stack' : List (Option ℕ)) (area : List ℕ) (plan : Plan) (old new : Log) (result : Result Exited Stuck)
+    → HoldsDatagram f.area stack f.length true f.window → IsContext (context_of f.context) → context ≡ context_bytes (context_of f.context) f.length
+    → IsWholeRun with_step program answers context (memory_with stack (take (67 + f.length) f.area) f.length) (memory_with stack' (take (67 + f.length) area) f.length) plan old new result
+    → drop (67 + f.length) area ≡ drop (67 + f.length) f.area
+    → RunsOver with_step answers program f (record f { area = area; is_started = false; window = plan.window }) plan old new result
+frame_run with_step program answers f context stack stack' area plan old new result frame real spelled walked behind =
+    let left : Memory = memory_with stack' (take (67 + f.length) area) f.length in
+    let whole : IsWholeRun with_step program answers context (start (datagram_of f)).memory left plan old new result =
+    subst (λ (m : Memory). IsWholeRun with_step program answers context m left plan old new result) (memory_is f.area stack f.length f.window frame) walked in
+    let is : IsRecordOf context (length (datagram_of f)) (context_of f.context) = record {
+      real = real;
+      spelled = spelled ∙ ap (context_bytes (context_of f.context)) (sym (datagram_length f.area f.length frame.long frame.short));
+    } in
+    record {
+      ending = whole.ending (context_of f.context) is;
+      plan_is = whole.plan_is (context_of f.context) is;
+      left = frame_left f area plan (run_of program f answers) (ap (λ (m : Memory). m.bytes) (whole.memory_is (context_of f.context) is)) behind (whole.plan_is (context_of f.context) is);
+      logged = whole.logged (context_of f.context) is;
+    }
+
+-- the outcome of a run that exits, with its plan
+pub exits_with : {Log : Type 0} (with_step : Log → Visit → Log) (answers : Answers) (program : List Insn) (before after : Contents) (plan : Plan) (old new : Log) (exited : Exited) (destination : Option Addr)
+    → RunsOver with_step answers program before after plan old new (Ok exited) → destination ≡ option_map address_of plan.destination
+    → IsFrameRun with_step answers program before after old new (Ok (record { verdict = exited.verdict; steps = exited.steps; window = plan.window; destination = destination }))
+exits_with with_step answers program before after plan old new exited destination runs e = record {
+  ending = record {
+    verdict = runs.ending.0;
+    steps = runs.ending.1;
+    window = ap (λ (p : Plan). p.window) (sym runs.plan_is);
+    destination = e ∙ ap (λ (p : Plan). option_map address_of p.destination) (sym runs.plan_is);
+  };
+  left = runs.left;
+  logged = runs.logged;
+}
+
+pub sticks_with : {Log : Type 0} (with_step : Log → Visit → Log) (answers : Answers) (program : List Insn) (before after : Contents) (plan : Plan) (old new : Log) (stuck : Stuck)
+    → RunsOver with_step answers program before after plan old new (Err stuck) → IsFrameRun with_step answers program before after old new (Err stuck)
+sticks_with with_step answers program before after plan old new stuck runs = record { ending = runs.ending; left = runs.left; logged = runs.logged }
+
+-- a vector's items behind a slice of all of them
+pub written : {X : Type 0} (new old : List X) (len : ℕ) → length new ≡ len → take len (new ++ drop (length new) old) ≡ new
+written new old len e = take_at new (drop (length new) old) len e
 
 -- a vector's bytes behind a slice of them from index 64 on
 pub written_behind : (old bytes : List ℕ) (len : ℕ) → len ≡ length old → 64 ≤ length old

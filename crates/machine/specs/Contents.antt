@@ -1,7 +1,7 @@
 -- The contents of a frame: a datagram between headroom and tailroom, in one area of bytes.
 use Rattle.std.specs.Prelude.{◌≡◌, ℕ, ◌+◌, ◌≤◌, Bool, true, false, List, ◌++◌, All, length, take, drop, Option, None, IfSome}
-use Rattle.semantics.specs.Machine.{IsContext, Memory, surrounded, empty_stack, start}
-use Rattle.semantics.specs.declared.limits.TheConstants.{HEADROOM, MAX_DATAGRAM, TAILROOM}
+use Rattle.semantics.specs.Machine.{IsContext, surrounded, empty_stack}
+use Rattle.semantics.specs.declared.limits.TheConstants.{STACK_BYTES, HEADROOM, MAX_DATAGRAM, TAILROOM}
 use Rattle.machine.specs.Contexts.{context_of}
 use Rattle.machine.specs.declared.context.Context.{Context}
 
@@ -31,14 +31,6 @@ with_room f bytes = record f { area = take (length f.area) (take HEADROOM f.area
 abbrev pub datagram_of : Contents → List ℕ
 datagram_of f = take f.length (drop HEADROOM f.area)
 
--- the area of a started frame: its datagram with zeros round it, and what stands behind them
-abbrev pub surrounded_area : Contents → List ℕ
-surrounded_area f = surrounded (datagram_of f) ++ drop (HEADROOM + TAILROOM + f.length) f.area
-
--- the memory that a run over a frame begins with
-abbrev pub memory_of : Contents → Memory
-memory_of f = (start (datagram_of f)).memory
-
 -- the bytes of a window, of a front and a length
 abbrev pub window_of : Contents → ℕ × ℕ → List ℕ
 window_of f w = take w.1 (drop w.0 f.area)
@@ -51,12 +43,13 @@ pub record IsStartedOver (old new : Contents) (given : Context) (n : ℕ) : Type
   pub context : new.context ≡ given
   pub window : new.window ≡ None
 
--- A frame's memory: a stack of which nothing is set, and where it is started a datagram with zeros round it. A window
--- lies in the area.
+-- A frame's memory: an area, and a stack of 512 cells. Where the frame is started, its datagram has zeros round it, and
+-- no cell holds anything. A window lies in the area.
 pub record HoldsDatagram (area : List ℕ) (stack : List (Option ℕ)) (count : ℕ) (is_started : Bool) (window : Option (ℕ × ℕ)) : Type 0 where
   pub long : length area ≡ area_size
   pub short : count ≤ MAX_DATAGRAM
-  pub empty : stack ≡ empty_stack
+  pub cells : length stack ≡ STACK_BYTES
+  pub empty : is_started ≡ true → stack ≡ empty_stack
   pub ready : is_started ≡ true → take (HEADROOM + TAILROOM + count) area ≡ surrounded (take count (drop HEADROOM area))
   pub inside : IfSome window (λ w. w.0 + w.1 ≤ area_size)
 

@@ -1,5 +1,5 @@
 -- What the definitions see of a context, of an address and of the helpers.
-use Rattle.std.specs.Prelude.{ℕ, ◌∷◌, ◌++◌, take, drop, replicate}
+use Rattle.std.specs.Prelude.{ℕ, ◌∷◌, ◌++◌, drop, replicate}
 use Rattle.insn.specs.Endian.{big_bytes, big_number}
 use Rattle.semantics.specs.Machine as machine
 use Rattle.semantics.specs.Machine.{AddressRecord}
@@ -16,7 +16,7 @@ address_record (V6 ip port) = replicate 8 0
 
 -- the address of a record
 abbrev pub address_of : AddressRecord → Addr
-address_of bytes = V4 (drop 4 bytes) (big_number 2 (take 2 (drop 2 bytes)))
+address_of bytes = V4 (drop 4 bytes) (big_number 2 (drop 2 bytes))
 
 abbrev pub side_number : Side → ℕ
 side_number Client = 0
@@ -24,7 +24,3 @@ side_number Peer = 1
 
 abbrev pub context_of : Context → machine.Context
 context_of c = record { side = side_number c.side; source = address_record c.source; transaction_id = c.tx }
-
--- the helpers of a relay without an allocation: 0, and a record of zeros
-abbrev pub finds_nothing : ℕ → ℕ → AddressRecord → ℕ × AddressRecord
-finds_nothing id number address = (0, replicate 8 0)

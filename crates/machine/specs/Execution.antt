@@ -1,7 +1,9 @@
--- A run over memory that no step changes: no current instruction writes it.
-use Rattle.std.specs.Prelude.{◌≡◌, ℕ, ◌+◌, ◌<◌, List, length, fold, Result, Ok, Err}
+-- A run from the first registers to its end, and the memory that it leaves.
+use Rattle.std.specs.Prelude.{◌≡◌, ℕ, ◌+◌, ◌<◌, ◌≤◌, List, length, fold, IfSome, Result, Ok, Err}
 use Rattle.insn.specs.declared.instruction.Insn.{Insn}
-use Rattle.semantics.specs.Machine.{Memory, State, Surroundings, first_registers, no_plan}
+use Rattle.semantics.specs.Machine.{AddressRecord, Context, IsContext, Memory, State, Surroundings, context_bytes, first_registers, no_plan}
+use Rattle.semantics.specs.declared.limits.TheConstants.{HEADROOM, TAILROOM}
+use Rattle.semantics.specs.declared.plan.Plan.{Plan}
 use Rattle.semantics.specs.Slots.{IsAt}
 use Rattle.semantics.specs.Runs as runs
 use Rattle.semantics.specs.Runs.{Goes, Exits, Sticks, Run, run}
@@ -13,15 +15,35 @@ use Rattle.machine.specs.declared.execution.StepResult.TheVariants as code
 use Rattle.machine.specs.declared.execution.Exited.{Exited}
 use Rattle.machine.specs.declared.outcome.Stuck.{Stuck}
 
--- a state with no plan
-abbrev pub state_at : ℕ → List Value → Memory → State
-state_at slot registers memory = record { slot = slot; registers = registers; memory = memory; plan = no_plan }
+-- the answers of helpers
+abbrev pub Answers : Type 0
+Answers = ℕ → ℕ → AddressRecord → ℕ × AddressRecord
 
--- the result of a step, as the definitions have it
-abbrev pub result_of : ℕ → List Value → Memory → StepResult → runs.StepResult
-result_of slot registers memory (code.Goes to) = Goes (state_at to.slot registers memory)
-result_of slot registers memory (code.Exits verdict) = Exits verdict
-result_of slot registers memory (code.Sticks reason) = Sticks reason slot
+-- the surroundings of a run
+abbrev pub around : Context → Answers → Surroundings
+around c answers = record { context = c; answer = answers }
+
+-- bytes that are the record of a context, where the datagram has a length
+pub record IsRecordOf (bytes : List ℕ) (length : ℕ) (c : Context) : Type 0 where
+  pub real : IsContext c
+  pub spelled : bytes ≡ context_bytes c length
+
+abbrev pub IsContextRecord : List ℕ → ℕ → Type 0
+IsContextRecord bytes length = (c : Context) × IsRecordOf bytes length c
+
+-- a state by its parts
+abbrev pub state_at : ℕ → List Value → Memory → Plan → State
+state_at slot registers memory plan = record { slot = slot; registers = registers; memory = memory; plan = plan }
+
+-- a window that is planned lies in headroom, datagram and tailroom
+abbrev pub IsInside : ℕ → Plan → Type 0
+IsInside length plan = IfSome plan.window (λ w. w.0 + w.1 ≤ HEADROOM + length + TAILROOM)
+
+-- the result of a step that leaves these registers, this memory and this plan, as the definitions have it
+abbrev pub result_of : ℕ → List Value → Memory → Plan → StepResult → runs.StepResult
+result_of slot registers memory plan (code.Goes to) = Goes (state_at to.slot registers memory plan)
+result_of slot registers memory plan (code.Exits verdict) = Exits verdict
+result_of slot registers memory plan (code.Sticks reason) = Sticks reason slot
 
 -- a step goes on to a later position of the program
 pub record GoesAhead (program : List Insn) (at to : Position) : Type 0 where
@@ -33,19 +55,25 @@ IfGoes (code.Goes to) P = P to
 IfGoes (code.Exits verdict) P = Unit {0}
 IfGoes (code.Sticks reason) P = Unit {0}
 
+-- what holds of a step that ends the run, by an exit or stuck
+abbrev pub IfEnds : StepResult → Type 0 → Type 0
+IfEnds (code.Goes to) P = Unit {0}
+IfEnds (code.Exits verdict) P = P
+IfEnds (code.Sticks reason) P = P
+
 -- the run from the first registers to its end: at most one step for each instruction, and one past the last
 abbrev pub whole_run : Surroundings → List Insn → Memory → Run
-whole_run w program memory = run w program (length program + 1) (state_at 0 first_registers memory)
+whole_run w program memory = run w program (length program + 1) (state_at 0 first_registers memory no_plan)
 
 -- the end of the code's run is that of the definitions' run
 abbrev pub EndsAs : Result Exited Stuck → Run → Type 0
 EndsAs (Ok exited) r = (r.ending ≡ runs.Exited exited.verdict) × (length r.path ≡ exited.steps)
 EndsAs (Err stuck) r = r.ending ≡ runs.Stuck stuck.reason stuck.slot
 
--- The code's run: its end, with the memory unchanged, and the log of a sink before and after it, where with_step adds a
--- step to a log.
-pub record IsWholeRun {Log : Type 0} (with_step : Log → Visit → Log) (program : List Insn) (memory : Memory) (old new : Log) (result : Result Exited Stuck) : Type 0 where
-  pub ending : (w : Surroundings) → EndsAs result (whole_run w program memory)
-  pub kept : (w : Surroundings) → (whole_run w program memory).state.memory ≡ memory
-  pub planless : (w : Surroundings) → (whole_run w program memory).state.plan ≡ no_plan
-  pub logged : (w : Surroundings) → new ≡ fold with_step old (whole_run w program memory).path
+-- The code's run, where the program reads the context by these bytes and is given these answers: its end, the memory and
+-- the plan that it leaves, and the log of a sink before and after it, where with_step adds a step to a log.
+pub record IsWholeRun {Log : Type 0} (with_step : Log → Visit → Log) (program : List Insn) (answers : Answers) (context : List ℕ) (memory left : Memory) (plan : Plan) (old new : Log) (result : Result Exited Stuck) : Type 0 where
+  pub ending : (c : Context) → IsRecordOf context memory.length c → EndsAs result (whole_run (around c answers) program memory)
+  pub memory_is : (c : Context) → IsRecordOf context memory.length c → (whole_run (around c answers) program memory).state.memory ≡ left
+  pub plan_is : (c : Context) → IsRecordOf context memory.length c → (whole_run (around c answers) program memory).state.plan ≡ plan
+  pub logged : (c : Context) → IsRecordOf context memory.length c → new ≡ fold with_step old (whole_run (around c answers) program memory).path

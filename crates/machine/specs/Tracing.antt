@@ -1,27 +1,33 @@
 -- The runs over a frame, their outcomes, and the frame as they leave it.
-use Rattle.std.specs.Prelude.{◌≡◌, ℕ, ◌+◌, List, ◌++◌, length, drop, option_map, false}
+use Rattle.std.specs.Prelude.{◌≡◌, ℕ, ◌+◌, List, ◌++◌, length, drop, option_map, false, Result, Ok, Err, fold}
 use Rattle.insn.specs.declared.instruction.Insn.{Insn}
-use Rattle.semantics.specs.Machine.{AddressRecord, Surroundings, start}
+use Rattle.semantics.specs.Machine.{Surroundings, start}
+use Rattle.semantics.specs.Runs as runs
 use Rattle.semantics.specs.Runs.{Run, Exited, run}
+use Rattle.semantics.specs.declared.fetching.Visit.{Visit}
 use Rattle.semantics.specs.declared.limits.TheConstants.{HEADROOM, TAILROOM}
 use Rattle.machine.specs.Contents.{Contents, datagram_of}
 use Rattle.machine.specs.Contexts.{address_of, context_of}
+use Rattle.machine.specs.Execution.{Answers, around, EndsAs}
+use Rattle.machine.specs.declared.execution.Exited as execution
+use Rattle.semantics.specs.declared.plan.Plan.{Plan}
 use Rattle.machine.specs.declared.outcome.Outcome.{Outcome}
+use Rattle.machine.specs.declared.outcome.Stuck.{Stuck}
 
 -- the surroundings of a run over a frame
-abbrev pub surroundings_of : Contents → (ℕ → ℕ → AddressRecord → ℕ × AddressRecord) → Surroundings
-surroundings_of f answer = record { context = context_of f.context; answer = answer }
+abbrev pub surroundings_of : Contents → Answers → Surroundings
+surroundings_of f answers = around (context_of f.context) answers
 
 -- the run over a datagram, to its end
 abbrev pub run_over : Surroundings → List Insn → List ℕ → Run
 run_over w code datagram = run w code (length code + 1) (start datagram)
 
 -- the run of a started frame, to its end
-abbrev pub run_of : List Insn → Contents → (ℕ → ℕ → AddressRecord → ℕ × AddressRecord) → Run
+abbrev pub run_of : List Insn → Contents → Answers → Run
 run_of code f answer = run_over (surroundings_of f answer) code (datagram_of f)
 
 -- the run of a started frame, of at most as many steps as the program has instructions
-abbrev pub safe_run_of : List Insn → Contents → (ℕ → ℕ → AddressRecord → ℕ × AddressRecord) → Run
+abbrev pub safe_run_of : List Insn → Contents → Answers → Run
 safe_run_of code f answer = run (surroundings_of f answer) code (length code) (start (datagram_of f))
 
 -- the outcome of a run that exits
@@ -34,3 +40,22 @@ pub record IsOutcome (o : Outcome) (r : Run) : Type 0 where
 -- the frame as a run leaves it
 abbrev pub left_by : Contents → Run → Contents
 left_by f r = record f { area = r.state.memory.bytes ++ drop (HEADROOM + TAILROOM + f.length) f.area; is_started = false; window = r.state.plan.window }
+
+-- The code's run over a started frame, with the plan that it leaves: its end, the frame as the run leaves it, and the log of
+-- a sink before and after it, where with_step adds a step to a log.
+pub record RunsOver {Log : Type 0} (with_step : Log → Visit → Log) (answers : Answers) (program : List Insn) (before after : Contents) (plan : Plan) (old new : Log) (result : Result execution.Exited Stuck) : Type 0 where
+  pub ending : EndsAs result (run_of program before answers)
+  pub plan_is : (run_of program before answers).state.plan ≡ plan
+  pub left : after ≡ left_by before (run_of program before answers)
+  pub logged : new ≡ fold with_step old (run_of program before answers).path
+
+-- the end of the code's run over a frame is that of the definitions' run
+abbrev pub EndsWith : Result Outcome Stuck → Run → Type 0
+EndsWith (Ok o) r = IsOutcome o r
+EndsWith (Err stuck) r = r.ending ≡ runs.Stuck stuck.reason stuck.slot
+
+-- the same run, with the plan in its outcome
+pub record IsFrameRun {Log : Type 0} (with_step : Log → Visit → Log) (answers : Answers) (program : List Insn) (before after : Contents) (old new : Log) (result : Result Outcome Stuck) : Type 0 where
+  pub ending : EndsWith result (run_of program before answers)
+  pub left : after ≡ left_by before (run_of program before answers)
+  pub logged : new ≡ fold with_step old (run_of program before answers).path

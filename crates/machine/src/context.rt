@@ -1,6 +1,13 @@
-//! The context of a run: what a program may read about the current datagram.
+//! The context of a run, what a program may read about the current datagram, and its record.
+
+ghost use Rattle.std.specs.Prelude.{◌≡◌, ◌≤◌, ◌+◌, ◌∷◌, ◌++◌, length, take, drop};
+ghost use Rattle.insn.specs.Endian.{big_bytes};
+ghost use Rattle.semantics.specs.Machine.{context_bytes};
+ghost use Rattle.machine.specs.Contexts.{address_of, address_record, context_of, side_number};
 
 use attributes::Addr;
+use byteorder::{BigEndian, ByteOrder};
+use semantics::CONTEXT_BYTES;
 
 /// The side that a datagram came from: a client, or a peer of a relayed address.
 #[derive(Clone, Copy, Debug, PartialEq, Eq)]
@@ -15,4 +22,74 @@ pub struct Context {
     pub side: Side,
     pub source: Addr,
     pub tx: [u8; 12],
+}
+
+/// Returns the record of an IPv4 address: zero, the family 1, the port and the address, in network byte order.
+fn ipv4_record(ip: &[u8; 4], port: u16) -> [u8; 8]
+    ensures { result ≡ 0 ∷ 1 ∷ big_bytes 2 port ++ ip.now }
+{
+    let mut bytes = [0; 8];
+    bytes[1] = 1;
+    bytes[2..4].copy_from_slice(&port.to_be_bytes());
+    bytes[4..].copy_from_slice(ip);
+    bytes
+}
+
+/// Returns the record of an address: that of an IPv4 address, and eight zeros for an IPv6 address.
+fn address_record(address: &Addr) -> [u8; 8]
+    ensures { result ≡ address_record address.now }
+{
+    match address {
+        Addr::V4 { ip, port } => ipv4_record(ip, *port),
+        Addr::V6 { .. } => [0; 8],
+    }
+}
+
+/// Returns the number of a side in the context record: 0 for a client, 1 for a peer.
+fn side_number(side: Side) -> u32
+    ensures { result ≡ side_number side }
+{
+    match side {
+        Side::Client => 0,
+        Side::Peer => 1,
+    }
+}
+
+/// Writes a part of a record over the bytes from an index on.
+fn write_part(bytes: &mut [u8], at: usize, part: &[u8])
+    requires { at + length part.now ≤ length bytes.old }
+    ensures { bytes.new ≡ take at bytes.old ++ part.now ++ drop (at + length part.now) bytes.old }
+{
+    bytes[at..at + part.len()].copy_from_slice(part);
+}
+
+/// Returns the context record of a datagram of `length` bytes.
+pub(crate) fn context_record(context: &Context, length: usize) -> [u8; CONTEXT_BYTES]
+    ensures { result ≡ context_bytes (context_of context.now) length }
+{
+    let mut bytes = [0; CONTEXT_BYTES];
+    write_part(&mut bytes, 16, &(length as u64).to_le_bytes());
+    write_part(&mut bytes, 24, &address_record(&context.source));
+    write_part(&mut bytes, 32, &context.tx);
+    write_part(&mut bytes, 44, &side_number(context.side).to_le_bytes());
+    bytes
+}
+
+/// Returns the IP address in a record.
+fn ip_of(bytes: &[u8; 8]) -> [u8; 4]
+    ensures { result ≡ drop 4 bytes.now }
+{
+    let mut ip = [0; 4];
+    ip.copy_from_slice(&bytes[4..]);
+    ip
+}
+
+/// Returns the address of a record.
+pub(crate) fn address_of(bytes: &[u8; 8]) -> Addr
+    ensures { result ≡ address_of bytes.now }
+{
+    Addr::V4 {
+        ip: ip_of(bytes),
+        port: BigEndian::read_u16(&bytes[2..]),
+    }
 }

@@ -1,21 +1,26 @@
-//! The tagged run, step by step, over memory that no current instruction writes.
+//! The tagged run, step by step. Memory is written in place.
 
-ghost use Rattle.std.specs.Prelude.{◌≡◌, ◌<◌, ◌≤◌, length};
+ghost use Rattle.std.specs.Prelude.{◌≡◌, ℕ, ◌+◌, ◌≤◌, ◌<◌, List, IfOk, IfSome};
+ghost use Rattle.std.specs.Prelude.{length as count};
 ghost use Rattle.insn.specs.Encoding.{slot_count};
 ghost use Rattle.insn.specs.declared.decoding.TheConstants.{MAX_SLOTS};
-ghost use Rattle.semantics.specs.Effects.{effect};
-ghost use Rattle.semantics.specs.Machine.{Surroundings, first_registers};
-ghost use Rattle.semantics.specs.Runs.{applied};
+ghost use Rattle.semantics.specs.Effects.{effect, StaysInside};
+ghost use Rattle.semantics.specs.Machine.{Context, first_registers, no_plan};
+ghost use Rattle.semantics.specs.Runs.{applied, called, answered_at, plan_answer, with_window, with_destination};
 ghost use Rattle.semantics.specs.Slots.{fetch, IsAt};
 ghost use Rattle.semantics.specs.declared.fetching.Fetched.TheVariants.{Begins};
-ghost use Rattle.semantics.specs.Views.{memory_of};
-ghost use Rattle.machine.specs.Execution.{state_at, result_of, GoesAhead, IfGoes, IsWholeRun};
+ghost use Rattle.semantics.specs.declared.limits.TheConstants.{STACK_BYTES, HEADROOM, MAX_DATAGRAM, TAILROOM};
+ghost use Rattle.semantics.specs.declared.helper.TheConstants.{RECORD_BYTES};
+ghost use Rattle.semantics.specs.Views.{memory_with};
+ghost use Rattle.machine.specs.Execution.{around, state_at, result_of, GoesAhead, IfGoes, IfEnds, IsInside, IsRecordOf, IsContextRecord, IsWholeRun};
 
 use crate::outcome::Stuck;
 use crate::sink::Sink;
+use helpers::Helpers;
 use insn::Insn;
 use semantics::{
-    Effect, Fetched, Memory, Position, Reason, Registers, Value, effect_of, fetch, last, target,
+    CONTEXT_BYTES, Effect, Fetched, Memory, Plan, Position, Question, Reason, Registers, Value,
+    effect_of, fetch, last, put_cells, store, target,
 };
 
 /// The result of one step.
@@ -46,26 +51,159 @@ fn first_registers() -> Registers
     registers
 }
 
-/// Makes the step of the instruction at a position.
-fn execute_step(
-    code: &[Insn],
-    memory: &Memory<'_>,
+/// Returns the effect of an instruction on registers and memory. What it stores, and a window, lie inside memory.
+///
+/// # Errors
+/// The reason for which it is stuck.
+#[tactic(auto, using(semantics::specs::EffectLaws::effect_inside))]
+fn next_effect(
+    context: &[u8; CONTEXT_BYTES],
+    stack: &[Option<u8>],
+    bytes: &[u8],
+    length: usize,
+    registers: &Registers,
+    insn: &Insn,
+) -> Result<Effect, Reason>
+    requires context { IsContextRecord context.now length }
+    requires cells { count stack.now ≡ STACK_BYTES }
+    requires surrounded { count bytes.now ≡ HEADROOM + length + TAILROOM }
+    requires short { length ≤ MAX_DATAGRAM }
+    ensures effect { (c : Context) → IsRecordOf context.now length c
+        → result ≡ effect c (memory_with stack.now bytes.now length) registers.now insn.now }
+    ensures inside { IfOk result (StaysInside (memory_with stack.now bytes.now length)) }
+{
+    let memory = Memory {
+        stack,
+        bytes,
+        length,
+    };
+    effect_of(context, &memory, registers, insn)
+}
+
+/// Writes the answer of a call to `r0`. `r1` to `r5` hold nothing afterwards.
+fn answer(registers: &mut Registers, n: u64)
+    ensures { registers.new ≡ called registers.old n }
+{
+    registers[0] = Value::Scalar(n);
+    registers[1] = Value::Nothing;
+    registers[2] = Value::Nothing;
+    registers[3] = Value::Nothing;
+    registers[4] = Value::Nothing;
+    registers[5] = Value::Nothing;
+}
+
+/// Writes the address record of an answer to the stack, if it is asked for.
+fn put_record(stack: &mut [Option<u8>], out: Option<usize>, address: [u8; 8])
+    requires { IfSome out (λ i. i + RECORD_BYTES ≤ count stack.old) }
+    ensures { (bytes : List ℕ) (length : ℕ) → memory_with stack.new bytes length ≡ answered_at (memory_with stack.old bytes length) out address }
+{
+    if let Some(index) = out {
+        put_cells(stack, index, &address);
+    }
+}
+
+/// Asks a helper that looks up, and takes its answer.
+fn ask<H: Helpers>(
+    helpers: &H,
+    stack: &mut [Option<u8>],
     registers: &mut Registers,
+    question: Question,
+    out: Option<usize>,
+)
+    requires { IfSome out (λ i. i + RECORD_BYTES ≤ count stack.old) }
+    ensures registers { registers.new ≡ called registers.old (H.answers helpers.now question.helper question.number question.address).0 }
+    ensures stack { (bytes : List ℕ) (length : ℕ) → memory_with stack.new bytes length
+        ≡ answered_at (memory_with stack.old bytes length) out (H.answers helpers.now question.helper question.number question.address).1 }
+{
+    let (n, address) = helpers.answer(question.helper, question.number, question.address);
+    answer(registers, n);
+    put_record(stack, out, address);
+}
+
+/// Sets the window of the plan, if there is one, and answers whether.
+fn set_window(plan: &mut Plan, registers: &mut Registers, window: Option<(usize, usize)>)
+    ensures plan { plan.new ≡ with_window plan.old window }
+    ensures registers { registers.new ≡ called registers.old (plan_answer window) }
+{
+    match window {
+        Some(window) => {
+            plan.window = Some(window);
+            answer(registers, 0);
+        }
+        None => answer(registers, 1),
+    }
+}
+
+/// Sets the destination of the plan, if there is one, and answers whether.
+fn set_destination(plan: &mut Plan, registers: &mut Registers, destination: Option<[u8; 8]>)
+    ensures plan { plan.new ≡ with_destination plan.old destination }
+    ensures registers { registers.new ≡ called registers.old (plan_answer destination) }
+{
+    match destination {
+        Some(destination) => {
+            plan.destination = Some(destination);
+            answer(registers, 0);
+        }
+        None => answer(registers, 1),
+    }
+}
+
+/// Makes the step of the instruction at a position. A step that ends the run changes neither memory nor plan.
+fn execute_step<H: Helpers>(
+    code: &[Insn],
+    context: &[u8; CONTEXT_BYTES],
+    helpers: &H,
+    stack: &mut [Option<u8>],
+    bytes: &mut [u8],
+    length: usize,
+    registers: &mut Registers,
+    plan: &mut Plan,
     at: Position,
     insn: &Insn,
 ) -> StepResult
-    requires here { at.index < length code.now }
+    requires here { at.index < count code.now }
     requires at { IsAt code.now at }
     requires few { slot_count code.now ≤ MAX_SLOTS }
     requires insn { fetch code.now at.slot ≡ Begins insn.now }
-    ensures result { (w : Surroundings) → result_of at.slot registers.new (memory_of memory.now) result
-        ≡ applied w code.now (state_at at.slot registers.old (memory_of memory.now)) insn.now
-        (effect w.context (memory_of memory.now) registers.old insn.now) }
+    requires context { IsContextRecord context.now length }
+    requires cells { count stack.old ≡ STACK_BYTES }
+    requires surrounded { count bytes.old ≡ HEADROOM + length + TAILROOM }
+    requires short { length ≤ MAX_DATAGRAM }
+    requires inside { IsInside length plan.old }
+    ensures result { (c : Context) → IsRecordOf context.now length c
+        → result_of at.slot registers.new (memory_with stack.new bytes.new length) plan.new result
+        ≡ applied (around c (H.answers helpers.now)) code.now (state_at at.slot registers.old (memory_with stack.old bytes.old length) plan.old) insn.now
+        (effect c (memory_with stack.old bytes.old length) registers.old insn.now) }
     ensures ahead { IfGoes result (GoesAhead code.now at) }
+    ensures inside { IsInside length plan.new }
+    ensures kept { IfEnds result (memory_with stack.new bytes.new length ≡ memory_with stack.old bytes.old length) }
+    ensures planned { IfEnds result (plan.new ≡ plan.old) }
 {
-    match effect_of(memory, registers, insn) {
+    match next_effect(context, stack, bytes, length, registers, insn) {
         Ok(Effect::Write { dst, value }) => {
             registers[dst.number() as usize] = value;
+            StepResult::Goes(at.next(code))
+        }
+        Ok(
+            Effect::Store {
+                at: location,
+                size,
+                value,
+            },
+        ) => {
+            store(stack, bytes, location, size, value);
+            StepResult::Goes(at.next(code))
+        }
+        Ok(Effect::Ask { question, out }) => {
+            ask(helpers, stack, registers, question, out);
+            StepResult::Goes(at.next(code))
+        }
+        Ok(Effect::SetWindow(window)) => {
+            set_window(plan, registers, window);
+            StepResult::Goes(at.next(code))
+        }
+        Ok(Effect::SetDestination(destination)) => {
+            set_destination(plan, registers, destination);
             StepResult::Goes(at.next(code))
         }
         Ok(Effect::Pass) => StepResult::Goes(at.next(code)),
@@ -78,13 +216,31 @@ fn execute_step(
     }
 }
 
-/// Runs the code from the first registers to its end, and reports each step to the sink.
+/// Runs the code from the first registers to its end, and reports each step to the sink. Its memory is the stack and
+/// `bytes`, a datagram of `length` bytes between headroom and tailroom, which it writes in place; it begins without a
+/// plan. `context` is the context record.
 ///
 /// # Errors
 /// The step that is stuck.
-pub fn execute<S: Sink>(code: &[Insn], memory: &Memory<'_>, sink: &mut S) -> Result<Exited, Stuck>
-    requires { slot_count code.now ≤ MAX_SLOTS }
-    ensures { IsWholeRun S.with_step code.now (memory_of memory.now) (S.log sink.old) (S.log sink.new) result }
+pub fn execute<H: Helpers, S: Sink>(
+    code: &[Insn],
+    context: &[u8; CONTEXT_BYTES],
+    helpers: &H,
+    stack: &mut [Option<u8>],
+    bytes: &mut [u8],
+    length: usize,
+    plan: &mut Plan,
+    sink: &mut S,
+) -> Result<Exited, Stuck>
+    requires few { slot_count code.now ≤ MAX_SLOTS }
+    requires context { IsContextRecord context.now length }
+    requires cells { count stack.old ≡ STACK_BYTES }
+    requires surrounded { count bytes.old ≡ HEADROOM + length + TAILROOM }
+    requires short { length ≤ MAX_DATAGRAM }
+    requires planless { plan.old ≡ no_plan }
+    ensures run { IsWholeRun S.with_step code.now (H.answers helpers.now) context.now (memory_with stack.old bytes.old length)
+        (memory_with stack.new bytes.new length) plan.new (S.log sink.old) (S.log sink.new) result }
+    ensures inside { IsInside length plan.new }
 {
     let mut registers = first_registers();
     let mut at = Position { slot: 0, index: 0 };
@@ -104,7 +260,18 @@ pub fn execute<S: Sink>(code: &[Insn], memory: &Memory<'_>, sink: &mut S) -> Res
         };
         sink.step(slot, &insn);
         steps += 1;
-        match execute_step(code, memory, &mut registers, at, &insn) {
+        match execute_step(
+            code,
+            context,
+            helpers,
+            stack,
+            bytes,
+            length,
+            &mut registers,
+            plan,
+            at,
+            &insn,
+        ) {
             StepResult::Goes(to) => at = to,
             StepResult::Exits(verdict) => return Ok(Exited { verdict, steps }),
             StepResult::Sticks(reason) => return Err(Stuck { reason, slot }),

@@ -2,7 +2,7 @@
 
 ghost use Rattle.std.specs.Prelude.{◌≡◌, ◌≤◌, ◌+◌, ◌++◌, None, length, take, drop, replicate, IfOk, All, ◌<◌};
 ghost use Rattle.semantics.specs.Machine.{AreBytes, IsContext, empty_stack, surrounded};
-ghost use Rattle.semantics.specs.declared.limits.TheConstants.{HEADROOM, TAILROOM};
+ghost use Rattle.semantics.specs.declared.limits.TheConstants.{STACK_BYTES, HEADROOM, TAILROOM};
 ghost use Rattle.machine.specs.Contexts.{context_of};
 
 use crate::context::{Context, Side};
@@ -85,6 +85,15 @@ fn empty_stack(alloc: Global) -> Result<Vec<Option<u8>>, AllocError>
     ensures { IfOk result (λ v. v.items ≡ empty_stack) }
 {
     empty_cells(alloc, STACK_BYTES)
+}
+
+/// Clears a stack: nothing of it is set afterwards.
+#[tactic(auto, unfolding(semantics::specs::Machine::empty_stack))]
+fn clear_stack(stack: &mut [Option<u8>])
+    requires { length stack.old ≡ STACK_BYTES }
+    ensures { stack.new ≡ empty_stack }
+{
+    stack.fill(None);
 }
 
 /// Writes `n` zeros from an index on.
@@ -183,24 +192,18 @@ impl Frame {
         }
     }
 
-    /// Starts a run with a context: the first `n` bytes of the room become the datagram, with zeros round it.
+    /// Starts a run with a context: the first `n` bytes of the room become the datagram, with zeros round it, and
+    /// the stack is cleared.
     pub fn start(&mut self, context: &Context, n: usize)
         requires { n ≤ MAX_DATAGRAM }
         ensures { IsStartedOver self.old self.new context.now n }
     {
         is_context(context);
+        clear_stack(&mut self.stack);
         surround(&mut self.area, n);
         self.length = n;
         self.context = *context;
         self.window = None;
         self.is_started = true;
-    }
-
-    /// Ends a run, which wrote no byte and set no window: no current instruction does.
-    pub(crate) fn end(&mut self)
-        ensures { self.new ≡ record self.old { is_started = false; window = None } }
-    {
-        self.is_started = false;
-        self.window = None;
     }
 }

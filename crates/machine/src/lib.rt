@@ -5,7 +5,6 @@
 mod context;
 mod execution;
 mod frame;
-mod helpers;
 mod outcome;
 mod running;
 mod sink;

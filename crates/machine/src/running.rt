@@ -1,35 +1,26 @@
 //! The runs of verified programs.
 
 ghost use Rattle.std.specs.Prelude.{◌≡◌, ◌≤◌, true, length};
-ghost use Rattle.semantics.specs.Runs.{IsLawful};
 ghost use Rattle.machine.specs.Tracing.{safe_run_of, IsOutcome, left_by};
 
 use crate::frame::Frame;
-use crate::helpers::Helpers;
 use crate::outcome::Outcome;
 use crate::sink::Silent;
 use crate::tracing::execute_frame;
+use helpers::Helpers;
 use verifier::Verified;
 
 /// Runs a verified program over a started frame to its exit, within as many steps as the program has instructions.
 /// There is no refusal. Afterwards the frame is not started.
 #[tactic(auto, using(semantics::specs::SlotLaws::few_instructions))]
 pub fn run<H: Helpers>(program: &Verified, frame: &mut Frame, helpers: &H) -> Outcome
-    requires started { frame.old.is_started ≡ true }
-    requires lawful { IsLawful (H.answers helpers.now) }
+    requires { frame.old.is_started ≡ true }
     ensures outcome { IsOutcome result (safe_run_of program.now frame.old (H.answers helpers.now)) }
     ensures steps { result.steps ≤ length program.now }
     ensures left { frame.new ≡ left_by frame.old (safe_run_of program.now frame.old (H.answers helpers.now)) }
 {
-    let ended = execute_frame(program.code(), frame, &mut Silent);
-    frame.end();
-    match ended {
-        Ok(exited) => Outcome {
-            verdict: exited.verdict,
-            steps: exited.steps,
-            window: None,
-            destination: None,
-        },
+    match execute_frame(program.code(), frame, helpers, &mut Silent) {
+        Ok(outcome) => outcome,
         Err(_) => unreachable!(),
     }
 }

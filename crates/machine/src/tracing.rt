@@ -1,48 +1,137 @@
 //! The tagged runs of programs over a frame.
 
-ghost use Rattle.std.specs.Prelude.{◌≡◌, ◌≤◌, true, fold, IfOk, IfErr};
+ghost use Rattle.std.specs.Prelude.{◌≡◌, ◌≤◌, ◌+◌, true, fold, take, drop, option_map, IfOk, IfErr};
+ghost use Rattle.std.specs.Prelude.{length as count};
 ghost use Rattle.insn.specs.Encoding.{slot_count};
-ghost use Rattle.semantics.specs.Machine.{IsContext};
-ghost use Rattle.machine.specs.Contexts.{context_of};
+ghost use Rattle.insn.specs.declared.decoding.TheConstants.{MAX_SLOTS};
+ghost use Rattle.semantics.specs.Machine.{IsContext, no_plan};
 ghost use Rattle.semantics.specs.Runs as runs;
 ghost use Rattle.semantics.specs.Runs.{IsDatagram};
-ghost use Rattle.machine.specs.Contents.{datagram_of, memory_of, surrounded_area};
-ghost use Rattle.machine.specs.Tracing.{run_of, IsOutcome, left_by};
-ghost use Rattle.insn.specs.declared.decoding.TheConstants.{MAX_SLOTS};
-ghost use Rattle.machine.specs.Execution.{IsWholeRun};
+ghost use Rattle.semantics.specs.Views.{memory_with};
+ghost use Rattle.semantics.specs.declared.limits.TheConstants.{STACK_BYTES, HEADROOM, MAX_DATAGRAM, TAILROOM};
+ghost use Rattle.machine.specs.Contents.{datagram_of};
+ghost use Rattle.machine.specs.Contexts.{address_of, context_of};
+ghost use Rattle.machine.specs.Execution.{IsInside, IsContextRecord, IsWholeRun};
+ghost use Rattle.machine.specs.Tracing.{run_of, IsOutcome, left_by, RunsOver, IsFrameRun};
 
+use crate::context::{address_of, context_record};
 use crate::execution::{Exited, execute};
 use crate::frame::Frame;
-use crate::helpers::Helpers;
 use crate::outcome::{Outcome, Stuck};
 use crate::sink::Sink;
+use attributes::Addr;
+use helpers::Helpers;
 use insn::Insn;
-use semantics::{HEADROOM, Memory, TAILROOM};
+use semantics::{CONTEXT_BYTES, HEADROOM, Plan, TAILROOM};
 
-/// Runs a program over the memory of a started frame.
+/// The plan at the start of a run.
+const NO_PLAN: Plan = Plan {
+    window: None,
+    destination: None,
+};
+
+/// Runs a program over a stack, and over the first bytes of an area: a datagram of `length` bytes between headroom and
+/// tailroom. What stands behind them does not change. `context` is the context record.
 ///
 /// # Errors
 /// The step that is stuck.
-pub(crate) fn execute_frame<S: Sink>(
+fn execute_in<H: Helpers, S: Sink>(
     code: &[Insn],
-    frame: &Frame,
+    context: &[u8; CONTEXT_BYTES],
+    helpers: &H,
+    stack: &mut [Option<u8>],
+    area: &mut [u8],
+    length: usize,
+    plan: &mut Plan,
     sink: &mut S,
 ) -> Result<Exited, Stuck>
     requires few { slot_count code.now ≤ MAX_SLOTS }
-    requires started { frame.now.is_started ≡ true }
-    ensures datagram { IsDatagram (datagram_of frame.now) }
-    ensures context { IsContext (context_of frame.now.context) }
-    ensures around { frame.now.area ≡ surrounded_area frame.now }
-    ensures walked { IsWholeRun S.with_step code.now (memory_of frame.now) (S.log sink.old) (S.log sink.new) result }
+    requires context { IsContextRecord context.now length }
+    requires cells { count stack.old ≡ STACK_BYTES }
+    requires room { HEADROOM + TAILROOM + length ≤ count area.old }
+    requires short { length ≤ MAX_DATAGRAM }
+    requires planless { plan.old ≡ no_plan }
+    ensures run { IsWholeRun S.with_step code.now (H.answers helpers.now) context.now
+        (memory_with stack.old (take (HEADROOM + TAILROOM + length) area.old) length)
+        (memory_with stack.new (take (HEADROOM + TAILROOM + length) area.new) length)
+        plan.new (S.log sink.old) (S.log sink.new) result }
+    ensures inside { IsInside length plan.new }
+    ensures behind { drop (HEADROOM + TAILROOM + length) area.new ≡ drop (HEADROOM + TAILROOM + length) area.old }
+{
+    let bytes = &mut area[..HEADROOM + TAILROOM + length];
+    execute(code, context, helpers, stack, bytes, length, plan, sink)
+}
+
+/// Runs a program over a started frame, whose memory it writes in place. Afterwards the frame is not started, and `plan`
+/// is what the run has planned.
+///
+/// # Errors
+/// The step that is stuck.
+fn run_frame<H: Helpers, S: Sink>(
+    code: &[Insn],
+    frame: &mut Frame,
+    helpers: &H,
+    plan: &mut Plan,
+    sink: &mut S,
+) -> Result<Exited, Stuck>
+    requires few { slot_count code.now ≤ MAX_SLOTS }
+    requires started { frame.old.is_started ≡ true }
+    requires planless { plan.old ≡ no_plan }
+    ensures datagram { IsDatagram (datagram_of frame.old) }
+    ensures context { IsContext (context_of frame.old.context) }
+    ensures run { RunsOver S.with_step (H.answers helpers.now) code.now frame.old frame.new plan.new (S.log sink.old) (S.log sink.new) result }
 {
     let length = frame.datagram().len();
-    let (bytes, _) = frame.area.split_at(HEADROOM + length + TAILROOM);
-    let memory = Memory {
-        stack: frame.stack.as_slice(),
-        bytes,
+    let context = context_record(&frame.context, length);
+    frame.is_started = false;
+    let ended = execute_in(
+        code,
+        &context,
+        helpers,
+        &mut frame.stack,
+        &mut frame.area,
         length,
-    };
-    execute(code, &memory, sink)
+        plan,
+        sink,
+    );
+    frame.window = plan.window;
+    ended
+}
+
+/// Returns the address of a record, if there is one.
+fn destination_of(bytes: Option<[u8; 8]>) -> Option<Addr>
+    ensures { result ≡ option_map address_of bytes }
+{
+    Some(address_of(&bytes?))
+}
+
+/// Runs a program over a started frame, whose memory it writes in place. Afterwards the frame is not started.
+///
+/// # Errors
+/// The step that is stuck.
+#[tactic(auto, using(crate::proofs::Frames::exits_with, crate::proofs::Frames::sticks_with))]
+pub(crate) fn execute_frame<H: Helpers, S: Sink>(
+    code: &[Insn],
+    frame: &mut Frame,
+    helpers: &H,
+    sink: &mut S,
+) -> Result<Outcome, Stuck>
+    requires few { slot_count code.now ≤ MAX_SLOTS }
+    requires started { frame.old.is_started ≡ true }
+    ensures datagram { IsDatagram (datagram_of frame.old) }
+    ensures context { IsContext (context_of frame.old.context) }
+    ensures run { IsFrameRun S.with_step (H.answers helpers.now) code.now frame.old frame.new (S.log sink.old) (S.log sink.new) result }
+{
+    let mut plan = NO_PLAN;
+    match run_frame(code, frame, helpers, &mut plan, sink) {
+        Ok(Exited { verdict, steps }) => Ok(Outcome {
+            verdict,
+            steps,
+            window: plan.window,
+            destination: destination_of(plan.destination),
+        }),
+        Err(stuck) => Err(stuck),
+    }
 }
 
 /// Runs a program over a started frame, and reports each step to the sink, a stuck one too. Afterwards the frame is not
@@ -64,15 +153,5 @@ pub fn trace<H: Helpers, S: Sink>(
     ensures left { frame.new ≡ left_by frame.old (run_of code.now frame.old (H.answers helpers.now)) }
     ensures reported { S.log sink.new ≡ fold S.with_step (S.log sink.old) (run_of code.now frame.old (H.answers helpers.now)).path }
 {
-    let ended = execute_frame(code, frame, sink);
-    frame.end();
-    match ended {
-        Ok(Exited { verdict, steps }) => Ok(Outcome {
-            verdict,
-            steps,
-            window: None,
-            destination: None,
-        }),
-        Err(stuck) => Err(stuck),
-    }
+    execute_frame(code, frame, helpers, sink)
 }

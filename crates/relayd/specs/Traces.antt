@@ -8,7 +8,7 @@ use Rattle.insn.specs.declared.instruction.Insn.{Insn}
 use Rattle.semantics.specs.declared.limits.TheConstants.{MAX_DATAGRAM}
 use Rattle.semantics.specs.Machine.{Context}
 use Rattle.semantics.specs.Runs.{Run, Ending, Exited, Stuck, Running}
-use Rattle.machine.specs.Contexts.{finds_nothing}
+use Rattle.helpers.specs.Nothing.{finds_nothing}
 use Rattle.machine.specs.Tracing.{run_over}
 
 -- The client's side (0), the source 127.0.0.1:9 as an address record (a zero, the family 1, the port, the

@@ -1,3 +1,4 @@
+pub mod Loads
 pub mod Places
 pub mod Finding
 pub mod Reduces

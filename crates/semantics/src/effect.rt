@@ -1,13 +1,16 @@
 //! The effect of an instruction (RFC 9669, sections 4 and 5).
 
-ghost use Rattle.std.specs.Prelude.{◌≡◌, ◌≤◌, ◌+ℤ◌};
+ghost use Rattle.std.specs.Prelude.{◌≡◌, ◌≤◌};
 ghost use Rattle.std.specs.Int.{w64, cast_signed};
-ghost use Rattle.semantics.specs.Effects.{held, value_at, read, operand_value, is_writable, writable, near_place, moved_place, alu_result, unary_result, written, alu_effect, unary_effect, ordered, compared, jump_if_effect, load_effect, verdict_of, exit_effect, effect};
+ghost use Rattle.semantics.specs.Effects.{held, value_at, read, operand_value, is_writable, writable, near_place, moved_place, alu_result, unary_result, written, alu_effect, unary_effect, ordered, compared, jump_if_effect, load_effect, load_signed_effect, pointer, stored_number, store_effect, verdict_of, exit_effect, effect};
 ghost use Rattle.semantics.specs.Loading.{load, load_signed};
-ghost use Rattle.semantics.specs.Machine.{Context};
+ghost use Rattle.semantics.specs.Machine.{Context, IsContext, context_bytes};
 ghost use Rattle.semantics.specs.Views.{memory_of};
 ghost use Rattle.semantics.specs.declared.limits.TheConstants.{MAX_DATAGRAM};
 
+use crate::access::{Location, locate};
+use crate::calling::call_effect;
+use crate::helper::Question;
 use crate::limits::MAX_OFFSET;
 use crate::loading::{load, load_signed};
 use crate::memory::Memory;
@@ -25,16 +28,40 @@ pub type Registers = [Value; 11];
 #[derive(Clone, Copy, Debug, PartialEq, Eq)]
 pub enum Effect {
     /// Writes the value to `dst`, and goes on to the next instruction.
-    Write { dst: Reg, value: Value },
+    Write {
+        dst: Reg,
+        value: Value,
+    },
+    /// Stores the low bytes of a number at a location, and goes on to the next instruction.
+    Store {
+        at: Location,
+        size: Size,
+        value: u64,
+    },
+    /// Asks a helper that looks up. Its answer is written to `r0`, and the record of it to the eight stack cells from the
+    /// index `out` on, if there is one; `r1` to `r5` hold nothing afterwards. Goes on to the next instruction.
+    Ask {
+        question: Question,
+        out: Option<usize>,
+    },
+    /// Sets the window, by its front and its length, and answers 0 in `r0`; or answers 1, where there is none. As `Ask`
+    /// otherwise.
+    SetWindow(Option<(usize, usize)>),
+    /// Sets the destination, as `SetWindow` does the window.
+    SetDestination(Option<[u8; 8]>),
     /// Jumps by a distance in slots, counted from the next slot.
-    Jump { offset: i32 },
+    Jump {
+        offset: i32,
+    },
     /// Goes on to the next instruction: a conditional jump that is not taken.
     Pass,
     /// Ends the run with a verdict.
-    Exit { verdict: u64 },
+    Exit {
+        verdict: u64,
+    },
 }
 
-fn read(registers: &Registers, reg: Reg) -> Result<Value, Reason>
+pub(crate) fn read(registers: &Registers, reg: Reg) -> Result<Value, Reason>
     ensures { result ≡ read registers.now reg }
 {
     match registers[reg.number() as usize] {
@@ -209,6 +236,7 @@ fn jump_if_effect(
 }
 
 fn load_effect(
+    context: &[u8; 48],
     memory: &Memory<'_>,
     registers: &Registers,
     size: Size,
@@ -216,10 +244,11 @@ fn load_effect(
     base: Reg,
     displacement: i16,
 ) -> Result<Effect, Reason>
-    ensures { result ≡ load_effect registers.now (λ p. load (memory_of memory.now) p displacement size) dst base }
+    ensures { (c : Context) → context.now ≡ context_bytes c (memory.now).length
+        → result ≡ load_effect c (memory_of memory.now) registers.now size dst base displacement }
 {
-    let pointer = read(registers, base)?;
-    written(dst, load(memory, pointer, displacement, size))
+    let from = read(registers, base)?;
+    written(dst, load(context, memory, from, displacement, size))
 }
 
 fn load_signed_effect(
@@ -230,10 +259,48 @@ fn load_signed_effect(
     base: Reg,
     displacement: i16,
 ) -> Result<Effect, Reason>
-    ensures { result ≡ load_effect registers.now (λ p. load_signed (memory_of memory.now) p displacement size) dst base }
+    ensures { result ≡ load_signed_effect (memory_of memory.now) registers.now size dst base displacement }
 {
-    let pointer = read(registers, base)?;
-    written(dst, load_signed(memory, pointer, displacement, size))
+    let from = read(registers, base)?;
+    written(dst, load_signed(memory, from, displacement, size))
+}
+
+/// Tests whether a base is a pointer, and not a number.
+fn pointer(base: Value) -> Result<(), Reason>
+    ensures { result ≡ pointer base }
+{
+    match base {
+        Value::Scalar(_) => Err(Reason::NotAPointer),
+        _ => Ok(()),
+    }
+}
+
+/// Returns the number that is stored: a pointer is not.
+fn stored_number(value: Value) -> Result<u64, Reason>
+    ensures { result ≡ stored_number value }
+{
+    match value {
+        Value::Scalar(n) => Ok(n),
+        _ => Err(Reason::PointerStored),
+    }
+}
+
+fn store_effect(
+    memory: &Memory<'_>,
+    registers: &Registers,
+    size: Size,
+    base: Reg,
+    operand: Operand,
+    displacement: i16,
+) -> Result<Effect, Reason>
+    ensures { result ≡ store_effect registers.now (memory.now).length size base operand displacement }
+{
+    let to = read(registers, base)?;
+    let value = operand_value(registers, operand)?;
+    pointer(to)?;
+    let value = stored_number(value)?;
+    let at = locate(memory, to, displacement, size.bytes())?;
+    Ok(Effect::Store { at, size, value })
 }
 
 fn exit_effect(registers: &Registers) -> Result<Effect, Reason>
@@ -245,12 +312,17 @@ fn exit_effect(registers: &Registers) -> Result<Effect, Reason>
     }
 }
 
-/// Returns the effect of an instruction on registers and memory.
+/// Returns the effect of an instruction on registers and memory. `context` is the context record.
 ///
 /// # Errors
 /// The reason for which it is stuck: that of the first of its tests that fails.
-pub fn effect_of(memory: &Memory<'_>, registers: &Registers, insn: &Insn) -> Result<Effect, Reason>
-    ensures { (c : Context) → result ≡ effect c (memory_of memory.now) registers.now insn.now }
+pub fn effect_of(
+    context: &[u8; 48],
+    memory: &Memory<'_>,
+    registers: &Registers,
+    insn: &Insn,
+) -> Result<Effect, Reason>
+    ensures { (c : Context) → IsContext c → context.now ≡ context_bytes c (memory.now).length → result ≡ effect c (memory_of memory.now) registers.now insn.now }
 {
     match *insn {
         Insn::Alu {
@@ -304,14 +376,21 @@ pub fn effect_of(memory: &Memory<'_>, registers: &Registers, insn: &Insn) -> Res
             dst,
             base,
             offset,
-        } => load_effect(memory, registers, size, dst, base, offset),
+        } => load_effect(context, memory, registers, size, dst, base, offset),
         Insn::LoadSigned {
             size,
             dst,
             base,
             offset,
         } => load_signed_effect(memory, registers, size, dst, base, offset),
+        Insn::Store {
+            size,
+            base,
+            operand,
+            offset,
+        } => store_effect(memory, registers, size, base, operand, offset),
         Insn::LoadImm { dst, value } => written(dst, Ok(Value::Scalar(value))),
+        Insn::Call { helper } => call_effect(context, memory, registers, helper),
         Insn::Exit => exit_effect(registers),
     }
 }

@@ -2,20 +2,29 @@
 //! not allowed is stuck for a named reason.
 #![tactic(auto)]
 
+mod access;
+mod calling;
 mod effect;
 mod fetching;
+mod helper;
 mod limits;
 mod loading;
 mod memory;
+mod plan;
 mod program;
 mod reason;
+mod storing;
 mod value;
 
+pub use access::{HEADROOM_FIRST, Location, index_in_stack, is_within};
 pub use effect::{Effect, Registers, effect_of, moved_place, writable};
 pub use fetching::{Branch, Fetched, Position, Visit, fetch, last, target};
+pub use helper::{Helper, Question, RECORD_BYTES};
 pub use limits::{HEADROOM, MAX_DATAGRAM, MAX_OFFSET, STACK_BYTES, TAILROOM};
-pub use loading::{HEADROOM_FIRST, index_in_stack, is_within};
+pub use loading::{CONTEXT_BYTES, Field, field_at};
 pub use memory::Memory;
+pub use plan::Plan;
 pub use program::Program;
 pub use reason::Reason;
+pub use storing::{put_cells, store};
 pub use value::Value;

@@ -1,77 +1,74 @@
-//! Loads (RFC 9669, sections 5.1 and 5.2).
+//! Loads, and the fields of the context record (RFC 9669, sections 5.1 and 5.2).
 
-ghost use Rattle.std.specs.Prelude.{◌≡◌, ◌≤◌, ◌<◌, ◌+◌, ◌^◌, ℤ, ◌≤ℤ◌, ◌+ℤ◌, pos, negsuc, length, IfSome};
-ghost use Rattle.semantics.specs.Loading.{stack_number, datagram_number, tailroom_number, read_number, load, load_signed, field, cells_number, is_within, index_within, stack_first, part};
+ghost use Rattle.std.specs.Prelude.{◌≡◌, ◌≤◌, ◌<◌, ◌+◌, ◌^◌, ℕ, length, IfSome};
+ghost use Rattle.insn.specs.Endian.{little_number};
+ghost use Rattle.semantics.specs.Access.{cells_number, number_in, part, IsInside};
+ghost use Rattle.semantics.specs.Loading.{field_at, field_number, field_value, load_field, read_number, load, load_signed};
+ghost use Rattle.semantics.specs.Machine.{Context, IsContext, context_bytes};
 ghost use Rattle.semantics.specs.Views.{memory_of};
 
-use crate::limits::{HEADROOM, STACK_BYTES, TAILROOM};
+use crate::access::{Location, locate};
 use crate::memory::Memory;
 use crate::reason::Reason;
 use crate::value::Value;
 use insn::{SignedSize, Size, little_endian, sign_extended};
 
-/// The first place of the stack.
-pub const STACK_FIRST: i64 = -(STACK_BYTES as i64);
-/// The first place of the headroom.
-pub const HEADROOM_FIRST: i64 = -(HEADROOM as i64);
+/// The number of bytes of the context record.
+pub const CONTEXT_BYTES: usize = 48;
 
-/// Returns whether the `n` bytes from the place `base + displacement` on lie at the places `low..high`. Places are
-/// whole numbers: nothing wraps.
-pub fn is_within(base: i64, displacement: i16, n: usize, low: i64, high: i64) -> bool
-    requires { n ≤ 8 }
-    ensures { result ≡ is_within (base +ℤ displacement) n low high }
-{
-    let Some(place) = base.checked_add(i64::from(displacement)) else {
-        return false;
-    };
-    let Some(end) = place.checked_add(n as i64) else {
-        return false;
-    };
-    low <= place && end <= high
+/// A field of the context record.
+#[derive(Clone, Copy, Debug, PartialEq, Eq)]
+pub enum Field {
+    /// The datagram's first byte, a pointer.
+    Datagram,
+    /// The datagram's end, a pointer.
+    End,
+    /// The datagram's length.
+    Length,
+    /// The address record of the source.
+    Source,
+    /// The first eight bytes of the transaction id.
+    IdHead,
+    /// The last four bytes of the transaction id.
+    IdTail,
+    /// The side that the datagram came from: 0 a client, 1 a peer.
+    Side,
 }
 
-/// Returns the index of the `n` items from the place `base + displacement` on, in a list that begins at the place
-/// `first`, or `None` where they don't lie at the places `low..high`.
-fn index_of(
-    base: i64,
-    displacement: i16,
-    n: usize,
-    first: i64,
-    low: i64,
-    high: i64,
-) -> Option<usize>
-    requires small { n ≤ 8 }
-    requires first { first ≤ℤ low }
-    requires low { negsuc 65535 ≤ℤ first }
-    requires lower { negsuc 65535 ≤ℤ high }
-    requires high { high ≤ℤ pos 131072 }
-    ensures { result ≡ index_within (base +ℤ displacement) n first low high }
+/// Returns the field that is read by an access to the context record, an exact read of the whole of one, or `None`.
+pub fn field_at(displacement: i16, size: Size) -> Option<Field>
+    ensures { result ≡ field_at displacement size }
 {
-    let place = base.checked_add(i64::from(displacement))?;
-    if low <= place && place <= high - n as i64 {
-        Some((place - first) as usize)
-    } else {
-        None
+    match (displacement, size) {
+        (0, Size::Double) => Some(Field::Datagram),
+        (8, Size::Double) => Some(Field::End),
+        (16, Size::Double) => Some(Field::Length),
+        (24, Size::Double) => Some(Field::Source),
+        (32, Size::Double) => Some(Field::IdHead),
+        (40, Size::Word) => Some(Field::IdTail),
+        (44, Size::Word) => Some(Field::Side),
+        _ => None,
     }
 }
 
-/// Returns the index, among the stack cells, of the `n` bytes from the place `base + displacement` on, or `None`
-/// where they don't lie in the stack.
-pub fn index_in_stack(base: i64, displacement: i16, n: usize) -> Option<usize>
-    requires { n ≤ 8 }
-    ensures { result ≡ index_within (base +ℤ displacement) n stack_first stack_first (pos 0) }
-{
-    index_of(base, displacement, n, STACK_FIRST, STACK_FIRST, 0)
-}
-
 /// Returns the `n` items from an index on.
-fn part_of<T>(items: &[T], index: usize, n: usize) -> &[T]
+pub(crate) fn part_of<T>(items: &[T], index: usize, n: usize) -> &[T]
     requires { index + n ≤ length items.now }
     ensures { result.now ≡ part n index items.now }
 {
     let (_, rest) = items.split_at(index);
     let (front, _) = rest.split_at(n);
     front
+}
+
+/// Returns the little-endian number in the `n` bytes from an index on.
+fn number_of_bytes(bytes: &[u8], index: usize, n: usize) -> u64
+    requires some { 1 ≤ n }
+    requires few { n ≤ 8 }
+    requires inside { index + n ≤ length bytes.now }
+    ensures { result ≡ little_number n (part n index bytes.now) }
+{
+    little_endian(part_of(bytes, index, n))
 }
 
 /// Reads the little-endian number in at most eight stack cells, or `None` where one holds nothing.
@@ -90,88 +87,89 @@ fn number_of_cells(cells: &[Option<u8>]) -> Option<u64>
     }
 }
 
-/// Returns the value of a field of the context record.
-fn field_of(displacement: i16, size: Size) -> Result<Value, Reason>
-    ensures { result ≡ field displacement size }
+/// Returns the number in some bytes of the context record.
+fn field_number(context: &[u8; 48], n: usize, offset: usize) -> Value
+    requires some { 1 ≤ n }
+    requires few { n ≤ 8 }
+    requires inside { offset + n ≤ 48 }
+    ensures { result ≡ field_number context.now n offset }
 {
-    match (displacement, size) {
-        (0, Size::Double) => Ok(Value::Data(0)),
-        (8, Size::Double) => Ok(Value::End),
-        _ => Err(Reason::ContextAccess),
+    Value::Scalar(number_of_bytes(context, offset, n))
+}
+
+/// Returns the side in the context record.
+#[tactic(auto, using(crate::specs::ContextLaws::side_field))]
+pub(crate) fn side(context: &[u8; 48]) -> u64
+    ensures { (c : Context) (n : ℕ) → IsContext c → context.now ≡ context_bytes c n → result ≡ c.side }
+{
+    number_of_bytes(context, 44, 4)
+}
+
+/// Returns the value of a field of the context record.
+fn field_value(context: &[u8; 48], field: Field) -> Value
+    ensures { result ≡ field_value context.now field }
+{
+    match field {
+        Field::Datagram => Value::Data(0),
+        Field::End => Value::End,
+        Field::Length => field_number(context, 8, 16),
+        Field::Source => field_number(context, 8, 24),
+        Field::IdHead => field_number(context, 8, 32),
+        Field::IdTail => field_number(context, 4, 40),
+        Field::Side => field_number(context, 4, 44),
     }
 }
 
-/// Returns the number in the `n` bytes from a place of the stack on.
-fn stack_number(memory: &Memory<'_>, base: i64, displacement: i16, n: usize) -> Result<u64, Reason>
-    requires { n ≤ 8 }
-    ensures { result ≡ stack_number (memory_of memory.now) (base +ℤ displacement) n }
+/// Returns the value that an access to the context record reads.
+fn load_field(context: &[u8; 48], displacement: i16, size: Size) -> Result<Value, Reason>
+    ensures { result ≡ load_field context.now displacement size }
 {
-    let index = index_in_stack(base, displacement, n).ok_or(Reason::StackBounds)?;
-    number_of_cells(part_of(memory.stack, index, n)).ok_or(Reason::UninitStack)
+    let field = field_at(displacement, size).ok_or(Reason::ContextAccess)?;
+    Ok(field_value(context, field))
 }
 
-/// Returns the number in the `n` bytes from a place of headroom or datagram on.
-fn datagram_number(
-    memory: &Memory<'_>,
-    base: i64,
-    displacement: i16,
-    n: usize,
-) -> Result<u64, Reason>
+/// Returns the number in the `n` bytes at a location.
+fn number_in(memory: &Memory<'_>, n: usize, at: Location) -> Result<u64, Reason>
     requires some { 1 ≤ n }
     requires few { n ≤ 8 }
-    ensures { result ≡ datagram_number (memory_of memory.now) (base +ℤ displacement) n }
+    requires inside { IsInside (memory_of memory.now) n at }
+    ensures { result ≡ number_in (memory_of memory.now) n at }
 {
-    let end = memory.length as i64;
-    let index = index_of(base, displacement, n, HEADROOM_FIRST, HEADROOM_FIRST, end).ok_or(
-        Reason::DatagramBounds,
-    )?;
-    Ok(little_endian(part_of(memory.bytes, index, n)))
-}
-
-/// Returns the number in the `n` bytes of the tailroom, from its first byte and a displacement on.
-fn tailroom_number(memory: &Memory<'_>, displacement: i16, n: usize) -> Result<u64, Reason>
-    requires some { 1 ≤ n }
-    requires few { n ≤ 8 }
-    ensures { result ≡ tailroom_number (memory_of memory.now) (pos (memory.now).length +ℤ displacement) n }
-{
-    let end = memory.length as i64;
-    let high = end + TAILROOM as i64;
-    let index = index_of(end, displacement, n, HEADROOM_FIRST, end, high).ok_or(
-        Reason::DatagramBounds,
-    )?;
-    Ok(little_endian(part_of(memory.bytes, index, n)))
+    match at {
+        Location::InStack(index) => {
+            number_of_cells(part_of(memory.stack, index, n)).ok_or(Reason::UninitStack)
+        }
+        Location::InBytes(index) => Ok(number_of_bytes(memory.bytes, index, n)),
+    }
 }
 
 /// Returns the number in the `n` bytes that `base` with a displacement reaches.
+#[tactic(auto, unfolding(crate::specs::Loading::read_number))]
 fn number_at(memory: &Memory<'_>, base: Value, displacement: i16, n: usize) -> Result<u64, Reason>
     requires some { 1 ≤ n }
     requires few { n ≤ 8 }
     ensures { result ≡ read_number (memory_of memory.now) base displacement n }
 {
-    match base {
-        Value::Nothing => Err(Reason::UninitRegister),
-        Value::Scalar(_) => Err(Reason::NotAPointer),
-        Value::Ctx => Err(Reason::ContextAccess),
-        Value::Stack(k) => stack_number(memory, k, displacement, n),
-        Value::Data(k) => datagram_number(memory, k, displacement, n),
-        Value::End => tailroom_number(memory, displacement, n),
-    }
+    let at = locate(memory, base, displacement, n)?;
+    number_in(memory, n, at)
 }
 
-/// Returns the value that a load through `base` with a displacement reads, zero-extended.
+/// Returns the value that a load through `base` with a displacement reads, zero-extended. `context` is the
+/// context record.
 ///
 /// # Errors
 /// The reason for which the load is stuck.
 pub fn load(
+    context: &[u8; 48],
     memory: &Memory<'_>,
     base: Value,
     displacement: i16,
     size: Size,
 ) -> Result<Value, Reason>
-    ensures { result ≡ load (memory_of memory.now) base displacement size }
+    ensures { (c : Context) → context.now ≡ context_bytes c (memory.now).length → result ≡ load c (memory_of memory.now) base displacement size }
 {
     match base {
-        Value::Ctx => field_of(displacement, size),
+        Value::Ctx => load_field(context, displacement, size),
         _ => Ok(Value::Scalar(number_at(memory, base, displacement, size.bytes())?)),
     }
 }

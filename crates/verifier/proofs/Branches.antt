@@ -18,7 +18,7 @@ use Rattle.semantics.specs.declared.fetching.Fetched.TheVariants.{Begins}
 use Rattle.absstate.specs.MemberSteps.{state_behind}
 use Rattle.absstate.specs.Successors.{Ends, successors_of, successors_in}
 use Rattle.absstate.specs.StepLaws.Bounds.{not_le}
-use Rattle.absstate.specs.StepLaws.LoadValues.{abs_is}
+use Rattle.absstate.specs.StepLaws.MemoryValues.{abs_is}
 use Rattle.absstate.specs.declared.abstract_state.AbsState.{AbsState}
 use Rattle.absstate.specs.declared.abstract_step.Next.{Next}
 use Rattle.absstate.specs.declared.abstract_step.Next.TheVariants as next

@@ -6,7 +6,7 @@ use Rattle.std.proofs.lemmas.List.{length-replicate}
 use Rattle.std.proofs.lemmas.List.Elements.{All-replicate}
 use Rattle.insn.specs.Encoding.{Fits}
 use Rattle.insn.specs.declared.instruction.Insn.{Insn}
-use Rattle.semantics.specs.Machine.{Memory, State, AreBytes, Surroundings, start}
+use Rattle.semantics.specs.Machine.{State, AreBytes, Surroundings, start}
 use Rattle.semantics.specs.Slots.{fetch}
 use Rattle.semantics.specs.Flow.{branch_slot}
 use Rattle.semantics.specs.Runs.{Sticks, AreReal}
@@ -20,7 +20,7 @@ use Rattle.absstate.specs.AbstractStates.{first_state}
 use Rattle.absstate.specs.AbstractSteps as abstract
 use Rattle.absstate.specs.Membership.{Strict, IsMember}
 use Rattle.absstate.specs.MemberSteps.{state_behind}
-use Rattle.absstate.specs.StepLaws.LoadValues.{abs_is}
+use Rattle.absstate.specs.StepLaws.MemoryValues.{abs_is}
 use Rattle.absstate.specs.StepLaws.Members.{at_first, first_member, loosens_itself, loosens_then}
 use Rattle.absstate.specs.StepLaws.Following.{step_is}
 use Rattle.absstate.specs.StepLaws.Opening.{Opens, step_rises, step_opens}
@@ -31,7 +31,6 @@ use Rattle.verifier.specs.Layout.{HasGoodJumps}
 use Rattle.verifier.specs.PendingStates.{some_surroundings, IsReachedOver, IsReached}
 use Rattle.verifier.specs.Walk.{LeadsTo, IsNext, IsLeft, GoesOn, IsRefusedAt}
 use Rattle.verifier.specs.declared.walk.Pending.{Pending}
-use Rattle.verifier.proofs.Branches.{branch_is_good}
 
 -- ---- one step more
 
@@ -105,7 +104,7 @@ module _ {D : Type 0} (ops : Operations D) (Member : D → ℕ → Type 0) (soun
     reaches = one_more some_surroundings code r.steps (start r.datagram) r.last opens.state r.reaches (r.loosened, r.loosens, opens.goes);
     loosens = opens.loosens;
     slot = opens.slot_is;
-    size = ap (λ (m : Memory). m.length) opens.memory ∙ r.size;
+    size = opens.size ∙ r.size;
     member = subst (λ (c : AbsState D). IsMember Member Strict r.places c opens.loosened) (sym state_is) opens.member;
   }
 
@@ -117,7 +116,7 @@ module _ {D : Type 0} (ops : Operations D) (Member : D → ℕ → Type 0) (soun
         let n : ℕ = unsigned_abs here.state.proved in
         let same : pos n ≡ here.state.proved = abs_is here.state.proved reached.not_negative in
         let r = reached.over n (equal_at_most here.state.proved (pos n) (sym same)) in
-        let rises = step_rises ops Member sound some_surroundings code r.places here.state r.loosened r.member i fit answer is branch b behind in
+        let rises = step_rises ops Member sound some_surroundings code r.places here.state r.loosened r.member i fit surroundings_are_real answer is branch b behind in
         let proved_is : b.proved ≡ p.state.proved = ap (λ (c : AbsState D). c.proved) (sym point.state_is) in
         let more : here.state.proved ≤ℤ p.state.proved = at_most here.state.proved b.proved p.state.proved rises (equal_at_most b.proved p.state.proved proved_is) in
         record {
@@ -127,7 +126,7 @@ module _ {D : Type 0} (ops : Operations D) (Member : D → ℕ → Type 0) (soun
               let begins_at : fetch code over.loosened.slot ≡ Begins i = ap (fetch code) over.slot ∙ begins in
               let long : b.proved ≤ℤ pos over.loosened.memory.length = at_most b.proved p.state.proved (pos over.loosened.memory.length) (equal_at_most b.proved p.state.proved proved_is) (subst (λ (k : ℕ). p.state.proved ≤ℤ pos k) (sym over.size) le) in
               reached_by code here p b m over point.state_is
-              (step_opens ops Member sound some_surroundings code over.places here.state over.loosened over.member i fit precise surroundings_are_real begins_at (λ way. branch_is_good code over.loosened.slot i way jumps begins_at) answer is branch b p.slot behind
+              (step_opens ops Member sound some_surroundings code over.places here.state over.loosened over.member i fit precise surroundings_are_real begins_at answer is branch b p.slot behind
               (ap (λ (k : ℕ). branch_slot code k i branch) over.slot ∙ point.leads) long);
         }
 
@@ -165,5 +164,5 @@ module _ {D : Type 0} (ops : Operations D) (Member : D → ℕ → Type 0) (soun
         loosened = f.state;
         reaches = r.reaches;
         loosens = loosens_then r.last r.loosened f.state r.loosens f.loosens;
-        stuck = step_is some_surroundings code f.state refusal.insn (Err reason) (ap (fetch code) slot ∙ refusal.begins) (f.stuck some_surroundings.context) ∙ ap (Sticks reason) slot;
+        stuck = step_is some_surroundings code f.state refusal.insn (Err reason) (ap (fetch code) slot ∙ refusal.begins) (f.stuck some_surroundings.context surroundings_are_real.context) ∙ ap (Sticks reason) slot;
       }

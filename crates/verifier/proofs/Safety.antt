@@ -9,6 +9,7 @@ use Rattle.semantics.specs.SlotLaws.{ahead_falls}
 use Rattle.semantics.specs.Flow.{branch_slot}
 use Rattle.semantics.specs.Runs.{StepResult, Goes, Exits, Sticks, Run, AreReal, onwards, step, run}
 use Rattle.semantics.specs.RunLaws.{exits_the_same}
+use Rattle.semantics.specs.declared.limits.TheConstants.{MAX_DATAGRAM}
 use Rattle.semantics.specs.declared.reason.Reason.{Reason}
 use Rattle.semantics.specs.declared.fetching.Fetched.TheVariants.{Begins}
 use Rattle.semantics.specs.declared.fetching.Branch.{Branch}
@@ -35,9 +36,9 @@ module _ {D : Type 0} (Member : D → ℕ → Type 0) (code : List Insn) (i : In
   one_less = fuel_is code s.slot i here
 
   -- a run exits where its step leads to a member of a pending state ahead of which every run exits
-  exits_by : (w : Surroundings) (places : Places) (p : Pending D) (t : State) → AreReal w → step w code s ≡ Goes t → t.slot ≡ p.slot → IsMember Member Loose places p.state t → AllRunsExit Member code p → s.slot < p.slot → ExitsFrom w code s
-  exits_by w places p t real goes slot member good rises =
-      let ends = good w places t real slot member in
+  exits_by : (w : Surroundings) (places : Places) (p : Pending D) (t : State) → AreReal w → step w code s ≡ Goes t → t.slot ≡ p.slot → t.memory.length ≤ MAX_DATAGRAM → IsMember Member Loose places p.state t → AllRunsExit Member code p → s.slot < p.slot → ExitsFrom w code s
+  exits_by w places p t real goes slot short member good rises =
+      let ends = good w places t real slot short member in
       let m : ℕ = ahead code s.slot - 1 in
       let left : ahead code t.slot ≤ m = omega (arith, ahead_falls code s.slot p.slot i here rises, ap (ahead code) slot) in
       let same = exits_the_same w code (ahead code t.slot) m t ends.0 left ends.1 in (
@@ -58,11 +59,11 @@ module _ {D : Type 0} (Member : D → ℕ → Type 0) (code : List Insn) (i : In
 of_one : {D : Type 0} (P : Pending D → Type 0) (left : List (Pending D)) (q : Pending D) → left ≡ q ∷ [] → All P left → P q
 of_one P left q e all = subst (λ (xs : List _). All P xs → P q) (sym e) (λ ps. ps 0 q (omega arith)) all
 
-module _ {D : Type 0} (Member : D → ℕ → Type 0) (code : List Insn) (i : Insn) (w : Surroundings) (places : Places) (s : State) (real : AreReal w) (here : fetch code s.slot ≡ Begins i) where
+module _ {D : Type 0} (Member : D → ℕ → Type 0) (code : List Insn) (i : Insn) (w : Surroundings) (places : Places) (s : State) (real : AreReal w) (short : s.memory.length ≤ MAX_DATAGRAM) (here : fetch code s.slot ≡ Begins i) where
   -- the step leads to a member of the state of a branch
   good_branch : (branch : Branch) (b : AbsState D) (p : Pending D) (t : State) → LeadsTo code s.slot i branch b p → step w code s ≡ Goes t → IsBehindSome Member code Loose places s i branch (Some b) t → AllRunsExit Member code p → ExitsFrom w code s
   good_branch branch b p t point goes behind good =
-      exits_by Member code i s here w places p t real goes (same_slot (branch_slot code s.slot i branch) t.slot p.slot behind.leads point.leads)
+      exits_by Member code i s here w places p t real goes (same_slot (branch_slot code s.slot i branch) t.slot p.slot behind.leads point.leads) (omega (arith, short, behind.size))
       (subst (λ (c : AbsState D). IsMember Member Loose places c t) (sym point.state_is) behind.member) good (branch_rises code s.slot p.slot i branch point.leads)
 
   good_next : (state : Option (AbsState D)) (on : Option (Pending D)) (t : State) → IsNext code s.slot i NotTaken state on → IfSome on (AllRunsExit Member code) → step w code s ≡ Goes t → IsBehindSome Member code Loose places s i NotTaken state t → ExitsFrom w code s
@@ -86,7 +87,7 @@ goes_on_at code m n i answer on left e h = subst (λ (k : ℕ). GoesOn code k i 
 -- every run from a pending state exits, where that holds of the states that the walk goes on to
 pub good_before : {D : Type 0} (ops : Operations D) (Member : D → ℕ → Type 0) → AreSound ops Member → (code : List Insn) → HasGoodJumps code → (here : Pending D) (i : Insn) → fetch code here.slot ≡ Begins i → Fits i → (answer : Next D) → abstract.step ops here.state i ≡ Ok answer
     → (on : Option (Pending D)) (left : List (Pending D)) → GoesOn code here.slot i answer on left → IfSome on (AllRunsExit Member code) → All (AllRunsExit Member code) left → AllRunsExit Member code here
-good_before ops Member sound code jumps here i begins fit answer is on left goes good goods w places s real at member =
+good_before ops Member sound code jumps here i begins fit answer is on left goes good goods w places s real at short member =
     let begins_at : fetch code s.slot ≡ Begins i = ap (fetch code) at ∙ begins in
-    good_from Member code i w places s real begins_at answer on left (goes_on_at code s.slot here.slot i answer on left at goes) good goods (step w code s) refl
-    (steps_follow ops Member sound here.state i fit answer is w code Loose places s real begins_at (λ branch. branch_is_good code s.slot i branch jumps begins_at) member)
+    good_from Member code i w places s real short begins_at answer on left (goes_on_at code s.slot here.slot i answer on left at goes) good goods (step w code s) refl
+    (steps_follow ops Member sound here.state i fit answer is w code Loose places s real begins_at (λ branch. branch_is_good code s.slot i branch jumps begins_at) short member)

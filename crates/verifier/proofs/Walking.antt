@@ -182,7 +182,7 @@ module _ {D : Type 0} (ops : Operations D) (Member : D → ℕ → Type 0) (soun
   -- where every run from the first pending state exits, the code is safe
   pub safe : (code : List Insn) → AllRunsExit Member code first_pending → IsSafe code
   safe code good w datagram real fits =
-      let exits = good w at_first (start datagram) real refl (first_member Member Loose datagram fits.bytes_fit) in
+      let exits = good w at_first (start datagram) real refl fits.short (first_member Member Loose datagram fits.bytes_fit) in
       (exits.0, ap (λ (k : ℕ). (run w code k (start datagram)).ending) (sym (ahead_start code)) ∙ exits.1)
 
   -- a refused step may be refused

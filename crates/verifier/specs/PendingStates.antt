@@ -6,6 +6,7 @@ use Rattle.insn.specs.declared.instruction.Insn.{Insn}
 use Rattle.semantics.specs.Machine.{State, Surroundings, start}
 use Rattle.semantics.specs.Slots.{ahead}
 use Rattle.semantics.specs.Runs.{Exited, run, AreReal, IsSafe}
+use Rattle.semantics.specs.declared.limits.TheConstants.{MAX_DATAGRAM}
 use Rattle.semantics.specs.LooseRuns.{Loosens, LooselyReaches, beginnings_from}
 use Rattle.absstate.specs.Membership.{Places, Loose, Strict, IsMember}
 use Rattle.verifier.specs.declared.walk.Pending.{Pending}
@@ -16,9 +17,9 @@ use Rattle.verifier.specs.declared.walk.Pending.{Pending}
 abbrev pub ExitsFrom : Surroundings → List Insn → State → Type 0
 ExitsFrom w code s = (verdict : ℕ) × ((run w code (ahead code s.slot) s).ending ≡ Exited verdict)
 
--- so does every run, in real surroundings, from every member of a pending state
+-- so does every run, in real surroundings, from every member of a pending state with a datagram of at most 65,507 bytes
 abbrev pub AllRunsExit : {D : Type 0} → (D → ℕ → Type 0) → List Insn → Pending D → Type 0
-AllRunsExit Member code p = (w : Surroundings) (places : Places) (s : State) → AreReal w → s.slot ≡ p.slot → IsMember Member Loose places p.state s → ExitsFrom w code s
+AllRunsExit Member code p = (w : Surroundings) (places : Places) (s : State) → AreReal w → s.slot ≡ p.slot → s.memory.length ≤ MAX_DATAGRAM → IsMember Member Loose places p.state s → ExitsFrom w code s
 
 -- a verified program is safe, and not too long
 pub record IsVerified (code : List Insn) : Type 0 where

@@ -1,6 +1,6 @@
 //! Instructions in few words, and those that many rows have.
 
-use insn::{AluOp, Condition, Insn, Operand, Reg, Size, Width};
+use insn::{AluOp, Condition, Insn, Operand, Reg, SignedSize, Size, Width};
 
 pub fn mov(dst: Reg, operand: Operand) -> Insn {
     Insn::Mov {
@@ -24,6 +24,24 @@ pub fn load(size: Size, dst: Reg, base: Reg, offset: i16) -> Insn {
         size,
         dst,
         base,
+        offset,
+    }
+}
+
+pub fn load_signed(size: SignedSize, dst: Reg, base: Reg, offset: i16) -> Insn {
+    Insn::LoadSigned {
+        size,
+        dst,
+        base,
+        offset,
+    }
+}
+
+pub fn store(size: Size, base: Reg, operand: Operand, offset: i16) -> Insn {
+    Insn::Store {
+        size,
+        base,
+        operand,
         offset,
     }
 }

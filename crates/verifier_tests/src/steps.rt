@@ -1,5 +1,9 @@
 //! The abstract step, from the first state on.
 
+mod calls;
+mod context;
+mod memory;
+
 use crate::assembly::{BYTE, END, FIRST, ZERO, alu, jump_if, mov};
 use absstate::{AbsState, AbstractValue, Anchor, Marks, Next};
 use insn::{AluOp, Condition, Insn, Operand, Reg};
@@ -60,6 +64,9 @@ fn after(rt: &impl Abort, code: &[Insn]) -> State {
 
 /// Any byte.
 const ANY: Ends = (0, 255);
+
+/// Any word.
+const WORD: Ends = (0, u64::MAX);
 
 /// The low six bits of a byte.
 const LOW: Ends = (0, 63);

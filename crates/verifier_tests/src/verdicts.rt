@@ -5,9 +5,11 @@ ghost use Rattle.insn.specs.Encoding.{slot_count};
 ghost use Rattle.insn.specs.declared.decoding.TheConstants.{MAX_SLOTS};
 
 mod branches;
+mod calls;
 mod layout;
 mod pointers;
 mod refined;
+mod stores;
 
 use crate::known::Known;
 use insn::Insn;

@@ -1,6 +1,6 @@
 -- An accepted step has as many successors as its instruction, and a refused one a reason of the steps.
 use Rattle.std.proofs.Common.{◌≡◌, ℕ, Bool, true, false, Result, Ok, Err, refl}
-use Rattle.std.specs.Prelude.{ℤ, pos, negsuc, ◌==◌, if◌then◌else◌, Option, Some, None, ◌+ℤ◌, IfOk, IfErr}
+use Rattle.std.specs.Prelude.{ℤ, pos, Option, Some, None, ◌+ℤ◌, IfOk, IfErr}
 use Rattle.std.specs.Option.{ok_or}
 use Rattle.insn.specs.Codes.{byte_count, unsigned_size}
 use Rattle.insn.specs.declared.register.Reg.{Reg}
@@ -12,13 +12,17 @@ use Rattle.insn.specs.declared.operator.UnaryOp.{UnaryOp}
 use Rattle.insn.specs.declared.operator.UnaryOp.TheVariants.{Mov, Neg, SignExtend, Swap}
 use Rattle.insn.specs.declared.condition.Condition.{Condition}
 use Rattle.insn.specs.declared.size.Size.{Size}
-use Rattle.insn.specs.declared.size.Size.TheVariants as size
 use Rattle.insn.specs.declared.instruction.Operand.{Operand}
 use Rattle.insn.specs.declared.instruction.Operand.TheVariants as operand
 use Rattle.insn.specs.declared.instruction.Insn.{Insn}
 use Rattle.insn.specs.declared.instruction.Insn.TheVariants as insn
 use Rattle.semantics.specs.Fallible.{◌>>=◌, check}
-use Rattle.semantics.specs.Loading.{is_within, index_within, stack_first, headroom_first}
+use Rattle.semantics.specs.Access.{is_within, index_within, stack_first, headroom_first}
+use Rattle.semantics.specs.Loading.{field_at}
+use Rattle.semantics.specs.Calls.{helper_of}
+use Rattle.semantics.specs.declared.helper.Helper.{Helper}
+use Rattle.semantics.specs.declared.helper.Helper.TheVariants as helper
+use Rattle.insn.specs.Register.{number_of}
 use Rattle.semantics.specs.Effects.{is_writable, writable}
 use Rattle.semantics.specs.LooseRuns.{Bound, data_bound, exchanged}
 use Rattle.semantics.specs.declared.fetching.Branch.{Branch}
@@ -28,6 +32,7 @@ use Rattle.semantics.specs.declared.reason.Reason.TheVariants as reasons
 use Rattle.interval.specs.Domains.{Operations}
 use Rattle.absstate.specs.AbstractStates.{abstract_at, are_marked, proved_of}
 use Rattle.absstate.specs.AbstractSteps as abstract
+use Rattle.absstate.specs.AbstractSteps.{located, readable}
 use Rattle.absstate.specs.StepReasons.{IsStepReason}
 use Rattle.absstate.specs.Successors.{One, Two, successors_of, successors_in}
 use Rattle.absstate.specs.declared.abstract_state.AbsState.{AbsState}
@@ -36,6 +41,8 @@ use Rattle.absstate.specs.declared.abstract_state.Anchor.TheVariants.{First}
 use Rattle.absstate.specs.declared.abstract_state.AbstractValue.{AbstractValue}
 use Rattle.absstate.specs.declared.abstract_state.AbstractValue.TheVariants as known
 use Rattle.absstate.specs.declared.abstract_step.Next.{Next}
+use Rattle.absstate.specs.declared.memory.Region.{Region}
+use Rattle.absstate.specs.declared.memory.Region.TheVariants.{InStack, InBytes}
 
 -- ---- accepted steps
 
@@ -73,6 +80,18 @@ module _ {D : Type 0} (ops : Operations D) where
   forks a w c dst o (known.Scalar x) (known.Scalar y) = refl
   forks a w c dst o x y = places_forks a w c x y
 
+  address_straight : (a : AbsState D) (h : Helper) → IfOk (abstract.address_step ops a h) HasOne
+  unfolding HasOne
+  address_straight a h = every HasOne (abstract.context_argument a) _ (λ u. every HasOne (abstract.record_argument a reg.R2) _ (λ v. refl))
+
+  helper_straight : (a : AbsState D) (h : Helper) → IfOk (abstract.helper_step ops a h) HasOne
+  unfolding HasOne
+  helper_straight a helper.ChannelPeer = every HasOne (abstract.context_argument a) _ (λ u. every HasOne (abstract.number_argument a reg.R2) _ (λ v. every HasOne (abstract.stack_argument a reg.R3) _ (λ out. refl)))
+  helper_straight a helper.ChannelTo = address_straight a helper.ChannelTo
+  helper_straight a helper.Permitted = address_straight a helper.Permitted
+  helper_straight a helper.Window = every HasOne (abstract.context_argument a) _ (λ u. every HasOne (abstract.number_argument a reg.R2) _ (λ v. every HasOne (abstract.number_argument a reg.R3) _ (λ v'. refl)))
+  helper_straight a helper.Destination = address_straight a helper.Destination
+
   exits : (k : AbstractValue D) → IfOk (abstract.exit_with k) (λ (answer : Next D). successors_in answer ≡ successors_of insn.Exit)
   exits (known.Scalar n) = refl
   exits k = tt
@@ -90,7 +109,10 @@ module _ {D : Type 0} (ops : Operations D) where
   step_successors a (insn.JumpIf w c dst o offset) = every HasTwo (abstract.read a dst) _ (λ x. every HasTwo (abstract.operand_abstract ops a o) _ (λ y. forks a w c dst o x y))
   step_successors a (insn.Load z dst base d) = load_straight a (λ pointer. abstract.load ops a pointer d z) dst base
   step_successors a (insn.LoadSigned z dst base d) = load_straight a (λ pointer. abstract.load_signed ops a pointer d z) dst base
+  step_successors a (insn.Store z base o d) =
+      every HasOne (abstract.read a base) _ (λ to. every HasOne (abstract.operand_abstract ops a o) _ (λ known. every HasOne (abstract.pointer to) _ (λ u. every HasOne (abstract.storable known) _ (λ v. every HasOne (abstract.located a to d (byte_count z)) _ (λ r. refl)))))
   step_successors a (insn.LoadImm dst value) = goes_straight a dst (Ok (known.Scalar (ops.exact value)))
+  step_successors a (insn.Call n) = every HasOne (ok_or (helper_of n) reasons.UnknownHelper) _ (λ h. helper_straight a h)
   step_successors a insn.Exit = every (λ (answer : Next D). successors_in answer ≡ successors_of insn.Exit) (abstract.read a reg.R0) _ exits
 
   -- ---- refused steps
@@ -148,28 +170,28 @@ module _ {D : Type 0} (ops : Operations D) where
   fork_reasons a w c dst o (known.Scalar x) (known.Scalar y) = tt
   fork_reasons a w c dst o x y = places_reasons a w c x y
 
-  field_reason : (b b' : Bool) (x y : AbstractValue D) → IfErr (if b then Ok x else (if b' then Ok y else Err reasons.ContextAccess)) IsStepReason
-  field_reason true b' x y = tt
-  field_reason false true x y = tt
-  field_reason false false x y = tt
+  field_reasons : (d : ℤ) (z : Size) → IfErr (abstract.load_field ops d z) IsStepReason
+  field_reasons d z = faults IsStepReason (ok_or (field_at d z) reasons.ContextAccess) _ (found (field_at d z) reasons.ContextAccess tt) (λ f. tt)
 
-  field_reasons : (d : ℤ) (z : Size) → IfErr (abstract.field {D = D} d z) IsStepReason
-  field_reasons (pos n) size.Double = field_reason (n == 0) (n == 8) (known.Data First (pos 0)) known.End
-  field_reasons (pos n) z = tt
-  field_reasons (negsuc n) z = tt
+  region_reasons : (a : AbsState D) (x : AbstractValue D) (d : ℤ) (n : ℕ) → IfErr (abstract.located a x d n) IsStepReason
+  unfolding located
+  region_reasons a known.Nothing d n = tt
+  region_reasons a (known.Scalar m) d n = tt
+  region_reasons a known.Ctx d n = tt
+  region_reasons a (known.Stack k) d n =
+      faults IsStepReason (ok_or (index_within (k +ℤ d) n stack_first stack_first (pos 0)) reasons.StackBounds) _ (found (index_within (k +ℤ d) n stack_first stack_first (pos 0)) reasons.StackBounds tt) (λ i. tt)
+  region_reasons a (known.Data anchor k) d n =
+      faults IsStepReason (check (is_within (k +ℤ d) n headroom_first (proved_of a anchor)) reasons.DatagramBounds) _ (checked (is_within (k +ℤ d) n headroom_first (proved_of a anchor)) reasons.DatagramBounds tt) (λ u. tt)
+  region_reasons a known.End d n =
+      faults IsStepReason (check (is_within (pos 0 +ℤ d) n (pos 0) (pos TAILROOM)) reasons.DatagramBounds) _ (checked (is_within (pos 0 +ℤ d) n (pos 0) (pos TAILROOM)) reasons.DatagramBounds tt) (λ u. tt)
 
-  stack_reasons : (m : Marks) (place : ℤ) (n : ℕ) → IfErr (abstract.stack_readable m place n) IsStepReason
-  stack_reasons m place n =
-      faults IsStepReason (ok_or (index_within place n stack_first stack_first (pos 0)) reasons.StackBounds) _ (found (index_within place n stack_first stack_first (pos 0)) reasons.StackBounds tt)
-      (λ i. checked (are_marked m i n) reasons.UninitStack tt)
+  marks_reasons : (m : Marks) (n : ℕ) (r : Region) → IfErr (abstract.region_readable m n r) IsStepReason
+  marks_reasons m n (InStack i) = checked (are_marked m i n) reasons.UninitStack tt
+  marks_reasons m n InBytes = tt
 
   readable_reasons : (a : AbsState D) (x : AbstractValue D) (d : ℤ) (n : ℕ) → IfErr (abstract.readable a x d n) IsStepReason
-  readable_reasons a known.Nothing d n = tt
-  readable_reasons a (known.Scalar m) d n = tt
-  readable_reasons a known.Ctx d n = tt
-  readable_reasons a (known.Stack k) d n = stack_reasons a.marks (k +ℤ d) n
-  readable_reasons a (known.Data anchor k) d n = checked (is_within (k +ℤ d) n headroom_first (proved_of a anchor)) reasons.DatagramBounds tt
-  readable_reasons a known.End d n = checked (is_within (pos 0 +ℤ d) n (pos 0) (pos TAILROOM)) reasons.DatagramBounds tt
+  unfolding readable
+  readable_reasons a x d n = faults IsStepReason (abstract.located a x d n) _ (region_reasons a x d n) (λ r. marks_reasons a.marks n r)
 
   number_reasons : (a : AbsState D) (x : AbstractValue D) (d : ℤ) (n : ℕ) (number : D) → IfErr (abstract.load_number a x d n number) IsStepReason
   number_reasons a x d n number = faults IsStepReason (abstract.readable a x d n) _ (readable_reasons a x d n) (λ u. tt)
@@ -181,6 +203,52 @@ module _ {D : Type 0} (ops : Operations D) where
   load_reasons a (known.Stack k) d z = number_reasons a (known.Stack k) d (byte_count z) (abstract.number_of_size ops z)
   load_reasons a (known.Data anchor k) d z = number_reasons a (known.Data anchor k) d (byte_count z) (abstract.number_of_size ops z)
   load_reasons a known.End d z = number_reasons a known.End d (byte_count z) (abstract.number_of_size ops z)
+
+  pointer_reasons : (x : AbstractValue D) → IfErr (abstract.pointer x) IsStepReason
+  pointer_reasons (known.Scalar n) = tt
+  pointer_reasons x = tt
+
+  storable_reasons : (x : AbstractValue D) → IfErr (abstract.storable x) IsStepReason
+  storable_reasons (known.Scalar n) = tt
+  storable_reasons x = tt
+
+  store_reasons : (a : AbsState D) (z : Size) (base : Reg) (o : Operand) (d : ℤ) → IfErr (abstract.store_step ops a z base o d) IsStepReason
+  store_reasons a z base o d =
+      faults IsStepReason (abstract.read a base) _ (held_reasons (abstract_at a.registers base)) (λ to. faults IsStepReason (abstract.operand_abstract ops a o) _ (operand_reasons a o)
+      (λ known. faults IsStepReason (abstract.pointer to) _ (pointer_reasons to) (λ u. faults IsStepReason (abstract.storable known) _ (storable_reasons known)
+      (λ v. faults IsStepReason (abstract.located a to d (byte_count z)) _ (region_reasons a to d (byte_count z)) (λ r. tt)))))
+
+  context_value_reasons : (x : AbstractValue D) → IfErr (abstract.context_value x) IsStepReason
+  context_value_reasons known.Ctx = tt
+  context_value_reasons x = tt
+
+  context_reasons : (a : AbsState D) → IfErr (abstract.context_argument a) IsStepReason
+  context_reasons a = faults IsStepReason (abstract.read a reg.R1) _ (held_reasons (abstract_at a.registers reg.R1)) context_value_reasons
+
+  number_value_reasons : (r : Reg) (x : AbstractValue D) → IfErr (abstract.number_value r x) IsStepReason
+  number_value_reasons r (known.Scalar n) = tt
+  number_value_reasons r x = tt
+
+  argument_reasons : (a : AbsState D) (r : Reg) → IfErr (abstract.number_argument a r) IsStepReason
+  argument_reasons a r = faults IsStepReason (abstract.read a r) _ (held_reasons (abstract_at a.registers r)) (number_value_reasons r)
+
+  pointer_argument_reasons : (a : AbsState D) (r : Reg) → IfErr (abstract.stack_argument a r) IsStepReason
+  pointer_argument_reasons a r = faults IsStepReason (abstract.read a r) _ (held_reasons (abstract_at a.registers r)) (λ x. found (abstract.stack_index x) (reasons.HelperArgument (number_of r)) tt)
+
+  record_argument_reasons : (a : AbsState D) (r : Reg) → IfErr (abstract.record_argument a r) IsStepReason
+  record_argument_reasons a r = faults IsStepReason (abstract.stack_argument a r) _ (pointer_argument_reasons a r) (λ i. checked (are_marked a.marks i 8) reasons.UninitStack tt)
+
+  address_reasons : (a : AbsState D) (h : Helper) → IfErr (abstract.address_step ops a h) IsStepReason
+  address_reasons a h = faults IsStepReason (abstract.context_argument a) _ (context_reasons a) (λ u. faults IsStepReason (abstract.record_argument a reg.R2) _ (record_argument_reasons a reg.R2) (λ v. tt))
+
+  helper_reasons : (a : AbsState D) (h : Helper) → IfErr (abstract.helper_step ops a h) IsStepReason
+  helper_reasons a helper.ChannelPeer =
+      faults IsStepReason (abstract.context_argument a) _ (context_reasons a) (λ u. faults IsStepReason (abstract.number_argument a reg.R2) _ (argument_reasons a reg.R2) (λ v. faults IsStepReason (abstract.stack_argument a reg.R3) _ (pointer_argument_reasons a reg.R3) (λ out. tt)))
+  helper_reasons a helper.ChannelTo = address_reasons a helper.ChannelTo
+  helper_reasons a helper.Permitted = address_reasons a helper.Permitted
+  helper_reasons a helper.Window =
+      faults IsStepReason (abstract.context_argument a) _ (context_reasons a) (λ u. faults IsStepReason (abstract.number_argument a reg.R2) _ (argument_reasons a reg.R2) (λ v. faults IsStepReason (abstract.number_argument a reg.R3) _ (argument_reasons a reg.R3) (λ v'. tt)))
+  helper_reasons a helper.Destination = address_reasons a helper.Destination
 
   exit_reasons : (k : AbstractValue D) → IfErr (abstract.exit_with k) IsStepReason
   exit_reasons (known.Scalar n) = tt
@@ -214,5 +282,7 @@ module _ {D : Type 0} (ops : Operations D) where
       (λ y. fork_reasons a w c dst o x y))
   step_reasons a (insn.Load z dst base d) = load_step_reasons a (λ pointer. abstract.load ops a pointer d z) dst base (λ x. load_reasons a x d z)
   step_reasons a (insn.LoadSigned z dst base d) = load_step_reasons a (λ pointer. abstract.load_signed ops a pointer d z) dst base (λ x. number_reasons a x d (byte_count (unsigned_size z)) ops.top)
+  step_reasons a (insn.Store z base o d) = store_reasons a z base o d
   step_reasons a (insn.LoadImm dst value) = written_reasons a dst (Ok (known.Scalar (ops.exact value))) tt
+  step_reasons a (insn.Call n) = faults IsStepReason (ok_or (helper_of n) reasons.UnknownHelper) _ (found (helper_of n) reasons.UnknownHelper tt) (λ h. helper_reasons a h)
   step_reasons a insn.Exit = faults IsStepReason (abstract.read a reg.R0) _ (held_reasons (abstract_at a.registers reg.R0)) exit_reasons

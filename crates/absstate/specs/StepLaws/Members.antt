@@ -1,29 +1,40 @@
 -- Steps keep members, and members of one abstract state are loosenings of each other.
-use Rattle.std.proofs.Common.{◌≡◌, ℕ, zero, suc, ◌<◌, ◌^◌, ◌/◌, ◌%◌, Bool, true, false, ℤ, pos, ◌+ℤ◌, ◌≤ℤ◌, List, length, get_or, map, Option, Some, None, refl, sym, ap, ◌∙◌, subst, arith, All, inl, inr}
-use Rattle.std.specs.Prelude.{is_some, ◌==◌, int_lt, slice_index_or, slice_set, if◌then◌else◌}
+use Rattle.std.proofs.Common.{◌≡◌, ℕ, zero, suc, ◌+◌, ◌<◌, ◌≤◌, ◌^◌, ◌/◌, ◌%◌, Bool, true, false, ℤ, pos, ◌+ℤ◌, ◌≤ℤ◌, List, length, get_or, map, Option, Some, None, refl, sym, ap, ◌∙◌, subst, arith, All, inl, inr}
+use Rattle.std.specs.Prelude.{◌-◌, is_some, IfSome, ◌==◌, int_lt, slice_index_or, slice_set, if◌then◌else◌}
 use Rattle.std.proofs.lemmas.Int.{ints}
 use Rattle.std.proofs.lemmas.Bool.{cases_eq, cases_lt}
 use Rattle.std.proofs.Math.Nat.{zero-div}
-use Rattle.std.proofs.lemmas.List.{get_or-set_other, set-get_or, length-set, get_or-replicate, get_or_past}
+use Rattle.std.proofs.lemmas.List.{get_or-set_other, set-get_or, length-set, length-map, get_or-map, get_or-replicate, get_or_past}
 use Rattle.std.proofs.lemmas.Grind.{get_or-set_at}
 use Rattle.insn.specs.Register.{number_of}
 use Rattle.insn.specs.declared.register.Reg.{Reg}
 use Rattle.insn.specs.declared.register.Reg.TheVariants as reg
-use Rattle.semantics.specs.Machine.{Memory, State, start, empty_stack}
-use Rattle.semantics.specs.StartLaws.{length-empty_stack, empty_cells, nothing_set, surrounded_fit}
+use Rattle.semantics.specs.Access.{put, written_at}
+use Rattle.semantics.specs.AccessLaws.{put_at, put_before, put_behind}
+use Rattle.semantics.specs.KeptLaws.{in_eleven, written_is_memory, start_is_memory}
+use Rattle.semantics.specs.Machine.{AddressRecord, AreBytes, Memory, State, start, empty_stack}
+use Rattle.semantics.specs.declared.plan.Plan.{Plan}
+use Rattle.semantics.specs.declared.access.Location.{Location}
+use Rattle.semantics.specs.declared.access.Location.TheVariants.{InStack, InBytes}
+use Rattle.semantics.specs.StartLaws.{nothing_set}
 use Rattle.semantics.specs.Effects.{value_at}
-use Rattle.semantics.specs.Runs.{write_register}
+use Rattle.semantics.specs.Runs.{write_register, called, answered}
 use Rattle.semantics.specs.LooseRuns.{SameKind, Loosens}
 use Rattle.semantics.specs.declared.value.Value.{Value}
 use Rattle.semantics.specs.declared.value.Value.TheVariants as value
-use Rattle.absstate.specs.AbstractStates.{abstract_at, is_marked, no_marks, proved_of, first_state, with_value, with_length, with_least}
-use Rattle.absstate.specs.Membership.{Mode, Strict, Places, IsNumberOf, IsHeld, IsValue, IsPlaceOf, IsMember, value_of}
+use Rattle.absstate.specs.AbstractStates.{abstract_at, is_marked, marked, no_marks, proved_of, first_state, with_value, with_length, with_least, with_answer, with_out}
+use Rattle.absstate.specs.Membership.{Mode, Strict, Places, IsNumberOf, IsHeld, IsValue, IsCell, IsPlaceOf, IsMember, value_of}
+use Rattle.absstate.specs.AbstractSteps.{with_region}
 use Rattle.absstate.specs.declared.abstract_state.Anchor.{Anchor}
 use Rattle.absstate.specs.declared.abstract_state.Anchor.TheVariants.{First}
 use Rattle.absstate.specs.declared.abstract_state.AbstractValue.{AbstractValue}
 use Rattle.absstate.specs.declared.abstract_state.AbstractValue.TheVariants as known
 use Rattle.absstate.specs.declared.abstract_state.AbsState.{AbsState}
+use Rattle.absstate.specs.declared.memory.Region.{Region}
+use Rattle.absstate.specs.declared.memory.Region.TheVariants as regions
 use Rattle.absstate.specs.StepLaws.Bounds.{IsLeast}
+use Rattle.absstate.specs.StepLaws.Marking.{length-marked, marked_before, marked_behind, marked_at}
+use Rattle.absstate.specs.StepLaws.MemoryValues.{IsRegionOf}
 
 -- ---- registers and the proved length
 
@@ -35,32 +46,24 @@ held_value Member mode places (known.Stack n) v h = h
 held_value Member mode places (known.Data anchor n) v h = h
 held_value Member mode places known.End v h = h
 
-pub in_eleven : (r : Reg) → number_of r < 11
-in_eleven reg.R0 = omega arith
-in_eleven reg.R1 = omega arith
-in_eleven reg.R2 = omega arith
-in_eleven reg.R3 = omega arith
-in_eleven reg.R4 = omega arith
-in_eleven reg.R5 = omega arith
-in_eleven reg.R6 = omega arith
-in_eleven reg.R7 = omega arith
-in_eleven reg.R8 = omega arith
-in_eleven reg.R9 = omega arith
-in_eleven reg.R10 = omega arith
-
 reach_more : (p proved n size : ℤ) (b : Bool) → p ≡ pos 0 → (p +ℤ proved) ≤ℤ size → n ≤ℤ size → (p +ℤ (if b then n else proved)) ≤ℤ size
 reach_more p proved n size true e h g = omega (arith, ints)
 reach_more p proved n size false e h g = h
 
+cell_same : {mode : Mode} {x y : Bool} {c d : Option ℕ} → y ≡ x → d ≡ c → IsCell mode x c → IsCell mode y d
+cell_same {mode} {x} {y} {c} {d} p q h = subst (λ (o : Option ℕ). IsCell mode y o) (sym q) (subst (λ (b : Bool). IsCell mode b c) (sym p) h)
+
+set_cell : {mode : Mode} {x : Bool} {c : Option ℕ} → x ≡ true → is_some c ≡ true → IsCell mode x c
+set_cell p q = record { held = λ e. q; no_other = λ e. q ∙ sym p }
+
 module _ {D : Type 0} (Member : D → ℕ → Type 0) (mode : Mode) (places : Places) (a : AbsState D) (s : State) (member : IsMember Member mode places a s) where
-  written_at : (r q : Reg) (k : AbstractValue D) (v : Value) → IsHeld Member places k v → IsValue Member mode places (abstract_at (slice_set a.registers (number_of r) k) q) (value_at (slice_set s.registers (number_of r) v) q)
-  written_at r q k v held =
+  register_at : (r q : Reg) (k : AbstractValue D) (v : Value) → IsValue Member mode places k v → IsValue Member mode places (abstract_at (slice_set a.registers (number_of r) k) q) (value_at (slice_set s.registers (number_of r) v) q)
+  register_at r q k v is =
       elim (cases_eq (number_of q) (number_of r)) [
         | inl same ↦
             let known_is : abstract_at (slice_set a.registers (number_of r) k) q ≡ k = get_or-set_at a.registers (number_of r) (number_of q) k known.Nothing same (omega (arith, in_eleven r, member.known_count)) in
             let value_is : value_at (slice_set s.registers (number_of r) v) q ≡ v = get_or-set_at s.registers (number_of r) (number_of q) v value.Nothing same (omega (arith, in_eleven r, member.count)) in
-            subst (λ (x : AbstractValue D). IsValue Member mode places x (value_at (slice_set s.registers (number_of r) v) q)) (sym known_is)
-            (subst (IsValue Member mode places k) (sym value_is) (held_value Member mode places k v held))
+            subst (λ (x : AbstractValue D). IsValue Member mode places x (value_at (slice_set s.registers (number_of r) v) q)) (sym known_is) (subst (IsValue Member mode places k) (sym value_is) is)
         | inr other ↦
             let known_is : abstract_at (slice_set a.registers (number_of r) k) q ≡ abstract_at a.registers q = get_or-set_other a.registers (number_of r) (number_of q) k known.Nothing other in
             let value_is : value_at (slice_set s.registers (number_of r) v) q ≡ value_at s.registers q = get_or-set_other s.registers (number_of r) (number_of q) v value.Nothing other in
@@ -69,16 +72,24 @@ module _ {D : Type 0} (Member : D → ℕ → Type 0) (mode : Mode) (places : Pl
       ]
 
   -- a register is written
-  pub member_written : (r : Reg) (k : AbstractValue D) (v : Value) (n : ℕ) → IsHeld Member places k v → IsMember Member mode places (with_value a r k) (record s { slot = n; registers = write_register s r v })
-  member_written r k v n held = record {
+  pub member_put : (r : Reg) (k : AbstractValue D) (v : Value) (n : ℕ) → IsValue Member mode places k v → IsMember Member mode places (with_value a r k) (record s { slot = n; registers = write_register s r v })
+  member_put r k v n is = record {
     anchored = member.anchored;
     reaches = member.reaches;
     known_count = length-set a.registers (number_of r) k ∙ member.known_count;
+    marks_count = member.marks_count;
     count = length-set s.registers (number_of r) v ∙ member.count;
-    registers = λ q. written_at r q k v held;
+    registers = λ q. register_at r q k v is;
     cells = member.cells;
     memory = member.memory;
   }
+
+  pub member_written : (r : Reg) (k : AbstractValue D) (v : Value) (n : ℕ) → IsHeld Member places k v → IsMember Member mode places (with_value a r k) (record s { slot = n; registers = write_register s r v })
+  member_written r k v n held = member_put r k v n (held_value Member mode places k v held)
+
+  -- it holds nothing
+  pub member_forgotten : (r : Reg) (n : ℕ) → IsMember Member mode places (with_value a r known.Nothing) (record s { slot = n; registers = write_register s r value.Nothing })
+  member_forgotten r n = member_put r known.Nothing value.Nothing n (λ e. refl)
 
   -- more is known of a register
   pub member_known : (r : Reg) (k : AbstractValue D) (n : ℕ) → IsHeld Member places k (value_at s.registers r) → IsMember Member mode places (with_value a r k) (record s { slot = n })
@@ -86,17 +97,25 @@ module _ {D : Type 0} (Member : D → ℕ → Type 0) (mode : Mode) (places : Pl
       subst (λ (registers : List Value). IsMember Member mode places (with_value a r k) (record s { slot = n; registers = registers })) (set-get_or s.registers (number_of r) value.Nothing)
       (member_written r k (value_at s.registers r) n held)
 
-  -- a jump changes no more than the slot
-  pub member_moved : (n : ℕ) → IsMember Member mode places a (record s { slot = n })
-  member_moved n = record {
+  -- slot and plan are nothing that is known
+  member_elsewhere : (n : ℕ) (p : Plan) → IsMember Member mode places a (record s { slot = n; plan = p })
+  member_elsewhere n p = record {
     anchored = member.anchored;
     reaches = member.reaches;
     known_count = member.known_count;
+    marks_count = member.marks_count;
     count = member.count;
     registers = member.registers;
     cells = member.cells;
     memory = member.memory;
   }
+
+  -- a jump changes no more than the slot
+  pub member_moved : (n : ℕ) → IsMember Member mode places a (record s { slot = n })
+  member_moved n = member_elsewhere n s.plan
+
+  pub member_planned : (p : Plan) → IsMember Member mode places a (record s { plan = p })
+  member_planned p = member_elsewhere s.slot p
 
   -- the datagram has a least length
   member_proved : (n : ℤ) (to : ℕ) → n ≤ℤ pos s.memory.length → IsMember Member mode places (with_length a n) (record s { slot = to })
@@ -104,6 +123,7 @@ module _ {D : Type 0} (Member : D → ℕ → Type 0) (mode : Mode) (places : Pl
     anchored = member.anchored;
     reaches = reaches_more n le;
     known_count = member.known_count;
+    marks_count = member.marks_count;
     count = member.count;
     registers = member.registers;
     cells = member.cells;
@@ -115,6 +135,74 @@ module _ {D : Type 0} (Member : D → ℕ → Type 0) (mode : Mode) (places : Pl
   pub member_least : (least : Option ℤ) (to : ℕ) → IsLeast least s.memory.length → IsMember Member mode places (with_least a least) (record s { slot = to })
   member_least None to le = member_moved to
   member_least (Some n) to le = member_proved n to le
+
+  -- ---- bytes are stored
+
+  -- the cells of the stack behind a store
+  stored_cell : (i n : ℕ) (bytes : List ℕ) → i + n ≤ 512 → length bytes ≡ n → (k : ℕ) → k < 512 → IsCell mode (is_marked (marked a.marks i n) k) (slice_index_or (put i (map Some bytes) s.memory.stack) k None)
+  stored_cell i n bytes le long k lt =
+      let cells : List (Option ℕ) = map (λ (b : ℕ). Some b) bytes in
+      let count : length cells ≡ n = length-map bytes (λ (b : ℕ). Some b) ∙ long in
+      elim (cases_lt k i) [
+        | inl before ↦
+            cell_same (marked_before n i k a.marks member.marks_count le before) (put_before i k cells s.memory.stack None before) (member.cells k lt)
+        | inr from ↦
+            elim (cases_lt k (i + n)) [
+              | inl within ↦
+                  let byte : slice_index_or (put i cells s.memory.stack) k None ≡ Some (get_or bytes (k - i) 0) =
+                  put_at i (k - i) k cells s.memory.stack None (omega (arith, from)) (omega (arith, count, within, from)) (omega (arith, count, le, member.memory.count))
+                  ∙ get_or-map (λ (b : ℕ). Some b) bytes (k - i) 0 None (omega (arith, long, within, from)) in
+                  set_cell (marked_at n i k a.marks member.marks_count le from within) (ap is_some byte)
+              | inr behind ↦
+                  cell_same (marked_behind n i k a.marks member.marks_count le behind) (put_behind i k cells s.memory.stack None (omega (arith, count, behind))) (member.cells k lt)
+            ]
+      ]
+
+  -- bytes are stored at a location that is known as a region
+  pub member_stored : (n : ℕ) (r : Region) (at : Location) (bytes : List ℕ) (to : ℕ) → IsRegionOf n r at → length bytes ≡ n → All (λ b. b < 256) bytes → IsMember Member mode places (with_region a n r) (record s { slot = to; memory = written_at s.memory at bytes })
+  member_stored n (regions.InStack i) (InStack j) bytes to is long fit =
+      subst (λ (k : ℕ). IsMember Member mode places (with_region a n (regions.InStack i)) (record s { slot = to; memory = written_at s.memory (InStack k) bytes })) is.0 (record {
+        anchored = member.anchored;
+        reaches = member.reaches;
+        known_count = member.known_count;
+        marks_count = length-marked n i a.marks ∙ member.marks_count;
+        count = member.count;
+        registers = member.registers;
+        cells = stored_cell i n bytes is.1 long;
+        memory = written_is_memory s.memory (InStack i) bytes member.memory fit;
+      })
+  member_stored n (regions.InStack i) (InBytes j) bytes to is long fit = absurd is
+  member_stored n regions.InBytes (InStack j) bytes to is long fit = absurd is
+  member_stored n regions.InBytes (InBytes j) bytes to is long fit = record {
+    anchored = member.anchored;
+    reaches = member.reaches;
+    known_count = member.known_count;
+    marks_count = member.marks_count;
+    count = member.count;
+    registers = member.registers;
+    cells = member.cells;
+    memory = written_is_memory s.memory (InBytes j) bytes member.memory fit;
+  }
+
+-- ---- a call
+
+module _ {D : Type 0} (Member : D → ℕ → Type 0) (mode : Mode) (places : Places) where
+  forget : (r : Reg) (a : AbsState D) (s : State) → IsMember Member mode places a s → IsMember Member mode places (with_value a r known.Nothing) (record s { registers = write_register s r value.Nothing })
+  forget r a s member = member_forgotten Member mode places a s member r s.slot
+
+  -- a call answers: r0 holds the number, and r1 to r5 nothing
+  pub member_called : (a : AbsState D) (s : State) (x : D) (n to : ℕ) → IsMember Member mode places a s → Member x n → IsMember Member mode places (with_answer a x) (record s { slot = to; registers = called s.registers n })
+  member_called a s x n to member is =
+      forget reg.R5 _ _ (forget reg.R4 _ _ (forget reg.R3 _ _ (forget reg.R2 _ _ (forget reg.R1 _ _
+      (member_written Member mode places a s member reg.R0 (known.Scalar x) (value.Scalar n) to (n, is, refl))))))
+
+  -- the record of an answer is written, if it is asked for
+  pub member_answered : (a : AbsState D) (s : State) (x : D) (to : ℕ) (out : Option ℕ) (answer : ℕ × AddressRecord) → IsMember Member mode places a s → Member x answer.0 → IfSome out (λ i. (i + 8 ≤ 512) × AreBytes 8 answer.1)
+      → IsMember Member mode places (with_out (with_answer a x) out) (answered s to out answer)
+  member_answered a s x to None answer member is room = member_called a s x answer.0 to member is
+  member_answered a s x to (Some i) answer member is room =
+      let behind : State = record s { slot = to; registers = called s.registers answer.0 } in
+      member_stored Member mode places (with_answer a x) behind (member_called a s x answer.0 to member is) 8 (regions.InStack i) (InStack i) answer.1 to (refl, room.0) room.1.count room.1.fit
 
 -- ---- the first state
 
@@ -161,13 +249,14 @@ first_member Member mode d fit = record {
   anchored = first_place;
   reaches = reaches_at_first Member (length d);
   known_count = refl;
+  marks_count = refl;
   count = refl;
   registers = first_registers_are Member mode d;
   cells = λ i lt. record {
     held = marked_is_not (is_marked no_marks i) (is_some (get_or empty_stack i None)) (unmarked i);
     no_other = λ e. nothing_set i lt ∙ sym (unmarked i);
   };
-  memory = record { count = length-empty_stack; cells = empty_cells; bytes = surrounded_fit d fit };
+  memory = start_is_memory d fit;
 }
 
 -- ---- members and loosenings

@@ -1,15 +1,23 @@
 -- Behind an accepted step, a loose step leads from each strict member to a member of the state of each branch that can be
 -- taken.
-use Rattle.std.proofs.Common.{◌≡◌, ℕ, ℤ, pos, ◌≤ℤ◌, List, Option, Some, Result, Ok, refl, sym, ap, ◌∙◌, subst, arith, inl, inr}
-use Rattle.std.specs.Prelude.{◌⊎◌, IsOk}
+use Rattle.std.proofs.Common.{◌≡◌, ℕ, ℤ, pos, ◌≤ℤ◌, List, Option, Some, None, Result, Ok, refl, sym, ap, ◌∙◌, subst, arith, inl, inr}
+use Rattle.std.specs.Prelude.{◌⊎◌, ◌+◌}
 use Rattle.std.proofs.lemmas.Int.{ints}
-use Rattle.insn.specs.Encoding.{Fits}
+use Rattle.insn.specs.Codes.{byte_count}
+use Rattle.insn.specs.Encoding.{Fits, slots_of}
+use Rattle.insn.specs.Endian.{little_bytes}
+use Rattle.insn.specs.declared.register.Reg.{Reg}
 use Rattle.insn.specs.declared.instruction.Insn.{Insn}
-use Rattle.semantics.specs.Machine.{State, Surroundings}
+use Rattle.semantics.specs.Access.{written_at}
+use Rattle.semantics.specs.ContextLaws.{little_bytes_fit, length-little_bytes}
+use Rattle.semantics.specs.Machine.{Memory, State, Surroundings}
 use Rattle.semantics.specs.Effects as effects
 use Rattle.semantics.specs.Slots.{fetch}
-use Rattle.semantics.specs.Runs.{StepResult, Goes, Exits, Sticks, AreReal, applied, step}
+use Rattle.semantics.specs.Runs.{Goes, AreReal, answered, plan_answer, with_window, with_destination, planned, applied, step, write_register}
+use Rattle.semantics.specs.declared.helper.Helper.TheVariants as helper
 use Rattle.semantics.specs.Flow.{flow_of, branch_slot}
+use Rattle.semantics.specs.Flow as flow
+use Rattle.semantics.specs.declared.value.Value.{Value}
 use Rattle.semantics.specs.LooseRuns.{Loosens, effect_of_branch, TakesBranch}
 use Rattle.semantics.specs.declared.reason.Reason.{Reason}
 use Rattle.semantics.specs.declared.fetching.Fetched.TheVariants.{Begins}
@@ -20,13 +28,18 @@ use Rattle.semantics.specs.declared.fetching.Branch.TheVariants.{NotTaken, Taken
 use Rattle.interval.specs.Domains.{Operations, AreSound, ArePrecise}
 use Rattle.absstate.specs.AbstractSteps as abstract
 use Rattle.absstate.specs.Membership.{Strict, Places, IsMember}
-use Rattle.absstate.specs.MemberSteps.{state_behind, Follows}
+use Rattle.absstate.specs.AbstractStates.{with_value, with_answer, with_out}
+use Rattle.absstate.specs.MemberSteps.{state_behind}
+use Rattle.absstate.specs.declared.abstract_state.AbstractValue.{AbstractValue}
+use Rattle.absstate.specs.declared.memory.Region.{Region}
+use Rattle.absstate.specs.declared.memory.Region.TheVariants as regions
 use Rattle.absstate.specs.declared.abstract_state.AbsState.{AbsState}
 use Rattle.absstate.specs.declared.abstract_step.Next.{Next}
 use Rattle.absstate.specs.declared.abstract_step.Next.TheVariants as next
-use Rattle.absstate.specs.StepLaws.Members.{loosens_itself}
+use Rattle.absstate.specs.StepLaws.Members.{member_written, member_moved, member_stored, members_loosen, loosens_itself}
+use Rattle.absstate.specs.StepLaws.Results.{IsResult}
 use Rattle.absstate.specs.StepLaws.Simulation.{IsEffectOf, Forks}
-use Rattle.absstate.specs.StepLaws.Following.{accepted_agree, branch_goes, steps_follow}
+use Rattle.absstate.specs.StepLaws.Following.{accepted_agree, step_is, straight_leads, jump_goes, branch_goes, size_written, size_answered, small_answer, asked_member, planned_member}
 
 -- the state that a step or a branch leads to, and its loosening, a strict member
 pub record Opens {D : Type 0} (Member : D → ℕ → Type 0) (w : Surroundings) (code : List Insn) (places : Places) (s : State) (slot : ℕ) (b : AbsState D) : Type 0 where
@@ -35,7 +48,7 @@ pub record Opens {D : Type 0} (Member : D → ℕ → Type 0) (w : Surroundings)
   pub loosened : State
   pub loosens : Loosens state loosened
   pub slot_is : loosened.slot ≡ slot
-  pub memory : loosened.memory ≡ s.memory
+  pub size : loosened.memory.length ≡ s.memory.length
   pub member : IsMember Member Strict places b loosened
 
 same_state : {D : Type 0} (x y : AbsState D) → ◌≡◌ {A = Option (AbsState D)} (Some x) (Some y) → x ≡ y
@@ -44,6 +57,14 @@ same_state x y e = cc
 same_slot : (m n : ℕ) → ◌≡◌ {A = Result ℕ Reason} (Ok m) (Ok n) → m ≡ n
 same_slot m n e = cc
 
+region_proved : {D : Type 0} (a : AbsState D) (n : ℕ) (r : Region) → a.proved ≡ (abstract.with_region a n r).proved
+region_proved a n (regions.InStack i) = refl
+region_proved a n regions.InBytes = refl
+
+out_proved : {D : Type 0} (a : AbsState D) (x : D) (out : Option ℕ) → a.proved ≡ (with_out (with_answer a x) out).proved
+out_proved a x None = refl
+out_proved a x (Some i) = refl
+
 at_most : (x y : ℤ) → x ≡ y → x ≤ℤ y
 at_most x y e = omega (arith, ints)
 
@@ -51,34 +72,68 @@ module _ {D : Type 0} (ops : Operations D) (Member : D → ℕ → Type 0) (soun
   effect_rises : (answer : Next D) (e : Effect) → IsEffectOf ops Member sound Strict places a s i answer e → (branch : Branch) (b : AbsState D) → state_behind answer branch ≡ Some b → a.proved ≤ℤ b.proved
   effect_rises (next.On c) (effect.Write r v) is NotTaken b e = at_most a.proved b.proved (sym (ap (λ (x : AbsState D). x.proved) is.1) ∙ ap (λ (x : AbsState D). x.proved) (same_state c b e))
   effect_rises (next.On c) (effect.Jump offset) is NotTaken b e = at_most a.proved b.proved (sym (ap (λ (x : AbsState D). x.proved) is.0) ∙ ap (λ (x : AbsState D). x.proved) (same_state c b e))
+  effect_rises (next.On c) (effect.Store at z n) is NotTaken b e = at_most a.proved b.proved (region_proved a (byte_count z) is.0 ∙ sym (ap (λ (x : AbsState D). x.proved) is.1) ∙ ap (λ (x : AbsState D). x.proved) (same_state c b e))
+  effect_rises (next.On c) (effect.Ask q out) is NotTaken b e = at_most a.proved b.proved (out_proved a (ops.range 0 (abstract.greatest_answer is.asked)) out ∙ sym (ap (λ (x : AbsState D). x.proved) is.behind) ∙ ap (λ (x : AbsState D). x.proved) (same_state c b e))
+  effect_rises (next.On c) (effect.SetWindow window) is NotTaken b e = at_most a.proved b.proved (sym (ap (λ (x : AbsState D). x.proved) is.0) ∙ ap (λ (x : AbsState D). x.proved) (same_state c b e))
+  effect_rises (next.On c) (effect.SetDestination destination) is NotTaken b e = at_most a.proved b.proved (sym (ap (λ (x : AbsState D). x.proved) is.0) ∙ ap (λ (x : AbsState D). x.proved) (same_state c b e))
   effect_rises (next.On c) effect.Pass is NotTaken b e = absurd is
   effect_rises (next.On c) (effect.Exit verdict) is NotTaken b e = absurd is
   effect_rises (next.On c) o is Taken b e = absurd cc
   effect_rises (next.Fork not_taken taken) o f branch b e = f.rises branch b e
   effect_rises next.Exit o is branch b e = absurd cc
 
-  module _ (answer : Next D) (is : abstract.step ops a i ≡ Ok answer) where
+  module _ (real : AreReal w) (answer : Next D) (is : abstract.step ops a i ≡ Ok answer) where
     -- behind an accepted step, no less is proved of the datagram's length
     pub step_rises : (branch : Branch) (b : AbsState D) → state_behind answer branch ≡ Some b → a.proved ≤ℤ b.proved
-    step_rises branch b e = let agree = accepted_agree ops Member sound Strict places a s member w.context i fit answer is in effect_rises answer agree.0 agree.2 branch b e
+    step_rises branch b e = let agree = accepted_agree ops Member sound Strict places a s member w.context real.context i fit answer is in effect_rises answer agree.0 agree.2 branch b e
 
-  module _ (precise : ArePrecise ops Member) (real : AreReal w) (here : fetch code s.slot ≡ Begins i) (good : (branch : Branch) → IsOk (branch_slot code s.slot i branch)) where
+  module _ (precise : ArePrecise ops Member) (real : AreReal w) (here : fetch code s.slot ≡ Begins i) where
     -- the one state behind an instruction that doesn't fork
-    goes_on : (c b : AbsState D) (n : ℕ) → c ≡ b → branch_slot code s.slot i NotTaken ≡ Ok n → (r : StepResult) → step w code s ≡ r → Follows Member w code Strict places s i (next.On c) r → Opens Member w code places s n b
-    goes_on c b n same leads (Goes t) e (NotTaken, taken, behind) =
-        let now : IsMember Member Strict places b t = subst (λ (x : AbsState D). IsMember Member Strict places x t) same behind.member in
-        record {
-          state = t;
-          goes = inl e;
-          loosened = t;
-          loosens = loosens_itself Member sound.words places b t now;
-          slot_is = same_slot t.slot n (sym behind.leads ∙ leads);
-          memory = behind.memory;
-          member = now;
-        }
-    goes_on c b n same leads (Goes t) e (Taken, taken, behind) = absurd behind
-    goes_on c b n same leads (Exits verdict) e follows = absurd follows
-    goes_on c b n same leads (Sticks reason slot) e follows = absurd follows
+    straight_slot : (n : ℕ) → flow_of i ≡ flow.Straight → branch_slot code s.slot i NotTaken ≡ Ok n → s.slot + slots_of i ≡ n
+    straight_slot n past leads = same_slot (s.slot + slots_of i) n (sym (straight_leads code s.slot i NotTaken past) ∙ leads)
+
+    module _ (b : AbsState D) (n : ℕ) (leads : branch_slot code s.slot i NotTaken ≡ Ok n) where
+      opens_to : (t loosened : State) → step w code s ≡ Goes t → Loosens t loosened → loosened.slot ≡ n → loosened.memory.length ≡ s.memory.length → IsMember Member Strict places b loosened → Opens Member w code places s n b
+      opens_to t loosened goes loosens slot_is size now = record { state = t; goes = inl goes; loosened = loosened; loosens = loosens; slot_is = slot_is; size = size; member = now }
+
+      -- a register is written: where the datagram is too long for what is known, its number is replaced
+      write_opens : (r : Reg) (v : Value) (k : AbstractValue D) → b ≡ with_value a r k → IsResult Member places s.memory.length k v → flow_of i ≡ flow.Straight
+          → step w code s ≡ Goes (record s { slot = s.slot + slots_of i; registers = write_register s r v }) → Opens Member w code places s n b
+      write_opens r v k is result past goes =
+          let to : ℕ = s.slot + slots_of i in
+          let written : State = record s { slot = to; registers = write_register s r v } in
+          let like : State = record s { slot = to; registers = write_register s r result.like } in
+          opens_to written like goes
+          (members_loosen Member sound.words places (with_value a r result.wide) written like
+          (member_written Member Strict places a s member r result.wide v to result.wide_held)
+          (member_written Member Strict places a s member r result.wide result.like to result.wide_like) refl refl refl)
+          (straight_slot n past leads) refl
+          (subst (λ (x : AbsState D). IsMember Member Strict places x like) (sym is) (member_written Member Strict places a s member r k result.like to result.like_held))
+
+      itself : (t : State) → step w code s ≡ Goes t → t.slot ≡ n → t.memory.length ≡ s.memory.length → IsMember Member Strict places b t → Opens Member w code places s n b
+      itself t goes slot_is size now = opens_to t t goes (loosens_itself Member sound.words places b t now) slot_is size now
+
+      effect_opens : (e : Effect) → IsEffectOf ops Member sound Strict places a s i (next.On b) e → step w code s ≡ applied w code s i (Ok e) → Opens Member w code places s n b
+      effect_opens (effect.Write r v) is goes = write_opens r v is.0 is.1 is.2 is.3 goes
+      effect_opens (effect.Store at z k) is goes =
+          let bytes = little_bytes (byte_count z) k in
+          itself (record s { slot = s.slot + slots_of i; memory = written_at s.memory at bytes }) goes (straight_slot n is.3 leads) (size_written s.memory at bytes)
+          (subst (λ (x : AbsState D). IsMember Member Strict places x (record s { slot = s.slot + slots_of i; memory = written_at s.memory at bytes })) (sym is.1)
+          (member_stored Member Strict places a s member (byte_count z) is.0 at bytes (s.slot + slots_of i) is.2 (length-little_bytes (byte_count z) k) (little_bytes_fit (byte_count z) k)))
+      effect_opens (effect.Ask q out) is goes =
+          let answer = w.answer q.helper q.number q.address in
+          itself (answered s (s.slot + slots_of i) out answer) goes (straight_slot n is.past leads) (size_answered s.memory out answer.1) (asked_member ops Member sound w code Strict places a s member i real b q out is)
+      effect_opens (effect.SetWindow window) is goes =
+          itself (planned s (s.slot + slots_of i) (plan_answer window) (with_window s.plan window)) goes (straight_slot n is.1 leads) refl
+          (planned_member ops Member sound Strict places a s member i b helper.Window (plan_answer window) (with_window s.plan window) is.0 (small_answer window) refl)
+      effect_opens (effect.SetDestination destination) is goes =
+          itself (planned s (s.slot + slots_of i) (plan_answer destination) (with_destination s.plan destination)) goes (straight_slot n is.1 leads) refl
+          (planned_member ops Member sound Strict places a s member i b helper.Destination (plan_answer destination) (with_destination s.plan destination) is.0 (small_answer destination) refl)
+      effect_opens (effect.Jump offset) is goes =
+          itself (record s { slot = n }) (goes ∙ jump_goes w code s i offset NotTaken n is.1 leads) refl refl
+          (subst (λ (x : AbsState D). IsMember Member Strict places x (record s { slot = n })) (sym is.0) (member_moved Member Strict places a s member n))
+      effect_opens effect.Pass is goes = absurd is
+      effect_opens (effect.Exit verdict) is goes = absurd is
 
     fork_opens : (not_taken taken : Option (AbsState D)) (e : Effect) → effects.effect w.context s.memory s.registers i ≡ Ok e → Forks ops Member sound Strict places a s i not_taken taken e
         → (branch : Branch) (b : AbsState D) (n : ℕ) → state_behind (next.Fork not_taken taken) branch ≡ Some b → branch_slot code s.slot i branch ≡ Ok n → b.proved ≤ℤ pos s.memory.length → Opens Member w code places s n b
@@ -106,14 +161,16 @@ module _ {D : Type 0} (ops : Operations D) (Member : D → ℕ → Type 0) (soun
           loosened = opened.state;
           loosens = opened.loosens;
           slot_is = opened.loosens.slot;
-          memory = opened.memory;
+          size = ap (λ (m : Memory). m.length) opened.memory;
           member = opened.member;
         }
 
     pub step_opens : (answer : Next D) → abstract.step ops a i ≡ Ok answer → (branch : Branch) (b : AbsState D) (n : ℕ) → state_behind answer branch ≡ Some b → branch_slot code s.slot i branch ≡ Ok n → b.proved ≤ℤ pos s.memory.length → Opens Member w code places s n b
-    step_opens (next.On c) is NotTaken b n e leads le = goes_on c b n (same_state c b e) leads (step w code s) refl (steps_follow ops Member sound a i fit (next.On c) is w code Strict places s real here good member)
+    step_opens (next.On c) is NotTaken b n e leads le =
+        let agree = accepted_agree ops Member sound Strict places a s member w.context real.context i fit (next.On c) is in
+        effect_opens b n leads agree.0 (subst (λ (x : AbsState D). IsEffectOf ops Member sound Strict places a s i (next.On x) agree.0) (same_state c b e) agree.2) (step_is w code s i (Ok agree.0) here agree.1)
     step_opens (next.On c) is Taken b n e leads le = absurd cc
     step_opens (next.Fork not_taken taken) is branch b n e leads le =
-        let agree = accepted_agree ops Member sound Strict places a s member w.context i fit (next.Fork not_taken taken) is in
+        let agree = accepted_agree ops Member sound Strict places a s member w.context real.context i fit (next.Fork not_taken taken) is in
         fork_opens not_taken taken agree.0 agree.1 agree.2 branch b n e leads le
     step_opens next.Exit is branch b n e leads le = absurd cc

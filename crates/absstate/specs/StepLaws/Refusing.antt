@@ -17,7 +17,8 @@ use Rattle.insn.specs.declared.instruction.Operand.TheVariants as operand
 use Rattle.insn.specs.declared.instruction.Insn.{Insn}
 use Rattle.insn.specs.declared.instruction.Insn.TheVariants as insn
 use Rattle.semantics.specs.Fallible.{◌>>=◌}
-use Rattle.semantics.specs.Machine.{Context, Memory, State}
+use Rattle.semantics.specs.KeptLaws.{in_eleven}
+use Rattle.semantics.specs.Machine.{Context, IsContext, Memory, State}
 use Rattle.semantics.specs.Effects as effects
 use Rattle.semantics.specs.Effects.{is_near, near_place, moved_place, writable}
 use Rattle.semantics.specs.LooseRuns.{Loosens}
@@ -37,8 +38,8 @@ use Rattle.absstate.specs.declared.abstract_state.AbsState.{AbsState}
 use Rattle.absstate.specs.declared.abstract_step.Next.{Next}
 use Rattle.absstate.specs.StepLaws.Agreement.{Agree}
 use Rattle.absstate.specs.StepLaws.Bounds.{le_of}
-use Rattle.absstate.specs.StepLaws.LoadValues.{first_of_and, rest_of_and}
-use Rattle.absstate.specs.StepLaws.Members.{in_eleven, loosens_itself}
+use Rattle.absstate.specs.StepLaws.MemoryValues.{first_of_and, rest_of_and}
+use Rattle.absstate.specs.StepLaws.Members.{loosens_itself}
 use Rattle.absstate.specs.StepLaws.Simulation.{StraysBy, Strays, strays_same, single_strays, replaced, IsEffectOf, AreClaims, steps_agree}
 
 -- ---- a number that leads a pointer out of range
@@ -239,7 +240,7 @@ module _ {D : Type 0} (ops : Operations D) (Member : D → ℕ → Type 0) (soun
   pub record IsStuckFrom (s : State) (i : Insn) (reason : Reason) : Type 0 where
     pub state : State
     pub loosens : Loosens s state
-    pub stuck : (c : Context) → effects.effect c state.memory state.registers i ≡ Err reason
+    pub stuck : (c : Context) → IsContext c → effects.effect c state.memory state.registers i ≡ Err reason
 
   pub refusal_is_real : (places : Places) (a : AbsState D) (s : State) → IsMember Member Strict places a s → (i : Insn) → Fits i → (reason : Reason) → abstract.step ops a i ≡ Err reason → pos s.memory.length ≡ a.proved → IsStuckFrom s i reason
   refusal_is_real places a s member i fit reason is size =
@@ -254,7 +255,7 @@ module _ {D : Type 0} (ops : Operations D) (Member : D → ℕ → Type 0) (soun
       record {
         state = f.state;
         loosens = f.loosens;
-        stuck = λ c.
+        stuck = λ c real.
             refused (λ e. e ≡ reason) (IsEffectOf ops Member sound Strict places f.around f.state i) (abstract.step ops f.around i) (effects.effect c f.state.memory f.state.registers i) reason
-            (steps_agree ops Member sound (λ e. e ≡ reason) Strict places f.around f.state f.member c i fit claims) f.refused refl;
+            (steps_agree ops Member sound (λ e. e ≡ reason) Strict places f.around f.state f.member c real i fit claims) f.refused refl;
       }

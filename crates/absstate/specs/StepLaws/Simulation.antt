@@ -1,9 +1,10 @@
 -- The abstract step of an instruction agrees with the machine's step at each member, over any sound domain.
-use Rattle.std.proofs.Common.{◌≡◌, ℕ, ◌-◌, ◌<◌, ◌^◌, Bool, true, false, ℤ, pos, negsuc, ◌+ℤ◌, ◌≤ℤ◌, ◌<ℤ◌, Option, Some, None, Result, Ok, Err, refl, sym, ap, ◌∙◌, subst, arith}
-use Rattle.std.specs.Prelude.{FitsSigned, int_lt, not, ◌==◌, if◌then◌else◌}
+use Rattle.std.proofs.Common.{◌≡◌, ℕ, ◌-◌, ◌<◌, ◌^◌, Bool, true, false, ℤ, pos, ◌+ℤ◌, ◌≤ℤ◌, ◌<ℤ◌, Option, Some, None, Result, Ok, Err, refl, sym, ap, ◌∙◌, subst, arith}
+use Rattle.std.specs.Prelude.{int_lt, not, ◌==◌, ◌+◌, ◌≤◌, IfSome, if◌then◌else◌}
+use Rattle.std.specs.Option.{ok_or}
 use Rattle.std.proofs.lemmas.Bool.{cond_both, eqb-true}
 use Rattle.insn.specs.Register.{number_of}
-use Rattle.std.specs.Int.{w32, w64, cast_unsigned}
+use Rattle.std.specs.Int.{w64, cast_unsigned}
 use Rattle.std.proofs.lemmas.Int.{ints}
 use Rattle.insn.specs.Codes.{byte_count, unsigned_size}
 use Rattle.insn.specs.Encoding.{OperandFits, Fits}
@@ -25,16 +26,23 @@ use Rattle.insn.specs.declared.instruction.Operand.TheVariants as operand
 use Rattle.insn.specs.declared.instruction.Insn.{Insn}
 use Rattle.insn.specs.declared.instruction.Insn.TheVariants as insn
 use Rattle.semantics.specs.Fallible.{◌>>=◌}
-use Rattle.semantics.specs.Machine.{Context, State}
+use Rattle.semantics.specs.Access.{index_within, stack_first, location}
+use Rattle.semantics.specs.AccessLaws.{index_short}
+use Rattle.semantics.specs.Calls.{helper_of, helper_number, context_value, number_value, stack_value, record_at, question, no_address}
+use Rattle.semantics.specs.NumberLaws.{imm_word, no_address_bytes}
+use Rattle.semantics.specs.Machine.{AddressRecord, AreBytes, Context, IsContext, State}
+use Rattle.semantics.specs.declared.helper.Helper.{Helper}
+use Rattle.semantics.specs.declared.helper.Helper.TheVariants as helper
+use Rattle.semantics.specs.declared.helper.Question.{Question}
 use Rattle.semantics.specs.Effects as effects
 use Rattle.semantics.specs.Loading as loading
 use Rattle.semantics.specs.Effects.{value_at, moved_place, writable}
-use Rattle.semantics.specs.Runs.{write_register}
+use Rattle.semantics.specs.Runs.{IsLawful, write_register}
 use Rattle.semantics.specs.Flow.{Straight, Jumps, flow_of}
 use Rattle.semantics.specs.LooseRuns.{Bound, Loosens, data_bound, exchanged, bound_of, effect_of_branch, HoldsOf}
 use Rattle.semantics.specs.declared.limits.TheConstants.{TAILROOM}
 use Rattle.semantics.specs.declared.reason.Reason.{Reason}
-use Rattle.semantics.specs.declared.reason.Reason.TheVariants.{UninitRegister, UninitStack, DatagramBounds, PointerArithmetic}
+use Rattle.semantics.specs.declared.reason.Reason.TheVariants.{UninitRegister, UninitStack, DatagramBounds, PointerArithmetic, UnknownHelper, HelperArgument}
 use Rattle.semantics.specs.declared.value.Value.{Value}
 use Rattle.semantics.specs.declared.value.Value.TheVariants as value
 use Rattle.semantics.specs.declared.effect.Effect.{Effect}
@@ -47,24 +55,22 @@ use Rattle.interval.specs.declared.domain.Test.TheVariants.{Holds, Fails}
 use Rattle.absstate.specs.AbstractStates.{abstract_at, with_value, with_least}
 use Rattle.absstate.specs.MemberSteps.{state_behind}
 use Rattle.absstate.specs.AbstractSteps as abstract
+use Rattle.absstate.specs.AbstractSteps.{located, readable}
+use Rattle.semantics.specs.Loading.{read_number}
 use Rattle.absstate.specs.Membership.{Mode, Strict, Places, IsNumberOf, IsHeld, IsValue, IsMember, value_of}
 use Rattle.absstate.specs.declared.abstract_state.Anchor.TheVariants.{First}
 use Rattle.absstate.specs.declared.abstract_state.AbstractValue.{AbstractValue}
 use Rattle.absstate.specs.declared.abstract_state.AbstractValue.TheVariants as known
 use Rattle.absstate.specs.declared.abstract_state.AbsState.{AbsState}
 use Rattle.absstate.specs.declared.branching.Implied.{Implied}
+use Rattle.absstate.specs.declared.memory.Region.{Region}
 use Rattle.absstate.specs.declared.abstract_step.Next.{Next}
 use Rattle.absstate.specs.declared.abstract_step.Next.TheVariants as next
 use Rattle.absstate.specs.StepLaws.Agreement.{Agree, refused_alike, and_then, same_test}
 use Rattle.absstate.specs.StepLaws.Bounds.{lt_of, not_lt, IsLeast, Implies, branch_if, first_agree, second_agree, least_from_bound, bound_from_least}
-use Rattle.absstate.specs.StepLaws.LoadValues.{IsRead, fields_agree, stack_agrees, datagram_agrees, tailroom_agrees}
+use Rattle.absstate.specs.StepLaws.MemoryValues.{IsRegionOf, IsRead, stack_located, datagram_located, tailroom_located, region_read, record_read}
 use Rattle.absstate.specs.StepLaws.Members.{member_written, member_known, member_moved, member_least, members_loosen, loosens_itself}
-
--- ---- words
-
-imm_word : (z : ℤ) → FitsSigned w32 z → cast_unsigned w64 z < 2 ^ 64
-imm_word (pos n) fit = omega (arith, ints)
-imm_word (negsuc n) fit = omega (arith, ints)
+use Rattle.absstate.specs.StepLaws.Results.{IsResult, held_results, fields_agree}
 
 no_scalar : (n : ℕ) → value.Scalar n ≡ value.Nothing → ⊥
 no_scalar n e = absurd cc
@@ -449,15 +455,31 @@ module _ {D : Type 0} (ops : Operations D) (Member : D → ℕ → Type 0) (soun
 
   -- ---- what follows
 
+  -- a question to lawful helpers: the answer lies within its bound, and the record that is written has eight bytes
+  pub record IsAsked (a : AbsState D) (i : Insn) (b : AbsState D) (q : Question) (out : Option ℕ) : Type 0 where
+    pub asked : Helper
+    pub behind : b ≡ abstract.answered ops a asked out
+    pub past : GoesPast i
+    pub room : IfSome out (λ j. j + 8 ≤ 512)
+    pub lawful : (answer : ℕ → ℕ → AddressRecord → ℕ × AddressRecord) → IsLawful answer → ((answer q.helper q.number q.address).0 ≤ abstract.greatest_answer asked) × IfSome out (λ j. AreBytes 8 (answer q.helper q.number q.address).1)
+
   -- the effect of an instruction, and the abstract state after it
   abbrev pub IsEffectOf : Mode → Places → AbsState D → State → Insn → Next D → Effect → Type 0
-  IsEffectOf mode places a s i (next.On b) (effect.Write r v) = (known : AbstractValue D) × (b ≡ with_value a r known) × IsHeld Member places known v × GoesPast i
+  IsEffectOf mode places a s i (next.On b) (effect.Write r v) = (known : AbstractValue D) × (b ≡ with_value a r known) × IsResult Member places s.memory.length known v × GoesPast i
+  IsEffectOf mode places a s i (next.On b) (effect.Store at z n) = (r : Region) × (b ≡ abstract.with_region a (byte_count z) r) × IsRegionOf (byte_count z) r at × GoesPast i
+  IsEffectOf mode places a s i (next.On b) (effect.Ask q out) = IsAsked a i b q out
+  IsEffectOf mode places a s i (next.On b) (effect.SetWindow window) = (b ≡ abstract.answered ops a helper.Window None) × GoesPast i
+  IsEffectOf mode places a s i (next.On b) (effect.SetDestination destination) = (b ≡ abstract.answered ops a helper.Destination None) × GoesPast i
   IsEffectOf mode places a s i (next.On b) (effect.Jump offset) = (b ≡ a) × (flow_of i ≡ Jumps offset)
   IsEffectOf mode places a s i (next.On b) effect.Pass = ⊥
   IsEffectOf mode places a s i (next.On b) (effect.Exit verdict) = ⊥
   IsEffectOf mode places a s i (next.Fork not_taken taken) e = Forks mode places a s i not_taken taken e
   IsEffectOf mode places a s i next.Exit (effect.Exit verdict) = Unit {0}
   IsEffectOf mode places a s i next.Exit (effect.Write r v) = ⊥
+  IsEffectOf mode places a s i next.Exit (effect.Store at z n) = ⊥
+  IsEffectOf mode places a s i next.Exit (effect.Ask q out) = ⊥
+  IsEffectOf mode places a s i next.Exit (effect.SetWindow window) = ⊥
+  IsEffectOf mode places a s i next.Exit (effect.SetDestination destination) = ⊥
   IsEffectOf mode places a s i next.Exit (effect.Jump offset) = ⊥
   IsEffectOf mode places a s i next.Exit effect.Pass = ⊥
 
@@ -488,10 +510,13 @@ module _ {D : Type 0} (ops : Operations D) (Member : D → ℕ → Type 0) (soun
         (single_strays op w x (ops.exact (cast_unsigned w64 n)) (cast_unsigned w64 n) (claims.exact c (cast_unsigned w64 n) (imm_word n fit)) u v)
 
     -- a result is written
-    written_agrees : (i : Insn) (dst : Reg) (r : Result (AbstractValue D) Reason) (r' : Result Value Reason) → GoesPast i → Agree claimed (IsHeld Member places) r r' → Agree claimed (IsEffectOf mode places a s i) (abstract.written a dst r) (effects.written dst r')
-    written_agrees i dst r r' past agree =
+    result_written : (i : Insn) (dst : Reg) (r : Result (AbstractValue D) Reason) (r' : Result Value Reason) → GoesPast i → Agree claimed (IsResult Member places s.memory.length) r r' → Agree claimed (IsEffectOf mode places a s i) (abstract.written a dst r) (effects.written dst r')
+    result_written i dst r r' past agree =
         same_test claimed (IsEffectOf mode places a s i) (writable dst) _ _
-        (and_then claimed (IsHeld Member places) (IsEffectOf mode places a s i) r r' _ _ agree (λ k v p q held. (k, refl, held, past)))
+        (and_then claimed (IsResult Member places s.memory.length) (IsEffectOf mode places a s i) r r' _ _ agree (λ k v p q result. (k, refl, result, past)))
+
+    written_agrees : (i : Insn) (dst : Reg) (r : Result (AbstractValue D) Reason) (r' : Result Value Reason) → GoesPast i → Agree claimed (IsHeld Member places) r r' → Agree claimed (IsEffectOf mode places a s i) (abstract.written a dst r) (effects.written dst r')
+    written_agrees i dst r r' past agree = result_written i dst r r' past (held_results claimed Member places s.memory.length r r' agree)
 
     alu_agrees : (w : Width) (op : AluOp) (dst : Reg) (o : Operand) → OperandFits o → AreClaims claimed mode a s (insn.Alu w op dst o)
         → Agree claimed (IsEffectOf mode places a s (insn.Alu w op dst o)) (abstract.alu_step ops a w op dst o) (effects.alu_effect s.registers w op dst o)
@@ -549,18 +574,26 @@ module _ {D : Type 0} (ops : Operations D) (Member : D → ℕ → Type 0) (soun
         (operand_agrees claimed mode places claims.registers a s member o fit)
         (λ y v p' q' held_y. fork_held w c dst o offset x y u v held_x held_y q q'))
 
-    -- ---- loads and the end
+    -- ---- memory
+
+    locations_agree : (x : AbstractValue D) (m : ℕ) (d : ℤ) (n : ℕ) (i : Insn) → IsNumberOf Member x m → AreClaims claimed mode a s i
+        → Agree claimed (IsRegionOf n) (abstract.located a x d n) (location s.memory.length (value_of places x m) d n)
+    unfolding located
+    locations_agree known.Nothing m d n i h claims = λ c. refl
+    locations_agree (known.Scalar k) m d n i h claims = λ c. refl
+    locations_agree known.Ctx m d n i h claims = λ c. refl
+    locations_agree (known.Stack k) m d n i h claims = stack_located claimed (k +ℤ d) n
+    locations_agree (known.Data First k) m d n i h claims =
+        datagram_located claimed s.memory.length a.proved (reach_is (places First) a.proved (pos s.memory.length) first (member.reaches First)) claims.bounds (k +ℤ d) ((places First +ℤ k) +ℤ d) n
+        (ap (λ (p : ℤ). p +ℤ d) (from_first (places First) k first))
+    locations_agree known.End m d n i h claims = subst (λ (z : ℤ). Agree claimed (IsRegionOf n) (abstract.in_bytes z n (pos 0) (pos TAILROOM)) (location s.memory.length value.End d n)) (zero_more d) (tailroom_located claimed s.memory.length d n)
 
     reads_agree : (x : AbstractValue D) (m : ℕ) (d : ℤ) (n : ℕ) (i : Insn) → IsNumberOf Member x m → AreClaims claimed mode a s i
         → Agree claimed (IsRead n) (abstract.readable a x d n) (loading.read_number s.memory (value_of places x m) d n)
-    reads_agree known.Nothing m d n i h claims = λ c. refl
-    reads_agree (known.Scalar k) m d n i h claims = λ c. refl
-    reads_agree known.Ctx m d n i h claims = λ c. refl
-    reads_agree (known.Stack k) m d n i h claims = stack_agrees claimed mode places claims.cells a.marks s.memory.stack member.memory.count member.cells member.memory.cells (k +ℤ d) n
-    reads_agree (known.Data First k) m d n i h claims =
-        datagram_agrees claimed mode places s.memory.bytes s.memory.length a.proved member.memory.bytes (reach_is (places First) a.proved (pos s.memory.length) first (member.reaches First)) claims.bounds (k +ℤ d) ((places First +ℤ k) +ℤ d) n
-        (ap (λ (p : ℤ). p +ℤ d) (from_first (places First) k first))
-    reads_agree known.End m d n i h claims = subst (λ (z : ℤ). Agree claimed (IsRead n) (abstract.bytes_readable z n (pos 0) (pos TAILROOM)) (loading.read_number s.memory value.End d n)) (zero_more d) (tailroom_agrees claimed mode places s.memory.bytes s.memory.length member.memory.bytes d n)
+    unfolding readable read_number
+    reads_agree x m d n i h claims =
+        and_then claimed (IsRegionOf n) (IsRead n) (abstract.located a x d n) (location s.memory.length (value_of places x m) d n) _ _ (locations_agree x m d n i h claims)
+        (λ r at p q is. region_read claimed mode claims.cells a.marks s.memory member.memory member.cells n r at is)
 
     -- what is known of the number that is read has it as a member, extended or not
     numbers_agree : (extend : ℕ → ℕ) (number : D) (x : AbstractValue D) (m : ℕ) (d : ℤ) (n : ℕ) (i : Insn) → ((k : ℕ) → k < 256 ^ n → Member number (extend k)) → IsNumberOf Member x m → AreClaims claimed mode a s i
@@ -572,28 +605,183 @@ module _ {D : Type 0} (ops : Operations D) (Member : D → ℕ → Type 0) (soun
     of_size : (z : Size) (k : ℕ) → k < 256 ^ byte_count z → Member (abstract.number_of_size ops z) k
     of_size z k small = sound.range 0 (256 ^ byte_count z - 1) k (size_fits z) (omega arith) (omega (arith, small))
 
-    load_agrees : (x : AbstractValue D) (m : ℕ) (d : ℤ) (z : Size) (i : Insn) → IsNumberOf Member x m → AreClaims claimed mode a s i
-        → Agree claimed (IsHeld Member places) (abstract.load ops a x d z) (loading.load s.memory (value_of places x m) d z)
-    load_agrees known.Ctx m d z i h claims = fields_agree claimed mode places Member first d z
-    load_agrees known.Nothing m d z i h claims = numbers_agree (λ k. k) (abstract.number_of_size ops z) known.Nothing m d (byte_count z) i (of_size z) h claims
-    load_agrees (known.Scalar n) m d z i h claims = numbers_agree (λ k. k) (abstract.number_of_size ops z) (known.Scalar n) m d (byte_count z) i (of_size z) h claims
-    load_agrees (known.Stack k) m d z i h claims = numbers_agree (λ k. k) (abstract.number_of_size ops z) (known.Stack k) m d (byte_count z) i (of_size z) h claims
-    load_agrees (known.Data anchor k) m d z i h claims = numbers_agree (λ k. k) (abstract.number_of_size ops z) (known.Data anchor k) m d (byte_count z) i (of_size z) h claims
-    load_agrees known.End m d z i h claims = numbers_agree (λ k. k) (abstract.number_of_size ops z) known.End m d (byte_count z) i (of_size z) h claims
+    number_agrees : (x : AbstractValue D) (m : ℕ) (d : ℤ) (z : Size) (i : Insn) → IsNumberOf Member x m → AreClaims claimed mode a s i
+        → Agree claimed (IsResult Member places s.memory.length) (abstract.load_number a x d (byte_count z) (abstract.number_of_size ops z)) (loading.read_number s.memory (value_of places x m) d (byte_count z) >>= λ k. Ok (value.Scalar k))
+    number_agrees x m d z i h claims =
+        held_results claimed Member places s.memory.length (abstract.load_number a x d (byte_count z) (abstract.number_of_size ops z)) _
+        (numbers_agree (λ k. k) (abstract.number_of_size ops z) x m d (byte_count z) i (of_size z) h claims)
+
+    load_agrees : (c : Context) → IsContext c → (x : AbstractValue D) (m : ℕ) (d : ℤ) (z : Size) (i : Insn) → IsNumberOf Member x m → AreClaims claimed mode a s i
+        → Agree claimed (IsResult Member places s.memory.length) (abstract.load ops a x d z) (loading.load c s.memory (value_of places x m) d z)
+    load_agrees c real known.Ctx m d z i h claims = fields_agree ops Member sound claimed places first c real s.memory.length d z
+    load_agrees c real known.Nothing m d z i h claims = number_agrees known.Nothing m d z i h claims
+    load_agrees c real (known.Scalar n) m d z i h claims = number_agrees (known.Scalar n) m d z i h claims
+    load_agrees c real (known.Stack k) m d z i h claims = number_agrees (known.Stack k) m d z i h claims
+    load_agrees c real (known.Data anchor k) m d z i h claims = number_agrees (known.Data anchor k) m d z i h claims
+    load_agrees c real known.End m d z i h claims = number_agrees known.End m d z i h claims
 
     signed_agrees : (x : AbstractValue D) (m : ℕ) (d : ℤ) (z : SignedSize) (i : Insn) → IsNumberOf Member x m → AreClaims claimed mode a s i
-        → Agree claimed (IsHeld Member places) (abstract.load_signed ops a x d z) (loading.load_signed s.memory (value_of places x m) d z)
-    signed_agrees x m d z i h claims = numbers_agree (sign_extended z) ops.top x m d (byte_count (unsigned_size z)) i (λ k small. sound.top (sign_extended z k) (sign_extended_word z k)) h claims
+        → Agree claimed (IsResult Member places s.memory.length) (abstract.load_signed ops a x d z) (loading.load_signed s.memory (value_of places x m) d z)
+    signed_agrees x m d z i h claims =
+        held_results claimed Member places s.memory.length (abstract.load_signed ops a x d z) (loading.load_signed s.memory (value_of places x m) d z)
+        (numbers_agree (sign_extended z) ops.top x m d (byte_count (unsigned_size z)) i (λ k small. sound.top (sign_extended z k) (sign_extended_word z k)) h claims)
 
     -- a load of either kind
     loads_agree : (i : Insn) (known_of : AbstractValue D → Result (AbstractValue D) Reason) (loaded : Value → Result Value Reason) (dst base : Reg) → GoesPast i → AreClaims claimed mode a s i
-        → ((x : AbstractValue D) (m : ℕ) → IsNumberOf Member x m → Agree claimed (IsHeld Member places) (known_of x) (loaded (value_of places x m)))
-        → Agree claimed (IsEffectOf mode places a s i) (abstract.loaded_step a known_of dst base) (effects.load_effect s.registers loaded dst base)
+        → ((x : AbstractValue D) (m : ℕ) → IsNumberOf Member x m → Agree claimed (IsResult Member places s.memory.length) (known_of x) (loaded (value_of places x m)))
+        → Agree claimed (IsEffectOf mode places a s i) (abstract.loaded_step a known_of dst base) (effects.loaded_effect s.registers loaded dst base)
     loads_agree i known_of loaded dst base past claims agree =
         and_then claimed (IsHeld Member places) (IsEffectOf mode places a s i) (abstract.read a base) (effects.read s.registers base) _ _
         (read_agrees claimed mode places claims.registers a s member base)
-        (λ x u p q held. written_agrees i dst (known_of x) (loaded u) past
-        (subst (λ (u' : Value). Agree claimed (IsHeld Member places) (known_of x) (loaded u')) (sym held.2) (agree x held.0 held.1)))
+        (λ x u p q held. result_written i dst (known_of x) (loaded u) past
+        (subst (λ (u' : Value). Agree claimed (IsResult Member places s.memory.length) (known_of x) (loaded u')) (sym held.2) (agree x held.0 held.1)))
+
+    -- ---- stores
+
+    stores_agree : (z : Size) (base : Reg) (o : Operand) (d : ℤ) → OperandFits o → AreClaims claimed mode a s (insn.Store z base o d)
+        → Agree claimed (IsEffectOf mode places a s (insn.Store z base o d)) (abstract.store_step ops a z base o d) (effects.store_effect s.registers s.memory.length z base o d)
+    stores_agree z base o d fit claims =
+        and_then claimed (IsHeld Member places) (IsEffectOf mode places a s (insn.Store z base o d)) (abstract.read a base) (effects.read s.registers base) _ _
+        (read_agrees claimed mode places claims.registers a s member base)
+        (λ x u p q held_x. and_then claimed (IsHeld Member places) (IsEffectOf mode places a s (insn.Store z base o d)) (abstract.operand_abstract ops a o) (effects.operand_value s.registers o) _ _
+        (operand_agrees claimed mode places claims.registers a s member o fit)
+        (λ y v p' q' held_y. store_held z base o d claims x y u v held_x held_y)) where
+          pointers_agree : (x : AbstractValue D) (m : ℕ) → IsNumberOf Member x m → Agree claimed (λ u v. Unit {0}) (abstract.pointer x) (effects.pointer (value_of places x m))
+          pointers_agree (known.Scalar n) m h = λ c. refl
+          pointers_agree known.Nothing m h = tt
+          pointers_agree known.Ctx m h = tt
+          pointers_agree (known.Stack k) m h = tt
+          pointers_agree (known.Data anchor k) m h = tt
+          pointers_agree known.End m h = tt
+
+          storables_agree : (y : AbstractValue D) (n : ℕ) → IsNumberOf Member y n → Agree claimed (λ u k. Unit {0}) (abstract.storable y) (effects.stored_number (value_of places y n))
+          storables_agree (known.Scalar number) n h = tt
+          storables_agree known.Nothing n h = λ c. refl
+          storables_agree known.Ctx n h = λ c. refl
+          storables_agree (known.Stack k) n h = λ c. refl
+          storables_agree (known.Data anchor k) n h = λ c. refl
+          storables_agree known.End n h = λ c. refl
+
+          store_numbers : (z : Size) (base : Reg) (o : Operand) (d : ℤ) → AreClaims claimed mode a s (insn.Store z base o d) → (x y : AbstractValue D) (m n : ℕ) → IsNumberOf Member x m → IsNumberOf Member y n
+              → Agree claimed (IsEffectOf mode places a s (insn.Store z base o d))
+              (abstract.pointer x >>= λ u. abstract.storable y >>= λ v. abstract.located a x d (byte_count z) >>= λ r. Ok (next.On (abstract.with_region a (byte_count z) r)))
+              (effects.pointer (value_of places x m) >>= λ u. effects.stored_number (value_of places y n) >>= λ k. location s.memory.length (value_of places x m) d (byte_count z) >>= λ at. Ok (effect.Store at z k))
+          store_numbers z base o d claims x y m n h g =
+              and_then claimed (λ u v. Unit {0}) (IsEffectOf mode places a s (insn.Store z base o d)) (abstract.pointer x) (effects.pointer (value_of places x m)) _ _ (pointers_agree x m h)
+              (λ u u' p q t. and_then claimed (λ v k. Unit {0}) (IsEffectOf mode places a s (insn.Store z base o d)) (abstract.storable y) (effects.stored_number (value_of places y n)) _ _ (storables_agree y n g)
+              (λ v k p' q' t'. and_then claimed (IsRegionOf (byte_count z)) (IsEffectOf mode places a s (insn.Store z base o d)) (abstract.located a x d (byte_count z)) (location s.memory.length (value_of places x m) d (byte_count z)) _ _
+              (locations_agree x m d (byte_count z) (insn.Store z base o d) h claims)
+              (λ r at e f is. (r, refl, is, refl))))
+
+          store_held : (z : Size) (base : Reg) (o : Operand) (d : ℤ) → AreClaims claimed mode a s (insn.Store z base o d) → (x y : AbstractValue D) (u v : Value) → IsHeld Member places x u → IsHeld Member places y v
+              → Agree claimed (IsEffectOf mode places a s (insn.Store z base o d))
+              (abstract.pointer x >>= λ t. abstract.storable y >>= λ t'. abstract.located a x d (byte_count z) >>= λ r. Ok (next.On (abstract.with_region a (byte_count z) r)))
+              (effects.pointer u >>= λ t. effects.stored_number v >>= λ k. location s.memory.length u d (byte_count z) >>= λ at. Ok (effect.Store at z k))
+          store_held z base o d claims x y u v hx hy =
+              subst (λ (u' : Value). Agree claimed (IsEffectOf mode places a s (insn.Store z base o d))
+              (abstract.pointer x >>= λ t. abstract.storable y >>= λ t'. abstract.located a x d (byte_count z) >>= λ r. Ok (next.On (abstract.with_region a (byte_count z) r)))
+              (effects.pointer u' >>= λ t. effects.stored_number v >>= λ k. location s.memory.length u' d (byte_count z) >>= λ at. Ok (effect.Store at z k))) (sym hx.2)
+              (subst (λ (v' : Value). Agree claimed (IsEffectOf mode places a s (insn.Store z base o d))
+              (abstract.pointer x >>= λ t. abstract.storable y >>= λ t'. abstract.located a x d (byte_count z) >>= λ r. Ok (next.On (abstract.with_region a (byte_count z) r)))
+              (effects.pointer (value_of places x hx.0) >>= λ t. effects.stored_number v' >>= λ k. location s.memory.length (value_of places x hx.0) d (byte_count z) >>= λ at. Ok (effect.Store at z k))) (sym hy.2)
+              (store_numbers z base o d claims x y hx.0 hy.0 hx.1 hy.1))
+
+    -- ---- calls
+
+    context_agrees : (i : Insn) → AreClaims claimed mode a s i → Agree claimed (λ (u v : Unit {0}). Unit {0}) (abstract.context_argument a) (effects.context_argument s.registers)
+    context_agrees i claims =
+        and_then claimed (IsHeld Member places) (λ (u v : Unit {0}). Unit {0}) (abstract.read a reg.R1) (effects.read s.registers reg.R1) _ _ (read_agrees claimed mode places claims.registers a s member reg.R1)
+        (λ x u p q held. subst (λ (v : Value). Agree claimed (λ (u v : Unit {0}). Unit {0}) (abstract.context_value x) (context_value v)) (sym held.2) (contexts x held.0 held.1)) where
+          contexts : (x : AbstractValue D) (m : ℕ) → IsNumberOf Member x m → Agree claimed (λ (u v : Unit {0}). Unit {0}) (abstract.context_value x) (context_value (value_of places x m))
+          contexts known.Ctx m h = tt
+          contexts known.Nothing m h = λ c. refl
+          contexts (known.Scalar n) m h = λ c. refl
+          contexts (known.Stack k) m h = λ c. refl
+          contexts (known.Data anchor k) m h = λ c. refl
+          contexts known.End m h = λ c. refl
+
+    abbrev IsWord : Unit {0} → ℕ → Type 0
+    IsWord u n = n < 2 ^ 64
+
+    number_agrees_at : (r : Reg) (i : Insn) → AreClaims claimed mode a s i → Agree claimed IsWord (abstract.number_argument a r) (effects.number_argument s.registers r)
+    number_agrees_at r i claims =
+        and_then claimed (IsHeld Member places) IsWord (abstract.read a r) (effects.read s.registers r) _ _ (read_agrees claimed mode places claims.registers a s member r)
+        (λ x u p q held. subst (λ (v : Value). Agree claimed IsWord (abstract.number_value r x) (number_value r v)) (sym held.2) (numbers r x held.0 held.1)) where
+          numbers : (r : Reg) (x : AbstractValue D) (m : ℕ) → IsNumberOf Member x m → Agree claimed IsWord (abstract.number_value r x) (number_value r (value_of places x m))
+          numbers r (known.Scalar n) m h = sound.words n m h
+          numbers r known.Nothing m h = λ c. refl
+          numbers r known.Ctx m h = λ c. refl
+          numbers r (known.Stack k) m h = λ c. refl
+          numbers r (known.Data anchor k) m h = λ c. refl
+          numbers r known.End m h = λ c. refl
+
+    abbrev IsSameIndex : ℕ → ℕ → Type 0
+    IsSameIndex m n = (m ≡ n) × (m + 8 ≤ 512)
+
+    found_index : (r : Reg) (o : Option ℕ) → ((m : ℕ) → o ≡ Some m → m + 8 ≤ 512) → Agree claimed IsSameIndex (ok_or o (HelperArgument (number_of r))) (ok_or o (HelperArgument (number_of r)))
+    found_index r None short = λ c. refl
+    found_index r (Some m) short = (refl, short m refl)
+
+    stack_agrees_at : (r : Reg) (i : Insn) → AreClaims claimed mode a s i → Agree claimed IsSameIndex (abstract.stack_argument a r) (effects.stack_argument s.registers r)
+    stack_agrees_at r i claims =
+        and_then claimed (IsHeld Member places) IsSameIndex (abstract.read a r) (effects.read s.registers r) _ _ (read_agrees claimed mode places claims.registers a s member r)
+        (λ x u p q held. subst (λ (v : Value). Agree claimed IsSameIndex (abstract.stack_value r x) (stack_value r v)) (sym held.2) (indices r x held.0 held.1)) where
+          indices : (r : Reg) (x : AbstractValue D) (m : ℕ) → IsNumberOf Member x m → Agree claimed IsSameIndex (abstract.stack_value r x) (stack_value r (value_of places x m))
+          indices r (known.Stack k) m h = found_index r (index_within (k +ℤ pos 0) 8 stack_first stack_first (pos 0)) (λ n e. index_short (k +ℤ pos 0) 8 n e)
+          indices r known.Nothing m h = λ c. refl
+          indices r (known.Scalar n) m h = λ c. refl
+          indices r known.Ctx m h = λ c. refl
+          indices r (known.Data anchor k) m h = λ c. refl
+          indices r known.End m h = λ c. refl
+
+    abbrev IsRecord : Unit {0} → AddressRecord → Type 0
+    IsRecord u address = AreBytes 8 address
+
+    record_agrees_at : (r : Reg) (i : Insn) → AreClaims claimed mode a s i → Agree claimed IsRecord (abstract.record_argument a r) (effects.record_argument s.memory s.registers r)
+    record_agrees_at r i claims =
+        and_then claimed IsSameIndex IsRecord (abstract.stack_argument a r) (effects.stack_argument s.registers r) _ _ (stack_agrees_at r i claims)
+        (λ m n p q same. subst (λ (k : ℕ). Agree claimed IsRecord (abstract.record_readable a.marks m) (record_at s.memory k)) same.0 (region_record m same.1)) where
+          region_record : (m : ℕ) → m + 8 ≤ 512 → Agree claimed IsRecord (abstract.record_readable a.marks m) (record_at s.memory m)
+          region_record m short = record_read claimed mode claims.cells a.marks s.memory member.memory member.cells m short
+
+    asks : (i : Insn) (h : Helper) (q : Question) (out : Option ℕ) → GoesPast i → IfSome out (λ j. j + 8 ≤ 512) → ((answer : ℕ → ℕ → AddressRecord → ℕ × AddressRecord) → IsLawful answer → ((answer q.helper q.number q.address).0 ≤ abstract.greatest_answer h) × IfSome out (λ j. AreBytes 8 (answer q.helper q.number q.address).1))
+        → IsAsked a i (abstract.answered ops a h out) q out
+    asks i h q out past room lawful = record { asked = h; behind = refl; past = past; room = room; lawful = lawful }
+
+    -- a look-up by an address
+    looks_up : (i : Insn) (h : Helper) → GoesPast i → AreClaims claimed mode a s i → ((address : AddressRecord) → AreBytes 8 address → (answer : ℕ → ℕ → AddressRecord → ℕ × AddressRecord) → IsLawful answer → (answer (helper_number h) 0 address).0 ≤ abstract.greatest_answer h)
+        → Agree claimed (IsEffectOf mode places a s i) (abstract.address_step ops a h) (effects.address_effect s.memory s.registers h)
+    looks_up i h past claims lawful =
+        and_then claimed (λ (u v : Unit {0}). Unit {0}) (IsEffectOf mode places a s i) (abstract.context_argument a) (effects.context_argument s.registers) _ _ (context_agrees i claims)
+        (λ u v p q t. and_then claimed IsRecord (IsEffectOf mode places a s i) (abstract.record_argument a reg.R2) (effects.record_argument s.memory s.registers reg.R2) _ _ (record_agrees_at reg.R2 i claims)
+        (λ x address p' q' are. asks i h (question h 0 address) None past tt (λ answer is. (lawful address are answer is, tt))))
+
+    helpers_agree : (c : Context) (n : ℤ) (h : Helper) → AreClaims claimed mode a s (insn.Call n) → Agree claimed (IsEffectOf mode places a s (insn.Call n)) (abstract.helper_step ops a h) (effects.helper_effect c s.memory s.registers h)
+    helpers_agree c n helper.ChannelPeer claims =
+        and_then claimed (λ (u v : Unit {0}). Unit {0}) (IsEffectOf mode places a s (insn.Call n)) (abstract.context_argument a) (effects.context_argument s.registers) _ _ (context_agrees (insn.Call n) claims)
+        (λ u v p q t. and_then claimed IsWord (IsEffectOf mode places a s (insn.Call n)) (abstract.number_argument a reg.R2) (effects.number_argument s.registers reg.R2) _ _ (number_agrees_at reg.R2 (insn.Call n) claims)
+        (λ x number p' q' word. and_then claimed IsSameIndex (IsEffectOf mode places a s (insn.Call n)) (abstract.stack_argument a reg.R3) (effects.stack_argument s.registers reg.R3) _ _ (stack_agrees_at reg.R3 (insn.Call n) claims)
+        (λ j k e f same. subst (λ (out : ℕ). IsAsked a (insn.Call n) (abstract.answered ops a helper.ChannelPeer (Some j)) (question helper.ChannelPeer number no_address) (Some out)) same.0
+        (asks (insn.Call n) helper.ChannelPeer (question helper.ChannelPeer number no_address) (Some j) refl same.1 (λ answer is. is.channel_peer number no_address word no_address_bytes)))))
+    helpers_agree c n helper.ChannelTo claims = looks_up (insn.Call n) helper.ChannelTo refl claims (λ address are answer is. is.channel_to 0 address (omega arith) are)
+    helpers_agree c n helper.Permitted claims = looks_up (insn.Call n) helper.Permitted refl claims (λ address are answer is. is.permitted 0 address (omega arith) are)
+    helpers_agree c n helper.Window claims =
+        and_then claimed (λ (u v : Unit {0}). Unit {0}) (IsEffectOf mode places a s (insn.Call n)) (abstract.context_argument a) (effects.context_argument s.registers) _ _ (context_agrees (insn.Call n) claims)
+        (λ u v p q t. and_then claimed IsWord (IsEffectOf mode places a s (insn.Call n)) (abstract.number_argument a reg.R2) (effects.number_argument s.registers reg.R2) _ _ (number_agrees_at reg.R2 (insn.Call n) claims)
+        (λ x front p' q' word. and_then claimed IsWord (IsEffectOf mode places a s (insn.Call n)) (abstract.number_argument a reg.R3) (effects.number_argument s.registers reg.R3) _ _ (number_agrees_at reg.R3 (insn.Call n) claims)
+        (λ y size e f word'. (refl, refl))))
+    helpers_agree c n helper.Destination claims =
+        and_then claimed (λ (u v : Unit {0}). Unit {0}) (IsEffectOf mode places a s (insn.Call n)) (abstract.context_argument a) (effects.context_argument s.registers) _ _ (context_agrees (insn.Call n) claims)
+        (λ u v p q t. and_then claimed IsRecord (IsEffectOf mode places a s (insn.Call n)) (abstract.record_argument a reg.R2) (effects.record_argument s.memory s.registers reg.R2) _ _ (record_agrees_at reg.R2 (insn.Call n) claims)
+        (λ x address p' q' are. (refl, refl)))
+
+    calls_agree : (c : Context) (n : ℤ) → AreClaims claimed mode a s (insn.Call n) → Agree claimed (IsEffectOf mode places a s (insn.Call n)) (abstract.call_step ops a n) (effects.call_effect c s.memory s.registers n)
+    calls_agree c n claims = of_helper (helper_of n) where
+      of_helper : (h : Option Helper) → Agree claimed (IsEffectOf mode places a s (insn.Call n)) (ok_or h UnknownHelper >>= abstract.helper_step ops a) (ok_or h UnknownHelper >>= effects.helper_effect c s.memory s.registers)
+      of_helper None = λ claim. refl
+      of_helper (Some h) = helpers_agree c n h claims
+
+    -- ---- the end
 
     exits_agree : (x : AbstractValue D) (m : ℕ) → IsNumberOf Member x m → Agree claimed (IsEffectOf mode places a s insn.Exit) (abstract.exit_with x) (effects.verdict_of (value_of places x m) >>= λ verdict. Ok (effect.Exit verdict))
     exits_agree (known.Scalar n) m h = tt
@@ -603,20 +791,22 @@ module _ {D : Type 0} (ops : Operations D) (Member : D → ℕ → Type 0) (soun
     exit_held x u h = subst (λ (u' : Value). Agree claimed (IsEffectOf mode places a s insn.Exit) (abstract.exit_with x) (effects.verdict_of u' >>= λ verdict. Ok (effect.Exit verdict))) (sym h.2) (exits_agree x h.0 h.1)
 
     -- the abstract step of each form agrees with the machine's
-    pub steps_agree : (c : Context) (i : Insn) → Fits i → AreClaims claimed mode a s i → Agree claimed (IsEffectOf mode places a s i) (abstract.step ops a i) (effects.effect c s.memory s.registers i)
-    steps_agree c (insn.Alu w op dst o) fit claims = alu_agrees w op dst o fit claims
-    steps_agree c (insn.Mov w dst o) fit claims = unary_agrees (insn.Mov w dst o) (Mov w) dst o refl fit claims
-    steps_agree c (insn.Neg w dst) fit claims = unary_agrees (insn.Neg w dst) (Neg w) dst (operand.Reg dst) refl tt claims
-    steps_agree c (insn.SignExtend e dst src) fit claims = unary_agrees (insn.SignExtend e dst src) (SignExtend e) dst (operand.Reg src) refl tt claims
-    steps_agree c (insn.Swap op z dst) fit claims = unary_agrees (insn.Swap op z dst) (Swap op z) dst (operand.Reg dst) refl tt claims
-    steps_agree c (insn.Jump offset) fit claims = (refl, refl)
-    steps_agree c (insn.LongJump offset) fit claims = (refl, refl)
-    steps_agree c (insn.JumpIf w condition dst o offset) fit claims = jumps_agree w condition dst o offset fit.0 claims
-    steps_agree c (insn.Load z dst base d) fit claims = loads_agree (insn.Load z dst base d) (λ x. abstract.load ops a x d z) (λ v. loading.load s.memory v d z) dst base refl claims (λ x m h. load_agrees x m d z (insn.Load z dst base d) h claims)
-    steps_agree c (insn.LoadSigned z dst base d) fit claims =
+    pub steps_agree : (c : Context) → IsContext c → (i : Insn) → Fits i → AreClaims claimed mode a s i → Agree claimed (IsEffectOf mode places a s i) (abstract.step ops a i) (effects.effect c s.memory s.registers i)
+    steps_agree c real (insn.Alu w op dst o) fit claims = alu_agrees w op dst o fit claims
+    steps_agree c real (insn.Mov w dst o) fit claims = unary_agrees (insn.Mov w dst o) (Mov w) dst o refl fit claims
+    steps_agree c real (insn.Neg w dst) fit claims = unary_agrees (insn.Neg w dst) (Neg w) dst (operand.Reg dst) refl tt claims
+    steps_agree c real (insn.SignExtend e dst src) fit claims = unary_agrees (insn.SignExtend e dst src) (SignExtend e) dst (operand.Reg src) refl tt claims
+    steps_agree c real (insn.Swap op z dst) fit claims = unary_agrees (insn.Swap op z dst) (Swap op z) dst (operand.Reg dst) refl tt claims
+    steps_agree c real (insn.Jump offset) fit claims = (refl, refl)
+    steps_agree c real (insn.LongJump offset) fit claims = (refl, refl)
+    steps_agree c real (insn.JumpIf w condition dst o offset) fit claims = jumps_agree w condition dst o offset fit.0 claims
+    steps_agree c real (insn.Load z dst base d) fit claims = loads_agree (insn.Load z dst base d) (λ x. abstract.load ops a x d z) (λ v. loading.load c s.memory v d z) dst base refl claims (λ x m h. load_agrees c real x m d z (insn.Load z dst base d) h claims)
+    steps_agree c real (insn.LoadSigned z dst base d) fit claims =
         loads_agree (insn.LoadSigned z dst base d) (λ x. abstract.load_signed ops a x d z) (λ v. loading.load_signed s.memory v d z) dst base refl claims (λ x m h. signed_agrees x m d z (insn.LoadSigned z dst base d) h claims)
-    steps_agree c (insn.LoadImm dst n) fit claims = written_agrees (insn.LoadImm dst n) dst (Ok (known.Scalar (ops.exact n))) (Ok (value.Scalar n)) refl (n, sound.exact n fit, refl)
-    steps_agree c insn.Exit fit claims =
+    steps_agree c real (insn.Store z base o d) fit claims = stores_agree z base o d fit.0 claims
+    steps_agree c real (insn.LoadImm dst n) fit claims = written_agrees (insn.LoadImm dst n) dst (Ok (known.Scalar (ops.exact n))) (Ok (value.Scalar n)) refl (n, sound.exact n fit, refl)
+    steps_agree c real (insn.Call n) fit claims = calls_agree c n claims
+    steps_agree c real insn.Exit fit claims =
         and_then claimed (IsHeld Member places) (IsEffectOf mode places a s insn.Exit) (abstract.read a reg.R0) (effects.read s.registers reg.R0) _ _
         (read_agrees claimed mode places claims.registers a s member reg.R0)
         (λ x u p q held. exit_held x u held)

@@ -12,7 +12,7 @@ struct Spelled {
     lines: &'static str,
 }
 
-static SPELLED: [Spelled; 20] = [
+static SPELLED: [Spelled; 25] = [
     // every register in each place of `mov`, `add`, a load and a jump
     Spelled {
         slots: "b700000001000000 b701000001000000 b702000001000000 b703000001000000 b704000001000000 \
@@ -51,6 +51,23 @@ static SPELLED: [Spelled; 20] = [
         lines: "jeq r0, r10, +0\njeq r1, r9, +0\njeq r2, r8, +0\njeq r3, r7, +0\njeq r4, r6, +0\n\
              jeq r5, r5, +0\njeq r6, r4, +0\njeq r7, r3, +0\njeq r8, r2, +0\njeq r9, r1, +0\n\
              jeq r10, r0, +0\n",
+    },
+    // every register in each place of a store
+    Spelled {
+        slots: "7200000001000000 7201000001000000 7202000001000000 7203000001000000 \
+             7204000001000000 7205000001000000 7206000001000000 7207000001000000 \
+             7208000001000000 7209000001000000 720a000001000000",
+        lines: "stb [r0+0], 1\nstb [r1+0], 1\nstb [r2+0], 1\nstb [r3+0], 1\nstb [r4+0], 1\n\
+             stb [r5+0], 1\nstb [r6+0], 1\nstb [r7+0], 1\nstb [r8+0], 1\nstb [r9+0], 1\n\
+             stb [r10+0], 1\n",
+    },
+    Spelled {
+        slots: "73a0000000000000 7391000000000000 7382000000000000 7373000000000000 \
+             7364000000000000 7355000000000000 7346000000000000 7337000000000000 \
+             7328000000000000 7319000000000000 730a000000000000",
+        lines: "stxb [r0+0], r10\nstxb [r1+0], r9\nstxb [r2+0], r8\nstxb [r3+0], r7\n\
+             stxb [r4+0], r6\nstxb [r5+0], r5\nstxb [r6+0], r4\nstxb [r7+0], r3\n\
+             stxb [r8+0], r2\nstxb [r9+0], r1\nstxb [r10+0], r0\n",
     },
     // every condition, with a number and with a register
     Spelled {
@@ -174,6 +191,28 @@ static SPELLED: [Spelled; 20] = [
              ja.32 -2147483648\nja.32 +2147483647\nlddw r1, 0\nlddw r1, 18446744073709551615\n\
              lddw r10, 1311768465173141112\nlddw r1, 4294967296\n",
     },
+    // stores of every size, with a number and with a register, and the ends of each field
+    Spelled {
+        slots: "720af8ff00000000 6a0afeff07000000 62010000ffffffff 7a0af8fff9ffffff \
+             7202ff7fff000000 6a020080ffff0000 6203040000000080 7a040800ffffff7f \
+             7a0af0ff78563412",
+        lines: "stb [r10-8], 0\nsth [r10-2], 7\nstw [r1+0], -1\nstdw [r10-8], -7\n\
+             stb [r2+32767], 255\nsth [r2-32768], 65535\nstw [r3+4], -2147483648\n\
+             stdw [r4+8], 2147483647\nstdw [r10-16], 305419896\n",
+    },
+    Spelled {
+        slots: "7321000000000000 6b4afeff00000000 630a040000000000 7b3af8ff00000000 \
+             73aaffff00000000 6b52020100000000 6321ff7f00000000 7b3a008000000000",
+        lines: "stxb [r1+0], r2\nstxh [r10-2], r4\nstxw [r10+4], r0\nstxdw [r10-8], r3\n\
+             stxb [r10-1], r10\nstxh [r2+258], r5\nstxw [r1+32767], r2\n\
+             stxdw [r10-32768], r3\n",
+    },
+    // calls, and the ends of the number of a helper
+    Spelled {
+        slots: "8500000004000000 85000000ffffffff 8500000000000000 8500000001000000 \
+             8500000000000080 85000000ffffff7f",
+        lines: "call 4\ncall -1\ncall 0\ncall 1\ncall -2147483648\ncall 2147483647\n",
+    },
 ];
 
 /// Decodes each row, and compares its lines, its encoding with the bytes, and what is read back.
@@ -219,7 +258,7 @@ fn decode_errors_are_spelled(rt: HostRuntime) -> Result<(), Fail> {
 }
 
 /// Files that encode no program.
-pub static UNDECODED: [Verified; 49] = [
+pub static UNDECODED: [Verified; 70] = [
     Verified {
         slots: "",
         line: "refused E1\n",
@@ -427,6 +466,62 @@ pub static UNDECODED: [Verified; 49] = [
         line: "refused E6 at 0\n",
         status: 1,
     },
+    // unused fields of stores and of calls, behind the registers
+    Verified {
+        slots: "7210000000000000",
+        line: "refused E6 at 0\n",
+        status: 1,
+    },
+    Verified {
+        slots: "7a2af8ff01000000",
+        line: "refused E6 at 0\n",
+        status: 1,
+    },
+    Verified {
+        slots: "7300000001000000",
+        line: "refused E6 at 0\n",
+        status: 1,
+    },
+    Verified {
+        slots: "7b3af8ffffffffff",
+        line: "refused E6 at 0\n",
+        status: 1,
+    },
+    Verified {
+        slots: "72baf8ff00000000",
+        line: "refused E5 at 0\n",
+        status: 1,
+    },
+    Verified {
+        slots: "730b000001000000",
+        line: "refused E5 at 0\n",
+        status: 1,
+    },
+    Verified {
+        slots: "8501000004000000",
+        line: "refused E6 at 0\n",
+        status: 1,
+    },
+    Verified {
+        slots: "8510000004000000",
+        line: "refused E6 at 0\n",
+        status: 1,
+    },
+    Verified {
+        slots: "8520000004000000",
+        line: "refused E6 at 0\n",
+        status: 1,
+    },
+    Verified {
+        slots: "8500010004000000",
+        line: "refused E6 at 0\n",
+        status: 1,
+    },
+    Verified {
+        slots: "850b010004000000",
+        line: "refused E5 at 0\n",
+        status: 1,
+    },
     // opcodes of no instruction
     Verified {
         slots: "8f00000000000000",
@@ -475,6 +570,57 @@ pub static UNDECODED: [Verified; 49] = [
     },
     Verified {
         slots: "0d00000000000000",
+        line: "refused E4 at 0\n",
+        status: 1,
+    },
+    // stores in a mode other than `MEM`
+    Verified {
+        slots: "0200000000000000",
+        line: "refused E4 at 0\n",
+        status: 1,
+    },
+    Verified {
+        slots: "0300000000000000",
+        line: "refused E4 at 0\n",
+        status: 1,
+    },
+    Verified {
+        slots: "2200000000000000",
+        line: "refused E4 at 0\n",
+        status: 1,
+    },
+    Verified {
+        slots: "4300000000000000",
+        line: "refused E4 at 0\n",
+        status: 1,
+    },
+    Verified {
+        slots: "8200000000000000",
+        line: "refused E4 at 0\n",
+        status: 1,
+    },
+    Verified {
+        slots: "8300000000000000",
+        line: "refused E4 at 0\n",
+        status: 1,
+    },
+    Verified {
+        slots: "a200000000000000",
+        line: "refused E4 at 0\n",
+        status: 1,
+    },
+    Verified {
+        slots: "c300000000000000",
+        line: "refused E4 at 0\n",
+        status: 1,
+    },
+    Verified {
+        slots: "db00000000000000",
+        line: "refused E4 at 0\n",
+        status: 1,
+    },
+    Verified {
+        slots: "e200000000000000",
         line: "refused E4 at 0\n",
         status: 1,
     },

@@ -2,7 +2,7 @@
 
 use super::insn_rows::UNDECODED;
 use super::verifier_rows::{PROGRAMS, REPEATED, Repeated};
-use super::{Verified, expect_printed, program, reported};
+use super::{Verified, context_rows, expect_printed, helper_rows, memory_rows, program, reported};
 use crate::reporting::Ask;
 use loader::load;
 use std::process::Abort;
@@ -47,6 +47,10 @@ fn expect_each_repeated<R: Abort + AllocGlobal>(rt: &R, rows: &[Repeated]) -> Re
 fn files_are_verified_and_loaded(rt: HostRuntime) -> Result<(), Fail> {
     expect_each(&rt, UNDECODED.as_slice())?;
     expect_each(&rt, PROGRAMS.as_slice())?;
+    expect_each(&rt, memory_rows::ACCEPTED.as_slice())?;
+    expect_each(&rt, memory_rows::REFUSED.as_slice())?;
+    expect_each(&rt, context_rows::ACCEPTED.as_slice())?;
+    expect_each(&rt, helper_rows::ACCEPTED.as_slice())?;
     expect_each_repeated(&rt, REPEATED.as_slice())
 }
 

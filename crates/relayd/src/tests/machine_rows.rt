@@ -1,30 +1,21 @@
 //! What a trace prints, what a run has in common with it, and frames, sinks and addresses.
 
-ghost use Rattle.std.specs.Prelude.{◌≡◌, ◌≤◌, true, length};
+ghost use Rattle.std.specs.Prelude.{◌≤◌, length};
 
 use super::verifier_rows::PROGRAMS;
 use super::{
-    FIFTH_BYTE, FIFTH_BYTE_CHECKED, FOURTH_BYTE, Verified, expect_printed, program, reported,
+    CLIENT, FIFTH_BYTE, FIFTH_BYTE_CHECKED, FOURTH_BYTE, PEER, Traced, Verified, context_rows,
+    expect_ends, expect_printed, helper_rows, memory_rows, program, reported, start_on,
 };
 use crate::reporting::Ask;
 use insn::Insn;
 use loader::load;
 use machine::{
-    Addr, Context, Frame, Helpers, KEPT, Kept, MAX_DATAGRAM, NoAllocation, Outcome, Side, Silent,
-    Sink, run, trace,
+    Addr, Frame, Helpers, KEPT, Kept, MAX_DATAGRAM, NoAllocation, Outcome, Silent, Sink, run, trace,
 };
 use std::alloc::Global;
 use std::process::Abort;
 use std::test::Fail;
-
-/// A program file and data, what `trace` prints of them in the end, and the status.
-#[derive(Clone, Copy)]
-struct Traced {
-    slots: &'static str,
-    hex: &'static str,
-    end: &'static str,
-    status: u8,
-}
 
 static TRACED: [Traced; 24] = [
     Traced {
@@ -180,19 +171,6 @@ static TRACED: [Traced; 24] = [
     },
 ];
 
-/// Traces each row, and compares the end of what is printed, and the status.
-fn expect_ends<R: Abort + AllocGlobal>(rt: &R, rows: &[Traced]) -> Result<(), Fail> {
-    for row in rows {
-        let file = program(rt, row.slots)?;
-        let end = row.end;
-        let report = reported(rt, Ask::Trace { hex: Some(row.hex) }, &file);
-        assert!(rt; report.out.ends_with(end.as_bytes()), "{end}");
-        assert_eq!(rt; report.status, row.status, "{end}");
-        assert_eq!(rt; report.err.len(), 0, "{end}");
-    }
-    Ok(())
-}
-
 #[test]
 fn a_trace_ends_as_the_run_does(rt: HostRuntime) -> Result<(), Fail> {
     expect_ends(&rt, TRACED.as_slice())
@@ -225,26 +203,6 @@ fn a_trace_prints_every_step(rt: HostRuntime) -> Result<(), Fail> {
     let report = reported(&rt, Ask::Trace { hex: None }, &numbered(&rt)?);
     expect_printed(&rt, &report, &lines, "", 0);
     Ok(())
-}
-
-const CONTEXT: Context = Context {
-    side: Side::Peer,
-    source: Addr::V4 {
-        ip: [192, 0, 2, 7],
-        port: 5000,
-    },
-    tx: [0; 12],
-};
-
-/// Starts a frame on a datagram.
-fn start_on(frame: &mut Frame, datagram: &[u8])
-    requires { length datagram.now ≤ 65507 }
-    ensures { frame.new.is_started ≡ true }
-{
-    let n = datagram.len();
-    let (room, _) = frame.area().split_at_mut(n);
-    room.copy_from_slice(datagram);
-    frame.start(&CONTEXT, n);
 }
 
 /// A program file and a datagram with the verdict of the run, and how many instructions it comes to.
@@ -319,7 +277,7 @@ fn ran_over<R: AllocGlobal>(rt: &R, file: &[u8], datagram: &[u8]) -> Result<(Out
 {
     let loaded = load(rt.alloc(), file)?;
     let mut frame = Frame::new(rt.alloc())?;
-    start_on(&mut frame, datagram);
+    start_on(&mut frame, &PEER, datagram);
     let outcome = run(loaded.program(), &mut frame, &NoAllocation);
     let kept = frame.datagram() == datagram && frame.window().is_none() && !frame.started();
     Ok((outcome, kept))
@@ -387,55 +345,77 @@ fn seeded(alloc: Global, seed: u64, count: usize) -> Result<Vec<u8>, Fail> {
     Ok(bytes)
 }
 
-/// Runs and traces a program over seeded datagrams, each in a frame of its own, and compares the two.
+/// Runs and traces a program over seeded datagrams from either side, each in a frame of its own, and compares
+/// the two.
 fn agree<R: Abort + AllocGlobal>(
     rt: &R,
-    file: &[u8],
+    slots: &str,
     ran: &mut Frame,
     traced: &mut Frame,
 ) -> Result<(), Fail> {
-    let loaded = load(rt.alloc(), file)?;
-    for (seed, count) in [
-        (1, 0),
-        (2, 1),
-        (3, 1),
-        (4, 3),
-        (5, 4),
-        (6, 5),
-        (7, 1472),
-        (8, 65_507),
+    let file = program(rt, slots)?;
+    let loaded = load(rt.alloc(), &file)?;
+    let code = loaded.program().code();
+    for (seed, count, context) in [
+        (1, 0, CLIENT),
+        (2, 1, PEER),
+        (3, 1, CLIENT),
+        (4, 3, PEER),
+        (5, 4, CLIENT),
+        (6, 4, PEER),
+        (7, 5, CLIENT),
+        (8, 20, CLIENT),
+        (9, 20, PEER),
+        (10, 1472, CLIENT),
+        (11, 65_507, PEER),
+        (12, 65_507, CLIENT),
     ] {
         let datagram = seeded(rt.alloc(), seed, count)?;
         assert!(rt; datagram.len() <= MAX_DATAGRAM);
-        start_on(ran, &datagram);
-        start_on(traced, &datagram);
+        start_on(ran, &context, &datagram);
+        start_on(traced, &context, &datagram);
         let outcome = run(loaded.program(), ran, &NoAllocation);
-        let code = loaded.program().code();
         let ended = trace(code, traced, &NoAllocation, &mut Silent);
-        assert_eq!(rt; ended, Ok(outcome), "{seed} {count}");
-        assert_eq!(rt; ran.datagram(), datagram.as_slice(), "{seed} {count}");
-        assert_eq!(rt; traced.datagram(), ran.datagram(), "{seed} {count}");
-        assert_eq!(rt; traced.window(), ran.window(), "{seed} {count}");
-        assert_eq!(rt; traced.started(), ran.started(), "{seed} {count}");
+        assert_eq!(rt; ended, Ok(outcome), "{slots} {seed}");
+        assert_eq!(rt; ran.datagram().len(), count, "{slots} {seed}");
+        assert_eq!(rt; traced.datagram(), ran.datagram(), "{slots} {seed}");
+        assert_eq!(rt; traced.window(), ran.window(), "{slots} {seed}");
+        assert_eq!(rt; traced.started(), ran.started(), "{slots} {seed}");
     }
     Ok(())
 }
 
 /// Does so with each row that is accepted.
-fn agree_on_each<R: Abort + AllocGlobal>(rt: &R, rows: &[Verified]) -> Result<(), Fail> {
+fn agree_on_verified<R: Abort + AllocGlobal>(rt: &R, rows: &[Verified]) -> Result<(), Fail> {
     let mut ran = Frame::new(rt.alloc())?;
     let mut traced = Frame::new(rt.alloc())?;
     for row in rows {
         if row.status == 0 {
-            agree(rt, &program(rt, row.slots)?, &mut ran, &mut traced)?;
+            agree(rt, row.slots, &mut ran, &mut traced)?;
         }
+    }
+    Ok(())
+}
+
+/// Does so with each row, of which each is accepted.
+fn agree_on_traced<R: Abort + AllocGlobal>(rt: &R, rows: &[Traced]) -> Result<(), Fail> {
+    let mut ran = Frame::new(rt.alloc())?;
+    let mut traced = Frame::new(rt.alloc())?;
+    for row in rows {
+        agree(rt, row.slots, &mut ran, &mut traced)?;
     }
     Ok(())
 }
 
 #[test]
 fn a_run_and_a_trace_agree(rt: HostRuntime) -> Result<(), Fail> {
-    agree_on_each(&rt, PROGRAMS.as_slice())
+    agree_on_verified(&rt, PROGRAMS.as_slice())?;
+    agree_on_verified(&rt, memory_rows::ACCEPTED.as_slice())?;
+    agree_on_verified(&rt, context_rows::ACCEPTED.as_slice())?;
+    agree_on_verified(&rt, helper_rows::ACCEPTED.as_slice())?;
+    agree_on_traced(&rt, helper_rows::WINDOWS.as_slice())?;
+    agree_on_traced(&rt, helper_rows::DESTINATIONS.as_slice())?;
+    agree_on_traced(&rt, helper_rows::LOOKUPS.as_slice())
 }
 
 #[test]
@@ -446,7 +426,7 @@ fn a_frame_shows_what_was_written(rt: HostRuntime) -> Result<(), Fail> {
     let (room, _) = frame.area().split_at_mut(3);
     room.copy_from_slice(&[1, 2, 3]);
     assert!(rt; !frame.started());
-    frame.start(&CONTEXT, 2);
+    frame.start(&PEER, 2);
     assert!(rt; frame.started());
     assert_eq!(rt; frame.datagram(), [1, 2].as_slice());
     assert_eq!(rt; frame.window(), None);
@@ -459,7 +439,7 @@ fn a_frame_shows_what_was_written(rt: HostRuntime) -> Result<(), Fail> {
 fn kept_of_two<R: Abort + AllocGlobal>(rt: &R) -> Result<Kept, Fail> {
     let code = [Insn::Jump { offset: 0 }, Insn::Exit];
     let mut frame = Frame::new(rt.alloc())?;
-    frame.start(&CONTEXT, 0);
+    frame.start(&PEER, 0);
     let mut kept = Kept::new(rt.alloc())?;
     assert!(rt; trace(&code, &mut frame, &NoAllocation, &mut kept).is_err());
     assert!(rt; !frame.started());

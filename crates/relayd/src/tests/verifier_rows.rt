@@ -450,7 +450,7 @@ pub struct Repeated {
 
 /// A jump with `k` jumps behind it takes `S(k)` steps: its own and one `mov`, and those behind it twice. So
 /// `S(k) = 2 + 2 S(k - 1)`, with `S(-1) = 1` for the exit, and `S(k) = 6 * 2^k - 2`.
-pub static REPEATED: [Repeated; 5] = [
+pub static REPEATED: [Repeated; 6] = [
     // the longest program, and one slot more
     Repeated {
         head: "",
@@ -497,6 +497,17 @@ pub static REPEATED: [Repeated; 5] = [
         times: 16,
         tail: "9500000000000000",
         line: "refused V17 at 38\n",
+        status: 1,
+    },
+    // `ldxdw r2, [r1+16]`, `mov r0, 0`, and 30 times `jset r2, 1, +1` over `mov r0, 0`. The step that would pass
+    // 100,000 is the 99,999th from the first jump on: the last jump, on the path that takes the 15th, 21st, 25th
+    // and 28th.
+    Repeated {
+        head: "7912100000000000 b700000000000000",
+        body: "4502010001000000 b700000000000000",
+        times: 30,
+        tail: "9500000000000000",
+        line: "refused V17 at 60\n",
         status: 1,
     },
 ];

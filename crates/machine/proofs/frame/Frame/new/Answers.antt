@@ -1,6 +1,7 @@
 use Rattle.std.proofs.Common.{◌≡◌, ℕ, length, All, refl, sym, ap, ◌∙◌, subst, arith}
 use Rattle.std.proofs.lemmas.List.{length-replicate}
 use Rattle.std.proofs.lemmas.List.Elements.{All-replicate}
+use Rattle.semantics.specs.StartLaws.{length-empty_stack}
 use Rattle.machine.proofs.frame.Frame.new.Goals as goal
 
 pub invariant_of-result : goal.invariant_of-result
@@ -8,7 +9,8 @@ invariant_of-result c = record {
   holds = record {
     long = let zero_byte : ℕ = 0 in ap length c.in_ok-zeros.ensures ∙ length-replicate 65574 zero_byte;
     short = omega arith;
-    empty = c.in_ok-empty_stack.ensures;
+    cells = ap length c.in_ok-empty_stack.ensures ∙ length-empty_stack;
+    empty = λ e. absurd cc;
     ready = λ e. absurd cc;
     inside = tt;
   };
