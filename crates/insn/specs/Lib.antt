@@ -3,6 +3,7 @@ pub mod Codes
 pub mod Opcode
 pub mod Fields
 pub mod Encoding
+pub mod Spelling
 pub mod Refusal
 pub mod Forms
 pub mod Words

@@ -1,15 +1,21 @@
-//! The text of an instruction, as a trace prints it: one space after the mnemonic, `, ` between operands,
-//! decimal numbers, and a sign before each jump distance and each displacement.
+//! The fixed spelling of an instruction: one space after the mnemonic, `, ` between operands, decimal numbers, and a
+//! sign before each jump distance and each displacement. A disassembly and a trace both write it.
+
+ghost use Rattle.std.specs.Prelude.{Some};
+ghost use Rattle.insn.specs.Spelling.{width_suffix, operator_name, extension_name, order_name, bits_suffix, condition_name, size_suffix, store_name, register_name, with_sign, argument_text, argument_of, spelling};
 
 use crate::condition::Condition;
 use crate::instruction::{Insn, Operand};
 use crate::operator::{AluOp, Extension, SwapOp};
 use crate::register::Reg;
-use crate::size::Size;
+use crate::size::{Size, SwapSize};
 use crate::width::Width;
+use itoa::Buffer;
 use std::fmt;
 
 impl fmt::Display for Reg {
+    ghost output = { λ r. Some (register_name r) };
+
     fn fmt<W: fmt::Write>(&self, f: &mut fmt::Formatter<W>) -> fmt::Result {
         let number = self.number();
         write!(f, "r{number}")
@@ -17,28 +23,48 @@ impl fmt::Display for Reg {
 }
 
 impl fmt::Display for Operand {
+    ghost output = { λ o. Some (argument_text (argument_of o)) };
+
     fn fmt<W: fmt::Write>(&self, f: &mut fmt::Formatter<W>) -> fmt::Result {
         match self {
             Operand::Reg(r) => write!(f, "{r}"),
-            Operand::Imm(n) => write!(f, "{n}"),
+            Operand::Imm(n) => f.write_str(Buffer::new().format(*n)),
         }
+    }
+}
+
+/// A displacement or a jump distance: a decimal number with its sign.
+#[derive(Clone, Copy)]
+struct Signed(i32);
+
+impl fmt::Display for Signed {
+    ghost output = { λ s. Some (with_sign s.0) };
+
+    fn fmt<W: fmt::Write>(&self, f: &mut fmt::Formatter<W>) -> fmt::Result {
+        if self.0 >= 0 {
+            f.write_str("+")?;
+        }
+        f.write_str(Buffer::new().format(self.0))
     }
 }
 
 /// The suffix of the mnemonic of an operation of this width.
 impl fmt::Display for Width {
+    ghost output = { λ w. Some (width_suffix w) };
+
     fn fmt<W: fmt::Write>(&self, f: &mut fmt::Formatter<W>) -> fmt::Result {
-        let suffix = match self {
+        f.write_str(match self {
             Width::W32 => ".32",
             Width::W64 => "",
-        };
-        write!(f, "{suffix}")
+        })
     }
 }
 
 impl fmt::Display for AluOp {
+    ghost output = { λ op. Some (operator_name op) };
+
     fn fmt<W: fmt::Write>(&self, f: &mut fmt::Formatter<W>) -> fmt::Result {
-        let name = match self {
+        f.write_str(match self {
             AluOp::Add => "add",
             AluOp::Sub => "sub",
             AluOp::Mul => "mul",
@@ -52,33 +78,54 @@ impl fmt::Display for AluOp {
             AluOp::SignedMod => "smod",
             AluOp::Xor => "xor",
             AluOp::Arsh => "arsh",
-        };
-        write!(f, "{name}")
+        })
     }
 }
 
 impl fmt::Display for Extension {
+    ghost output = { λ e. Some (extension_name e) };
+
     fn fmt<W: fmt::Write>(&self, f: &mut fmt::Formatter<W>) -> fmt::Result {
-        let bits = self.offset();
-        let width = self.target();
-        write!(f, "movsx{bits}{width}")
+        f.write_str(match self {
+            Extension::ByteTo32 => "movsx8.32",
+            Extension::HalfTo32 => "movsx16.32",
+            Extension::ByteTo64 => "movsx8",
+            Extension::HalfTo64 => "movsx16",
+            Extension::WordTo64 => "movsx32",
+        })
     }
 }
 
 impl fmt::Display for SwapOp {
+    ghost output = { λ op. Some (order_name op) };
+
     fn fmt<W: fmt::Write>(&self, f: &mut fmt::Formatter<W>) -> fmt::Result {
-        let name = match self {
+        f.write_str(match self {
             SwapOp::ToLittle => "le",
             SwapOp::ToBig => "be",
             SwapOp::Reverse => "swap",
-        };
-        write!(f, "{name}")
+        })
+    }
+}
+
+/// The number of bits, behind the mnemonic of a byte swap.
+impl fmt::Display for SwapSize {
+    ghost output = { λ size. Some (bits_suffix size) };
+
+    fn fmt<W: fmt::Write>(&self, f: &mut fmt::Formatter<W>) -> fmt::Result {
+        f.write_str(match self {
+            SwapSize::Half => "16",
+            SwapSize::Word => "32",
+            SwapSize::Double => "64",
+        })
     }
 }
 
 impl fmt::Display for Condition {
+    ghost output = { λ c. Some (condition_name c) };
+
     fn fmt<W: fmt::Write>(&self, f: &mut fmt::Formatter<W>) -> fmt::Result {
-        let name = match self {
+        f.write_str(match self {
             Condition::Eq => "jeq",
             Condition::Gt => "jgt",
             Condition::Ge => "jge",
@@ -90,25 +137,27 @@ impl fmt::Display for Condition {
             Condition::Le => "jle",
             Condition::SignedLt => "jslt",
             Condition::SignedLe => "jsle",
-        };
-        write!(f, "{name}")
+        })
     }
 }
 
 /// The suffix of the mnemonic of a load or a store of this size.
 impl fmt::Display for Size {
+    ghost output = { λ size. Some (size_suffix size) };
+
     fn fmt<W: fmt::Write>(&self, f: &mut fmt::Formatter<W>) -> fmt::Result {
-        let letters = match self {
+        f.write_str(match self {
             Size::Word => "w",
             Size::Half => "h",
             Size::Byte => "b",
             Size::Double => "dw",
-        };
-        write!(f, "{letters}")
+        })
     }
 }
 
 impl fmt::Display for Insn {
+    ghost output = { λ i. Some (spelling i) };
+
     fn fmt<W: fmt::Write>(&self, f: &mut fmt::Formatter<W>) -> fmt::Result {
         match self {
             Insn::Alu {
@@ -128,25 +177,34 @@ impl fmt::Display for Insn {
                 dst,
                 src,
             } => write!(f, "{extension} {dst}, {src}"),
-            Insn::Swap { op, size, dst } => {
-                let bits = size.bits();
-                write!(f, "{op}{bits} {dst}")
+            Insn::Swap { op, size, dst } => write!(f, "{op}{size} {dst}"),
+            Insn::Jump { offset } => {
+                let distance = Signed(i32::from(*offset));
+                write!(f, "ja {distance}")
             }
-            Insn::Jump { offset } => write!(f, "ja {offset:+}"),
-            Insn::LongJump { offset } => write!(f, "ja.32 {offset:+}"),
+            Insn::LongJump { offset } => {
+                let distance = Signed(*offset);
+                write!(f, "ja.32 {distance}")
+            }
             Insn::JumpIf {
                 width,
                 condition,
                 dst,
                 operand,
                 offset,
-            } => write!(f, "{condition}{width} {dst}, {operand}, {offset:+}"),
+            } => {
+                let distance = Signed(i32::from(*offset));
+                write!(f, "{condition}{width} {dst}, {operand}, {distance}")
+            }
             Insn::Load {
                 size,
                 dst,
                 base,
                 offset,
-            } => write!(f, "ldx{size} {dst}, [{base}{offset:+}]"),
+            } => {
+                let displacement = Signed(i32::from(*offset));
+                write!(f, "ldx{size} {dst}, [{base}{displacement}]")
+            }
             Insn::LoadSigned {
                 size,
                 dst,
@@ -154,7 +212,8 @@ impl fmt::Display for Insn {
                 offset,
             } => {
                 let size = size.unsigned();
-                write!(f, "ldxs{size} {dst}, [{base}{offset:+}]")
+                let displacement = Signed(i32::from(*offset));
+                write!(f, "ldxs{size} {dst}, [{base}{displacement}]")
             }
             Insn::Store {
                 size,
@@ -166,11 +225,12 @@ impl fmt::Display for Insn {
                     Operand::Imm(_) => "st",
                     Operand::Reg(_) => "stx",
                 };
-                write!(f, "{class}{size} [{base}{offset:+}], {operand}")
+                let displacement = Signed(i32::from(*offset));
+                write!(f, "{class}{size} [{base}{displacement}], {operand}")
             }
             Insn::LoadImm { dst, value } => write!(f, "lddw {dst}, {value}"),
             Insn::Call { helper } => write!(f, "call {helper}"),
-            Insn::Exit => write!(f, "exit"),
+            Insn::Exit => f.write_str("exit"),
         }
     }
 }
