@@ -3,7 +3,7 @@
 use Rattle.std.specs.Prelude.{◌≡◌, ℕ, ◌<◌, Bool, true, ℤ, pos, ◌+ℤ◌, ◌≤ℤ◌, length, Option, None, is_some, slice_index_or}
 use Rattle.insn.specs.declared.register.Reg.{Reg}
 use Rattle.semantics.specs.Machine.{State}
-use Rattle.semantics.specs.Kept.{IsMemory}
+use Rattle.semantics.specs.Kept.{IsTagged}
 use Rattle.semantics.specs.Effects.{value_at}
 use Rattle.semantics.specs.declared.value.Value.{Value}
 use Rattle.semantics.specs.declared.value.Value.TheVariants as value
@@ -71,14 +71,14 @@ pub record IsCell (mode : Mode) (marked : Bool) (cell : Option ℕ) : Type 0 whe
 
 -- ---- states
 
--- A machine state is a member where each anchor has a place such that the datagram reaches as far as is proved of the
--- anchor, each register of a known kind has that kind with a member, and each marked stack cell holds a byte.
+-- A machine state is a member where it has what every tagged state keeps, each anchor has a place such that the datagram
+-- reaches as far as is proved of the anchor, each register of a known kind has that kind with a member, and each marked
+-- stack cell holds a byte.
 pub record IsMember {D : Type 0} (Member : D → ℕ → Type 0) (mode : Mode) (places : Places) (a : AbsState D) (s : State) : Type 0 where
   pub anchored : (anchor : Anchor) → IsPlaceOf anchor (places anchor)
   pub reaches : (anchor : Anchor) → (places anchor +ℤ proved_of a anchor) ≤ℤ pos s.memory.length
   pub known_count : length a.registers ≡ 11
   pub marks_count : length a.marks.words ≡ 8
-  pub count : length s.registers ≡ 11
   pub registers : (r : Reg) → IsValue Member mode places (abstract_at a.registers r) (value_at s.registers r)
   pub cells : (i : ℕ) → i < 512 → IsCell mode (is_marked a.marks i) (slice_index_or s.memory.stack i None)
-  pub memory : IsMemory s.memory
+  pub tagged : IsTagged s

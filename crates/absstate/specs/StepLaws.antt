@@ -4,7 +4,11 @@ pub mod Bounds
 pub mod MemoryValues
 pub mod Marking
 pub mod Results
+pub mod Tagged
 pub mod Members
+pub mod Arithmetic
+pub mod Forking
+pub mod Reading
 pub mod Simulation
 pub mod Following
 pub mod Answers

@@ -2,6 +2,7 @@
 -- decimal; a displacement and a jump distance have a sign.
 use Rattle.std.specs.Prelude.{ℕ, suc, ℤ, pos, negsuc, List, [], ◌∷◌, ◌++◌, codes, decimal}
 use Rattle.std.specs.Fmt.{signed_decimal}
+use Rattle.std.specs.List.{flat_map}
 use Rattle.insn.specs.Register.{number_of}
 use Rattle.insn.specs.Codes.{unsigned_size}
 use Rattle.insn.specs.declared.width.Width.{Width}
@@ -104,16 +105,18 @@ mnemonic Exit = codes "exit"
 
 -- ---- operands
 
--- what stands behind a mnemonic: a register, a number, the address in a register with a displacement, or a jump distance
+-- what stands behind a mnemonic: a register, a number with or without a sign, the address in a register with a
+-- displacement, or a jump distance
 pub data Argument : Type 0 where
   Register : Reg → Argument
-  Number : ℤ → Argument
+  Integer : ℤ → Argument
+  Natural : ℕ → Argument
   Address : Reg → ℤ → Argument
   Distance : ℤ → Argument
 
 abbrev pub argument_of : Operand → Argument
 argument_of (operand.Reg r) = Register r
-argument_of (operand.Imm n) = Number n
+argument_of (operand.Imm n) = Integer n
 
 abbrev pub arguments : Insn → List Argument
 arguments (Alu width op dst o) = Register dst ∷ argument_of o ∷ []
@@ -127,8 +130,8 @@ arguments (JumpIf width c dst o distance) = Register dst ∷ argument_of o ∷ D
 arguments (Load size dst base displacement) = Register dst ∷ Address base displacement ∷ []
 arguments (LoadSigned size dst base displacement) = Register dst ∷ Address base displacement ∷ []
 arguments (Store size base o displacement) = Address base displacement ∷ argument_of o ∷ []
-arguments (LoadImm dst value) = Register dst ∷ Number (pos value) ∷ []
-arguments (Call helper) = Number helper ∷ []
+arguments (LoadImm dst value) = Register dst ∷ Natural value ∷ []
+arguments (Call helper) = Integer helper ∷ []
 arguments Exit = []
 
 -- ---- texts
@@ -143,7 +146,8 @@ with_sign (negsuc n) = codes "-" ++ decimal (suc n)
 
 abbrev pub argument_text : Argument → List ℕ
 argument_text (Register r) = register_name r
-argument_text (Number n) = signed_decimal n
+argument_text (Integer n) = signed_decimal n
+argument_text (Natural n) = decimal n
 argument_text (Address base displacement) = codes "[" ++ register_name base ++ with_sign displacement ++ codes "]"
 argument_text (Distance n) = with_sign n
 
@@ -152,5 +156,10 @@ abbrev pub arguments_behind : List ℕ → List Argument → List ℕ
 arguments_behind before [] = []
 arguments_behind before (a ∷ more) = before ++ argument_text a ++ arguments_behind (codes ", ") more
 
+-- the fixed spelling
 abbrev pub spelling : Insn → List ℕ
 spelling i = mnemonic i ++ arguments_behind (codes " ") (arguments i)
+
+-- the text of a program: one instruction a line, each ended by a line feed
+abbrev pub listing : List Insn → List ℕ
+listing code = flat_map (λ i. spelling i ++ codes "\n") code

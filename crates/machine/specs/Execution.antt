@@ -8,6 +8,8 @@ use Rattle.semantics.specs.Slots.{IsAt}
 use Rattle.semantics.specs.Runs as runs
 use Rattle.semantics.specs.Runs.{Goes, Exits, Sticks, Run, run}
 use Rattle.semantics.specs.declared.value.Value.{Value}
+use Rattle.semantics.specs.declared.effect.Effect.{Effect}
+use Rattle.semantics.specs.declared.effect.Effect.TheVariants as effects
 use Rattle.semantics.specs.declared.fetching.Visit.{Visit}
 use Rattle.semantics.specs.declared.fetching.Position.{Position}
 use Rattle.machine.specs.declared.execution.StepResult.{StepResult}
@@ -44,6 +46,12 @@ abbrev pub result_of : ℕ → List Value → Memory → Plan → StepResult →
 result_of slot registers memory plan (code.Goes to) = Goes (state_at to.slot registers memory plan)
 result_of slot registers memory plan (code.Exits verdict) = Exits verdict
 result_of slot registers memory plan (code.Sticks reason) = Sticks reason slot
+
+-- behind every effect but a jump and an exit the run goes on to the next instruction
+abbrev pub GoesStraight : Effect → Type 0
+GoesStraight (effects.Jump offset) = ⊥
+GoesStraight (effects.Exit verdict) = ⊥
+GoesStraight _ = Unit {0}
 
 -- a step goes on to a later position of the program
 pub record GoesAhead (program : List Insn) (at to : Position) : Type 0 where

@@ -2,17 +2,18 @@
 
 ghost use Rattle.std.specs.Prelude.{◌≡◌, ℕ, ◌+◌, ◌≤◌, ◌<◌, List, IfOk, IfSome};
 ghost use Rattle.std.specs.Prelude.{length as count};
-ghost use Rattle.insn.specs.Encoding.{slot_count};
+ghost use Rattle.insn.specs.Encoding.{slot_count, slots_of};
 ghost use Rattle.insn.specs.declared.decoding.TheConstants.{MAX_SLOTS};
 ghost use Rattle.semantics.specs.Effects.{effect, StaysInside};
 ghost use Rattle.semantics.specs.Machine.{Context, first_registers, no_plan};
-ghost use Rattle.semantics.specs.Runs.{applied, called, answered_at, plan_answer, with_window, with_destination};
+ghost use Rattle.semantics.specs.Runs.{Goes, applied, called, answered_at, plan_answer, with_window, with_destination};
 ghost use Rattle.semantics.specs.Slots.{fetch, IsAt};
 ghost use Rattle.semantics.specs.declared.fetching.Fetched.TheVariants.{Begins};
 ghost use Rattle.semantics.specs.declared.limits.TheConstants.{STACK_BYTES, HEADROOM, MAX_DATAGRAM, TAILROOM};
 ghost use Rattle.semantics.specs.declared.helper.TheConstants.{RECORD_BYTES};
 ghost use Rattle.semantics.specs.Views.{memory_with};
-ghost use Rattle.machine.specs.Execution.{around, state_at, result_of, GoesAhead, IfGoes, IfEnds, IsInside, IsRecordOf, IsContextRecord, IsWholeRun};
+ghost use Rattle.machine.specs.Execution.{around, state_at, result_of, GoesAhead, GoesStraight, IfGoes, IfEnds};
+ghost use Rattle.machine.specs.Execution.{IsInside, IsRecordOf, IsContextRecord, IsWholeRun};
 
 use crate::outcome::Stuck;
 use crate::sink::Sink;
@@ -51,33 +52,41 @@ fn first_registers() -> Registers
     registers
 }
 
+/// What a run is given and does not change: its code, the context record, the helpers, and the datagram's length.
+#[derive(Drop)]
+pub struct Environment<'a, H> {
+    pub code: &'a [Insn],
+    pub context: &'a [u8; CONTEXT_BYTES],
+    pub helpers: &'a H,
+    pub length: usize,
+}
+
 /// Returns the effect of an instruction on registers and memory. What it stores, and a window, lie inside memory.
 ///
 /// # Errors
 /// The reason for which it is stuck.
 #[tactic(auto, using(semantics::specs::EffectLaws::effect_inside))]
-fn next_effect(
-    context: &[u8; CONTEXT_BYTES],
+fn next_effect<H>(
+    given: &Environment<H>,
     stack: &[Option<u8>],
     bytes: &[u8],
-    length: usize,
     registers: &Registers,
     insn: &Insn,
 ) -> Result<Effect, Reason>
-    requires context { IsContextRecord context.now length }
+    requires context { IsContextRecord given.now.context.now given.now.length }
     requires cells { count stack.now ≡ STACK_BYTES }
-    requires surrounded { count bytes.now ≡ HEADROOM + length + TAILROOM }
-    requires short { length ≤ MAX_DATAGRAM }
-    ensures effect { (c : Context) → IsRecordOf context.now length c
-        → result ≡ effect c (memory_with stack.now bytes.now length) registers.now insn.now }
-    ensures inside { IfOk result (StaysInside (memory_with stack.now bytes.now length)) }
+    requires surrounded { count bytes.now ≡ HEADROOM + given.now.length + TAILROOM }
+    requires short { given.now.length ≤ MAX_DATAGRAM }
+    ensures effect { (c : Context) → IsRecordOf given.now.context.now given.now.length c
+        → result ≡ effect c (memory_with stack.now bytes.now given.now.length) registers.now insn.now }
+    ensures inside { IfOk result (StaysInside (memory_with stack.now bytes.now given.now.length)) }
 {
     let memory = Memory {
         stack,
         bytes,
-        length,
+        length: given.length,
     };
-    effect_of(context, &memory, registers, insn)
+    effect_of(given.context, &memory, registers, insn)
 }
 
 /// Writes the answer of a call to `r0`. `r1` to `r5` hold nothing afterwards.
@@ -95,7 +104,8 @@ fn answer(registers: &mut Registers, n: u64)
 /// Writes the address record of an answer to the stack, if it is asked for.
 fn put_record(stack: &mut [Option<u8>], out: Option<usize>, address: [u8; 8])
     requires { IfSome out (λ i. i + RECORD_BYTES ≤ count stack.old) }
-    ensures { (bytes : List ℕ) (length : ℕ) → memory_with stack.new bytes length ≡ answered_at (memory_with stack.old bytes length) out address }
+    ensures { (bytes : List ℕ) (length : ℕ)
+        → memory_with stack.new bytes length ≡ answered_at (memory_with stack.old bytes length) out address }
 {
     if let Some(index) = out {
         put_cells(stack, index, &address);
@@ -111,13 +121,25 @@ fn ask<H: Helpers>(
     out: Option<usize>,
 )
     requires { IfSome out (λ i. i + RECORD_BYTES ≤ count stack.old) }
-    ensures registers { registers.new ≡ called registers.old (H.answers helpers.now question.helper question.number question.address).0 }
-    ensures stack { (bytes : List ℕ) (length : ℕ) → memory_with stack.new bytes length
-        ≡ answered_at (memory_with stack.old bytes length) out (H.answers helpers.now question.helper question.number question.address).1 }
+    ensures registers { let answer = H.answers helpers.now question.helper question.number question.address in
+        registers.new ≡ called registers.old answer.0 }
+    ensures stack { let answer = H.answers helpers.now question.helper question.number question.address in
+        (bytes : List ℕ) (length : ℕ)
+        → memory_with stack.new bytes length ≡ answered_at (memory_with stack.old bytes length) out answer.1 }
 {
     let (n, address) = helpers.answer(question.helper, question.number, question.address);
     answer(registers, n);
     put_record(stack, out, address);
+}
+
+/// Answers a call that changes the plan: 0 where there is a value to be set, and else 1.
+fn answer_change<T>(registers: &mut Registers, value: &Option<T>)
+    ensures { registers.new ≡ called registers.old (plan_answer value.now) }
+{
+    match value {
+        Some(_) => answer(registers, 0),
+        None => answer(registers, 1),
+    }
 }
 
 /// Sets the window of the plan, if there is one, and answers whether.
@@ -125,13 +147,10 @@ fn set_window(plan: &mut Plan, registers: &mut Registers, window: Option<(usize,
     ensures plan { plan.new ≡ with_window plan.old window }
     ensures registers { registers.new ≡ called registers.old (plan_answer window) }
 {
-    match window {
-        Some(window) => {
-            plan.window = Some(window);
-            answer(registers, 0);
-        }
-        None => answer(registers, 1),
+    if let Some(window) = window {
+        plan.window = Some(window);
     }
+    answer_change(registers, &window);
 }
 
 /// Sets the destination of the plan, if there is one, and answers whether.
@@ -139,139 +158,130 @@ fn set_destination(plan: &mut Plan, registers: &mut Registers, destination: Opti
     ensures plan { plan.new ≡ with_destination plan.old destination }
     ensures registers { registers.new ≡ called registers.old (plan_answer destination) }
 {
-    match destination {
-        Some(destination) => {
-            plan.destination = Some(destination);
-            answer(registers, 0);
-        }
-        None => answer(registers, 1),
+    if let Some(destination) = destination {
+        plan.destination = Some(destination);
+    }
+    answer_change(registers, &destination);
+}
+
+/// Applies an effect behind which the run goes on to the next instruction to registers, memory and plan.
+fn apply<H: Helpers>(
+    given: &Environment<H>,
+    stack: &mut [Option<u8>],
+    bytes: &mut [u8],
+    registers: &mut Registers,
+    plan: &mut Plan,
+    effect: Effect,
+)
+    requires straight { GoesStraight effect }
+    requires inside { StaysInside (memory_with stack.old bytes.old given.now.length) effect }
+    requires planned { IsInside given.now.length plan.old }
+    ensures applied { (c : Context) (program : List Insn) (slot : ℕ) (i : Insn)
+        → Goes (state_at (slot + slots_of i) registers.new (memory_with stack.new bytes.new given.now.length) plan.new)
+        ≡ applied (around c (H.answers given.now.helpers.now)) program
+        (state_at slot registers.old (memory_with stack.old bytes.old given.now.length) plan.old) i (Ok effect) }
+    ensures inside { IsInside given.now.length plan.new }
+{
+    match effect {
+        Effect::Write { dst, value } => registers[dst.number() as usize] = value,
+        Effect::Store {
+            at: location,
+            size,
+            value,
+        } => store(stack, bytes, location, size, value),
+        Effect::Ask { question, out } => ask(given.helpers, stack, registers, question, out),
+        Effect::SetWindow(window) => set_window(plan, registers, window),
+        Effect::SetDestination(destination) => set_destination(plan, registers, destination),
+        Effect::Jump { .. } | Effect::Pass | Effect::Exit { .. } => {}
     }
 }
 
 /// Makes the step of the instruction at a position. A step that ends the run changes neither memory nor plan.
 fn execute_step<H: Helpers>(
-    code: &[Insn],
-    context: &[u8; CONTEXT_BYTES],
-    helpers: &H,
+    given: &Environment<H>,
     stack: &mut [Option<u8>],
     bytes: &mut [u8],
-    length: usize,
     registers: &mut Registers,
     plan: &mut Plan,
     at: Position,
     insn: &Insn,
 ) -> StepResult
-    requires here { at.index < count code.now }
-    requires at { IsAt code.now at }
-    requires few { slot_count code.now ≤ MAX_SLOTS }
-    requires insn { fetch code.now at.slot ≡ Begins insn.now }
-    requires context { IsContextRecord context.now length }
+    requires here { at.index < count given.now.code.now }
+    requires at { IsAt given.now.code.now at }
+    requires few { slot_count given.now.code.now ≤ MAX_SLOTS }
+    requires insn { fetch given.now.code.now at.slot ≡ Begins insn.now }
+    requires context { IsContextRecord given.now.context.now given.now.length }
     requires cells { count stack.old ≡ STACK_BYTES }
-    requires surrounded { count bytes.old ≡ HEADROOM + length + TAILROOM }
-    requires short { length ≤ MAX_DATAGRAM }
-    requires inside { IsInside length plan.old }
-    ensures result { (c : Context) → IsRecordOf context.now length c
-        → result_of at.slot registers.new (memory_with stack.new bytes.new length) plan.new result
-        ≡ applied (around c (H.answers helpers.now)) code.now (state_at at.slot registers.old (memory_with stack.old bytes.old length) plan.old) insn.now
-        (effect c (memory_with stack.old bytes.old length) registers.old insn.now) }
-    ensures ahead { IfGoes result (GoesAhead code.now at) }
-    ensures inside { IsInside length plan.new }
-    ensures kept { IfEnds result (memory_with stack.new bytes.new length ≡ memory_with stack.old bytes.old length) }
+    requires surrounded { count bytes.old ≡ HEADROOM + given.now.length + TAILROOM }
+    requires short { given.now.length ≤ MAX_DATAGRAM }
+    requires inside { IsInside given.now.length plan.old }
+    ensures result { (c : Context) → IsRecordOf given.now.context.now given.now.length c
+        → result_of at.slot registers.new (memory_with stack.new bytes.new given.now.length) plan.new result
+        ≡ applied (around c (H.answers given.now.helpers.now)) given.now.code.now
+        (state_at at.slot registers.old (memory_with stack.old bytes.old given.now.length) plan.old) insn.now
+        (effect c (memory_with stack.old bytes.old given.now.length) registers.old insn.now) }
+    ensures ahead { IfGoes result (GoesAhead given.now.code.now at) }
+    ensures inside { IsInside given.now.length plan.new }
+    ensures kept { IfEnds result
+        (memory_with stack.new bytes.new given.now.length ≡ memory_with stack.old bytes.old given.now.length) }
     ensures planned { IfEnds result (plan.new ≡ plan.old) }
 {
-    match next_effect(context, stack, bytes, length, registers, insn) {
-        Ok(Effect::Write { dst, value }) => {
-            registers[dst.number() as usize] = value;
-            StepResult::Goes(at.next(code))
-        }
-        Ok(
-            Effect::Store {
-                at: location,
-                size,
-                value,
-            },
-        ) => {
-            store(stack, bytes, location, size, value);
-            StepResult::Goes(at.next(code))
-        }
-        Ok(Effect::Ask { question, out }) => {
-            ask(helpers, stack, registers, question, out);
-            StepResult::Goes(at.next(code))
-        }
-        Ok(Effect::SetWindow(window)) => {
-            set_window(plan, registers, window);
-            StepResult::Goes(at.next(code))
-        }
-        Ok(Effect::SetDestination(destination)) => {
-            set_destination(plan, registers, destination);
-            StepResult::Goes(at.next(code))
-        }
-        Ok(Effect::Pass) => StepResult::Goes(at.next(code)),
-        Ok(Effect::Jump { offset }) => match target(code, at, offset) {
+    match next_effect(given, stack, bytes, registers, insn) {
+        Ok(Effect::Jump { offset }) => match target(given.code, at, offset) {
             Ok(to) => StepResult::Goes(to),
             Err(reason) => StepResult::Sticks(reason),
         },
         Ok(Effect::Exit { verdict }) => StepResult::Exits(verdict),
+        Ok(effect) => {
+            apply(given, stack, bytes, registers, plan, effect);
+            StepResult::Goes(at.next(given.code))
+        }
         Err(reason) => StepResult::Sticks(reason),
     }
 }
 
 /// Runs the code from the first registers to its end, and reports each step to the sink. Its memory is the stack and
-/// `bytes`, a datagram of `length` bytes between headroom and tailroom, which it writes in place; it begins without a
-/// plan. `context` is the context record.
+/// `bytes`, a datagram between headroom and tailroom, which it writes in place; it begins without a plan.
 ///
 /// # Errors
 /// The step that is stuck.
 pub fn execute<H: Helpers, S: Sink>(
-    code: &[Insn],
-    context: &[u8; CONTEXT_BYTES],
-    helpers: &H,
+    given: &Environment<H>,
     stack: &mut [Option<u8>],
     bytes: &mut [u8],
-    length: usize,
     plan: &mut Plan,
     sink: &mut S,
 ) -> Result<Exited, Stuck>
-    requires few { slot_count code.now ≤ MAX_SLOTS }
-    requires context { IsContextRecord context.now length }
+    requires few { slot_count given.now.code.now ≤ MAX_SLOTS }
+    requires context { IsContextRecord given.now.context.now given.now.length }
     requires cells { count stack.old ≡ STACK_BYTES }
-    requires surrounded { count bytes.old ≡ HEADROOM + length + TAILROOM }
-    requires short { length ≤ MAX_DATAGRAM }
+    requires surrounded { count bytes.old ≡ HEADROOM + given.now.length + TAILROOM }
+    requires short { given.now.length ≤ MAX_DATAGRAM }
     requires planless { plan.old ≡ no_plan }
-    ensures run { IsWholeRun S.with_step code.now (H.answers helpers.now) context.now (memory_with stack.old bytes.old length)
-        (memory_with stack.new bytes.new length) plan.new (S.log sink.old) (S.log sink.new) result }
-    ensures inside { IsInside length plan.new }
+    ensures run { IsWholeRun S.with_step given.now.code.now (H.answers given.now.helpers.now) given.now.context.now
+        (memory_with stack.old bytes.old given.now.length) (memory_with stack.new bytes.new given.now.length) plan.new
+        (S.log sink.old) (S.log sink.new) result }
+    ensures inside { IsInside given.now.length plan.new }
 {
     let mut registers = first_registers();
     let mut at = Position { slot: 0, index: 0 };
     let mut steps = 0;
     loop {
         let slot = at.slot;
-        let insn = match fetch(code, at) {
+        let insn = match fetch(given.code, at) {
             Fetched::Begins(insn) => insn,
             Fetched::Inside => {
                 let reason = Reason::JumpIntoWide;
                 return Err(Stuck { reason, slot });
             }
             Fetched::Past => {
-                let (reason, slot) = (Reason::FallsOffEnd, last(code).slot);
+                let (reason, slot) = (Reason::FallsOffEnd, last(given.code).slot);
                 return Err(Stuck { reason, slot });
             }
         };
         sink.step(slot, &insn);
         steps += 1;
-        match execute_step(
-            code,
-            context,
-            helpers,
-            stack,
-            bytes,
-            length,
-            &mut registers,
-            plan,
-            at,
-            &insn,
-        ) {
+        match execute_step(given, stack, bytes, &mut registers, plan, at, &insn) {
             StepResult::Goes(to) => at = to,
             StepResult::Exits(verdict) => return Ok(Exited { verdict, steps }),
             StepResult::Sticks(reason) => return Err(Stuck { reason, slot }),

@@ -15,14 +15,14 @@ ghost use Rattle.machine.specs.Execution.{IsInside, IsContextRecord, IsWholeRun}
 ghost use Rattle.machine.specs.Tracing.{run_of, IsOutcome, left_by, RunsOver, IsFrameRun};
 
 use crate::context::{address_of, context_record};
-use crate::execution::{Exited, execute};
+use crate::execution::{Environment, Exited, execute};
 use crate::frame::Frame;
 use crate::outcome::{Outcome, Stuck};
 use crate::sink::Sink;
 use attributes::Addr;
 use helpers::Helpers;
 use insn::Insn;
-use semantics::{CONTEXT_BYTES, HEADROOM, Plan, TAILROOM};
+use semantics::{HEADROOM, Plan, TAILROOM};
 
 /// The plan at the start of a run.
 const NO_PLAN: Plan = Plan {
@@ -30,40 +30,38 @@ const NO_PLAN: Plan = Plan {
     destination: None,
 };
 
-/// Runs a program over a stack, and over the first bytes of an area: a datagram of `length` bytes between headroom and
-/// tailroom. What stands behind them does not change. `context` is the context record.
+/// Runs a program over a stack, and over the first bytes of an area: a datagram between headroom and tailroom. What
+/// stands behind them does not change.
 ///
 /// # Errors
 /// The step that is stuck.
 fn execute_in<H: Helpers, S: Sink>(
-    code: &[Insn],
-    context: &[u8; CONTEXT_BYTES],
-    helpers: &H,
+    given: &Environment<H>,
     stack: &mut [Option<u8>],
     area: &mut [u8],
-    length: usize,
     plan: &mut Plan,
     sink: &mut S,
 ) -> Result<Exited, Stuck>
-    requires few { slot_count code.now ≤ MAX_SLOTS }
-    requires context { IsContextRecord context.now length }
+    requires few { slot_count given.now.code.now ≤ MAX_SLOTS }
+    requires context { IsContextRecord given.now.context.now given.now.length }
     requires cells { count stack.old ≡ STACK_BYTES }
-    requires room { HEADROOM + TAILROOM + length ≤ count area.old }
-    requires short { length ≤ MAX_DATAGRAM }
+    requires room { HEADROOM + TAILROOM + given.now.length ≤ count area.old }
+    requires short { given.now.length ≤ MAX_DATAGRAM }
     requires planless { plan.old ≡ no_plan }
-    ensures run { IsWholeRun S.with_step code.now (H.answers helpers.now) context.now
-        (memory_with stack.old (take (HEADROOM + TAILROOM + length) area.old) length)
-        (memory_with stack.new (take (HEADROOM + TAILROOM + length) area.new) length)
+    ensures run { let size = HEADROOM + TAILROOM + given.now.length in
+        IsWholeRun S.with_step given.now.code.now (H.answers given.now.helpers.now) given.now.context.now
+        (memory_with stack.old (take size area.old) given.now.length)
+        (memory_with stack.new (take size area.new) given.now.length)
         plan.new (S.log sink.old) (S.log sink.new) result }
-    ensures inside { IsInside length plan.new }
-    ensures behind { drop (HEADROOM + TAILROOM + length) area.new ≡ drop (HEADROOM + TAILROOM + length) area.old }
+    ensures inside { IsInside given.now.length plan.new }
+    ensures behind { let size = HEADROOM + TAILROOM + given.now.length in drop size area.new ≡ drop size area.old }
 {
-    let bytes = &mut area[..HEADROOM + TAILROOM + length];
-    execute(code, context, helpers, stack, bytes, length, plan, sink)
+    let bytes = &mut area[..HEADROOM + TAILROOM + given.length];
+    execute(given, stack, bytes, plan, sink)
 }
 
-/// Runs a program over a started frame, whose memory it writes in place. Afterwards the frame is not started, and `plan`
-/// is what the run has planned.
+/// Runs a program over a started frame, whose memory it writes in place. Afterwards the frame is not started, and
+/// `plan` is what the run has planned.
 ///
 /// # Errors
 /// The step that is stuck.
@@ -79,21 +77,19 @@ fn run_frame<H: Helpers, S: Sink>(
     requires planless { plan.old ≡ no_plan }
     ensures datagram { IsDatagram (datagram_of frame.old) }
     ensures context { IsContext (context_of frame.old.context) }
-    ensures run { RunsOver S.with_step (H.answers helpers.now) code.now frame.old frame.new plan.new (S.log sink.old) (S.log sink.new) result }
+    ensures run { RunsOver S.with_step (H.answers helpers.now) code.now frame.old frame.new plan.new
+        (S.log sink.old) (S.log sink.new) result }
 {
     let length = frame.datagram().len();
     let context = context_record(&frame.context, length);
     frame.is_started = false;
-    let ended = execute_in(
+    let given = Environment {
         code,
-        &context,
+        context: &context,
         helpers,
-        &mut frame.stack,
-        &mut frame.area,
         length,
-        plan,
-        sink,
-    );
+    };
+    let ended = execute_in(&given, &mut frame.stack, &mut frame.area, plan, sink);
     frame.window = plan.window;
     ended
 }
@@ -120,7 +116,8 @@ pub(crate) fn execute_frame<H: Helpers, S: Sink>(
     requires started { frame.old.is_started ≡ true }
     ensures datagram { IsDatagram (datagram_of frame.old) }
     ensures context { IsContext (context_of frame.old.context) }
-    ensures run { IsFrameRun S.with_step (H.answers helpers.now) code.now frame.old frame.new (S.log sink.old) (S.log sink.new) result }
+    ensures run { IsFrameRun S.with_step (H.answers helpers.now) code.now frame.old frame.new
+        (S.log sink.old) (S.log sink.new) result }
 {
     let mut plan = NO_PLAN;
     match run_frame(code, frame, helpers, &mut plan, sink) {
@@ -149,9 +146,11 @@ pub fn trace<H: Helpers, S: Sink>(
     requires few { slot_count code.now ≤ MAX_SLOTS }
     requires started { frame.old.is_started ≡ true }
     ensures ok { IfOk result (λ o. IsOutcome o (run_of code.now frame.old (H.answers helpers.now))) }
-    ensures err { IfErr result (λ s. (run_of code.now frame.old (H.answers helpers.now)).ending ≡ runs.Stuck s.reason s.slot) }
+    ensures err { IfErr result
+        (λ s. (run_of code.now frame.old (H.answers helpers.now)).ending ≡ runs.Stuck s.reason s.slot) }
     ensures left { frame.new ≡ left_by frame.old (run_of code.now frame.old (H.answers helpers.now)) }
-    ensures reported { S.log sink.new ≡ fold S.with_step (S.log sink.old) (run_of code.now frame.old (H.answers helpers.now)).path }
+    ensures reported { S.log sink.new
+        ≡ fold S.with_step (S.log sink.old) (run_of code.now frame.old (H.answers helpers.now)).path }
 {
     execute_frame(code, frame, helpers, sink)
 }

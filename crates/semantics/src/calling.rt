@@ -7,12 +7,13 @@ ghost use Rattle.semantics.specs.Machine as machine;
 ghost use Rattle.semantics.specs.Machine.{Context, IsContext, context_bytes};
 ghost use Rattle.semantics.specs.Views.{memory_of};
 ghost use Rattle.semantics.specs.declared.helper.Helper.TheVariants.{ChannelPeer, Window, Destination};
+ghost use Rattle.semantics.specs.declared.limits.TheConstants.{STACK_BYTES};
 
 use crate::effect::{Effect, Registers, read};
 use crate::helper::{
     Helper, Question, RECORD_BYTES, bytes_of_cells, destination_at, stack_index, window_within,
 };
-use crate::loading::{part_of, side};
+use crate::loading::{CONTEXT_BYTES, part_of, side};
 use crate::memory::Memory;
 use crate::reason::Reason;
 use crate::value::Value;
@@ -41,7 +42,7 @@ pub(crate) fn number_argument(registers: &Registers, reg: Reg) -> Result<u64, Re
 /// Returns the index, among the stack cells, of the eight bytes that an argument points to.
 pub(crate) fn stack_argument(registers: &Registers, reg: Reg) -> Result<usize, Reason>
     ensures index { result ≡ stack_argument registers.now reg }
-    ensures inside { IfOk result (λ i. i + 8 ≤ 512) }
+    ensures inside { IfOk result (λ i. i + RECORD_BYTES ≤ STACK_BYTES) }
 {
     let argument = read(registers, reg)?;
     stack_index(argument).ok_or(Reason::HelperArgument(reg.number()))
@@ -52,7 +53,7 @@ pub(crate) fn record_argument(
     memory: &Memory<'_>,
     registers: &Registers,
     reg: Reg,
-) -> Result<[u8; 8], Reason>
+) -> Result<[u8; RECORD_BYTES], Reason>
     ensures { result ≡ record_argument (memory_of memory.now) registers.now reg }
 {
     let index = stack_argument(registers, reg)?;
@@ -67,7 +68,7 @@ fn channel_peer_effect(registers: &Registers) -> Result<Effect, Reason>
     let number = number_argument(registers, Reg::R2)?;
     let out = stack_argument(registers, Reg::R3)?;
     let helper = Helper::ChannelPeer.number();
-    let address = [0; 8];
+    let address = [0; RECORD_BYTES];
     Ok(Effect::Ask {
         question: Question {
             helper,
@@ -111,7 +112,7 @@ fn window_effect(memory: &Memory<'_>, registers: &Registers) -> Result<Effect, R
 
 /// Sets the destination.
 fn destination_effect(
-    context: &[u8; 48],
+    context: &[u8; CONTEXT_BYTES],
     memory: &Memory<'_>,
     registers: &Registers,
 ) -> Result<Effect, Reason>
@@ -124,7 +125,7 @@ fn destination_effect(
 
 /// Returns the effect of a call.
 pub(crate) fn call_effect(
-    context: &[u8; 48],
+    context: &[u8; CONTEXT_BYTES],
     memory: &Memory<'_>,
     registers: &Registers,
     number: i32,

@@ -10,9 +10,9 @@ ghost use Rattle.semantics.specs.declared.limits.TheConstants.{MAX_DATAGRAM};
 
 use crate::access::{Location, locate};
 use crate::calling::call_effect;
-use crate::helper::Question;
+use crate::helper::{Question, RECORD_BYTES};
 use crate::limits::MAX_OFFSET;
-use crate::loading::{load, load_signed};
+use crate::loading::{CONTEXT_BYTES, load, load_signed};
 use crate::memory::Memory;
 use crate::reason::Reason;
 use crate::value::Value;
@@ -48,7 +48,7 @@ pub enum Effect {
     /// otherwise.
     SetWindow(Option<(usize, usize)>),
     /// Sets the destination, as `SetWindow` does the window.
-    SetDestination(Option<[u8; 8]>),
+    SetDestination(Option<[u8; RECORD_BYTES]>),
     /// Jumps by a distance in slots, counted from the next slot.
     Jump {
         offset: i32,
@@ -236,7 +236,7 @@ fn jump_if_effect(
 }
 
 fn load_effect(
-    context: &[u8; 48],
+    context: &[u8; CONTEXT_BYTES],
     memory: &Memory<'_>,
     registers: &Registers,
     size: Size,
@@ -317,7 +317,7 @@ fn exit_effect(registers: &Registers) -> Result<Effect, Reason>
 /// # Errors
 /// The reason for which it is stuck: that of the first of its tests that fails.
 pub fn effect_of(
-    context: &[u8; 48],
+    context: &[u8; CONTEXT_BYTES],
     memory: &Memory<'_>,
     registers: &Registers,
     insn: &Insn,

@@ -3,7 +3,7 @@
 ghost use Rattle.std.specs.Prelude.{◌≡◌, ◌≤◌, ◌+◌, IfSome, length};
 ghost use Rattle.semantics.specs.Access.{cells_bytes};
 ghost use Rattle.semantics.specs.Calls.{helper_number, helper_of, stack_index, window_within, destination_at};
-ghost use Rattle.semantics.specs.declared.limits.TheConstants.{MAX_DATAGRAM};
+ghost use Rattle.semantics.specs.declared.limits.TheConstants.{STACK_BYTES, MAX_DATAGRAM};
 
 use crate::access::index_in_stack;
 use crate::limits::{HEADROOM, MAX_DATAGRAM, TAILROOM};
@@ -61,7 +61,7 @@ impl Helper {
 pub struct Question {
     pub helper: u8,
     pub number: u64,
-    pub address: [u8; 8],
+    pub address: [u8; RECORD_BYTES],
 }
 
 /// Returns the index, among the stack cells, of the eight bytes that a pointer points to, or `None` where they don't lie
@@ -69,7 +69,7 @@ pub struct Question {
 #[tactic(auto, using(crate::specs::AccessLaws::index_short))]
 pub(crate) fn stack_index(pointer: Value) -> Option<usize>
     ensures index { result ≡ stack_index pointer }
-    ensures inside { IfSome result (λ i. i + 8 ≤ 512) }
+    ensures inside { IfSome result (λ i. i + RECORD_BYTES ≤ STACK_BYTES) }
 {
     match pointer {
         Value::Stack(k) => index_in_stack(k, 0, RECORD_BYTES),
@@ -78,12 +78,12 @@ pub(crate) fn stack_index(pointer: Value) -> Option<usize>
 }
 
 /// Returns the bytes of eight stack cells, or `None` where one holds nothing.
-pub(crate) fn bytes_of_cells(cells: &[Option<u8>]) -> Option<[u8; 8]>
-    requires { length cells.now ≡ 8 }
+pub(crate) fn bytes_of_cells(cells: &[Option<u8>]) -> Option<[u8; RECORD_BYTES]>
+    requires { length cells.now ≡ RECORD_BYTES }
     ensures { result ≡ cells_bytes cells.now }
 {
-    let mut bytes = [0; 8];
-    for i in 0..8 {
+    let mut bytes = [0; RECORD_BYTES];
+    for i in 0..RECORD_BYTES {
         bytes[i] = cells[i]?;
     }
     Some(bytes)
@@ -104,7 +104,7 @@ pub(crate) fn window_within(size: usize, front: u64, length: u64) -> Option<(usi
 }
 
 /// Returns the destination that a program on a side may set: a valid record, at the client's side.
-pub(crate) fn destination_at(side: u64, address: [u8; 8]) -> Option<[u8; 8]>
+pub(crate) fn destination_at(side: u64, address: [u8; RECORD_BYTES]) -> Option<[u8; RECORD_BYTES]>
     ensures { result ≡ destination_at side address }
 {
     if side == 0 && address[0] == 0 && address[1] == 1 {

@@ -88,10 +88,10 @@ fn number_of_cells(cells: &[Option<u8>]) -> Option<u64>
 }
 
 /// Returns the number in some bytes of the context record.
-fn field_number(context: &[u8; 48], n: usize, offset: usize) -> Value
+fn field_number(context: &[u8; CONTEXT_BYTES], n: usize, offset: usize) -> Value
     requires some { 1 ≤ n }
     requires few { n ≤ 8 }
-    requires inside { offset + n ≤ 48 }
+    requires inside { offset + n ≤ CONTEXT_BYTES }
     ensures { result ≡ field_number context.now n offset }
 {
     Value::Scalar(number_of_bytes(context, offset, n))
@@ -99,14 +99,14 @@ fn field_number(context: &[u8; 48], n: usize, offset: usize) -> Value
 
 /// Returns the side in the context record.
 #[tactic(auto, using(crate::specs::ContextLaws::side_field))]
-pub(crate) fn side(context: &[u8; 48]) -> u64
+pub(crate) fn side(context: &[u8; CONTEXT_BYTES]) -> u64
     ensures { (c : Context) (n : ℕ) → IsContext c → context.now ≡ context_bytes c n → result ≡ c.side }
 {
     number_of_bytes(context, 44, 4)
 }
 
 /// Returns the value of a field of the context record.
-fn field_value(context: &[u8; 48], field: Field) -> Value
+fn field_value(context: &[u8; CONTEXT_BYTES], field: Field) -> Value
     ensures { result ≡ field_value context.now field }
 {
     match field {
@@ -121,7 +121,7 @@ fn field_value(context: &[u8; 48], field: Field) -> Value
 }
 
 /// Returns the value that an access to the context record reads.
-fn load_field(context: &[u8; 48], displacement: i16, size: Size) -> Result<Value, Reason>
+fn load_field(context: &[u8; CONTEXT_BYTES], displacement: i16, size: Size) -> Result<Value, Reason>
     ensures { result ≡ load_field context.now displacement size }
 {
     let field = field_at(displacement, size).ok_or(Reason::ContextAccess)?;
@@ -160,7 +160,7 @@ fn number_at(memory: &Memory<'_>, base: Value, displacement: i16, n: usize) -> R
 /// # Errors
 /// The reason for which the load is stuck.
 pub fn load(
-    context: &[u8; 48],
+    context: &[u8; CONTEXT_BYTES],
     memory: &Memory<'_>,
     base: Value,
     displacement: i16,

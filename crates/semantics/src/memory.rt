@@ -2,7 +2,7 @@
 
 ghost use Rattle.std.specs.Prelude.{◌≡◌, ◌≤◌, ◌+◌};
 ghost use Rattle.std.specs.Prelude.{length as count};
-ghost use Rattle.semantics.specs.declared.limits.TheConstants.{MAX_DATAGRAM};
+ghost use Rattle.semantics.specs.declared.limits.TheConstants.{STACK_BYTES, MAX_DATAGRAM};
 
 /// The memory that a program reaches by pointers.
 #[derive(Drop)]
@@ -13,7 +13,7 @@ pub struct Memory<'a> {
     pub bytes: &'a [u8],
     /// The datagram's length, at most 65,507.
     pub length: usize,
-    ghost cells: { count stack.now ≡ 512 },
+    ghost cells: { count stack.now ≡ STACK_BYTES },
     ghost surrounded: { count bytes.now ≡ 64 + length + 3 },
     ghost short: { length ≤ MAX_DATAGRAM },
 }

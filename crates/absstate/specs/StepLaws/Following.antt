@@ -36,8 +36,10 @@ use Rattle.absstate.specs.declared.abstract_state.AbsState.{AbsState}
 use Rattle.absstate.specs.declared.abstract_step.Next.{Next}
 use Rattle.absstate.specs.declared.abstract_step.Next.TheVariants as next
 use Rattle.absstate.specs.StepLaws.Agreement.{Agree}
+use Rattle.absstate.specs.StepLaws.Arithmetic.{AreClaims}
 use Rattle.absstate.specs.StepLaws.Members.{member_written, member_moved, member_stored, member_planned, member_called, member_answered}
-use Rattle.absstate.specs.StepLaws.Simulation.{IsAsked, IsEffectOf, AreClaims, steps_agree}
+use Rattle.absstate.specs.StepLaws.Tagged.{written_proper}
+use Rattle.absstate.specs.StepLaws.Simulation.{IsAsked, IsEffectOf, steps_agree}
 
 abbrev none_claimed : Reason → Type 0
 none_claimed r = ⊥
@@ -126,16 +128,16 @@ module _ {D : Type 0} (ops : Operations D) (Member : D → ℕ → Type 0) (soun
       let answer = w.answer q.helper q.number q.address in
       let lawful = is.lawful w.answer real.helpers in
       subst (λ (x : AbsState D). IsMember Member mode places x (answered s (s.slot + slots_of i) out answer)) (sym is.behind)
-      (member_answered Member mode places a s (ops.range 0 (abstract.greatest_answer is.asked)) (s.slot + slots_of i) out answer member (in_range answer.0 (abstract.greatest_answer is.asked) (bounded is.asked) lawful.0) (both_of out answer.1 is.room lawful.1))
+      (member_answered Member sound.words mode places a s (ops.range 0 (abstract.greatest_answer is.asked)) (s.slot + slots_of i) out answer member (in_range answer.0 (abstract.greatest_answer is.asked) (bounded is.asked) lawful.0) (both_of out answer.1 is.room lawful.1))
 
   pub planned_member : (mode : Mode) (places : Places) (a : AbsState D) (s : State) → IsMember Member mode places a s → (i : Insn) (b : AbsState D) (h : Helper) (n : ℕ) (plan : Plan) → b ≡ abstract.answered ops a h None → n ≤ 1 → abstract.greatest_answer h ≡ 1
       → IsMember Member mode places b (planned s (s.slot + slots_of i) n plan)
   planned_member mode places a s member i b h n plan is small one =
       subst (λ (x : AbsState D). IsMember Member mode places x (planned s (s.slot + slots_of i) n plan)) (sym is)
       (member_planned Member mode places (with_answer a (ops.range 0 (abstract.greatest_answer h))) (record s { slot = s.slot + slots_of i; registers = called s.registers n })
-      (member_called Member mode places a s (ops.range 0 (abstract.greatest_answer h)) n (s.slot + slots_of i) member (in_range n (abstract.greatest_answer h) (bounded h) (omega (arith, small, one)))) plan)
+      (member_called Member sound.words mode places a s (ops.range 0 (abstract.greatest_answer h)) n (s.slot + slots_of i) member (in_range n (abstract.greatest_answer h) (bounded h) (omega (arith, small, one)))) plan)
 
-  module _ (w : Surroundings) (code : List Insn) (mode : Mode) (places : Places) (a : AbsState D) (s : State) (member : IsMember Member mode places a s) (i : Insn) (real : AreReal w) (good : (branch : Branch) → IsOk (branch_slot code s.slot i branch)) where
+  module _ (w : Surroundings) (code : List Insn) (mode : Mode) (places : Places) (a : AbsState D) (s : State) (member : IsMember Member mode places a s) (i : Insn) (fit : Fits i) (real : AreReal w) (here : fetch code s.slot ≡ Begins i) (good : (branch : Branch) → IsOk (branch_slot code s.slot i branch)) where
     behind : (branch : Branch) (b : AbsState D) → ((to : ℕ) → IsMember Member mode places b (record s { slot = to })) → (n : ℕ) → branch_slot code s.slot i branch ≡ Ok n → IsBehind Member code mode places s i branch b (record s { slot = n })
     behind branch b h n leads = record { leads = leads; size = refl; member = h n }
 
@@ -150,7 +152,9 @@ module _ {D : Type 0} (ops : Operations D) (Member : D → ℕ → Type 0) (soun
       record {
         leads = straight_leads code s.slot i NotTaken is.3;
         size = refl;
-        member = subst (λ (c : AbsState D). IsMember Member mode places c (record s { slot = s.slot + slots_of i; registers = write_register s r v })) (sym is.1) (member_written Member mode places a s member r is.0 v (s.slot + slots_of i) (is.2.held short));
+        member = subst (λ (c : AbsState D). IsMember Member mode places c (record s { slot = s.slot + slots_of i; registers = write_register s r v })) (sym is.1)
+            (member_written Member mode places a s member r is.0 v (s.slot + slots_of i) (is.2.held short)
+            (written_proper w code s i r v (s.slot + slots_of i) real here fit member.tagged (step_is w code s i (Ok (effect.Write r v)) here has)));
       },
     )
     effect_follows short (next.On b) (effect.Store at z n) has is = (
@@ -213,7 +217,7 @@ module _ {D : Type 0} (ops : Operations D) (Member : D → ℕ → Type 0) (soun
   pub steps_follow : (a : AbsState D) (i : Insn) → Fits i → (answer : Next D) → abstract.step ops a i ≡ Ok answer → StepsFollow Member a i answer
   steps_follow a i fit answer is w code mode places s real here good short member =
       let agree = accepted_agree mode places a s member w.context real.context i fit answer is in
-      subst (Follows Member w code mode places s i answer) (sym (step_is w code s i (Ok agree.0) here agree.1)) (effect_follows w code mode places a s member i real good short answer agree.0 agree.1 agree.2)
+      subst (Follows Member w code mode places s i answer) (sym (step_is w code s i (Ok agree.0) here agree.1)) (effect_follows w code mode places a s member i fit real here good short answer agree.0 agree.1 agree.2)
 
   pub followed : (a : AbsState D) (i : Insn) → Fits i → (answer : Result (Next D) Reason) → answer ≡ abstract.step ops a i → IfOk answer (λ next. StepsFollow Member a i next)
   followed a i fit (Ok answer) is = steps_follow a i fit answer (sym is)

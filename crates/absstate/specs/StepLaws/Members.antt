@@ -11,7 +11,8 @@ use Rattle.insn.specs.declared.register.Reg.{Reg}
 use Rattle.insn.specs.declared.register.Reg.TheVariants as reg
 use Rattle.semantics.specs.Access.{put, written_at}
 use Rattle.semantics.specs.AccessLaws.{put_at, put_before, put_behind}
-use Rattle.semantics.specs.KeptLaws.{in_eleven, written_is_memory, start_is_memory}
+use Rattle.semantics.specs.Kept.{IsMemory, IsProper}
+use Rattle.semantics.specs.KeptLaws.{in_eleven, written_is_memory, start_is_tagged}
 use Rattle.semantics.specs.Machine.{AddressRecord, AreBytes, Memory, State, start, empty_stack}
 use Rattle.semantics.specs.declared.plan.Plan.{Plan}
 use Rattle.semantics.specs.declared.access.Location.{Location}
@@ -30,11 +31,13 @@ use Rattle.absstate.specs.declared.abstract_state.Anchor.TheVariants.{First}
 use Rattle.absstate.specs.declared.abstract_state.AbstractValue.{AbstractValue}
 use Rattle.absstate.specs.declared.abstract_state.AbstractValue.TheVariants as known
 use Rattle.absstate.specs.declared.abstract_state.AbsState.{AbsState}
+use Rattle.absstate.specs.declared.abstract_state.Marks.{Marks}
 use Rattle.absstate.specs.declared.memory.Region.{Region}
 use Rattle.absstate.specs.declared.memory.Region.TheVariants as regions
 use Rattle.absstate.specs.StepLaws.Bounds.{IsLeast}
 use Rattle.absstate.specs.StepLaws.Marking.{length-marked, marked_before, marked_behind, marked_at}
 use Rattle.absstate.specs.StepLaws.MemoryValues.{IsRegionOf}
+use Rattle.absstate.specs.StepLaws.Tagged.{register_proper, register_tagged, memory_tagged}
 
 -- ---- registers and the proved length
 
@@ -62,7 +65,7 @@ module _ {D : Type 0} (Member : D → ℕ → Type 0) (mode : Mode) (places : Pl
       elim (cases_eq (number_of q) (number_of r)) [
         | inl same ↦
             let known_is : abstract_at (slice_set a.registers (number_of r) k) q ≡ k = get_or-set_at a.registers (number_of r) (number_of q) k known.Nothing same (omega (arith, in_eleven r, member.known_count)) in
-            let value_is : value_at (slice_set s.registers (number_of r) v) q ≡ v = get_or-set_at s.registers (number_of r) (number_of q) v value.Nothing same (omega (arith, in_eleven r, member.count)) in
+            let value_is : value_at (slice_set s.registers (number_of r) v) q ≡ v = get_or-set_at s.registers (number_of r) (number_of q) v value.Nothing same (omega (arith, in_eleven r, member.tagged.count)) in
             subst (λ (x : AbstractValue D). IsValue Member mode places x (value_at (slice_set s.registers (number_of r) v) q)) (sym known_is) (subst (IsValue Member mode places k) (sym value_is) is)
         | inr other ↦
             let known_is : abstract_at (slice_set a.registers (number_of r) k) q ≡ abstract_at a.registers q = get_or-set_other a.registers (number_of r) (number_of q) k known.Nothing other in
@@ -72,43 +75,46 @@ module _ {D : Type 0} (Member : D → ℕ → Type 0) (mode : Mode) (places : Pl
       ]
 
   -- a register is written
-  pub member_put : (r : Reg) (k : AbstractValue D) (v : Value) (n : ℕ) → IsValue Member mode places k v → IsMember Member mode places (with_value a r k) (record s { slot = n; registers = write_register s r v })
-  member_put r k v n is = record {
+  pub member_put : (r : Reg) (k : AbstractValue D) (v : Value) (n : ℕ) → IsValue Member mode places k v → IsProper v → IsMember Member mode places (with_value a r k) (record s { slot = n; registers = write_register s r v })
+  member_put r k v n is proper = record {
     anchored = member.anchored;
     reaches = member.reaches;
     known_count = length-set a.registers (number_of r) k ∙ member.known_count;
     marks_count = member.marks_count;
-    count = length-set s.registers (number_of r) v ∙ member.count;
     registers = λ q. register_at r q k v is;
     cells = member.cells;
-    memory = member.memory;
+    tagged = register_tagged s r v n proper member.tagged;
   }
 
-  pub member_written : (r : Reg) (k : AbstractValue D) (v : Value) (n : ℕ) → IsHeld Member places k v → IsMember Member mode places (with_value a r k) (record s { slot = n; registers = write_register s r v })
-  member_written r k v n held = member_put r k v n (held_value Member mode places k v held)
+  pub member_written : (r : Reg) (k : AbstractValue D) (v : Value) (n : ℕ) → IsHeld Member places k v → IsProper v → IsMember Member mode places (with_value a r k) (record s { slot = n; registers = write_register s r v })
+  member_written r k v n held proper = member_put r k v n (held_value Member mode places k v held) proper
 
   -- it holds nothing
   pub member_forgotten : (r : Reg) (n : ℕ) → IsMember Member mode places (with_value a r known.Nothing) (record s { slot = n; registers = write_register s r value.Nothing })
-  member_forgotten r n = member_put r known.Nothing value.Nothing n (λ e. refl)
+  member_forgotten r n = member_put r known.Nothing value.Nothing n (λ e. refl) tt
 
   -- more is known of a register
   pub member_known : (r : Reg) (k : AbstractValue D) (n : ℕ) → IsHeld Member places k (value_at s.registers r) → IsMember Member mode places (with_value a r k) (record s { slot = n })
   member_known r k n held =
       subst (λ (registers : List Value). IsMember Member mode places (with_value a r k) (record s { slot = n; registers = registers })) (set-get_or s.registers (number_of r) value.Nothing)
-      (member_written r k (value_at s.registers r) n held)
+      (member_written r k (value_at s.registers r) n held (register_proper s r member.tagged))
+
+  -- memory is replaced by another one of the same length, and the marks by those of its cells
+  with_new_memory : (marks : Marks) (memory : Memory) (n : ℕ) (p : Plan) → length marks.words ≡ 8 → memory.length ≡ s.memory.length → IsMemory memory → ((i : ℕ) → i < 512 → IsCell mode (is_marked marks i) (slice_index_or memory.stack i None))
+      → IsMember Member mode places (record a { marks = marks }) (record s { slot = n; memory = memory; plan = p })
+  with_new_memory marks memory n p count size is cells = record {
+    anchored = member.anchored;
+    reaches = λ anchor. subst (λ (k : ℕ). (places anchor +ℤ proved_of a anchor) ≤ℤ pos k) (sym size) (member.reaches anchor);
+    known_count = member.known_count;
+    marks_count = count;
+    registers = member.registers;
+    cells = cells;
+    tagged = memory_tagged s memory n p is member.tagged;
+  }
 
   -- slot and plan are nothing that is known
   member_elsewhere : (n : ℕ) (p : Plan) → IsMember Member mode places a (record s { slot = n; plan = p })
-  member_elsewhere n p = record {
-    anchored = member.anchored;
-    reaches = member.reaches;
-    known_count = member.known_count;
-    marks_count = member.marks_count;
-    count = member.count;
-    registers = member.registers;
-    cells = member.cells;
-    memory = member.memory;
-  }
+  member_elsewhere n p = with_new_memory a.marks s.memory n p member.marks_count refl member.tagged.memory member.cells
 
   -- a jump changes no more than the slot
   pub member_moved : (n : ℕ) → IsMember Member mode places a (record s { slot = n })
@@ -124,10 +130,9 @@ module _ {D : Type 0} (Member : D → ℕ → Type 0) (mode : Mode) (places : Pl
     reaches = reaches_more n le;
     known_count = member.known_count;
     marks_count = member.marks_count;
-    count = member.count;
     registers = member.registers;
     cells = member.cells;
-    memory = member.memory;
+    tagged = memory_tagged s s.memory to s.plan member.tagged.memory member.tagged;
   } where
     reaches_more : (n : ℤ) → n ≤ℤ pos s.memory.length → (anchor : Anchor) → (places anchor +ℤ proved_of (with_length a n) anchor) ≤ℤ pos s.memory.length
     reaches_more n le First = reach_more (places First) a.proved n (pos s.memory.length) (int_lt a.proved n) (member.anchored First) (member.reaches First) le
@@ -150,7 +155,7 @@ module _ {D : Type 0} (Member : D → ℕ → Type 0) (mode : Mode) (places : Pl
             elim (cases_lt k (i + n)) [
               | inl within ↦
                   let byte : slice_index_or (put i cells s.memory.stack) k None ≡ Some (get_or bytes (k - i) 0) =
-                  put_at i (k - i) k cells s.memory.stack None (omega (arith, from)) (omega (arith, count, within, from)) (omega (arith, count, le, member.memory.count))
+                  put_at i (k - i) k cells s.memory.stack None (omega (arith, from)) (omega (arith, count, within, from)) (omega (arith, count, le, member.tagged.memory.count))
                   ∙ get_or-map (λ (b : ℕ). Some b) bytes (k - i) 0 None (omega (arith, long, within, from)) in
                   set_cell (marked_at n i k a.marks member.marks_count le from within) (ap is_some byte)
               | inr behind ↦
@@ -161,32 +166,17 @@ module _ {D : Type 0} (Member : D → ℕ → Type 0) (mode : Mode) (places : Pl
   -- bytes are stored at a location that is known as a region
   pub member_stored : (n : ℕ) (r : Region) (at : Location) (bytes : List ℕ) (to : ℕ) → IsRegionOf n r at → length bytes ≡ n → All (λ b. b < 256) bytes → IsMember Member mode places (with_region a n r) (record s { slot = to; memory = written_at s.memory at bytes })
   member_stored n (regions.InStack i) (InStack j) bytes to is long fit =
-      subst (λ (k : ℕ). IsMember Member mode places (with_region a n (regions.InStack i)) (record s { slot = to; memory = written_at s.memory (InStack k) bytes })) is.0 (record {
-        anchored = member.anchored;
-        reaches = member.reaches;
-        known_count = member.known_count;
-        marks_count = length-marked n i a.marks ∙ member.marks_count;
-        count = member.count;
-        registers = member.registers;
-        cells = stored_cell i n bytes is.1 long;
-        memory = written_is_memory s.memory (InStack i) bytes member.memory fit;
-      })
+      subst (λ (k : ℕ). IsMember Member mode places (with_region a n (regions.InStack i)) (record s { slot = to; memory = written_at s.memory (InStack k) bytes })) is.0
+      (with_new_memory (marked a.marks i n) (written_at s.memory (InStack i) bytes) to s.plan (length-marked n i a.marks ∙ member.marks_count) refl
+      (written_is_memory s.memory (InStack i) bytes member.tagged.memory fit) (stored_cell i n bytes is.1 long))
   member_stored n (regions.InStack i) (InBytes j) bytes to is long fit = absurd is
   member_stored n regions.InBytes (InStack j) bytes to is long fit = absurd is
-  member_stored n regions.InBytes (InBytes j) bytes to is long fit = record {
-    anchored = member.anchored;
-    reaches = member.reaches;
-    known_count = member.known_count;
-    marks_count = member.marks_count;
-    count = member.count;
-    registers = member.registers;
-    cells = member.cells;
-    memory = written_is_memory s.memory (InBytes j) bytes member.memory fit;
-  }
+  member_stored n regions.InBytes (InBytes j) bytes to is long fit =
+      with_new_memory a.marks (written_at s.memory (InBytes j) bytes) to s.plan member.marks_count refl (written_is_memory s.memory (InBytes j) bytes member.tagged.memory fit) member.cells
 
 -- ---- a call
 
-module _ {D : Type 0} (Member : D → ℕ → Type 0) (mode : Mode) (places : Places) where
+module _ {D : Type 0} (Member : D → ℕ → Type 0) (words : (x : D) (n : ℕ) → Member x n → n < 2 ^ 64) (mode : Mode) (places : Places) where
   forget : (r : Reg) (a : AbsState D) (s : State) → IsMember Member mode places a s → IsMember Member mode places (with_value a r known.Nothing) (record s { registers = write_register s r value.Nothing })
   forget r a s member = member_forgotten Member mode places a s member r s.slot
 
@@ -194,7 +184,7 @@ module _ {D : Type 0} (Member : D → ℕ → Type 0) (mode : Mode) (places : Pl
   pub member_called : (a : AbsState D) (s : State) (x : D) (n to : ℕ) → IsMember Member mode places a s → Member x n → IsMember Member mode places (with_answer a x) (record s { slot = to; registers = called s.registers n })
   member_called a s x n to member is =
       forget reg.R5 _ _ (forget reg.R4 _ _ (forget reg.R3 _ _ (forget reg.R2 _ _ (forget reg.R1 _ _
-      (member_written Member mode places a s member reg.R0 (known.Scalar x) (value.Scalar n) to (n, is, refl))))))
+      (member_written Member mode places a s member reg.R0 (known.Scalar x) (value.Scalar n) to (n, is, refl) (words x n is))))))
 
   -- the record of an answer is written, if it is asked for
   pub member_answered : (a : AbsState D) (s : State) (x : D) (to : ℕ) (out : Option ℕ) (answer : ℕ × AddressRecord) → IsMember Member mode places a s → Member x answer.0 → IfSome out (λ i. (i + 8 ≤ 512) × AreBytes 8 answer.1)
@@ -250,13 +240,12 @@ first_member Member mode d fit = record {
   reaches = reaches_at_first Member (length d);
   known_count = refl;
   marks_count = refl;
-  count = refl;
   registers = first_registers_are Member mode d;
   cells = λ i lt. record {
     held = marked_is_not (is_marked no_marks i) (is_some (get_or empty_stack i None)) (unmarked i);
     no_other = λ e. nothing_set i lt ∙ sym (unmarked i);
   };
-  memory = start_is_memory d fit;
+  tagged = start_is_tagged d fit;
 }
 
 -- ---- members and loosenings
@@ -284,7 +273,7 @@ kind_of Member words places (known.Data anchor k) m n g h = refl
 kind_of Member words places known.End m n g h = refl
 
 module _ {D : Type 0} (Member : D → ℕ → Type 0) (words : (x : D) (n : ℕ) → Member x n → n < 2 ^ 64) (places : Places) where
-  held_kind : (k : AbstractValue D) (u v : Value) → IsHeld Member places k u → IsHeld Member places k v → SameKind u v
+  pub held_kind : (k : AbstractValue D) (u v : Value) → IsHeld Member places k u → IsHeld Member places k v → SameKind u v
   held_kind k u v g h =
       subst (λ (u' : Value). SameKind u' v) (sym g.2) (subst (SameKind (value_of places k g.0)) (sym h.2) (kind_of Member words places k g.0 h.0 g.1 h.1))
 
@@ -300,19 +289,19 @@ module _ {D : Type 0} (Member : D → ℕ → Type 0) (words : (x : D) (n : ℕ)
   module _ (a : AbsState D) (s t : State) (member_s : IsMember Member Strict places a s) (member_t : IsMember Member Strict places a t) where
     kinds_at : (n : ℕ) → n < length s.registers → SameKind (slice_index_or s.registers n value.Nothing) (slice_index_or t.registers n value.Nothing)
     kinds_at n lt =
-        let r = reg_at n (omega (arith, lt, member_s.count)) in
+        let r = reg_at n (omega (arith, lt, member_s.tagged.count)) in
         subst (λ (k : ℕ). SameKind (slice_index_or s.registers k value.Nothing) (slice_index_or t.registers k value.Nothing)) r.1
         (same_kind (abstract_at a.registers r.0) (value_at s.registers r.0) (value_at t.registers r.0) (member_s.registers r.0) (member_t.registers r.0))
 
     pub members_loosen : t.slot ≡ s.slot → t.memory ≡ s.memory → t.plan ≡ s.plan → Loosens s t
     members_loosen slot memory plan = record {
       slot = slot;
-      count = member_t.count ∙ sym member_s.count;
+      count = member_t.tagged.count ∙ sym member_s.tagged.count;
       registers = kinds_at;
       cells = ap (λ (m : Memory). map is_some m.stack) memory;
-      cells_fit = member_t.memory.cells;
+      cells_fit = member_t.tagged.memory.cells;
       bytes = ap (λ (m : Memory). length m.bytes) memory;
-      bytes_fit = member_t.memory.bytes;
+      bytes_fit = member_t.tagged.memory.bytes;
       datagram = ap (λ (m : Memory). m.length) memory;
       plan = plan;
     }

@@ -10,6 +10,7 @@ use Rattle.insn.specs.declared.register.Reg.{Reg}
 use Rattle.insn.specs.declared.instruction.Insn.{Insn}
 use Rattle.semantics.specs.Access.{written_at}
 use Rattle.semantics.specs.ContextLaws.{little_bytes_fit, length-little_bytes}
+use Rattle.semantics.specs.Kept.{IsProper}
 use Rattle.semantics.specs.Machine.{Memory, State, Surroundings}
 use Rattle.semantics.specs.Effects as effects
 use Rattle.semantics.specs.Slots.{fetch}
@@ -36,9 +37,11 @@ use Rattle.absstate.specs.declared.memory.Region.TheVariants as regions
 use Rattle.absstate.specs.declared.abstract_state.AbsState.{AbsState}
 use Rattle.absstate.specs.declared.abstract_step.Next.{Next}
 use Rattle.absstate.specs.declared.abstract_step.Next.TheVariants as next
-use Rattle.absstate.specs.StepLaws.Members.{member_written, member_moved, member_stored, members_loosen, loosens_itself}
+use Rattle.absstate.specs.StepLaws.Members.{member_written, member_moved, member_stored, held_kind, members_loosen, loosens_itself}
+use Rattle.absstate.specs.StepLaws.Tagged.{written_proper, same_kind_proper}
 use Rattle.absstate.specs.StepLaws.Results.{IsResult}
-use Rattle.absstate.specs.StepLaws.Simulation.{IsEffectOf, Forks}
+use Rattle.absstate.specs.StepLaws.Forking.{Forks}
+use Rattle.absstate.specs.StepLaws.Simulation.{IsEffectOf}
 use Rattle.absstate.specs.StepLaws.Following.{accepted_agree, step_is, straight_leads, jump_goes, branch_goes, size_written, size_answered, small_answer, asked_member, planned_member}
 
 -- the state that a step or a branch leads to, and its loosening, a strict member
@@ -103,12 +106,14 @@ module _ {D : Type 0} (ops : Operations D) (Member : D → ℕ → Type 0) (soun
           let to : ℕ = s.slot + slots_of i in
           let written : State = record s { slot = to; registers = write_register s r v } in
           let like : State = record s { slot = to; registers = write_register s r result.like } in
+          let proper : IsProper v = written_proper w code s i r v to real here fit member.tagged goes in
+          let like_proper : IsProper result.like = same_kind_proper v result.like (held_kind Member sound.words places result.wide v result.like result.wide_held result.wide_like) proper in
           opens_to written like goes
           (members_loosen Member sound.words places (with_value a r result.wide) written like
-          (member_written Member Strict places a s member r result.wide v to result.wide_held)
-          (member_written Member Strict places a s member r result.wide result.like to result.wide_like) refl refl refl)
+          (member_written Member Strict places a s member r result.wide v to result.wide_held proper)
+          (member_written Member Strict places a s member r result.wide result.like to result.wide_like like_proper) refl refl refl)
           (straight_slot n past leads) refl
-          (subst (λ (x : AbsState D). IsMember Member Strict places x like) (sym is) (member_written Member Strict places a s member r k result.like to result.like_held))
+          (subst (λ (x : AbsState D). IsMember Member Strict places x like) (sym is) (member_written Member Strict places a s member r k result.like to result.like_held like_proper))
 
       itself : (t : State) → step w code s ≡ Goes t → t.slot ≡ n → t.memory.length ≡ s.memory.length → IsMember Member Strict places b t → Opens Member w code places s n b
       itself t goes slot_is size now = opens_to t t goes (loosens_itself Member sound.words places b t now) slot_is size now

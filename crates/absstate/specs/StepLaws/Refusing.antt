@@ -40,7 +40,9 @@ use Rattle.absstate.specs.StepLaws.Agreement.{Agree}
 use Rattle.absstate.specs.StepLaws.Bounds.{le_of}
 use Rattle.absstate.specs.StepLaws.MemoryValues.{first_of_and, rest_of_and}
 use Rattle.absstate.specs.StepLaws.Members.{loosens_itself}
-use Rattle.absstate.specs.StepLaws.Simulation.{StraysBy, Strays, strays_same, single_strays, replaced, IsEffectOf, AreClaims, steps_agree}
+use Rattle.absstate.specs.StepLaws.Arithmetic.{StraysBy, Strays, strays_same, single_strays, AreClaims}
+use Rattle.absstate.specs.StepLaws.Forking.{replaced}
+use Rattle.absstate.specs.StepLaws.Simulation.{IsEffectOf, steps_agree}
 
 -- ---- a number that leads a pointer out of range
 
@@ -194,7 +196,7 @@ module _ {D : Type 0} (ops : Operations D) (Member : D → ℕ → Type 0) (soun
           let dst_known : abstract_at around.registers dst ≡ x = get_or-set_other a.registers (number_of r) (number_of dst) (known.Scalar ops.top) known.Nothing apart ∙ p in
           let r_known : abstract_at around.registers r ≡ known.Scalar ops.top = get_or-set_at a.registers (number_of r) (number_of r) (known.Scalar ops.top) known.Nothing refl (omega (arith, in_eleven r, member.known_count)) in
           let dst_is : effects.value_at new.registers dst ≡ u = get_or-set_other s.registers (number_of r) (number_of dst) (value.Scalar n) value.Nothing apart ∙ u_is in
-          let r_is : effects.value_at new.registers r ≡ value.Scalar n = get_or-set_at s.registers (number_of r) (number_of r) (value.Scalar n) value.Nothing refl (omega (arith, in_eleven r, member.count)) in
+          let r_is : effects.value_at new.registers r ≡ value.Scalar n = get_or-set_at s.registers (number_of r) (number_of r) (value.Scalar n) value.Nothing refl (omega (arith, in_eleven r, member.tagged.count)) in
           record {
             state = opened.state;
             loosens = opened.loosens;

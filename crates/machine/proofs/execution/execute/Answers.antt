@@ -4,7 +4,7 @@ use Rattle.machine.proofs.Executions.{starts, goes_on, over_at_exit, over_at_stu
 use Rattle.machine.proofs.execution.execute.Goals as goal
 
 pub execute_step-requires-clause-here : goal.execute_step-requires-clause-here
-execute_step-requires-clause-here g c = begins_at c.args.code.now c.loop-insn.at c.loop-insn.invariant.1.is_at c.in-Begins.insn (sym c.in-Begins.ensures)
+execute_step-requires-clause-here g c = begins_at c.args.given.now.code.now c.loop-insn.at c.loop-insn.invariant.1.is_at c.in-Begins.insn (sym c.in-Begins.ensures)
 
 pub loop-insn-init : goal.loop-insn-init
 loop-insn-init g c = (rw c.requires.planless tt, rw (c.first_registers-registers.ensures, c.requires.planless) (starts g.S.Sink.with_step _ _ _ _ _))

@@ -1,0 +1,266 @@
+-- The branches of a conditional jump: what is left of its operands, and what it implies of the datagram's length.
+use Rattle.std.proofs.Common.{◌≡◌, ℕ, ◌<◌, ◌^◌, Bool, true, false, ℤ, pos, ◌≤ℤ◌, ◌<ℤ◌, Option, Some, None, Ok, refl, sym, ap, ◌∙◌, subst, arith}
+use Rattle.std.specs.Prelude.{int_lt, not, ◌==◌, if◌then◌else◌}
+use Rattle.std.proofs.lemmas.Bool.{cond_both}
+use Rattle.insn.specs.Register.{number_of}
+use Rattle.std.proofs.lemmas.Int.{ints}
+use Rattle.insn.specs.Words.{holds}
+use Rattle.insn.specs.declared.width.Width.{Width}
+use Rattle.insn.specs.declared.register.Reg.{Reg}
+use Rattle.insn.specs.declared.condition.Condition.{Condition}
+use Rattle.insn.specs.declared.instruction.Operand.{Operand}
+use Rattle.insn.specs.declared.instruction.Operand.TheVariants as operand
+use Rattle.insn.specs.declared.instruction.Insn.{Insn}
+use Rattle.insn.specs.declared.instruction.Insn.TheVariants as insn
+use Rattle.semantics.specs.Machine.{State}
+use Rattle.semantics.specs.Effects as effects
+use Rattle.semantics.specs.Effects.{value_at}
+use Rattle.semantics.specs.Runs.{write_register}
+use Rattle.semantics.specs.LooseRuns.{Bound, Loosens, bound_of, effect_of_branch, HoldsOf}
+use Rattle.semantics.specs.declared.value.Value.{Value}
+use Rattle.semantics.specs.declared.value.Value.TheVariants as value
+use Rattle.semantics.specs.declared.effect.Effect.{Effect}
+use Rattle.semantics.specs.declared.effect.Effect.TheVariants as effect
+use Rattle.semantics.specs.declared.fetching.Branch.{Branch}
+use Rattle.semantics.specs.declared.fetching.Branch.TheVariants.{NotTaken, Taken}
+use Rattle.interval.specs.Domains.{Operations, AreSound, ArePrecise, HasMembers, passes, Keeps}
+use Rattle.interval.specs.declared.domain.Test.{Test}
+use Rattle.interval.specs.declared.domain.Test.TheVariants.{Holds, Fails}
+use Rattle.absstate.specs.AbstractStates.{with_value, with_least}
+use Rattle.absstate.specs.MemberSteps.{state_behind}
+use Rattle.absstate.specs.AbstractSteps as abstract
+use Rattle.absstate.specs.Membership.{Mode, Strict, Places, IsHeld, IsMember}
+use Rattle.absstate.specs.declared.abstract_state.AbstractValue.TheVariants as known
+use Rattle.absstate.specs.declared.abstract_state.AbsState.{AbsState}
+use Rattle.absstate.specs.declared.branching.Implied.{Implied}
+use Rattle.absstate.specs.declared.abstract_step.Next.TheVariants as next
+use Rattle.absstate.specs.StepLaws.Bounds.{lt_of, not_lt, IsLeast, Implies, branch_if, least_from_bound, bound_from_least}
+use Rattle.absstate.specs.StepLaws.Members.{member_written, member_known, member_moved, member_least, members_loosen, loosens_itself}
+use Rattle.absstate.specs.StepLaws.Arithmetic.{held_is}
+
+effect_taken : (offset : ℤ) (taken : Bool) → (if taken then effect.Jump offset else effect.Pass) ≡ effect_of_branch offset (branch_if taken)
+effect_taken offset true = refl
+effect_taken offset false = refl
+
+proved_within : (proved n size : ℤ) (b : Bool) → int_lt proved n ≡ b → (if b then n else proved) ≤ℤ size → n ≤ℤ size
+proved_within proved n size true e le = le
+proved_within proved n size false e le = let above : n ≤ℤ proved = not_lt proved n e in omega (arith, ints)
+
+proved_rises : (proved n : ℤ) (b : Bool) → int_lt proved n ≡ b → proved ≤ℤ (if b then n else proved)
+proved_rises proved n true e = let below : proved <ℤ n = lt_of proved n e in omega (arith, ints)
+proved_rises proved n false e = omega (arith, ints)
+
+-- a loosening of a state, at another slot, is a strict member
+pub record IsOpened {D : Type 0} (Member : D → ℕ → Type 0) (places : Places) (b : AbsState D) (s : State) (to : ℕ) : Type 0 where
+  pub state : State
+  pub loosens : Loosens (record s { slot = to }) state
+  pub memory : state.memory ≡ s.memory
+  pub member : IsMember Member Strict places b state
+
+module _ {D : Type 0} (ops : Operations D) (Member : D → ℕ → Type 0) (sound : AreSound ops Member) where
+  -- ---- what is left of the operands of a test
+
+  module _ (mode : Mode) (places : Places) (a : AbsState D) (s : State) (member : IsMember Member mode places a s) (dst : Reg) where
+    -- the operands are members of what is left of them
+    operands_known : (o : Operand) (left : D × D) (m n to : ℕ) → value_at s.registers dst ≡ value.Scalar m → effects.operand_value s.registers o ≡ Ok (value.Scalar n) → Member left.0 m → Member left.1 n
+        → IsMember Member mode places (abstract.with_operands a dst o left) (record s { slot = to })
+    operands_known (operand.Imm k) left m n to dst_is o_is h g = member_known Member mode places a s member dst (known.Scalar left.0) to (m, h, dst_is)
+    operands_known (operand.Reg src) left m n to dst_is o_is h g =
+        cond_both (number_of dst == number_of src) a (with_value (with_value a dst (known.Scalar left.0)) src (known.Scalar left.1)) (λ b. IsMember Member mode places b (record s { slot = to }))
+        (λ e. member_moved Member mode places a s member to)
+        (λ e. member_known Member mode places (with_value a dst (known.Scalar left.0)) (record s { slot = to }) (member_known Member mode places a s member dst (known.Scalar left.0) to (m, h, dst_is)) src (known.Scalar left.1) to (n, g, held_is (value_at s.registers src) (value.Scalar n) o_is))
+
+  -- where what is left has members, a loosening of the state is a member
+  module _ (places : Places) (a : AbsState D) (s : State) (member : IsMember Member Strict places a s) (dst : Reg) where
+    pub word_held : (m : ℕ) → m < 2 ^ 64 → IsHeld Member places (known.Scalar ops.top) (value.Scalar m)
+    word_held m lt = (m, sound.top m lt, refl)
+
+    pub register_held : (r : Reg) (x : D) (m : ℕ) → Member x m → value_at s.registers r ≡ value.Scalar m → IsHeld Member places (known.Scalar ops.top) (value_at s.registers r)
+    register_held r x m h e = (m, sound.top m (sound.words x m h), e)
+
+    abbrev pub replaced : (r : Reg) (x y : D) (m n to : ℕ) → Member x m → value_at s.registers r ≡ value.Scalar m → Member y n → IsOpened Member places (with_value a r (known.Scalar y)) s to
+    replaced r x y m n to h e g = record {
+      state = record s { slot = to; registers = write_register s r (value.Scalar n) };
+      loosens =
+          members_loosen Member sound.words places (with_value a r (known.Scalar ops.top)) (record s { slot = to }) (record s { slot = to; registers = write_register s r (value.Scalar n) })
+          (member_known Member Strict places a s member r (known.Scalar ops.top) to (register_held r x m h e))
+          (member_written Member Strict places a s member r (known.Scalar ops.top) (value.Scalar n) to (word_held n (sound.words y n g)) (sound.words y n g))
+          refl refl refl;
+      memory = refl;
+      member = member_written Member Strict places a s member r (known.Scalar y) (value.Scalar n) to (n, g, refl) (sound.words y n g);
+    }
+
+    both_replaced : (src : Reg) (x y : D) (left : D × D) (m n to : ℕ) → Member x m → Member y n → value_at s.registers dst ≡ value.Scalar m → value_at s.registers src ≡ value.Scalar n → HasMembers Member left
+        → IsOpened Member places (with_value (with_value a dst (known.Scalar left.0)) src (known.Scalar left.1)) s to
+    both_replaced src x y left m n to h g dst_is src_is has =
+        let first : State = record s { slot = to; registers = write_register s dst (value.Scalar has.first) } in
+        let both : State = record s { slot = to; registers = write_register first src (value.Scalar has.second) } in
+        let wide : AbsState D = with_value a dst (known.Scalar ops.top) in
+        let first_word : has.first < 2 ^ 64 = sound.words left.0 has.first has.of_first in
+        let second_word : has.second < 2 ^ 64 = sound.words left.1 has.second has.of_second in
+        record {
+          state = both;
+          loosens =
+              members_loosen Member sound.words places (with_value wide src (known.Scalar ops.top)) (record s { slot = to }) both
+              (member_known Member Strict places wide (record s { slot = to }) (member_known Member Strict places a s member dst (known.Scalar ops.top) to (register_held dst x m h dst_is)) src (known.Scalar ops.top) to (register_held src y n g src_is))
+              (member_written Member Strict places wide first (member_written Member Strict places a s member dst (known.Scalar ops.top) (value.Scalar has.first) to (word_held has.first first_word) first_word) src (known.Scalar ops.top) (value.Scalar has.second) to (word_held has.second second_word) second_word)
+              refl refl refl;
+          memory = refl;
+          member = member_written Member Strict places (with_value a dst (known.Scalar left.0)) first (member_written Member Strict places a s member dst (known.Scalar left.0) (value.Scalar has.first) to (has.first, has.of_first, refl) first_word) src (known.Scalar left.1) (value.Scalar has.second) to (has.second, has.of_second, refl) second_word;
+        }
+
+    stays : (to : ℕ) → IsOpened Member places a s to
+    stays to =
+        let moved = member_moved Member Strict places a s member to in
+        record {
+          state = record s { slot = to };
+          loosens = loosens_itself Member sound.words places a (record s { slot = to }) moved;
+          memory = refl;
+          member = moved;
+        }
+
+    operands_opened : (o : Operand) (x y : D) (left : D × D) (m n to : ℕ) → Member x m → Member y n → value_at s.registers dst ≡ value.Scalar m → effects.operand_value s.registers o ≡ Ok (value.Scalar n) → HasMembers Member left
+        → IsOpened Member places (abstract.with_operands a dst o left) s to
+    operands_opened (operand.Imm k) x y left m n to h g dst_is o_is has = replaced dst x left.0 m has.first to h dst_is has.of_first
+    operands_opened (operand.Reg src) x y left m n to h g dst_is o_is has =
+        cond_both (number_of dst == number_of src) a (with_value (with_value a dst (known.Scalar left.0)) src (known.Scalar left.1)) (λ b. IsOpened Member places b s to)
+        (λ e. stays to)
+        (λ e. both_replaced src x y left m n to h g dst_is (held_is (value_at s.registers src) (value.Scalar n) o_is) has)
+
+  -- ---- conditional jumps
+
+  least_within : (a : AbsState D) (least : Option ℤ) (size : ℕ) → (with_least a least).proved ≤ℤ pos size → IsLeast least size
+  least_within a None size le = tt
+  least_within a (Some n) size le = proved_within a.proved n (pos size) (int_lt a.proved n) refl le
+
+  least_rises : (a : AbsState D) (least : Option ℤ) → a.proved ≤ℤ (with_least a least).proved
+  least_rises a None = omega (arith, ints)
+  least_rises a (Some n) = proved_rises a.proved n (int_lt a.proved n) refl
+
+  operands_proved : (a : AbsState D) (dst : Reg) (o : Operand) (left : D × D) → a.proved ≤ℤ (abstract.with_operands a dst o left).proved
+  operands_proved a dst (operand.Imm n) left = omega (arith, ints)
+  operands_proved a dst (operand.Reg src) left =
+      cond_both (number_of dst == number_of src) a (with_value (with_value a dst (known.Scalar left.0)) src (known.Scalar left.1)) (λ b. a.proved ≤ℤ b.proved) (λ e. omega (arith, ints)) (λ e. omega (arith, ints))
+
+  -- The branches of a conditional jump: the machine takes one of them, to a member, and loosely any that can be taken, where
+  -- its bound holds.
+  pub record Forks (mode : Mode) (places : Places) (a : AbsState D) (s : State) (i : Insn) (not_taken taken : Option (AbsState D)) (e : Effect) : Type 0 where
+    pub width : Width
+    pub condition : Condition
+    pub dst : Reg
+    pub operand : Operand
+    pub offset : ℤ
+    pub jump : i ≡ insn.JumpIf width condition dst operand offset
+    pub second : Value
+    pub operand_is : effects.operand_value s.registers operand ≡ Ok second
+    pub branch : Branch
+    pub effect_is : e ≡ effect_of_branch offset branch
+    pub behind : AbsState D
+    pub behind_is : state_behind (next.Fork not_taken taken) branch ≡ Some behind
+    pub member : (to : ℕ) → IsMember Member mode places behind (record s { slot = to })
+    pub rises : (way : Branch) (b : AbsState D) → state_behind (next.Fork not_taken taken) way ≡ Some b → a.proved ≤ℤ b.proved
+    pub holds_of : (way : Branch) (b : AbsState D) → state_behind (next.Fork not_taken taken) way ≡ Some b → b.proved ≤ℤ pos s.memory.length → HoldsOf (bound_of condition (value_at s.registers dst) second way) s.memory.length
+    pub opens : ArePrecise ops Member → mode ≡ Strict → (way : Branch) (b : AbsState D) → state_behind (next.Fork not_taken taken) way ≡ Some b → b.proved ≤ℤ pos s.memory.length → (to : ℕ) → IsOpened Member places b s to
+
+  some_is : (x y : AbsState D) → ◌≡◌ {A = Option (AbsState D)} (Some x) (Some y) → x ≡ y
+  some_is x y e = cc
+
+  module _ (mode : Mode) (places : Places) (a : AbsState D) (s : State) (member : IsMember Member mode places a s) (w : Width) (c : Condition) (dst : Reg) (o : Operand) (offset : ℤ) where
+    -- two numbers
+    module _ (x y : D) (m n : ℕ) (h : Member x m) (g : Member y n) (dst_is : value_at s.registers dst ≡ value.Scalar m) (o_is : effects.operand_value s.registers o ≡ Ok (value.Scalar n)) where
+      passed_by : (r : Option (D × D)) → Keeps Member r m n → (behind : AbsState D) × (abstract.refined a dst o r ≡ Some behind) × ((to : ℕ) → IsMember Member mode places behind (record s { slot = to }))
+      passed_by None kept = absurd kept
+      passed_by (Some left) kept = (abstract.with_operands a dst o left, refl, λ to. operands_known mode places a s member dst o left m n to dst_is o_is kept.0 kept.1)
+
+      refined_rises : (r : Option (D × D)) (b : AbsState D) → abstract.refined a dst o r ≡ Some b → a.proved ≤ℤ b.proved
+      refined_rises None b e = absurd cc
+      refined_rises (Some left) b e = subst (λ (z : AbsState D). a.proved ≤ℤ z.proved) (some_is (abstract.with_operands a dst o left) b e) (operands_proved a dst o left)
+
+      refined_opens : (strict : IsMember Member Strict places a s) (r : Option (D × D)) → ((left : D × D) → r ≡ Some left → HasMembers Member left) → (b : AbsState D) → abstract.refined a dst o r ≡ Some b → (to : ℕ) → IsOpened Member places b s to
+      refined_opens strict None has b e to = absurd cc
+      refined_opens strict (Some left) has b e to = subst (λ (z : AbsState D). IsOpened Member places z s to) (some_is (abstract.with_operands a dst o left) b e) (operands_opened places a s strict dst o x y left m n to h g dst_is o_is (has left refl))
+
+      numbers_fork : (test : Test) (branch : Branch) (e : Effect) → e ≡ effect_of_branch offset branch → passes test w m n ≡ true
+          → state_behind (next.Fork (abstract.passed ops a (Fails c) w dst o x y) (abstract.passed ops a (Holds c) w dst o x y)) branch ≡ abstract.passed ops a test w dst o x y
+          → Forks mode places a s (insn.JumpIf w c dst o offset) (abstract.passed ops a (Fails c) w dst o x y) (abstract.passed ops a (Holds c) w dst o x y) e
+      numbers_fork test branch e e_is passed way_is =
+          let behind = passed_by (ops.refine test w x y) (sound.refine test w x y m n h g passed) in
+          record {
+            width = w;
+            condition = c;
+            dst = dst;
+            operand = o;
+            offset = offset;
+            jump = refl;
+            second = value.Scalar n;
+            operand_is = o_is;
+            branch = branch;
+            effect_is = e_is;
+            behind = behind.0;
+            behind_is = way_is ∙ behind.1;
+            member = behind.2;
+            rises = rises;
+            holds_of = λ way b f le. subst (λ (v : Value). HoldsOf (bound_of c v (value.Scalar n) way) s.memory.length) (sym dst_is) tt;
+            opens = opens;
+          } where
+            rises : (way : Branch) (b : AbsState D) → state_behind (next.Fork (abstract.passed ops a (Fails c) w dst o x y) (abstract.passed ops a (Holds c) w dst o x y)) way ≡ Some b → a.proved ≤ℤ b.proved
+            rises NotTaken b f = refined_rises (ops.refine (Fails c) w x y) b f
+            rises Taken b f = refined_rises (ops.refine (Holds c) w x y) b f
+
+            opens : ArePrecise ops Member → mode ≡ Strict → (way : Branch) (b : AbsState D) → state_behind (next.Fork (abstract.passed ops a (Fails c) w dst o x y) (abstract.passed ops a (Holds c) w dst o x y)) way ≡ Some b → b.proved ≤ℤ pos s.memory.length → (to : ℕ) → IsOpened Member places b s to
+            opens precise strict NotTaken b f le to = refined_opens (subst (λ (k : Mode). IsMember Member k places a s) strict member) (ops.refine (Fails c) w x y) (λ left. precise.refine (Fails c) w x y m n left h g) b f to
+            opens precise strict Taken b f le to = refined_opens (subst (λ (k : Mode). IsMember Member k places a s) strict member) (ops.refine (Holds c) w x y) (λ left. precise.refine (Holds c) w x y m n left h g) b f to
+
+      pub fork_by : (t : Bool) → holds c w m n ≡ t → Forks mode places a s (insn.JumpIf w c dst o offset) (abstract.passed ops a (Fails c) w dst o x y) (abstract.passed ops a (Holds c) w dst o x y) (if t then effect.Jump offset else effect.Pass)
+      fork_by true e = numbers_fork (Holds c) Taken (effect.Jump offset) refl e refl
+      fork_by false e = numbers_fork (Fails c) NotTaken effect.Pass refl (ap not e) refl
+
+    -- a place and the end
+    module _ (bound : Branch → Option Bound) (second : Value) (o_is : effects.operand_value s.registers o ≡ Ok second) (bound_is : (way : Branch) → bound_of c (value_at s.registers dst) second way ≡ bound way) where
+      way_is : (way : Branch) → state_behind (next.Fork (Some (with_least a (abstract.implied_by bound).not_taken)) (Some (with_least a (abstract.implied_by bound).taken))) way ≡ Some (with_least a (abstract.least_of (bound way)))
+      way_is NotTaken = refl
+      way_is Taken = refl
+
+      least_is : (way : Branch) (b : AbsState D) → state_behind (next.Fork (Some (with_least a (abstract.implied_by bound).not_taken)) (Some (with_least a (abstract.implied_by bound).taken))) way ≡ Some b → with_least a (abstract.least_of (bound way)) ≡ b
+      least_is way b e = some_is (with_least a (abstract.least_of (bound way))) b (sym (way_is way) ∙ e)
+
+      least_holds : (way : Branch) (b : AbsState D) → state_behind (next.Fork (Some (with_least a (abstract.implied_by bound).not_taken)) (Some (with_least a (abstract.implied_by bound).taken))) way ≡ Some b → b.proved ≤ℤ pos s.memory.length → IsLeast (abstract.least_of (bound way)) s.memory.length
+      least_holds way b e le = least_within a (abstract.least_of (bound way)) s.memory.length (subst (λ (z : AbsState D). z.proved ≤ℤ pos s.memory.length) (sym (least_is way b e)) le)
+
+      least_opens : (strict : IsMember Member Strict places a s) (least : Option ℤ) → IsLeast least s.memory.length → (b : AbsState D) → with_least a least ≡ b → (to : ℕ) → IsOpened Member places b s to
+      least_opens strict least le b e to =
+          subst (λ (z : AbsState D). IsOpened Member places z s to) e
+          (let known_more = member_least Member Strict places a s strict least to le in
+          record {
+            state = record s { slot = to };
+            loosens = loosens_itself Member sound.words places (with_least a least) (record s { slot = to }) known_more;
+            memory = refl;
+            member = known_more;
+          })
+
+      places_forked : (taken : Bool) → HoldsOf (bound (branch_if taken)) s.memory.length
+          → Forks mode places a s (insn.JumpIf w c dst o offset) (Some (with_least a (abstract.implied_by bound).not_taken)) (Some (with_least a (abstract.implied_by bound).taken)) (if taken then effect.Jump offset else effect.Pass)
+      places_forked taken true_of = record {
+        width = w;
+        condition = c;
+        dst = dst;
+        operand = o;
+        offset = offset;
+        jump = refl;
+        second = second;
+        operand_is = o_is;
+        branch = branch_if taken;
+        effect_is = effect_taken offset taken;
+        behind = with_least a (abstract.least_of (bound (branch_if taken)));
+        behind_is = way_is (branch_if taken);
+        member = λ to. member_least Member mode places a s member (abstract.least_of (bound (branch_if taken))) to (least_from_bound (bound (branch_if taken)) s.memory.length true_of);
+        rises = λ way b e. subst (λ (z : AbsState D). a.proved ≤ℤ z.proved) (least_is way b e) (least_rises a (abstract.least_of (bound way)));
+        holds_of = λ way b e le. subst (λ (z : Option Bound). HoldsOf z s.memory.length) (sym (bound_is way)) (bound_from_least (bound way) s.memory.length (least_holds way b e le));
+        opens = λ precise strict way b e le to. least_opens (subst (λ (k : Mode). IsMember Member k places a s) strict member) (abstract.least_of (bound way)) (least_holds way b e le) b (least_is way b e) to;
+      }
+
+      pub forked : (t : Implied) (taken : Bool) → Implies bound s.memory.length t taken
+          → Forks mode places a s (insn.JumpIf w c dst o offset) (Some (with_least a t.not_taken)) (Some (with_least a t.taken)) (if taken then effect.Jump offset else effect.Pass)
+      forked t taken implies =
+          subst (λ (z : Implied). Forks mode places a s (insn.JumpIf w c dst o offset) (Some (with_least a z.not_taken)) (Some (with_least a z.taken)) (if taken then effect.Jump offset else effect.Pass)) (sym implies.0)
+          (places_forked taken implies.1)
