@@ -12,7 +12,7 @@ use Rattle.command_line.specs.Commands.{faults_of, subcommand_in}
 use Rattle.command_line.specs.Lines.{IsOperand, IsLineOf, IsParsedAs, IsTraceLine}
 use Rattle.command_line.specs.Requests.{Requests, value_of}
 use Rattle.command_line.specs.declared.Request.{Request}
-use Rattle.command_line.specs.declared.Request.TheVariants.{Verify, Trace}
+use Rattle.command_line.specs.declared.Request.TheVariants.{Verify, Trace, Assemble, Disassemble}
 
 -- the line has no fault, and its subcommand has this name and these values
 pub record Reads (words : List Text) (name file : Text) (hex : Option Text) : Type 0 where
@@ -25,6 +25,25 @@ verify_read : (name file : Text) → IsOperand file → Reads (name ∷ codes "v
 unfolding clap_on_literals
 verify_read name [] e = record { good = refl; name_is = refl; file_is = refl; data_is = refl }
 verify_read name (x ∷ xs) e = record { good = simp e refl; name_is = refl; file_is = simp e refl; data_is = simp e refl }
+
+disassemble_read : (name file : Text) → IsOperand file → Reads (name ∷ codes "disassemble" ∷ file ∷ []) (codes "disassemble") file None
+unfolding clap_on_literals
+disassemble_read name [] e = record { good = refl; name_is = refl; file_is = refl; data_is = refl }
+disassemble_read name (x ∷ xs) e = record { good = simp e refl; name_is = refl; file_is = simp e refl; data_is = simp e refl }
+
+-- the line has no fault, and its subcommand has this name and these files
+pub record ReadsFiles (words : List Text) (name input output : Text) : Type 0 where
+  pub good : faults_of words ≡ []
+  pub name_is : option_map (λ p. p.0) (subcommand_in words) ≡ Some name
+  pub input_is : option_map (λ p. value_of p (codes "in")) (subcommand_in words) ≡ Some (Some input)
+  pub output_is : option_map (λ p. value_of p (codes "out")) (subcommand_in words) ≡ Some (Some output)
+
+assemble_read : (name input output : Text) → IsOperand input → IsOperand output → ReadsFiles (name ∷ codes "assemble" ∷ input ∷ output ∷ []) (codes "assemble") input output
+unfolding clap_on_literals
+assemble_read name [] [] e h = record { good = refl; name_is = refl; input_is = refl; output_is = refl }
+assemble_read name (x ∷ xs) [] e h = record { good = simp e refl; name_is = refl; input_is = simp e refl; output_is = simp e refl }
+assemble_read name [] (y ∷ ys) e h = record { good = simp h refl; name_is = refl; input_is = simp h refl; output_is = simp h refl }
+assemble_read name (x ∷ xs) (y ∷ ys) e h = record { good = simp (e, h) refl; name_is = refl; input_is = simp (e, h) refl; output_is = simp (e, h) refl }
 
 trace_read : (name file : Text) → IsOperand file → Reads (name ∷ codes "trace" ∷ file ∷ []) (codes "trace") file None
 unfolding clap_on_literals
@@ -59,6 +78,15 @@ data_first name (x ∷ xs) (y ∷ ys) e h = record { good = simp (e, h) refl; na
 abbrev Has : Text → Text → Option Text → Text × List Row → Type 0
 Has name file hex p = (p.0 ≡ name) × (value_of p (codes "file") ≡ Some file) × (value_of p (codes "data") ≡ hex)
 
+abbrev HasFiles : Text → Text → Text → Text × List Row → Type 0
+HasFiles name input output p = (p.0 ≡ name) × (value_of p (codes "in") ≡ Some input) × (value_of p (codes "out") ≡ Some output)
+
+files_collected : (o : Option (Text × List Row)) (name input output : Text) → option_map (λ p. p.0) o ≡ Some name
+    → option_map (λ p. value_of p (codes "in")) o ≡ Some (Some input) → option_map (λ p. value_of p (codes "out")) o ≡ Some (Some output)
+    → IsSomeAnd o (HasFiles name input output)
+files_collected None name input output n f d = absurd (none-some name n)
+files_collected (Some p) name input output n f d = (same_Some _ _ n, same_Some _ _ f, same_Some _ _ d)
+
 collected : (o : Option (Text × List Row)) (name file : Text) (hex : Option Text) → option_map (λ p. p.0) o ≡ Some name
     → option_map (λ p. value_of p (codes "file")) o ≡ Some (Some file) → option_map (λ p. value_of p (codes "data")) o ≡ Some hex → IsSomeAnd o (Has name file hex)
 collected None name file hex n f d = absurd (none-some name n)
@@ -79,6 +107,18 @@ verify_made words file r = record {
   subcommand = weaker (subcommand_in words) (Has (codes "verify") file.now None) (λ p. Requests p (Verify file)) (λ p h. (h.0, h.1)) (collected (subcommand_in words) (codes "verify") file.now None r.name_is r.file_is r.data_is);
 }
 
+disassemble_made : (words : List Text) (file : Bor Text) → Reads words (codes "disassemble") file.now None → Makes words (Disassemble file)
+disassemble_made words file r = record {
+  good = r.good;
+  subcommand = weaker (subcommand_in words) (Has (codes "disassemble") file.now None) (λ p. Requests p (Disassemble file)) (λ p h. (h.0, h.1)) (collected (subcommand_in words) (codes "disassemble") file.now None r.name_is r.file_is r.data_is);
+}
+
+assemble_made : (words : List Text) (input output : Bor Text) → ReadsFiles words (codes "assemble") input.now output.now → Makes words (Assemble input output)
+assemble_made words input output r = record {
+  good = r.good;
+  subcommand = files_collected (subcommand_in words) (codes "assemble") input.now output.now r.name_is r.input_is r.output_is;
+}
+
 trace_made : (words : List Text) (file : Bor Text) (hex : Option (Bor Text)) → Reads words (codes "trace") file.now (option_map (λ s. s.now) hex) → Makes words (Trace file hex)
 trace_made words file hex r = record {
   good = r.good;
@@ -93,6 +133,8 @@ with_data file hex words o (name, inr (inr (inr l))) = subst (λ w. Reads w (cod
 
 made : (r : Request) (words : List Text) → IsLineOf r words → Makes words r
 made (Verify file) words (o, (name, l)) = verify_made words file (subst (λ w. Reads w (codes "verify") file.now None) (sym l) (verify_read name file.now o))
+made (Assemble input output) words (o, (name, l)) = assemble_made words input output (subst (λ w. ReadsFiles w (codes "assemble") input.now output.now) (sym l) (assemble_read name input.now output.now o.0 o.1))
+made (Disassemble file) words (o, (name, l)) = disassemble_made words file (subst (λ w. Reads w (codes "disassemble") file.now None) (sym l) (disassemble_read name file.now o))
 made (Trace file None) words (o, (name, l)) = trace_made words file None (subst (λ w. Reads w (codes "trace") file.now None) (sym l) (trace_read name file.now o))
 made (Trace file (Some hex)) words (o, l) = trace_made words file (Some hex) (with_data file hex words o l)
 

@@ -1,5 +1,6 @@
 -- What the name and the entries of a subcommand that was met say of it.
-use Rattle.std.proofs.Common.{◌≡◌, ◌∙◌, sym, ap, refl, List, Option, Some, None, IfSome, IsSomeAnd, Bor}
+use Rattle.std.proofs.Common.{◌≡◌, ◌∙◌, ◌⊎◌, sym, ap, refl, arith, inl, inr, codes, ℕ, List, [], ◌∷◌, Option, Some, None, IfSome, IsSomeAnd, Bor}
+use Rattle.command_line.specs.Requests.{TakesFile, RequestsNothing}
 use Rattle.std.specs.Prelude.{option_map, Box}
 use Rattle.std.specs.Box.{box_value}
 use Rattle.std.proofs.lemmas.Option.{none-some, same_Some}
@@ -43,3 +44,32 @@ read found id value e = sym (first_value-rows found id) ∙ sym e
 pub read_as : (found : Found) (id : Text) (value other : Option (Bor Text)) → option_map (λ s. s.now) value ≡ first_value found id → value ≡ other
     → first_of id (rows_of found) ≡ option_map (λ s. s.now) other
 read_as found id value other e same = read found id value e ∙ ap (option_map (λ s. s.now)) same
+
+-- ---- no subcommand takes FILE and IN
+
+abbrev head : Text → ℕ
+head [] = 0
+head (c ∷ rest) = c
+
+verify_is_not_assemble : codes "verify" ≡ codes "assemble" → ⊥
+verify_is_not_assemble e = let heads : 118 ≡ 97 = ap head e in absurd (omega (arith, heads))
+
+trace_is_not_assemble : codes "trace" ≡ codes "assemble" → ⊥
+trace_is_not_assemble e = let heads : 116 ≡ 97 = ap head e in absurd (omega (arith, heads))
+
+disassemble_is_not_assemble : codes "disassemble" ≡ codes "assemble" → ⊥
+disassemble_is_not_assemble e = let heads : 100 ≡ 97 = ap head e in absurd (omega (arith, heads))
+
+takes_no_file : (name : Text) → TakesFile name → name ≡ codes "assemble" → ⊥
+takes_no_file name (inl is) e = disassemble_is_not_assemble (sym is ∙ e)
+takes_no_file name (inr (inl is)) e = verify_is_not_assemble (sym is ∙ e)
+takes_no_file name (inr (inr is)) e = trace_is_not_assemble (sym is ∙ e)
+
+-- a subcommand that takes FILE requests nothing without it
+pub lacks_file : (name : Text) (rows : List Row) → TakesFile name → first_of (codes "file") rows ≡ None → RequestsNothing (name, rows)
+lacks_file name rows takes none = record { file = λ _. none; files = λ e. absurd (takes_no_file name takes e) }
+
+-- assemble requests nothing without one of its files
+pub lacks_files : (name : Text) (rows : List Row) → name ≡ codes "assemble"
+    → (first_of (codes "in") rows ≡ None) ⊎ (first_of (codes "out") rows ≡ None) → RequestsNothing (name, rows)
+lacks_files name rows is none = record { file = λ takes. absurd (takes_no_file name takes is); files = λ _. none }

@@ -14,6 +14,21 @@ file_argument = record (new_rule (codes "file")) { action = Some Set; value_name
 abbrev pub data_option : Rule
 data_option = record (new_rule (codes "data")) { long = Some (codes "data"); action = Some Set; value_names = 1 }
 
+-- IN and OUT: required, one value each
+abbrev pub input_argument : Rule
+input_argument = record (new_rule (codes "in")) { action = Some Set; value_names = 1; required = true }
+
+abbrev pub output_argument : Rule
+output_argument = record (new_rule (codes "out")) { action = Some Set; value_names = 1; required = true }
+
+-- assemble IN OUT
+abbrev pub assemble_command : App
+assemble_command = with_rule (with_rule (new_app (codes "assemble")) input_argument) output_argument
+
+-- disassemble FILE
+abbrev pub disassemble_command : App
+disassemble_command = with_rule (new_app (codes "disassemble")) file_argument
+
 -- verify FILE
 abbrev pub verify_command : App
 verify_command = with_rule (new_app (codes "verify")) file_argument
@@ -26,8 +41,11 @@ trace_command = with_rule (with_rule (new_app (codes "trace")) file_argument) da
 abbrev pub bare_command : App
 bare_command = let app = new_app (codes "relayd") in record app { top = record app.top { subcommand_required = true } }
 
+abbrev pub text_command : App
+text_command = with_subcommand (with_subcommand bare_command assemble_command.top) disassemble_command.top
+
 abbrev pub relayd_command : App
-relayd_command = with_subcommand (with_subcommand bare_command verify_command.top) trace_command.top
+relayd_command = with_subcommand (with_subcommand text_command verify_command.top) trace_command.top
 
 -- the command has these arguments and subcommands, and no global argument
 abbrev pub HasShape : App → Command → Type 0

@@ -6,7 +6,7 @@ use Rattle.clap.specs.declared.error.kind.ErrorKind.TheVariants.{OutOfMemory}
 use Rattle.clap.specs.declared.parser.matches.ArgMatches.{ArgMatches}
 use Rattle.command_line.specs.Requests.{Requests}
 use Rattle.command_line.specs.declared.Request.{Request}
-use Rattle.command_line.specs.declared.Request.TheVariants.{Verify, Trace}
+use Rattle.command_line.specs.declared.Request.TheVariants.{Verify, Trace, Assemble, Disassemble}
 
 abbrev pub begins_with_minus : Text → Bool
 begins_with_minus [] = false
@@ -24,11 +24,14 @@ IsTraceLine file hex words = (name : Text) × (
     ⊎ ((words ≡ name ∷ codes "trace" ∷ file ∷ (codes "--data=" ++ hex) ∷ [])
     ⊎ (words ≡ name ∷ codes "trace" ∷ (codes "--data=" ++ hex) ∷ file ∷ []))))
 
--- the words are one of the usual lines of the request, in which FILE is an operand
+-- the words are one of the usual lines of the request, in which the files are operands
 abbrev pub IsLineOf : Request → List Text → Type 0
 IsLineOf (Verify file) words = IsOperand file.now × ((name : Text) × (words ≡ name ∷ codes "verify" ∷ file.now ∷ []))
 IsLineOf (Trace file None) words = IsOperand file.now × ((name : Text) × (words ≡ name ∷ codes "trace" ∷ file.now ∷ []))
 IsLineOf (Trace file (Some hex)) words = IsOperand file.now × IsTraceLine file.now hex.now words
+IsLineOf (Assemble input output) words = (IsOperand input.now × IsOperand output.now)
+    × ((name : Text) × (words ≡ name ∷ codes "assemble" ∷ input.now ∷ output.now ∷ []))
+IsLineOf (Disassemble file) words = IsOperand file.now × ((name : Text) × (words ≡ name ∷ codes "disassemble" ∷ file.now ∷ []))
 
 -- the matches make this request, or memory ran out
 abbrev pub IsParsedAs : Request → Result ArgMatches Error → Type 0

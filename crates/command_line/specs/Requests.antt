@@ -2,7 +2,7 @@
 use Rattle.std.specs.Prelude.{◌≡◌, ◌⊎◌, List, Option, Some, None, option_map, codes}
 use Rattle.clap.specs.Words.{Text, Row, first_of}
 use Rattle.command_line.specs.declared.Request.{Request}
-use Rattle.command_line.specs.declared.Request.TheVariants.{Verify, Trace}
+use Rattle.command_line.specs.declared.Request.TheVariants.{Verify, Trace, Assemble, Disassemble}
 
 -- the value of an argument of the subcommand
 abbrev pub value_of : Text × List Row → Text → Option Text
@@ -13,7 +13,15 @@ abbrev pub Requests : Text × List Row → Request → Type 0
 Requests p (Verify file) = (p.0 ≡ codes "verify") × (value_of p (codes "file") ≡ Some file.now)
 Requests p (Trace file hex) = (p.0 ≡ codes "trace") × (value_of p (codes "file") ≡ Some file.now)
     × (value_of p (codes "data") ≡ option_map (λ s. s.now) hex)
+Requests p (Assemble input output) = (p.0 ≡ codes "assemble") × (value_of p (codes "in") ≡ Some input.now)
+    × (value_of p (codes "out") ≡ Some output.now)
+Requests p (Disassemble file) = (p.0 ≡ codes "disassemble") × (value_of p (codes "file") ≡ Some file.now)
 
--- the subcommand requests nothing: it is neither of the two, or has no file
-abbrev pub RequestsNothing : Text × List Row → Type 0
-RequestsNothing p = (p.0 ≡ codes "verify") ⊎ (p.0 ≡ codes "trace") → value_of p (codes "file") ≡ None
+-- the subcommand is one that takes FILE
+abbrev pub TakesFile : Text → Type 0
+TakesFile name = (name ≡ codes "disassemble") ⊎ ((name ≡ codes "verify") ⊎ (name ≡ codes "trace"))
+
+-- the subcommand requests nothing: it is none of the four, or lacks a file
+pub record RequestsNothing (p : Text × List Row) : Type 0 where
+  pub file : TakesFile p.0 → value_of p (codes "file") ≡ None
+  pub files : p.0 ≡ codes "assemble" → (value_of p (codes "in") ≡ None) ⊎ (value_of p (codes "out") ≡ None)

@@ -3,7 +3,7 @@
 
 ghost use Rattle.std.specs.Prelude.{◌≡◌, true, false, map, IfOk, IfSome, IfNone, IsSomeAnd};
 ghost use Rattle.clap.specs.Words.{FailsBy, has_subcommand, rule_of, subcommand_rows_of};
-ghost use Rattle.command_line.specs.Commands.{HasShape, data_option, faults_of, file_argument, relayd_command, subcommand_in, trace_command, verify_command};
+ghost use Rattle.command_line.specs.Commands.{HasShape, assemble_command, data_option, disassemble_command, faults_of, file_argument, input_argument, output_argument, relayd_command, subcommand_in, text_command, trace_command, verify_command};
 ghost use Rattle.command_line.specs.Lines.{IsLineOf, IsParsedAs};
 ghost use Rattle.command_line.specs.Requests.{Requests, RequestsNothing};
 ghost use Rattle.command_line.specs.declared.Request.{Request};
@@ -24,6 +24,15 @@ pub enum Request<'a> {
     Trace {
         file: &'a str,
         data: Option<&'a str>,
+    },
+    /// Assemble the text in a file, and write the program to another.
+    Assemble {
+        input: &'a str,
+        output: &'a str,
+    },
+    /// Print the program in a file as text.
+    Disassemble {
+        file: &'a str,
     },
 }
 
@@ -51,6 +60,30 @@ fn data<'a>(alloc: Global) -> Arg<'a>
         .action(ArgAction::Set)
 }
 
+/// Returns the argument `IN`.
+fn input<'a>(alloc: Global) -> Arg<'a>
+    ensures rule { rule_of result ≡ input_argument }
+    ensures local { result.global ≡ false }
+{
+    Arg::new(alloc, "in")
+        .value_name("IN")
+        .help("The text of a program: one instruction or label a line")
+        .required(true)
+        .action(ArgAction::Set)
+}
+
+/// Returns the argument `OUT`.
+fn output<'a>(alloc: Global) -> Arg<'a>
+    ensures rule { rule_of result ≡ output_argument }
+    ensures local { result.global ≡ false }
+{
+    Arg::new(alloc, "out")
+        .value_name("OUT")
+        .help("The file to write: the program's encoded instructions")
+        .required(true)
+        .action(ArgAction::Set)
+}
+
 /// Returns the subcommand `verify`.
 fn verify<'a>(alloc: Global) -> Result<Command<'a>, AllocError>
     ensures { IfOk result (HasShape verify_command) }
@@ -70,13 +103,41 @@ fn trace<'a>(alloc: Global) -> Result<Command<'a>, AllocError>
         .arg(data(alloc))
 }
 
-/// Returns the whole command.
-fn relayd<'a>(alloc: Global) -> Result<Command<'a>, AllocError>
-    ensures { IfOk result (HasShape relayd_command) }
+/// Returns the subcommand `assemble`.
+fn assemble<'a>(alloc: Global) -> Result<Command<'a>, AllocError>
+    ensures { IfOk result (HasShape assemble_command) }
+{
+    Command::new(alloc, "assemble")
+        .about("Assemble the text of a program, or print which line is wrong")
+        .arg(input(alloc))?
+        .arg(output(alloc))
+}
+
+/// Returns the subcommand `disassemble`.
+fn disassemble<'a>(alloc: Global) -> Result<Command<'a>, AllocError>
+    ensures { IfOk result (HasShape disassemble_command) }
+{
+    Command::new(alloc, "disassemble")
+        .about("Print a program as text, which assembles to the same program")
+        .arg(file(alloc))
+}
+
+/// Returns the command with the subcommands that read or write texts.
+fn with_texts<'a>(alloc: Global) -> Result<Command<'a>, AllocError>
+    ensures { IfOk result (HasShape text_command) }
 {
     Command::new(alloc, "relayd")
         .about("A TURN relay whose forwarding rules are loaded programs of the BPF instruction set")
         .subcommand_required(true)
+        .subcommand(assemble(alloc)?)?
+        .subcommand(disassemble(alloc)?)
+}
+
+/// Returns the whole command.
+fn relayd<'a>(alloc: Global) -> Result<Command<'a>, AllocError>
+    ensures { IfOk result (HasShape relayd_command) }
+{
+    with_texts(alloc)?
         .subcommand(verify(alloc)?)?
         .subcommand(trace(alloc)?)
 }
@@ -103,13 +164,25 @@ pub fn requested<'a>(matches: &ArgMatches<'a>) -> Option<Request<'a>>
     ensures none { IfNone result (IfSome (subcommand_rows_of matches.now) RequestsNothing) }
 {
     let (name, matches) = matches.subcommand()?;
-    let file = matches.get_str("file")?;
     match name {
-        "verify" => Some(Request::Verify { file }),
-        "trace" => Some(Request::Trace {
-            file,
-            data: matches.get_str("data"),
-        }),
+        "assemble" => {
+            let input = matches.get_str("in")?;
+            let output = matches.get_str("out")?;
+            Some(Request::Assemble { input, output })
+        }
+        "disassemble" => {
+            let file = matches.get_str("file")?;
+            Some(Request::Disassemble { file })
+        }
+        "verify" => {
+            let file = matches.get_str("file")?;
+            Some(Request::Verify { file })
+        }
+        "trace" => {
+            let file = matches.get_str("file")?;
+            let data = matches.get_str("data");
+            Some(Request::Trace { file, data })
+        }
         _ => None,
     }
 }

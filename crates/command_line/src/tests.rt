@@ -10,10 +10,26 @@ struct Good {
     request: &'static str,
 }
 
-const GOOD: [Good; 15] = [
+const GOOD: [Good; 19] = [
     Good {
         words: &["relayd", "verify", "a.bpf"],
         request: r#"Verify { file: "a.bpf" }"#,
+    },
+    Good {
+        words: &["relayd", "assemble", "a.s", "a.bpf"],
+        request: r#"Assemble { input: "a.s", output: "a.bpf" }"#,
+    },
+    Good {
+        words: &["relayd", "assemble", "a.s", "a.s"],
+        request: r#"Assemble { input: "a.s", output: "a.s" }"#,
+    },
+    Good {
+        words: &["relayd", "assemble", "--", "--help", "-o"],
+        request: r#"Assemble { input: "--help", output: "-o" }"#,
+    },
+    Good {
+        words: &["relayd", "disassemble", "a.bpf"],
+        request: r#"Disassemble { file: "a.bpf" }"#,
     },
     Good {
         words: &["relayd", "trace", "a.bpf"],
@@ -99,7 +115,7 @@ struct Refused {
     parts: &'static [&'static str],
 }
 
-const REFUSED: [Refused; 29] = [
+const REFUSED: [Refused; 36] = [
     // a missing word
     Refused {
         words: &[],
@@ -120,6 +136,51 @@ const REFUSED: [Refused; 29] = [
         words: &["relayd", "trace"],
         status: 2,
         parts: &["<FILE>", "--help"],
+    },
+    Refused {
+        words: &["relayd", "assemble"],
+        status: 2,
+        parts: &["<IN>", "<OUT>", "--help"],
+    },
+    Refused {
+        words: &["relayd", "assemble", "a.s"],
+        status: 2,
+        parts: &["<OUT>", "--help"],
+    },
+    Refused {
+        words: &["relayd", "assemble", "a.s", "a.bpf", "b.bpf"],
+        status: 2,
+        parts: &["b.bpf", "--help"],
+    },
+    Refused {
+        words: &["relayd", "disassemble"],
+        status: 2,
+        parts: &["<FILE>", "--help"],
+    },
+    Refused {
+        words: &["relayd", "disassemble", "a.bpf", "a.s"],
+        status: 2,
+        parts: &["a.s", "--help"],
+    },
+    // the help of the two
+    Refused {
+        words: &["relayd", "assemble", "--help"],
+        status: 0,
+        parts: &[
+            "Assemble the text of a program, or print which line is wrong",
+            "<IN>",
+            "The text of a program: one instruction or label a line",
+            "<OUT>",
+            "The file to write: the program's encoded instructions",
+        ],
+    },
+    Refused {
+        words: &["relayd", "disassemble", "--help"],
+        status: 0,
+        parts: &[
+            "Print a program as text, which assembles to the same program",
+            "<FILE>",
+        ],
     },
     Refused {
         words: &["relayd", "trace", "--data", "00"],

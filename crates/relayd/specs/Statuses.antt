@@ -19,6 +19,7 @@ use Rattle.relayd.specs.declared.reporting.Ask.TheVariants as ask
 abbrev pub status_of : ReportError → ℕ
 status_of error.Data = 1
 status_of (error.Program e) = 1
+status_of (error.Text e) = 1
 status_of error.Output = 3
 status_of error.Memory = 4
 
@@ -44,15 +45,21 @@ IsAboutFile (load.Verify (verify.Memory slot)) = ⊥
 abbrev pub IsRefusedFile : List ℕ → Type 0
 IsRefusedFile file = (e : LoadError) × IsAboutFile e × IsLoadRefusal file e
 
--- success: the file may be loaded, or the traced run exits
+-- the file encodes a program, safe or not
+abbrev pub HasProgram : List ℕ → Type 0
+HasProgram file = (code : List Insn) × Encodes code file
+
+-- success: the file may be loaded, the traced run exits, or the file encodes a program
 abbrev pub Succeeds : Ask → List ℕ → Type 0
 Succeeds ask.Verify file = IsSafeFile file
 Succeeds (ask.Trace hex) file = TraceEnds (digits_of hex) file IsExit
+Succeeds ask.Disassemble file = HasProgram file
 
 -- the printed report says so: the loader refuses the file, or the traced run gets stuck
 abbrev pub PrintsRefusal : Ask → List ℕ → Type 0
 PrintsRefusal ask.Verify file = IsRefusedFile file
 PrintsRefusal (ask.Trace hex) file = TraceEnds (digits_of hex) file IsStuck
+PrintsRefusal ask.Disassemble file = ⊥
 
 -- the report is printed with this status
 pub record IsPrinted (asked : Ask) (file : List ℕ) (status : ℕ) : Type 0 where
@@ -60,19 +67,29 @@ pub record IsPrinted (asked : Ask) (file : List ℕ) (status : ℕ) : Type 0 whe
   pub success : status ≡ 0 → Succeeds asked file
   pub refusal : status ≡ 1 → PrintsRefusal asked file
 
--- the file encodes a program, safe or not
-abbrev pub HasProgram : List ℕ → Type 0
-HasProgram file = (code : List Insn) × Encodes code file
+-- decoding fails so
+abbrev pub IsNoProgram : List ℕ → ReportError → Type 0
+IsNoProgram file error.Memory = Unit {0}
+IsNoProgram file error.Data = ⊥
+IsNoProgram file (error.Program e) = IsRefused file e
+IsNoProgram file (error.Text e) = ⊥
+IsNoProgram file error.Output = ⊥
 
 -- When a report may fail by an error. A trace tests its digits first, then decodes the file, and then prints.
 abbrev pub MayFail : Ask → List ℕ → ReportError → Type 0
 MayFail asked file error.Memory = Unit {0}
 MayFail ask.Verify file error.Data = ⊥
 MayFail ask.Verify file (error.Program e) = ⊥
+MayFail ask.Verify file (error.Text e) = ⊥
 MayFail ask.Verify file error.Output = Unit {0}
 MayFail (ask.Trace hex) file error.Data = HasNoDatagram (digits_of hex)
 MayFail (ask.Trace hex) file (error.Program e) = HasDatagram (digits_of hex) × IsRefused file e
+MayFail (ask.Trace hex) file (error.Text e) = ⊥
 MayFail (ask.Trace hex) file error.Output = HasDatagram (digits_of hex) × HasProgram file
+MayFail ask.Disassemble file error.Data = ⊥
+MayFail ask.Disassemble file (error.Program e) = IsRefused file e
+MayFail ask.Disassemble file (error.Text e) = ⊥
+MayFail ask.Disassemble file error.Output = HasProgram file
 
 -- the request is refused, by a printed report or by an error
 abbrev pub IsRefusal : Ask → List ℕ → Type 0

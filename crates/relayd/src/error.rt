@@ -3,6 +3,7 @@
 ghost use Rattle.std.specs.Prelude.{◌≡◌};
 ghost use Rattle.relayd.specs.Statuses.{status_of};
 
+use asm::AsmError;
 use insn::DecodeError;
 use std::io::Write;
 use thiserror::Error;
@@ -16,6 +17,9 @@ pub enum ReportError {
     /// The file encodes no program.
     #[error("refused {0}")]
     Program(DecodeError),
+    /// The text is not assembled.
+    #[error("refused {0}")]
+    Text(AsmError),
     /// The output cannot be written.
     #[error("cannot write output")]
     Output,
@@ -30,7 +34,7 @@ impl ReportError {
         ensures { result ≡ status_of self }
     {
         match self {
-            ReportError::Data | ReportError::Program(_) => 1,
+            ReportError::Data | ReportError::Program(_) | ReportError::Text(_) => 1,
             ReportError::Output => 3,
             ReportError::Memory => 4,
         }

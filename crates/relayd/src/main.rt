@@ -6,6 +6,7 @@ mod reporting;
 #[cfg(test)]
 mod tests;
 
+use asm::{AsmError, assemble};
 use clap::error::ErrorKind as LineErrorKind;
 use command_line::{Request, line, requested};
 use error::{ReportError, fail};
@@ -16,8 +17,8 @@ use std::process::ExitCode;
 use std::rt::{Env, Files};
 use std::{env, fs};
 
-/// The exit status where a file cannot be read.
-const UNREADABLE_FILE: u8 = 3;
+/// The exit status where a file cannot be read or written.
+const FILE_FAULT: u8 = 3;
 
 /// The exit status of a bad command line.
 const BAD_LINE: u8 = 2;
@@ -45,14 +46,47 @@ fn report_file<R: Files + Print + AllocGlobal, E: Write>(
         Err(error) if error.kind() == io::ErrorKind::OutOfMemory => {
             return fail(err, ReportError::Memory);
         }
-        Err(_) => {
-            let _ = writeln!(err, "cannot read {path}");
-            return UNREADABLE_FILE;
-        }
+        Err(_) => return fail_at(err, "read", path),
     };
     match BufWriter::new(rt.alloc(), io::writer(rt)) {
         Ok(mut out) => report(rt.alloc(), ask, &file, &mut out, err),
         Err(_) => fail(err, ReportError::Memory),
+    }
+}
+
+/// Prints that a file cannot be read or written, and returns the exit status.
+fn fail_at<E: Write>(err: &mut E, action: &str, path: &str) -> u8 {
+    let _ = writeln!(err, "cannot {action} {path}");
+    FILE_FAULT
+}
+
+/// Assembles the text in the file `input`, writes the program to the file `output` and returns the exit status. A
+/// text that is refused writes nothing.
+fn assemble_file<R: Files + Print + AllocGlobal, E: Write>(
+    rt: &R,
+    err: &mut E,
+    input: &str,
+    output: &str,
+) -> u8 {
+    let text = match fs::read_to_string(rt, input) {
+        Ok(text) => text,
+        Err(error) if error.kind() == io::ErrorKind::OutOfMemory => {
+            return fail(err, ReportError::Memory);
+        }
+        Err(_) => return fail_at(err, "read", input),
+    };
+    let program = match assemble(rt.alloc(), text.as_str()) {
+        Ok(program) => program,
+        Err(AsmError::Memory) => return fail(err, ReportError::Memory),
+        Err(refusal) => return fail(err, ReportError::Text(refusal)),
+    };
+    if fs::write(rt, output, &program).is_err() {
+        return fail_at(err, "write", output);
+    }
+    let length = program.len();
+    match println!(rt; "wrote {length} bytes") {
+        Ok(()) => 0,
+        Err(_) => fail(err, ReportError::Output),
     }
 }
 
@@ -72,6 +106,8 @@ fn run<R: Env + Files + Print + Eprint + AllocGlobal, E: Write>(rt: &R, err: &mu
             Some(Request::Trace { file, data }) => {
                 report_file(rt, err, file, Ask::Trace { hex: data })
             }
+            Some(Request::Disassemble { file }) => report_file(rt, err, file, Ask::Disassemble),
+            Some(Request::Assemble { input, output }) => assemble_file(rt, err, input, output),
             None => BAD_LINE,
         },
     }

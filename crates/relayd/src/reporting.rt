@@ -1,15 +1,17 @@
-//! Prints the reports of `verify` and `trace` on a program file, and returns their exit statuses.
+//! Prints the reports of `verify`, `trace` and `disassemble` on a program file, and returns their exit statuses.
 
 ghost use Rattle.std.specs.Prelude.{◌≡◌, ◌⊎◌, ◌≤◌, ◌<◌, IfOk, IfErr, OnOk, MatchResult, true};
+ghost use Rattle.insn.specs.Encoding.{Encodes};
 ghost use Rattle.machine.specs.Contents.{datagram_of};
 ghost use Rattle.machine.specs.Contexts.{context_of};
 ghost use Rattle.relayd.specs.Traces.{digits_of, trace_context, EncodeDatagram, HasNoDatagram};
 ghost use Rattle.relayd.specs.declared.error.ReportError.TheVariants.{Data, Output};
-ghost use Rattle.relayd.specs.declared.reporting.Ask.TheVariants.{Trace, Verify};
-ghost use Rattle.relayd.specs.Statuses.{IsPrinted, IsRefusal, MayFail, Succeeds};
+ghost use Rattle.relayd.specs.declared.reporting.Ask.TheVariants.{Disassemble, Trace, Verify};
+ghost use Rattle.relayd.specs.Statuses.{IsNoProgram, IsPrinted, IsRefusal, MayFail, Succeeds};
 
 use crate::error::{ReportError, fail};
-use insn::{DecodeError, decode};
+use disasm::disassemble;
+use insn::{DecodeError, Insn, decode};
 use loader::{LoadError, load};
 use machine::{
     Addr, Context, Frame, Lines, MAX_DATAGRAM, NoAllocation, Outcome, Side, Stuck, trace,
@@ -26,6 +28,8 @@ pub enum Ask<'a> {
     /// Each step of the program over a datagram, in hexadecimal digits of either case. `None` stands
     /// for the empty datagram.
     Trace { hex: Option<&'a str> },
+    /// The program as text.
+    Disassemble,
 }
 
 /// The context of a trace: the client's side, the source 127.0.0.1:9, and a transaction id of zeros.
@@ -112,6 +116,30 @@ fn report_end<W: Write>(ended: Result<Outcome, Stuck>, out: &mut W) -> Result<u8
     Ok(0)
 }
 
+/// Decodes the program in a file.
+fn program(alloc: Global, file: &[u8]) -> Result<Vec<Insn>, ReportError>
+    ensures found { IfOk result (λ code. Encodes code.items file.now) }
+    ensures refused { IfErr result (IsNoProgram file.now) }
+{
+    match decode(alloc, file) {
+        Ok(code) => Ok(code),
+        Err(DecodeError::Memory) => Err(ReportError::Memory),
+        Err(refusal) => Err(ReportError::Program(refusal)),
+    }
+}
+
+/// Prints the program as text, and returns the status.
+fn report_disassembly<W: Write>(alloc: Global, file: &[u8], out: &mut W) -> Result<u8, ReportError>
+    ensures printed { IfOk result (IsPrinted Disassemble file.now) }
+    ensures failed { IfErr result (MayFail Disassemble file.now) }
+{
+    let code = program(alloc, file)?;
+    let text = disassemble(alloc, &code).map_err(|_| ReportError::Memory)?;
+    out.write_all(text.as_bytes())
+        .map_err(|_| ReportError::Output)?;
+    Ok(0)
+}
+
 /// Prints each step of the program over the datagram, and how its run ended, and returns the status.
 fn report_trace<W: Write>(
     alloc: Global,
@@ -124,11 +152,7 @@ fn report_trace<W: Write>(
 {
     let mut frame = Frame::new(alloc).map_err(|_| ReportError::Memory)?;
     fill(&mut frame, hex)?;
-    let code = match decode(alloc, file) {
-        Ok(code) => code,
-        Err(DecodeError::Memory) => return Err(ReportError::Memory),
-        Err(refusal) => return Err(ReportError::Program(refusal)),
-    };
+    let code = program(alloc, file)?;
     let mut lines = Lines::new(&mut *out);
     let ended = trace(&code, &mut frame, &NoAllocation, &mut lines);
     lines.finish().map_err(|_| ReportError::Output)?;
@@ -143,6 +167,7 @@ fn print<W: Write>(alloc: Global, ask: Ask<'_>, file: &[u8], out: &mut W) -> Res
     let status = match ask {
         Ask::Verify => report_verify(alloc, file, out)?,
         Ask::Trace { hex } => report_trace(alloc, hex, file, out)?,
+        Ask::Disassemble => report_disassembly(alloc, file, out)?,
     };
     out.flush().map_err(|_| ReportError::Output)?;
     Ok(status)
@@ -151,11 +176,11 @@ fn print<W: Write>(alloc: Global, ask: Ask<'_>, file: &[u8], out: &mut W) -> Res
 /// Prints a report on a program file to `out`, and the line of an error to `err`. Returns the exit
 /// status:
 ///
-/// - 0 if the program may be loaded, or if its traced run exits.
+/// - 0 if the program may be loaded, if its traced run exits, or if its text is printed.
 /// - 1 if the program is refused, if its traced run gets stuck, or if the digits or the file of a trace
-///   are refused; the digits are tested first.
-/// - 3 if the output cannot be written. A trace is only printed if neither the digits nor the file are
-///   refused.
+///   or a disassembly are refused; the digits are tested first.
+/// - 3 if the output cannot be written. A trace or a text is only printed if neither the digits nor the
+///   file are refused.
 /// - 4 if memory runs out.
 pub fn report<W: Write, E: Write>(
     alloc: Global,

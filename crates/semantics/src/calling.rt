@@ -116,7 +116,8 @@ fn destination_effect(
     memory: &Memory<'_>,
     registers: &Registers,
 ) -> Result<Effect, Reason>
-    ensures { (c : Context) → IsContext c → context.now ≡ context_bytes c (memory.now).length → result ≡ helper_effect c (memory_of memory.now) registers.now Destination }
+    ensures { (c : Context) → IsContext c → context.now ≡ context_bytes c (memory.now).length
+        → result ≡ helper_effect c (memory_of memory.now) registers.now Destination }
 {
     context_argument(registers)?;
     let address = record_argument(memory, registers, Reg::R2)?;

@@ -1,20 +1,50 @@
-use Rattle.std.proofs.Common.{Some, None, codes}
-use Rattle.clap.specs.Words.{found_of}
+use Rattle.std.proofs.Common.{Some, None, codes, inl, inr}
+use Rattle.clap.specs.Words.{found_of, rows_of}
 use Rattle.command_line.specs.Requests.{RequestsNothing}
-use Rattle.command_line.proofs.Subcommands.{one_met, any_met, read, read_as}
+use Rattle.command_line.proofs.Subcommands.{one_met, any_met, read, read_as, lacks_file, lacks_files}
 use Rattle.command_line.proofs.requested.Goals as goal
 
-pub returns-in_err-file-clause-none : goal.returns-in_err-file-clause-none
-returns-in_err-file-clause-none c =
-    rw c.from_residual-in_err-file.ensures (any_met c.args.matches.now c.in_ok-name.name.now (found_of c.in_ok-name.matches.now) RequestsNothing c.in_ok-name.ensures.name c.in_ok-name.ensures.rows
-    (λ _. read_as (found_of c.in_ok-name.matches.now) (codes "file") _ None c.get_str.ensures c.in_err-file.was))
+pub returns-in_err-input-in-assemble-clause-none : goal.returns-in_err-input-in-assemble-clause-none
+returns-in_err-input-in-assemble-clause-none c =
+    rw c.from_residual-in_err-input-in-assemble.ensures (any_met c.args.matches.now c.in_ok-name.name.now (found_of c.in_ok-name.matches.now) RequestsNothing c.in_ok-name.ensures.name c.in_ok-name.ensures.rows
+    (lacks_files c.in_ok-name.name.now (rows_of (found_of c.in_ok-name.matches.now)) c.in-assemble.is (inl (read_as (found_of c.in_ok-name.matches.now) (codes "in") _ None c.get_str.ensures c.in_err-input-in-assemble.was))))
 
-pub returns-in-verify-clause-found : goal.returns-in-verify-clause-found
-returns-in-verify-clause-found c =
-    one_met c.args.matches.now c.in_ok-name.name.now (found_of c.in_ok-name.matches.now) _ c.in_ok-name.ensures.name c.in_ok-name.ensures.rows
-    (c.in-verify.is, read_as (found_of c.in_ok-name.matches.now) (codes "file") _ (Some c.in_ok-file.file) c.get_str.ensures c.in_ok-file.was)
+pub returns-in_err-output-in-assemble-clause-none : goal.returns-in_err-output-in-assemble-clause-none
+returns-in_err-output-in-assemble-clause-none c =
+    rw c.from_residual-in_err-output-in-assemble.ensures (any_met c.args.matches.now c.in_ok-name.name.now (found_of c.in_ok-name.matches.now) RequestsNothing c.in_ok-name.ensures.name c.in_ok-name.ensures.rows
+    (lacks_files c.in_ok-name.name.now (rows_of (found_of c.in_ok-name.matches.now)) c.in-assemble.is (inr (read_as (found_of c.in_ok-name.matches.now) (codes "out") _ None c.get_str-in-assemble.ensures c.in_err-output-in-assemble.was))))
 
-pub returns-in-trace-clause-found : goal.returns-in-trace-clause-found
-returns-in-trace-clause-found c =
+pub returns-in_err-file-in-disassemble-clause-none : goal.returns-in_err-file-in-disassemble-clause-none
+returns-in_err-file-in-disassemble-clause-none c =
+    rw c.from_residual-in_err-file-in-disassemble.ensures (any_met c.args.matches.now c.in_ok-name.name.now (found_of c.in_ok-name.matches.now) RequestsNothing c.in_ok-name.ensures.name c.in_ok-name.ensures.rows
+    (lacks_file c.in_ok-name.name.now (rows_of (found_of c.in_ok-name.matches.now)) (inl c.in-disassemble.is) (read_as (found_of c.in_ok-name.matches.now) (codes "file") _ None c.get_str-in-disassemble.ensures c.in_err-file-in-disassemble.was)))
+
+pub returns-in_err-file-in-verify-clause-none : goal.returns-in_err-file-in-verify-clause-none
+returns-in_err-file-in-verify-clause-none c =
+    rw c.from_residual-in_err-file-in-verify.ensures (any_met c.args.matches.now c.in_ok-name.name.now (found_of c.in_ok-name.matches.now) RequestsNothing c.in_ok-name.ensures.name c.in_ok-name.ensures.rows
+    (lacks_file c.in_ok-name.name.now (rows_of (found_of c.in_ok-name.matches.now)) (inr (inl c.in-verify.is)) (read_as (found_of c.in_ok-name.matches.now) (codes "file") _ None c.get_str-in-verify.ensures c.in_err-file-in-verify.was)))
+
+pub returns-in_err-file-in-trace-clause-none : goal.returns-in_err-file-in-trace-clause-none
+returns-in_err-file-in-trace-clause-none c =
+    rw c.from_residual-in_err-file-in-trace.ensures (any_met c.args.matches.now c.in_ok-name.name.now (found_of c.in_ok-name.matches.now) RequestsNothing c.in_ok-name.ensures.name c.in_ok-name.ensures.rows
+    (lacks_file c.in_ok-name.name.now (rows_of (found_of c.in_ok-name.matches.now)) (inr (inr c.in-trace.is)) (read_as (found_of c.in_ok-name.matches.now) (codes "file") _ None c.get_str-in-trace.ensures c.in_err-file-in-trace.was)))
+
+pub returns-in_ok-output-in-assemble-clause-found : goal.returns-in_ok-output-in-assemble-clause-found
+returns-in_ok-output-in-assemble-clause-found c =
     one_met c.args.matches.now c.in_ok-name.name.now (found_of c.in_ok-name.matches.now) _ c.in_ok-name.ensures.name c.in_ok-name.ensures.rows
-    (c.in-trace.is, read_as (found_of c.in_ok-name.matches.now) (codes "file") _ (Some c.in_ok-file.file) c.get_str.ensures c.in_ok-file.was, read (found_of c.in_ok-name.matches.now) (codes "data") _ c.get_str-in-trace.ensures)
+    (c.in-assemble.is, read_as (found_of c.in_ok-name.matches.now) (codes "in") _ (Some c.in_ok-input-in-assemble.input) c.get_str.ensures c.in_ok-input-in-assemble.was, read_as (found_of c.in_ok-name.matches.now) (codes "out") _ (Some c.in_ok-output-in-assemble.output) c.get_str-in-assemble.ensures c.in_ok-output-in-assemble.was)
+
+pub returns-in_ok-file-in-disassemble-clause-found : goal.returns-in_ok-file-in-disassemble-clause-found
+returns-in_ok-file-in-disassemble-clause-found c =
+    one_met c.args.matches.now c.in_ok-name.name.now (found_of c.in_ok-name.matches.now) _ c.in_ok-name.ensures.name c.in_ok-name.ensures.rows
+    (c.in-disassemble.is, read_as (found_of c.in_ok-name.matches.now) (codes "file") _ (Some c.in_ok-file-in-disassemble.file) c.get_str-in-disassemble.ensures c.in_ok-file-in-disassemble.was)
+
+pub returns-in_ok-file-in-verify-clause-found : goal.returns-in_ok-file-in-verify-clause-found
+returns-in_ok-file-in-verify-clause-found c =
+    one_met c.args.matches.now c.in_ok-name.name.now (found_of c.in_ok-name.matches.now) _ c.in_ok-name.ensures.name c.in_ok-name.ensures.rows
+    (c.in-verify.is, read_as (found_of c.in_ok-name.matches.now) (codes "file") _ (Some c.in_ok-file-in-verify.file) c.get_str-in-verify.ensures c.in_ok-file-in-verify.was)
+
+pub returns-in_ok-file-in-trace-clause-found : goal.returns-in_ok-file-in-trace-clause-found
+returns-in_ok-file-in-trace-clause-found c =
+    one_met c.args.matches.now c.in_ok-name.name.now (found_of c.in_ok-name.matches.now) _ c.in_ok-name.ensures.name c.in_ok-name.ensures.rows
+    (c.in-trace.is, read_as (found_of c.in_ok-name.matches.now) (codes "file") _ (Some c.in_ok-file-in-trace.file) c.get_str-in-trace.ensures c.in_ok-file-in-trace.was, read (found_of c.in_ok-name.matches.now) (codes "data") _ c.get_str-data.ensures)

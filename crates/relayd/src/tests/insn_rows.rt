@@ -1,7 +1,9 @@
 //! How instructions and the refusals of a decoder are spelled, and which file is refused by which.
 
 use super::{Verified, program};
-use insn::{DecodeError, decode, encode, read_back};
+use disasm::disassemble;
+use insn::{DecodeError, Insn, decode, encode, read_back};
+use machine::{Lines, Sink};
 use std::process::Abort;
 use std::test::Fail;
 
@@ -215,16 +217,28 @@ static SPELLED: [Spelled; 25] = [
     },
 ];
 
-/// Decodes each row, and compares its lines, its encoding with the bytes, and what is read back.
+/// Compares the lines of a trace with those of the text, each behind its slot.
+fn expect_traced<R: Abort + AllocGlobal>(rt: &R, code: &[Insn], text: &str) -> Result<(), Fail> {
+    let mut traced = Lines::new(Vec::new(rt.alloc()));
+    for insn in code {
+        traced.step(7, insn);
+    }
+    let mut wanted = String::new(rt.alloc());
+    for line in text.lines() {
+        writeln!(wanted, "7 {line}")?;
+    }
+    assert_eq!(rt; traced.finish()?.as_slice(), wanted.as_bytes());
+    Ok(())
+}
+
+/// Decodes each row, and compares its text, the lines of a trace, its encoding with the bytes, and what is read back.
 fn expect_lines<R: Abort + AllocGlobal>(rt: &R, rows: &[Spelled]) -> Result<(), Fail> {
     for row in rows {
         let file = program(rt, row.slots)?;
         let code = decode(rt.alloc(), &file)?;
-        let mut shown = String::new(rt.alloc());
-        for insn in &code {
-            shown.push_str(format!(in rt.alloc(); "{insn}\n")?.as_str())?;
-        }
-        assert_eq!(rt; shown.as_str(), row.lines);
+        let text = disassemble(rt.alloc(), &code)?;
+        assert_eq!(rt; text.as_str(), row.lines);
+        expect_traced(rt, &code, row.lines)?;
         let again = encode(rt.alloc(), &code)?;
         assert_eq!(rt; again.as_slice(), file.as_slice());
         let back = read_back(rt.alloc(), &code)?;

@@ -23,7 +23,7 @@ struct Report {
     status: u8,
 }
 
-static REPORTS: [Report; 20] = [
+static REPORTS: [Report; 24] = [
     Report {
         ask: Ask::Verify,
         slots: EXITS_WITH_TWO,
@@ -44,6 +44,35 @@ static REPORTS: [Report; 20] = [
         slots: "",
         out: "refused E1\n",
         err: "",
+        status: 1,
+    },
+    // the text of a program, safe or not; a refusal of `disassemble` goes to the errors
+    Report {
+        ask: Ask::Disassemble,
+        slots: EXITS_WITH_TWO,
+        out: "mov r0, 2\nexit\n",
+        err: "",
+        status: 0,
+    },
+    Report {
+        ask: Ask::Disassemble,
+        slots: "9500000000000000",
+        out: "exit\n",
+        err: "",
+        status: 0,
+    },
+    Report {
+        ask: Ask::Disassemble,
+        slots: "ff00000000000000 9500000000000000",
+        out: "",
+        err: "refused E4 at 0\n",
+        status: 1,
+    },
+    Report {
+        ask: Ask::Disassemble,
+        slots: "",
+        out: "",
+        err: "refused E1\n",
         status: 1,
     },
     // without data the datagram is empty

@@ -1,6 +1,5 @@
 use Rattle.std.proofs.Common.{rules, IfOk, IfErr}
 use Rattle.relayd.specs.Statuses.{PrintsRefusal, Succeeds}
-use Rattle.relayd.specs.Traces.{digits_of, HasDatagram}
 use Rattle.relayd.specs.declared.reporting.Ask.TheVariants.{Trace}
 use Rattle.relayd.proofs.Printed.{ended_printed}
 use Rattle.relayd.proofs.reporting.report_trace.Goals as goal
@@ -10,8 +9,3 @@ returns-clause-printed g c =
     let exits : IfOk c.trace-ended.result (λ o. Succeeds (Trace c.args.hex) c.args.file.now) = search rules in
     let stuck : IfErr c.trace-ended.result (λ e. PrintsRefusal (Trace c.args.hex) c.args.file.now) = search rules in
     ended_printed (Trace c.args.hex) c.args.file.now c.trace-ended.result c.report_end.result exits stuck c.report_end.ensures.printed
-
-pub returns-in-Err : goal.returns-in-Err
-returns-in-Err g c =
-    let datagram : HasDatagram (digits_of c.args.hex) = search rules in
-    record { printed = tt; failed = (datagram, search rules) }

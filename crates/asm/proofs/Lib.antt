@@ -1,0 +1,9 @@
+pub mod Words
+pub mod Numerals
+pub mod Tables
+pub mod Texts
+pub mod Scans
+pub mod Links
+pub mod Refusals
+pub mod Meanings
+pub mod Laws

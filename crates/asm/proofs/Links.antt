@@ -1,0 +1,257 @@
+-- The second pass over the lines of a text, line by line.
+use Rattle.std.proofs.Common.{◌≡◌, refl, ℕ, ◌≤◌, ◌+◌, Bool, true, false, List, [], ◌∷◌, ◌++◌, Option, Some, None, Err, cond, sym, ap, ◌∙◌, arith, subst, Bor, pos, ◌-ℤ◌, FitsSigned, Fits, w16, w64, to_z, of_z}
+use Rattle.std.specs.Prelude.{option_map, option_and_then, bytes_eq, is_some}
+use Rattle.std.specs.List.{AllZip, AllByRecursion}
+use Rattle.std.proofs.lemmas.List.{append_assoc, append-nil}
+use Rattle.std.proofs.lemmas.Int.{ints}
+use Rattle.indexmap.specs.IndexMap.{get}
+use Rattle.insn.specs.Encoding.{slots_of}
+use Rattle.insn.proofs.TwoSlots.{slots_small}
+use Rattle.insn.specs.declared.decoding.TheConstants.{MAX_SLOTS}
+use Rattle.insn.specs.declared.instruction.Insn.{Insn}
+use Rattle.asm.specs.Lines.{lines_of}
+use Rattle.asm.specs.Statements.{Name, Statement, Labelled, Instruction}
+use Rattle.asm.specs.Programs.{IsInRange, slots_in, place_from, place, linked_one, linked, LacksLabel}
+use Rattle.asm.specs.Reading.{read_line}
+use Rattle.asm.specs.Parsing.{said_in, IsUnfit, UnderstandsLine}
+use Rattle.asm.specs.Scanning.{Holds, IsTableOf, IsHalted, IsLinked, capped, lines_behind, Begins, Fails}
+use Rattle.asm.specs.declared.statement.Line.{Line}
+use Rattle.asm.specs.declared.statement.Line.TheVariants as line
+use Rattle.asm.specs.declared.refusal.Fault.{Fault}
+use Rattle.asm.specs.declared.refusal.Fault.TheVariants as fault
+use Rattle.asm.specs.declared.refusal.AsmError.{AsmError}
+use Rattle.asm.specs.declared.refusal.AsmError.TheVariants as error
+use Rattle.asm.specs.declared.table.Table.{Table}
+use Rattle.asm.proofs.Tables.{same, slots_more}
+use Rattle.asm.proofs.Scans.{length_more}
+
+-- ---- places
+
+-- a label stands at the end at most
+place_within : (slot : ℕ) (said : List (Option Statement)) (name : Name) (p : ℕ) → place_from slot said name ≡ Some p
+    → p ≤ slot + slots_in said
+place_within slot [] name p at = cc
+place_within slot (None ∷ said) name p at = place_within slot said name p at
+place_within slot (Some (Labelled n) ∷ said) name p at = by (bytes_eq n name) at (place_within slot said name p)
+  where
+    by : (b : Bool) → cond b (Some slot) (place_from slot said name) ≡ Some p
+        → (place_from slot said name ≡ Some p → p ≤ slot + slots_in said)
+        → p ≤ slot + slots_in said
+    by true at behind = let here : slot ≡ p = cc in omega arith
+    by false at behind = behind at
+place_within slot (Some (Instruction i t) ∷ said) name p at = omega
+    (arith, place_within (slot + slots_of i) said name p at)
+
+-- the table of a program that is not too long has the places as they are
+pub place_found : (table : Table) (said : List (Option Statement)) (name : Bor (List ℕ)) (p : ℕ) → Holds table said
+    → slots_in said ≤ MAX_SLOTS
+    → get same table.places name ≡ Some p → (place said name.now ≡ Some p) × (p ≤ MAX_SLOTS)
+place_found table said name p holds few is = by (place said name.now) refl (sym (holds.places name) ∙ is)
+  where
+    by : (o : Option ℕ) → place said name.now ≡ o → option_map capped o ≡ Some p → (o ≡ Some p) × (p ≤ MAX_SLOTS)
+    by None at e = absurd cc
+    by (Some q) at e = let within : q ≤ 0 + slots_in said = place_within 0 said name.now q at in
+        let counted : capped q ≡ p = cc in
+        let here : q ≡ p = omega arith in (ap (λ k. Some k) here, omega arith)
+
+-- the distance of a jump within a program, as it is computed
+pub short_distance : (p slot : ℕ) → p ≤ MAX_SLOTS → slot ≤ MAX_SLOTS
+    → to_z w16 (of_z w16 (to_z w16 p -ℤ to_z w16 (slot + 1))) ≡ pos p -ℤ pos (slot + 1)
+short_distance p slot few here = omega (arith, ints)
+
+pub distance_fits : (p slot : ℕ) → p ≤ MAX_SLOTS → slot ≤ MAX_SLOTS → FitsSigned w16 (to_z w16 p -ℤ to_z w16 (slot + 1))
+distance_fits p slot few here = omega (arith, ints)
+
+pub place_fits : (p : ℕ) → p ≤ MAX_SLOTS → FitsSigned w16 (pos p)
+place_fits p few = omega (arith, ints)
+
+-- an instruction has one slot or two
+pub slot_fits : (slot : ℕ) (i : Insn) → slot ≤ MAX_SLOTS → Fits w64 (slot + slots_of i)
+slot_fits slot i few = omega (arith, slots_small i)
+
+-- ---- instructions
+
+-- the instructions of one line more
+linked_more : (places : Name → Option ℕ) (slot : ℕ) (before : List (Option Statement)) (s : Option Statement)
+    (code more : List Insn)
+    → linked places slot before ≡ Some code → linked places (slot + slots_in before) (s ∷ []) ≡ Some more
+    → linked places slot (before ++ s ∷ []) ≡ Some (code ++ more)
+linked_more places slot [] s code more is here = let none : [] ≡ code = cc in
+    ap (λ k. linked places k (s ∷ [])) (omega arith) ∙ here ∙ ap (λ c. Some (c ++ more)) none
+linked_more places slot (None ∷ before) s code more is here = linked_more places slot before s code more is here
+linked_more places slot (Some (Labelled n) ∷ before) s code more is here = linked_more places slot before s code more
+    is here
+linked_more places slot (Some (Instruction i t) ∷ before) s code more is here =
+    by (linked_one places slot i t) (linked places (slot + slots_of i) before) refl is
+    (λ tail at. linked_more places (slot + slots_of i) before s tail more at
+    (ap (λ k. linked places k (s ∷ [])) (omega arith) ∙ here))
+  where
+    by : (o : Option Insn) (q : Option (List Insn)) → linked places (slot + slots_of i) before ≡ q
+        → option_and_then (λ j. option_map (λ c. j ∷ c) q) o ≡ Some code
+        → ((tail : List Insn) → linked places (slot + slots_of i) before ≡ Some tail
+        → linked places (slot + slots_of i) (before ++ s ∷ []) ≡ Some (tail ++ more))
+        → option_and_then (λ j. option_map (λ c. j ∷ c) (linked places (slot + slots_of i) (before ++ s ∷ [])))
+        o ≡ Some (code ++ more)
+    by None q at e behind = absurd cc
+    by (Some j) None at e behind = absurd cc
+    by (Some j) (Some tail) at e behind = let first : j ∷ tail ≡ code = cc in
+        ap (option_map (λ c. j ∷ c)) (behind tail at) ∙ ap (λ c. Some (c ++ more)) first
+
+slots_both : (before after : List (Option Statement)) → slots_in (before ++ after) ≡ slots_in before + slots_in after
+slots_both [] after = omega arith
+slots_both (None ∷ before) after = slots_both before after
+slots_both (Some (Labelled n) ∷ before) after = slots_both before after
+slots_both (Some (Instruction i t) ∷ before) after = omega (arith, slots_both before after)
+
+-- ---- lines
+
+-- before the first line there is no code
+pub linked_none : (text : List ℕ) (table : Table) → IsTableOf text table
+    → IsLinked (lines_of text) table 0 0 (lines_of text) []
+linked_none text table t = record {
+  said = t.said;
+  read = t.read;
+  few = t.few;
+  holds = t.holds;
+  before = [];
+  after = t.said;
+  split = refl;
+  ahead = t.read.each;
+  fit = t.read.fit;
+  count = refl;
+  slots = refl;
+  linked = refl;
+}
+
+pub slot_within : (lines : List (List ℕ)) (table : Table) (n slot : ℕ) (rest : List (List ℕ)) (code : List Insn)
+    → IsLinked lines table n slot rest code
+    → slot ≤ MAX_SLOTS
+slot_within lines table n slot rest code k = omega
+    (arith, k.few, k.slots, ap slots_in k.split, slots_both k.before k.after)
+
+-- the code behind one line more
+linked_behind : (lines : List (List ℕ)) (table : Table) (n slot : ℕ) (left : Option (Bor (List ℕ)))
+    (text : Bor (List ℕ)) (s : Option Statement)
+    (rest : List (List ℕ)) (code more : List Insn) (k : IsLinked lines table n slot (lines_behind left) code)
+    → left ≡ Some text → Begins text.now s rest
+    → linked (place k.said) slot (s ∷ []) ≡ Some more
+    → IsLinked lines table (n + 1) (slot + slots_in (s ∷ [])) rest (code ++ more)
+linked_behind lines table n slot left text s rest code more k is first here =
+    by k.after k.split (subst (λ ls. AllZip (λ line t. read_line line ≡ Some t) ls k.after)
+    (ap lines_behind is ∙ first.split) k.ahead) k.fit
+  where
+    by : (after : List (Option Statement)) → k.said ≡ k.before ++ after
+        → AllZip (λ line t. read_line line ≡ Some t) (first.line ∷ rest) after
+        → AllByRecursion IsInRange after → IsLinked lines table (n + 1) (slot + slots_in (s ∷ [])) rest (code ++ more)
+    by [] split ahead fit = absurd ahead
+    by (t ∷ after) split ahead fit = let says : Some t ≡ Some s = sym ahead.0 ∙ first.read in let same : t ≡ s = cc in
+        record {
+          said = k.said;
+          read = k.read;
+          few = k.few;
+          holds = k.holds;
+          before = k.before ++ s ∷ [];
+          after = after;
+          split = split ∙ ap (λ u. k.before ++ u ∷ after) same ∙ sym (append_assoc k.before (s ∷ []) after);
+          ahead = ahead.1;
+          fit = fit.1;
+          count = omega (arith, k.count, length_more k.before s);
+          slots = omega (arith, k.slots, slots_more k.before s);
+          linked = linked_more (place k.said) 0 k.before s code more k.linked
+              (ap (λ p. linked (place k.said) p (s ∷ [])) (omega (arith, k.slots)) ∙ here);
+        }
+
+-- no line has a fault
+pub no_fault : (lines : List (List ℕ)) (table : Table) (n slot : ℕ) (left : Option (Bor (List ℕ)))
+    (text : Bor (List ℕ)) (code : List Insn) (m : ℕ) (e : AsmError)
+    → IsLinked lines table n slot (lines_behind left) code → left ≡ Some text → Fails text.now m e → ⊥
+no_fault lines table n slot left text code m e k is first =
+    by k.after (subst (λ ls. AllZip (λ line t. read_line line ≡ Some t) ls k.after)
+    (ap lines_behind is ∙ first.split) k.ahead) k.fit first.fault first.fails
+  where
+    by : (after : List (Option Statement)) → AllZip (λ line t. read_line line ≡ Some t) (first.line ∷ first.rest) after
+        → AllByRecursion IsInRange after
+        → (f : Fault) → UnderstandsLine (read_line first.line) (Err f) → ⊥
+    by [] ahead fit f fails = ahead
+    by (t ∷ after) ahead fit fault.Syntax fails = let both : Some t ≡ None = sym ahead.0 ∙ fails in cc
+    by (t ∷ after) ahead fit fault.Range fails = let unfit : IsUnfit (Some t) = subst IsUnfit ahead.0 fails in
+        unfit fit.0
+
+-- a line that is no instruction adds no code
+pub linked_past : (lines : List (List ℕ)) (table : Table) (n slot : ℕ) (left : Option (Bor (List ℕ)))
+    (text : Bor (List ℕ)) (l : Line)
+    (rest : List (List ℕ)) (code : List Insn) → IsLinked lines table n slot (lines_behind left) code → left ≡ Some text
+    → Begins text.now (said_in l) rest
+    → ((i : Insn) (label : Option (Bor (List ℕ))) → l ≡ line.Insn i label → ⊥)
+    → IsLinked lines table (n + 1) slot rest code
+linked_past lines table n slot left text l rest code k is first other = by l first other
+  where
+    none : (s : Option Statement) → slots_in (s ∷ []) ≡ 0 → linked (place k.said) slot (s ∷ []) ≡ Some []
+        → Begins text.now s rest
+        → IsLinked lines table (n + 1) slot rest code
+    none s nowhere nothing first = subst (λ c. IsLinked lines table (n + 1) slot rest c) (append-nil code)
+        (subst (λ p. IsLinked lines table (n + 1) p rest (code ++ [])) (omega (arith, nowhere))
+        (linked_behind lines table n slot left text s rest code [] k is first nothing))
+
+    by : (l : Line) → Begins text.now (said_in l) rest
+        → ((i : Insn) (label : Option (Bor (List ℕ))) → l ≡ line.Insn i label → ⊥)
+        → IsLinked lines table (n + 1) slot rest code
+    by line.Empty first other = none None refl refl first
+    by (line.Label name) first other = none (Some (Labelled name.now)) refl refl first
+    by (line.Insn i label) first other = absurd (other i label refl)
+
+-- an instruction adds itself with the distance to its label
+pub linked_insn : (lines : List (List ℕ)) (table : Table) (n slot : ℕ) (left : Option (Bor (List ℕ)))
+    (text : Bor (List ℕ)) (i : Insn) (target : Option Name)
+    (rest : List (List ℕ)) (code : List Insn) (j : Insn) (k : IsLinked lines table n slot (lines_behind left) code)
+    → left ≡ Some text
+    → Begins text.now (Some (Instruction i target)) rest → Some j ≡ linked_one (place k.said) slot i target
+    → IsLinked lines table (n + 1) (slot + slots_of i) rest (code ++ j ∷ [])
+linked_insn lines table n slot left text i target rest code j k is first one = subst
+    (λ p. IsLinked lines table (n + 1) p rest (code ++ j ∷ [])) (omega arith)
+    (linked_behind lines table n slot left text (Some (Instruction i target)) rest code (j ∷ []) k is first
+    (ap (λ o. option_and_then (λ h. option_map (λ c. h ∷ c) (Some [])) o) (sym one)))
+
+-- an unknown label halts the pass
+pub unknown_label : (lines : List (List ℕ)) (table : Table) (n slot : ℕ) (left : Option (Bor (List ℕ)))
+    (text : Bor (List ℕ)) (i : Insn) (target : Option Name)
+    (rest : List (List ℕ)) (code : List Insn) (k : IsLinked lines table n slot (lines_behind left) code)
+    → left ≡ Some text
+    → Begins text.now (Some (Instruction i target)) rest → None ≡ linked_one (place k.said) slot i target
+    → IsHalted lines (error.UnknownLabel (n + 1))
+unknown_label lines table n slot left text i target rest code k is first none = by target first.read none
+  where
+    lacks : (name : Name) → place k.said name ≡ None → (after : List (Option Statement)) → k.said ≡ k.before ++ after
+        → AllZip (λ line t. read_line line ≡ Some t) (first.line ∷ rest) after
+        → read_line first.line ≡ Some (Some (Instruction i (Some name)))
+        → LacksLabel k.said (n + 1)
+    lacks name unknown [] split ahead read = absurd ahead
+    lacks name unknown (t ∷ after) split ahead read = let says : Some t ≡ Some
+        (Some (Instruction i (Some name))) = sym ahead.0 ∙ read in
+        let same : t ≡ Some (Instruction i (Some name)) = cc in record {
+          before = k.before;
+          insn = i;
+          name = name;
+          after = after;
+          split = split ∙ ap (λ u. k.before ++ u ∷ after) same;
+          count = ap (λ m. m + 1) k.count;
+          known = ap is_some k.linked;
+          unknown = unknown;
+        }
+
+    missing : {X : Type 0} (f : ℕ → X) (o : Option ℕ) → None ≡ option_map f o → o ≡ None
+    missing f None e = refl
+    missing f (Some p) e = absurd cc
+
+    by : (target : Option Name) → read_line first.line ≡ Some (Some (Instruction i target))
+        → None ≡ linked_one (place k.said) slot i target
+        → IsHalted lines (error.UnknownLabel (n + 1))
+    by None read none = absurd cc
+    by (Some name) read none = (
+      k.said,
+      k.read,
+      k.few,
+      lacks name (missing _ _ none) k.after k.split
+          (subst (λ ls. AllZip (λ line t. read_line line ≡ Some t) ls k.after)
+          (ap lines_behind is ∙ first.split) k.ahead) read,
+    )

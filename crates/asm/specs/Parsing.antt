@@ -1,0 +1,95 @@
+-- Internal. What a parser's state and its results stand for, and what its methods do to both.
+use Rattle.std.specs.Prelude.{◌≡◌, ℕ, false, ℤ, pos, neg_ℤ, List, [], ◌∷◌, Option, Some, None, option_map, Result, Ok, Err, if◌then◌else◌}
+use Rattle.std.specs.Str.Parse.{digits_value}
+use Rattle.insn.specs.declared.instruction.Operand.{Operand}
+use Rattle.insn.specs.declared.instruction.Operand.TheVariants as operand
+use denote.Ref.{Bor}
+use Rattle.asm.specs.Lines.{Token, is_blank}
+use Rattle.asm.specs.Statements.{Statement, Labelled, Instruction}
+use Rattle.asm.specs.Programs.{IsInRange}
+use Rattle.asm.specs.Reading.{Read, tokens_of, Place, Target}
+use Rattle.asm.specs.declared.refusal.Fault.{Fault}
+use Rattle.asm.specs.declared.refusal.Fault.TheVariants.{Syntax, Range}
+use Rattle.asm.specs.Radices.{radix_of}
+use Rattle.asm.specs.declared.number.Number.{Number}
+use Rattle.asm.specs.declared.number.Integer.{Integer}
+use Rattle.asm.specs.declared.parser.Written.{Written}
+use Rattle.asm.specs.declared.parser.Written.TheVariants as written
+use Rattle.asm.specs.declared.parser.Goal.{Goal}
+use Rattle.asm.specs.declared.parser.Goal.TheVariants as goal
+use Rattle.asm.specs.declared.parser.Address.{Address}
+use Rattle.asm.specs.declared.parser.Parser.{Parser}
+use Rattle.asm.specs.declared.statement.Line.{Line}
+use Rattle.asm.specs.declared.statement.Line.TheVariants as line
+
+-- ---- what results stand for
+
+abbrev pub number_value : Number → ℕ
+number_value n = digits_value (radix_of n.radix) n.digits.now
+
+abbrev pub integer_value : Integer → ℤ
+integer_value n = if n.is_negative then neg_ℤ (pos (number_value n.magnitude)) else pos (number_value n.magnitude)
+
+abbrev pub operand_value : Written → Operand
+operand_value (written.Reg r) = operand.Reg r
+operand_value (written.Integer n) = operand.Imm (integer_value n)
+
+abbrev pub address_value : Address → Place
+address_value a = record { base = a.base; displacement = integer_value a.displacement }
+
+abbrev pub goal_value : Goal → Target
+goal_value (goal.Label name) = record { distance = pos 0; label = Some name.now }
+goal_value (goal.Distance n) = record { distance = integer_value n; label = None }
+
+abbrev pub link_value : ℤ × Option (Bor (List ℕ)) → Target
+link_value link = record { distance = link.0; label = option_map (λ name. name.now) link.1 }
+
+abbrev pub said_in : Line → Option Statement
+said_in line.Empty = None
+said_in (line.Label name) = Some (Labelled name.now)
+said_in (line.Insn i target) = Some (Instruction i (option_map (λ name. name.now) target))
+
+-- ---- what methods do
+
+-- the tokens that a parser has before it
+abbrev pub ahead : Parser → List Token
+ahead p = tokens_of p.rest.now
+
+-- a method reads what a reader reads, and fails where it fails
+abbrev pub Reads : {X Y : Type 0} → (List Token → Option (Read Y)) → (X → Y) → Parser → Result X Fault → Parser → Type 0
+Reads reader value old (Ok x) new = reader (ahead old) ≡ Some (record { value = value x; rest = ahead new })
+Reads reader value old (Err e) new = (e ≡ Syntax) × (reader (ahead old) ≡ None)
+
+-- likewise a method that reads no value
+abbrev pub Passes : {X : Type 0} → (List Token → Option X) → (Parser → X) → Parser → Result (Unit {0}) Fault → Parser → Type 0
+Passes reader left old (Ok x) new = reader (ahead old) ≡ Some (left new)
+Passes reader left old (Err e) new = (e ≡ Syntax) × (reader (ahead old) ≡ None)
+
+-- a method reads all that is before it
+abbrev pub ReadsAll : {X Y : Type 0} → (List Token → Option Y) → (X → Y) → List Token → Result X Fault → Type 0
+ReadsAll reader value ts (Ok x) = reader ts ≡ Some (value x)
+ReadsAll reader value ts (Err e) = (e ≡ Syntax) × (reader ts ≡ None)
+
+-- a number of this meaning fits, and else it is out of range
+abbrev pub Converts : {X Y : Type 0} → (X → Y) → (Y → Type 0) → Y → Result X Fault → Type 0
+Converts value Proper y (Ok x) = (value x ≡ y) × Proper y
+Converts value Proper y (Err e) = (e ≡ Range) × (Proper y → ⊥)
+
+-- something is said, and a number of it does not fit
+abbrev pub IsUnfit : Option (Option Statement) → Type 0
+IsUnfit None = ⊥
+IsUnfit (Some s) = IsInRange s → ⊥
+
+-- a line by what it says: the result says that, and its numbers fit; else a number does not, or nothing is said
+abbrev pub UnderstandsLine : Option (Option Statement) → Result Line Fault → Type 0
+UnderstandsLine said (Ok l) = (said ≡ Some (said_in l)) × IsInRange (said_in l)
+UnderstandsLine said (Err Syntax) = said ≡ None
+UnderstandsLine said (Err Range) = IsUnfit said
+
+abbrev pub Understands : Option Statement → Result Line Fault → Type 0
+Understands said result = UnderstandsLine (option_map Some said) result
+
+-- no blank stands first
+abbrev pub StartsUnblank : List ℕ → Type 0
+StartsUnblank [] = Unit {0}
+StartsUnblank (c ∷ rest) = is_blank c ≡ false

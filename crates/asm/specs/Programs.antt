@@ -1,0 +1,155 @@
+-- Meaning. The instructions that a text names, and why a text names none.
+use Rattle.std.specs.Prelude.{◌≡◌, ℕ, ◌+◌, ◌≤◌, ◌<◌, true, ◌⊎◌, ℤ, pos, ◌-ℤ◌, List, [], ◌∷◌, ◌++◌, length, bytes_eq, Option, Some, None, is_some, option_map, option_and_then, if◌then◌else◌}
+use Rattle.std.specs.List.{AllZip, AllByRecursion}
+use Rattle.insn.specs.Encoding.{slots_of, Fits, slot_count, encodings}
+use Rattle.insn.specs.declared.decoding.TheConstants.{MAX_SLOTS}
+use Rattle.insn.specs.declared.instruction.Insn.{Insn}
+use Rattle.insn.specs.declared.instruction.Insn.TheVariants.{Alu, Mov, Neg, SignExtend, Swap, Jump, LongJump, JumpIf, Load, LoadSigned, Store, LoadImm, Call, Exit}
+use Rattle.asm.specs.Lines.{Token, lines_of, HasTokens}
+use Rattle.asm.specs.Statements.{Name, Statement, Labelled, Instruction, Says}
+use Rattle.asm.specs.declared.refusal.AsmError.{AsmError}
+use Rattle.asm.specs.declared.refusal.AsmError.TheVariants as error
+
+-- ---- lines
+
+-- a line says this
+pub record Means (line : List ℕ) (said : Option Statement) : Type 0 where
+  pub tokens : List Token
+  pub has : HasTokens line tokens
+  pub says : Says said tokens
+
+-- the numbers of an instruction fit its fields
+abbrev pub IsInRange : Option Statement → Type 0
+IsInRange None = Unit {0}
+IsInRange (Some (Labelled name)) = Unit {0}
+IsInRange (Some (Instruction i target)) = Fits i
+
+-- the labels, in their order
+abbrev pub labels : List (Option Statement) → List Name
+labels [] = []
+labels (None ∷ more) = labels more
+labels (Some (Labelled name) ∷ more) = name ∷ labels more
+labels (Some (Instruction i target) ∷ more) = labels more
+
+abbrev pub IsNameAmong : Name → List Name → Type 0
+IsNameAmong name [] = ⊥
+IsNameAmong name (n ∷ more) = (name ≡ n) ⊎ IsNameAmong name more
+
+abbrev pub AreDistinct : List Name → Type 0
+AreDistinct [] = Unit {0}
+AreDistinct (name ∷ more) = (IsNameAmong name more → ⊥) × AreDistinct more
+
+-- the lines say this, without a fault of their own: each is in the grammar, its numbers fit, and no label stands twice
+pub record AreRead (lines : List (List ℕ)) (said : List (Option Statement)) : Type 0 where
+  pub each : AllZip Means lines said
+  pub fit : AllByRecursion IsInRange said
+  pub distinct : AreDistinct (labels said)
+
+-- ---- slots and labels
+
+abbrev pub slots_in : List (Option Statement) → ℕ
+slots_in [] = 0
+slots_in (None ∷ more) = slots_in more
+slots_in (Some (Labelled name) ∷ more) = slots_in more
+slots_in (Some (Instruction i target) ∷ more) = slots_of i + slots_in more
+
+-- the slot of a label, which is that of the next instruction; the first line has the slot given
+abbrev pub place_from : ℕ → List (Option Statement) → Name → Option ℕ
+place_from slot [] name = None
+place_from slot (None ∷ more) name = place_from slot more name
+place_from slot (Some (Labelled n) ∷ more) name = if bytes_eq n name then Some slot else place_from slot more name
+place_from slot (Some (Instruction i target) ∷ more) name = place_from (slot + slots_of i) more name
+
+abbrev pub place : List (Option Statement) → Name → Option ℕ
+place said name = place_from 0 said name
+
+-- a jump with its distance
+abbrev pub with_distance : Insn → ℤ → Insn
+with_distance (Jump d) distance = Jump distance
+with_distance (LongJump d) distance = LongJump distance
+with_distance (JumpIf width c dst o d) distance = JumpIf width c dst o distance
+with_distance (Alu width op dst o) distance = Alu width op dst o
+with_distance (Mov width dst o) distance = Mov width dst o
+with_distance (Neg width dst) distance = Neg width dst
+with_distance (SignExtend e dst src) distance = SignExtend e dst src
+with_distance (Swap op size dst) distance = Swap op size dst
+with_distance (Load size dst base displacement) distance = Load size dst base displacement
+with_distance (LoadSigned size dst base displacement) distance = LoadSigned size dst base displacement
+with_distance (Store size base o displacement) distance = Store size base o displacement
+with_distance (LoadImm dst value) distance = LoadImm dst value
+with_distance (Call helper) distance = Call helper
+with_distance Exit distance = Exit
+
+-- a distance counts from the slot behind the jump
+abbrev pub linked_one : (Name → Option ℕ) → ℕ → Insn → Option Name → Option Insn
+linked_one places slot i None = Some i
+linked_one places slot i (Some name) = option_map (λ p. with_distance i (pos p -ℤ pos (slot + 1))) (places name)
+
+-- the instructions, each jump to a label with its distance; none where a label is unknown
+abbrev pub linked : (Name → Option ℕ) → ℕ → List (Option Statement) → Option (List Insn)
+linked places slot [] = Some []
+linked places slot (None ∷ more) = linked places slot more
+linked places slot (Some (Labelled name) ∷ more) = linked places slot more
+linked places slot (Some (Instruction i target) ∷ more) = option_and_then
+    (λ j. option_map (λ code. j ∷ code) (linked places (slot + slots_of i) more)) (linked_one places slot i target)
+
+-- ---- texts
+
+-- a text names these instructions
+pub record Names (text : List ℕ) (code : List Insn) : Type 0 where
+  pub said : List (Option Statement)
+  pub read : AreRead (lines_of text) said
+  pub linked : linked (place said) 0 said ≡ Some code
+
+-- the bytes are the encoding of a program of at most 4,096 slots that the text names
+pub record IsAssembled (text bytes : List ℕ) : Type 0 where
+  pub code : List Insn
+  pub named : Names text code
+  pub few : slot_count code ≤ MAX_SLOTS
+  pub spelled : bytes ≡ encodings code
+
+-- ---- refusals
+
+-- the lines before the n-th have no fault, and of the n-th this holds
+pub record StopsAt (text : List ℕ) (n : ℕ) (Fault : List (Option Statement) → List ℕ → Type 0) : Type 0 where
+  pub before : List (List ℕ)
+  pub line : List ℕ
+  pub after : List (List ℕ)
+  pub split : lines_of text ≡ before ++ line ∷ after
+  pub count : n ≡ length before + 1
+  pub said : List (Option Statement)
+  pub read : AreRead before said
+  pub fault : Fault said line
+
+-- the line is not in the grammar
+abbrev pub IsNoLine : List (Option Statement) → List ℕ → Type 0
+IsNoLine said line = (s : Option Statement) → Means line s → ⊥
+
+-- a number of the line does not fit
+abbrev pub IsOutOfRange : List (Option Statement) → List ℕ → Type 0
+IsOutOfRange said line = (s : Option Statement) × Means line s × (IsInRange s → ⊥)
+
+-- the line is a label that stands before it already
+abbrev pub IsRepeated : List (Option Statement) → List ℕ → Type 0
+IsRepeated said line = (name : Name) × Means line (Some (Labelled name)) × IsNameAmong name (labels said)
+
+-- the n-th line is the first whose target is unknown
+pub record LacksLabel (said : List (Option Statement)) (n : ℕ) : Type 0 where
+  pub before : List (Option Statement)
+  pub insn : Insn
+  pub name : Name
+  pub after : List (Option Statement)
+  pub split : said ≡ before ++ Some (Instruction insn (Some name)) ∷ after
+  pub count : n ≡ length before + 1
+  pub known : is_some (linked (place said) 0 before) ≡ true
+  pub unknown : place said name ≡ None
+
+-- The faults of lines come first, in the order of the lines; then the number of slots; then the first unknown label.
+abbrev pub IsRefused : List ℕ → AsmError → Type 0
+IsRefused text (error.Syntax n) = StopsAt text n IsNoLine
+IsRefused text (error.Range n) = StopsAt text n IsOutOfRange
+IsRefused text (error.RepeatedLabel n) = StopsAt text n IsRepeated
+IsRefused text error.TooLong = (said : List (Option Statement)) × AreRead (lines_of text) said × (MAX_SLOTS < slots_in said)
+IsRefused text (error.UnknownLabel n) = (said : List (Option Statement)) × AreRead (lines_of text) said × (slots_in said ≤ MAX_SLOTS)
+    × LacksLabel said n
+IsRefused text error.Memory = ⊥

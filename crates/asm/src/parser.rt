@@ -1,0 +1,306 @@
+//! The parser of a line: tokens, and what they are made into. Each method reads the tokens that its name says.
+
+ghost use Rattle.std.specs.Prelude.{◌≡◌, ◌+◌, nat_le, [], ◌∷◌, Some, None, MatchOption, option_map, if◌then◌else◌};
+ghost use Rattle.std.specs.List.{list_all, prefix_len};
+ghost use Rattle.std.specs.Char.{digit_value};
+ghost use Rattle.std.specs.Str.Parse.{digits_value};
+ghost use Rattle.asm.specs.Radices.{radix_of, is_numeral};
+ghost use Rattle.asm.specs.Lines.{begins_name, is_in_names, is_in_words, is_blank};
+ghost use Rattle.asm.specs.Reading as reading;
+ghost use Rattle.asm.specs.Reading.{register_named, is_name, numbered};
+ghost use Rattle.asm.specs.Parsing.{ahead, number_value, integer_value, operand_value, address_value, goal_value, Reads, Passes, StartsUnblank};
+
+use crate::number::{Integer, Number};
+use crate::radix::Radix;
+use crate::refusal::Fault;
+use insn::Reg;
+
+/// The greatest number of characters in a name.
+pub const MAX_NAME: usize = 32;
+
+fn is_blank(c: u8) -> bool
+    ensures { result ≡ is_blank c }
+{
+    c == b' ' || c == b'\t'
+}
+
+fn begins_name(c: u8) -> bool
+    ensures { result ≡ begins_name c }
+{
+    c.is_ascii_alphabetic() || c == b'_'
+}
+
+fn is_in_names(c: u8) -> bool
+    ensures { result ≡ is_in_names c }
+{
+    c.is_ascii_alphanumeric() || c == b'_'
+}
+
+fn is_in_words(c: u8) -> bool
+    ensures { result ≡ is_in_words c }
+{
+    is_in_names(c) || c == b'.'
+}
+
+/// Returns whether all characters may stand in a name.
+fn are_in_names(text: &[u8]) -> bool
+    ensures { result ≡ list_all is_in_names text.now }
+{
+    text.iter().all(|c| is_in_names(*c))
+}
+
+/// Returns whether a word is a name: a letter or `_`, then letters, digits or `_`, at most 32 in all.
+#[tactic(auto, using(crate::proofs::Words::is_name_first))]
+pub(crate) fn is_name(word: &[u8]) -> bool
+    ensures { result ≡ is_name word.now }
+{
+    let Some((first, rest)) = word.split_first() else {
+        return false;
+    };
+    if !begins_name(*first) {
+        return false;
+    }
+    if !are_in_names(rest) {
+        return false;
+    }
+    word.len() <= MAX_NAME
+}
+
+/// Returns how many characters of a word stand first.
+fn word_length(rest: &[u8]) -> usize
+    ensures { result ≡ prefix_len is_in_words rest.now }
+{
+    rest.iter()
+        .position(|c| !is_in_words(*c))
+        .unwrap_or(rest.len())
+}
+
+/// Returns the register of a name.
+fn register_named(name: &[u8]) -> Option<Reg>
+    ensures { result ≡ register_named name.now }
+{
+    match name {
+        b"r0" => Some(Reg::R0),
+        b"r1" => Some(Reg::R1),
+        b"r2" => Some(Reg::R2),
+        b"r3" => Some(Reg::R3),
+        b"r4" => Some(Reg::R4),
+        b"r5" => Some(Reg::R5),
+        b"r6" => Some(Reg::R6),
+        b"r7" => Some(Reg::R7),
+        b"r8" => Some(Reg::R8),
+        b"r9" => Some(Reg::R9),
+        b"r10" => Some(Reg::R10),
+        _ => None,
+    }
+}
+
+/// Returns whether all characters are digits.
+fn are_digits(radix: Radix, digits: &[u8]) -> bool
+    ensures { result ≡ list_all (λ d. nat_le (digit_value d + 1) (radix_of radix)) digits.now }
+{
+    let base = radix.value();
+    digits.iter().all(|d| char::from(*d).is_digit(base))
+}
+
+/// Returns the number of these digits, if they are digits, and some.
+fn number_of<'a>(radix: Radix, digits: &'a [u8]) -> Option<Number<'a>>
+    ensures { option_map number_value result
+        ≡ (if is_numeral (radix_of radix) digits.now then Some (digits_value (radix_of radix) digits.now) else None) }
+{
+    if digits.is_empty() {
+        return None;
+    }
+    if !are_digits(radix, digits) {
+        return None;
+    }
+    Some(Number { radix, digits })
+}
+
+/// Returns the number that a word writes: decimal digits, or `0x` and hexadecimal ones.
+fn numbered<'a>(word: &'a [u8]) -> Option<Number<'a>>
+    ensures { option_map number_value result ≡ numbered word.now }
+{
+    match word.strip_prefix(b"0x") {
+        Some(digits) => number_of(Radix::Hexadecimal, digits),
+        None => number_of(Radix::Decimal, word),
+    }
+}
+
+/// The second operand of an instruction, as it is written.
+#[derive(Clone, Copy, Debug)]
+pub(crate) enum Written<'a> {
+    Reg(Reg),
+    Integer(Integer<'a>),
+}
+
+/// Where a jump goes, as it is written.
+#[derive(Clone, Copy, Debug)]
+pub(crate) enum Goal<'a> {
+    Label(&'a [u8]),
+    Distance(Integer<'a>),
+}
+
+/// The address in a register, with a displacement, as it is written.
+#[derive(Clone, Copy, Debug)]
+pub(crate) struct Address<'a> {
+    pub(crate) base: Reg,
+    pub(crate) displacement: Integer<'a>,
+}
+
+/// A parser of the rest of a line.
+#[derive(Clone, Copy, Debug)]
+pub(crate) struct Parser<'a> {
+    rest: &'a [u8],
+}
+
+impl<'a> Parser<'a> {
+    /// Returns a parser of a whole line.
+    pub(crate) fn new(line: &'a [u8]) -> Parser<'a>
+        ensures { ahead result ≡ reading.tokens_of line.now }
+    {
+        Parser { rest: line }
+    }
+
+    /// Drops the blanks before the next token.
+    fn skip_blanks(&mut self)
+        ensures same { ahead self.new ≡ ahead self.old }
+        ensures begun { StartsUnblank self.new.rest.now }
+    {
+        while let [first, rest @ ..] = self.rest
+            && is_blank(*first)
+        {
+            self.rest = rest;
+        }
+    }
+
+    /// Returns the next token: a word, or one other character. A comment ends the line.
+    #[tactic(auto, using(crate::proofs::Words::no_token, crate::proofs::Words::comment_token, crate::proofs::Words::first_length, crate::proofs::Words::next_token))]
+    pub(crate) fn next(&mut self) -> Option<&'a [u8]>
+        ensures { MatchOption result (ahead self.old ≡ []) (λ t. ahead self.old ≡ t.now ∷ ahead self.new) }
+    {
+        self.skip_blanks();
+        let (first, _) = self.rest.split_first()?;
+        if *first == b';' {
+            return None;
+        }
+        let (token, rest) = self.rest.split_at(word_length(self.rest).max(1));
+        self.rest = rest;
+        Some(token)
+    }
+
+    /// Reads one sign.
+    pub(crate) fn sign(&mut self, sign: &[u8]) -> Result<(), Fault>
+        ensures { Passes (reading.sign sign.now) ahead self.old result self.new }
+    {
+        match self.next() {
+            Some(token) if token == sign => Ok(()),
+            _ => Err(Fault::Syntax),
+        }
+    }
+
+    /// Reads the end of the line.
+    pub(crate) fn end(&mut self) -> Result<(), Fault>
+        ensures { Passes reading.end (λ p. tt) self.old result self.new }
+    {
+        match self.next() {
+            None => Ok(()),
+            Some(_) => Err(Fault::Syntax),
+        }
+    }
+
+    /// Reads a register.
+    pub(crate) fn register(&mut self) -> Result<Reg, Fault>
+        ensures { Reads reading.register (λ r. r) self.old result self.new }
+    {
+        let word = self.next().ok_or(Fault::Syntax)?;
+        register_named(word).ok_or(Fault::Syntax)
+    }
+
+    /// Reads a name.
+    fn name(&mut self) -> Result<&'a [u8], Fault>
+        ensures { Reads reading.name (λ name. name.now) self.old result self.new }
+    {
+        let word = self.next().ok_or(Fault::Syntax)?;
+        if is_name(word) {
+            Ok(word)
+        } else {
+            Err(Fault::Syntax)
+        }
+    }
+
+    /// Reads a number without a sign.
+    pub(crate) fn number(&mut self) -> Result<Number<'a>, Fault>
+        ensures { Reads reading.number number_value self.old result self.new }
+    {
+        let word = self.next().ok_or(Fault::Syntax)?;
+        numbered(word).ok_or(Fault::Syntax)
+    }
+
+    /// Reads a number behind `+` or `-`.
+    fn signed_number(&mut self) -> Result<Integer<'a>, Fault>
+        ensures { Reads reading.signed_number integer_value self.old result self.new }
+    {
+        let is_negative = match self.next() {
+            Some(b"+") => false,
+            Some(b"-") => true,
+            _ => return Err(Fault::Syntax),
+        };
+        let magnitude = self.number()?;
+        Ok(Integer {
+            is_negative,
+            magnitude,
+        })
+    }
+
+    /// Reads a number, which may have a `-` before it.
+    pub(crate) fn integer(&mut self) -> Result<Integer<'a>, Fault>
+        ensures { Reads reading.integer integer_value self.old result self.new }
+    {
+        let mut behind = *self;
+        let is_negative = behind.sign(b"-").is_ok();
+        if is_negative {
+            *self = behind;
+        }
+        let magnitude = self.number()?;
+        Ok(Integer {
+            is_negative,
+            magnitude,
+        })
+    }
+
+    /// Reads a register or a number.
+    pub(crate) fn operand(&mut self) -> Result<Written<'a>, Fault>
+        ensures { Reads reading.operand_in operand_value self.old result self.new }
+    {
+        let mut behind = *self;
+        if let Ok(r) = behind.register() {
+            *self = behind;
+            return Ok(Written::Reg(r));
+        }
+        Ok(Written::Integer(self.integer()?))
+    }
+
+    /// Reads where a jump goes: a name, or a distance with its sign.
+    pub(crate) fn goal(&mut self) -> Result<Goal<'a>, Fault>
+        ensures { Reads reading.target goal_value self.old result self.new }
+    {
+        let mut behind = *self;
+        if let Ok(name) = behind.name() {
+            *self = behind;
+            return Ok(Goal::Label(name));
+        }
+        Ok(Goal::Distance(self.signed_number()?))
+    }
+
+    /// Reads an address in brackets.
+    pub(crate) fn address(&mut self) -> Result<Address<'a>, Fault>
+        ensures { Reads reading.address address_value self.old result self.new }
+    {
+        self.sign(b"[")?;
+        let base = self.register()?;
+        let displacement = self.signed_number()?;
+        self.sign(b"]")?;
+        Ok(Address { base, displacement })
+    }
+}

@@ -1,0 +1,168 @@
+//! The assembler: the slots of the labels first, then the instructions.
+
+ghost use Rattle.std.specs.Prelude.{◌≡◌, ◌∷◌, ◌≤◌, ◌⊎◌, List, ℕ, Option, option_map, length, IfOk, IfErr, MatchResult, IsErrAnd};
+ghost use Rattle.asm.specs.Lines.{lines_of};
+ghost use Rattle.asm.specs.Statements.{Statement};
+ghost use Rattle.asm.specs.Programs.{slots_in, place, with_distance, linked_one, Names, IsAssembled, IsRefused};
+ghost use Rattle.asm.specs.declared.refusal.AsmError.TheVariants.{Memory};
+ghost use Rattle.insn.specs.Encoding.{slot_count, encodings};
+ghost use Rattle.asm.specs.Parsing.{said_in};
+ghost use Rattle.asm.specs.Scanning.{lines_behind, lines_left, Begins, Fails, Holds, IsTableOf, IsHalted, IsCodeOf, IsBuilt};
+
+use crate::refusal::AsmError;
+use crate::statement::{Line, parse};
+use crate::table::Table;
+use insn::{Insn, MAX_SLOTS, encode};
+use std::alloc::Global;
+
+/// Returns the first line of a text, and what follows its line feed, if it has one.
+fn first_line(text: &str) -> (&str, Option<&str>)
+    ensures split { lines_of text.now ≡ result.0.now ∷ lines_behind result.1 }
+    ensures fewer { lines_left result.1 ≤ length text.now }
+{
+    match text.split_once('\n') {
+        Some((line, rest)) => (line, Some(rest)),
+        None => (text, None),
+    }
+}
+
+/// Reads the first line of a text, which has this number. Returns what it says, and what follows its line feed.
+///
+/// # Errors
+/// The fault of the line, which is `Syntax` or `Range`.
+fn next_line(text: &str, number: usize) -> Result<(Line<'_>, Option<&str>), AsmError>
+    ensures read { IfOk result (λ r. Begins text.now (said_in r.0) (lines_behind r.1)) }
+    ensures fewer { IfOk result (λ r. lines_left r.1 ≤ length text.now) }
+    ensures refused { IfErr result (Fails text.now number) }
+{
+    let (line, after) = first_line(text);
+    let line = parse(line.as_bytes()).map_err(|fault| fault.at(number))?;
+    Ok((line, after))
+}
+
+/// Reads all lines, and returns the table of the labels.
+///
+/// # Errors
+/// The first fault of a line, `TooLong` where there is none and the slots are too many, or `Memory`.
+fn labels<'a>(alloc: Global, text: &'a str) -> Result<Table<'a>, AsmError>
+    ensures read { IfOk result (IsTableOf text.now) }
+    ensures refused { IfErr result (IsHalted (lines_of text.now)) }
+{
+    let mut table = Table::new(alloc);
+    let mut number = 0;
+    let mut rest = Some(text);
+    while let Some(text) = rest {
+        number += 1;
+        let (line, after) = next_line(text, number)?;
+        table.add(line, number)?;
+        rest = after;
+    }
+    if table.slots > MAX_SLOTS {
+        return Err(AsmError::TooLong);
+    }
+    Ok(table)
+}
+
+/// Returns a jump with this distance in place of its own. Any other instruction stays as it is.
+fn with_distance(insn: Insn, distance: i16) -> Insn
+    ensures { result ≡ with_distance insn distance }
+{
+    match insn {
+        Insn::Jump { .. } => Insn::Jump { offset: distance },
+        Insn::LongJump { .. } => Insn::LongJump {
+            offset: i32::from(distance),
+        },
+        Insn::JumpIf {
+            width,
+            condition,
+            dst,
+            operand,
+            ..
+        } => Insn::JumpIf {
+            width,
+            condition,
+            dst,
+            operand,
+            offset: distance,
+        },
+        other => other,
+    }
+}
+
+/// Returns the instruction at a slot with the distance to its label, if it names one; `None` where the table lacks
+/// the label.
+fn linked(table: &Table<'_>, insn: Insn, label: Option<&[u8]>, slot: usize) -> Option<Insn>
+    requires slot { slot ≤ MAX_SLOTS }
+    requires table { (said : List (Option Statement)) × Holds table.now said × (slots_in said ≤ MAX_SLOTS) }
+    ensures { (said : List (Option Statement)) → Holds table.now said → slots_in said ≤ MAX_SLOTS
+        → result ≡ linked_one (place said) slot insn (option_map (λ name. name.now) label.entry) }
+{
+    let Some(name) = label else {
+        return Some(insn);
+    };
+    let place = *table.places.get(name)?;
+    Some(with_distance(insn, place as i16 - (slot + 1) as i16))
+}
+
+/// Returns the instructions of a text whose lines have no fault, with the distances of the jumps to labels.
+///
+/// # Errors
+/// `UnknownLabel` at the first line that names an unknown one, or `Memory`.
+fn link(alloc: Global, text: &str, table: &Table<'_>) -> Result<Vec<Insn>, AsmError>
+    requires { IsTableOf text.now table.now }
+    ensures code { IfOk result (λ code. IsCodeOf text.now code.items) }
+    ensures refused { IfErr result (IsHalted (lines_of text.now)) }
+{
+    let mut code = Vec::new(alloc);
+    let mut slot = 0;
+    let mut number = 0;
+    let mut rest = Some(text);
+    while let Some(text) = rest {
+        number += 1;
+        let (line, after) = next_line(text, number)?;
+        if let Line::Insn(insn, label) = line {
+            let jump = linked(table, insn, label, slot).ok_or(AsmError::UnknownLabel(number))?;
+            code.push(jump)?;
+            slot += insn.slots();
+        }
+        rest = after;
+    }
+    Ok(code)
+}
+
+/// Assembles a text.
+///
+/// # Errors
+/// The first fault of a line; else `TooLong`; else the first unknown label; or `Memory`.
+fn build(alloc: Global, text: &str) -> Result<Vec<u8>, AsmError>
+    ensures built { IfOk result (λ bytes. IsBuilt text.now bytes.items) }
+    ensures refused { IfErr result (IsHalted (lines_of text.now)) }
+{
+    let table = labels(alloc, text)?;
+    let code = link(alloc, text, &table)?;
+    Ok(encode(alloc, &code)?)
+}
+
+/// Assembles a text.
+///
+/// # Errors
+/// The first fault of a line; else `TooLong`; else the first unknown label; or `Memory`.
+pub fn assemble(alloc: Global, text: &str) -> Result<Vec<u8>, AsmError>
+    ensures found { IfOk result (λ bytes. IsAssembled text.now bytes.items) }
+    ensures only { (code : List Insn) → Names text.now code → slot_count code ≤ MAX_SLOTS
+        → MatchResult result (λ v. v.items ≡ encodings code) (λ e. e ≡ Memory) }
+    ensures refused { IfErr result (λ e. (e ≡ Memory) ⊎ IsRefused text.now e) }
+    ensures exact { (e : AsmError) → IsRefused text.now e → IsErrAnd result (λ f. (f ≡ e) ⊎ (f ≡ Memory)) }
+{
+    build(alloc, text)
+}
+
+/// A text names at most one program.
+pub fn texts_name_one_program()
+    ensures { (text : List ℕ) (code other : List Insn) → Names text code → Names text other → code ≡ other }
+{}
+
+/// A text has at most one refusal.
+pub fn refusals_are_unique()
+    ensures { (text : List ℕ) (d e : AsmError) → IsRefused text d → IsRefused text e → d ≡ e }
+{}
