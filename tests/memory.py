@@ -1,8 +1,9 @@
-"""Runs the built relayd in little memory, on programs with more paths than can be followed.
+"""Runs the built relayd in little memory.
 
-Such a program is refused by V17 after 100,000 steps. On the way at most one branch of each of its jumps
-is pending, so a few megabytes are enough. A verifier that kept more would reach the limit, and print
-`out of memory`.
+A program with more paths than can be followed is refused by V17 after 100,000 steps. On the way at most
+one branch of each of its jumps is pending, so a few megabytes are enough. A verifier that kept more would
+reach the limit, and print `out of memory`. A long text of blanks, comments and empty lines is assembled
+in the memory that holds the text.
 """
 
 import pathlib
@@ -23,6 +24,11 @@ LIMIT = 16 * 2**20
 # The number of jumps, and the slot of the step that would pass the budget. A jump with k jumps behind it
 # takes S(k) = 2 + 2 S(k - 1) steps, where S(-1) = 1 for the exit, and three steps stand before the first jump.
 CASES = [(30, 60), (2046, 4090)]
+# the bytes of a long text, which is read into a buffer that doubles as it grows
+TEXT = 64 * 2**20
+TEXT_LIMIT = 3 * TEXT + LIMIT
+# what long texts are made of
+FILLERS = [b" ", b"\n", b"; nothing\n", b"\t; a comment that goes on "]
 
 
 def over_movs(jumps):
@@ -30,9 +36,9 @@ def over_movs(jumps):
     return BYTE + MOV + (JUMP + MOV) * jumps + EXIT
 
 
-def limit_memory():
-    """Limits the current process to `LIMIT` bytes."""
-    resource.setrlimit(resource.RLIMIT_AS, (LIMIT, LIMIT))
+def limit_memory(limit=LIMIT):
+    """Limits the current process to so many bytes."""
+    resource.setrlimit(resource.RLIMIT_AS, (limit, limit))
 
 
 def failures_of(path, jumps, slot):
@@ -43,12 +49,24 @@ def failures_of(path, jumps, slot):
         yield f"{jumps} jumps: {got}"
 
 
+def failures_of_texts(folder):
+    """Yields what is wrong with long texts that say nothing."""
+    source, target = folder / "long.s", folder / "long.bpf"
+    for filler in FILLERS:
+        source.write_bytes(filler * (TEXT // len(filler)))
+        words = ["assemble", source, target]
+        got = run(words, PROGRAM, preexec_fn=lambda: limit_memory(TEXT_LIMIT))
+        if got != (0, "wrote 0 bytes\n", ""):
+            yield f"{filler!r}: {got}"
+
+
 def main():
     """Runs every case, and returns the exit status."""
     build()
     with tempfile.TemporaryDirectory() as folder:
         path = pathlib.Path(folder) / "jumps.bpf"
         failures = [found for jumps, slot in CASES for found in failures_of(path, jumps, slot)]
+        failures += failures_of_texts(pathlib.Path(folder))
     return finish(failures, f"little memory: {len(failures)} failures")
 
 

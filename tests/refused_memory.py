@@ -17,6 +17,8 @@ EXAMPLES = TOP / "examples"
 FOURTH_BYTE = str(EXAMPLES / "fourth_byte.bpf")
 BRANCHES = str(EXAMPLES / "first_byte_class.bpf")
 HEADER = str(EXAMPLES / "channel_data_header.bpf")
+BRANCHES_TEXT = str(EXAMPLES / "first_byte_class.s")
+UNCHECKED_TEXT = str(EXAMPLES / "unchecked_byte.s")
 OUT_OF_MEMORY = (4, "", "out of memory\n")
 # more than the number of any allocation
 EVER = 10**9
@@ -31,6 +33,11 @@ CASES = [
     (["trace", HEADER, "--data", "616263"], 0),
     (["trace", str(EXAMPLES / "permitted_source.bpf")], 0),
     (["trace", FOURTH_BYTE, "--data", "0"], 1),
+    (["assemble", BRANCHES_TEXT, "/dev/null"], 0),
+    (["assemble", UNCHECKED_TEXT, "/dev/null"], 0),
+    (["assemble", str(TOP / "README.md"), "/dev/null"], 1),
+    (["disassemble", HEADER], 0),
+    (["disassemble", BRANCHES_TEXT], 1),
     (["verify", "no such file"], 3),
     (["verify"], 2),
     (["load"], 2),

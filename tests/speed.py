@@ -1,4 +1,4 @@
-"""Prints how fast the built relayd decodes, verifies and traces. Nothing is asserted.
+"""Prints how fast the built relayd assembles, decodes, verifies and traces. Nothing is asserted.
 
     tests/speed.py [PROGRAM ..]
 
@@ -17,6 +17,8 @@ from program import PROGRAM, build, run
 ROUNDS = 7
 MOV = bytes.fromhex("b700000000000000")
 EXIT = bytes.fromhex("9500000000000000")
+# a line of a long text
+LINE = "    jeq.32 r1, -123456789, +1    ; a comment\n"
 # the datagram's first byte is checked: `ldxdw r2, [r1+0]` to `mov r0, 0`
 CHECK = bytes.fromhex(
     "7912000000000000 7913080000000000 bf24000000000000 0704000001000000 b700000000000000"
@@ -57,6 +59,13 @@ def print_figures(relayd):
             path.write_bytes(program)
             return max(best([command, path], relayd) - start, 1e-9)
 
+        def timed_text(text):
+            target = pathlib.Path(folder) / "target.bpf"
+            path.write_text("exit\n", encoding="utf-8")
+            start = best(["assemble", path, target], relayd)
+            path.write_text(text, encoding="utf-8")
+            return max(best(["assemble", path, target], relayd) - start, 1e-9)
+
         for jumps in (12, 13, 14):
             # both branches of each jump are followed to the exit: behind the first 6 steps, each jump doubles 3
             steps = 3 * 2**jumps + 6
@@ -69,6 +78,10 @@ def print_figures(relayd):
             print(f"decode and verify: {slots} slots in {taken * 1e3:.2f} ms")
             taken = timed("trace", program)
             print(f"trace: {slots} steps and their lines in {taken * 1e3:.2f} ms")
+            taken = timed("disassemble", program)
+            print(f"disassemble: {slots} lines in {taken * 1e3:.2f} ms")
+            taken = timed_text(LINE * (slots - 1) + "exit\n")
+            print(f"assemble: {slots} lines in {taken * 1e3:.2f} ms")
 
 
 def main():
