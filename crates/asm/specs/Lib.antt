@@ -7,3 +7,4 @@ pub mod Reading
 pub mod Parsing
 pub mod Scanning
 pub mod GrammarLaws
+pub mod ListingLaws

@@ -14,5 +14,7 @@ mod refusal;
 mod statement;
 mod table;
 
-pub use program::{assemble, refusals_are_unique, texts_name_one_program};
+pub use program::{
+    assemble, listings_name_their_program, refusals_are_unique, texts_name_one_program,
+};
 pub use refusal::AsmError;

@@ -5,7 +5,8 @@ ghost use Rattle.asm.specs.Lines.{lines_of};
 ghost use Rattle.asm.specs.Statements.{Statement};
 ghost use Rattle.asm.specs.Programs.{slots_in, place, with_distance, linked_one, Names, IsAssembled, IsRefused};
 ghost use Rattle.asm.specs.declared.refusal.AsmError.TheVariants.{Memory};
-ghost use Rattle.insn.specs.Encoding.{slot_count, encodings};
+ghost use Rattle.insn.specs.Encoding.{slot_count, encodings, AllFit};
+ghost use Rattle.insn.specs.Spelling.{listing};
 ghost use Rattle.asm.specs.Parsing.{said_in};
 ghost use Rattle.asm.specs.Scanning.{lines_behind, lines_left, Begins, Fails, Holds, IsTableOf, IsHalted, IsCodeOf, IsBuilt};
 
@@ -165,4 +166,9 @@ pub fn texts_name_one_program()
 /// A text has at most one refusal.
 pub fn refusals_are_unique()
     ensures { (text : List ℕ) (d e : AsmError) → IsRefused text d → IsRefused text e → d ≡ e }
+{}
+
+/// The text of a program names it.
+pub fn listings_name_their_program()
+    ensures { (code : List Insn) → AllFit code → Names (listing code) code }
 {}

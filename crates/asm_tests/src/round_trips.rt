@@ -1,5 +1,6 @@
 //! Programs that are written as text and assembled again, and texts that are cut or changed.
 
+use crate::read_back;
 use asm::{AsmError, assemble};
 use disasm::disassemble;
 use insn::{decode, encode};

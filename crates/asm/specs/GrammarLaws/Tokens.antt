@@ -59,7 +59,7 @@ abbrev AreOfWords : List ℕ → Type 0
 AreOfWords text = AllByRecursion (λ c. is_in_words c ≡ true) text
 
 -- a word ends before this text
-abbrev EndsWord : List ℕ → Type 0
+abbrev pub EndsWord : List ℕ → Type 0
 EndsWord [] = Unit {0}
 EndsWord (c ∷ rest) = is_in_words c ≡ false
 
@@ -83,7 +83,7 @@ ended_word [] ts h = absurd (h refl)
 ended_word (c ∷ t) ts h = refl
 
 -- a word is a token
-word_read : (t : Token) (line : List ℕ) → IsWord t → EndsWord line → tokens_of (t ++ line) ≡ t ∷ tokens_of line
+pub word_read : (t : Token) (line : List ℕ) → IsWord t → EndsWord line → tokens_of (t ++ line) ≡ t ∷ tokens_of line
 word_read t line h k = word_on [] t line h.1 ∙ word_ended t line k ∙ ended_word t (tokens_of line) h.0
 
 -- ---- from the pieces of a line to its tokens
