@@ -51,9 +51,7 @@ fn each_prefix_is_answered(rt: HostRuntime) -> Result<(), Fail> {
 #[test]
 fn each_changed_byte_is_answered(rt: HostRuntime) -> Result<(), Fail> {
     for at in 0..LONGEST.len() {
-        for byte in [
-            b' ', b'\n', b'0', b'9', b'x', b'r', b'-', b'+', b',', b'[', b':', b';', b'$',
-        ] {
+        for byte in 0..128u8 {
             let mut changed = Vec::from_slice(rt.alloc(), LONGEST.as_bytes())?;
             changed[at] = byte;
             let text = std::str::from_utf8(&changed)?;
