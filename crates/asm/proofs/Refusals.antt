@@ -224,19 +224,7 @@ lacks_once said n m a b = by (cuts a.before _ a.after b.before _ b.after (sym a.
 -- the slots of a jump stay the same with another distance
 slots_kept : (i : Insn) (distance : ℤ) → slots_of (with_distance i distance) ≡ slots_of i
 slots_kept (Jump d) distance = refl
-slots_kept (LongJump d) distance = refl
-slots_kept (JumpIf width c dst o d) distance = refl
-slots_kept (Alu width op dst o) distance = refl
-slots_kept (Mov width dst o) distance = refl
-slots_kept (Neg width dst) distance = refl
-slots_kept (SignExtend e dst src) distance = refl
-slots_kept (Swap op size dst) distance = refl
-slots_kept (Load size dst base displacement) distance = refl
-slots_kept (LoadSigned size dst base displacement) distance = refl
-slots_kept (Store size base o displacement) distance = refl
-slots_kept (LoadImm dst value) distance = refl
-slots_kept (Call helper) distance = refl
-slots_kept Exit distance = refl
+slots_kept _ distance = refl
 
 slots_of_linked : (places : Name → Option ℕ) (slot : ℕ) (i : Insn) (target : Option Name) (j : Insn)
     → linked_one places slot i target ≡ Some j → slots_of j ≡ slots_of i

@@ -4,7 +4,7 @@ use Rattle.std.specs.List.{AllZip, AllByRecursion}
 use Rattle.insn.specs.Encoding.{slots_of, Fits, slot_count, encodings}
 use Rattle.insn.specs.declared.decoding.TheConstants.{MAX_SLOTS}
 use Rattle.insn.specs.declared.instruction.Insn.{Insn}
-use Rattle.insn.specs.declared.instruction.Insn.TheVariants.{Alu, Mov, Neg, SignExtend, Swap, Jump, LongJump, JumpIf, Load, LoadSigned, Store, LoadImm, Call, Exit}
+use Rattle.insn.specs.declared.instruction.Insn.TheVariants.{Jump, LongJump, JumpIf}
 use Rattle.asm.specs.Lines.{Token, lines_of, HasTokens}
 use Rattle.asm.specs.Statements.{Name, Statement, Labelled, Instruction, Says}
 use Rattle.asm.specs.declared.refusal.AsmError.{AsmError}
@@ -68,17 +68,7 @@ abbrev pub with_distance : Insn → ℤ → Insn
 with_distance (Jump d) distance = Jump distance
 with_distance (LongJump d) distance = LongJump distance
 with_distance (JumpIf width c dst o d) distance = JumpIf width c dst o distance
-with_distance (Alu width op dst o) distance = Alu width op dst o
-with_distance (Mov width dst o) distance = Mov width dst o
-with_distance (Neg width dst) distance = Neg width dst
-with_distance (SignExtend e dst src) distance = SignExtend e dst src
-with_distance (Swap op size dst) distance = Swap op size dst
-with_distance (Load size dst base displacement) distance = Load size dst base displacement
-with_distance (LoadSigned size dst base displacement) distance = LoadSigned size dst base displacement
-with_distance (Store size base o displacement) distance = Store size base o displacement
-with_distance (LoadImm dst value) distance = LoadImm dst value
-with_distance (Call helper) distance = Call helper
-with_distance Exit distance = Exit
+with_distance i distance = i
 
 -- a distance counts from the slot behind the jump
 abbrev pub linked_one : (Name → Option ℕ) → ℕ → Insn → Option Name → Option Insn

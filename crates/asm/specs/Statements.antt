@@ -4,7 +4,7 @@ use Rattle.std.specs.List.{AllByRecursion}
 use Rattle.std.specs.Str.Parse.{IsNumeral, digits_value}
 use Rattle.insn.specs.Spelling.{Argument, Register, Integer, Natural, Address, Distance, register_name, mnemonic, arguments}
 use Rattle.insn.specs.declared.instruction.Insn.{Insn}
-use Rattle.insn.specs.declared.instruction.Insn.TheVariants.{Alu, Mov, Neg, SignExtend, Swap, Jump, LongJump, JumpIf, Load, LoadSigned, Store, LoadImm, Call, Exit}
+use Rattle.insn.specs.declared.instruction.Insn.TheVariants.{Jump, LongJump, JumpIf}
 use Rattle.asm.specs.declared.parser.TheConstants.{MAX_NAME}
 use Rattle.asm.specs.Lines.{Token, begins_name, is_in_names}
 
@@ -68,20 +68,10 @@ written (Some name) (Distance n) = Label name
 
 -- a jump whose distance is not yet known has the distance 0
 abbrev pub IsUnlinked : Insn → Type 0
-IsUnlinked (Alu width op dst o) = ⊥
-IsUnlinked (Mov width dst o) = ⊥
-IsUnlinked (Neg width dst) = ⊥
-IsUnlinked (SignExtend e dst src) = ⊥
-IsUnlinked (Swap op size dst) = ⊥
 IsUnlinked (Jump distance) = distance ≡ pos 0
 IsUnlinked (LongJump distance) = distance ≡ pos 0
 IsUnlinked (JumpIf width c dst o distance) = distance ≡ pos 0
-IsUnlinked (Load size dst base displacement) = ⊥
-IsUnlinked (LoadSigned size dst base displacement) = ⊥
-IsUnlinked (Store size base o displacement) = ⊥
-IsUnlinked (LoadImm dst value) = ⊥
-IsUnlinked (Call helper) = ⊥
-IsUnlinked Exit = ⊥
+IsUnlinked _ = ⊥
 
 -- a mnemonic and its arguments
 pub record IsInstruction (i : Insn) (target : Option Name) (ts : List Token) : Type 0 where
