@@ -11,7 +11,7 @@ use Rattle.asm.specs.Statements.{Name, Statement, Labelled, Instruction}
 use Rattle.asm.specs.Programs.{IsInRange, labels, IsNameAmong, AreDistinct, slots_in, place, with_distance, linked_one, linked, LacksLabel}
 use Rattle.asm.specs.Reading.{read_line}
 use Rattle.asm.specs.Parsing.{IsUnfit}
-use Rattle.asm.specs.Scanning.{AreUnderstood, IsOld, IsUnread, IsTooLarge, IsOldLabel, IsHalted, IsCodeOf}
+use Rattle.asm.specs.Scanning.{AreUnderstood, IsOld, IsUnread, IsTooLarge, IsOldLabel, IsHalted, IsCodeOf, Halts}
 use Rattle.asm.specs.declared.refusal.AsmError.{AsmError}
 use Rattle.asm.specs.declared.refusal.AsmError.TheVariants as error
 
@@ -273,36 +273,27 @@ record FailsWhole (lines : List (List ℕ)) (e : AsmError) : Type 0 where
   read : AreUnderstood lines said
   fault : WholeFault said e
 
+-- a line at which reading halts is the first with a fault
+line_fails : (lines : List (List ℕ)) (e : AsmError) (n : ℕ)
+    (F : List (Option Statement) → Option (Option Statement) → Type 0) (h : Halts lines n F)
+    → LineFault e (length h.before + 1) h.said (read_line h.line) → FailsAt lines e
+line_fails lines e n F h fault = record {
+  before = h.before;
+  line = h.line;
+  after = h.after;
+  split = h.split;
+  said = h.said;
+  read = h.read;
+  fault = fault;
+}
+
 -- a refusal is for one line, or for the text
 failing : (lines : List (List ℕ)) (e : AsmError) → e ≢ error.Memory → IsHalted lines e
     → FailsAt lines e ⊎ FailsWhole lines e
-failing lines (error.Syntax n) other h = inl (record {
-  before = h.before;
-  line = h.line;
-  after = h.after;
-  split = h.split;
-  said = h.said;
-  read = h.read;
-  fault = (h.count, h.fault);
-})
-failing lines (error.Range n) other h = inl (record {
-  before = h.before;
-  line = h.line;
-  after = h.after;
-  split = h.split;
-  said = h.said;
-  read = h.read;
-  fault = (h.count, h.fault);
-})
-failing lines (error.RepeatedLabel n) other h = inl (record {
-  before = h.before;
-  line = h.line;
-  after = h.after;
-  split = h.split;
-  said = h.said;
-  read = h.read;
-  fault = (h.count, h.fault);
-})
+failing lines (error.Syntax n) other h = inl (line_fails lines (error.Syntax n) n IsUnread h (h.count, h.fault))
+failing lines (error.Range n) other h = inl (line_fails lines (error.Range n) n IsTooLarge h (h.count, h.fault))
+failing lines (error.RepeatedLabel n) other h = inl
+    (line_fails lines (error.RepeatedLabel n) n IsOldLabel h (h.count, h.fault))
 failing lines error.TooLong other h = inr (record { said = h.0; read = h.1; fault = h.2 })
 failing lines (error.UnknownLabel n) other h = inr (record { said = h.0; read = h.1; fault = (h.2, h.3) })
 failing lines error.Memory other h = absurd (other refl)

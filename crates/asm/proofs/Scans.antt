@@ -10,7 +10,7 @@ use Rattle.asm.specs.Programs.{IsInRange, labels, IsNameAmong, AreDistinct}
 use Rattle.asm.specs.Reading.{read_line}
 use Rattle.asm.specs.Parsing.{UnderstandsLine}
 use Rattle.asm.specs.Faults.{fault_at}
-use Rattle.asm.specs.Scanning.{AreUnderstood, Holds, IsNew, Adds, IsScanned, IsHalted, lines_behind, Begins, Fails}
+use Rattle.asm.specs.Scanning.{AreUnderstood, Holds, IsNew, Adds, IsScanned, IsHalted, lines_behind, Begins, Fails, Halts, IsUnread, IsTooLarge}
 use Rattle.asm.specs.declared.refusal.Fault.{Fault}
 use Rattle.asm.specs.declared.refusal.Fault.TheVariants as fault
 use Rattle.asm.specs.declared.refusal.AsmError.{AsmError}
@@ -111,27 +111,22 @@ pub halted_at_fault : (lines : List (List ℕ)) (n : ℕ) (left : Option (Bor (L
     → IsScanned lines n (lines_behind left) table → left ≡ Some text → Fails text.now (n + 1) e → IsHalted lines e
 halted_at_fault lines n left text table e scanned is fails = rw fails.named (by fails.fault fails.fails)
   where
+    halted : (F : List (Option Statement) → Option (Option Statement) → Type 0) → F scanned.said (read_line fails.line)
+        → Halts lines (n + 1) F
+    halted F fault = record {
+      before = scanned.before;
+      line = fails.line;
+      after = fails.rest;
+      split = scanned.split ∙ ap (λ ls. scanned.before ++ ls) (ap lines_behind is ∙ fails.split);
+      count = omega (arith, scanned.count);
+      said = scanned.said;
+      read = scanned.read;
+      fault = fault;
+    }
+
     by : (f : Fault) → UnderstandsLine (read_line fails.line) (Err f) → IsHalted lines (fault_at f (n + 1))
-    by fault.Syntax none = record {
-      before = scanned.before;
-      line = fails.line;
-      after = fails.rest;
-      split = scanned.split ∙ ap (λ ls. scanned.before ++ ls) (ap lines_behind is ∙ fails.split);
-      count = omega (arith, scanned.count);
-      said = scanned.said;
-      read = scanned.read;
-      fault = none;
-    }
-    by fault.Range unfit = record {
-      before = scanned.before;
-      line = fails.line;
-      after = fails.rest;
-      split = scanned.split ∙ ap (λ ls. scanned.before ++ ls) (ap lines_behind is ∙ fails.split);
-      count = omega (arith, scanned.count);
-      said = scanned.said;
-      read = scanned.read;
-      fault = unfit;
-    }
+    by fault.Syntax none = halted IsUnread none
+    by fault.Range unfit = halted IsTooLarge unfit
 
 -- so does a label that stands before
 pub halted_at_label : (lines : List (List ℕ)) (n : ℕ) (left : Option (Bor (List ℕ))) (text : Bor (List ℕ))
