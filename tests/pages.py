@@ -1,50 +1,67 @@
-"""Runs the programs of docs/PROGRAMS.md and compares what is printed of them.
+"""Runs the programs and commands of README.md and docs/, and compares what is printed of them.
 
-A block `asm` is assembled to program.bpf. A block `console` has lines `$ relayd WORD..`, each with what
-that command prints.
+Each page has a folder of its own, in which examples/ stands. A block `asm` is assembled to program.bpf. A block
+`console` has lines `$ relayd WORD..` or `$ ./relayd WORD..`, each with what that command prints. The lines of a block
+`sh` are commands that have to succeed, of which `./test` runs this script.
 """
 
 import pathlib
 import re
+import shlex
 import sys
 import tempfile
 
 from program import TOP, finish, run
 
-PAGE = TOP / "docs" / "PROGRAMS.md"
-BLOCK = re.compile(r"^```(asm|console)\n(.*?)^```$", re.MULTILINE | re.DOTALL)
+PAGES = [TOP / "README.md", *sorted((TOP / "docs").glob("*.md")), *sorted((TOP / "crates").glob("*/README.md"))]
+BLOCK = re.compile(r"^```(asm|console|sh)\n(.*?)^```$", re.MULTILINE | re.DOTALL)
+PROMPT = re.compile(r"^\$ (?:\./)?relayd(.*)$", re.MULTILINE)
 
 
 def commands(block):
     """Yields the words of each command of a block, with the text that it prints."""
-    for part in block.split("$ relayd ")[1:]:
-        words, _, printed = part.partition("\n")
-        yield words.split(), printed
+    parts = PROMPT.split(block)
+    for words, printed in zip(parts[1::2], parts[2::2]):
+        yield shlex.split(words), printed.removeprefix("\n")
 
 
-def failures_of(blocks, folder):
-    """Yields the blocks that are not as the program prints them."""
-    for number, (kind, text) in enumerate(blocks, 1):
-        if kind == "asm":
-            (folder / "program.s").write_text(text, encoding="utf-8")
-            status, _, err = run(["assemble", "program.s", "program.bpf"], cwd=folder)
-            if status:
-                yield f"block {number}: {err}"
-            continue
+def failures_of_block(kind, text, folder):
+    """Yields what a block does otherwise than it says."""
+    if kind == "asm":
+        (folder / "program.s").write_text(text, encoding="utf-8")
+        status, _, err = run(["assemble", "program.s", "program.bpf"], cwd=folder)
+        if status:
+            yield err
+    elif kind == "console":
         for words, wanted in commands(text):
             _, out, err = run(words, cwd=folder)
             if out + err != wanted:
-                yield f"block {number}, {' '.join(words)}: {out}{err}"
+                yield f"{shlex.join(words)}: {out}{err}"
+    else:
+        for line in text.splitlines():
+            program, *words = shlex.split(line)
+            if program == "./relayd" and run(words, cwd=folder)[0]:
+                yield line
+
+
+def failures_of_page(page, blocks):
+    """Yields the blocks of a page that do otherwise than they say."""
+    with tempfile.TemporaryDirectory() as name:
+        folder = pathlib.Path(name)
+        (folder / "examples").symlink_to(TOP / "examples")
+        for number, (kind, text) in enumerate(blocks, 1):
+            for failure in failures_of_block(kind, text, folder):
+                yield f"{page.relative_to(TOP)}, block {number}: {failure}"
 
 
 def main():
     """Runs every block, and returns the exit status."""
-    blocks = BLOCK.findall(PAGE.read_text(encoding="utf-8"))
-    with tempfile.TemporaryDirectory() as name:
-        failures = [*failures_of(blocks, pathlib.Path(name))]
-    if not blocks:
+    blocks = {page: BLOCK.findall(page.read_text(encoding="utf-8")) for page in PAGES}
+    failures = [failure for page, found in blocks.items() for failure in failures_of_page(page, found)]
+    count = sum(len(found) for found in blocks.values())
+    if not count:
         failures.append("no blocks")
-    return finish(failures, f"pages: {len(blocks)} blocks, {len(failures)} failures")
+    return finish(failures, f"pages: {count} blocks, {len(failures)} failures")
 
 
 if __name__ == "__main__":

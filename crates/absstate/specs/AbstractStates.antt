@@ -1,5 +1,5 @@
--- The abstract state at a slot of a path: what the verifier knows of each machine state that can be there. Its numbers
--- are those of a domain D.
+-- Interface. The abstract state at a slot of a path: what the verifier knows of each machine state that can be there.
+-- Its numbers are those of a domain D.
 use Rattle.std.specs.Prelude.{ℕ, zero, suc, ◌/◌, ◌%◌, ◌^◌, Bool, true, ◌&&◌, ◌==◌, ℤ, pos, int_lt, List, [], ◌∷◌, Option, Some, None, slice_index_or, slice_set, if◌then◌else◌}
 use Rattle.std.specs.Int.Bits.{bit_or}
 use Rattle.insn.specs.Register.{number_of}

@@ -1,5 +1,6 @@
--- The abstract step: the abstract states behind an instruction, or the reason for which a step from here could be
--- stuck. The tests come in the order of the tagged machine. Numbers are computed by the operations of a domain.
+-- Interface. The abstract step: the abstract states behind an instruction, or the reason for which a step from here
+-- could be stuck. The tests come in the order of the tagged machine. Numbers are computed by the operations of a
+-- domain.
 use Rattle.std.specs.Prelude.{ℕ, ◌+◌, ◌-◌, ◌^◌, ◌≤◌, Bool, true, false, ℤ, pos, ◌+ℤ◌, Option, Some, None, Result, Ok, Err, ◌==◌, if◌then◌else◌}
 use Rattle.std.specs.Option.{ok_or, option_map}
 use Rattle.std.specs.Int.{w64, cast_unsigned}

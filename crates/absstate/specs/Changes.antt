@@ -1,4 +1,4 @@
--- What a step changes of a state, and the states behind it.
+-- Interface. What a step changes of a state, and the states behind it.
 use Rattle.std.specs.Prelude.{Result, Ok, Err}
 use Rattle.std.specs.Option.{option_map}
 use Rattle.insn.specs.Codes.{byte_count}

@@ -1,3 +1,4 @@
+-- Internal. The modules of this folder.
 pub mod AbstractStates
 pub mod AbstractSteps
 pub mod Changes

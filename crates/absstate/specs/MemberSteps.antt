@@ -1,4 +1,4 @@
--- The machine's step from a member of an abstract state, where the abstract step accepts the instruction.
+-- Interface. The machine's step from a member of an abstract state, where the abstract step accepts the instruction.
 use Rattle.std.specs.Prelude.{◌≡◌, ℕ, ◌≤◌, List, Option, Some, None, Result, Ok, IsOk}
 use Rattle.insn.specs.declared.instruction.Insn.{Insn}
 use Rattle.semantics.specs.Machine.{State, Surroundings}

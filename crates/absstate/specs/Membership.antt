@@ -1,5 +1,5 @@
--- The members of an abstract state: the machine states that it describes. Which words are members of an abstract number
--- is the domain's.
+-- Interface. The members of an abstract state: the machine states that it describes. Which words are members of an
+-- abstract number is the domain's.
 use Rattle.std.specs.Prelude.{◌≡◌, ℕ, ◌<◌, Bool, true, ℤ, pos, ◌+ℤ◌, ◌≤ℤ◌, length, Option, None, is_some, slice_index_or}
 use Rattle.insn.specs.declared.register.Reg.{Reg}
 use Rattle.semantics.specs.Machine.{State}

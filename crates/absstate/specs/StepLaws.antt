@@ -1,4 +1,4 @@
--- Laws of the abstract step.
+-- Interface. Laws of the abstract step.
 pub mod Agreement
 pub mod Bounds
 pub mod MemoryValues

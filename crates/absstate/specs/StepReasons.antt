@@ -1,4 +1,4 @@
--- The reasons for which a step on a path is refused: all but those of the layout.
+-- Meaning. The reasons for which a step on a path is refused: all but those of the layout.
 use Rattle.semantics.specs.declared.reason.Reason.{Reason}
 use Rattle.semantics.specs.declared.reason.Reason.TheVariants as reasons
 

@@ -1,4 +1,4 @@
--- The number of successors of an instruction: one, two at a conditional jump, none at an exit.
+-- Interface. The number of successors of an instruction: one, two at a conditional jump, none at an exit.
 use Rattle.insn.specs.declared.instruction.Insn.{Insn}
 use Rattle.semantics.specs.Flow.{Flow, Straight, Jumps, Forks, flow_of}
 use Rattle.semantics.specs.Flow as flow

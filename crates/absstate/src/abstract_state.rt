@@ -8,6 +8,7 @@ use insn::{Reg, Size};
 use std::alloc::AllocError;
 
 /// A place of the datagram from which pointers count their offsets.
+/// See docs/DECISIONS.md, "One anchor".
 #[derive(Clone, Copy, Debug, PartialEq, Eq)]
 pub enum Anchor {
     /// The datagram's first byte.

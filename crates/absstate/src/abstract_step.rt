@@ -77,6 +77,7 @@ fn single_of<D: Domain>(number: D) -> Option<u64>
 }
 
 /// Moves an offset by a single number.
+/// See docs/DECISIONS.md, "Offsets in 32 bits".
 ///
 /// # Errors
 /// `PointerArithmetic` where the number isn't a single one, where the operator moves no pointer, or where it would lead
@@ -89,6 +90,7 @@ fn moved(op: AluOp, width: Width, offset: i32, by: Option<u64>) -> Result<i32, R
     Ok(place as i32)
 }
 
+/// See docs/DECISIONS.md, "Refusals are stuck runs".
 fn alu_result<D: Domain>(
     op: AluOp,
     width: Width,

@@ -30,6 +30,7 @@ fn with_operands<D: Copy>(dst: Reg, operand: Operand, left: Refined<D>) -> Chang
 }
 
 /// Returns the change behind a test on two numbers that was passed, `None` where no two of them pass it.
+/// See docs/DECISIONS.md, "Branches that cannot be taken".
 fn passed<D: Domain>(
     test: Test,
     width: Width,
@@ -52,6 +53,7 @@ pub(crate) struct Implied {
 }
 
 /// Returns what the branches of `offset CONDITION End` imply.
+/// See docs/DECISIONS.md, "A bound or none".
 fn data_implies(condition: Condition, offset: i32) -> Result<Implied, Reason>
     ensures { result ≡ order_implies condition (data_bound condition offset) }
 {
@@ -124,6 +126,7 @@ fn places_compared<D: Copy>(
     }
 }
 
+/// See docs/DECISIONS.md, "Both branches of a bounds check".
 fn places_fork<D: Copy>(
     width: Width,
     condition: Condition,

@@ -10,6 +10,7 @@ use insn::{Reg, Size};
 use interval::Refined;
 
 /// What is changed of a state.
+/// See docs/DECISIONS.md, "A step answers with its change".
 #[derive(Debug, Drop)]
 pub enum Change<D> {
     /// Nothing.

@@ -25,6 +25,7 @@ fn number_of_size<D: Domain>(size: Size) -> D
 }
 
 /// Returns what is known of a field of the context record.
+/// See docs/DECISIONS.md, "The length of a datagram".
 fn field_known<D: Domain>(field: Field) -> AbstractValue<D>
     ensures { result ≡ field_known D.ops field }
 {

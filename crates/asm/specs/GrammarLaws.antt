@@ -1,4 +1,4 @@
--- The reader of a line reads the grammar: what a line is read as, it means, and what it means, it is read as.
+-- Internal. The reader of a line reads the grammar: what a line is read as, it means, and what it means, it is read as.
 pub mod Steps
 pub mod Words
 pub mod Numbers

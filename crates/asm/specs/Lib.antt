@@ -1,3 +1,4 @@
+-- Internal. The modules of this folder.
 pub mod Radices
 pub mod Faults
 pub mod Lines

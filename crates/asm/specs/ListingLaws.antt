@@ -1,4 +1,4 @@
--- The text of a program names the instructions of the program.
+-- Internal. The text of a program names the instructions of the program.
 pub mod Words
 pub mod Arguments
 pub mod Spellings

@@ -1,5 +1,5 @@
--- Internal. The reader of a line as functions on its tokens, which the parser's methods mirror. The laws of GrammarLaws.antt
--- say that it reads the grammar.
+-- Internal. The reader of a line as functions on its tokens, which the parser's methods mirror. The laws of
+-- GrammarLaws.antt say that it reads the grammar.
 use Rattle.std.specs.Prelude.{ℕ, ◌-◌, ◌==◌, nat_le, Bool, false, ◌&&◌, ℤ, pos, neg_ℤ, List, [], ◌∷◌, ◌++◌, length, codes, bytes_eq, find, drop, take, Option, Some, None, option_map, if◌then◌else◌}
 use Rattle.std.specs.List.{list_all}
 use Rattle.std.specs.Str.Parse.{digits_value}

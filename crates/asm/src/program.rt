@@ -42,6 +42,7 @@ fn next_line(text: &str, number: usize) -> Result<(Line<'_>, Option<&str>), AsmE
 }
 
 /// Reads all lines, and returns the table of the labels.
+/// See docs/DECISIONS.md, "A text is read twice".
 ///
 /// # Errors
 /// The first fault of a line, `TooLong` where there is none and the slots are too many, or `Memory`.
@@ -132,6 +133,7 @@ fn link(alloc: Global, text: &str, table: &Table<'_>) -> Result<Vec<Insn>, AsmEr
 }
 
 /// Assembles a text.
+/// See docs/DECISIONS.md, "A text is refused line by line".
 ///
 /// # Errors
 /// The first fault of a line; else `TooLong`; else the first unknown label; or `Memory`.

@@ -1,4 +1,4 @@
--- The values of XOR addresses (RFC 8489, section 14.2).
+-- Meaning. The values of XOR addresses (RFC 8489, section 14.2).
 use Rattle.std.specs.Prelude.{◌≡◌, ℕ, ◌/◌, ◌<◌, Bool, ◌&&◌, List, ◌∷◌, ◌++◌, length, drop, slice_index, bit_xor, nat_eq, Option, Some, None, if◌then◌else◌}
 use Rattle.stun.specs.Endian.{big_bytes, big_number}
 use Rattle.stun.specs.Registry.{magic_cookie}

@@ -1,4 +1,4 @@
--- The values of the attributes of an error response (RFC 8489, sections 14.8 and 14.13).
+-- Meaning. The values of the attributes of an error response (RFC 8489, sections 14.8 and 14.13).
 use Rattle.std.specs.Prelude.{ℕ, ◌/◌, ◌%◌, List, ◌∷◌}
 use Rattle.std.specs.List.{flat_map}
 use Rattle.stun.specs.Endian.{big_bytes}

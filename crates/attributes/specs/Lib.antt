@@ -1,3 +1,4 @@
+-- Internal. The modules of this folder.
 pub mod Addresses
 pub mod Values
 pub mod Errors

@@ -1,4 +1,5 @@
--- Values with one number (RFC 8656, section 18): the bytes of the number, then bytes that are ignored, four in all.
+-- Meaning. Values with one number (RFC 8656, section 18): the bytes of the number, then bytes that are ignored, four in
+-- all.
 use Rattle.std.specs.Prelude.{◌≡◌, ℕ, ◌<◌, ◌^◌, List, ◌++◌, length, nat_eq, Option, Some, None, if◌then◌else◌}
 use Rattle.stun.specs.Endian.{big_bytes, big_number}
 

@@ -3,6 +3,7 @@
 use thiserror::Error;
 
 /// The kind of a value.
+/// See docs/DECISIONS.md, "The kind of a bad value".
 #[derive(Clone, Copy, Debug, PartialEq, Eq)]
 pub enum ValueKind {
     Address,

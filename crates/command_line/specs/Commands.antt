@@ -1,4 +1,4 @@
--- The command line of relayd, and how clap's definition of a parse reads it.
+-- Meaning. The command line of relayd, and how clap's definition of a parse reads it.
 use Rattle.std.specs.Prelude.{◌≡◌, true, false, List, Option, Some, codes}
 use Rattle.clap.specs.Kinds.{Kinds}
 use Rattle.clap.specs.Words.{App, Row, Rule, Text, app_of, fault_of, new_app, new_rule, subcommand_of, with_rule, with_subcommand}
@@ -37,9 +37,11 @@ verify_command = with_rule (new_app (codes "verify")) file_argument
 abbrev pub trace_command : App
 trace_command = with_rule (with_rule (new_app (codes "trace")) file_argument) data_option
 
--- relayd COMMAND, of which COMMAND is required
+-- relayd COMMAND, of which COMMAND is required: with no word behind the name, the answer is the help. It has a version
 abbrev pub bare_command : App
-bare_command = let app = new_app (codes "relayd") in record app { top = record app.top { subcommand_required = true } }
+bare_command = let app = new_app (codes "relayd") in record app {
+  top = record app.top { has_version = true; arg_required_else_help = true; subcommand_required = true };
+}
 
 abbrev pub text_command : App
 text_command = with_subcommand (with_subcommand bare_command assemble_command.top) disassemble_command.top

@@ -1,4 +1,4 @@
--- Good command lines, spelled out word by word.
+-- Meaning. Good command lines, spelled out word by word.
 use Rattle.std.specs.Prelude.{◌≡◌, ◌⊎◌, ◌==◌, Bool, false, List, [], ◌∷◌, ◌++◌, Some, None, codes, Result, MatchResult, IsSomeAnd}
 use Rattle.clap.specs.Words.{Text, kind_of, subcommand_rows_of}
 use Rattle.clap.specs.declared.error.Error.{Error}

@@ -1,4 +1,4 @@
--- The request of a subcommand, by its name and the values of its arguments.
+-- Meaning. The request of a subcommand, by its name and the values of its arguments.
 use Rattle.std.specs.Prelude.{◌≡◌, ◌⊎◌, List, Option, Some, None, option_map, codes}
 use Rattle.clap.specs.Words.{Text, Row, first_of}
 use Rattle.command_line.specs.declared.Request.{Request}

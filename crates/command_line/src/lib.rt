@@ -3,7 +3,7 @@
 
 ghost use Rattle.std.specs.Prelude.{◌≡◌, true, false, map, IfOk, IfSome, IfNone, IsSomeAnd};
 ghost use Rattle.clap.specs.Words.{FailsBy, has_subcommand, rule_of, subcommand_rows_of};
-ghost use Rattle.command_line.specs.Commands.{HasShape, assemble_command, data_option, disassemble_command, faults_of, file_argument, input_argument, output_argument, relayd_command, subcommand_in, text_command, trace_command, verify_command};
+ghost use Rattle.command_line.specs.Commands.{HasShape, assemble_command, bare_command, data_option, disassemble_command, faults_of, file_argument, input_argument, output_argument, relayd_command, subcommand_in, text_command, trace_command, verify_command};
 ghost use Rattle.command_line.specs.Lines.{IsLineOf, IsParsedAs};
 ghost use Rattle.command_line.specs.Requests.{Requests, RequestsNothing};
 ghost use Rattle.command_line.specs.declared.Request.{Request};
@@ -11,6 +11,9 @@ ghost use Rattle.command_line.specs.declared.Request.{Request};
 use clap::{Arg, ArgAction, ArgMatches, Command, Error};
 use std::alloc::{AllocError, Global};
 use std::convert::AsStr;
+
+/// The version that `--version` prints.
+const VERSION: &str = "0.1.0";
 
 /// A request of the command line.
 #[derive(Clone, Copy, Debug)]
@@ -122,13 +125,22 @@ fn disassemble<'a>(alloc: Global) -> Result<Command<'a>, AllocError>
         .arg(file(alloc))
 }
 
+/// Returns the command without its subcommands. With no word behind its name it answers with the help.
+fn bare<'a>(alloc: Global) -> Command<'a>
+    ensures { HasShape bare_command result }
+{
+    Command::new(alloc, "relayd")
+        .about("A TURN relay whose forwarding rules are loaded programs of the BPF instruction set")
+        .version(VERSION)
+        .arg_required_else_help(true)
+        .subcommand_required(true)
+}
+
 /// Returns the command with the subcommands that read or write texts.
 fn with_texts<'a>(alloc: Global) -> Result<Command<'a>, AllocError>
     ensures { IfOk result (HasShape text_command) }
 {
-    Command::new(alloc, "relayd")
-        .about("A TURN relay whose forwarding rules are loaded programs of the BPF instruction set")
-        .subcommand_required(true)
+    bare(alloc)
         .subcommand(assemble(alloc)?)?
         .subcommand(disassemble(alloc)?)
 }

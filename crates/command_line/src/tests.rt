@@ -115,15 +115,21 @@ struct Refused {
     parts: &'static [&'static str],
 }
 
-const REFUSED: [Refused; 36] = [
-    // a missing word
+const REFUSED: [Refused; 39] = [
+    // no word behind the name: the help
     Refused {
         words: &[],
         status: 2,
-        parts: &["subcommand", "--help"],
+        parts: &["TURN relay", "<COMMAND>", "verify", "trace"],
     },
     Refused {
         words: &["relayd"],
+        status: 2,
+        parts: &["TURN relay", "<COMMAND>", "verify", "trace"],
+    },
+    // a missing word
+    Refused {
+        words: &["relayd", "--"],
         status: 2,
         parts: &["subcommand", "--help"],
     },
@@ -270,8 +276,19 @@ const REFUSED: [Refused; 36] = [
         status: 2,
         parts: &["-a", "--help"],
     },
+    // the version is the program's, not a subcommand's
     Refused {
         words: &["relayd", "--version"],
+        status: 0,
+        parts: &["relayd 0.1.0\n"],
+    },
+    Refused {
+        words: &["relayd", "-V"],
+        status: 0,
+        parts: &["relayd 0.1.0\n"],
+    },
+    Refused {
+        words: &["relayd", "verify", "--version"],
         status: 2,
         parts: &["--version", "--help"],
     },
@@ -291,6 +308,7 @@ const REFUSED: [Refused; 36] = [
             "each instruction",
             "help",
             "--help",
+            "--version",
         ],
     },
     Refused {

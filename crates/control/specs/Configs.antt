@@ -1,4 +1,4 @@
--- Configurations, and the first of their fields that is outside its limits.
+-- Meaning. Configurations, and the first of their fields that is outside its limits.
 use Rattle.std.specs.Prelude.{ℕ, ◌+◌, Bool, true, not, ◌&&◌, List, [], ◌∷◌, length, find, ◌==◌, nat_le, bytes_eq, string_bytes, Option}
 use Rattle.std.specs.List.{list_all, list_any}
 use Rattle.credentials.specs.declared.checking.User.{User}

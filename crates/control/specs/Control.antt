@@ -1,5 +1,6 @@
--- How requests are answered: credentials, then attributes that are not understood, then the tests of the method in their
--- order (RFC 8489, section 9.2.4; RFC 8656, sections 7, 8, 10 and 12). The first that fails gives the error.
+-- Meaning. How requests are answered: credentials, then attributes that are not understood, then the tests of the
+-- method in their order (RFC 8489, section 9.2.4; RFC 8656, sections 7, 8, 10 and 12). The first that fails gives the
+-- error.
 use Rattle.std.specs.Prelude.{◌≡◌, ℕ, ◌<◌, Bool, true, false, ◌&&◌, List, [], ◌∷◌, max, min, nat_eq, bytes_eq, Option, None, Some, Result, Ok, Err, ok_or, if◌then◌else◌}
 use Rattle.std.specs.List.{list_all}
 use Rattle.stun.specs.Attributes.{values_of}

@@ -1,3 +1,4 @@
+-- Internal. The modules of this folder.
 pub mod Configs
 pub mod Values
 pub mod Unknown

@@ -1,4 +1,4 @@
--- The addresses of a CreatePermission request, each IP address once.
+-- Meaning. The addresses of a CreatePermission request, each IP address once.
 use Rattle.std.specs.Prelude.{◌||◌, List, [], ◌∷◌, ◌++◌, length, nat_le, bytes_eq, filter_map, if◌then◌else◌}
 use Rattle.std.specs.List.{list_any}
 use Rattle.stun.specs.Attributes.{values_of}

@@ -1,4 +1,4 @@
--- Replies: their attributes in order, and their bytes.
+-- Meaning. Replies: their attributes in order, and their bytes.
 use Rattle.std.specs.Prelude.{◌≡◌, ℕ, ◌+◌, ◌<◌, ◌≤◌, List, [], ◌∷◌, Option, None, Some, Result, Ok, Err, string_bytes}
 use Rattle.stun.specs.Builders.{parts_of, used_of, room_of, SameBuffer}
 use Rattle.stun.specs.Endian.{big_bytes}

@@ -1,4 +1,4 @@
--- The whole answer to a message: the rows behind it, and the bytes of a reply, none where there is no reply.
+-- Meaning. The whole answer to a message: the rows behind it, and the bytes of a reply, none where there is no reply.
 use Rattle.std.specs.Prelude.{◌≡◌, ℕ, true, false, List, [], Option, None, Some, Result, Ok, Err, string_bytes}
 use Rattle.stun.specs.Messages.{Parts, parts_bytes}
 use Rattle.stun.specs.declared.registry.Class.TheVariants as class

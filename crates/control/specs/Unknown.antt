@@ -1,4 +1,4 @@
--- The types of a message's attributes that are not understood (RFC 8489, section 6.3.1).
+-- Meaning. The types of a message's attributes that are not understood (RFC 8489, section 6.3.1).
 use Rattle.std.specs.Prelude.{ℕ, not, List, [], ◌∷◌, ◌++◌, map, take, fold, ◌==◌, if◌then◌else◌}
 use Rattle.std.specs.List.{filter, list_any}
 use Rattle.stun.specs.Attributes.{is_understood}

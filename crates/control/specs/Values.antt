@@ -1,4 +1,4 @@
--- The values of a request's attributes: a malformed one is a bad request.
+-- Meaning. The values of a request's attributes: a malformed one is a bad request.
 use Rattle.std.specs.Prelude.{ℕ, Bool, true, false, List, Option, None, Some, Result, Ok, Err, ok_or, option_map}
 use Rattle.attributes.specs.declared.address.Addr.{Addr}
 use Rattle.attributes.specs.declared.address.Addr.TheVariants.{V4, V6}

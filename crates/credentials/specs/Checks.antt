@@ -1,4 +1,4 @@
--- The ordered check of a request's credentials (RFC 8489, section 9.2.4).
+-- Meaning. The ordered check of a request's credentials (RFC 8489, section 9.2.4).
 use Rattle.std.specs.Prelude.{◌≡◌, ◌≢◌, ℕ, ◌<◌, ◌⊎◌, List, [], length, map, slice_index_or, string_bytes, Option, Some, None, Result, Ok, Err}
 use Rattle.stun.specs.Registry.{message_integrity}
 use Rattle.stun.specs.declared.registry.attribute.TheConstants.{USERNAME, REALM, NONCE}

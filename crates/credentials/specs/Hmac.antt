@@ -1,4 +1,4 @@
--- HMAC over SHA-1 (RFC 2104, section 2).
+-- Meaning. HMAC over SHA-1 (RFC 2104, section 2).
 use Rattle.std.specs.Prelude.{ℕ, ◌-◌, List, ◌++◌, length, map, replicate, bit_xor}
 use Rattle.sha1.specs.Sha1.{sha1}
 

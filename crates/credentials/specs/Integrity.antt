@@ -1,4 +1,4 @@
--- MESSAGE-INTEGRITY (RFC 8489, section 14.5): the bytes that its code is made over, and the code.
+-- Meaning. MESSAGE-INTEGRITY (RFC 8489, section 14.5): the bytes that its code is made over, and the code.
 use Rattle.std.specs.Prelude.{ℕ, ◌+◌, List, ◌++◌, length, Option, option_map}
 use Rattle.stun.specs.Messages.{Padded, Parts, header, attributes_bytes, before_first}
 use Rattle.credentials.specs.Hmac.{hmac}

@@ -1,4 +1,4 @@
--- The keys of the long-term mechanism (RFC 8489, section 9.2.2).
+-- Meaning. The keys of the long-term mechanism (RFC 8489, section 9.2.2).
 use Rattle.std.specs.Prelude.{ℕ, List, ◌∷◌, ◌++◌}
 use Rattle.credentials.specs.declared.key.Key.{Key}
 use Rattle.md5.specs.Md5.{md5}

@@ -1,3 +1,4 @@
+-- Internal. The modules of this folder.
 pub mod Hmac
 pub mod Integrity
 pub mod Checks

@@ -1,4 +1,4 @@
--- Messages that are signed (RFC 8489, section 14.5).
+-- Meaning. Messages that are signed (RFC 8489, section 14.5).
 use Rattle.std.specs.Prelude.{◌≡◌, List, ℕ, Some, None}
 use Rattle.stun.specs.Registry.{message_integrity}
 use Rattle.stun.specs.Messages.{Parts, with_attribute, before_first}

@@ -73,6 +73,7 @@ fn has_name(user: &User, name: &[u8]) -> bool
 }
 
 /// Returns the key of a user in a realm.
+/// See docs/DECISIONS.md, "The realm is not compared".
 fn key_of_user(user: &User, realm: &str) -> Key
     ensures { key_bytes result ≡ key_of (string_bytes user.now.name) realm.now (string_bytes user.now.password) }
 {
@@ -80,6 +81,7 @@ fn key_of_user(user: &User, realm: &str) -> Key
 }
 
 /// Returns the index of the first user of a name.
+/// See docs/DECISIONS.md, "The first user of a name".
 fn user_of(users: &[User], name: &[u8]) -> Option<usize>
     ensures some { IfSome result (IsUser (names_of users.now) name.now) }
     ensures none { IfNone result (IsNoUser (names_of users.now) name.now) }
@@ -115,6 +117,7 @@ fn fresh<'a>(message: &Message<'a>, nonce: &str) -> Result<(&'a [u8], &'a [u8]),
 /// Checks the credentials of a request: it has a code, a name, a realm and the nonce, a user has the name,
 /// and the code is the right one under the key of that user. Returns that user and key. The realm that the
 /// request names is not compared.
+/// See docs/DECISIONS.md, "The key of a check".
 ///
 /// # Errors
 /// Returns the first test that fails, in the order of [`AuthError`].

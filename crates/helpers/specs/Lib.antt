@@ -1,1 +1,3 @@
+-- Internal. The modules of this folder.
 pub mod Nothing
+pub mod NothingLaws

@@ -2,9 +2,11 @@
 
 ghost use Rattle.std.specs.Prelude.{◌≡◌, ℕ, List};
 ghost use Rattle.semantics.specs.Runs.{IsLawful};
-ghost use Rattle.helpers.specs.Nothing.{finds_nothing, nothing_is_lawful};
+ghost use Rattle.helpers.specs.Nothing.{finds_nothing};
+ghost use Rattle.helpers.specs.NothingLaws.{nothing_is_lawful};
 
 /// The helpers 1 to 3, which look up channels and permissions in the slot of a run.
+/// See docs/DECISIONS.md, "Lawful helpers".
 pub trait Helpers {
     /// The answer of a helper to a number and an address record.
     ghost answers: { Self → ℕ → ℕ → List ℕ → ℕ × List ℕ };

@@ -1,3 +1,4 @@
+-- Internal. The modules of this folder.
 pub mod Register
 pub mod Codes
 pub mod Opcode

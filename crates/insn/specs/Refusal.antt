@@ -1,4 +1,4 @@
--- Why bytes encode no program: the first fault from the left.
+-- Meaning. Why bytes encode no program: the first fault from the left.
 use Rattle.std.specs.Prelude.{◌≡◌, ◌≢◌, ℕ, ◌*◌, ◌/◌, ◌%◌, ◌<◌, ◌≤◌, List, ◌++◌, length, slice_index}
 use Rattle.insn.specs.Opcode.{byte_of, IsOpcode}
 use Rattle.insn.specs.declared.opcode.Opcode.TheVariants.{LoadImm}

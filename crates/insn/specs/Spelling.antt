@@ -1,5 +1,5 @@
--- Meaning. The fixed spelling of an instruction: a mnemonic, one space, and the operands with `, ` between them. Numbers are
--- decimal; a displacement and a jump distance have a sign.
+-- Meaning. The fixed spelling of an instruction: a mnemonic, one space, and the operands with `, ` between them.
+-- Numbers are decimal; a displacement and a jump distance have a sign.
 use Rattle.std.specs.Prelude.{ℕ, suc, ℤ, pos, negsuc, List, [], ◌∷◌, ◌++◌, codes, decimal}
 use Rattle.std.specs.Fmt.{signed_decimal}
 use Rattle.std.specs.List.{flat_map}

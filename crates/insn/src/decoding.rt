@@ -117,6 +117,7 @@ struct Head {
 }
 
 /// Returns the opcode and the registers of a slot, or the first fault among them.
+/// See docs/DECISIONS.md, "E5 before E6".
 fn head_of(fields: Fields) -> Result<Head, SlotFault>
     ensures found { IfOk result (HasHead fields) }
     ensures refused { IfErr result (LacksHead fields) }

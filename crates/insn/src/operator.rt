@@ -10,6 +10,7 @@ use crate::size::{SignedSize, SwapSize};
 use crate::width::Width;
 
 /// An operator with two operands.
+/// See docs/DECISIONS.md, "Operators and their codes".
 #[derive(Clone, Copy, Debug, PartialEq, Eq)]
 pub enum AluOp {
     /// `dst += operand`
@@ -41,6 +42,7 @@ pub enum AluOp {
 }
 
 /// An operator with one operand.
+/// See docs/DECISIONS.md, "One operand, one type".
 #[derive(Clone, Copy, Debug, PartialEq, Eq)]
 pub enum UnaryOp {
     /// `MOV`: the operand.
@@ -69,6 +71,7 @@ pub enum Extension {
 }
 
 /// A conversion of the byte order. The machine is little-endian.
+/// See docs/DECISIONS.md, "Byte swaps use their own size".
 #[derive(Clone, Copy, Debug, PartialEq, Eq)]
 pub enum SwapOp {
     /// `le`: to little-endian, which leaves the low bytes as they are.

@@ -1,4 +1,4 @@
--- Abstract numbers: their operations, and the laws that make them sound.
+-- Meaning. Abstract numbers: their operations, and the laws that make them sound.
 use Rattle.std.specs.Prelude.{◌≡◌, ℕ, ◌≤◌, ◌<◌, ◌^◌, Bool, true, not, Option, Some, None}
 use Rattle.insn.specs.Words.{alu, unary, holds}
 use Rattle.insn.specs.declared.width.Width.{Width}

@@ -1,4 +1,4 @@
--- Intervals are a sound domain, and a precise one.
+-- Interface. Intervals are a sound domain, and a precise one.
 use Rattle.std.proofs.Common.{◌≡◌, ℕ, ◌-◌, ◌^◌, true, refl, arith}
 use Rattle.std.specs.Prelude.{nat_le}
 use Rattle.std.proofs.lemmas.Bool.{leb-true, and_parts}

@@ -1,4 +1,4 @@
--- Intervals of 64-bit words, by their least and greatest member.
+-- Interface. Intervals of 64-bit words, by their least and greatest member.
 use Rattle.std.specs.Prelude.{ℕ, ◌+◌, ◌-◌, ◌*◌, ◌/◌, ◌%◌, ◌^◌, ◌≤◌, ◌<◌, min, max, Bool, true, false, ◌&&◌, ◌==◌, nat_lt, nat_le, Option, Some, None, if◌then◌else◌}
 use Rattle.std.specs.Int.{w64, leading_zeros}
 use mir.Val.{bits}

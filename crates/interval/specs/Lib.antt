@@ -1,3 +1,4 @@
+-- Internal. The modules of this folder.
 pub mod Domains
 pub mod Intervals
 pub mod IntervalLaws

@@ -172,6 +172,7 @@ fn ranged(op: AluOp, width: Width, a: Interval, b: Interval) -> Interval
 }
 
 /// Applies an operator: to single operands as to words, and else to their ends.
+/// See docs/DECISIONS.md, "Operands of 32 bits".
 pub(crate) fn alu(op: AluOp, width: Width, a: Interval, b: Interval) -> Interval
     ensures { result ≡ interval_alu op width a b }
 {

@@ -15,6 +15,7 @@ pub struct Bounds {
 }
 
 /// A test on two numbers: the branch of a conditional jump that is taken, or the one that is not.
+/// See docs/DECISIONS.md, "A refinement is of a test".
 #[derive(Clone, Copy, Debug, PartialEq, Eq)]
 pub enum Test {
     /// The condition holds.
@@ -35,6 +36,7 @@ pub struct Refined<D> {
 /// An implementation gives its operations as functions, says what a member is, and proves that the operations are
 /// sound: what they answer has each result of members as a member. So a domain may know as much or as little as it
 /// likes. Its numbers take at most 65,536 bytes each, so that states made of them fit in memory.
+/// See docs/DECISIONS.md, "Abstract numbers are small".
 pub trait Domain: Copy {
     ghost ops: { Operations Self };
 

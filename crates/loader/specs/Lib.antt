@@ -1,1 +1,2 @@
+-- Internal. The modules of this folder.
 pub mod Loads

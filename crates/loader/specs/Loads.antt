@@ -1,4 +1,4 @@
--- The results of the loader.
+-- Meaning. The results of the loader.
 use Rattle.std.specs.Prelude.{◌≡◌, ◌⊎◌, ℕ, List, Result, Ok, Err}
 use Rattle.insn.specs.Encoding.{Encodes}
 use Rattle.insn.specs.Refusal.{IsRefused}

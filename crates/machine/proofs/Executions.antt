@@ -16,7 +16,8 @@ use Rattle.semantics.specs.declared.fetching.Fetched.{Fetched}
 use Rattle.semantics.specs.declared.fetching.Fetched.TheVariants.{Begins, Inside, Past}
 use Rattle.semantics.specs.declared.fetching.Position.{Position}
 use Rattle.semantics.specs.declared.fetching.Visit.{Visit}
-use Rattle.machine.specs.Execution.{Answers, around, IsRecordOf, state_at, result_of, whole_run, GoesAhead, IsWholeRun}
+use Rattle.machine.specs.Contexts.{Answers, around}
+use Rattle.machine.specs.Execution.{IsRecordOf, state_at, result_of, whole_run, GoesAhead, IsWholeRun}
 use Rattle.machine.specs.declared.execution.StepResult.{StepResult}
 use Rattle.machine.specs.declared.execution.StepResult.TheVariants as code
 

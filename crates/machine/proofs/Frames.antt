@@ -13,9 +13,9 @@ use Rattle.machine.specs.Contents.{Contents, HoldsDatagram, datagram_of, with_ro
 use Rattle.machine.specs.FrameLaws.{datagram_inside}
 use Rattle.semantics.specs.Views.{memory_with}
 use Rattle.semantics.specs.declared.fetching.Visit.{Visit}
-use Rattle.machine.specs.Contexts.{address_of, context_of}
-use Rattle.machine.specs.Execution.{Answers, IsRecordOf, IsWholeRun}
-use Rattle.machine.specs.Tracing.{run_of, left_by, RunsOver, IsFrameRun}
+use Rattle.machine.specs.Contexts.{Answers, address_of, context_of}
+use Rattle.machine.specs.Execution.{IsRecordOf, IsWholeRun, RunsOver}
+use Rattle.machine.specs.Tracing.{run_of, left_by, IsFrameRun}
 use Rattle.attributes.specs.declared.address.Addr.{Addr}
 use Rattle.machine.specs.declared.execution.Exited.{Exited}
 use Rattle.machine.specs.declared.outcome.Stuck.{Stuck}

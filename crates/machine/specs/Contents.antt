@@ -1,4 +1,4 @@
--- The contents of a frame: a datagram between headroom and tailroom, in one area of bytes.
+-- Meaning. The contents of a frame: a datagram between headroom and tailroom, in one area of bytes.
 use Rattle.std.specs.Prelude.{◌≡◌, ℕ, ◌+◌, ◌≤◌, Bool, true, false, List, ◌++◌, All, length, take, drop, Option, None, IfSome}
 use Rattle.semantics.specs.Machine.{IsContext, surrounded, empty_stack}
 use Rattle.semantics.specs.declared.limits.TheConstants.{STACK_BYTES, HEADROOM, MAX_DATAGRAM, TAILROOM}

@@ -1,4 +1,4 @@
--- What the definitions see of a context, of an address and of the helpers.
+-- Meaning. What the definitions see of a context, of an address and of the helpers.
 use Rattle.std.specs.Prelude.{ℕ, ◌∷◌, ◌++◌, drop, replicate}
 use Rattle.insn.specs.Endian.{big_bytes, big_number}
 use Rattle.semantics.specs.Machine as machine
@@ -24,3 +24,11 @@ side_number Peer = 1
 
 abbrev pub context_of : Context → machine.Context
 context_of c = record { side = side_number c.side; source = address_record c.source; transaction_id = c.tx }
+
+-- the answers of helpers
+abbrev pub Answers : Type 0
+Answers = ℕ → ℕ → AddressRecord → ℕ × AddressRecord
+
+-- the surroundings of a run
+abbrev pub around : machine.Context → Answers → machine.Surroundings
+around c answers = record { context = c; answer = answers }

@@ -1,7 +1,7 @@
--- A run from the first registers to its end, and the memory that it leaves.
+-- Internal. A run from the first registers to its end, and the memory that it leaves.
 use Rattle.std.specs.Prelude.{◌≡◌, ℕ, ◌+◌, ◌<◌, ◌≤◌, List, length, fold, IfSome, Result, Ok, Err}
 use Rattle.insn.specs.declared.instruction.Insn.{Insn}
-use Rattle.semantics.specs.Machine.{AddressRecord, Context, IsContext, Memory, State, Surroundings, context_bytes, first_registers, no_plan}
+use Rattle.semantics.specs.Machine.{Context, IsContext, Memory, State, Surroundings, context_bytes, first_registers, no_plan}
 use Rattle.semantics.specs.declared.limits.TheConstants.{HEADROOM, TAILROOM}
 use Rattle.semantics.specs.declared.plan.Plan.{Plan}
 use Rattle.semantics.specs.Slots.{IsAt}
@@ -12,18 +12,13 @@ use Rattle.semantics.specs.declared.effect.Effect.{Effect}
 use Rattle.semantics.specs.declared.effect.Effect.TheVariants as effects
 use Rattle.semantics.specs.declared.fetching.Visit.{Visit}
 use Rattle.semantics.specs.declared.fetching.Position.{Position}
+use Rattle.machine.specs.Contexts.{Answers, around}
+use Rattle.machine.specs.Contents.{Contents}
+use Rattle.machine.specs.Tracing.{run_of, left_by}
 use Rattle.machine.specs.declared.execution.StepResult.{StepResult}
 use Rattle.machine.specs.declared.execution.StepResult.TheVariants as code
 use Rattle.machine.specs.declared.execution.Exited.{Exited}
 use Rattle.machine.specs.declared.outcome.Stuck.{Stuck}
-
--- the answers of helpers
-abbrev pub Answers : Type 0
-Answers = ℕ → ℕ → AddressRecord → ℕ × AddressRecord
-
--- the surroundings of a run
-abbrev pub around : Context → Answers → Surroundings
-around c answers = record { context = c; answer = answers }
 
 -- bytes that are the record of a context, where the datagram has a length
 pub record IsRecordOf (bytes : List ℕ) (length : ℕ) (c : Context) : Type 0 where
@@ -85,3 +80,11 @@ pub record IsWholeRun {Log : Type 0} (with_step : Log → Visit → Log) (progra
   pub memory_is : (c : Context) → IsRecordOf context memory.length c → (whole_run (around c answers) program memory).state.memory ≡ left
   pub plan_is : (c : Context) → IsRecordOf context memory.length c → (whole_run (around c answers) program memory).state.plan ≡ plan
   pub logged : (c : Context) → IsRecordOf context memory.length c → new ≡ fold with_step old (whole_run (around c answers) program memory).path
+
+-- The code's run over a started frame, with the plan that it leaves: its end, the frame as the run leaves it, and the log of
+-- a sink before and after it, where with_step adds a step to a log.
+pub record RunsOver {Log : Type 0} (with_step : Log → Visit → Log) (answers : Answers) (program : List Insn) (before after : Contents) (plan : Plan) (old new : Log) (result : Result Exited Stuck) : Type 0 where
+  pub ending : EndsAs result (run_of program before answers)
+  pub plan_is : (run_of program before answers).state.plan ≡ plan
+  pub left : after ≡ left_by before (run_of program before answers)
+  pub logged : new ≡ fold with_step old (run_of program before answers).path

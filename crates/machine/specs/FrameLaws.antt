@@ -1,4 +1,4 @@
--- Laws of a frame whose room was written, and that was started.
+-- Interface. Laws of a frame whose room was written, and that was started.
 use Rattle.std.proofs.Common.{◌≡◌, ℕ, ◌+◌, ◌≤◌, List, [], ◌∷◌, ◌++◌, length, take, drop, sym, ap, ◌∙◌, arith, append_assoc}
 use Rattle.std.proofs.lemmas.List.{length-append, length-take-le, length-drop, length-take, take_at, drop_at, take_all, take-take}
 use Rattle.semantics.specs.Machine.{headroom, surrounded}

@@ -1,4 +1,4 @@
--- The log of the storing sink.
+-- Interface. The log of the storing sink.
 use Rattle.std.specs.Prelude.{List, [], ◌∷◌, ◌++◌, length, nat_lt, if◌then◌else◌}
 use Rattle.semantics.specs.declared.fetching.Visit.{Visit}
 

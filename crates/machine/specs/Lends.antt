@@ -1,4 +1,4 @@
--- What a frame ends as, where its room is lent.
+-- Interface. What a frame ends as, where its room is lent.
 use Rattle.std.specs.Prelude.{ℕ, List}
 use Rattle.std.specs.Borrow.{Lends, Fml, MutBor, Array, u8}
 use Rattle.machine.specs.Contents.{Contents, with_room}

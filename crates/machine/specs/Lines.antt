@@ -1,4 +1,4 @@
--- The sink that writes lines.
+-- Interface. The sink that writes lines.
 use Rattle.std.specs.Prelude.{ℕ, Bool, List, Option}
 
 -- what its writer holds, where that is known, and whether the writer had a fault

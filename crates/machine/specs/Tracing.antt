@@ -1,4 +1,4 @@
--- The runs over a frame, their outcomes, and the frame as they leave it.
+-- Meaning. The runs over a frame, their outcomes, and the frame as they leave it.
 use Rattle.std.specs.Prelude.{◌≡◌, ℕ, ◌+◌, List, ◌++◌, length, drop, option_map, false, Result, Ok, Err, fold}
 use Rattle.insn.specs.declared.instruction.Insn.{Insn}
 use Rattle.semantics.specs.Machine.{Surroundings, start}
@@ -7,10 +7,7 @@ use Rattle.semantics.specs.Runs.{Run, Exited, run}
 use Rattle.semantics.specs.declared.fetching.Visit.{Visit}
 use Rattle.semantics.specs.declared.limits.TheConstants.{HEADROOM, TAILROOM}
 use Rattle.machine.specs.Contents.{Contents, datagram_of}
-use Rattle.machine.specs.Contexts.{address_of, context_of}
-use Rattle.machine.specs.Execution.{Answers, around, EndsAs}
-use Rattle.machine.specs.declared.execution.Exited as execution
-use Rattle.semantics.specs.declared.plan.Plan.{Plan}
+use Rattle.machine.specs.Contexts.{Answers, address_of, around, context_of}
 use Rattle.machine.specs.declared.outcome.Outcome.{Outcome}
 use Rattle.machine.specs.declared.outcome.Stuck.{Stuck}
 
@@ -40,14 +37,6 @@ pub record IsOutcome (o : Outcome) (r : Run) : Type 0 where
 -- the frame as a run leaves it
 abbrev pub left_by : Contents → Run → Contents
 left_by f r = record f { area = r.state.memory.bytes ++ drop (HEADROOM + TAILROOM + f.length) f.area; is_started = false; window = r.state.plan.window }
-
--- The code's run over a started frame, with the plan that it leaves: its end, the frame as the run leaves it, and the log of
--- a sink before and after it, where with_step adds a step to a log.
-pub record RunsOver {Log : Type 0} (with_step : Log → Visit → Log) (answers : Answers) (program : List Insn) (before after : Contents) (plan : Plan) (old new : Log) (result : Result execution.Exited Stuck) : Type 0 where
-  pub ending : EndsAs result (run_of program before answers)
-  pub plan_is : (run_of program before answers).state.plan ≡ plan
-  pub left : after ≡ left_by before (run_of program before answers)
-  pub logged : new ≡ fold with_step old (run_of program before answers).path
 
 -- the end of the code's run over a frame is that of the definitions' run
 abbrev pub EndsWith : Result Outcome Stuck → Run → Type 0

@@ -12,7 +12,8 @@ ghost use Rattle.semantics.specs.declared.fetching.Fetched.TheVariants.{Begins};
 ghost use Rattle.semantics.specs.declared.limits.TheConstants.{STACK_BYTES, HEADROOM, MAX_DATAGRAM, TAILROOM};
 ghost use Rattle.semantics.specs.declared.helper.TheConstants.{RECORD_BYTES};
 ghost use Rattle.semantics.specs.Views.{memory_with};
-ghost use Rattle.machine.specs.Execution.{around, state_at, result_of, GoesAhead, GoesStraight, IfGoes, IfEnds};
+ghost use Rattle.machine.specs.Contexts.{around};
+ghost use Rattle.machine.specs.Execution.{state_at, result_of, GoesAhead, GoesStraight, IfGoes, IfEnds};
 ghost use Rattle.machine.specs.Execution.{IsInside, IsRecordOf, IsContextRecord, IsWholeRun};
 
 use crate::outcome::Stuck;
@@ -102,6 +103,7 @@ fn answer(registers: &mut Registers, n: u64)
 }
 
 /// Writes the address record of an answer to the stack, if it is asked for.
+/// See docs/DECISIONS.md, "The bytes of a helper that finds nothing".
 fn put_record(stack: &mut [Option<u8>], out: Option<usize>, address: [u8; 8])
     requires { IfSome out (λ i. i + RECORD_BYTES ≤ count stack.old) }
     ensures { (bytes : List ℕ) (length : ℕ)
@@ -143,6 +145,7 @@ fn answer_change<T>(registers: &mut Registers, value: &Option<T>)
 }
 
 /// Sets the window of the plan, if there is one, and answers whether.
+/// See docs/DECISIONS.md, "A refused window leaves the plan".
 fn set_window(plan: &mut Plan, registers: &mut Registers, window: Option<(usize, usize)>)
     ensures plan { plan.new ≡ with_window plan.old window }
     ensures registers { registers.new ≡ called registers.old (plan_answer window) }

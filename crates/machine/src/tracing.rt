@@ -11,8 +11,8 @@ ghost use Rattle.semantics.specs.Views.{memory_with};
 ghost use Rattle.semantics.specs.declared.limits.TheConstants.{STACK_BYTES, HEADROOM, MAX_DATAGRAM, TAILROOM};
 ghost use Rattle.machine.specs.Contents.{datagram_of};
 ghost use Rattle.machine.specs.Contexts.{address_of, context_of};
-ghost use Rattle.machine.specs.Execution.{IsInside, IsContextRecord, IsWholeRun};
-ghost use Rattle.machine.specs.Tracing.{run_of, IsOutcome, left_by, RunsOver, IsFrameRun};
+ghost use Rattle.machine.specs.Execution.{IsInside, IsContextRecord, IsWholeRun, RunsOver};
+ghost use Rattle.machine.specs.Tracing.{run_of, IsOutcome, left_by, IsFrameRun};
 
 use crate::context::{address_of, context_record};
 use crate::execution::{Environment, Exited, execute};

@@ -9,4 +9,6 @@ mod credentials_tests;
 #[cfg(test)]
 mod replies;
 #[cfg(test)]
+mod smallest;
+#[cfg(test)]
 mod stun_tests;

@@ -1,3 +1,4 @@
+-- Internal. The modules of this folder.
 pub mod OnePeer
 pub mod Statuses
 pub mod Traces

@@ -1,4 +1,4 @@
--- Helpers that know one peer, 192.0.2.7:5000, bound to the channel 0x4001, with a permission.
+-- Internal. Helpers that know one peer, 192.0.2.7:5000, bound to the channel 0x4001, with a permission.
 use Rattle.std.specs.Prelude.{ℕ, ◌≤◌, ◌<◌, Bool, true, false, ◌&&◌, ◌==◌, [], ◌∷◌, replicate, slice_index, if◌then◌else◌}
 use Rattle.std.proofs.Common.{refl, arith}
 use Rattle.std.proofs.lemmas.List.Elements.{All-from_recursion, All-replicate}

@@ -1,4 +1,4 @@
--- What the exit status says about the program file and the data.
+-- Meaning. What the exit status says about the program file and the data.
 use Rattle.std.specs.Prelude.{◌≡◌, ◌⊎◌, ℕ, List}
 use Rattle.insn.specs.Encoding.{Encodes}
 use Rattle.insn.specs.declared.instruction.Insn.{Insn}

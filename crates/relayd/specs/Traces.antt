@@ -1,4 +1,4 @@
--- A trace of a program file over the datagram that hexadecimal digits encode.
+-- Meaning. A trace of a program file over the datagram that hexadecimal digits encode.
 use Rattle.std.specs.Prelude.{◌≡◌, ℕ, ◌≤◌, List, [], ◌∷◌, length, Option, option_copied, Ok}
 use Rattle.std.specs.Option.{unwrap_or}
 use Rattle.std.specs.Borrow.{Bor}

@@ -35,6 +35,7 @@ fn report_line<R: Print + Eprint, E: Write>(rt: &R, err: &mut E, error: &clap::E
 }
 
 /// Reads the file at `path`, prints the report on it and returns the exit status.
+/// See docs/DECISIONS.md, "A program file is read whole".
 fn report_file<R: Files + Print + AllocGlobal, E: Write>(
     rt: &R,
     err: &mut E,
@@ -62,6 +63,7 @@ fn fail_at<E: Write>(err: &mut E, action: &str, path: &str) -> u8 {
 
 /// Assembles the text in the file `input`, writes the program to the file `output` and returns the exit status. A
 /// text that is refused writes nothing.
+/// See docs/DECISIONS.md, "The output file comes last".
 fn assemble_file<R: Files + Print + AllocGlobal, E: Write>(
     rt: &R,
     err: &mut E,

@@ -182,6 +182,7 @@ fn print<W: Write>(alloc: Global, ask: Ask<'_>, file: &[u8], out: &mut W) -> Res
 /// - 3 if the output cannot be written. A trace or a text is only printed if neither the digits nor the
 ///   file are refused.
 /// - 4 if memory runs out.
+/// See docs/DECISIONS.md, "The output is flushed once".
 pub fn report<W: Write, E: Write>(
     alloc: Global,
     ask: Ask<'_>,

@@ -1,18 +1,15 @@
-//! Programs with what is printed of them, and what no contract says. Each file is named after the crate or
-//! the subject that its rows are about.
+//! Programs with what is printed of them, and what no contract says. Each file is named after the crate
+//! that its rows are about; `limit_rows` is about several.
 
 ghost use Rattle.std.specs.Prelude.{◌≡◌, ◌≤◌, true, length};
 
-mod arithmetic_rows;
-mod context_rows;
-mod helper_rows;
+mod helpers_rows;
 mod insn_rows;
 mod limit_rows;
 mod loader_rows;
-mod lookup_rows;
 mod machine_rows;
-mod memory_rows;
-mod report_rows;
+mod relayd_rows;
+mod semantics_rows;
 mod verifier_rows;
 
 use crate::reporting::{Ask, report};

@@ -17,6 +17,7 @@ use insn::{SignedSize, Size, little_endian, sign_extended};
 pub const CONTEXT_BYTES: usize = 48;
 
 /// A field of the context record.
+/// See docs/DECISIONS.md, "The context record".
 #[derive(Clone, Copy, Debug, PartialEq, Eq)]
 pub enum Field {
     /// The datagram's first byte, a pointer.

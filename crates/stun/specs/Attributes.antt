@@ -1,4 +1,4 @@
--- The attributes and values that iterators give, and the types of attributes that are understood.
+-- Meaning. The attributes and values that iterators give, and the types of attributes that are understood.
 use Rattle.std.specs.Prelude.{ℕ, ◌==◌, ◌||◌, leb, Bool, List, [], ◌∷◌, map, Option, slice_get}
 use Rattle.std.specs.List.{filter, list_any}
 use Rattle.stun.specs.Messages.{Attribute, Padded, attribute_of, up_to_integrity}

@@ -1,4 +1,4 @@
--- The words for a builder in contracts.
+-- Interface. The words for a builder in contracts.
 use Rattle.std.specs.Prelude.{◌≡◌, ℕ, ◌+◌, ◌<◌, ◌≤◌, List}
 use base.Fml.{GName}
 use Rattle.stun.specs.Messages.{Parts, with_attribute, attribute_length}

@@ -1,8 +1,6 @@
--- A buffer that begins with a message, of the length that its header has.
+-- Interface. A buffer that begins with a message, of the length that its header has.
 use Rattle.std.specs.Prelude.{◌≡◌, ℕ, ◌+◌, ◌≤◌, min, List, ◌++◌, length, take, drop}
-use Rattle.std.specs.List.{AllByRecursion-prop}
-use Rattle.std.specs.Coded.{Coded-set, coded_ℕ, coded_list, le_prop}
-use Rattle.stun.specs.Messages.{Padded, IsPadded, Parts, AreParts, parts_bytes, started, with_attribute, attribute_length}
+use Rattle.stun.specs.Messages.{Parts, parts_bytes, started, with_attribute, attribute_length}
 use Rattle.stun.specs.Refusals.{number_at}
 use Rattle.stun.specs.Reading.{parts_in, IsDatagram}
 
@@ -52,25 +50,3 @@ pub record IsAppended (kind : ℕ) (value old new : List ℕ) : Type 0 where
   pub used : used_in new ≡ used_in old + attribute_length value
   pub room : room_in new ≡ room_in old
   pub fits : used_in new ≤ room_in new
-
--- ---- each of these facts has at most one proof
-
-IsPadded-prop : (a : Padded) → IsProp (IsPadded a)
-IsPadded-prop a x y = λ i. record { kind = le_prop x.kind y.kind i; value = le_prop x.value y.value i; padding = Coded-set coded_ℕ _ _ x.padding y.padding i }
-
-AreParts-prop : (p : Parts) → IsProp (AreParts p)
-AreParts-prop p x y = λ i. record {
-  kind = le_prop x.kind y.kind i;
-  transaction_id = Coded-set coded_ℕ _ _ x.transaction_id y.transaction_id i;
-  attributes = AllByRecursion-prop IsPadded IsPadded-prop p.attributes x.attributes y.attributes i;
-  short = le_prop x.short y.short i;
-}
-
-IsDatagram-prop : (bytes : List ℕ) → IsProp (IsDatagram bytes)
-IsDatagram-prop bytes x y = λ i. record {
-  are_parts = AreParts-prop (parts_in bytes) x.are_parts y.are_parts i;
-  spelled = Coded-set (coded_list coded_ℕ) _ _ x.spelled y.spelled i;
-}
-
-pub IsBuilding-prop : (bytes : List ℕ) → IsProp (IsBuilding bytes)
-IsBuilding-prop bytes x y = λ i. record { inside = le_prop x.inside y.inside i; message = IsDatagram-prop (message_in bytes) x.message y.message i }

@@ -1,4 +1,4 @@
--- The channel message of a value in the code.
+-- Interface. The channel message of a value in the code.
 use Rattle.stun.specs.Channels.{ChannelMessage}
 use Rattle.stun.specs.declared.channel.ChannelData.{ChannelData}
 

@@ -1,4 +1,4 @@
--- ChannelData messages and their datagrams (RFC 8656, section 12.4).
+-- Meaning. ChannelData messages and their datagrams (RFC 8656, section 12.4).
 use Rattle.std.specs.Prelude.{◌≡◌, ℕ, ◌<◌, ◌≤◌, List, ◌++◌, length}
 use Rattle.byteorder.specs.Endian.{big_bytes}
 

@@ -1,4 +1,4 @@
--- The errors: their codes (RFC 8489, section 18.4; RFC 8656, section 19) and the phrases of this relay.
+-- Meaning. The errors: their codes (RFC 8489, section 18.4; RFC 8656, section 19) and the phrases of this relay.
 use Rattle.std.specs.Prelude.{ℕ, List, codes}
 use Rattle.stun.specs.declared.registry.ErrorCode.{ErrorCode}
 use Rattle.stun.specs.declared.registry.ErrorCode.TheVariants.{BadRequest, Unauthenticated, UnknownAttribute, AllocationMismatch, StaleNonce, AddressFamilyNotSupported, WrongCredentials, UnsupportedTransport, PeerAddressFamilyMismatch, InsufficientCapacity}

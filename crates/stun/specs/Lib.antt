@@ -1,3 +1,4 @@
+-- Internal. The modules of this folder.
 pub mod Registry
 pub mod Messages
 pub mod Types
@@ -9,5 +10,6 @@ pub mod Reading
 pub mod Attributes
 pub mod ChannelData
 pub mod Building
+pub mod BuildingLaws
 pub mod Builders
 pub use Rattle.byteorder.specs.Numbers

@@ -1,4 +1,4 @@
--- STUN messages and their datagrams (RFC 8489, sections 5 and 14).
+-- Meaning. STUN messages and their datagrams (RFC 8489, sections 5 and 14).
 use Rattle.std.specs.Prelude.{◌≡◌, ℕ, ◌+◌, ◌-◌, ◌%◌, ◌<◌, ◌==◌, List, [], ◌∷◌, ◌++◌, length, map, replicate, Option, Some, None, option_map, if◌then◌else◌}
 use Rattle.std.specs.List.{flat_map, AllByRecursion}
 use Rattle.byteorder.specs.Endian.{big_bytes}

@@ -1,4 +1,4 @@
--- The attributes and the parts that bytes encode, for bytes that are known to encode some.
+-- Interface. The attributes and the parts that bytes encode, for bytes that are known to encode some.
 use Rattle.std.specs.Prelude.{◌≡◌, ℕ, zero, suc, ◌+◌, ◌<◌, ◌≤◌, List, [], ◌∷◌, ◌++◌, length, take, drop, refl}
 use Rattle.std.specs.List.{AllByRecursion}
 use Rattle.std.specs.Coded.{Coded, code_by, coded×, coded_list, coded_ℕ}

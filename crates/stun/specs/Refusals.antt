@@ -1,4 +1,4 @@
--- Why a datagram encodes no message: the first refusal that applies, in their order.
+-- Meaning. Why a datagram encodes no message: the first refusal that applies, in their order.
 use Rattle.std.specs.Prelude.{◌≡◌, ◌≢◌, ℕ, ◌+◌, ◌%◌, ◌<◌, ◌≤◌, List, length, drop}
 use Rattle.std.specs.List.{AllByRecursion}
 use Rattle.byteorder.specs.Endian.{big_number}

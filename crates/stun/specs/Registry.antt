@@ -1,4 +1,4 @@
--- The numbers that the grammar itself has (RFC 8489, sections 5 and 14.5).
+-- Meaning. The numbers that the grammar itself has (RFC 8489, sections 5 and 14.5).
 use Rattle.std.specs.Prelude.{ℕ}
 use Rattle.stun.specs.declared.registry.TheConstants.{MAGIC_COOKIE}
 use Rattle.stun.specs.declared.registry.attribute.TheConstants.{MESSAGE_INTEGRITY}

@@ -120,6 +120,7 @@ pub(crate) fn length_in(buffer: &[u8]) -> usize
 }
 
 /// Returns whether a buffer has room for one more attribute after the message that it begins with.
+/// See docs/DECISIONS.md, "The room of a builder".
 #[tactic(auto, using(crate::proofs::Writing::used_is, crate::proofs::Writing::room_of_length))]
 fn has_room<V: AttributeValue>(buffer: &[u8], value: &V) -> bool
     requires { IsBuilding buffer.now }

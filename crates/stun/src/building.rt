@@ -1,6 +1,7 @@
 //! Messages built in a caller's buffer (RFC 8489, sections 5 and 14).
 
-ghost use Rattle.stun.specs.Building.{IsBuilding, IsBuilding-prop};
+ghost use Rattle.stun.specs.Building.{IsBuilding};
+ghost use Rattle.stun.specs.BuildingLaws.{IsBuilding-prop};
 
 use crate::buffer::{append, append_if_room, length_in, write_header};
 use crate::reading::HEADER_BYTES;
@@ -23,6 +24,7 @@ impl<'a> Builder<'a> {
     ghost use Rattle.std.specs.Borrow.{sem, Array, u8, RestsIfErr};
 
     /// Begins a message with no attributes over the first bytes of a buffer.
+    /// See docs/DECISIONS.md, "A proof by hand".
     ///
     /// # Errors
     /// Returns [`NoRoom`] for a buffer of less than 20 bytes, which it leaves unchanged.
@@ -53,6 +55,7 @@ impl<'a> Builder<'a> {
     }
 
     /// Returns the builder of the message that a buffer begins with.
+    /// See docs/DECISIONS.md, "Two ways to begin a message".
     pub fn resume(buffer: &'a mut [u8]) -> Builder<'a>
         requires { IsBuilding buffer.old }
         ensures bytes { bytes_of result ≡ buffer.old }
@@ -102,6 +105,7 @@ impl<'a> Builder<'a> {
 
     /// Appends an attribute where the caller knows that there is room, so that it can't fail: the 7 bytes
     /// beside the value are the type, the length and the most padding.
+    /// See docs/DECISIONS.md, "A push that cannot fail".
     pub fn push<V: AttributeValue>(&mut self, kind: u16, value: &V)
         requires room { used_of self.old + length (V.bytes value.now) + 7 ≤ room_of self.old }
         ensures appends { Appends kind (V.bytes value.now) self.old self.new }

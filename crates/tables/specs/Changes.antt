@@ -1,4 +1,4 @@
--- Changes of the rows that count at the moment of the change, or the first refusal that applies.
+-- Meaning. Changes of the rows that count at the moment of the change, or the first refusal that applies.
 use Rattle.std.specs.Prelude.{◌≡◌, ℕ, ◌+◌, Bool, List, Option, Result, Ok, Err, ok_or, slice_set, position, nat_le, is_none, if◌then◌else◌}
 use Rattle.std.specs.FinMap.{insert, empty, len}
 use Rattle.attributes.specs.Addresses.{ip_of}

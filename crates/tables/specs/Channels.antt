@@ -1,4 +1,4 @@
--- The channels of an allocation (RFC 8656, section 12).
+-- Meaning. The channels of an allocation (RFC 8656, section 12).
 use Rattle.std.specs.Prelude.{◌≢◌, ℕ, ◌≤◌, Bool, true, ◌&&◌, IsFalse, List, map, All, AllPairs, find, Option, None, Some, nat_eq}
 use Rattle.std.specs.Option.{option_map}
 use Rattle.std.specs.Ordering.{nat_cmp}

@@ -1,3 +1,4 @@
+-- Internal. The modules of this folder.
 pub mod Moments
 pub mod Addresses
 pub mod Permissions

@@ -1,4 +1,4 @@
--- Moments, in seconds.
+-- Meaning. Moments, in seconds.
 use Rattle.std.specs.Prelude.{ℕ, Bool, false, Option, None, Some, nat_lt, max, min}
 use Rattle.tables.specs.declared.moment.TheConstants.{LATEST}
 

@@ -1,4 +1,4 @@
--- The permissions of an allocation (RFC 8656, section 9).
+-- Meaning. The permissions of an allocation (RFC 8656, section 9).
 use Rattle.std.specs.Prelude.{ℕ, ◌≢◌, List, [], ◌∷◌, map, AllPairs}
 use Rattle.std.specs.Coded.{Coded, coded_ℕ, coded_list}
 use Rattle.std.specs.FinMap.{FinMap, code, get, insert, retain_keys, from_entries}

@@ -1,4 +1,4 @@
--- Permissions for a list of IP addresses depend on the addresses that differ alone.
+-- Interface. Permissions for a list of IP addresses depend on the addresses that differ alone.
 use Rattle.std.specs.Prelude.{◌≡◌, ◌≢◌, ℕ, ◌-◌, ◌<◌, ◌≤◌, Bool, nat_le, ok_or, Err, ◌⊎◌, true, false, cond, List, [], ◌∷◌, ◌++◌, length, Option, None, Some, Ok, refl}
 use Rattle.std.specs.Ordering.{eq_by_cmp}
 use Rattle.std.specs.Cmp.{Equal-is, tied_itself}

@@ -1,4 +1,4 @@
--- What a test of the values keeps of a finite map.
+-- Internal. What a test of the values keeps of a finite map.
 use Rattle.std.specs.Prelude.{◌≡◌, Bool, true, false, cond, ◌⊎◌, Option, None, Some, refl}
 use Rattle.std.specs.Cmp.{IsTotalOrder}
 use Rattle.std.specs.declared.cmp.Ordering.{Ordering}

@@ -1,4 +1,4 @@
--- Laws of the rows that count.
+-- Interface. Laws of the rows that count.
 use Rattle.std.specs.Prelude.{◌≡◌, ℕ, ◌≤◌, Bool, true, false, cond, nat_lt, List, [], ◌∷◌, slice_get, Option, None, Some, is_some, refl}
 use Rattle.std.specs.Option.{option_map, option_and_then, option_flatten}
 use Rattle.std.specs.Cmp.{IsTotalOrder, nat_cmp_total}

@@ -1,5 +1,5 @@
--- The rows of the tables, and which of them count at a moment (RFC 8656, sections 6, 9 and 12). A slot holds nothing, or an
--- allocation with its permissions and channels, which so end with it.
+-- Meaning. The rows of the tables, and which of them count at a moment (RFC 8656, sections 6, 9 and 12). A slot holds
+-- nothing, or an allocation with its permissions and channels, which so end with it.
 use Rattle.std.specs.Prelude.{ℕ, List, map, replicate, Option, None, Some, if◌then◌else◌, nat_lt}
 use Rattle.std.specs.Option.{option_and_then}
 use Rattle.tables.specs.Moments.{moment_of}

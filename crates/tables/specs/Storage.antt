@@ -1,4 +1,4 @@
--- The rows as they are stored: ended ones may be among them.
+-- Internal. The rows as they are stored: ended ones may be among them.
 use Rattle.std.specs.Prelude.{ℕ, ◌<◌, ◌≤◌, List, length, All, Option, None, Some, refl}
 use Rattle.std.specs.Coded.{Coded, code_by, coded×, coded_ℕ, coded_list, coded_option}
 use Rattle.tables.specs.Rows.{Rows}

@@ -16,6 +16,7 @@ pub const MAX_SLOTS: usize = 256;
 /// as that is smaller than its end, and its allocation counts. All memory is allocated by [`Tables::new`].
 ///
 /// The model is the rows that count at the greatest moment of the changes made. What is stored may have ended.
+/// See docs/DECISIONS.md, "The model of the tables".
 #[derive(Drop)]
 pub struct Tables {
     pub(crate) moment: u64,

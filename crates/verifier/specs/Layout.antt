@@ -1,4 +1,4 @@
--- The layout of a program: each jump leads to an instruction ahead, and the last instruction is the exit.
+-- Meaning. The layout of a program: each jump leads to an instruction ahead, and the last instruction is the exit.
 use Rattle.std.specs.Prelude.{◌≡◌, ℕ, ◌<◌, ◌⊎◌, ℤ, List, Option, Some, None, Result, Ok, Err}
 use Rattle.insn.specs.declared.instruction.Insn.{Insn}
 use Rattle.insn.specs.declared.instruction.Insn.TheVariants.{Exit}

@@ -1,3 +1,4 @@
+-- Internal. The modules of this folder.
 pub mod Layout
 pub mod Walk
 pub mod Refusing

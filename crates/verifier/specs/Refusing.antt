@@ -1,4 +1,4 @@
--- The refusals of the verifier.
+-- Meaning. The refusals of the verifier.
 use Rattle.std.specs.Prelude.{◌≡◌, ℕ, ◌+◌, ◌<◌, ◌≤◌, ◌⊎◌, List, length, Result, Err, OnOk, IfErr}
 use Rattle.insn.specs.declared.instruction.Insn.{Insn}
 use Rattle.semantics.specs.Runs.{IsSafe}

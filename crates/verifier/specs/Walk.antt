@@ -1,4 +1,4 @@
--- The walk over all paths: how it goes on from a step, and the refusals of a step.
+-- Internal. The walk over all paths: how it goes on from a step, and the refusals of a step.
 use Rattle.std.specs.Prelude.{◌≡◌, ℕ, Bool, true, false, List, [], ◌∷◌, ◌++◌, Option, Some, None, Ok, Err}
 use Rattle.insn.specs.Encoding.{Fits}
 use Rattle.insn.specs.declared.instruction.Insn.{Insn}

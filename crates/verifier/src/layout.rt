@@ -23,6 +23,7 @@ fn distance(insn: Insn) -> Option<i32>
 }
 
 /// Tests whether the instruction at a position, if it is a jump, leads to an instruction ahead.
+/// See docs/DECISIONS.md, "A jump back comes first".
 fn check_jump(code: &[Insn], at: Position, insn: Insn) -> Result<(), Reason>
     requires at { IsAt code.now at }
     requires few { slot_count code.now ≤ MAX_SLOTS }
@@ -59,6 +60,7 @@ fn check_jumps(code: &[Insn]) -> Result<(), Refusal>
 }
 
 /// Tests whether each jump leads to an instruction ahead, and whether the last instruction is the exit.
+/// See docs/DECISIONS.md, "The layout comes before memory".
 ///
 /// # Errors
 /// The first faulty jump, in the order of slots; else the last instruction, where it is no exit.

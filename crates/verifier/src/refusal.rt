@@ -4,6 +4,7 @@ use semantics::Reason;
 use thiserror::Error;
 
 /// Why a program is refused, and at which slot. It prints the code and the slot, as `V10 at 6`.
+/// See docs/DECISIONS.md, "One type of refusals".
 #[derive(Clone, Copy, Debug, PartialEq, Eq, Error)]
 pub enum Refusal {
     /// V1 to V16 and V18: the step at this slot could be stuck for this reason.

@@ -221,6 +221,7 @@ fn walk<D: Domain, L: Ledger>(
 
 /// Verifies a program, with what a numeric domain knows of its numbers: accepts it if no step of it, on any path, can be
 /// stuck. `steps` counts one for each abstract step, of which at most `budget` are made.
+/// See docs/DECISIONS.md, "Refusals need a precise domain".
 ///
 /// # Errors
 /// As [`verify`]; over a domain that isn't precise, a step may be refused at which no loose run is stuck.

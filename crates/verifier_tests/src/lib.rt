@@ -10,4 +10,6 @@ mod known;
 #[cfg(test)]
 mod steps;
 #[cfg(test)]
+mod tour;
+#[cfg(test)]
 mod verdicts;

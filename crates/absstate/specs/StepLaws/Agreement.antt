@@ -1,5 +1,5 @@
--- Abstract answers that agree with the machine's: an accepted step where the machine goes on, and a refusal where it is
--- stuck for the same reason, as far as that is claimed.
+-- Internal. Abstract answers that agree with the machine's: an accepted step where the machine goes on, and a refusal
+-- where it is stuck for the same reason, as far as that is claimed.
 use Rattle.std.proofs.Common.{◌≡◌, Result, Ok, Err, refl}
 use Rattle.semantics.specs.Fallible.{◌>>=◌}
 use Rattle.semantics.specs.declared.reason.Reason.{Reason}

@@ -1,4 +1,4 @@
--- An accepted step has as many successors as its instruction, and a refused one a reason of the steps.
+-- Internal. An accepted step has as many successors as its instruction, and a refused one a reason of the steps.
 use Rattle.std.proofs.Common.{◌≡◌, ℕ, Bool, true, false, Result, Ok, Err, refl}
 use Rattle.std.specs.Prelude.{ℤ, pos, Option, Some, None, ◌+ℤ◌, IfOk, IfErr}
 use Rattle.std.specs.Option.{ok_or}

@@ -1,4 +1,4 @@
--- Registers and operands of members, what arithmetic makes of them, and which refusals are claimed.
+-- Internal. Registers and operands of members, what arithmetic makes of them, and which refusals are claimed.
 use Rattle.std.proofs.Common.{◌≡◌, ℕ, ◌<◌, ◌^◌, Bool, true, false, ℤ, pos, ◌+ℤ◌, Option, Some, None, Result, Ok, Err, refl, sym, ap, ◌∙◌, subst, arith}
 use Rattle.std.specs.Prelude.{◌==◌, if◌then◌else◌}
 use Rattle.std.proofs.lemmas.Bool.{eqb-true}

@@ -1,4 +1,4 @@
--- What a comparison of a place with the end implies of the datagram's length.
+-- Internal. What a comparison of a place with the end implies of the datagram's length.
 use Rattle.std.proofs.Common.{◌≡◌, ℕ, Bool, true, false, ℤ, pos, ◌≤ℤ◌, ◌<ℤ◌, refl, sym, arith}
 use Rattle.std.specs.Prelude.{int_le, int_lt, Option, Some, None}
 use Rattle.std.proofs.lemmas.Int.{ints}

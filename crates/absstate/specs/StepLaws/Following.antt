@@ -1,4 +1,4 @@
--- An accepted step is followed by the machine's step from each member.
+-- Interface. An accepted step is followed by the machine's step from each member.
 use Rattle.std.proofs.Common.{◌≡◌, ℕ, ◌+◌, ◌≤◌, ℤ, List, Option, Result, Ok, Err, refl, sym, ap, ◌∙◌, subst, arith}
 use Rattle.std.specs.Prelude.{IsOk, IfOk, IfSome, Some, None}
 use Rattle.insn.specs.Codes.{byte_count}

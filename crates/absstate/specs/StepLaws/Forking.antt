@@ -1,4 +1,5 @@
--- The branches of a conditional jump: what is left of its operands, and what it implies of the datagram's length.
+-- Internal. The branches of a conditional jump: what is left of its operands, and what it implies of the datagram's
+-- length.
 use Rattle.std.proofs.Common.{◌≡◌, ℕ, ◌<◌, ◌^◌, Bool, true, false, ℤ, pos, ◌≤ℤ◌, ◌<ℤ◌, Option, Some, None, Ok, refl, sym, ap, ◌∙◌, subst, arith}
 use Rattle.std.specs.Prelude.{int_lt, not, ◌==◌, if◌then◌else◌}
 use Rattle.std.proofs.lemmas.Bool.{cond_both}

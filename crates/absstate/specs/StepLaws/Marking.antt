@@ -1,4 +1,4 @@
--- Laws of marks: a byte that is set is marked, and every other one is marked as before.
+-- Interface. Laws of marks: a byte that is set is marked, and every other one is marked as before.
 use Rattle.std.proofs.Common.{◌≡◌, ℕ, zero, suc, ◌+◌, ◌<◌, ◌≤◌, ◌^◌, ◌/◌, ◌%◌, true, length, refl, sym, ap, ◌∙◌, arith, inl, inr}
 use Rattle.std.specs.Prelude.{◌==◌, slice_index_or}
 use Rattle.std.specs.Int.{bit_at}

@@ -1,4 +1,4 @@
--- Steps keep members, and members of one abstract state are loosenings of each other.
+-- Interface. Steps keep members, and members of one abstract state are loosenings of each other.
 use Rattle.std.proofs.Common.{◌≡◌, ℕ, zero, suc, ◌+◌, ◌<◌, ◌≤◌, ◌^◌, ◌/◌, ◌%◌, Bool, true, false, ℤ, pos, ◌+ℤ◌, ◌≤ℤ◌, List, length, get_or, map, Option, Some, None, refl, sym, ap, ◌∙◌, subst, arith, All, inl, inr}
 use Rattle.std.specs.Prelude.{◌-◌, is_some, IfSome, ◌==◌, int_lt, slice_index_or, slice_set, if◌then◌else◌}
 use Rattle.std.proofs.lemmas.Int.{ints}

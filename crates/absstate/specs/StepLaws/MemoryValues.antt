@@ -1,4 +1,4 @@
--- Where the abstract step places an access, and what it lets read there, agree with the memory of a member.
+-- Internal. Where the abstract step places an access, and what it lets read there, agree with the memory of a member.
 use Rattle.std.proofs.Common.{◌≡◌, ℕ, zero, suc, ◌+◌, ◌*◌, ◌<◌, ◌≤◌, ◌^◌, Bool, true, false, ◌&&◌, ℤ, pos, negsuc, ◌+ℤ◌, ◌-ℤ◌, ◌≤ℤ◌, List, ◌∷◌, length, take, drop, get_or, Option, Some, None, Result, Ok, refl, sym, ap, ◌∙◌, subst, arith, All, drop-cons}
 use Rattle.std.specs.Prelude.{is_some, int_le, slice_index_or, unsigned_abs, if◌then◌else◌}
 use Rattle.std.specs.Option.{ok_or, option_map}

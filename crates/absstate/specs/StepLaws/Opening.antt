@@ -1,5 +1,5 @@
--- Behind an accepted step, a loose step leads from each strict member to a member of the state of each branch that can be
--- taken.
+-- Interface. Behind an accepted step, a loose step leads from each strict member to a member of the state of each
+-- branch that can be taken.
 use Rattle.std.proofs.Common.{◌≡◌, ℕ, ℤ, pos, ◌≤ℤ◌, List, Option, Some, None, Result, Ok, refl, sym, ap, ◌∙◌, subst, arith, inl, inr}
 use Rattle.std.specs.Prelude.{◌⊎◌, ◌+◌}
 use Rattle.std.proofs.lemmas.Int.{ints}

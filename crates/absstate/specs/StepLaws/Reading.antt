@@ -1,4 +1,4 @@
--- What members hold at places of memory and in the arguments of calls agrees with what is known of it.
+-- Internal. What members hold at places of memory and in the arguments of calls agrees with what is known of it.
 use Rattle.std.proofs.Common.{◌≡◌, ℕ, ◌-◌, ◌<◌, ◌^◌, ℤ, pos, ◌+ℤ◌, ◌≤ℤ◌, Option, Some, None, Ok, refl, sym, ap, subst, arith}
 use Rattle.std.specs.Prelude.{◌+◌, ◌≤◌}
 use Rattle.std.specs.Option.{ok_or}

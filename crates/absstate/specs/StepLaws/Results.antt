@@ -1,5 +1,5 @@
--- What an instruction writes to a register: a member of what is known of it, over a datagram of at most 65,507 bytes. Over a
--- longer one, which loose runs have, it differs from a member at most in a number.
+-- Internal. What an instruction writes to a register: a member of what is known of it, over a datagram of at most
+-- 65,507 bytes. Over a longer one, which loose runs have, it differs from a member at most in a number.
 use Rattle.std.proofs.Common.{◌≡◌, ℕ, ◌-◌, ◌<◌, ◌≤◌, ◌^◌, ℤ, pos, ◌+ℤ◌, Option, Some, None, Result, Ok, Err, refl, ap, arith}
 use Rattle.std.specs.Option.{ok_or}
 use Rattle.std.proofs.lemmas.Int.{ints}

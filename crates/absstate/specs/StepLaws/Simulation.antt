@@ -1,4 +1,4 @@
--- The abstract step of an instruction agrees with the machine's step at each member, over any sound domain.
+-- Internal. The abstract step of an instruction agrees with the machine's step at each member, over any sound domain.
 use Rattle.std.proofs.Common.{◌≡◌, ℕ, ℤ, pos, ◌+ℤ◌, Option, Some, None, Result, Ok, refl, sym, ap, ◌∙◌, subst, arith}
 use Rattle.std.specs.Prelude.{◌+◌, ◌≤◌, IfSome, if◌then◌else◌}
 use Rattle.std.specs.Option.{ok_or}

@@ -1,4 +1,4 @@
--- What every tagged state keeps: behind the changes of a step, and in a loosening by proper values.
+-- Internal. What every tagged state keeps: behind the changes of a step, and in a loosening by proper values.
 use Rattle.std.proofs.Common.{◌≡◌, ℕ, List, sym, ◌∙◌, subst, arith}
 use Rattle.std.proofs.lemmas.List.{length-set, get_or-set_same}
 use Rattle.std.proofs.lemmas.List.Elements.{All-set}

@@ -1,4 +1,4 @@
--- The readers of arguments: each reads a value from the tokens that spell it.
+-- Internal. The readers of arguments: each reads a value from the tokens that spell it.
 use Rattle.std.proofs.Common.{◌≡◌, ℕ, ℤ, pos, neg_ℤ, List, [], ◌∷◌, ◌++◌, Option, Some, None, inl, inr, refl, sym, ap, ◌∙◌, subst, append_assoc, true}
 use Rattle.std.specs.Prelude.{codes, bytes_eq, option_map, IfSome}
 use Rattle.std.proofs.lemmas.Bool.{cases_Bool, cond-true, cond-false}

@@ -1,4 +1,5 @@
--- Instructions: the reader of a mnemonic reads an instruction from the tokens of its arguments, and from no others.
+-- Internal. Instructions: the reader of a mnemonic reads an instruction from the tokens of its arguments, and from no
+-- others.
 use Rattle.std.proofs.Common.{◌≡◌, ℕ, ℤ, pos, List, [], ◌∷◌, ◌++◌, map, Option, Some, None, refl, sym, ap, ◌∙◌, subst}
 use Rattle.std.specs.Prelude.{codes, IfSome}
 use Rattle.std.proofs.lemmas.Option.{same_Some}

@@ -1,4 +1,4 @@
--- Mnemonics: the reader knows a word as a mnemonic where it is the mnemonic's name.
+-- Internal. Mnemonics: the reader knows a word as a mnemonic where it is the mnemonic's name.
 use Rattle.std.proofs.Common.{◌≡◌, ◌-◌, true, List, ◌++◌, length, take, drop, Some, inl, inr, refl, sym, ap, ◌∙◌, append-nil}
 use Rattle.std.specs.Prelude.{codes, bytes_eq, option_map}
 use Rattle.std.proofs.lemmas.Bool.{cases_Bool, cond-true, cond-false}

@@ -1,4 +1,4 @@
--- Numbers: the reader reads the number that a word spells.
+-- Internal. Numbers: the reader reads the number that a word spells.
 use Rattle.std.proofs.Common.{◌≡◌, ℕ, ◌+◌, ◌<◌, ◌≤◌, Bool, true, false, not, List, [], ◌∷◌, ◌++◌, length, take, drop, Some, None, inl, inr, refl, sym, ap, ◌∙◌, subst, arith}
 use Rattle.std.specs.Prelude.{codes, bytes_eq, ◌==◌, nat_le}
 use Rattle.std.specs.List.{list_all, AllByRecursion}

@@ -1,4 +1,4 @@
--- The shapes of arguments: a value that ends the tokens, or two values with a comma between them.
+-- Internal. The shapes of arguments: a value that ends the tokens, or two values with a comma between them.
 use Rattle.std.proofs.Common.{◌≡◌, List, [], ◌∷◌, ◌++◌, Option, Some, None, refl, sym, ap, ◌∙◌, subst, append-nil}
 use Rattle.std.specs.Prelude.{codes, option_map}
 use Rattle.std.proofs.lemmas.Option.{none-some, same_Some}

@@ -1,4 +1,5 @@
--- The tokens of a statement: each is a word or a sign, and none among the arguments of an instruction is a `:`.
+-- Internal. The tokens of a statement: each is a word or a sign, and none among the arguments of an instruction is a
+-- `:`.
 use Rattle.std.proofs.Common.{◌≡◌, ℕ, ℤ, false, List, [], ◌∷◌, Option, Some, None, ◌⊎◌, inl, inr, refl, sym, subst}
 use Rattle.std.specs.Prelude.{codes, bytes_eq}
 use Rattle.std.specs.List.{AllByRecursion}

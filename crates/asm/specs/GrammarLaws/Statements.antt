@@ -1,4 +1,4 @@
--- What tokens say, the reader reads from them, and nothing else.
+-- Internal. What tokens say, the reader reads from them, and nothing else.
 use Rattle.std.proofs.Common.{◌≡◌, List, [], ◌∷◌, map, Option, Some, None, refl, sym, ap, ◌∙◌, subst}
 use Rattle.std.specs.Prelude.{codes, bytes_eq, option_map}
 use Rattle.std.proofs.lemmas.Bool.{cond-false}

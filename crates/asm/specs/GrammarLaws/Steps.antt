@@ -1,4 +1,4 @@
--- Laws of a reader's steps and tests: where several steps give a value, each gives one.
+-- Internal. Laws of a reader's steps and tests: where several steps give a value, each gives one.
 use Rattle.std.proofs.Common.{◌≡◌, Bool, true, List, [], ◌∷◌, ◌++◌, Option, Some, None, ◌⊎◌, inl, inr, refl, sym, ap, ◌∙◌}
 use Rattle.std.specs.Prelude.{find, option_map, if◌then◌else◌}
 use Rattle.std.specs.List.{list_all, AllByRecursion}

@@ -1,4 +1,4 @@
--- The tokens of a line: the reader finds those that the line has.
+-- Internal. The tokens of a line: the reader finds those that the line has.
 use Rattle.std.proofs.Common.{◌≡◌, ◌≢◌, ℕ, true, false, List, [], ◌∷◌, ◌++◌, inl, inr, refl, sym, ap, ◌∙◌, subst, subst₂, append-nil, append_assoc, arith}
 use Rattle.std.specs.Prelude.{◌==◌, flat_map, if◌then◌else◌}
 use Rattle.std.specs.List.{AllByRecursion}

@@ -1,4 +1,4 @@
--- Registers and names: the reader knows a word where the grammar has it.
+-- Internal. Registers and names: the reader knows a word where the grammar has it.
 use Rattle.std.proofs.Common.{◌≡◌, ◌∙◌, ℕ, Bool, true, false, ◌&&◌, [], ◌∷◌, length, Some, None, refl, sym, subst, arith}
 use Rattle.std.specs.Prelude.{bytes_eq, nat_le}
 use Rattle.std.specs.List.{list_all}

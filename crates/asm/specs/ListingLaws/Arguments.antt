@@ -1,4 +1,4 @@
--- The arguments of a spelling: the text of an argument has the tokens that write the argument.
+-- Internal. The arguments of a spelling: the text of an argument has the tokens that write the argument.
 use Rattle.std.proofs.Common.{◌≡◌, ◌<◌, ◌^◌, ℕ, suc, ℤ, pos, negsuc, List, [], ◌∷◌, ◌++◌, map, None, inl, inr, refl, sym, ap, ◌∙◌, subst, append-nil, append_assoc}
 use Rattle.std.specs.Prelude.{codes, decimal}
 use Rattle.std.specs.Fmt.{signed_decimal}

@@ -1,4 +1,4 @@
--- The spelling of an instruction: a line that says the instruction.
+-- Internal. The spelling of an instruction: a line that says the instruction.
 use Rattle.std.proofs.Common.{Some, None, refl, subst}
 use Rattle.std.specs.Prelude.{codes}
 use Rattle.std.specs.List.{AllByRecursion}

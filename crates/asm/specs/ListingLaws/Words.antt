@@ -1,4 +1,4 @@
--- The words of a spelling: where a word ends, and the numerals of numbers that fit their fields.
+-- Internal. The words of a spelling: where a word ends, and the numerals of numbers that fit their fields.
 use Rattle.std.proofs.Common.{◌≡◌, ◌<◌, ◌^◌, ℕ, suc, ℤ, pos, negsuc, true, false, List, inl, sym, arith}
 use Rattle.std.specs.Prelude.{decimal, ◌==◌, FitsSigned}
 use Rattle.std.specs.Int.{w16, w32}

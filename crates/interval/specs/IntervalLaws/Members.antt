@@ -1,4 +1,4 @@
--- Members of intervals, and operands that are words of a width.
+-- Internal. Members of intervals, and operands that are words of a width.
 use Rattle.std.proofs.Common.{◌≡◌, ℕ, ◌-◌, ◌^◌, ◌≤◌, ◌<◌, Bool, true, false, sym, subst, arith}
 use Rattle.std.specs.Prelude.{nat_lt, if◌then◌else◌}
 use Rattle.std.proofs.lemmas.Bool.{cond_both, ltb-true, eqb-true}

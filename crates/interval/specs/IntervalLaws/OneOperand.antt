@@ -1,4 +1,4 @@
--- Operators with one operand: one lemma for each row of the table.
+-- Internal. Operators with one operand: one lemma for each row of the table.
 use Rattle.std.proofs.Common.{◌≡◌, ℕ, ◌-◌, ◌/◌, ◌%◌, ◌^◌, ◌≤◌, ◌<◌, ap, subst, ◌∙◌, arith}
 use Rattle.std.specs.Prelude.{nat_lt}
 use Rattle.std.specs.Int.{w8, w16, w32, w64, cast_signed, cast_unsigned, swap_bytes}

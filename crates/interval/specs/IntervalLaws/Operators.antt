@@ -1,4 +1,4 @@
--- Operators with two operands: one lemma for each row of the table.
+-- Internal. Operators with two operands: one lemma for each row of the table.
 use Rattle.std.proofs.Common.{◌≡◌, ℕ, ◌+◌, ◌-◌, ◌*◌, ◌/◌, ◌%◌, ◌^◌, ◌≤◌, ◌<◌, min, max, true, ◌==◌, sym, ap, subst, ◌∙◌, arith, ℤ, pos}
 use Rattle.std.specs.Prelude.{nat_lt, nat_le, ◌&&◌, if◌then◌else◌, bit_and}
 use Rattle.std.specs.Int.{w64, cast_signed, cast_unsigned, int_shr, leading_zeros}

@@ -1,4 +1,4 @@
--- Refinement: one lemma for each row of the table.
+-- Internal. Refinement: one lemma for each row of the table.
 use Rattle.std.proofs.Common.{◌≡◌, ℕ, ◌+◌, ◌-◌, ◌/◌, ◌^◌, ◌≤◌, ◌<◌, min, max, Bool, true, false, ◌==◌, Option, Some, None, refl, sym, ◌∙◌, subst, arith, ℤ, pos}
 use Rattle.std.specs.Prelude.{nat_lt, nat_le, int_lt, int_le, ◌&&◌, if◌then◌else◌}
 use Rattle.std.specs.Int.{cast_signed}

@@ -1,8 +1,9 @@
 //! Each file with the line of `verify`, which is also what `load` returns of it.
 
 use super::insn_rows::UNDECODED;
+use super::semantics_rows::{calls, context, memory};
 use super::verifier_rows::{PROGRAMS, REPEATED, Repeated};
-use super::{Verified, context_rows, expect_printed, helper_rows, memory_rows, program, reported};
+use super::{Verified, expect_printed, program, reported};
 use crate::reporting::Ask;
 use loader::load;
 use std::process::Abort;
@@ -47,10 +48,10 @@ fn expect_each_repeated<R: Abort + AllocGlobal>(rt: &R, rows: &[Repeated]) -> Re
 fn files_are_verified_and_loaded(rt: HostRuntime) -> Result<(), Fail> {
     expect_each(&rt, UNDECODED.as_slice())?;
     expect_each(&rt, PROGRAMS.as_slice())?;
-    expect_each(&rt, memory_rows::ACCEPTED.as_slice())?;
-    expect_each(&rt, memory_rows::REFUSED.as_slice())?;
-    expect_each(&rt, context_rows::ACCEPTED.as_slice())?;
-    expect_each(&rt, helper_rows::ACCEPTED.as_slice())?;
+    expect_each(&rt, memory::ACCEPTED.as_slice())?;
+    expect_each(&rt, memory::REFUSED.as_slice())?;
+    expect_each(&rt, context::ACCEPTED.as_slice())?;
+    expect_each(&rt, calls::ACCEPTED.as_slice())?;
     expect_each_repeated(&rt, REPEATED.as_slice())
 }
 

@@ -2,10 +2,13 @@
 
 ghost use Rattle.std.specs.Prelude.{◌≤◌, length};
 
+mod memory;
+
+use super::semantics_rows::{calls, context, memory as stores};
 use super::verifier_rows::PROGRAMS;
 use super::{
-    CLIENT, FIFTH_BYTE, FIFTH_BYTE_CHECKED, FOURTH_BYTE, PEER, Traced, Verified, context_rows,
-    expect_ends, expect_printed, helper_rows, memory_rows, program, reported, start_on,
+    CLIENT, FIFTH_BYTE, FIFTH_BYTE_CHECKED, FOURTH_BYTE, PEER, Traced, Verified, expect_ends,
+    expect_printed, program, reported, start_on,
 };
 use crate::reporting::Ask;
 use insn::Insn;
@@ -410,12 +413,12 @@ fn agree_on_traced<R: Abort + AllocGlobal>(rt: &R, rows: &[Traced]) -> Result<()
 #[test]
 fn a_run_and_a_trace_agree(rt: HostRuntime) -> Result<(), Fail> {
     agree_on_verified(&rt, PROGRAMS.as_slice())?;
-    agree_on_verified(&rt, memory_rows::ACCEPTED.as_slice())?;
-    agree_on_verified(&rt, context_rows::ACCEPTED.as_slice())?;
-    agree_on_verified(&rt, helper_rows::ACCEPTED.as_slice())?;
-    agree_on_traced(&rt, helper_rows::WINDOWS.as_slice())?;
-    agree_on_traced(&rt, helper_rows::DESTINATIONS.as_slice())?;
-    agree_on_traced(&rt, helper_rows::LOOKUPS.as_slice())
+    agree_on_verified(&rt, stores::ACCEPTED.as_slice())?;
+    agree_on_verified(&rt, context::ACCEPTED.as_slice())?;
+    agree_on_verified(&rt, calls::ACCEPTED.as_slice())?;
+    agree_on_traced(&rt, calls::WINDOWS.as_slice())?;
+    agree_on_traced(&rt, calls::DESTINATIONS.as_slice())?;
+    agree_on_traced(&rt, calls::LOOKUPS.as_slice())
 }
 
 #[test]

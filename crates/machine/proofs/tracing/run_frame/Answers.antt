@@ -5,8 +5,7 @@ use Rattle.semantics.specs.Views.{memory_with}
 use Rattle.semantics.specs.declared.plan.Plan.{Plan}
 use Rattle.machine.specs.Contents.{Contents, HoldsDatagram, datagram_of, area_size}
 use Rattle.machine.specs.Contexts.{context_of}
-use Rattle.machine.specs.Execution.{IsWholeRun}
-use Rattle.machine.specs.Tracing.{RunsOver}
+use Rattle.machine.specs.Execution.{IsWholeRun, RunsOver}
 use Rattle.machine.proofs.Frames.{written, datagram_length, frame_run}
 use Rattle.machine.proofs.tracing.run_frame.Goals as goal
 

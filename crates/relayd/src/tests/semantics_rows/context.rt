@@ -1,6 +1,8 @@
 //! What a program reads in the context record, and which accesses are refused.
 
-use super::{CLIENT, Faulty, PEER, Traced, Verified, expect_ends, expect_faults, outcome_of};
+use crate::tests::{
+    CLIENT, Faulty, PEER, Traced, Verified, expect_ends, expect_faults, outcome_of,
+};
 use machine::{Addr, Context, NoAllocation, Side};
 use std::process::Abort;
 use std::test::Fail;

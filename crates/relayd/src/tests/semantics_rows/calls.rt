@@ -1,7 +1,9 @@
 //! Calls of helpers: which are refused, the windows and destinations that are set, and the answers of a relay
 //! without an allocation.
 
-use super::{CLIENT, Faulty, PEER, Traced, Verified, expect_ends, expect_faults, outcome_of};
+use crate::tests::{
+    CLIENT, Faulty, PEER, Traced, Verified, expect_ends, expect_faults, outcome_of,
+};
 use machine::{MAX_DATAGRAM, NoAllocation};
 use std::process::Abort;
 use std::test::Fail;

@@ -1,7 +1,7 @@
 //! What arithmetic and comparisons compute, by the verdicts of traces.
 
-use super::{program, reported};
 use crate::reporting::Ask;
+use crate::tests::{program, reported};
 use std::process::Abort;
 use std::test::Fail;
 

@@ -1,0 +1,89 @@
+"""Compares the pages with the files that they name.
+
+Each file of definitions says in its first line whether it is meaning, interface or internal, what is meaning names
+nothing internal, and docs/DEFINITIONS.md names every file. Each file that a page links or names is there, with as many
+lines as the page says, and so is each decision that the code names.
+"""
+
+import re
+import sys
+
+from program import TOP, finish
+
+CRATES = TOP / "crates"
+KINDS = ("-- Meaning. ", "-- Interface. ", "-- Internal. ")
+LINK = re.compile(r"\]\(([^)#:]+)(?:#[^)]*)?\)")
+NAMED = re.compile(r"`((?:crates|docs|tests|examples)/[\w./-]+)`")
+USED = re.compile(r"^use Rattle\.(\w+)\.specs\.([\w.]+?)(?:\.\{|$| as )", re.MULTILINE)
+LINES = re.compile(r"`([\w./]+\.(?:antt|rt))`(?:\]\([^)]*\))? \((\d+) lines\)")
+DECISION = re.compile(r'docs/DECISIONS\.md, "([^"]*)"')
+
+
+def specs():
+    """Returns the files of definitions, but for the lists of modules."""
+    found = [path for path in CRATES.glob("*/specs/**/*.antt") if path.name != "Lib.antt"]
+    return sorted(found)
+
+
+def sources():
+    """Returns the files of code."""
+    return sorted(path for path in CRATES.glob("*/src/**/*.rt"))
+
+
+def pages():
+    """Returns the pages."""
+    return [*TOP.glob("*.md"), *(TOP / "docs").glob("*.md"), *CRATES.glob("*/README.md")]
+
+
+def failures_of_definitions():
+    """Yields the files of definitions that do not say what they are, or that the list lacks."""
+    listed = (TOP / "docs" / "DEFINITIONS.md").read_text(encoding="utf-8")
+    for path in specs():
+        name = path.relative_to(CRATES).as_posix()
+        if not path.read_text(encoding="utf-8").startswith(KINDS):
+            yield f"{name}: neither meaning nor interface nor internal"
+        if f"`{name}`" not in listed:
+            yield f"{name}: not in docs/DEFINITIONS.md"
+
+
+def failures_of_meaning():
+    """Yields the files of meaning that name an internal one."""
+    for path in specs():
+        text = path.read_text(encoding="utf-8")
+        used = [CRATES / crate / "specs" / (name.replace(".", "/") + ".antt") for crate, name in USED.findall(text)]
+        internal = [file for file in used if file.exists() and file.read_text(encoding="utf-8").startswith(KINDS[2])]
+        if text.startswith(KINDS[0]) and internal:
+            yield f"{path.relative_to(CRATES)}: names {internal[0].relative_to(CRATES)}, which is internal"
+
+
+def failures_of_pages():
+    """Yields the links and names of pages that lead nowhere."""
+    for page in pages():
+        text = page.read_text(encoding="utf-8")
+        missing = [name for name in LINK.findall(text) if not (page.parent / name).exists()]
+        missing += [name for name in NAMED.findall(text) if not (TOP / name).exists()]
+        for name, count in LINES.findall(text):
+            if len((CRATES / name).read_text(encoding="utf-8").splitlines()) != int(count):
+                yield f"{page.relative_to(TOP)}: {name} has another number of lines"
+        for name in missing:
+            yield f"{page.relative_to(TOP)}: {name} is not there"
+
+
+def failures_of_decisions():
+    """Yields the decisions that the code names and that the page lacks."""
+    titles = re.findall(r"^### (.*)$", (TOP / "docs" / "DECISIONS.md").read_text(encoding="utf-8"), re.MULTILINE)
+    for source in sources():
+        for title in DECISION.findall(source.read_text(encoding="utf-8")):
+            if title not in titles:
+                yield f"{source.relative_to(TOP)}: no decision {title}"
+
+
+def main():
+    """Compares all, and returns the exit status."""
+    cases = (failures_of_definitions, failures_of_meaning, failures_of_pages, failures_of_decisions)
+    failures = [found for case in cases for found in case()]
+    return finish(failures, f"definitions and pages: {len(specs())} files, {len(failures)} failures")
+
+
+if __name__ == "__main__":
+    sys.exit(main())
