@@ -12,7 +12,7 @@ from program import TOP, finish
 
 CRATES = TOP / "crates"
 KINDS = ("-- Meaning. ", "-- Interface. ", "-- Internal. ")
-LINK = re.compile(r"\]\(([^)#:]+)(?:#[^)]*)?\)")
+LINK = re.compile(r"\]\(([^)#:]*)(?:#([^)]*))?\)")
 NAMED = re.compile(r"`((?:crates|docs|tests|examples)/[\w./-]+)`")
 USED = re.compile(r"^use Rattle\.(\w+)\.specs\.([\w.]+?)(?:\.\{|$| as )", re.MULTILINE)
 LINES = re.compile(r"`([\w./]+\.(?:antt|rt))`(?:\]\([^)]*\))? \((\d+) lines\)")
@@ -56,11 +56,23 @@ def failures_of_meaning():
             yield f"{path.relative_to(CRATES)}: names {internal[0].relative_to(CRATES)}, which is internal"
 
 
+def anchors(page):
+    """Returns the anchors of a page's headings."""
+    headings = re.findall(r"^#+ (.*)$", page.read_text(encoding="utf-8"), re.MULTILINE)
+    return {re.sub(r"[^\w -]", "", heading.lower()).replace(" ", "-") for heading in headings}
+
+
+def leads_nowhere(page, name, anchor):
+    """Returns whether a link of a page leads to no file, or to no heading."""
+    target = page.parent / name if name else page
+    return not target.exists() or (anchor and anchor not in anchors(target))
+
+
 def failures_of_pages():
     """Yields the links and names of pages that lead nowhere."""
     for page in pages():
         text = page.read_text(encoding="utf-8")
-        missing = [name for name in LINK.findall(text) if not (page.parent / name).exists()]
+        missing = [f"{name}#{anchor}" for name, anchor in LINK.findall(text) if leads_nowhere(page, name, anchor)]
         missing += [name for name in NAMED.findall(text) if not (TOP / name).exists()]
         for name, count in LINES.findall(text):
             if len((CRATES / name).read_text(encoding="utf-8").splitlines()) != int(count):

@@ -11,7 +11,6 @@ mod look_ups;
 mod moment;
 mod permissions;
 mod refusal;
-mod steps;
 mod storage;
 
 pub use allocation::Allocation;

@@ -1,10 +1,10 @@
 //! Look-ups. None of them changes the tables.
 
 use crate::allocation::Allocation;
-use crate::steps::Steps;
 use crate::storage::Tables;
 use attributes::Addr;
 use std::sync::ledger::Ledger;
+use steps::Steps;
 
 impl Tables {
     ghost use Rattle.std.specs.Prelude.{◌≡◌, ◌≤◌, ◌<◌, IfSome, length};

@@ -3,7 +3,6 @@
 
 mod layout;
 mod refusal;
-mod steps;
 mod walk;
 
 pub use refusal::Refusal;

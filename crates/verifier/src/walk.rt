@@ -14,7 +14,6 @@ ghost use Rattle.semantics.specs.declared.fetching.Branch.TheVariants.{NotTaken,
 
 use crate::layout::check_layout;
 use crate::refusal::Refusal;
-use crate::steps::Steps;
 use absstate::{AbsState, Change, Effect};
 use insn::Insn;
 use interval::{Domain, Interval};
@@ -22,6 +21,7 @@ use semantics::{Branch, Fetched, Program};
 use std::alloc::{AllocError, Global};
 use std::marker::Model;
 use std::sync::ledger::Ledger;
+use steps::Steps;
 
 /// An abstract state at a slot, from which paths are still to be followed.
 #[derive(Debug, PartialEq, Eq)]
