@@ -5,7 +5,7 @@ use Rattle.std.specs.List.{AllZip, AllByRecursion}
 use Rattle.insn.specs.Encoding.{slots_of, slot_count}
 use Rattle.insn.specs.declared.decoding.TheConstants.{MAX_SLOTS}
 use Rattle.insn.specs.declared.instruction.Insn.{Insn}
-use Rattle.insn.specs.declared.instruction.Insn.TheVariants.{Alu, Mov, Neg, SignExtend, Swap, Jump, LongJump, JumpIf, Load, LoadSigned, Store, LoadImm, Call, Exit}
+use Rattle.insn.specs.declared.instruction.Insn.TheVariants.{Jump}
 use Rattle.asm.specs.Lines.{lines_of}
 use Rattle.asm.specs.Statements.{Name, Statement, Labelled, Instruction}
 use Rattle.asm.specs.Programs.{IsInRange, labels, IsNameAmong, AreDistinct, slots_in, place, with_distance, linked_one, linked, LacksLabel}

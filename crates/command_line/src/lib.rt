@@ -126,6 +126,7 @@ fn disassemble<'a>(alloc: Global) -> Result<Command<'a>, AllocError>
 }
 
 /// Returns the command without its subcommands. With no word behind its name it answers with the help.
+/// See docs/DECISIONS.md, "The help where no command is given".
 fn bare<'a>(alloc: Global) -> Command<'a>
     ensures { HasShape bare_command result }
 {

@@ -6,6 +6,7 @@ use std::sync::ledger::{Blank, Book, Ledger, Share};
 
 /// How many steps were made: abstract steps of the verifier, or keys that a look-up compared. It has no bytes at run
 /// time, and only `tick` changes it.
+/// See docs/DECISIONS.md, "One count".
 #[derive(Drop)]
 pub struct Steps<L: Ledger> {
     book: Book<L>,
