@@ -16,7 +16,7 @@ use stun::registry::attribute::{
     REQUESTED_TRANSPORT, USERNAME, XOR_PEER_ADDRESS,
 };
 use stun::registry::{Class, MessageType, Method};
-use stun::{Builder, read};
+use stun::{Builder, NoRoom, read};
 use tables::Tables;
 
 const CLIENT: Addr = Addr::V4 {
@@ -58,6 +58,38 @@ const IPV6_PEER: Attribute<'static> = (
 /// CHANNEL-NUMBER with 0x4001.
 const CHANNEL: Attribute<'static> = (CHANNEL_NUMBER, &[0x40, 0x01, 0, 0]);
 
+/// The attributes of a request's credentials, in their order. One that is `None` is missing.
+#[derive(Clone, Copy)]
+struct Credentials<'a> {
+    username: Option<&'a str>,
+    realm: Option<&'a str>,
+    nonce: Option<&'a str>,
+    /// The password under which MESSAGE-INTEGRITY is computed.
+    password: Option<&'a str>,
+}
+
+/// The credentials of the user `user`.
+const USER: Credentials<'static> = Credentials {
+    username: Some("user"),
+    realm: Some("relay"),
+    nonce: Some("n1"),
+    password: Some("pass"),
+};
+
+/// The credentials of the user `other`.
+const OTHER_USER: Credentials<'static> = Credentials {
+    username: Some("other"),
+    password: Some("word"),
+    ..USER
+};
+
+const NO_CREDENTIALS: Credentials<'static> = Credentials {
+    username: None,
+    realm: None,
+    nonce: None,
+    password: None,
+};
+
 /// A request of a client at a moment.
 #[derive(Clone, Copy)]
 struct Request<'a> {
@@ -67,10 +99,8 @@ struct Request<'a> {
     /// Each byte of the transaction id.
     tx: u8,
     attributes: &'a [Attribute<'a>],
-    /// The user, by name and password, whose credentials it has, behind its attributes.
-    user: Option<(&'a str, &'a str)>,
-    /// Whether the credentials have the nonce `n2`, and not the current one, `n1`.
-    has_other_nonce: bool,
+    /// Its credentials, which follow the attributes.
+    credentials: Credentials<'a>,
     /// The last bytes of addresses 192.0.2.x that follow the attributes, each as XOR-PEER-ADDRESS with the port 5000: from
     /// the first on, up to the second.
     peers: (u8, u8),
@@ -83,8 +113,7 @@ const FIRST: Request<'static> = Request {
     method: Method::Allocate,
     tx: 1,
     attributes: &[UDP],
-    user: Some(("user", "pass")),
-    has_other_nonce: false,
+    credentials: USER,
     peers: (0, 0),
 };
 
@@ -111,20 +140,29 @@ fn write(request: &Request<'_>, buffer: &mut [u8]) -> Result<usize, Fail> {
         let value = [0x00, 0x01, 0x32, 0x9a, 0xe1, 0x12, 0xa6, last ^ 0x42];
         builder.attr(XOR_PEER_ADDRESS, &value)?;
     }
-    if let Some((name, password)) = request.user {
-        builder.attr(USERNAME, name.as_bytes())?;
-        builder.attr(REALM, b"relay")?;
-        builder.attr(
-            NONCE,
-            if request.has_other_nonce {
-                b"n2"
-            } else {
-                b"n1"
-            },
-        )?;
-        sign(&mut builder, &Key::of(name, "relay", password))?;
-    }
+    write_credentials(&request.credentials, &mut builder)?;
     Ok(builder.finish())
+}
+
+/// Appends the attributes of credentials.
+fn write_credentials(
+    credentials: &Credentials<'_>,
+    builder: &mut Builder<'_>,
+) -> Result<(), NoRoom> {
+    if let Some(username) = credentials.username {
+        builder.attr(USERNAME, username.as_bytes())?;
+    }
+    if let Some(realm) = credentials.realm {
+        builder.attr(REALM, realm.as_bytes())?;
+    }
+    if let Some(nonce) = credentials.nonce {
+        builder.attr(NONCE, nonce.as_bytes())?;
+    }
+    if let Some(password) = credentials.password {
+        let username = credentials.username.unwrap_or("user");
+        sign(builder, &Key::of(username, "relay", password))?;
+    }
+    Ok(())
 }
 
 /// Returns two bytes of a slice as a number.

@@ -1,6 +1,6 @@
 //! Replies, byte for byte. The signed ones were made by Python's `hashlib` and `hmac`.
 
-use super::{CHANNEL, CLIENT, FIRST, PEER, Request, answer};
+use super::{CHANNEL, CLIENT, Credentials, FIRST, PEER, Request, USER, answer};
 use crate::configurations::config;
 use control::respond;
 use std::test::Fail;
@@ -131,7 +131,10 @@ fn signed_replies_are_these_bytes(rt: HostRuntime) -> Result<(), Fail> {
         ..FIRST
     };
     let stale = Request {
-        has_other_nonce: true,
+        credentials: Credentials {
+            nonce: Some("n2"),
+            ..USER
+        },
         ..FIRST
     };
     // the first one is repeated in between, and gets the same reply

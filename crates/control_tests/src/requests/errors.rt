@@ -1,8 +1,8 @@
 //! Each test of each method, and its error.
 
 use super::{
-    Attribute, CHANNEL, CLIENT, FIRST, IPV6_PEER, OTHER_CLIENT, OTHER_PEER, PEER, Request, Summary,
-    UDP, ask, check_error, check_success,
+    Attribute, CHANNEL, CLIENT, FIRST, IPV6_PEER, OTHER_CLIENT, OTHER_PEER, OTHER_USER, PEER,
+    Request, Summary, UDP, ask, check_error, check_success,
 };
 use crate::configurations::config;
 use std::test::Fail;
@@ -46,7 +46,7 @@ fn each_test_of_allocate_has_its_error(rt: HostRuntime) -> Result<(), Fail> {
     assert_eq!(rt; ask(&rt, &mut tables, &config, &again)?, granted);
     check_error(&rt, &mut tables, &config, &Request { tx: 2, ..FIRST }, 437)?;
     let other = Request {
-        user: Some(("other", "word")),
+        credentials: OTHER_USER,
         ..FIRST
     };
     check_error(&rt, &mut tables, &config, &other, 437)?;
@@ -117,14 +117,13 @@ fn each_test_of_the_other_methods_has_its_error(rt: HostRuntime) -> Result<(), F
         ..FIRST
     };
     check_success(&rt, &mut tables, &config, &long)?;
-    let stranger = Some(("other", "word"));
     for request in [refresh, permit, bind] {
         check_error(
             &rt,
             &mut tables,
             &config,
             &Request {
-                user: stranger,
+                credentials: OTHER_USER,
                 ..request
             },
             441,

@@ -1,6 +1,6 @@
 //! Requests with many attributes: types that are not understood, and addresses.
 
-use super::{Attribute, FIRST, Request, answer, check_error, check_success};
+use super::{Attribute, FIRST, NO_CREDENTIALS, Request, answer, check_error, check_success};
 use crate::configurations::config;
 use attributes::Addr;
 use std::test::Fail;
@@ -27,7 +27,7 @@ fn the_first_16_types_are_listed_once_each(rt: HostRuntime) -> Result<(), Fail> 
     let request = Request {
         method: Method::Binding,
         attributes: &attributes,
-        user: None,
+        credentials: NO_CREDENTIALS,
         ..FIRST
     };
     let mut out = [0; 1500];

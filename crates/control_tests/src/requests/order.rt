@@ -1,127 +1,167 @@
-//! Requests with two faults at once: the error is that of the earlier test.
+//! Requests with two faults at once: the error is that of the earlier test. Each method has its faults in the order of
+//! their tests (RFC 8489, section 9.2.4; RFC 8656, sections 7, 8, 10 and 12).
 
-use super::{Attribute, FIRST, OTHER_CLIENT, Request, UDP, ask, check_success};
+mod allocate;
+mod binding;
+mod channel_bind;
+mod create_permission;
+mod fault;
+mod refresh;
+
+use super::{Request, ask, check_success};
 use crate::configurations::config;
-use attributes::Addr;
 use control::Config;
+use fault::{Case, EARLIER, FIRST_CASE, Fault};
 use std::alloc::Global;
 use std::process::Abort;
 use std::test::Fail;
-use stun::registry::attribute::{LIFETIME, REQUESTED_ADDRESS_FAMILY, REQUESTED_TRANSPORT};
+use stun::registry::Method;
 use tables::Tables;
 
-/// A fault of an Allocate request, in the order in which they are tested.
-#[derive(Clone, Copy, Debug, PartialEq, Eq)]
-enum Fault {
-    NoCredentials,
-    OtherNonce,
-    UnknownUser,
-    UnknownAttribute,
-    HasAllocation,
-    OtherTransport,
-    OtherFamily,
-    BadLifetime,
-    NoSlot,
+/// A fault, and the code of the error of a request with that fault alone.
+#[derive(Clone, Copy, Debug)]
+struct Row {
+    fault: Fault,
+    code: u16,
 }
 
-/// A client beside the two others.
-const THIRD_CLIENT: Addr = Addr::V4 {
-    ip: [198, 51, 100, 3],
-    port: 4000,
-};
+/// The tests of the requests of a method.
+#[derive(Clone, Copy)]
+struct Tests {
+    /// A request that succeeds.
+    case: Case,
+    /// Whether the credentials are tested, before all else.
+    has_credentials: bool,
+    /// The faults in the order in which they are tested, behind those of the credentials.
+    rows: &'static [Row],
+    /// Lists of faults of which no two can stand in one request.
+    exclusive: &'static [&'static [Fault]],
+}
 
-/// The faults in their order, with the codes of their errors.
-const FAULTS: [(Fault, u16); 9] = [
-    (Fault::NoCredentials, 401),
-    (Fault::OtherNonce, 438),
-    (Fault::UnknownUser, 401),
-    (Fault::UnknownAttribute, 420),
-    (Fault::HasAllocation, 437),
-    (Fault::OtherTransport, 442),
-    (Fault::OtherFamily, 440),
-    (Fault::BadLifetime, 400),
-    (Fault::NoSlot, 508),
+/// The faults of credentials in the order in which they are tested.
+const CREDENTIALS: [Row; 7] = [
+    Row {
+        fault: Fault::NoIntegrity,
+        code: 401,
+    },
+    Row {
+        fault: Fault::NoUsername,
+        code: 400,
+    },
+    Row {
+        fault: Fault::NoRealm,
+        code: 400,
+    },
+    Row {
+        fault: Fault::NoNonce,
+        code: 400,
+    },
+    Row {
+        fault: Fault::OtherNonce,
+        code: 438,
+    },
+    Row {
+        fault: Fault::UnknownUser,
+        code: 401,
+    },
+    Row {
+        fault: Fault::WrongCode,
+        code: 401,
+    },
 ];
 
-/// REQUESTED-TRANSPORT with TCP.
-const TCP: Attribute<'static> = (REQUESTED_TRANSPORT, &[6, 0, 0, 0]);
+/// Faults of one attribute of the credentials.
+const EXCLUSIVE_CREDENTIALS: [&[Fault]; 3] = [
+    &[Fault::NoIntegrity, Fault::WrongCode],
+    &[Fault::NoUsername, Fault::UnknownUser],
+    &[Fault::NoNonce, Fault::OtherNonce],
+];
 
-/// REQUESTED-ADDRESS-FAMILY with IPv6.
-const IPV6: Attribute<'static> = (REQUESTED_ADDRESS_FAMILY, &[2, 0, 0, 0]);
+/// An attribute that is not understood is tested behind the credentials, in every method.
+const UNKNOWN_ATTRIBUTE: Row = Row {
+    fault: Fault::UnknownAttribute,
+    code: 420,
+};
 
-/// A malformed LIFETIME.
-const SHORT_LIFETIME: Attribute<'static> = (LIFETIME, &[0]);
-
-/// An attribute that isn't understood.
-const STRANGE: Attribute<'static> = (0x001a, &[]);
-
-/// An attribute that is ignored.
-const IGNORED: Attribute<'static> = (0x8022, &[]);
-
-/// Returns an attribute where there is a fault, and another one where there isn't.
-fn either(
-    faults: [Fault; 2],
-    fault: Fault,
-    with: Attribute<'static>,
-    without: Attribute<'static>,
-) -> Attribute<'static> {
-    if faults.contains(&fault) {
-        with
-    } else {
-        without
-    }
+/// Returns whether one of some lists has both faults.
+fn are_in_one(lists: &[&[Fault]], first: Fault, second: Fault) -> bool {
+    lists
+        .iter()
+        .any(|list| list.contains(&first) && list.contains(&second))
 }
 
-/// Returns the user, by name and password, of a request with two faults.
-fn user_of(faults: [Fault; 2]) -> Option<(&'static str, &'static str)> {
-    if faults.contains(&Fault::NoCredentials) {
-        None
-    } else if faults.contains(&Fault::UnknownUser) {
-        Some(("nobody", "pass"))
-    } else {
-        Some(("user", "pass"))
+/// Returns all faults of the requests of a method, in the order in which they are tested.
+fn rows_of(alloc: Global, tests: &Tests) -> Result<Vec<Row>, Fail> {
+    let mut rows = Vec::new(alloc);
+    if tests.has_credentials {
+        for row in CREDENTIALS {
+            rows.push(row)?;
+        }
     }
+    for row in tests.rows {
+        rows.push(*row)?;
+    }
+    Ok(rows)
 }
 
-/// Has an Allocate request with two faults answered, and returns the code of the error.
+/// Makes tables that have what a request with some faults meets.
+fn tables_of(
+    rt: &impl Abort,
+    alloc: Global,
+    config: &Config,
+    case: &Case,
+    faults: &[Fault],
+) -> Result<Tables, Fail> {
+    let mut tables = Tables::new(alloc, 2)?;
+    if case.has_allocation {
+        let allocate = Request {
+            now: EARLIER,
+            tx: case.allocation_tx,
+            ..case.owner_request(Method::Allocate)
+        };
+        check_success(rt, &mut tables, config, &allocate)?;
+    }
+    for fault in faults {
+        fault.fill(rt, &mut tables, config, case)?;
+    }
+    Ok(tables)
+}
+
+/// Has a request with some faults answered, and returns the code of the error, 0 for a success.
 fn code_of(
     rt: &impl Abort,
     alloc: Global,
     config: &Config,
-    faults: [Fault; 2],
+    case: Case,
+    faults: &[Fault],
 ) -> Result<u16, Fail> {
-    let mut tables = Tables::new(alloc, 2)?;
-    if faults.contains(&Fault::HasAllocation) {
-        check_success(rt, &mut tables, config, &Request { tx: 9, ..FIRST })?;
+    let mut case = case;
+    for fault in faults {
+        fault.put(&mut case);
     }
-    if faults.contains(&Fault::NoSlot) {
-        for client in [OTHER_CLIENT, THIRD_CLIENT] {
-            // one of them finds no slot where the client has an allocation
-            ask(rt, &mut tables, config, &Request { client, ..FIRST })?;
-        }
-    }
-    let attributes = [
-        either(faults, Fault::OtherTransport, TCP, UDP),
-        either(faults, Fault::UnknownAttribute, STRANGE, IGNORED),
-        either(faults, Fault::OtherFamily, IPV6, IGNORED),
-        either(faults, Fault::BadLifetime, SHORT_LIFETIME, IGNORED),
-    ];
-    let request = Request {
-        attributes: &attributes,
-        user: user_of(faults),
-        has_other_nonce: faults.contains(&Fault::OtherNonce),
-        ..FIRST
-    };
+    let mut tables = tables_of(rt, alloc, config, &case, faults)?;
+    let attributes = case.attributes();
+    let request = case.request(&attributes);
     Ok(ask(rt, &mut tables, config, &request)?.code)
 }
 
-#[test]
-fn of_two_faults_the_earlier_one_is_named(rt: HostRuntime) -> Result<(), Fail> {
-    let config = config(&rt, rt.alloc())?;
-    for (i, (first, code)) in FAULTS.iter().enumerate() {
-        for (second, _) in FAULTS.iter().skip(i) {
-            let found = code_of(&rt, rt.alloc(), &config, [*first, *second])?;
-            assert_eq!(rt; found, *code, "{first:?}, {second:?}");
+/// Checks that a request without a fault succeeds, that a request with one fault gets its error, and that a request with
+/// two gets the error of the earlier one.
+fn check_order(rt: &impl Abort, alloc: Global, tests: &Tests) -> Result<(), Fail> {
+    let config = config(rt, alloc)?;
+    assert_eq!(rt; code_of(rt, alloc, &config, tests.case, &[])?, 0);
+    let rows = rows_of(alloc, tests)?;
+    for (i, first) in rows.iter().enumerate() {
+        let code = code_of(rt, alloc, &config, tests.case, &[first.fault])?;
+        assert_eq!(rt; code, first.code, "{first:?}");
+        for second in rows.iter().skip(i + 1) {
+            let faults = [first.fault, second.fault];
+            if !are_in_one(&EXCLUSIVE_CREDENTIALS, first.fault, second.fault)
+                && !are_in_one(tests.exclusive, first.fault, second.fault)
+            {
+                let code = code_of(rt, alloc, &config, tests.case, &faults)?;
+                assert_eq!(rt; code, first.code, "{first:?}, {second:?}");
+            }
         }
     }
     Ok(())

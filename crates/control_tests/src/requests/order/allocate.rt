@@ -1,0 +1,75 @@
+//! The faults of Allocate requests (RFC 8656, section 7.2).
+
+use super::super::UDP;
+use super::{Case, FIRST_CASE, Fault, Row, Tests, UNKNOWN_ATTRIBUTE, check_order};
+use std::test::Fail;
+use stun::registry::Method;
+
+/// The faults of Allocate requests behind those of the credentials.
+const ROWS: [Row; 10] = [
+    UNKNOWN_ATTRIBUTE,
+    Row {
+        fault: Fault::OtherOwner,
+        code: 437,
+    },
+    Row {
+        fault: Fault::OtherTransaction,
+        code: 437,
+    },
+    Row {
+        fault: Fault::NoTransport,
+        code: 400,
+    },
+    Row {
+        fault: Fault::MalformedTransport,
+        code: 400,
+    },
+    Row {
+        fault: Fault::OtherTransport,
+        code: 442,
+    },
+    Row {
+        fault: Fault::MalformedFamily,
+        code: 400,
+    },
+    Row {
+        fault: Fault::OtherFamily,
+        code: 440,
+    },
+    Row {
+        fault: Fault::MalformedLifetime,
+        code: 400,
+    },
+    Row {
+        fault: Fault::NoFreeSlot,
+        code: 508,
+    },
+];
+
+/// Faults that cannot stand in one request.
+const EXCLUSIVE: [&[Fault]; 2] = [
+    // each is a fault of REQUESTED-TRANSPORT
+    &[
+        Fault::NoTransport,
+        Fault::MalformedTransport,
+        Fault::OtherTransport,
+    ],
+    // each is a fault of REQUESTED-ADDRESS-FAMILY
+    &[Fault::MalformedFamily, Fault::OtherFamily],
+];
+
+#[test]
+fn the_earlier_test_gives_the_error(rt: HostRuntime) -> Result<(), Fail> {
+    let tests = Tests {
+        case: Case {
+            method: Method::Allocate,
+            transport: UDP,
+            has_allocation: false,
+            ..FIRST_CASE
+        },
+        has_credentials: true,
+        rows: &ROWS,
+        exclusive: &EXCLUSIVE,
+    };
+    check_order(&rt, rt.alloc(), &tests)
+}

@@ -1,0 +1,60 @@
+//! The faults of CreatePermission requests (RFC 8656, section 10.2).
+
+use super::super::PEER;
+use super::{Case, FIRST_CASE, Fault, Row, Tests, UNKNOWN_ATTRIBUTE, check_order};
+use std::test::Fail;
+use stun::registry::Method;
+
+/// The faults of CreatePermission requests behind those of the credentials.
+const ROWS: [Row; 7] = [
+    UNKNOWN_ATTRIBUTE,
+    Row {
+        fault: Fault::NoAllocation,
+        code: 437,
+    },
+    Row {
+        fault: Fault::OtherOwner,
+        code: 441,
+    },
+    Row {
+        fault: Fault::NoPeer,
+        code: 400,
+    },
+    Row {
+        fault: Fault::MalformedSecondPeer,
+        code: 400,
+    },
+    Row {
+        fault: Fault::Ipv6Peer,
+        code: 443,
+    },
+    Row {
+        fault: Fault::TooManyPeers,
+        code: 508,
+    },
+];
+
+/// Faults that cannot stand in one request.
+const EXCLUSIVE: [&[Fault]; 4] = [
+    // where there is no allocation, it is nobody's
+    &[Fault::NoAllocation, Fault::OtherOwner],
+    // a request without XOR-PEER-ADDRESS has none with a fault, and not too many
+    &[Fault::NoPeer, Fault::MalformedSecondPeer],
+    &[Fault::NoPeer, Fault::Ipv6Peer],
+    &[Fault::NoPeer, Fault::TooManyPeers],
+];
+
+#[test]
+fn the_earlier_test_gives_the_error(rt: HostRuntime) -> Result<(), Fail> {
+    let tests = Tests {
+        case: Case {
+            method: Method::CreatePermission,
+            peer: PEER,
+            ..FIRST_CASE
+        },
+        has_credentials: true,
+        rows: &ROWS,
+        exclusive: &EXCLUSIVE,
+    };
+    check_order(&rt, rt.alloc(), &tests)
+}

@@ -1,0 +1,52 @@
+//! The faults of Refresh requests (RFC 8656, section 8.2).
+
+use super::{Case, FIRST_CASE, Fault, Row, Tests, UNKNOWN_ATTRIBUTE, check_order};
+use std::test::Fail;
+use stun::registry::Method;
+
+/// The faults of Refresh requests behind those of the credentials.
+const ROWS: [Row; 6] = [
+    UNKNOWN_ATTRIBUTE,
+    Row {
+        fault: Fault::NoAllocation,
+        code: 437,
+    },
+    Row {
+        fault: Fault::OtherOwner,
+        code: 441,
+    },
+    Row {
+        fault: Fault::MalformedFamily,
+        code: 400,
+    },
+    Row {
+        fault: Fault::OtherFamily,
+        code: 443,
+    },
+    Row {
+        fault: Fault::MalformedLifetime,
+        code: 400,
+    },
+];
+
+/// Faults that cannot stand in one request.
+const EXCLUSIVE: [&[Fault]; 2] = [
+    // where there is no allocation, it is nobody's
+    &[Fault::NoAllocation, Fault::OtherOwner],
+    // each is a fault of REQUESTED-ADDRESS-FAMILY
+    &[Fault::MalformedFamily, Fault::OtherFamily],
+];
+
+#[test]
+fn the_earlier_test_gives_the_error(rt: HostRuntime) -> Result<(), Fail> {
+    let tests = Tests {
+        case: Case {
+            method: Method::Refresh,
+            ..FIRST_CASE
+        },
+        has_credentials: true,
+        rows: &ROWS,
+        exclusive: &EXCLUSIVE,
+    };
+    check_order(&rt, rt.alloc(), &tests)
+}
