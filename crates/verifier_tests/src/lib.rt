@@ -2,13 +2,13 @@
 #![tactic(auto)]
 
 #[cfg(test)]
+mod abstract_steps;
+#[cfg(test)]
 mod assembly;
 #[cfg(test)]
 mod budgets;
 #[cfg(test)]
 mod known;
-#[cfg(test)]
-mod steps;
 #[cfg(test)]
 mod tour;
 #[cfg(test)]
