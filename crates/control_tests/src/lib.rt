@@ -2,8 +2,8 @@
 #![tactic(auto)]
 
 #[cfg(test)]
-mod configurations;
+mod control_configurations;
 #[cfg(test)]
-mod requests;
+mod control_requests;
 #[cfg(test)]
-mod rows;
+mod tables_rows;

@@ -2,14 +2,14 @@
 #![tactic(auto)]
 
 #[cfg(test)]
-mod abstract_steps;
+mod absstate_steps;
 #[cfg(test)]
 mod assembly;
-#[cfg(test)]
-mod budgets;
 #[cfg(test)]
 mod known;
 #[cfg(test)]
 mod tour;
 #[cfg(test)]
-mod verdicts;
+mod verifier_budgets;
+#[cfg(test)]
+mod verifier_verdicts;

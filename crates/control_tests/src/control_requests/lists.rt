@@ -1,7 +1,7 @@
 //! Requests with many attributes: types that are not understood, and addresses.
 
 use super::{Attribute, FIRST, NO_CREDENTIALS, Request, answer, check_error, check_success};
-use crate::configurations::config;
+use crate::control_configurations::config;
 use attributes::Addr;
 use std::test::Fail;
 use stun::read;

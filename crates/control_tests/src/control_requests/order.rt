@@ -9,7 +9,7 @@ mod fault;
 mod refresh;
 
 use super::{Request, ask, check_success};
-use crate::configurations::config;
+use crate::control_configurations::config;
 use control::Config;
 use fault::{Case, EARLIER, FIRST_CASE, Fault};
 use std::alloc::Global;

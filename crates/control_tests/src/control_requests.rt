@@ -5,7 +5,7 @@ mod errors;
 mod lists;
 mod order;
 
-use crate::configurations::config;
+use crate::control_configurations::config;
 use attributes::Addr;
 use control::{Config, respond};
 use credentials::{Key, sign};

@@ -1,7 +1,7 @@
 //! The fault of Binding requests (RFC 8489, section 12), whose credentials are not looked at.
 
 use super::{CREDENTIALS, Case, FIRST_CASE, Fault, Tests, UNKNOWN_ATTRIBUTE, check_order, code_of};
-use crate::configurations::config;
+use crate::control_configurations::config;
 use std::test::Fail;
 
 #[test]

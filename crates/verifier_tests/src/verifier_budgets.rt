@@ -1,7 +1,7 @@
 //! How many abstract steps are made: a budget of as many is enough, and one less is not.
 
 use crate::assembly::{BYTE, FIRST, FOURTH_BYTE, ZERO, jump_if, mov};
-use crate::verdicts::{interval_verdict, known_verdict};
+use crate::verifier_verdicts::{interval_verdict, known_verdict};
 use insn::{Condition, Insn, Operand, Reg};
 use std::alloc::Global;
 use std::process::Abort;

@@ -4,7 +4,7 @@ use super::{
     Attribute, CHANNEL, CLIENT, FIRST, IPV6_PEER, OTHER_CLIENT, OTHER_PEER, OTHER_USER, PEER,
     Request, Summary, UDP, ask, check_error, check_success,
 };
-use crate::configurations::config;
+use crate::control_configurations::config;
 use std::test::Fail;
 use stun::registry::Method;
 use stun::registry::attribute::{

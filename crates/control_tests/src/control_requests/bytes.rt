@@ -1,7 +1,7 @@
 //! Replies, byte for byte. The signed ones were made by Python's `hashlib` and `hmac`.
 
 use super::{CHANNEL, CLIENT, Credentials, FIRST, PEER, Request, USER, answer};
-use crate::configurations::config;
+use crate::control_configurations::config;
 use control::respond;
 use std::test::Fail;
 use stun::read;
