@@ -1,8 +1,8 @@
 """Runs the programs and commands of README.md and docs/, and compares what is printed of them.
 
 Each page has a folder of its own, in which examples/ stands. A block `asm` is assembled to program.bpf. A block
-`console` has lines `$ relayd WORD..` or `$ ./relayd WORD..`, each with what that command prints. The lines of a block
-`sh` are commands that have to succeed, of which `./test` runs this script.
+`console` has lines `$ relayd WORD..` or `$ ./relayd WORD..`, each with what that command prints. A block `sh` has
+commands, of which those of relayd are run and have to succeed.
 """
 
 import pathlib
@@ -38,10 +38,10 @@ def failures_of_block(kind, text, folder):
             if out + err != wanted:
                 yield f"{shlex.join(words)}: {out}{err}"
     else:
-        for line in text.splitlines():
-            program, *words = shlex.split(line)
+        for command in re.split(r"\n| && ", text.strip()):
+            program, *words = shlex.split(command)
             if program == "./relayd" and run(words, cwd=folder)[0]:
-                yield line
+                yield command
 
 
 def failures_of_page(page, blocks):
