@@ -49,23 +49,36 @@ pub fn channel_number(value: &[u8]) -> Result<u16, BadValue>
     }
 }
 
+/// Reads the first of four bytes, of which the last three are ignored.
+///
+/// # Errors
+/// Returns A1, with the kind of the value, for a value of another length.
+#[tactic(auto, using(crate::proofs::Numbers::first_read))]
+fn first_byte(value: &[u8], kind: ValueKind) -> Result<u8, BadValue>
+    ensures reads { result_ok result ≡ number_in 1 value.now }
+    ensures found { IfOk result (λ n. IsNumberValue 1 n value.now) }
+    ensures refused { IfErr result (λ e. (n : ℕ) → IsNumberValue 1 n value.now → ⊥) }
+    ensures kind { IfErr result (λ e. e.0 ≡ kind) }
+{
+    if value.len() == LENGTH {
+        Ok(value[0])
+    } else {
+        Err(BadValue(kind))
+    }
+}
+
 /// Reads REQUESTED-TRANSPORT (RFC 8656, section 18.8): a protocol number, the first of four bytes, of which
 /// the last three are ignored.
 ///
 /// # Errors
 /// Returns A1 for a value of another length.
-#[tactic(auto, using(crate::proofs::Numbers::first_read))]
 pub fn requested_transport(value: &[u8]) -> Result<u8, BadValue>
     ensures reads { result_ok result ≡ number_in 1 value.now }
     ensures found { IfOk result (λ n. IsNumberValue 1 n value.now) }
     ensures refused { IfErr result (λ e. (n : ℕ) → IsNumberValue 1 n value.now → ⊥) }
     ensures kind { IfErr result (λ e. e.0 ≡ kinds.RequestedTransport) }
 {
-    if value.len() == LENGTH {
-        Ok(value[0])
-    } else {
-        Err(BadValue(ValueKind::RequestedTransport))
-    }
+    first_byte(value, ValueKind::RequestedTransport)
 }
 
 /// Reads REQUESTED-ADDRESS-FAMILY (RFC 8656, section 18.6): a family, the first of four bytes, of which the
@@ -73,18 +86,13 @@ pub fn requested_transport(value: &[u8]) -> Result<u8, BadValue>
 ///
 /// # Errors
 /// Returns A1 for a value of another length.
-#[tactic(auto, using(crate::proofs::Numbers::first_read))]
 pub fn requested_family(value: &[u8]) -> Result<u8, BadValue>
     ensures reads { result_ok result ≡ number_in 1 value.now }
     ensures found { IfOk result (λ n. IsNumberValue 1 n value.now) }
     ensures refused { IfErr result (λ e. (n : ℕ) → IsNumberValue 1 n value.now → ⊥) }
     ensures kind { IfErr result (λ e. e.0 ≡ kinds.RequestedFamily) }
 {
-    if value.len() == LENGTH {
-        Ok(value[0])
-    } else {
-        Err(BadValue(ValueKind::RequestedFamily))
-    }
+    first_byte(value, ValueKind::RequestedFamily)
 }
 
 /// States that a value has at most one number of a width.
