@@ -28,7 +28,7 @@ REQUESTS = {
 
 def build():
     """Proves and builds the program where it is not up to date."""
-    subprocess.run(["rt", "run", "--", "empty", "0"], cwd=FOLDER, stdout=subprocess.DEVNULL, check=True)
+    subprocess.run(["rt", "run", "--", "empty", "0"], cwd=FOLDER, capture_output=True, check=True)
 
 
 def timed(method, count):
