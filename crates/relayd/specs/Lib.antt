@@ -1,4 +1,5 @@
 -- Internal. The modules of this folder.
 pub mod OnePeer
+pub mod OnePeerLaws
 pub mod Statuses
 pub mod Traces

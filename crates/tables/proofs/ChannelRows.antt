@@ -13,7 +13,8 @@ use Rattle.attributes.specs.declared.address.Addr.{Addr}
 use Rattle.attributes.specs.declared.address.Addr.TheVariants.{V4}
 use Rattle.tables.specs.Addresses.{is_same_address}
 use Rattle.tables.specs.Channels.{channels_at, number_to, may_bind, is_none_or, channels_of, AreChannels}
-use Rattle.tables.specs.Retained.{kept, get-kept_of, kept_from}
+use Rattle.tables.specs.Retained.{kept}
+use Rattle.tables.specs.RetainedLaws.{get-kept_of, kept_from}
 use Rattle.tables.specs.RowLaws.{binding_counts}
 use Rattle.tables.specs.declared.channels.Binding.{Binding}
 use Rattle.tables.specs.declared.channels.Channel.{Channel}

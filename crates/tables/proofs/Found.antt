@@ -8,7 +8,8 @@ use Rattle.attributes.specs.declared.address.Addr.{Addr}
 use Rattle.tables.specs.Moments.{moment_of, counts_at}
 use Rattle.tables.specs.Rows.{Rows, held_at, counting, rows_at}
 use Rattle.tables.specs.LookUps.{held_in, peer_of, permitted}
-use Rattle.tables.specs.Retained.{kept, get-kept_of}
+use Rattle.tables.specs.Retained.{kept}
+use Rattle.tables.specs.RetainedLaws.{get-kept_of}
 use Rattle.tables.specs.RowLaws.{ip_total, binding_counts, held_at-counts, counted}
 use Rattle.tables.specs.declared.channels.Binding.{Binding}
 use Rattle.tables.specs.declared.held.Held.{Held}

@@ -8,7 +8,7 @@ use Rattle.std.proofs.lemmas.Bool.{cases_Bool, cond-true, cond-false, false_from
 use Rattle.std.proofs.lemmas.Option.{none-some, same_Some}
 use Rattle.std.proofs.lemmas.List.{map-append, get_or_default}
 use Rattle.std.proofs.lemmas.List.Quantifiers.{position-Some, all_pairs_push}
-use Rattle.tables.specs.Retained.{none_kept}
+use Rattle.tables.specs.RetainedLaws.{none_kept}
 use Rattle.tables.proofs.Lists.{AllPairs-head, AllPairs-tail, AllPairs-set, position-None}
 
 -- two tests that do not pass together may change places

@@ -8,5 +8,6 @@ pub mod LookUps
 pub mod Changes
 pub mod Storage
 pub mod Retained
+pub mod RetainedLaws
 pub mod RowLaws
 pub mod PermitLaws

@@ -15,7 +15,7 @@ use Rattle.tables.specs.Permissions.{PermissionMap, permissions_at}
 use Rattle.tables.specs.Channels.{ChannelMap, channels_at}
 use Rattle.tables.specs.Rows.{Rows, held_at, slots_at, counting}
 use Rattle.tables.specs.LookUps.{held_in, allocation_at, peer_of, permitted}
-use Rattle.tables.specs.Retained.{get-kept_of, kept_before, kept_of_again}
+use Rattle.tables.specs.RetainedLaws.{get-kept_of, kept_before, kept_of_again}
 use Rattle.tables.specs.declared.allocation.Allocation.{Allocation}
 use Rattle.tables.specs.declared.channels.Binding.{Binding}
 use Rattle.tables.specs.declared.held.Held.{Held}
