@@ -199,6 +199,3 @@ pub fn requested<'a>(matches: &ArgMatches<'a>) -> Option<Request<'a>>
         _ => None,
     }
 }
-
-#[cfg(test)]
-mod tests;

@@ -8,6 +8,3 @@ mod refinement;
 
 pub use domain::{Bounds, Domain, Refined, Test};
 pub use interval::Interval;
-
-#[cfg(test)]
-mod tests;

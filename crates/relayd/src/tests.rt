@@ -3,6 +3,7 @@
 
 ghost use Rattle.std.specs.Prelude.{◌≡◌, ◌≤◌, true, length};
 
+mod command_line_rows;
 mod helpers_rows;
 mod insn_rows;
 mod limit_rows;

@@ -1,10 +1,12 @@
-//! Tests of the crates `absstate` and `verifier`, over intervals and over a second domain.
+//! Tests of the crates `interval`, `absstate` and `verifier`, these over intervals and over a second domain.
 #![tactic(auto)]
 
 #[cfg(test)]
 mod absstate_steps;
 #[cfg(test)]
 mod assembly;
+#[cfg(test)]
+mod interval_tables;
 #[cfg(test)]
 mod known;
 #[cfg(test)]

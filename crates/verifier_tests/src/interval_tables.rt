@@ -6,8 +6,8 @@ mod refined;
 mod signed;
 mod unary;
 
-use crate::{Domain, Interval, Refined};
 use insn::{AluOp, Width};
+use interval::{Domain, Interval, Refined};
 use std::process::Abort;
 
 /// The limits: 2^31 - 1 and 2^31, 2^32 - 1 and 2^32, 2^63 - 1 and 2^63, and 2^64 - 1.

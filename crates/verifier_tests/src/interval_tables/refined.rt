@@ -1,9 +1,9 @@
 //! What tests leave of intervals.
 
-use crate::tests::{ALL_64, Ends, L31, L32, L63, L64, S31, S32, S63, interval, left};
-use crate::{Domain, Interval, Test};
+use crate::interval_tables::{ALL_64, Ends, L31, L32, L63, L64, S31, S32, S63, interval, left};
 use insn::Condition::{SignedGe, SignedGt, SignedLe, SignedLt};
 use insn::{Condition, Width};
+use interval::{Domain, Interval, Test};
 use std::process::Abort;
 
 /// A condition, two operands, and what is left of them.

@@ -1,8 +1,8 @@
 //! Operators with one operand.
 
-use crate::tests::{ALL_32, ALL_64, L31, L32, L64, S31, S32, ends, interval};
-use crate::{Domain, Interval};
+use crate::interval_tables::{ALL_32, ALL_64, L31, L32, L64, S31, S32, ends, interval};
 use insn::{Extension, SwapOp, SwapSize, UnaryOp, Width};
+use interval::{Domain, Interval};
 
 #[test]
 fn copies_and_negations(rt: HostRuntime) {

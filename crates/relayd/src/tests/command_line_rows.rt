@@ -1,6 +1,6 @@
 //! Command lines with what they request, why they are refused, and what the help texts say.
 
-use crate::{line, requested};
+use command_line::{line, requested};
 use std::test::Fail;
 
 /// A command line and the request in it.

@@ -1,6 +1,6 @@
 //! Sums, differences, products, quotients and remainders.
 
-use crate::tests::{ALL_32, ALL_64, L31, L32, L63, L64, S31, S32, S63, check_rows};
+use crate::interval_tables::{ALL_32, ALL_64, L31, L32, L63, L64, S31, S32, S63, check_rows};
 use insn::{AluOp, Width};
 
 #[test]
