@@ -29,3 +29,6 @@ returns-in-Arsh c =
     let small : mag (int_shr c.signed-in-Arsh.result (c.args.b % c.from.result)) < 2 ^ 63 = omega (arith, mag_shr c.signed-in-Arsh.result (2 ^ (c.args.b % c.from.result)), c.signed-in-Arsh.type_inv) in
     let y = to_z-of_z w64 (int_shr c.signed-in-Arsh.result (c.args.b % c.from.result)) (record { sfits = small }) in
     search (rules, x, y, is, count, c.cast_unsigned.ensures, c.in-Arsh.is)
+
+pub returns-in-Add : goal.returns-in-Add
+returns-in-Add c = search rules

@@ -1,0 +1,5 @@
+use Rattle.std.proofs.Common.{rules}
+use Rattle.insn.proofs.word.little_endian.Goals as goal
+
+pub returns : goal.returns
+returns c = search rules
