@@ -1,4 +1,4 @@
-use Rattle.std.proofs.Common.{ap, arith}
+use Rattle.std.proofs.Common.{rules, ap, arith}
 use Rattle.std.proofs.lemmas.Result.{err_from_is_err_and}
 use Rattle.asm.specs.Lines.{lines_of}
 use Rattle.asm.specs.Scanning.{lines_left}
@@ -32,3 +32,6 @@ loop-rest-preserved c = record {
       c.loop-rest.invariant.scanned c.in-Some.is c.in_ok-line.ensures.read c.in_ok-add.ensures;
   room = omega (arith, c.in_ok-line.ensures.fewer, ap lines_left c.in-Some.is);
 }
+
+pub returns-clause-read : goal.returns-clause-read
+returns-clause-read c = search rules
