@@ -9,3 +9,6 @@ returns-in-JumpIf-clause-fits g c =
     let operand : OperandFits c.in-JumpIf.operand = search rules in
     let offset : FitsSigned w16 c.in-JumpIf.offset = search rules in
     subst Fits (sym c.in-JumpIf.is) (operand, offset)
+
+pub returns-in-Jump-clause-step : goal.returns-in-Jump-clause-step
+returns-in-Jump-clause-step c = search rules

@@ -6,3 +6,6 @@ returns-in-Imm g c = search rules
 
 pub returns-in-Reg : goal.returns-in-Reg
 returns-in-Reg g c = search rules
+
+pub returns-in-Reg-2 : goal.returns-in-Reg-2
+returns-in-Reg-2 c = search rules
