@@ -1,0 +1,11 @@
+use Rattle.std.proofs.Common.{rules}
+use Rattle.control.proofs.reply.push_details.Goals as goal
+
+pub returns-in-Unauthenticated : goal.returns-in-Unauthenticated
+returns-in-Unauthenticated c = search rules
+
+pub returns-in_default : goal.returns-in_default
+returns-in_default c = search rules
+
+pub returns-in-UnknownAttribute : goal.returns-in-UnknownAttribute
+returns-in-UnknownAttribute c = search rules
