@@ -1,97 +1,113 @@
-"""Prints what the merge gate costs, crate by crate, in processor seconds.
+"""Runs the merge gate, and prints what each crate's proof, tests and must-fail edits took, in processor seconds.
 
-It proves each crate of a fresh copy of the last commit from nothing, runs its tests and tries its
-must-fail edits, one process at a time. A figure is the user and system time of that process and of all
-that it started. With names as arguments only those crates are measured; the crates below them are built
-first, which is not counted.
+    tests/gate_cost.py [FOLDER]
 
-usage: python3 tests/gate_cost.py [NAME..]
+FOLDER is the top of the repository; a fresh clone, so that nothing else is built in it. The figures are read from the
+system while `rt ci` runs, five times a second; the last line has what the system counted in all. Behind the table
+stand the edits that took more than 20 seconds.
 """
 
+import os
 import pathlib
+import re
 import resource
 import subprocess
 import sys
-import tempfile
+import threading
+import time
+from typing import NamedTuple
 
-TOP = pathlib.Path(__file__).resolve().parent.parent
+from program import TOP
+
 STEPS = ("proof", "tests", "edits")
+TICKS = os.sysconf("SC_CLK_TCK")
+SLOW_EDIT = 20
 
 
-def dependencies(top):
-    """Returns the names of the repository's crates, each with those of its crates that it uses."""
-    lines = (line.partition("#")[0] for line in (top / "crates.txt").read_text().splitlines())
-    listed = [line.partition(":") for line in lines if line.strip()]
-    uses = {name.split()[0]: below.split() for name, _, below in listed}
-    return {name: [crate for crate in below if crate in uses] for name, below in uses.items()}
+class Process(NamedTuple):
+    """What a process works on, and the processor seconds that it has taken."""
+
+    crate: str
+    step: str
+    folder: str
+    began: int
+    seconds: float
 
 
-def lowest_first(uses):
-    """Returns the crates in an order in which each stands behind those that it uses."""
-    order = []
-    while len(order) < len(uses):
-        free = [n for n in uses if n not in order and all(b in order for b in uses[n])]
-        if not free:
-            sys.exit("crates.txt: the crates use each other in a circle")
-        order += free
-    return order
+def words_of(pid):
+    """Returns the command line of a process."""
+    return pathlib.Path(f"/proc/{pid}/cmdline").read_text(encoding="utf-8", errors="replace").split("\0")
 
 
-def all_below(uses, names):
-    """Returns the crates that these use, directly or not."""
-    below = {crate for name in names for crate in uses[name]}
-    return below | all_below(uses, below) if below else below
+def work_of(pid, parent):
+    """Returns the crate and the step that a process works on, and its folder: its parent's where it names none."""
+    words = words_of(pid)
+    if "--crate-name" not in words:
+        return parent or ("", "", "")
+    folder = os.readlink(f"/proc/{pid}/cwd")
+    is_edit = pathlib.Path(folder).name.startswith("rt-edit-")
+    step = "edits" if is_edit else "tests" if "--test" in words else "proof"
+    return words[words.index("--crate-name") + 1], step, folder
 
 
-def seconds(command, folder):
-    """Runs a command that has to succeed, and returns the processor seconds that it took."""
-    before = resource.getrusage(resource.RUSAGE_CHILDREN)
-    ran = subprocess.run(command, cwd=folder, capture_output=True, text=True, check=False)
-    after = resource.getrusage(resource.RUSAGE_CHILDREN)
-    if ran.returncode:
-        sys.exit(f"{' '.join(command)} in {folder} failed:\n{ran.stdout}{ran.stderr}")
-    return after.ru_utime - before.ru_utime + after.ru_stime - before.ru_stime
+def sample(gate, seen):
+    """Reads the time of each process below the gate's into `seen`, by its number and its start."""
+    below = {gate: ("", "", "")}
+    for pid in sorted(int(name) for name in os.listdir("/proc") if name.isdigit()):
+        try:
+            fields = pathlib.Path(f"/proc/{pid}/stat").read_text(encoding="utf-8", errors="replace").rpartition(")")[2].split()
+            parent, began = int(fields[1]), int(fields[19])
+            if parent not in below:
+                continue
+            known = seen.get((pid, began))
+            below[pid] = known[:3] if known and known.crate else work_of(pid, below[parent])
+            seen[pid, began] = Process(*below[pid], began, (int(fields[11]) + int(fields[12])) / TICKS)
+        except (OSError, ValueError):
+            continue  # it has ended
 
 
-def costs(top, name):
-    """Returns the processor seconds of a crate's proof, its tests and its edits."""
-    folder = top / "crates" / name
-    proof = seconds(["rt", "check"], folder)
-    if (folder / "src" / "lib.rt").exists():
-        proof += seconds(["rt", "lib"], folder)
-    sources = (path.read_text(encoding="utf-8") for path in folder.glob("src/**/*.rt"))
-    has_tests = any("#[test]" in source for source in sources)
-    tests = seconds(["rt", "test"], folder) if has_tests else 0
-    has_edits = any(folder.glob("must-fail/*.edit"))
-    edits = seconds(["rt", "must-fail", name], top) if has_edits else 0
-    return proof, tests, edits
+def edits_of(top, crate):
+    """Returns the names of a crate's edits in the order in which the gate tries them."""
+    return sorted(path.stem for path in (top / "crates" / crate / "must-fail").glob("*.edit"))
+
+
+def slow_edits(top, crate, processes):
+    """Returns the edits of a crate that took long, each with its seconds. The first one proves the whole crate."""
+    rooms = {}
+    for it in sorted(processes, key=lambda it: it.began):
+        rooms[it.folder] = rooms.get(it.folder, 0) + it.seconds
+    tried = list(zip(edits_of(top, crate), rooms.values()))
+    return [(seconds, f"{crate}/{edit}") for edit, seconds in tried[1:] if seconds > SLOW_EDIT]
 
 
 def show(name, figures):
     """Prints a line of the table: the figures, and their sum."""
-    print(f"{name:<14}" + "".join(f"{n:>8.0f}" for n in (*figures, sum(figures))), flush=True)
+    print(f"{name:<16}" + "".join(f"{n:>8.0f}" for n in (*figures, sum(figures))), flush=True)
 
 
 def main():
-    """Measures the crates that the arguments name, or all, and prints the table."""
-    with tempfile.TemporaryDirectory() as name:
-        top = pathlib.Path(name) / "copy"
-        subprocess.run(["git", "clone", "--quiet", TOP, top], check=True)
-        uses = dependencies(top)
-        measured = sys.argv[1:] or list(uses)
-        unknown = [crate for crate in measured if crate not in uses]
-        if unknown:
-            sys.exit(f"no such crate: {' '.join(unknown)}")
-        needed = all_below(uses, measured)
-        print(f"{'crate':<14}" + "".join(f"{step:>8}" for step in (*STEPS, "sum")))
-        rows = []
-        for crate in lowest_first(uses):
-            if crate in measured:
-                rows.append(costs(top, crate))
-                show(crate, rows[-1])
-            elif crate in needed:
-                seconds(["rt", "lib"], top / "crates" / crate)
-        show("all", [sum(column) for column in zip(*rows)])
+    """Runs the gate, and prints the table."""
+    top = pathlib.Path(sys.argv[1] if len(sys.argv) > 1 else TOP).resolve()
+    seen, begun = {}, time.monotonic()
+    with subprocess.Popen(["rt", "ci"], cwd=top) as gate:
+        ended = threading.Event()
+        threading.Thread(target=lambda: (gate.wait(), ended.set())).start()
+        while not ended.wait(0.2):
+            sample(gate.pid, seen)
+    used = resource.getrusage(resource.RUSAGE_CHILDREN)
+    by_crate = {}
+    for it in seen.values():
+        by_crate.setdefault(it.crate or "the rest", []).append(it)
+    print(f"{'crate':<16}" + "".join(f"{step:>8}" for step in (*STEPS, "sum")))
+    for crate in [*re.findall(r"^(\w+):", (top / "crates.txt").read_text(encoding="utf-8"), re.M), "the rest"]:
+        show(crate, [sum(it.seconds for it in by_crate.get(crate, []) if (it.step or "proof") == step) for step in STEPS])
+    slow = [it for crate in by_crate for it in slow_edits(top, crate, [p for p in by_crate[crate] if p.step == "edits"])]
+    for seconds, edit in sorted(slow, reverse=True):
+        print(f"{seconds:6.0f}  {edit}")
+    print(f"{len(slow)} edits took more than {SLOW_EDIT} seconds")
+    minutes = (time.monotonic() - begun) / 60
+    print(f"{minutes:.0f} minutes; {used.ru_utime / 60:.0f} processor minutes of the program, {used.ru_stime / 60:.0f} of the system")
+    sys.exit(gate.returncode)
 
 
 if __name__ == "__main__":
