@@ -1,8 +1,9 @@
 //! The fixed spelling of an instruction: one space after the mnemonic, `, ` between operands, decimal numbers, and a
 //! sign before each jump distance and each displacement. A disassembly and a trace both write it.
 
-ghost use Rattle.std.specs.Prelude.{Some};
-ghost use Rattle.insn.specs.Spelling.{width_suffix, operator_name, extension_name, order_name, bits_suffix, condition_name, size_suffix, store_name, register_name, with_sign, argument_text, argument_of, spelling};
+ghost use Rattle.std.specs.Prelude.{Some, codes};
+ghost use Rattle.insn.specs.Spelling as spelled;
+ghost use Rattle.insn.specs.Spelling.{width_suffix, operator_name, extension_name, order_name, bits_suffix, condition_name, size_suffix, store_name, register_name, with_sign, argument_text, argument_of, mnemonic, arguments, arguments_behind, spelling};
 
 use crate::condition::Condition;
 use crate::instruction::{Insn, Operand};
@@ -155,82 +156,140 @@ impl fmt::Display for Size {
     }
 }
 
+/// An address in memory: the one in a register, and a displacement from it.
+#[derive(Clone, Copy)]
+struct Address {
+    base: Reg,
+    displacement: i16,
+}
+
+impl fmt::Display for Address {
+    ghost output = { λ a. Some (argument_text (spelled.Address a.base a.displacement)) };
+
+    fn fmt<W: fmt::Write>(&self, f: &mut fmt::Formatter<W>) -> fmt::Result {
+        let base = self.base;
+        let displacement = Signed(i32::from(self.displacement));
+        write!(f, "[{base}{displacement}]")
+    }
+}
+
+/// The mnemonic of an instruction.
+#[derive(Clone, Copy)]
+struct Mnemonic<'a>(&'a Insn);
+
+impl fmt::Display for Mnemonic<'_> {
+    ghost output = { λ m. Some (mnemonic m.0.now) };
+
+    fn fmt<W: fmt::Write>(&self, f: &mut fmt::Formatter<W>) -> fmt::Result {
+        match self.0 {
+            Insn::Alu { width, op, .. } => write!(f, "{op}{width}"),
+            Insn::Mov { width, .. } => write!(f, "mov{width}"),
+            Insn::Neg { width, .. } => write!(f, "neg{width}"),
+            Insn::SignExtend { extension, .. } => write!(f, "{extension}"),
+            Insn::Swap { op, size, .. } => write!(f, "{op}{size}"),
+            Insn::Jump { .. } => f.write_str("ja"),
+            Insn::LongJump { .. } => f.write_str("ja.32"),
+            Insn::JumpIf {
+                width,
+                condition,
+                ..
+            } => write!(f, "{condition}{width}"),
+            Insn::Load { size, .. } => write!(f, "ldx{size}"),
+            Insn::LoadSigned { size, .. } => {
+                let size = size.unsigned();
+                write!(f, "ldxs{size}")
+            }
+            Insn::Store {
+                size,
+                operand: Operand::Imm(_),
+                ..
+            } => write!(f, "st{size}"),
+            Insn::Store {
+                size,
+                operand: Operand::Reg(_),
+                ..
+            } => write!(f, "stx{size}"),
+            Insn::LoadImm { .. } => f.write_str("lddw"),
+            Insn::Call { .. } => f.write_str("call"),
+            Insn::Exit => f.write_str("exit"),
+        }
+    }
+}
+
+/// The arguments of an instruction: a space before the first, and `, ` before each other one.
+#[derive(Clone, Copy)]
+struct Arguments<'a>(&'a Insn);
+
+impl fmt::Display for Arguments<'_> {
+    ghost output = { λ a. Some (arguments_behind (codes " ") (arguments a.0.now)) };
+
+    fn fmt<W: fmt::Write>(&self, f: &mut fmt::Formatter<W>) -> fmt::Result {
+        match *self.0 {
+            Insn::Alu { dst, operand, .. } | Insn::Mov { dst, operand, .. } => {
+                write!(f, " {dst}, {operand}")
+            }
+            Insn::Neg { dst, .. } | Insn::Swap { dst, .. } => write!(f, " {dst}"),
+            Insn::SignExtend { dst, src, .. } => write!(f, " {dst}, {src}"),
+            Insn::Jump { offset } => {
+                let distance = Signed(i32::from(offset));
+                write!(f, " {distance}")
+            }
+            Insn::LongJump { offset } => {
+                let distance = Signed(offset);
+                write!(f, " {distance}")
+            }
+            Insn::JumpIf {
+                dst,
+                operand,
+                offset,
+                ..
+            } => {
+                let distance = Signed(i32::from(offset));
+                write!(f, " {dst}, {operand}, {distance}")
+            }
+            Insn::Load {
+                dst,
+                base,
+                offset,
+                ..
+            }
+            | Insn::LoadSigned {
+                dst,
+                base,
+                offset,
+                ..
+            } => {
+                let address = Address {
+                    base,
+                    displacement: offset,
+                };
+                write!(f, " {dst}, {address}")
+            }
+            Insn::Store {
+                base,
+                operand,
+                offset,
+                ..
+            } => {
+                let address = Address {
+                    base,
+                    displacement: offset,
+                };
+                write!(f, " {address}, {operand}")
+            }
+            Insn::LoadImm { dst, value } => write!(f, " {dst}, {value}"),
+            Insn::Call { helper } => write!(f, " {helper}"),
+            Insn::Exit => Ok(()),
+        }
+    }
+}
+
 impl fmt::Display for Insn {
     ghost output = { λ i. Some (spelling i) };
 
     fn fmt<W: fmt::Write>(&self, f: &mut fmt::Formatter<W>) -> fmt::Result {
-        match self {
-            Insn::Alu {
-                width,
-                op,
-                dst,
-                operand,
-            } => write!(f, "{op}{width} {dst}, {operand}"),
-            Insn::Mov {
-                width,
-                dst,
-                operand,
-            } => write!(f, "mov{width} {dst}, {operand}"),
-            Insn::Neg { width, dst } => write!(f, "neg{width} {dst}"),
-            Insn::SignExtend {
-                extension,
-                dst,
-                src,
-            } => write!(f, "{extension} {dst}, {src}"),
-            Insn::Swap { op, size, dst } => write!(f, "{op}{size} {dst}"),
-            Insn::Jump { offset } => {
-                let distance = Signed(i32::from(*offset));
-                write!(f, "ja {distance}")
-            }
-            Insn::LongJump { offset } => {
-                let distance = Signed(*offset);
-                write!(f, "ja.32 {distance}")
-            }
-            Insn::JumpIf {
-                width,
-                condition,
-                dst,
-                operand,
-                offset,
-            } => {
-                let distance = Signed(i32::from(*offset));
-                write!(f, "{condition}{width} {dst}, {operand}, {distance}")
-            }
-            Insn::Load {
-                size,
-                dst,
-                base,
-                offset,
-            } => {
-                let displacement = Signed(i32::from(*offset));
-                write!(f, "ldx{size} {dst}, [{base}{displacement}]")
-            }
-            Insn::LoadSigned {
-                size,
-                dst,
-                base,
-                offset,
-            } => {
-                let size = size.unsigned();
-                let displacement = Signed(i32::from(*offset));
-                write!(f, "ldxs{size} {dst}, [{base}{displacement}]")
-            }
-            Insn::Store {
-                size,
-                base,
-                operand,
-                offset,
-            } => {
-                let class = match operand {
-                    Operand::Imm(_) => "st",
-                    Operand::Reg(_) => "stx",
-                };
-                let displacement = Signed(i32::from(*offset));
-                write!(f, "{class}{size} [{base}{displacement}], {operand}")
-            }
-            Insn::LoadImm { dst, value } => write!(f, "lddw {dst}, {value}"),
-            Insn::Call { helper } => write!(f, "call {helper}"),
-            Insn::Exit => f.write_str("exit"),
-        }
+        let mnemonic = Mnemonic(self);
+        let arguments = Arguments(self);
+        write!(f, "{mnemonic}{arguments}")
     }
 }
