@@ -1,16 +1,13 @@
 //! The program: parses the command line, reads the program file and prints the report.
 #![tactic(auto)]
 
-mod error;
-mod reporting;
 #[cfg(test)]
 mod tests;
 
 use asm::{AsmError, assemble};
 use clap::error::ErrorKind as LineErrorKind;
 use command_line::{Request, line, requested};
-use error::{ReportError, fail};
-use reporting::{Ask, report};
+use report::{Ask, ReportError, fail, report};
 use std::alloc::AllocError;
 use std::io::{self, BufWriter, Write};
 use std::process::ExitCode;

@@ -9,11 +9,11 @@ use Rattle.verifier.specs.declared.refusal.Refusal.TheVariants as verify
 use Rattle.loader.specs.Loads.{IsLoaded, IsLoadRefusal}
 use Rattle.loader.specs.declared.refusal.LoadError.{LoadError}
 use Rattle.loader.specs.declared.refusal.LoadError.TheVariants as load
-use Rattle.relayd.specs.Traces.{digits_of, HasDatagram, HasNoDatagram, TraceEnds, IsExit, IsStuck}
-use Rattle.relayd.specs.declared.error.ReportError.{ReportError}
-use Rattle.relayd.specs.declared.error.ReportError.TheVariants as error
-use Rattle.relayd.specs.declared.reporting.Ask.{Ask}
-use Rattle.relayd.specs.declared.reporting.Ask.TheVariants as ask
+use Rattle.report.specs.Traces.{digits_of, HasDatagram, HasNoDatagram, TraceEnds, IsExit, IsStuck}
+use Rattle.report.specs.declared.error.ReportError.{ReportError}
+use Rattle.report.specs.declared.error.ReportError.TheVariants as error
+use Rattle.report.specs.declared.reporting.Ask.{Ask}
+use Rattle.report.specs.declared.reporting.Ask.TheVariants as ask
 
 -- the exit status of an error: 1 for a refusal, 3 where the output fails, 4 where memory runs out
 abbrev pub status_of : ReportError → ℕ

@@ -1,7 +1,7 @@
 //! Why a report fails, with the line and the exit status of each error.
 
 ghost use Rattle.std.specs.Prelude.{◌≡◌};
-ghost use Rattle.relayd.specs.Statuses.{status_of};
+ghost use Rattle.report.specs.Statuses.{status_of};
 
 use asm::AsmError;
 use insn::DecodeError;

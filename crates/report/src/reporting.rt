@@ -4,10 +4,10 @@ ghost use Rattle.std.specs.Prelude.{◌≡◌, ◌⊎◌, ◌≤◌, ◌<◌, If
 ghost use Rattle.insn.specs.Encoding.{Encodes};
 ghost use Rattle.machine.specs.Contents.{datagram_of};
 ghost use Rattle.machine.specs.Contexts.{context_of};
-ghost use Rattle.relayd.specs.Traces.{digits_of, trace_context, EncodeDatagram, HasNoDatagram};
-ghost use Rattle.relayd.specs.declared.error.ReportError.TheVariants.{Data, Output};
-ghost use Rattle.relayd.specs.declared.reporting.Ask.TheVariants.{Disassemble, Trace, Verify};
-ghost use Rattle.relayd.specs.Statuses.{IsNoProgram, IsPrinted, IsRefusal, MayFail, Succeeds};
+ghost use Rattle.report.specs.Traces.{digits_of, trace_context, EncodeDatagram, HasNoDatagram};
+ghost use Rattle.report.specs.declared.error.ReportError.TheVariants.{Data, Output};
+ghost use Rattle.report.specs.declared.reporting.Ask.TheVariants.{Disassemble, Trace, Verify};
+ghost use Rattle.report.specs.Statuses.{IsNoProgram, IsPrinted, IsRefusal, MayFail, Succeeds};
 
 use crate::error::{ReportError, fail};
 use disasm::disassemble;

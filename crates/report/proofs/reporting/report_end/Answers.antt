@@ -1,5 +1,5 @@
 use Rattle.std.proofs.Common.{refl}
-use Rattle.relayd.proofs.reporting.report_end.Goals as goal
+use Rattle.report.proofs.reporting.report_end.Goals as goal
 
 pub returns-in-Err-clause-printed : goal.returns-in-Err-clause-printed
 returns-in-Err-clause-printed g c = rw c.in-Err.is refl

@@ -1,8 +1,8 @@
 use Rattle.std.proofs.Common.{rules, refl}
-use Rattle.relayd.specs.Statuses.{IsSafeFile}
-use Rattle.relayd.specs.declared.reporting.Ask.TheVariants.{Verify}
-use Rattle.relayd.proofs.Printed.{zero_printed}
-use Rattle.relayd.proofs.reporting.report_verify.Goals as goal
+use Rattle.report.specs.Statuses.{IsSafeFile}
+use Rattle.report.specs.declared.reporting.Ask.TheVariants.{Verify}
+use Rattle.report.proofs.Printed.{zero_printed}
+use Rattle.report.proofs.reporting.report_verify.Goals as goal
 
 pub returns-in_ok-map_err-in-Ok-clause-printed : goal.returns-in_ok-map_err-in-Ok-clause-printed
 returns-in_ok-map_err-in-Ok-clause-printed g c =

@@ -1,7 +1,7 @@
 -- The status of a printed trace, from how its run ended.
 use Rattle.std.proofs.Common.{◌≡◌, ℕ, List, Result, Ok, Err, IfOk, IfErr, MatchResult, arith, inl, inr}
-use Rattle.relayd.specs.Statuses.{IsPrinted, PrintsRefusal, Succeeds}
-use Rattle.relayd.specs.declared.reporting.Ask.{Ask}
+use Rattle.report.specs.Statuses.{IsPrinted, PrintsRefusal, Succeeds}
+use Rattle.report.specs.declared.reporting.Ask.{Ask}
 
 pub zero_printed : (asked : Ask) (file : List ℕ) (status : ℕ) → status ≡ 0 → Succeeds asked file → IsPrinted asked file status
 zero_printed asked file status is succeeds = record { range = inl is; success = λ _. succeeds; refusal = λ one. absurd (omega (arith, is, one)) }

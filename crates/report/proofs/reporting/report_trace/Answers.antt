@@ -1,8 +1,8 @@
 use Rattle.std.proofs.Common.{rules, IfOk, IfErr}
-use Rattle.relayd.specs.Statuses.{PrintsRefusal, Succeeds}
-use Rattle.relayd.specs.declared.reporting.Ask.TheVariants.{Trace}
-use Rattle.relayd.proofs.Printed.{ended_printed}
-use Rattle.relayd.proofs.reporting.report_trace.Goals as goal
+use Rattle.report.specs.Statuses.{PrintsRefusal, Succeeds}
+use Rattle.report.specs.declared.reporting.Ask.TheVariants.{Trace}
+use Rattle.report.proofs.Printed.{ended_printed}
+use Rattle.report.proofs.reporting.report_trace.Goals as goal
 
 pub returns-clause-printed : goal.returns-clause-printed
 returns-clause-printed g c =

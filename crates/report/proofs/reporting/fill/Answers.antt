@@ -6,8 +6,8 @@ use Rattle.hex.specs.declared.error.FromHexError.{FromHexError}
 use Rattle.hex.proofs.HexLemmas.{decode_of-ok, decode_sized-ok, decode_sized-twice}
 use Rattle.machine.specs.Contexts.{context_of}
 use Rattle.machine.specs.FrameLaws.{room_written, datagram_started}
-use Rattle.relayd.specs.Traces.{digits_of, HasNoDatagram}
-use Rattle.relayd.proofs.reporting.fill.Goals as goal
+use Rattle.report.specs.Traces.{digits_of, HasNoDatagram}
+use Rattle.report.proofs.reporting.fill.Goals as goal
 
 -- where decoding into a slice succeeded, the slice is what was decoded
 written : (decoded : Result (List ℕ) FromHexError) (new : List ℕ) (result : Result (Unit {0}) FromHexError) → result ≡ Ok tt → MatchResult decoded (λ bytes. (result ≡ Ok tt) × (new ≡ bytes)) (λ e. result ≡ Err e) → decoded ≡ Ok new

@@ -1,0 +1,169 @@
+//! Programs with what is printed of them, and what no contract says. Each file is named after the crate
+//! that its rows are about; `limit_rows` is about several.
+
+ghost use Rattle.std.specs.Prelude.{◌≡◌, ◌≤◌, true, length};
+
+mod helpers_rows;
+mod insn_rows;
+mod limit_rows;
+mod loader_rows;
+mod machine_rows;
+mod report_rows;
+mod semantics_rows;
+mod verifier_rows;
+
+use crate::reporting::{Ask, report};
+use loader::load;
+use machine::{Addr, Context, Frame, Helpers, MAX_DATAGRAM, Outcome, Side, run};
+use std::process::Abort;
+use std::test::Fail;
+
+/// Decodes the bytes of a program from hexadecimal digits, with blanks between the slots.
+pub fn program<R: AllocGlobal>(rt: &R, slots: &str) -> Result<Vec<u8>, Fail> {
+    let mut digits = Vec::new(rt.alloc());
+    for slot in slots.split_whitespace() {
+        digits.extend_from_slice(slot.as_bytes())?;
+    }
+    Ok(hex::decode(rt.alloc(), digits.as_slice())?)
+}
+
+/// What a report prints to each stream, and its status.
+#[derive(Drop)]
+pub struct Printed {
+    pub status: u8,
+    pub out: Vec<u8>,
+    pub err: Vec<u8>,
+}
+
+/// Returns the report on a program file.
+pub fn reported<R: AllocGlobal>(rt: &R, ask: Ask<'_>, file: &[u8]) -> Printed {
+    let mut out = Vec::new(rt.alloc());
+    let mut err = Vec::new(rt.alloc());
+    let status = report(rt.alloc(), ask, file, &mut out, &mut err);
+    Printed { status, out, err }
+}
+
+/// Compares what a report prints to each stream, and its status.
+pub fn expect_printed<R: Abort + AllocGlobal>(
+    rt: &R,
+    report: &Printed,
+    out: &str,
+    err: &str,
+    status: u8,
+) {
+    assert_eq!(rt; report.out.as_slice(), out.as_bytes(), "{out}{err}");
+    assert_eq!(rt; report.err.as_slice(), err.as_bytes(), "{out}{err}");
+    assert_eq!(rt; report.status, status, "{out}{err}");
+}
+
+/// A program file, the line of `verify` on it, and the status.
+#[derive(Clone, Copy)]
+pub struct Verified {
+    pub slots: &'static str,
+    pub line: &'static str,
+    pub status: u8,
+}
+
+/// A program file and data, what `trace` prints of them in the end, and the status.
+#[derive(Clone, Copy)]
+pub struct Traced {
+    pub slots: &'static str,
+    pub hex: &'static str,
+    pub end: &'static str,
+    pub status: u8,
+}
+
+/// Traces each row, and compares the end of what is printed, and the status.
+pub fn expect_ends<R: Abort + AllocGlobal>(rt: &R, rows: &[Traced]) -> Result<(), Fail> {
+    for row in rows {
+        let file = program(rt, row.slots)?;
+        let (slots, end) = (row.slots, row.end);
+        let report = reported(rt, Ask::Trace { hex: Some(row.hex) }, &file);
+        assert!(rt; report.out.ends_with(end.as_bytes()), "{slots} {end}");
+        assert_eq!(rt; report.status, row.status, "{slots} {end}");
+        assert_eq!(rt; report.err.len(), 0, "{slots} {end}");
+    }
+    Ok(())
+}
+
+/// A program with a fault: it is refused for it, and its trace over the empty datagram is stuck there.
+#[derive(Clone, Copy)]
+pub struct Faulty {
+    pub slots: &'static str,
+    pub fault: &'static str,
+}
+
+/// Verifies and traces each row, and compares what is printed of its fault, and the status.
+pub fn expect_faults<R: Abort + AllocGlobal>(rt: &R, rows: &[Faulty]) -> Result<(), Fail> {
+    for row in rows {
+        let file = program(rt, row.slots)?;
+        let (slots, fault) = (row.slots, row.fault);
+        let refused = format!(in rt.alloc(); "refused {fault}\n")?;
+        expect_printed(rt, &reported(rt, Ask::Verify, &file), &refused, "", 1);
+        let stuck = format!(in rt.alloc(); "\nstuck {fault}\n")?;
+        let report = reported(rt, Ask::Trace { hex: None }, &file);
+        assert!(rt; report.out.ends_with(stuck.as_bytes()), "{slots} {fault}");
+        assert_eq!(rt; report.status, 1, "{slots} {fault}");
+        assert_eq!(rt; report.err.len(), 0, "{slots} {fault}");
+    }
+    Ok(())
+}
+
+/// A datagram from a client at 192.0.2.7:5000, in a transaction with the bytes 1 to 12.
+pub const CLIENT: Context = Context {
+    side: Side::Client,
+    source: Addr::V4 {
+        ip: [192, 0, 2, 7],
+        port: 5000,
+    },
+    tx: [1, 2, 3, 4, 5, 6, 7, 8, 9, 10, 11, 12],
+};
+
+/// A datagram from a peer at 127.0.0.1:9, without a transaction.
+pub const PEER: Context = Context {
+    side: Side::Peer,
+    source: Addr::V4 {
+        ip: [127, 0, 0, 1],
+        port: 9,
+    },
+    tx: [0; 12],
+};
+
+/// Starts a frame on a datagram.
+pub fn start_on(frame: &mut Frame, context: &Context, datagram: &[u8])
+    requires { length datagram.now ≤ 65507 }
+    ensures { frame.new.is_started ≡ true }
+{
+    let n = datagram.len();
+    let (room, _) = frame.area().split_at_mut(n);
+    room.copy_from_slice(datagram);
+    frame.start(context, n);
+}
+
+/// Loads a program and runs it over a datagram.
+pub fn outcome_of<R: Abort + AllocGlobal, H: Helpers>(
+    rt: &R,
+    slots: &str,
+    context: &Context,
+    datagram: &[u8],
+    helpers: &H,
+) -> Result<Outcome, Fail> {
+    assert!(rt; datagram.len() <= MAX_DATAGRAM);
+    let file = program(rt, slots)?;
+    let loaded = load(rt.alloc(), &file)?;
+    let mut frame = Frame::new(rt.alloc())?;
+    start_on(&mut frame, context, datagram);
+    Ok(run(loaded.program(), &mut frame, helpers))
+}
+
+/// The program that checks four bytes and exits with the fourth.
+pub const FOURTH_BYTE: &str = "7912000000000000 7913080000000000 bf24000000000000 0704000004000000 \
+     b700000000000000 2d34010000000000 7120030000000000 9500000000000000";
+
+/// The same, exiting with the fifth byte, which was not checked.
+pub const FIFTH_BYTE: &str = "7912000000000000 7913080000000000 bf24000000000000 0704000004000000 \
+     b700000000000000 2d34010000000000 7120040000000000 9500000000000000";
+
+/// The same, with `jge`, which does check it.
+pub const FIFTH_BYTE_CHECKED: &str = "7912000000000000 7913080000000000 bf24000000000000 \
+     0704000004000000 b700000000000000 3d34010000000000 7120040000000000 9500000000000000";
