@@ -1,4 +1,5 @@
 use Rattle.std.proofs.Common.{◌≡◌, nat_lt, length, filter, take, ap, ◌∙◌, sym, subst, arith}
+use Rattle.std.proofs.lemmas.Grind.{common_steps}
 use Rattle.std.proofs.lemmas.List.{take_all, length-take}
 use Rattle.tables.specs.Channels.{AreChannels, channels_at, channels_of}
 use Rattle.tables.proofs.Lists.{length-filter-le}
@@ -20,3 +21,6 @@ invariant_of-result c = subst AreChannels (sym (left c)) (filtered_are c.args.mo
 
 pub returns : goal.returns
 returns c = ap channels_of (left c) ∙ filtered c.args.moment c.self.inside.rows.items c.self.invariant ∙ ap (channels_at c.args.moment) c.self.view_is
+
+pub loop-row-preserved : goal.loop-row-preserved
+loop-row-preserved c = grind (arith, common_steps)

@@ -1,4 +1,5 @@
 use Rattle.std.proofs.Common.{◌≡◌, nat_lt, length, filter, take, ap, ◌∙◌, sym, subst, arith, ◌≤◌}
+use Rattle.std.proofs.lemmas.Grind.{common_steps}
 use Rattle.std.specs.FinMap.{len}
 use Rattle.std.proofs.lemmas.List.{take_all, length-take}
 use Rattle.tables.specs.Permissions.{ArePermissions, permissions_at, permissions_of}
@@ -28,3 +29,6 @@ pub returns-clause-few : goal.returns-clause-few
 returns-clause-few c =
     let few : length c.self.inside.rows.items ≤ MAX_PERMISSIONS = omega (arith, ap length c.as_slice-row-items.ensures.value, c.as_slice-row-items.ensures.fits) in
     subst (λ rows. len (permissions_of rows) ≤ MAX_PERMISSIONS) (sym (left c)) (len-filtered c.args.moment MAX_PERMISSIONS c.self.inside.rows.items c.self.invariant few)
+
+pub loop-row-preserved : goal.loop-row-preserved
+loop-row-preserved c = grind (arith, common_steps)
