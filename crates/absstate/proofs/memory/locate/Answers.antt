@@ -1,0 +1,7 @@
+use Rattle.std.proofs.Common.{rules}
+use Rattle.absstate.specs.AbstractSteps.{located}
+use Rattle.absstate.proofs.memory.locate.Goals as goal
+
+pub returns-in-End-clause-region : goal.returns-in-End-clause-region
+unfolding located
+returns-in-End-clause-region g c = search rules
