@@ -1,5 +1,5 @@
 #!/usr/bin/env bash
-# Proves and builds relayd, crate by crate, lowest first, and prints how far it is. What is up to date is only looked at.
+# Proves and builds relayd, crate by crate, lowest first, and says how far it is. What is up to date is only looked at.
 set -eu
 top=$(cd "$(dirname "$0")/.." && pwd)
 log=$top/build.log

@@ -4,7 +4,7 @@
 
 FOLDER is the top of the repository; a fresh clone, so that nothing else is built in it. The figures are read from the
 system while `rt ci` runs, five times a second; the last line has what the system counted in all. Behind the table
-stand the edits that took more than 20 seconds.
+stand the edits that took more than 20 seconds. A run that is interrupted prints what it has seen so far.
 """
 
 import os
@@ -39,6 +39,11 @@ def words_of(pid):
     return pathlib.Path(f"/proc/{pid}/cmdline").read_text(encoding="utf-8", errors="replace").split("\0")
 
 
+def stat_of(pid):
+    """Returns what the system knows of a process, from its state on."""
+    return pathlib.Path(f"/proc/{pid}/stat").read_text(encoding="utf-8", errors="replace").rpartition(")")[2].split()
+
+
 def work_of(pid, parent):
     """Returns the crate and the step that a process works on, and its folder: its parent's where it names none."""
     words = words_of(pid)
@@ -55,7 +60,7 @@ def sample(gate, seen):
     below = {gate: ("", "", "")}
     for pid in sorted(int(name) for name in os.listdir("/proc") if name.isdigit()):
         try:
-            fields = pathlib.Path(f"/proc/{pid}/stat").read_text(encoding="utf-8", errors="replace").rpartition(")")[2].split()
+            fields = stat_of(pid)
             parent, began = int(fields[1]), int(fields[19])
             if parent not in below:
                 continue
@@ -85,29 +90,41 @@ def show(name, figures):
     print(f"{name:<16}" + "".join(f"{n:>8.0f}" for n in (*figures, sum(figures))), flush=True)
 
 
+def watch(top):
+    """Runs the gate until it ends or is interrupted. Returns its status and the processes that were seen."""
+    seen, ended = {}, threading.Event()
+    with subprocess.Popen(["rt", "ci"], cwd=top) as gate:
+        threading.Thread(target=lambda: (gate.wait(), ended.set())).start()
+        try:
+            while not ended.wait(0.2):
+                sample(gate.pid, seen)
+        except KeyboardInterrupt:
+            print("interrupted")
+    return gate.returncode, seen.values()
+
+
 def main():
     """Runs the gate, and prints the table."""
     top = pathlib.Path(sys.argv[1] if len(sys.argv) > 1 else TOP).resolve()
-    seen, begun = {}, time.monotonic()
-    with subprocess.Popen(["rt", "ci"], cwd=top) as gate:
-        ended = threading.Event()
-        threading.Thread(target=lambda: (gate.wait(), ended.set())).start()
-        while not ended.wait(0.2):
-            sample(gate.pid, seen)
+    begun = time.monotonic()
+    status, processes = watch(top)
     used = resource.getrusage(resource.RUSAGE_CHILDREN)
     by_crate = {}
-    for it in seen.values():
+    for it in processes:
         by_crate.setdefault(it.crate or "the rest", []).append(it)
     print(f"{'crate':<16}" + "".join(f"{step:>8}" for step in (*STEPS, "sum")))
     for crate in [*re.findall(r"^(\w+):", (top / "crates.txt").read_text(encoding="utf-8"), re.M), "the rest"]:
-        show(crate, [sum(it.seconds for it in by_crate.get(crate, []) if (it.step or "proof") == step) for step in STEPS])
-    slow = [it for crate in by_crate for it in slow_edits(top, crate, [p for p in by_crate[crate] if p.step == "edits"])]
+        own = by_crate.get(crate, [])
+        show(crate, [sum(it.seconds for it in own if (it.step or "proof") == step) for step in STEPS])
+    slow = []
+    for crate, own in by_crate.items():
+        slow += slow_edits(top, crate, [it for it in own if it.step == "edits"])
     for seconds, edit in sorted(slow, reverse=True):
         print(f"{seconds:6.0f}  {edit}")
     print(f"{len(slow)} edits took more than {SLOW_EDIT} seconds")
-    minutes = (time.monotonic() - begun) / 60
-    print(f"{minutes:.0f} minutes; {used.ru_utime / 60:.0f} processor minutes of the program, {used.ru_stime / 60:.0f} of the system")
-    sys.exit(gate.returncode)
+    minutes, program, system = (time.monotonic() - begun) / 60, used.ru_utime / 60, used.ru_stime / 60
+    print(f"{minutes:.0f} minutes; {program:.0f} processor minutes of the program, {system:.0f} of the system")
+    sys.exit(status)
 
 
 if __name__ == "__main__":
