@@ -4,6 +4,7 @@ ghost use Rattle.std.specs.Prelude.{◌≡◌, ◌<◌};
 
 use attributes::Addr;
 use std::alloc::{AllocError, Global};
+use std::fmt::Debug;
 use std::marker::Brand;
 use std::process::Abort;
 use std::sync::ledger::{Blank, Ledger};
@@ -132,28 +133,28 @@ fn check_steps(
     Ok(())
 }
 
+/// Compares what the step with this index gives.
+fn expect<T: Copy + PartialEq + Debug>(rt: &impl Abort, index: usize, found: T, expected: T) {
+    assert_eq!(rt; found, expected, "step {index}");
+}
+
 fn check_step(rt: &impl Abort, tables: &mut Tables, index: usize, step: Step<'_>) {
     match step {
         Step::Allocate(now, client, user, lifetime, result) => {
-            let made = tables.allocate(now, client, user, TX, lifetime);
-            assert_eq!(rt; made, result, "step {index}");
+            let slot = tables.allocate(now, client, user, TX, lifetime);
+            expect(rt, index, slot, result);
         }
         Step::Refresh(now, slot, lifetime, result) => {
-            let made = tables.refresh(now, slot, lifetime);
-            assert_eq!(rt; made, result, "step {index}");
+            expect(rt, index, tables.refresh(now, slot, lifetime), result);
         }
-        Step::Permit(now, ips, result) => {
-            let made = tables.permit(now, 0, ips);
-            assert_eq!(rt; made, result, "step {index}");
-        }
+        Step::Permit(now, ips, result) => expect(rt, index, tables.permit(now, 0, ips), result),
         Step::Bind(now, number, peer, result) => {
             assert!(rt; (0x4000..=0x4fff).contains(&number));
-            let made = tables.bind(now, 0, number, peer);
-            assert_eq!(rt; made, result, "step {index}");
+            expect(rt, index, tables.bind(now, 0, number, peer), result);
         }
-        Step::Find(now, found) => assert_eq!(rt; look_up(tables, now), found, "step {index}"),
+        Step::Find(now, found) => expect(rt, index, look_up(tables, now), found),
         Step::IsPermitted(now, last, result) => {
-            assert_eq!(rt; is_permitted(tables, last, now), result, "step {index}");
+            expect(rt, index, is_permitted(tables, last, now), result);
         }
     }
 }
