@@ -229,17 +229,38 @@ fn ask(
     })
 }
 
-/// Checks that a request meets an error.
-fn check_error(
+/// A request, and what its reply says: the code of an error or 0, and the seconds of LIFETIME or 0.
+#[derive(Clone, Copy)]
+struct Exchange {
+    request: Request<'static>,
+    code: u16,
+    lifetime: u32,
+}
+
+/// Has each request answered in turn, and compares what its reply says.
+fn check(
     rt: &impl Abort,
     tables: &mut Tables,
     config: &Config,
-    request: &Request<'_>,
-    code: u16,
+    exchanges: &[Exchange],
 ) -> Result<(), Fail> {
-    let summary = ask(rt, tables, config, request)?;
-    assert_eq!(rt; summary.code, code);
-    assert_eq!(rt; summary.kind & 0x0110, 0x0110);
+    for exchange in exchanges {
+        let class = if exchange.code == 0 {
+            Class::Success
+        } else {
+            Class::Error
+        };
+        let kind = MessageType {
+            method: exchange.request.method,
+            class,
+        };
+        let said = Summary {
+            kind: kind.kind(),
+            code: exchange.code,
+            lifetime: exchange.lifetime,
+        };
+        assert_eq!(rt; ask(rt, tables, config, &exchange.request)?, said);
+    }
     Ok(())
 }
 

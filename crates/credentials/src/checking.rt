@@ -72,6 +72,13 @@ fn has_name(user: &User, name: &[u8]) -> bool
     user.name.as_bytes() == name
 }
 
+/// Returns whether a value of NONCE is this nonce.
+fn is_nonce(given: &[u8], nonce: &str) -> bool
+    ensures { Decides result (given.now ≡ nonce.now) }
+{
+    given == nonce.as_bytes()
+}
+
 /// Returns the key of a user in a realm.
 /// See docs/DECISIONS.md, "The realm is not compared".
 fn key_of_user(user: &User, realm: &str) -> Key
@@ -108,7 +115,7 @@ fn fresh<'a>(message: &Message<'a>, nonce: &str) -> Result<(&'a [u8], &'a [u8]),
     let name = found.name.ok_or(AuthError::Incomplete)?;
     found.realm.ok_or(AuthError::Incomplete)?;
     let given = found.nonce.ok_or(AuthError::Incomplete)?;
-    if given != nonce.as_bytes() {
+    if !is_nonce(given, nonce) {
         return Err(AuthError::StaleNonce);
     }
     Ok((code, name))

@@ -140,6 +140,23 @@ fn report_disassembly<W: Write>(alloc: Global, file: &[u8], out: &mut W) -> Resu
     Ok(0)
 }
 
+/// Decodes what a trace runs: first the digits, into the frame, which starts on that datagram, and then the program.
+fn prepare(
+    alloc: Global,
+    frame: &mut Frame,
+    hex: Option<&str>,
+    file: &[u8],
+) -> Result<Vec<Insn>, ReportError>
+    ensures started { OnOk result (frame.new.is_started ≡ true) }
+    ensures context { OnOk result (context_of frame.new.context ≡ trace_context) }
+    ensures datagram { OnOk result (EncodeDatagram (digits_of hex.entry) (datagram_of frame.new)) }
+    ensures found { IfOk result (λ code. Encodes code.items file.now) }
+    ensures failed { IfErr result (MayFail (Trace hex.entry) file.now) }
+{
+    fill(frame, hex)?;
+    program(alloc, file)
+}
+
 /// Prints each step of the program over the datagram, and how its run ended, and returns the status.
 fn report_trace<W: Write>(
     alloc: Global,
@@ -151,8 +168,7 @@ fn report_trace<W: Write>(
     ensures failed { IfErr result (MayFail (Trace hex.entry) file.now) }
 {
     let mut frame = Frame::new(alloc).map_err(|_| ReportError::Memory)?;
-    fill(&mut frame, hex)?;
-    let code = program(alloc, file)?;
+    let code = prepare(alloc, &mut frame, hex, file)?;
     let mut lines = Lines::new(&mut *out);
     let ended = trace(&code, &mut frame, &NoAllocation, &mut lines);
     lines.finish().map_err(|_| ReportError::Output)?;

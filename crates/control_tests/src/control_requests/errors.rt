@@ -1,8 +1,8 @@
 //! Each test of each method, and its error.
 
 use super::{
-    Attribute, CHANNEL, CLIENT, FIRST, IPV6_PEER, OTHER_CLIENT, OTHER_PEER, OTHER_USER, PEER,
-    Request, Summary, UDP, ask, check_error, check_success,
+    CHANNEL, CLIENT, Exchange, FIRST, IPV6_PEER, OTHER_CLIENT, OTHER_PEER, OTHER_USER, PEER,
+    Request, UDP, check,
 };
 use crate::control_configurations::config;
 use std::test::Fail;
@@ -12,174 +12,420 @@ use stun::registry::attribute::{
 };
 use tables::Tables;
 
+/// Requests of Allocate.
+static ALLOCATIONS: [Exchange; 10] = [
+    Exchange {
+        request: Request {
+            attributes: &[],
+            ..FIRST
+        },
+        code: 400,
+        lifetime: 0,
+    },
+    Exchange {
+        request: Request {
+            attributes: &[(REQUESTED_TRANSPORT, &[17, 0, 0])],
+            ..FIRST
+        },
+        code: 400,
+        lifetime: 0,
+    },
+    Exchange {
+        request: Request {
+            attributes: &[(REQUESTED_TRANSPORT, &[6, 0, 0, 0])],
+            ..FIRST
+        },
+        code: 442,
+        lifetime: 0,
+    },
+    Exchange {
+        request: Request {
+            attributes: &[UDP, (REQUESTED_ADDRESS_FAMILY, &[1])],
+            ..FIRST
+        },
+        code: 400,
+        lifetime: 0,
+    },
+    Exchange {
+        request: Request {
+            attributes: &[UDP, (REQUESTED_ADDRESS_FAMILY, &[2, 0, 0, 0])],
+            ..FIRST
+        },
+        code: 440,
+        lifetime: 0,
+    },
+    Exchange {
+        request: Request {
+            attributes: &[UDP, (LIFETIME, &[0])],
+            ..FIRST
+        },
+        code: 400,
+        lifetime: 0,
+    },
+    // the same request gets the first success again, and another one does not
+    Exchange {
+        request: FIRST,
+        code: 0,
+        lifetime: 600,
+    },
+    Exchange {
+        request: Request {
+            now: 1599,
+            attributes: &[],
+            ..FIRST
+        },
+        code: 0,
+        lifetime: 600,
+    },
+    Exchange {
+        request: Request { tx: 2, ..FIRST },
+        code: 437,
+        lifetime: 0,
+    },
+    Exchange {
+        request: Request {
+            credentials: OTHER_USER,
+            ..FIRST
+        },
+        code: 437,
+        lifetime: 0,
+    },
+];
+
 #[test]
 fn each_test_of_allocate_has_its_error(rt: HostRuntime) -> Result<(), Fail> {
     let config = config(&rt, rt.alloc())?;
     let mut tables = Tables::new(rt.alloc(), 2)?;
-    let rows: [(&[Attribute<'_>], u16); 6] = [
-        (&[], 400),
-        (&[(REQUESTED_TRANSPORT, &[17, 0, 0])], 400),
-        (&[(REQUESTED_TRANSPORT, &[6, 0, 0, 0])], 442),
-        (&[UDP, (REQUESTED_ADDRESS_FAMILY, &[1])], 400),
-        (&[UDP, (REQUESTED_ADDRESS_FAMILY, &[2, 0, 0, 0])], 440),
-        (&[UDP, (LIFETIME, &[0])], 400),
-    ];
-    for (attributes, code) in rows {
-        let request = Request {
-            attributes,
+    check(&rt, &mut tables, &config, &ALLOCATIONS)
+}
+
+/// A Refresh request that deletes the allocation.
+const DELETE: Request<'static> = Request {
+    method: Method::Refresh,
+    attributes: &[(LIFETIME, &[0, 0, 0, 0])],
+    ..FIRST
+};
+
+/// Allocations with a lifetime, each deleted again.
+static LIFETIMES: [Exchange; 12] = [
+    Exchange {
+        request: Request {
+            attributes: &[UDP, (LIFETIME, &[0, 0, 0, 0])],
             ..FIRST
-        };
-        check_error(&rt, &mut tables, &config, &request, code)?;
-    }
-    // the same request gets the first success again, and another one does not
-    let granted = Summary {
-        kind: 0x0103,
+        },
         code: 0,
         lifetime: 600,
-    };
-    assert_eq!(rt; ask(&rt, &mut tables, &config, &FIRST)?, granted);
-    let again = Request {
-        now: 1599,
-        attributes: &[],
-        ..FIRST
-    };
-    assert_eq!(rt; ask(&rt, &mut tables, &config, &again)?, granted);
-    check_error(&rt, &mut tables, &config, &Request { tx: 2, ..FIRST }, 437)?;
-    let other = Request {
-        credentials: OTHER_USER,
-        ..FIRST
-    };
-    check_error(&rt, &mut tables, &config, &other, 437)?;
-    Ok(())
-}
+    },
+    Exchange {
+        request: DELETE,
+        code: 0,
+        lifetime: 0,
+    },
+    Exchange {
+        request: DELETE,
+        code: 437,
+        lifetime: 0,
+    },
+    Exchange {
+        request: Request {
+            attributes: &[UDP, (LIFETIME, &[0, 0, 2, 0x58])],
+            ..FIRST
+        },
+        code: 0,
+        lifetime: 600,
+    },
+    Exchange {
+        request: DELETE,
+        code: 0,
+        lifetime: 0,
+    },
+    Exchange {
+        request: DELETE,
+        code: 437,
+        lifetime: 0,
+    },
+    Exchange {
+        request: Request {
+            attributes: &[UDP, (LIFETIME, &[0, 0, 2, 0x59])],
+            ..FIRST
+        },
+        code: 0,
+        lifetime: 601,
+    },
+    Exchange {
+        request: DELETE,
+        code: 0,
+        lifetime: 0,
+    },
+    Exchange {
+        request: DELETE,
+        code: 437,
+        lifetime: 0,
+    },
+    Exchange {
+        request: Request {
+            attributes: &[UDP, (LIFETIME, &[0, 0, 0x0f, 0xa0])],
+            ..FIRST
+        },
+        code: 0,
+        lifetime: 3600,
+    },
+    Exchange {
+        request: DELETE,
+        code: 0,
+        lifetime: 0,
+    },
+    Exchange {
+        request: DELETE,
+        code: 437,
+        lifetime: 0,
+    },
+];
 
 #[test]
 fn lifetimes_lie_between_600_and_3600(rt: HostRuntime) -> Result<(), Fail> {
     let config = config(&rt, rt.alloc())?;
-    let rows: [(&[u8], u32); 4] = [
-        (&[0, 0, 0, 0], 600),
-        (&[0, 0, 2, 0x58], 600),
-        (&[0, 0, 2, 0x59], 601),
-        (&[0, 0, 0x0f, 0xa0], 3600),
-    ];
-    for (value, lifetime) in rows {
-        let mut tables = Tables::new(rt.alloc(), 2)?;
-        let request = Request {
-            attributes: &[UDP, (LIFETIME, value)],
-            ..FIRST
-        };
-        let granted = Summary {
-            kind: 0x0103,
-            code: 0,
-            lifetime,
-        };
-        assert_eq!(rt; ask(&rt, &mut tables, &config, &request)?, granted);
-        let refresh = Request {
-            method: Method::Refresh,
-            attributes: &[(LIFETIME, &[0, 0, 0, 0])],
-            ..FIRST
-        };
-        let deleted = Summary {
-            kind: 0x0104,
-            code: 0,
-            lifetime: 0,
-        };
-        assert_eq!(rt; ask(&rt, &mut tables, &config, &refresh)?, deleted);
-        check_error(&rt, &mut tables, &config, &refresh, 437)?;
-    }
-    Ok(())
+    let mut tables = Tables::new(rt.alloc(), 2)?;
+    check(&rt, &mut tables, &config, &LIFETIMES)
 }
+
+const REFRESH: Request<'static> = Request {
+    method: Method::Refresh,
+    attributes: &[],
+    ..FIRST
+};
+
+const PERMIT: Request<'static> = Request {
+    method: Method::CreatePermission,
+    attributes: &[PEER],
+    ..FIRST
+};
+
+const BIND: Request<'static> = Request {
+    method: Method::ChannelBind,
+    attributes: &[CHANNEL, PEER],
+    ..FIRST
+};
+
+/// Requests of the other methods.
+static OTHERS: [Exchange; 28] = [
+    Exchange {
+        request: REFRESH,
+        code: 437,
+        lifetime: 0,
+    },
+    Exchange {
+        request: PERMIT,
+        code: 437,
+        lifetime: 0,
+    },
+    Exchange {
+        request: BIND,
+        code: 437,
+        lifetime: 0,
+    },
+    Exchange {
+        request: Request {
+            attributes: &[UDP, (LIFETIME, &[0, 0, 0x0e, 0x10])],
+            ..FIRST
+        },
+        code: 0,
+        lifetime: 3600,
+    },
+    Exchange {
+        request: Request {
+            credentials: OTHER_USER,
+            ..REFRESH
+        },
+        code: 441,
+        lifetime: 0,
+    },
+    Exchange {
+        request: Request {
+            client: OTHER_CLIENT,
+            ..REFRESH
+        },
+        code: 437,
+        lifetime: 0,
+    },
+    Exchange {
+        request: Request {
+            credentials: OTHER_USER,
+            ..PERMIT
+        },
+        code: 441,
+        lifetime: 0,
+    },
+    Exchange {
+        request: Request {
+            client: OTHER_CLIENT,
+            ..PERMIT
+        },
+        code: 437,
+        lifetime: 0,
+    },
+    Exchange {
+        request: Request {
+            credentials: OTHER_USER,
+            ..BIND
+        },
+        code: 441,
+        lifetime: 0,
+    },
+    Exchange {
+        request: Request {
+            client: OTHER_CLIENT,
+            ..BIND
+        },
+        code: 437,
+        lifetime: 0,
+    },
+    Exchange {
+        request: Request {
+            attributes: &[(REQUESTED_ADDRESS_FAMILY, &[])],
+            ..REFRESH
+        },
+        code: 400,
+        lifetime: 0,
+    },
+    Exchange {
+        request: Request {
+            attributes: &[(REQUESTED_ADDRESS_FAMILY, &[3, 0, 0, 0])],
+            ..REFRESH
+        },
+        code: 443,
+        lifetime: 0,
+    },
+    Exchange {
+        request: Request {
+            attributes: &[(LIFETIME, &[])],
+            ..REFRESH
+        },
+        code: 400,
+        lifetime: 0,
+    },
+    Exchange {
+        request: Request {
+            attributes: &[],
+            ..PERMIT
+        },
+        code: 400,
+        lifetime: 0,
+    },
+    Exchange {
+        request: Request {
+            attributes: &[PEER, (XOR_PEER_ADDRESS, &[0; 9])],
+            ..PERMIT
+        },
+        code: 400,
+        lifetime: 0,
+    },
+    Exchange {
+        request: Request {
+            attributes: &[IPV6_PEER, (XOR_PEER_ADDRESS, &[0; 9])],
+            ..PERMIT
+        },
+        code: 400,
+        lifetime: 0,
+    },
+    Exchange {
+        request: Request {
+            attributes: &[PEER, IPV6_PEER],
+            ..PERMIT
+        },
+        code: 443,
+        lifetime: 0,
+    },
+    Exchange {
+        request: Request {
+            attributes: &[PEER],
+            ..BIND
+        },
+        code: 400,
+        lifetime: 0,
+    },
+    Exchange {
+        request: Request {
+            attributes: &[CHANNEL],
+            ..BIND
+        },
+        code: 400,
+        lifetime: 0,
+    },
+    Exchange {
+        request: Request {
+            attributes: &[(CHANNEL_NUMBER, &[0x50, 0, 0, 0]), IPV6_PEER],
+            ..BIND
+        },
+        code: 400,
+        lifetime: 0,
+    },
+    Exchange {
+        request: Request {
+            attributes: &[(CHANNEL_NUMBER, &[0x3f, 0xff, 0, 0]), PEER],
+            ..BIND
+        },
+        code: 400,
+        lifetime: 0,
+    },
+    Exchange {
+        request: Request {
+            attributes: &[(CHANNEL_NUMBER, &[0x40, 0x01, 0]), PEER],
+            ..BIND
+        },
+        code: 400,
+        lifetime: 0,
+    },
+    Exchange {
+        request: Request {
+            attributes: &[CHANNEL, (XOR_PEER_ADDRESS, &[0; 9])],
+            ..BIND
+        },
+        code: 400,
+        lifetime: 0,
+    },
+    Exchange {
+        request: Request {
+            attributes: &[CHANNEL, IPV6_PEER],
+            ..BIND
+        },
+        code: 443,
+        lifetime: 0,
+    },
+    Exchange {
+        request: BIND,
+        code: 0,
+        lifetime: 0,
+    },
+    Exchange {
+        request: PERMIT,
+        code: 0,
+        lifetime: 0,
+    },
+    // the channel is bound for 600 seconds
+    Exchange {
+        request: Request {
+            now: 1599,
+            attributes: &[CHANNEL, OTHER_PEER],
+            ..BIND
+        },
+        code: 400,
+        lifetime: 0,
+    },
+    Exchange {
+        request: Request {
+            now: 1600,
+            attributes: &[CHANNEL, OTHER_PEER],
+            ..BIND
+        },
+        code: 0,
+        lifetime: 0,
+    },
+];
 
 #[test]
 fn each_test_of_the_other_methods_has_its_error(rt: HostRuntime) -> Result<(), Fail> {
     let config = config(&rt, rt.alloc())?;
     let mut tables = Tables::new(rt.alloc(), 2)?;
-    let refresh = Request {
-        method: Method::Refresh,
-        attributes: &[],
-        ..FIRST
-    };
-    let permit = Request {
-        method: Method::CreatePermission,
-        attributes: &[PEER],
-        ..FIRST
-    };
-    let bind = Request {
-        method: Method::ChannelBind,
-        attributes: &[CHANNEL, PEER],
-        ..FIRST
-    };
-    for request in [refresh, permit, bind] {
-        check_error(&rt, &mut tables, &config, &request, 437)?;
-    }
-    let long = Request {
-        attributes: &[UDP, (LIFETIME, &[0, 0, 0x0e, 0x10])],
-        ..FIRST
-    };
-    check_success(&rt, &mut tables, &config, &long)?;
-    for request in [refresh, permit, bind] {
-        check_error(
-            &rt,
-            &mut tables,
-            &config,
-            &Request {
-                credentials: OTHER_USER,
-                ..request
-            },
-            441,
-        )?;
-        check_error(
-            &rt,
-            &mut tables,
-            &config,
-            &Request {
-                client: OTHER_CLIENT,
-                ..request
-            },
-            437,
-        )?;
-    }
-    let rows: [(Request<'_>, &[Attribute<'_>], u16); 14] = [
-        (refresh, &[(REQUESTED_ADDRESS_FAMILY, &[])], 400),
-        (refresh, &[(REQUESTED_ADDRESS_FAMILY, &[3, 0, 0, 0])], 443),
-        (refresh, &[(LIFETIME, &[])], 400),
-        (permit, &[], 400),
-        (permit, &[PEER, (XOR_PEER_ADDRESS, &[0; 9])], 400),
-        (permit, &[IPV6_PEER, (XOR_PEER_ADDRESS, &[0; 9])], 400),
-        (permit, &[PEER, IPV6_PEER], 443),
-        (bind, &[PEER], 400),
-        (bind, &[CHANNEL], 400),
-        (bind, &[(CHANNEL_NUMBER, &[0x50, 0, 0, 0]), IPV6_PEER], 400),
-        (bind, &[(CHANNEL_NUMBER, &[0x3f, 0xff, 0, 0]), PEER], 400),
-        (bind, &[(CHANNEL_NUMBER, &[0x40, 0x01, 0]), PEER], 400),
-        (bind, &[CHANNEL, (XOR_PEER_ADDRESS, &[0; 9])], 400),
-        (bind, &[CHANNEL, IPV6_PEER], 443),
-    ];
-    for (request, attributes, code) in rows {
-        check_error(
-            &rt,
-            &mut tables,
-            &config,
-            &Request {
-                attributes,
-                ..request
-            },
-            code,
-        )?;
-    }
-    check_success(&rt, &mut tables, &config, &bind)?;
-    check_success(&rt, &mut tables, &config, &permit)?;
-    let other = Request {
-        attributes: &[CHANNEL, OTHER_PEER],
-        ..bind
-    };
-    check_error(
-        &rt,
-        &mut tables,
-        &config,
-        &Request { now: 1599, ..other },
-        400,
-    )?;
-    check_success(&rt, &mut tables, &config, &Request { now: 1600, ..other })?;
-    Ok(())
+    check(&rt, &mut tables, &config, &OTHERS)
 }

@@ -1,6 +1,6 @@
 //! Requests with many attributes: types that are not understood, and addresses.
 
-use super::{Attribute, FIRST, NO_CREDENTIALS, Request, answer, check_error, check_success};
+use super::{Attribute, Exchange, FIRST, NO_CREDENTIALS, Request, answer, check};
 use crate::control_configurations::config;
 use attributes::Addr;
 use std::test::Fail;
@@ -9,24 +9,33 @@ use stun::registry::Method;
 use stun::registry::attribute::UNKNOWN_ATTRIBUTES;
 use tables::Tables;
 
+const IPV6_CLIENT: Addr = Addr::V6 {
+    ip: [1; 16],
+    port: 4000,
+};
+
 /// The types 0x0100 to 0x010F, as UNKNOWN-ATTRIBUTES lists them.
 const LISTED: [u8; 32] = [
     1, 0, 1, 1, 1, 2, 1, 3, 1, 4, 1, 5, 1, 6, 1, 7, 1, 8, 1, 9, 1, 10, 1, 11, 1, 12, 1, 13, 1, 14,
     1, 15,
 ];
 
+/// Returns attributes of the types 0x0100 to 0x0110, each twice, and one that is ignored.
+fn strange_attributes<'a>() -> [Attribute<'a>; 35] {
+    let mut attributes: [Attribute<'a>; 35] = [(0x8022, &[]); 35];
+    for i in 0..34 {
+        attributes[i] = (0x0100 + (i as u16) / 2, &[]);
+    }
+    attributes
+}
+
 #[test]
 fn the_first_16_types_are_listed_once_each(rt: HostRuntime) -> Result<(), Fail> {
     let config = config(&rt, rt.alloc())?;
     let mut tables = Tables::new(rt.alloc(), 2)?;
-    // 0x0100 to 0x0110, each twice, and one that is ignored
-    let mut attributes: [Attribute<'_>; 35] = [(0x8022, &[]); 35];
-    for i in 0..34 {
-        attributes[i] = (0x0100 + (i as u16) / 2, &[]);
-    }
     let request = Request {
         method: Method::Binding,
-        attributes: &attributes,
+        attributes: &strange_attributes(),
         credentials: NO_CREDENTIALS,
         ..FIRST
     };
@@ -39,62 +48,96 @@ fn the_first_16_types_are_listed_once_each(rt: HostRuntime) -> Result<(), Fail> 
     Ok(())
 }
 
+const PERMIT: Request<'static> = Request {
+    method: Method::CreatePermission,
+    attributes: &[],
+    ..FIRST
+};
+
+/// Requests for the permissions of 65 addresses.
+static PERMISSIONS: [Exchange; 6] = [
+    Exchange {
+        request: FIRST,
+        code: 0,
+        lifetime: 600,
+    },
+    Exchange {
+        request: Request {
+            peers: (0, 65),
+            ..PERMIT
+        },
+        code: 508,
+        lifetime: 0,
+    },
+    // none of them was permitted: there is room for the last one and 63 others
+    Exchange {
+        request: Request {
+            peers: (64, 65),
+            ..PERMIT
+        },
+        code: 0,
+        lifetime: 0,
+    },
+    Exchange {
+        request: Request {
+            peers: (0, 64),
+            ..PERMIT
+        },
+        code: 508,
+        lifetime: 0,
+    },
+    // at 1300 the last one's permission has ended
+    Exchange {
+        request: Request {
+            now: 1300,
+            peers: (0, 64),
+            ..PERMIT
+        },
+        code: 0,
+        lifetime: 0,
+    },
+    Exchange {
+        request: Request {
+            now: 1300,
+            peers: (64, 65),
+            ..PERMIT
+        },
+        code: 508,
+        lifetime: 0,
+    },
+];
+
 #[test]
 fn all_addresses_are_permitted_or_none(rt: HostRuntime) -> Result<(), Fail> {
     let config = config(&rt, rt.alloc())?;
     let mut tables = Tables::new(rt.alloc(), 2)?;
-    check_success(&rt, &mut tables, &config, &FIRST)?;
-    let permit = Request {
-        method: Method::CreatePermission,
-        attributes: &[],
-        peers: (0, 65),
-        ..FIRST
-    };
-    check_error(&rt, &mut tables, &config, &permit, 508)?;
-    // none of them was permitted: there is room for the last one and 63 others
-    let last = Request {
-        peers: (64, 65),
-        ..permit
-    };
-    check_success(&rt, &mut tables, &config, &last)?;
-    let front = Request {
-        peers: (0, 64),
-        ..permit
-    };
-    check_error(&rt, &mut tables, &config, &front, 508)?;
-    // at 1300 the last one's permission has ended
-    check_success(&rt, &mut tables, &config, &Request { now: 1300, ..front })?;
-    check_error(
-        &rt,
-        &mut tables,
-        &config,
-        &Request { now: 1300, ..last },
-        508,
-    )?;
-    Ok(())
+    check(&rt, &mut tables, &config, &PERMISSIONS)
 }
+
+/// Requests of a client over IPv6, and one of a method that has no responses.
+static UNANSWERED: [Request<'static>; 3] = [
+    Request {
+        method: Method::Binding,
+        client: IPV6_CLIENT,
+        ..FIRST
+    },
+    Request {
+        client: IPV6_CLIENT,
+        ..FIRST
+    },
+    Request {
+        method: Method::Send,
+        ..FIRST
+    },
+];
 
 #[test]
 fn a_client_over_ipv6_is_not_answered(rt: HostRuntime) -> Result<(), Fail> {
     let config = config(&rt, rt.alloc())?;
     let mut tables = Tables::new(rt.alloc(), 2)?;
-    let client = Addr::V6 {
-        ip: [1; 16],
-        port: 4000,
-    };
     let mut out = [0; 1500];
-    let binding = Request {
-        method: Method::Binding,
-        client,
-        ..FIRST
-    };
-    assert_eq!(rt; answer(&rt, &mut tables, &config, &binding, &mut out)?, 0);
-    let allocate = Request { client, ..FIRST };
-    assert_eq!(rt; answer(&rt, &mut tables, &config, &allocate, &mut out)?, 0);
-    let send = Request {
-        method: Method::Send,
-        ..FIRST
-    };
-    assert_eq!(rt; answer(&rt, &mut tables, &config, &send, &mut out)?, 0);
+    for request in &UNANSWERED {
+        assert_eq!(rt; answer(&rt, &mut tables, &config, request, &mut out)?, 0);
+    }
     Ok(())
 }
