@@ -2,6 +2,7 @@
 
 ghost use Rattle.std.specs.Prelude.{◌≡◌, length};
 ghost use Rattle.tables.specs.Rows.{rows_at};
+ghost use Rattle.control.specs.Configs.{is_between};
 ghost use Rattle.control.specs.Control.{Gives, channel_bind};
 
 use crate::owning::{error_of, own_allocation};
@@ -11,6 +12,13 @@ use attributes::Addr;
 use stun::Message;
 use stun::registry::ErrorCode;
 use tables::Tables;
+
+/// Returns whether a channel may have this number.
+fn is_bindable(number: u16) -> bool
+    ensures { result ≡ is_between 0x4000 0x4fff number }
+{
+    (0x4000..=0x4fff).contains(&number)
+}
 
 /// Answers a ChannelBind request of a user.
 ///
@@ -29,7 +37,7 @@ pub(crate) fn channel_bind(
     let allocation = own_allocation(tables, client, user, now)?;
     let number = channel_of(message)?;
     let peer = peer_of(message)?;
-    if !(0x4000..=0x4fff).contains(&number) {
+    if !is_bindable(number) {
         return Err(ErrorCode::BadRequest);
     }
     if !is_ipv4(&peer) {

@@ -246,13 +246,11 @@ fn expect_left<R: Abort + AllocGlobal>(rt: &R, frame: &Frame, row: &Left) -> Res
     let (slots, before) = (row.slots, row.before);
     let after = program(rt, row.after)?;
     assert_eq!(rt; frame.datagram(), after.as_slice(), "{slots} {before}");
-    match row.window {
-        None => assert_eq!(rt; frame.window(), None, "{slots} {before}"),
-        Some(window) => {
-            let window = program(rt, window)?;
-            assert_eq!(rt; frame.window(), Some(window.as_slice()), "{slots} {before}");
-        }
-    }
+    let window = match row.window {
+        Some(bytes) => Some(program(rt, bytes)?),
+        None => None,
+    };
+    assert_eq!(rt; frame.window(), window.as_deref(), "{slots} {before}");
     Ok(())
 }
 
