@@ -13,7 +13,7 @@ use stun::Message;
 use stun::registry::ErrorCode;
 use tables::Tables;
 
-/// Returns whether a channel may have this number.
+/// Returns whether a channel may be bound under this number (RFC 8656, section 12).
 fn is_bindable(number: u16) -> bool
     ensures { result ≡ is_between 0x4000 0x4fff number }
 {

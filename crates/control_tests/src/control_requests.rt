@@ -237,6 +237,13 @@ struct Exchange {
     lifetime: u32,
 }
 
+/// The first request makes an allocation for 600 seconds.
+const GRANTED: Exchange = Exchange {
+    request: FIRST,
+    code: 0,
+    lifetime: 600,
+};
+
 /// Has each request answered in turn, and compares what its reply says.
 fn check(
     rt: &impl Abort,

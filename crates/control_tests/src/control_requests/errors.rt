@@ -1,7 +1,7 @@
 //! Each test of each method, and its error.
 
 use super::{
-    CHANNEL, CLIENT, Exchange, FIRST, IPV6_PEER, OTHER_CLIENT, OTHER_PEER, OTHER_USER, PEER,
+    CHANNEL, Exchange, FIRST, GRANTED, IPV6_PEER, OTHER_CLIENT, OTHER_PEER, OTHER_USER, PEER,
     Request, UDP, check,
 };
 use crate::control_configurations::config;
@@ -12,7 +12,7 @@ use stun::registry::attribute::{
 };
 use tables::Tables;
 
-/// Requests of Allocate.
+/// Allocate requests.
 static ALLOCATIONS: [Exchange; 10] = [
     Exchange {
         request: Request {
@@ -63,11 +63,7 @@ static ALLOCATIONS: [Exchange; 10] = [
         lifetime: 0,
     },
     // the same request gets the first success again, and another one does not
-    Exchange {
-        request: FIRST,
-        code: 0,
-        lifetime: 600,
-    },
+    GRANTED,
     Exchange {
         request: Request {
             now: 1599,
@@ -106,6 +102,20 @@ const DELETE: Request<'static> = Request {
     ..FIRST
 };
 
+/// The allocation is deleted.
+const DELETED: Exchange = Exchange {
+    request: DELETE,
+    code: 0,
+    lifetime: 0,
+};
+
+/// There is no allocation to delete.
+const NONE_LEFT: Exchange = Exchange {
+    request: DELETE,
+    code: 437,
+    lifetime: 0,
+};
+
 /// Allocations with a lifetime, each deleted again.
 static LIFETIMES: [Exchange; 12] = [
     Exchange {
@@ -116,16 +126,8 @@ static LIFETIMES: [Exchange; 12] = [
         code: 0,
         lifetime: 600,
     },
-    Exchange {
-        request: DELETE,
-        code: 0,
-        lifetime: 0,
-    },
-    Exchange {
-        request: DELETE,
-        code: 437,
-        lifetime: 0,
-    },
+    DELETED,
+    NONE_LEFT,
     Exchange {
         request: Request {
             attributes: &[UDP, (LIFETIME, &[0, 0, 2, 0x58])],
@@ -134,16 +136,8 @@ static LIFETIMES: [Exchange; 12] = [
         code: 0,
         lifetime: 600,
     },
-    Exchange {
-        request: DELETE,
-        code: 0,
-        lifetime: 0,
-    },
-    Exchange {
-        request: DELETE,
-        code: 437,
-        lifetime: 0,
-    },
+    DELETED,
+    NONE_LEFT,
     Exchange {
         request: Request {
             attributes: &[UDP, (LIFETIME, &[0, 0, 2, 0x59])],
@@ -152,16 +146,8 @@ static LIFETIMES: [Exchange; 12] = [
         code: 0,
         lifetime: 601,
     },
-    Exchange {
-        request: DELETE,
-        code: 0,
-        lifetime: 0,
-    },
-    Exchange {
-        request: DELETE,
-        code: 437,
-        lifetime: 0,
-    },
+    DELETED,
+    NONE_LEFT,
     Exchange {
         request: Request {
             attributes: &[UDP, (LIFETIME, &[0, 0, 0x0f, 0xa0])],
@@ -170,16 +156,8 @@ static LIFETIMES: [Exchange; 12] = [
         code: 0,
         lifetime: 3600,
     },
-    Exchange {
-        request: DELETE,
-        code: 0,
-        lifetime: 0,
-    },
-    Exchange {
-        request: DELETE,
-        code: 437,
-        lifetime: 0,
-    },
+    DELETED,
+    NONE_LEFT,
 ];
 
 #[test]

@@ -1,6 +1,6 @@
 //! Requests with many attributes: types that are not understood, and addresses.
 
-use super::{Attribute, Exchange, FIRST, NO_CREDENTIALS, Request, answer, check};
+use super::{Attribute, Exchange, FIRST, GRANTED, NO_CREDENTIALS, Request, answer, check};
 use crate::control_configurations::config;
 use attributes::Addr;
 use std::test::Fail;
@@ -21,7 +21,7 @@ const LISTED: [u8; 32] = [
 ];
 
 /// Returns attributes of the types 0x0100 to 0x0110, each twice, and one that is ignored.
-fn strange_attributes<'a>() -> [Attribute<'a>; 35] {
+fn unknown_attributes<'a>() -> [Attribute<'a>; 35] {
     let mut attributes: [Attribute<'a>; 35] = [(0x8022, &[]); 35];
     for i in 0..34 {
         attributes[i] = (0x0100 + (i as u16) / 2, &[]);
@@ -35,7 +35,7 @@ fn the_first_16_types_are_listed_once_each(rt: HostRuntime) -> Result<(), Fail> 
     let mut tables = Tables::new(rt.alloc(), 2)?;
     let request = Request {
         method: Method::Binding,
-        attributes: &strange_attributes(),
+        attributes: &unknown_attributes(),
         credentials: NO_CREDENTIALS,
         ..FIRST
     };
@@ -56,11 +56,7 @@ const PERMIT: Request<'static> = Request {
 
 /// Requests for the permissions of 65 addresses.
 static PERMISSIONS: [Exchange; 6] = [
-    Exchange {
-        request: FIRST,
-        code: 0,
-        lifetime: 600,
-    },
+    GRANTED,
     Exchange {
         request: Request {
             peers: (0, 65),
