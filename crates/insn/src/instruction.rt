@@ -1,8 +1,9 @@
 //! Instructions as typed values: each value has exactly one encoding (RFC 9669, sections 3 to 5).
 
-ghost use Rattle.std.specs.Prelude.{◌≡◌, IfSome};
+ghost use Rattle.std.specs.Prelude.{◌≡◌, ◌<◌, IfSome};
 ghost use Rattle.insn.specs.Encoding.{source_of, src_of, imm_of, low_half, high_half, joined, fields_of, second_of, slots_of, Fits};
 ghost use Rattle.insn.specs.Fields.{HaveRoom};
+ghost use Rattle.insn.specs.Opcode.{byte_of};
 
 use crate::condition::Condition;
 use crate::fields::Fields;
@@ -177,145 +178,119 @@ impl Insn {
         }
     }
 
+    /// Returns the opcode of the instruction's first slot.
+    fn opcode(self) -> Opcode
+        ensures { byte_of result ≡ (fields_of self).opcode }
+    {
+        match self {
+            Insn::Alu {
+                width,
+                op,
+                operand,
+                ..
+            } => Opcode::Alu(width, op.code(), operand.source()),
+            Insn::Mov { width, operand, .. } => Opcode::Mov(width, operand.source()),
+            Insn::Neg { width, .. } => Opcode::Neg(width),
+            Insn::SignExtend { extension, .. } => Opcode::Mov(extension.target(), Source::Reg),
+            Insn::Swap { op, .. } => Opcode::Swap(op),
+            Insn::Jump { .. } => Opcode::Jump(Width::W64),
+            Insn::LongJump { .. } => Opcode::Jump(Width::W32),
+            Insn::JumpIf {
+                width,
+                condition,
+                operand,
+                ..
+            } => Opcode::JumpIf(width, condition, operand.source()),
+            Insn::Load { size, .. } => Opcode::Load(size),
+            Insn::LoadSigned { size, .. } => Opcode::LoadSigned(size),
+            Insn::Store { size, operand, .. } => Opcode::Store(size, operand.source()),
+            Insn::LoadImm { .. } => Opcode::LoadImm,
+            Insn::Call { .. } => Opcode::Call,
+            Insn::Exit => Opcode::Exit,
+        }
+    }
+
+    /// Returns the `dst` field of the instruction's first slot, 0 where it is unused.
+    fn dst(self) -> u8
+        ensures value { result ≡ (fields_of self).dst }
+        ensures room { result < 16 }
+    {
+        match self {
+            Insn::Alu { dst, .. }
+            | Insn::Mov { dst, .. }
+            | Insn::Neg { dst, .. }
+            | Insn::SignExtend { dst, .. }
+            | Insn::Swap { dst, .. }
+            | Insn::JumpIf { dst, .. }
+            | Insn::Load { dst, .. }
+            | Insn::LoadSigned { dst, .. }
+            | Insn::LoadImm { dst, .. } => dst.number(),
+            Insn::Store { base, .. } => base.number(),
+            Insn::Jump { .. } | Insn::LongJump { .. } | Insn::Call { .. } | Insn::Exit => 0,
+        }
+    }
+
+    /// Returns the `src` field of the instruction's first slot, 0 where it is unused.
+    fn src(self) -> u8
+        ensures value { result ≡ (fields_of self).src }
+        ensures room { result < 16 }
+    {
+        match self {
+            Insn::Alu { operand, .. }
+            | Insn::Mov { operand, .. }
+            | Insn::JumpIf { operand, .. }
+            | Insn::Store { operand, .. } => operand.src(),
+            Insn::SignExtend { src, .. } => src.number(),
+            Insn::Load { base, .. } | Insn::LoadSigned { base, .. } => base.number(),
+            _ => 0,
+        }
+    }
+
+    /// Returns the offset field of the instruction's first slot, 0 where it is unused.
+    fn offset(self) -> i16
+        ensures { result ≡ (fields_of self).offset }
+    {
+        match self {
+            Insn::Alu { op, .. } => op.offset(),
+            Insn::SignExtend { extension, .. } => extension.offset(),
+            Insn::Jump { offset }
+            | Insn::JumpIf { offset, .. }
+            | Insn::Load { offset, .. }
+            | Insn::LoadSigned { offset, .. }
+            | Insn::Store { offset, .. } => offset,
+            _ => 0,
+        }
+    }
+
+    /// Returns the imm field of the instruction's first slot, 0 where it is unused.
+    fn imm(self) -> i32
+        ensures { result ≡ (fields_of self).imm }
+    {
+        match self {
+            Insn::Alu { operand, .. }
+            | Insn::Mov { operand, .. }
+            | Insn::JumpIf { operand, .. }
+            | Insn::Store { operand, .. } => operand.imm(),
+            Insn::Swap { size, .. } => size.bits(),
+            Insn::LongJump { offset } => offset,
+            Insn::LoadImm { value, .. } => low_half(value),
+            Insn::Call { helper } => helper,
+            _ => 0,
+        }
+    }
+
     /// Returns the fields of the instruction's first slot; those that it doesn't use are zero.
     pub(crate) fn fields(self) -> Fields
         ensures value { result ≡ fields_of self }
         ensures room { HaveRoom result }
         ensures fits { Fits self }
     {
-        match self {
-            Insn::Alu {
-                width,
-                op,
-                dst,
-                operand,
-            } => Fields {
-                opcode: Opcode::Alu(width, op.code(), operand.source()).byte(),
-                dst: dst.number(),
-                src: operand.src(),
-                offset: op.offset(),
-                imm: operand.imm(),
-            },
-            Insn::Mov {
-                width,
-                dst,
-                operand,
-            } => Fields {
-                opcode: Opcode::Mov(width, operand.source()).byte(),
-                dst: dst.number(),
-                src: operand.src(),
-                offset: 0,
-                imm: operand.imm(),
-            },
-            Insn::Neg { width, dst } => Fields {
-                opcode: Opcode::Neg(width).byte(),
-                dst: dst.number(),
-                src: 0,
-                offset: 0,
-                imm: 0,
-            },
-            Insn::SignExtend {
-                extension,
-                dst,
-                src,
-            } => Fields {
-                opcode: Opcode::Mov(extension.target(), Source::Reg).byte(),
-                dst: dst.number(),
-                src: src.number(),
-                offset: extension.offset(),
-                imm: 0,
-            },
-            Insn::Swap { op, size, dst } => Fields {
-                opcode: Opcode::Swap(op).byte(),
-                dst: dst.number(),
-                src: 0,
-                offset: 0,
-                imm: size.bits(),
-            },
-            Insn::Jump { offset } => Fields {
-                opcode: Opcode::Jump(Width::W64).byte(),
-                dst: 0,
-                src: 0,
-                offset,
-                imm: 0,
-            },
-            Insn::LongJump { offset } => Fields {
-                opcode: Opcode::Jump(Width::W32).byte(),
-                dst: 0,
-                src: 0,
-                offset: 0,
-                imm: offset,
-            },
-            Insn::JumpIf {
-                width,
-                condition,
-                dst,
-                operand,
-                offset,
-            } => Fields {
-                opcode: Opcode::JumpIf(width, condition, operand.source()).byte(),
-                dst: dst.number(),
-                src: operand.src(),
-                offset,
-                imm: operand.imm(),
-            },
-            Insn::Load {
-                size,
-                dst,
-                base,
-                offset,
-            } => Fields {
-                opcode: Opcode::Load(size).byte(),
-                dst: dst.number(),
-                src: base.number(),
-                offset,
-                imm: 0,
-            },
-            Insn::LoadSigned {
-                size,
-                dst,
-                base,
-                offset,
-            } => Fields {
-                opcode: Opcode::LoadSigned(size).byte(),
-                dst: dst.number(),
-                src: base.number(),
-                offset,
-                imm: 0,
-            },
-            Insn::Store {
-                size,
-                base,
-                operand,
-                offset,
-            } => Fields {
-                opcode: Opcode::Store(size, operand.source()).byte(),
-                dst: base.number(),
-                src: operand.src(),
-                offset,
-                imm: operand.imm(),
-            },
-            Insn::LoadImm { dst, value } => Fields {
-                opcode: Opcode::LoadImm.byte(),
-                dst: dst.number(),
-                src: 0,
-                offset: 0,
-                imm: low_half(value),
-            },
-            Insn::Call { helper } => Fields {
-                opcode: Opcode::Call.byte(),
-                dst: 0,
-                src: 0,
-                offset: 0,
-                imm: helper,
-            },
-            Insn::Exit => Fields {
-                opcode: Opcode::Exit.byte(),
-                dst: 0,
-                src: 0,
-                offset: 0,
-                imm: 0,
-            },
+        Fields {
+            opcode: self.opcode().byte(),
+            dst: self.dst(),
+            src: self.src(),
+            offset: self.offset(),
+            imm: self.imm(),
         }
     }
 }
