@@ -3,3 +3,6 @@ use Rattle.control.proofs.create_permission.are_ipv4.Goals as goal
 
 pub returns : goal.returns
 returns c = search rules
+
+pub returns-in_default : goal.returns-in_default
+returns-in_default c = search rules

@@ -8,4 +8,9 @@ pub returns-in_default : goal.returns-in_default
 returns-in_default c = search rules
 
 pub returns-in-UnknownAttribute : goal.returns-in-UnknownAttribute
-returns-in-UnknownAttribute c = search rules
+returns-in-UnknownAttribute c = record {
+  parts = search rules;
+  used = search rules;
+  room = search rules;
+  same_buffer = search rules;
+}
