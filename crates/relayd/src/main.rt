@@ -1,9 +1,6 @@
 //! The program: parses the command line, reads the program file and prints the report.
 #![tactic(auto)]
 
-#[cfg(test)]
-mod tests;
-
 use asm::{AsmError, assemble};
 use clap::error::ErrorKind as LineErrorKind;
 use command_line::{Request, line, requested};

@@ -3,8 +3,6 @@
 
 mod error;
 mod reporting;
-#[cfg(test)]
-mod tests;
 
 pub use error::{ReportError, fail};
 pub use reporting::{Ask, report};

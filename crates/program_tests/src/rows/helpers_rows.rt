@@ -1,8 +1,8 @@
 //! What programs learn from helpers that find a peer.
 
 ghost use Rattle.std.specs.Prelude.{◌≡◌};
-ghost use Rattle.report.specs.OnePeer.{is_host, is_peer, one_peer};
-ghost use Rattle.report.specs.OnePeerLaws.{one_peer_is_lawful};
+ghost use Rattle.program_tests.specs.OnePeer.{is_host, is_peer, one_peer};
+ghost use Rattle.program_tests.specs.OnePeerLaws.{one_peer_is_lawful};
 
 use super::{CLIENT, PEER, outcome_of};
 use machine::{Addr, Helpers};

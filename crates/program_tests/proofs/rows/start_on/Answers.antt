@@ -1,4 +1,4 @@
-use Rattle.report.proofs.tests.start_on.Goals as goal
+use Rattle.program_tests.proofs.rows.start_on.Goals as goal
 
 pub returns : goal.returns
 returns c = c.start.ensures.is_started

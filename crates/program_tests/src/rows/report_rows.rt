@@ -1,9 +1,9 @@
 //! Bad data, bad files, and outputs that fail.
 
 use super::{expect_printed, program, reported};
-use crate::reporting::{Ask, report};
 use insn::Insn;
 use machine::{Lines, Sink};
+use report::{Ask, report};
 use std::io::{self, Write};
 use std::process::Abort;
 use std::test::Fail;

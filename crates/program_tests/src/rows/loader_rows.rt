@@ -3,30 +3,31 @@
 use super::insn_rows::UNDECODED;
 use super::semantics_rows::{calls, context, memory};
 use super::verifier_rows::{PROGRAMS, REPEATED, Repeated};
-use super::{Verified, expect_printed, program, reported};
-use crate::reporting::Ask;
+use super::{expect_printed, program, reported};
 use loader::load;
+use report::Ask;
 use std::process::Abort;
 use std::test::Fail;
 
-/// Verifies and loads a file, and compares both with the line.
-fn expect<R: Abort + AllocGlobal>(rt: &R, file: &[u8], line: &str, status: u8) -> Result<(), Fail> {
-    let report = reported(rt, Ask::Verify, file);
-    expect_printed(rt, &report, line, "", status);
+/// Verifies and loads a file, and compares both with the line, and the status: 0 where the file is accepted, else 1.
+fn expect<R: Abort + AllocGlobal>(rt: &R, file: &[u8], line: &str) -> Result<(), Fail> {
+    let printed = format!(in rt.alloc(); "{line}\n")?;
+    let status = u8::from(!line.starts_with("accepted"));
+    expect_printed(rt, &reported(rt, Ask::Verify, file), &printed, "", status);
     let loaded = match load(rt.alloc(), file) {
         Ok(loaded) => {
             let count = loaded.program().code().len();
-            format!(in rt.alloc(); "accepted {count} instructions\n")?
+            format!(in rt.alloc(); "accepted {count} instructions")?
         }
-        Err(refusal) => format!(in rt.alloc(); "refused {refusal}\n")?,
+        Err(refusal) => format!(in rt.alloc(); "refused {refusal}")?,
     };
     assert_eq!(rt; loaded.as_str(), line);
     Ok(())
 }
 
-fn expect_each<R: Abort + AllocGlobal>(rt: &R, rows: &[Verified]) -> Result<(), Fail> {
-    for row in rows {
-        expect(rt, &program(rt, row.slots)?, row.line, row.status)?;
+fn expect_each<R: Abort + AllocGlobal>(rt: &R, rows: &[(&str, &str)]) -> Result<(), Fail> {
+    for &(slots, line) in rows {
+        expect(rt, &program(rt, slots)?, line)?;
     }
     Ok(())
 }
@@ -39,7 +40,7 @@ fn expect_each_repeated<R: Abort + AllocGlobal>(rt: &R, rows: &[Repeated]) -> Re
             file.extend_from_slice(&slots)?;
         }
         file.extend_from_slice(&program(rt, row.tail)?)?;
-        expect(rt, &file, row.line, row.status)?;
+        expect(rt, &file, row.line)?;
     }
     Ok(())
 }
@@ -76,5 +77,5 @@ fn twenty_jumps(rt: &HostRuntime) -> Result<Vec<u8>, Fail> {
 /// on: the exit of the path that takes the 5th, 11th, 15th, 17th, 19th and 20th jump.
 #[test]
 fn twenty_jumps_are_too_many_paths(rt: HostRuntime) -> Result<(), Fail> {
-    expect(&rt, &twenty_jumps(&rt)?, "refused V17 at 43\n", 1)
+    expect(&rt, &twenty_jumps(&rt)?, "refused V17 at 43")
 }

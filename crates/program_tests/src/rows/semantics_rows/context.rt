@@ -1,146 +1,85 @@
 //! What a program reads in the context record, and which accesses are refused.
 
-use crate::tests::{
-    CLIENT, Faulty, PEER, Traced, Verified, expect_ends, expect_faults, outcome_of,
-};
+use crate::rows::{CLIENT, PEER, Traced, expect_ends, expect_faults, outcome_of};
 use machine::{Addr, Context, NoAllocation, Side};
 use std::process::Abort;
 use std::test::Fail;
 
-static FAULTS: [Faulty; 18] = [
+/// Programs that are refused, and the refusal of each.
+static FAULTS: [(&str, &str); 18] = [
     // a field in another size: `ldxw r0, [r1+16]`
-    Faulty {
-        slots: "6110100000000000 9500000000000000",
-        fault: "V9 at 0",
-    },
+    ("6110100000000000 9500000000000000", "V9 at 0"),
     // `ldxh r0, [r1+16]`
-    Faulty {
-        slots: "6910100000000000 9500000000000000",
-        fault: "V9 at 0",
-    },
+    ("6910100000000000 9500000000000000", "V9 at 0"),
     // `ldxb r0, [r1+24]`
-    Faulty {
-        slots: "7110180000000000 9500000000000000",
-        fault: "V9 at 0",
-    },
+    ("7110180000000000 9500000000000000", "V9 at 0"),
     // `ldxw r0, [r1+32]`
-    Faulty {
-        slots: "6110200000000000 9500000000000000",
-        fault: "V9 at 0",
-    },
+    ("6110200000000000 9500000000000000", "V9 at 0"),
     // `ldxdw r0, [r1+40]`
-    Faulty {
-        slots: "7910280000000000 9500000000000000",
-        fault: "V9 at 0",
-    },
+    ("7910280000000000 9500000000000000", "V9 at 0"),
     // `ldxb r0, [r1+44]`
-    Faulty {
-        slots: "71102c0000000000 9500000000000000",
-        fault: "V9 at 0",
-    },
+    ("71102c0000000000 9500000000000000", "V9 at 0"),
     // `ldxw r2, [r1+0]`
-    Faulty {
-        slots: "6112000000000000 9500000000000000",
-        fault: "V9 at 0",
-    },
+    ("6112000000000000 9500000000000000", "V9 at 0"),
     // `ldxw r2, [r1+8]`
-    Faulty {
-        slots: "6112080000000000 9500000000000000",
-        fault: "V9 at 0",
-    },
+    ("6112080000000000 9500000000000000", "V9 at 0"),
     // inside a field, and beside the record: `ldxdw r0, [r1+17]`
-    Faulty {
-        slots: "7910110000000000 9500000000000000",
-        fault: "V9 at 0",
-    },
+    ("7910110000000000 9500000000000000", "V9 at 0"),
     // `ldxdw r0, [r1+20]`
-    Faulty {
-        slots: "7910140000000000 9500000000000000",
-        fault: "V9 at 0",
-    },
+    ("7910140000000000 9500000000000000", "V9 at 0"),
     // `ldxw r0, [r1+36]`
-    Faulty {
-        slots: "6110240000000000 9500000000000000",
-        fault: "V9 at 0",
-    },
+    ("6110240000000000 9500000000000000", "V9 at 0"),
     // `ldxdw r0, [r1+44]`
-    Faulty {
-        slots: "79102c0000000000 9500000000000000",
-        fault: "V9 at 0",
-    },
+    ("79102c0000000000 9500000000000000", "V9 at 0"),
     // `ldxdw r0, [r1+48]`
-    Faulty {
-        slots: "7910300000000000 9500000000000000",
-        fault: "V9 at 0",
-    },
+    ("7910300000000000 9500000000000000", "V9 at 0"),
     // `ldxw r0, [r1+48]`
-    Faulty {
-        slots: "6110300000000000 9500000000000000",
-        fault: "V9 at 0",
-    },
+    ("6110300000000000 9500000000000000", "V9 at 0"),
     // `ldxdw r0, [r1-8]`
-    Faulty {
-        slots: "7910f8ff00000000 9500000000000000",
-        fault: "V9 at 0",
-    },
+    ("7910f8ff00000000 9500000000000000", "V9 at 0"),
     // a signed load: `ldxsw r0, [r1+40]`
-    Faulty {
-        slots: "8110280000000000 9500000000000000",
-        fault: "V9 at 0",
-    },
+    ("8110280000000000 9500000000000000", "V9 at 0"),
     // `ldxsw r0, [r1+44]`
-    Faulty {
-        slots: "81102c0000000000 9500000000000000",
-        fault: "V9 at 0",
-    },
+    ("81102c0000000000 9500000000000000", "V9 at 0"),
     // `ldxsb r0, [r1+44]`
-    Faulty {
-        slots: "91102c0000000000 9500000000000000",
-        fault: "V9 at 0",
-    },
+    ("91102c0000000000 9500000000000000", "V9 at 0"),
 ];
 
-/// Programs that are accepted.
-pub static ACCEPTED: [Verified; 6] = [
+/// Programs that are accepted, and the line of `verify` on each.
+pub static ACCEPTED: [(&str, &str); 6] = [
     // `ldxdw r0, [r1+16]`
-    Verified {
-        slots: "7910100000000000 9500000000000000",
-        line: "accepted 2 instructions\n",
-        status: 0,
-    },
+    (
+        "7910100000000000 9500000000000000",
+        "accepted 2 instructions",
+    ),
     // `ldxdw r0, [r1+24]`
-    Verified {
-        slots: "7910180000000000 9500000000000000",
-        line: "accepted 2 instructions\n",
-        status: 0,
-    },
+    (
+        "7910180000000000 9500000000000000",
+        "accepted 2 instructions",
+    ),
     // `ldxdw r0, [r1+32]`
-    Verified {
-        slots: "7910200000000000 9500000000000000",
-        line: "accepted 2 instructions\n",
-        status: 0,
-    },
+    (
+        "7910200000000000 9500000000000000",
+        "accepted 2 instructions",
+    ),
     // `ldxw r0, [r1+40]`
-    Verified {
-        slots: "6110280000000000 9500000000000000",
-        line: "accepted 2 instructions\n",
-        status: 0,
-    },
+    (
+        "6110280000000000 9500000000000000",
+        "accepted 2 instructions",
+    ),
     // `ldxw r0, [r1+44]`
-    Verified {
-        slots: "61102c0000000000 9500000000000000",
-        line: "accepted 2 instructions\n",
-        status: 0,
-    },
+    (
+        "61102c0000000000 9500000000000000",
+        "accepted 2 instructions",
+    ),
     // all of them: `ldxdw r2, [r1+16]`, `ldxdw r3, [r1+24]`, `ldxdw r4, [r1+32]`, `ldxw r5, [r1+40]`,
     // `ldxw r0, [r1+44]`, `xor r0, r2`, `xor r0, r3`, `xor r0, r4`, `xor r0, r5`
-    Verified {
-        slots: "7912100000000000 7913180000000000 7914200000000000 6115280000000000 \
+    (
+        "7912100000000000 7913180000000000 7914200000000000 6115280000000000 \
              61102c0000000000 af20000000000000 af30000000000000 af40000000000000 \
              af50000000000000 9500000000000000",
-        line: "accepted 10 instructions\n",
-        status: 0,
-    },
+        "accepted 10 instructions",
+    ),
 ];
 
 static TRACED: [Traced; 6] = [

@@ -4,7 +4,7 @@ use Rattle.std.proofs.Common.{refl, arith}
 use Rattle.std.proofs.lemmas.List.Elements.{All-from_recursion, All-replicate}
 use Rattle.semantics.specs.Machine.{AddressRecord, AreBytes}
 use Rattle.semantics.specs.Runs.{IsLawful}
-use Rattle.report.specs.OnePeer.{is_host, is_peer, no_record, record_of_peer, one_peer}
+use Rattle.program_tests.specs.OnePeer.{is_host, is_peer, no_record, record_of_peer, one_peer}
 
 zeros : AreBytes 8 no_record
 zeros = record { count = refl; fit = All-replicate (λ (b : ℕ). b < 256) 8 0 (omega arith) }

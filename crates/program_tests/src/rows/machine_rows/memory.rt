@@ -1,6 +1,6 @@
 //! What a run leaves in the datagram and in its window, and that it leaves nothing to the next run.
 
-use crate::tests::{CLIENT, program, start_on};
+use crate::rows::{CLIENT, program, start_on};
 use insn::decode;
 use loader::load;
 use machine::{Addr, Frame, MAX_DATAGRAM, NoAllocation, Outcome, Silent, Stuck, run, trace};

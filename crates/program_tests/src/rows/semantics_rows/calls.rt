@@ -1,395 +1,358 @@
 //! Calls of helpers: which are refused, the windows and destinations that are set, and the answers of a relay
 //! without an allocation.
 
-use crate::tests::{
-    CLIENT, Faulty, PEER, Traced, Verified, expect_ends, expect_faults, outcome_of,
-};
+use crate::rows::{CLIENT, PEER, Traced, expect_ends, expect_faults, outcome_of};
 use machine::{MAX_DATAGRAM, NoAllocation};
 use std::process::Abort;
 use std::test::Fail;
 
-static FAULTS: [Faulty; 60] = [
+/// Programs that are refused, and the refusal of each.
+static FAULTS: [(&str, &str); 60] = [
     // numbers of no helper: `mov r0, 0`, `call 10`
-    Faulty {
-        slots: "b700000000000000 850000000a000000 9500000000000000",
-        fault: "V14 at 1",
-    },
+    (
+        "b700000000000000 850000000a000000 9500000000000000",
+        "V14 at 1",
+    ),
     // `call 0`
-    Faulty {
-        slots: "8500000000000000 9500000000000000",
-        fault: "V14 at 0",
-    },
+    ("8500000000000000 9500000000000000", "V14 at 0"),
     // `call 6`
-    Faulty {
-        slots: "8500000006000000 9500000000000000",
-        fault: "V14 at 0",
-    },
+    ("8500000006000000 9500000000000000", "V14 at 0"),
     // `call -1`
-    Faulty {
-        slots: "85000000ffffffff 9500000000000000",
-        fault: "V14 at 0",
-    },
+    ("85000000ffffffff 9500000000000000", "V14 at 0"),
     // `call 257`
-    Faulty {
-        slots: "8500000001010000 9500000000000000",
-        fault: "V14 at 0",
-    },
+    ("8500000001010000 9500000000000000", "V14 at 0"),
     // the number before the arguments: `mov r1, 0`, `call 10`
-    Faulty {
-        slots: "b701000000000000 850000000a000000 9500000000000000",
-        fault: "V14 at 1",
-    },
+    (
+        "b701000000000000 850000000a000000 9500000000000000",
+        "V14 at 1",
+    ),
     // the first argument of each is the context: `mov r1, 0`, `call 1`
-    Faulty {
-        slots: "b701000000000000 8500000001000000 9500000000000000",
-        fault: "V15 argument 1 at 1",
-    },
+    (
+        "b701000000000000 8500000001000000 9500000000000000",
+        "V15 argument 1 at 1",
+    ),
     // `mov r1, 0`, `call 2`
-    Faulty {
-        slots: "b701000000000000 8500000002000000 9500000000000000",
-        fault: "V15 argument 1 at 1",
-    },
+    (
+        "b701000000000000 8500000002000000 9500000000000000",
+        "V15 argument 1 at 1",
+    ),
     // `mov r1, 0`, `call 3`
-    Faulty {
-        slots: "b701000000000000 8500000003000000 9500000000000000",
-        fault: "V15 argument 1 at 1",
-    },
+    (
+        "b701000000000000 8500000003000000 9500000000000000",
+        "V15 argument 1 at 1",
+    ),
     // `mov r1, 0`, `call 4`
-    Faulty {
-        slots: "b701000000000000 8500000004000000 9500000000000000",
-        fault: "V15 argument 1 at 1",
-    },
+    (
+        "b701000000000000 8500000004000000 9500000000000000",
+        "V15 argument 1 at 1",
+    ),
     // `mov r1, 0`, `call 5`
-    Faulty {
-        slots: "b701000000000000 8500000005000000 9500000000000000",
-        fault: "V15 argument 1 at 1",
-    },
+    (
+        "b701000000000000 8500000005000000 9500000000000000",
+        "V15 argument 1 at 1",
+    ),
     // `mov r1, r10`, `call 4`
-    Faulty {
-        slots: "bfa1000000000000 8500000004000000 9500000000000000",
-        fault: "V15 argument 1 at 1",
-    },
+    (
+        "bfa1000000000000 8500000004000000 9500000000000000",
+        "V15 argument 1 at 1",
+    ),
     // `ldxdw r1, [r1+0]`, `call 4`
-    Faulty {
-        slots: "7911000000000000 8500000004000000 9500000000000000",
-        fault: "V15 argument 1 at 1",
-    },
+    (
+        "7911000000000000 8500000004000000 9500000000000000",
+        "V15 argument 1 at 1",
+    ),
     // `ldxdw r1, [r1+8]`, `call 4`
-    Faulty {
-        slots: "7911080000000000 8500000004000000 9500000000000000",
-        fault: "V15 argument 1 at 1",
-    },
+    (
+        "7911080000000000 8500000004000000 9500000000000000",
+        "V15 argument 1 at 1",
+    ),
     // the peer of a channel: the number, and where the record is written: `call 1`
-    Faulty {
-        slots: "8500000001000000 9500000000000000",
-        fault: "V5 at 0",
-    },
+    ("8500000001000000 9500000000000000", "V5 at 0"),
     // `mov r2, r10`, `call 1`
-    Faulty {
-        slots: "bfa2000000000000 8500000001000000 9500000000000000",
-        fault: "V15 argument 2 at 1",
-    },
+    (
+        "bfa2000000000000 8500000001000000 9500000000000000",
+        "V15 argument 2 at 1",
+    ),
     // `mov r2, r1`, `call 1`
-    Faulty {
-        slots: "bf12000000000000 8500000001000000 9500000000000000",
-        fault: "V15 argument 2 at 1",
-    },
+    (
+        "bf12000000000000 8500000001000000 9500000000000000",
+        "V15 argument 2 at 1",
+    ),
     // `mov r2, 0`, `call 1`
-    Faulty {
-        slots: "b702000000000000 8500000001000000 9500000000000000",
-        fault: "V5 at 1",
-    },
+    (
+        "b702000000000000 8500000001000000 9500000000000000",
+        "V5 at 1",
+    ),
     // `mov r2, 0`, `mov r3, 0`, `call 1`
-    Faulty {
-        slots: "b702000000000000 b703000000000000 8500000001000000 9500000000000000",
-        fault: "V15 argument 3 at 2",
-    },
+    (
+        "b702000000000000 b703000000000000 8500000001000000 9500000000000000",
+        "V15 argument 3 at 2",
+    ),
     // `mov r2, 0`, `mov r3, r1`, `call 1`
-    Faulty {
-        slots: "b702000000000000 bf13000000000000 8500000001000000 9500000000000000",
-        fault: "V15 argument 3 at 2",
-    },
+    (
+        "b702000000000000 bf13000000000000 8500000001000000 9500000000000000",
+        "V15 argument 3 at 2",
+    ),
     // `mov r2, 0`, `ldxdw r3, [r1+0]`, `call 1`
-    Faulty {
-        slots: "b702000000000000 7913000000000000 8500000001000000 9500000000000000",
-        fault: "V15 argument 3 at 2",
-    },
+    (
+        "b702000000000000 7913000000000000 8500000001000000 9500000000000000",
+        "V15 argument 3 at 2",
+    ),
     // `mov r2, 0`, `mov r3, r10`, `call 1`
-    Faulty {
-        slots: "b702000000000000 bfa3000000000000 8500000001000000 9500000000000000",
-        fault: "V15 argument 3 at 2",
-    },
+    (
+        "b702000000000000 bfa3000000000000 8500000001000000 9500000000000000",
+        "V15 argument 3 at 2",
+    ),
     // the record across either end of the stack: `mov r2, 0`, `mov r3, r10`, `add r3, -7`, `call 1`
-    Faulty {
-        slots: "b702000000000000 bfa3000000000000 07030000f9ffffff 8500000001000000 \
+    (
+        "b702000000000000 bfa3000000000000 07030000f9ffffff 8500000001000000 \
              9500000000000000",
-        fault: "V15 argument 3 at 3",
-    },
+        "V15 argument 3 at 3",
+    ),
     // `mov r2, 0`, `mov r3, r10`, `add r3, -513`, `call 1`
-    Faulty {
-        slots: "b702000000000000 bfa3000000000000 07030000fffdffff 8500000001000000 \
+    (
+        "b702000000000000 bfa3000000000000 07030000fffdffff 8500000001000000 \
              9500000000000000",
-        fault: "V15 argument 3 at 3",
-    },
+        "V15 argument 3 at 3",
+    ),
     // the record that is looked up, or set as the destination: `call 2`
-    Faulty {
-        slots: "8500000002000000 9500000000000000",
-        fault: "V5 at 0",
-    },
+    ("8500000002000000 9500000000000000", "V5 at 0"),
     // `call 3`
-    Faulty {
-        slots: "8500000003000000 9500000000000000",
-        fault: "V5 at 0",
-    },
+    ("8500000003000000 9500000000000000", "V5 at 0"),
     // `call 5`
-    Faulty {
-        slots: "8500000005000000 9500000000000000",
-        fault: "V5 at 0",
-    },
+    ("8500000005000000 9500000000000000", "V5 at 0"),
     // `mov r2, 0`, `call 2`
-    Faulty {
-        slots: "b702000000000000 8500000002000000 9500000000000000",
-        fault: "V15 argument 2 at 1",
-    },
+    (
+        "b702000000000000 8500000002000000 9500000000000000",
+        "V15 argument 2 at 1",
+    ),
     // `mov r2, 0`, `call 3`
-    Faulty {
-        slots: "b702000000000000 8500000003000000 9500000000000000",
-        fault: "V15 argument 2 at 1",
-    },
+    (
+        "b702000000000000 8500000003000000 9500000000000000",
+        "V15 argument 2 at 1",
+    ),
     // `mov r2, 0`, `call 5`
-    Faulty {
-        slots: "b702000000000000 8500000005000000 9500000000000000",
-        fault: "V15 argument 2 at 1",
-    },
+    (
+        "b702000000000000 8500000005000000 9500000000000000",
+        "V15 argument 2 at 1",
+    ),
     // `mov r2, r1`, `call 3`
-    Faulty {
-        slots: "bf12000000000000 8500000003000000 9500000000000000",
-        fault: "V15 argument 2 at 1",
-    },
+    (
+        "bf12000000000000 8500000003000000 9500000000000000",
+        "V15 argument 2 at 1",
+    ),
     // `ldxdw r2, [r1+0]`, `call 3`
-    Faulty {
-        slots: "7912000000000000 8500000003000000 9500000000000000",
-        fault: "V15 argument 2 at 1",
-    },
+    (
+        "7912000000000000 8500000003000000 9500000000000000",
+        "V15 argument 2 at 1",
+    ),
     // `ldxdw r2, [r1+8]`, `call 3`
-    Faulty {
-        slots: "7912080000000000 8500000003000000 9500000000000000",
-        fault: "V15 argument 2 at 1",
-    },
+    (
+        "7912080000000000 8500000003000000 9500000000000000",
+        "V15 argument 2 at 1",
+    ),
     // `mov r2, r10`, `call 2`
-    Faulty {
-        slots: "bfa2000000000000 8500000002000000 9500000000000000",
-        fault: "V15 argument 2 at 1",
-    },
+    (
+        "bfa2000000000000 8500000002000000 9500000000000000",
+        "V15 argument 2 at 1",
+    ),
     // `mov r2, r10`, `call 3`
-    Faulty {
-        slots: "bfa2000000000000 8500000003000000 9500000000000000",
-        fault: "V15 argument 2 at 1",
-    },
+    (
+        "bfa2000000000000 8500000003000000 9500000000000000",
+        "V15 argument 2 at 1",
+    ),
     // `mov r2, r10`, `call 5`
-    Faulty {
-        slots: "bfa2000000000000 8500000005000000 9500000000000000",
-        fault: "V15 argument 2 at 1",
-    },
+    (
+        "bfa2000000000000 8500000005000000 9500000000000000",
+        "V15 argument 2 at 1",
+    ),
     // `mov r2, r10`, `add r2, -513`, `call 3`
-    Faulty {
-        slots: "bfa2000000000000 07020000fffdffff 8500000003000000 9500000000000000",
-        fault: "V15 argument 2 at 2",
-    },
+    (
+        "bfa2000000000000 07020000fffdffff 8500000003000000 9500000000000000",
+        "V15 argument 2 at 2",
+    ),
     // a record of which nothing is set: `mov r2, r10`, `add r2, -8`, `call 2`
-    Faulty {
-        slots: "bfa2000000000000 07020000f8ffffff 8500000002000000 9500000000000000",
-        fault: "V6 at 2",
-    },
+    (
+        "bfa2000000000000 07020000f8ffffff 8500000002000000 9500000000000000",
+        "V6 at 2",
+    ),
     // `mov r2, r10`, `add r2, -8`, `call 3`
-    Faulty {
-        slots: "bfa2000000000000 07020000f8ffffff 8500000003000000 9500000000000000",
-        fault: "V6 at 2",
-    },
+    (
+        "bfa2000000000000 07020000f8ffffff 8500000003000000 9500000000000000",
+        "V6 at 2",
+    ),
     // `mov r2, r10`, `add r2, -8`, `call 5`
-    Faulty {
-        slots: "bfa2000000000000 07020000f8ffffff 8500000005000000 9500000000000000",
-        fault: "V6 at 2",
-    },
+    (
+        "bfa2000000000000 07020000f8ffffff 8500000005000000 9500000000000000",
+        "V6 at 2",
+    ),
     // of which half is set, and all but the last byte: `stw [r10-8], 0`, `mov r2, r10`, `add r2, -8`, `call 3`
-    Faulty {
-        slots: "620af8ff00000000 bfa2000000000000 07020000f8ffffff 8500000003000000 \
+    (
+        "620af8ff00000000 bfa2000000000000 07020000f8ffffff 8500000003000000 \
              9500000000000000",
-        fault: "V6 at 3",
-    },
+        "V6 at 3",
+    ),
     // `stw [r10-8], 0`, `sth [r10-4], 0`, `stb [r10-2], 0`, `mov r2, r10`, `add r2, -8`, `call 3`
-    Faulty {
-        slots: "620af8ff00000000 6a0afcff00000000 720afeff00000000 bfa2000000000000 \
+    (
+        "620af8ff00000000 6a0afcff00000000 720afeff00000000 bfa2000000000000 \
              07020000f8ffffff 8500000003000000 9500000000000000",
-        fault: "V6 at 5",
-    },
+        "V6 at 5",
+    ),
     // that begins one byte later: `stdw [r10-8], 0`, `mov r2, r10`, `add r2, -7`, `call 3`
-    Faulty {
-        slots: "7a0af8ff00000000 bfa2000000000000 07020000f9ffffff 8500000003000000 \
+    (
+        "7a0af8ff00000000 bfa2000000000000 07020000f9ffffff 8500000003000000 \
              9500000000000000",
-        fault: "V15 argument 2 at 3",
-    },
+        "V15 argument 2 at 3",
+    ),
     // the front of a window, and its length: `call 4`
-    Faulty {
-        slots: "8500000004000000 9500000000000000",
-        fault: "V5 at 0",
-    },
+    ("8500000004000000 9500000000000000", "V5 at 0"),
     // `mov r2, r10`, `call 4`
-    Faulty {
-        slots: "bfa2000000000000 8500000004000000 9500000000000000",
-        fault: "V15 argument 2 at 1",
-    },
+    (
+        "bfa2000000000000 8500000004000000 9500000000000000",
+        "V15 argument 2 at 1",
+    ),
     // `mov r2, 0`, `call 4`
-    Faulty {
-        slots: "b702000000000000 8500000004000000 9500000000000000",
-        fault: "V5 at 1",
-    },
+    (
+        "b702000000000000 8500000004000000 9500000000000000",
+        "V5 at 1",
+    ),
     // `mov r2, 0`, `mov r3, r10`, `call 4`
-    Faulty {
-        slots: "b702000000000000 bfa3000000000000 8500000004000000 9500000000000000",
-        fault: "V15 argument 3 at 2",
-    },
+    (
+        "b702000000000000 bfa3000000000000 8500000004000000 9500000000000000",
+        "V15 argument 3 at 2",
+    ),
     // `ldxdw r2, [r1+0]`, `ldxdw r3, [r1+16]`, `call 4`
-    Faulty {
-        slots: "7912000000000000 7913100000000000 8500000004000000 9500000000000000",
-        fault: "V15 argument 2 at 2",
-    },
+    (
+        "7912000000000000 7913100000000000 8500000004000000 9500000000000000",
+        "V15 argument 2 at 2",
+    ),
     // two at once: the first argument is a number and the second holds nothing: `mov r1, 0`, `call 3`
-    Faulty {
-        slots: "b701000000000000 8500000003000000 9500000000000000",
-        fault: "V15 argument 1 at 1",
-    },
+    (
+        "b701000000000000 8500000003000000 9500000000000000",
+        "V15 argument 1 at 1",
+    ),
     // `mov r1, 0`, `mov r2, r10`, `call 3`
-    Faulty {
-        slots: "b701000000000000 bfa2000000000000 8500000003000000 9500000000000000",
-        fault: "V15 argument 1 at 2",
-    },
+    (
+        "b701000000000000 bfa2000000000000 8500000003000000 9500000000000000",
+        "V15 argument 1 at 2",
+    ),
     // the record is outside the stack, and nothing of it is set: `mov r2, r10`, `add r2, -520`, `call 3`
-    Faulty {
-        slots: "bfa2000000000000 07020000f8fdffff 8500000003000000 9500000000000000",
-        fault: "V15 argument 2 at 2",
-    },
+    (
+        "bfa2000000000000 07020000f8fdffff 8500000003000000 9500000000000000",
+        "V15 argument 2 at 2",
+    ),
     // the number is a pointer, and the pointer a number: `mov r2, r10`, `mov r3, 0`, `call 1`
-    Faulty {
-        slots: "bfa2000000000000 b703000000000000 8500000001000000 9500000000000000",
-        fault: "V15 argument 2 at 2",
-    },
+    (
+        "bfa2000000000000 b703000000000000 8500000001000000 9500000000000000",
+        "V15 argument 2 at 2",
+    ),
     // the number holds nothing, and the pointer is a number: `mov r3, 0`, `call 1`
-    Faulty {
-        slots: "b703000000000000 8500000001000000 9500000000000000",
-        fault: "V5 at 1",
-    },
+    (
+        "b703000000000000 8500000001000000 9500000000000000",
+        "V5 at 1",
+    ),
     // r1 to r5 hold nothing after a call: `mov r2, 0`, `mov r3, 0`, `call 4`, `mov r0, r1`
-    Faulty {
-        slots: "b702000000000000 b703000000000000 8500000004000000 bf10000000000000 \
+    (
+        "b702000000000000 b703000000000000 8500000004000000 bf10000000000000 \
              9500000000000000",
-        fault: "V5 at 3",
-    },
+        "V5 at 3",
+    ),
     // `mov r2, 0`, `mov r3, 0`, `call 4`, `mov r0, r2`
-    Faulty {
-        slots: "b702000000000000 b703000000000000 8500000004000000 bf20000000000000 \
+    (
+        "b702000000000000 b703000000000000 8500000004000000 bf20000000000000 \
              9500000000000000",
-        fault: "V5 at 3",
-    },
+        "V5 at 3",
+    ),
     // `mov r2, 0`, `mov r3, 0`, `call 4`, `mov r0, r3`
-    Faulty {
-        slots: "b702000000000000 b703000000000000 8500000004000000 bf30000000000000 \
+    (
+        "b702000000000000 b703000000000000 8500000004000000 bf30000000000000 \
              9500000000000000",
-        fault: "V5 at 3",
-    },
+        "V5 at 3",
+    ),
     // `mov r2, 0`, `mov r3, 0`, `mov r4, 1`, `call 4`, `mov r0, r4`
-    Faulty {
-        slots: "b702000000000000 b703000000000000 b704000001000000 8500000004000000 \
+    (
+        "b702000000000000 b703000000000000 b704000001000000 8500000004000000 \
              bf40000000000000 9500000000000000",
-        fault: "V5 at 4",
-    },
+        "V5 at 4",
+    ),
     // `mov r2, 0`, `mov r3, 0`, `mov r5, 1`, `call 4`, `mov r0, r5`
-    Faulty {
-        slots: "b702000000000000 b703000000000000 b705000001000000 8500000004000000 \
+    (
+        "b702000000000000 b703000000000000 b705000001000000 8500000004000000 \
              bf50000000000000 9500000000000000",
-        fault: "V5 at 4",
-    },
+        "V5 at 4",
+    ),
     // and so the context is to be kept elsewhere: `mov r2, 0`, `mov r3, 0`, `call 4`, `mov r2, 0`,
     // `mov r3, 0`, `call 4`
-    Faulty {
-        slots: "b702000000000000 b703000000000000 8500000004000000 b702000000000000 \
+    (
+        "b702000000000000 b703000000000000 8500000004000000 b702000000000000 \
              b703000000000000 8500000004000000 9500000000000000",
-        fault: "V5 at 5",
-    },
+        "V5 at 5",
+    ),
     // `lddw r3, 0x070200c088130100`, `stxdw [r10-8], r3`, `mov r2, r10`, `add r2, -8`, `call 5`, `mov r0, r1`
-    Faulty {
-        slots: "1803000000011388 00000000c0000207 7b3af8ff00000000 bfa2000000000000 \
+    (
+        "1803000000011388 00000000c0000207 7b3af8ff00000000 bfa2000000000000 \
              07020000f8ffffff 8500000005000000 bf10000000000000 9500000000000000",
-        fault: "V5 at 6",
-    },
+        "V5 at 6",
+    ),
 ];
 
-/// Programs that are accepted.
-pub static ACCEPTED: [Verified; 9] = [
+/// Programs that are accepted, and the line of `verify` on each.
+pub static ACCEPTED: [(&str, &str); 9] = [
     // `stdw [r10-8], 0`, `mov r2, r10`, `add r2, -8`, `call 3`
-    Verified {
-        slots: "7a0af8ff00000000 bfa2000000000000 07020000f8ffffff 8500000003000000 \
+    (
+        "7a0af8ff00000000 bfa2000000000000 07020000f8ffffff 8500000003000000 \
              9500000000000000",
-        line: "accepted 5 instructions\n",
-        status: 0,
-    },
+        "accepted 5 instructions",
+    ),
     // `stdw [r10-8], 0`, `mov r2, r10`, `add r2, -8`, `call 2`
-    Verified {
-        slots: "7a0af8ff00000000 bfa2000000000000 07020000f8ffffff 8500000002000000 \
+    (
+        "7a0af8ff00000000 bfa2000000000000 07020000f8ffffff 8500000002000000 \
              9500000000000000",
-        line: "accepted 5 instructions\n",
-        status: 0,
-    },
+        "accepted 5 instructions",
+    ),
     // `stdw [r10-8], 0`, `mov r2, r10`, `add r2, -8`, `call 5`
-    Verified {
-        slots: "7a0af8ff00000000 bfa2000000000000 07020000f8ffffff 8500000005000000 \
+    (
+        "7a0af8ff00000000 bfa2000000000000 07020000f8ffffff 8500000005000000 \
              9500000000000000",
-        line: "accepted 5 instructions\n",
-        status: 0,
-    },
+        "accepted 5 instructions",
+    ),
     // at the lower end of the stack: `stdw [r10-512], 0`, `mov r2, r10`, `add r2, -512`, `call 3`
-    Verified {
-        slots: "7a0a00fe00000000 bfa2000000000000 0702000000feffff 8500000003000000 \
+    (
+        "7a0a00fe00000000 bfa2000000000000 0702000000feffff 8500000003000000 \
              9500000000000000",
-        line: "accepted 5 instructions\n",
-        status: 0,
-    },
+        "accepted 5 instructions",
+    ),
     // `mov r2, 0`, `mov r3, r10`, `add r3, -512`, `call 1`
-    Verified {
-        slots: "b702000000000000 bfa3000000000000 0703000000feffff 8500000001000000 \
+    (
+        "b702000000000000 bfa3000000000000 0703000000feffff 8500000001000000 \
              9500000000000000",
-        line: "accepted 5 instructions\n",
-        status: 0,
-    },
+        "accepted 5 instructions",
+    ),
     // what a helper writes is set: `mov r2, 16385`, `mov r3, r10`, `add r3, -8`, `call 1`, `ldxdw r0, [r10-8]`
-    Verified {
-        slots: "b702000001400000 bfa3000000000000 07030000f8ffffff 8500000001000000 \
+    (
+        "b702000001400000 bfa3000000000000 07030000f8ffffff 8500000001000000 \
              79a0f8ff00000000 9500000000000000",
-        line: "accepted 6 instructions\n",
-        status: 0,
-    },
+        "accepted 6 instructions",
+    ),
     // a window of the datagram: `ldxdw r3, [r1+16]`, `mov r2, 64`, `call 4`
-    Verified {
-        slots: "7913100000000000 b702000040000000 8500000004000000 9500000000000000",
-        line: "accepted 4 instructions\n",
-        status: 0,
-    },
+    (
+        "7913100000000000 b702000040000000 8500000004000000 9500000000000000",
+        "accepted 4 instructions",
+    ),
     // r6 to r10 stay: `mov r6, 7`, `mov r7, r10`, `mov r2, 0`, `mov r3, 0`, `call 4`, `stdw [r7-8], 1`,
     // `mov r0, r6`
-    Verified {
-        slots: "b706000007000000 bfa7000000000000 b702000000000000 b703000000000000 \
+    (
+        "b706000007000000 bfa7000000000000 b702000000000000 b703000000000000 \
              8500000004000000 7a07f8ff01000000 bf60000000000000 9500000000000000",
-        line: "accepted 8 instructions\n",
-        status: 0,
-    },
+        "accepted 8 instructions",
+    ),
     // a datagram back to its source: `ldxdw r6, [r1+24]`, `stxdw [r10-8], r6`, `mov r2, r10`, `add r2, -8`,
     // `call 5`
-    Verified {
-        slots: "7916180000000000 7b6af8ff00000000 bfa2000000000000 07020000f8ffffff \
+    (
+        "7916180000000000 7b6af8ff00000000 bfa2000000000000 07020000f8ffffff \
              8500000005000000 9500000000000000",
-        line: "accepted 6 instructions\n",
-        status: 0,
-    },
+        "accepted 6 instructions",
+    ),
 ];
 
 /// Programs that set a window.

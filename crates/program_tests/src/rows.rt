@@ -12,9 +12,9 @@ mod report_rows;
 mod semantics_rows;
 mod verifier_rows;
 
-use crate::reporting::{Ask, report};
 use loader::load;
 use machine::{Addr, Context, Frame, Helpers, MAX_DATAGRAM, Outcome, Side, run};
+use report::{Ask, report};
 use std::process::Abort;
 use std::test::Fail;
 
@@ -56,14 +56,6 @@ pub fn expect_printed<R: Abort + AllocGlobal>(
     assert_eq!(rt; report.status, status, "{out}{err}");
 }
 
-/// A program file, the line of `verify` on it, and the status.
-#[derive(Clone, Copy)]
-pub struct Verified {
-    pub slots: &'static str,
-    pub line: &'static str,
-    pub status: u8,
-}
-
 /// A program file and data, what `trace` prints of them in the end, and the status.
 #[derive(Clone, Copy)]
 pub struct Traced {
@@ -86,18 +78,11 @@ pub fn expect_ends<R: Abort + AllocGlobal>(rt: &R, rows: &[Traced]) -> Result<()
     Ok(())
 }
 
-/// A program with a fault: it is refused for it, and its trace over the empty datagram is stuck there.
-#[derive(Clone, Copy)]
-pub struct Faulty {
-    pub slots: &'static str,
-    pub fault: &'static str,
-}
-
-/// Verifies and traces each row, and compares what is printed of its fault, and the status.
-pub fn expect_faults<R: Abort + AllocGlobal>(rt: &R, rows: &[Faulty]) -> Result<(), Fail> {
-    for row in rows {
-        let file = program(rt, row.slots)?;
-        let (slots, fault) = (row.slots, row.fault);
+/// Verifies and traces programs, each of which has a fault: it is refused for it, and its trace over the empty datagram is
+/// stuck there. Compares what is printed of the fault, and the status.
+pub fn expect_faults<R: Abort + AllocGlobal>(rt: &R, rows: &[(&str, &str)]) -> Result<(), Fail> {
+    for &(slots, fault) in rows {
+        let file = program(rt, slots)?;
         let refused = format!(in rt.alloc(); "refused {fault}\n")?;
         expect_printed(rt, &reported(rt, Ask::Verify, &file), &refused, "", 1);
         let stuck = format!(in rt.alloc(); "\nstuck {fault}\n")?;

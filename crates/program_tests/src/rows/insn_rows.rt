@@ -1,6 +1,6 @@
 //! How instructions and the refusals of a decoder are spelled, and which file is refused by which.
 
-use super::{Verified, program};
+use super::program;
 use disasm::disassemble;
 use insn::{DecodeError, Insn, decode, encode, read_back};
 use machine::{Lines, Sink};
@@ -271,371 +271,100 @@ fn decode_errors_are_spelled(rt: HostRuntime) -> Result<(), Fail> {
     Ok(())
 }
 
-/// Files that encode no program.
-pub static UNDECODED: [Verified; 70] = [
-    Verified {
-        slots: "",
-        line: "refused E1\n",
-        status: 1,
-    },
-    Verified {
-        slots: "9500000000000000 95000000",
-        line: "refused E2\n",
-        status: 1,
-    },
+/// Files that encode no program, and the line of `verify` on each.
+pub static UNDECODED: [(&str, &str); 70] = [
+    ("", "refused E1"),
+    ("9500000000000000 95000000", "refused E2"),
     // an unknown opcode
-    Verified {
-        slots: "8d00000000000000",
-        line: "refused E4 at 0\n",
-        status: 1,
-    },
-    Verified {
-        slots: "b700000000000000 9600000000000000",
-        line: "refused E4 at 1\n",
-        status: 1,
-    },
+    ("8d00000000000000", "refused E4 at 0"),
+    ("b700000000000000 9600000000000000", "refused E4 at 1"),
     // a register above 10, used or not
-    Verified {
-        slots: "b70b000000000000",
-        line: "refused E5 at 0\n",
-        status: 1,
-    },
-    Verified {
-        slots: "9500000000000000 95b0000000000000",
-        line: "refused E5 at 1\n",
-        status: 1,
-    },
+    ("b70b000000000000", "refused E5 at 0"),
+    ("9500000000000000 95b0000000000000", "refused E5 at 1"),
     // an unused offset
-    Verified {
-        slots: "b701010000000000",
-        line: "refused E6 at 0\n",
-        status: 1,
-    },
+    ("b701010000000000", "refused E6 at 0"),
     // two faults at once: the length before the slots
-    Verified {
-        slots: "8d00000000000000 95000000",
-        line: "refused E2\n",
-        status: 1,
-    },
+    ("8d00000000000000 95000000", "refused E2"),
     // the first slot before a later one, whichever the faults are
-    Verified {
-        slots: "8d00000000000000 b701010000000000",
-        line: "refused E4 at 0\n",
-        status: 1,
-    },
-    Verified {
-        slots: "b701010000000000 8d00000000000000",
-        line: "refused E6 at 0\n",
-        status: 1,
-    },
-    Verified {
-        slots: "b70b000000000000 8d00000000000000",
-        line: "refused E5 at 0\n",
-        status: 1,
-    },
-    Verified {
-        slots: "9500000000000000 b701010000000000 b70b000000000000",
-        line: "refused E6 at 1\n",
-        status: 1,
-    },
+    ("8d00000000000000 b701010000000000", "refused E4 at 0"),
+    ("b701010000000000 8d00000000000000", "refused E6 at 0"),
+    ("b70b000000000000 8d00000000000000", "refused E5 at 0"),
+    (
+        "9500000000000000 b701010000000000 b70b000000000000",
+        "refused E6 at 1",
+    ),
     // in one slot the opcode, then the registers, then the unused fields
-    Verified {
-        slots: "8dbb010000000000",
-        line: "refused E4 at 0\n",
-        status: 1,
-    },
-    Verified {
-        slots: "b70b010000000000",
-        line: "refused E5 at 0\n",
-        status: 1,
-    },
-    Verified {
-        slots: "95b0000001000000",
-        line: "refused E5 at 0\n",
-        status: 1,
-    },
+    ("8dbb010000000000", "refused E4 at 0"),
+    ("b70b010000000000", "refused E5 at 0"),
+    ("95b0000001000000", "refused E5 at 0"),
     // a fault of the encoding before any of the program
-    Verified {
-        slots: "b70a000000000000 8d00000000000000",
-        line: "refused E4 at 1\n",
-        status: 1,
-    },
+    ("b70a000000000000 8d00000000000000", "refused E4 at 1"),
     // the second slot is missing: before unused fields, behind the registers
-    Verified {
-        slots: "1800000000000000",
-        line: "refused E7 at 0\n",
-        status: 1,
-    },
-    Verified {
-        slots: "1810010000000000",
-        line: "refused E7 at 0\n",
-        status: 1,
-    },
-    Verified {
-        slots: "180b000000000000",
-        line: "refused E5 at 0\n",
-        status: 1,
-    },
-    Verified {
-        slots: "b700000000000000 1801000000000000",
-        line: "refused E7 at 1\n",
-        status: 1,
-    },
+    ("1800000000000000", "refused E7 at 0"),
+    ("1810010000000000", "refused E7 at 0"),
+    ("180b000000000000", "refused E5 at 0"),
+    ("b700000000000000 1801000000000000", "refused E7 at 1"),
     // a second slot has nothing but its imm, and its fault is that of the first
-    Verified {
-        slots: "1800000000000000 0100000000000000",
-        line: "refused E6 at 0\n",
-        status: 1,
-    },
-    Verified {
-        slots: "1800000000000000 000b000000000000",
-        line: "refused E6 at 0\n",
-        status: 1,
-    },
-    Verified {
-        slots: "b700000000000000 1800000000000000 0000010000000000",
-        line: "refused E6 at 1\n",
-        status: 1,
-    },
-    Verified {
-        slots: "1810000000000000 0000000000000000",
-        line: "refused E6 at 0\n",
-        status: 1,
-    },
-    Verified {
-        slots: "1800000000000000 0000000000000000 8d00000000000000",
-        line: "refused E4 at 2\n",
-        status: 1,
-    },
+    ("1800000000000000 0100000000000000", "refused E6 at 0"),
+    ("1800000000000000 000b000000000000", "refused E6 at 0"),
+    (
+        "b700000000000000 1800000000000000 0000010000000000",
+        "refused E6 at 1",
+    ),
+    ("1810000000000000 0000000000000000", "refused E6 at 0"),
+    (
+        "1800000000000000 0000000000000000 8d00000000000000",
+        "refused E4 at 2",
+    ),
     // an offset that chooses no operator
-    Verified {
-        slots: "3700020000000000",
-        line: "refused E6 at 0\n",
-        status: 1,
-    },
-    Verified {
-        slots: "9400ffff00000000",
-        line: "refused E6 at 0\n",
-        status: 1,
-    },
-    Verified {
-        slots: "0700010000000000",
-        line: "refused E6 at 0\n",
-        status: 1,
-    },
-    Verified {
-        slots: "b700080000000000",
-        line: "refused E6 at 0\n",
-        status: 1,
-    },
-    Verified {
-        slots: "bc20200000000000",
-        line: "refused E6 at 0\n",
-        status: 1,
-    },
-    Verified {
-        slots: "bf20040000000000",
-        line: "refused E6 at 0\n",
-        status: 1,
-    },
-    Verified {
-        slots: "bf20080001000000",
-        line: "refused E6 at 0\n",
-        status: 1,
-    },
+    ("3700020000000000", "refused E6 at 0"),
+    ("9400ffff00000000", "refused E6 at 0"),
+    ("0700010000000000", "refused E6 at 0"),
+    ("b700080000000000", "refused E6 at 0"),
+    ("bc20200000000000", "refused E6 at 0"),
+    ("bf20040000000000", "refused E6 at 0"),
+    ("bf20080001000000", "refused E6 at 0"),
     // an imm that chooses no size
-    Verified {
-        slots: "d400000008000000",
-        line: "refused E6 at 0\n",
-        status: 1,
-    },
-    Verified {
-        slots: "d700000000000000",
-        line: "refused E6 at 0\n",
-        status: 1,
-    },
-    Verified {
-        slots: "dc10000010000000",
-        line: "refused E6 at 0\n",
-        status: 1,
-    },
+    ("d400000008000000", "refused E6 at 0"),
+    ("d700000000000000", "refused E6 at 0"),
+    ("dc10000010000000", "refused E6 at 0"),
     // unused fields of one operand and of jumps
-    Verified {
-        slots: "8700000001000000",
-        line: "refused E6 at 0\n",
-        status: 1,
-    },
-    Verified {
-        slots: "8410000000000000",
-        line: "refused E6 at 0\n",
-        status: 1,
-    },
-    Verified {
-        slots: "0600010000000000",
-        line: "refused E6 at 0\n",
-        status: 1,
-    },
-    Verified {
-        slots: "0500000001000000",
-        line: "refused E6 at 0\n",
-        status: 1,
-    },
+    ("8700000001000000", "refused E6 at 0"),
+    ("8410000000000000", "refused E6 at 0"),
+    ("0600010000000000", "refused E6 at 0"),
+    ("0500000001000000", "refused E6 at 0"),
     // unused fields of stores and of calls, behind the registers
-    Verified {
-        slots: "7210000000000000",
-        line: "refused E6 at 0\n",
-        status: 1,
-    },
-    Verified {
-        slots: "7a2af8ff01000000",
-        line: "refused E6 at 0\n",
-        status: 1,
-    },
-    Verified {
-        slots: "7300000001000000",
-        line: "refused E6 at 0\n",
-        status: 1,
-    },
-    Verified {
-        slots: "7b3af8ffffffffff",
-        line: "refused E6 at 0\n",
-        status: 1,
-    },
-    Verified {
-        slots: "72baf8ff00000000",
-        line: "refused E5 at 0\n",
-        status: 1,
-    },
-    Verified {
-        slots: "730b000001000000",
-        line: "refused E5 at 0\n",
-        status: 1,
-    },
-    Verified {
-        slots: "8501000004000000",
-        line: "refused E6 at 0\n",
-        status: 1,
-    },
-    Verified {
-        slots: "8510000004000000",
-        line: "refused E6 at 0\n",
-        status: 1,
-    },
-    Verified {
-        slots: "8520000004000000",
-        line: "refused E6 at 0\n",
-        status: 1,
-    },
-    Verified {
-        slots: "8500010004000000",
-        line: "refused E6 at 0\n",
-        status: 1,
-    },
-    Verified {
-        slots: "850b010004000000",
-        line: "refused E5 at 0\n",
-        status: 1,
-    },
+    ("7210000000000000", "refused E6 at 0"),
+    ("7a2af8ff01000000", "refused E6 at 0"),
+    ("7300000001000000", "refused E6 at 0"),
+    ("7b3af8ffffffffff", "refused E6 at 0"),
+    ("72baf8ff00000000", "refused E5 at 0"),
+    ("730b000001000000", "refused E5 at 0"),
+    ("8501000004000000", "refused E6 at 0"),
+    ("8510000004000000", "refused E6 at 0"),
+    ("8520000004000000", "refused E6 at 0"),
+    ("8500010004000000", "refused E6 at 0"),
+    ("850b010004000000", "refused E5 at 0"),
     // opcodes of no instruction
-    Verified {
-        slots: "8f00000000000000",
-        line: "refused E4 at 0\n",
-        status: 1,
-    },
-    Verified {
-        slots: "8c00000000000000",
-        line: "refused E4 at 0\n",
-        status: 1,
-    },
-    Verified {
-        slots: "df00000010000000",
-        line: "refused E4 at 0\n",
-        status: 1,
-    },
-    Verified {
-        slots: "9600000000000000",
-        line: "refused E4 at 0\n",
-        status: 1,
-    },
-    Verified {
-        slots: "8600000000000000",
-        line: "refused E4 at 0\n",
-        status: 1,
-    },
-    Verified {
-        slots: "9900000000000000",
-        line: "refused E4 at 0\n",
-        status: 1,
-    },
-    Verified {
-        slots: "e700000000000000",
-        line: "refused E4 at 0\n",
-        status: 1,
-    },
-    Verified {
-        slots: "e500000000000000",
-        line: "refused E4 at 0\n",
-        status: 1,
-    },
-    Verified {
-        slots: "1000000000000000",
-        line: "refused E4 at 0\n",
-        status: 1,
-    },
-    Verified {
-        slots: "0d00000000000000",
-        line: "refused E4 at 0\n",
-        status: 1,
-    },
+    ("8f00000000000000", "refused E4 at 0"),
+    ("8c00000000000000", "refused E4 at 0"),
+    ("df00000010000000", "refused E4 at 0"),
+    ("9600000000000000", "refused E4 at 0"),
+    ("8600000000000000", "refused E4 at 0"),
+    ("9900000000000000", "refused E4 at 0"),
+    ("e700000000000000", "refused E4 at 0"),
+    ("e500000000000000", "refused E4 at 0"),
+    ("1000000000000000", "refused E4 at 0"),
+    ("0d00000000000000", "refused E4 at 0"),
     // stores in a mode other than `MEM`
-    Verified {
-        slots: "0200000000000000",
-        line: "refused E4 at 0\n",
-        status: 1,
-    },
-    Verified {
-        slots: "0300000000000000",
-        line: "refused E4 at 0\n",
-        status: 1,
-    },
-    Verified {
-        slots: "2200000000000000",
-        line: "refused E4 at 0\n",
-        status: 1,
-    },
-    Verified {
-        slots: "4300000000000000",
-        line: "refused E4 at 0\n",
-        status: 1,
-    },
-    Verified {
-        slots: "8200000000000000",
-        line: "refused E4 at 0\n",
-        status: 1,
-    },
-    Verified {
-        slots: "8300000000000000",
-        line: "refused E4 at 0\n",
-        status: 1,
-    },
-    Verified {
-        slots: "a200000000000000",
-        line: "refused E4 at 0\n",
-        status: 1,
-    },
-    Verified {
-        slots: "c300000000000000",
-        line: "refused E4 at 0\n",
-        status: 1,
-    },
-    Verified {
-        slots: "db00000000000000",
-        line: "refused E4 at 0\n",
-        status: 1,
-    },
-    Verified {
-        slots: "e200000000000000",
-        line: "refused E4 at 0\n",
-        status: 1,
-    },
+    ("0200000000000000", "refused E4 at 0"),
+    ("0300000000000000", "refused E4 at 0"),
+    ("2200000000000000", "refused E4 at 0"),
+    ("4300000000000000", "refused E4 at 0"),
+    ("8200000000000000", "refused E4 at 0"),
+    ("8300000000000000", "refused E4 at 0"),
+    ("a200000000000000", "refused E4 at 0"),
+    ("c300000000000000", "refused E4 at 0"),
+    ("db00000000000000", "refused E4 at 0"),
+    ("e200000000000000", "refused E4 at 0"),
 ];

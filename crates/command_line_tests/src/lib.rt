@@ -1,0 +1,5 @@
+//! Tests of the crate `command_line`.
+#![tactic(auto)]
+
+#[cfg(test)]
+mod lines;

@@ -1,3 +1,0 @@
-//! Command lines, with what they request.
-
-mod command_line_rows;
