@@ -78,8 +78,8 @@ pub fn expect_ends<R: Abort + AllocGlobal>(rt: &R, rows: &[Traced]) -> Result<()
     Ok(())
 }
 
-/// Verifies and traces programs, each of which has a fault: it is refused for it, and its trace over the empty datagram is
-/// stuck there. Compares what is printed of the fault, and the status.
+/// Verifies and traces programs, each of which has a fault: it is refused for it, and its trace over the empty datagram
+/// is stuck there. Compares what is printed of the fault, and the status.
 pub fn expect_faults<R: Abort + AllocGlobal>(rt: &R, rows: &[(&str, &str)]) -> Result<(), Fail> {
     for &(slots, fault) in rows {
         let file = program(rt, slots)?;
