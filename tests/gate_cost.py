@@ -3,8 +3,9 @@
     tests/gate_cost.py [FOLDER]
 
 FOLDER is the top of the repository; a fresh clone, so that nothing else is built in it. The figures are read from the
-system while `rt ci` runs, five times a second; the last line has what the system counted in all. Behind the table
-stand the edits that took more than 20 seconds. A run that is interrupted prints what it has seen so far.
+system while `rt ci` runs, five times a second; the last line has what the system counted in all. "base" is the proof of
+a crate that its edits begin with, and the same once more behind them. Behind the table stand the edits that took more
+than 20 seconds. A run that is interrupted prints what it has seen so far.
 """
 
 import os
@@ -19,7 +20,7 @@ from typing import NamedTuple
 
 from program import TOP
 
-STEPS = ("proof", "tests", "edits")
+STEPS = ("proof", "tests", "base", "edits")
 TICKS = os.sysconf("SC_CLK_TCK")
 SLOW_EDIT = 20
 
@@ -29,8 +30,7 @@ class Process(NamedTuple):
 
     crate: str
     step: str
-    folder: str
-    began: int
+    edit: str
     seconds: float
 
 
@@ -45,14 +45,15 @@ def stat_of(pid):
 
 
 def work_of(pid, parent):
-    """Returns the crate and the step that a process works on, and its folder: its parent's where it names none."""
+    """Returns the crate and the step that a process works on, and the number of its edit: its parent's where it names none."""
     words = words_of(pid)
     if "--crate-name" not in words:
-        return parent or ("", "", "")
-    folder = os.readlink(f"/proc/{pid}/cwd")
-    is_edit = pathlib.Path(folder).name.startswith("rt-edit-")
-    step = "edits" if is_edit else "tests" if "--test" in words else "proof"
-    return words[words.index("--crate-name") + 1], step, folder
+        return parent
+    crate = words[words.index("--crate-name") + 1]
+    if not pathlib.Path(os.readlink(f"/proc/{pid}/cwd")).name.startswith("rt-edit-"):
+        return crate, "tests" if "--test" in words else "proof", ""
+    kept = pathlib.Path(words[words.index("--incremental") + 1]).name if "--incremental" in words else "0"
+    return (crate, "base", "") if kept == "seed" else (crate, "edits", kept)
 
 
 def sample(gate, seen):
@@ -66,7 +67,7 @@ def sample(gate, seen):
                 continue
             known = seen.get((pid, began))
             below[pid] = known[:3] if known and known.crate else work_of(pid, below[parent])
-            seen[pid, began] = Process(*below[pid], began, (int(fields[11]) + int(fields[12])) / TICKS)
+            seen[pid, began] = Process(*below[pid], (int(fields[11]) + int(fields[12])) / TICKS)
         except (OSError, ValueError):
             continue  # it has ended
 
@@ -77,12 +78,12 @@ def edits_of(top, crate):
 
 
 def slow_edits(top, crate, processes):
-    """Returns the edits of a crate that took long, each with its seconds. The first one proves the whole crate."""
-    rooms = {}
-    for it in sorted(processes, key=lambda it: it.began):
-        rooms[it.folder] = rooms.get(it.folder, 0) + it.seconds
-    tried = list(zip(edits_of(top, crate), rooms.values()))
-    return [(seconds, f"{crate}/{edit}") for edit, seconds in tried[1:] if seconds > SLOW_EDIT]
+    """Returns the edits of a crate that took long, each with its seconds."""
+    took = {}
+    for it in processes:
+        took[it.edit] = took.get(it.edit, 0) + it.seconds
+    names = edits_of(top, crate)
+    return [(seconds, f"{crate}/{names[int(edit)]}") for edit, seconds in took.items() if seconds > SLOW_EDIT]
 
 
 def show(name, figures):

@@ -67,7 +67,7 @@ with_least a (Some n) = with_length a n
 abbrev pub with_marks : {D : Type 0} → AbsState D → ℕ → ℕ → AbsState D
 with_marks a i n = record a { marks = marked a.marks i n }
 
--- the state behind a call with an answer: r1 to r5 hold nothing
+-- the state after a call with an answer: r1 to r5 hold nothing
 abbrev pub with_answer : {D : Type 0} → AbsState D → D → AbsState D
 with_answer a answer = with_value (with_value (with_value (with_value (with_value (with_value a R0 (Scalar answer)) R1 Nothing) R2 Nothing) R3 Nothing) R4 Nothing) R5 Nothing
 

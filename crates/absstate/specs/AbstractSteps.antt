@@ -1,4 +1,4 @@
--- Interface. The abstract step: the abstract states behind an instruction, or the reason for which a step from here
+-- Interface. The abstract step: the abstract states after an instruction, or the reason for which a step from here
 -- could be stuck. The tests come in the order of the tagged machine. Numbers are computed by the operations of a
 -- domain.
 use Rattle.std.specs.Prelude.{ℕ, ◌+◌, ◌-◌, ◌^◌, ◌≤◌, Bool, true, false, ℤ, pos, ◌+ℤ◌, Option, Some, None, Result, Ok, Err, ◌==◌, if◌then◌else◌}
@@ -33,7 +33,7 @@ use Rattle.semantics.specs.declared.helper.TheConstants.{RECORD_BYTES}
 use Rattle.semantics.specs.LooseRuns.{Bound, AtMost, Below, data_bound, exchanged}
 use Rattle.semantics.specs.declared.fetching.Branch.{Branch}
 use Rattle.semantics.specs.declared.fetching.Branch.TheVariants.{NotTaken, Taken}
-use Rattle.semantics.specs.declared.limits.TheConstants.{MAX_DATAGRAM, TAILROOM}
+use Rattle.semantics.specs.declared.limits.TheConstants.{MAX_DATAGRAM, STACK_BYTES, TAILROOM}
 use Rattle.semantics.specs.declared.loading.Field.{Field}
 use Rattle.semantics.specs.declared.loading.Field.TheVariants as field
 use Rattle.semantics.specs.declared.reason.Reason.{Reason}
@@ -221,7 +221,7 @@ located a End d n = in_bytes (pos 0 +ℤ d) n (pos 0) (pos TAILROOM)
 
 -- n bytes of a region of the stack lie inside
 abbrev pub IsInStack : ℕ → Region → Type 0
-IsInStack n (InStack i) = i + n ≤ 512
+IsInStack n (InStack i) = i + n ≤ STACK_BYTES
 IsInStack n InBytes = Unit {0}
 
 -- n bytes of a region may be read: of the stack those that are set
@@ -352,7 +352,7 @@ greatest_answer helper.Permitted = 1
 greatest_answer helper.Window = 1
 greatest_answer helper.Destination = 1
 
--- behind a call by which the eight bytes at an index are written, if one is given
+-- after a call by which the eight bytes at an index are written, if one is given
 abbrev pub answered : {D : Type 0} → Operations D → AbsState D → Helper → Option ℕ → AbsState D
 answered ops a h out = with_out (with_answer a (ops.range 0 (greatest_answer h))) out
 

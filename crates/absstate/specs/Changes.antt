@@ -1,4 +1,4 @@
--- Interface. What a step changes of a state, and the states behind it.
+-- Interface. What a step changes of a state, and the states after it.
 use Rattle.std.specs.Prelude.{Result, Ok, Err}
 use Rattle.std.specs.Option.{option_map}
 use Rattle.insn.specs.Codes.{byte_count}
@@ -10,10 +10,10 @@ use Rattle.absstate.specs.declared.abstract_step.Next.{Next}
 use Rattle.absstate.specs.declared.abstract_step.Next.TheVariants as next
 use Rattle.absstate.specs.declared.change.Change.{Change}
 use Rattle.absstate.specs.declared.change.Change.TheVariants as change
-use Rattle.absstate.specs.declared.change.Effect.{Effect}
-use Rattle.absstate.specs.declared.change.Effect.TheVariants as effect
+use Rattle.absstate.specs.declared.change.Transition.{Transition}
+use Rattle.absstate.specs.declared.change.Transition.TheVariants as transition
 
--- the state behind a change
+-- the state after a change
 abbrev pub changed : {D : Type 0} → AbsState D → Change D → AbsState D
 changed a change.Nothing = a
 changed a (change.Register r k) = with_value a r k
@@ -22,13 +22,13 @@ changed a (change.Least least) = with_least a least
 changed a (change.Marks i z) = with_marks a i (byte_count z)
 changed a (change.Answer answer out) = with_out (with_answer a answer) out
 
--- the states behind an accepted step
-abbrev pub next_of : {D : Type 0} → AbsState D → Effect D → Next D
-next_of a (effect.On c) = next.On (changed a c)
-next_of a (effect.Fork not_taken taken) = next.Fork (option_map (changed a) not_taken) (option_map (changed a) taken)
-next_of a effect.Exit = next.Exit
+-- the states after an accepted step
+abbrev pub next_of : {D : Type 0} → AbsState D → Transition D → Next D
+next_of a (transition.On c) = next.On (changed a c)
+next_of a (transition.Fork not_taken taken) = next.Fork (option_map (changed a) not_taken) (option_map (changed a) taken)
+next_of a transition.Exit = next.Exit
 
 -- the answer of a step with those changes
-abbrev pub answer_of : {D : Type 0} → AbsState D → Result (Effect D) Reason → Result (Next D) Reason
+abbrev pub answer_of : {D : Type 0} → AbsState D → Result (Transition D) Reason → Result (Next D) Reason
 answer_of a (Ok e) = Ok (next_of a e)
 answer_of a (Err reason) = Err reason

@@ -1,12 +1,12 @@
 -- Interface. The machine's step from a member of an abstract state, where the abstract step accepts the instruction.
 use Rattle.std.specs.Prelude.{◌≡◌, ℕ, ◌≤◌, List, Option, Some, None, Result, Ok, IsOk}
 use Rattle.insn.specs.declared.instruction.Insn.{Insn}
-use Rattle.semantics.specs.Machine.{State, Surroundings}
+use Rattle.semantics.specs.Machine.{State, Environment}
 use Rattle.semantics.specs.Slots.{fetch}
 use Rattle.semantics.specs.Effects.{effect}
 use Rattle.semantics.specs.Flow.{Flow, Straight, Jumps, Forks, Ends, flow_of, branch_slot}
 use Rattle.semantics.specs.LooseRuns.{effect_of_branch}
-use Rattle.semantics.specs.Runs.{StepResult, Goes, Exits, Sticks, AreReal, step}
+use Rattle.semantics.specs.Runs.{StepResult, Goes, Exits, Sticks, IsPossible, step}
 use Rattle.semantics.specs.declared.effect.Effect.{Effect}
 use Rattle.semantics.specs.declared.limits.TheConstants.{MAX_DATAGRAM}
 use Rattle.semantics.specs.declared.reason.Reason.{Reason}
@@ -25,18 +25,18 @@ pub record IsBehind {D : Type 0} (Member : D → ℕ → Type 0) (code : List In
   pub size : t.memory.length ≡ s.memory.length
   pub member : IsMember Member mode places b t
 
--- so is it where the state is that of a branch that can be taken
+-- the same for the state of a branch; an infeasible branch has none
 abbrev pub IsBehindSome : {D : Type 0} → (D → ℕ → Type 0) → List Insn → Mode → Places → State → Insn → Branch → Option (AbsState D) → State → Type 0
 IsBehindSome Member code mode places s i branch None t = ⊥
 IsBehindSome Member code mode places s i branch (Some b) t = IsBehind Member code mode places s i branch b t
 
--- the state behind a branch, if that can be taken; an instruction that doesn't fork goes on by its branch not taken
-abbrev pub state_behind : {D : Type 0} → Next D → Branch → Option (AbsState D)
-state_behind (next.On b) NotTaken = Some b
-state_behind (next.On b) Taken = None
-state_behind (next.Fork not_taken taken) NotTaken = not_taken
-state_behind (next.Fork not_taken taken) Taken = taken
-state_behind next.Exit branch = None
+-- the state after a branch, none where it is infeasible; an instruction that doesn't fork goes on by its branch not taken
+abbrev pub state_after : {D : Type 0} → Next D → Branch → Option (AbsState D)
+state_after (next.On b) NotTaken = Some b
+state_after (next.On b) Taken = None
+state_after (next.Fork not_taken taken) NotTaken = not_taken
+state_after (next.Fork not_taken taken) Taken = taken
+state_after next.Exit branch = None
 
 abbrev pub IsExit : {D : Type 0} → Next D → Type 0
 IsExit next.Exit = Unit {0}
@@ -50,18 +50,18 @@ IsTakenBy Straight e branch = Unit {0}
 IsTakenBy (Jumps distance) e branch = Unit {0}
 IsTakenBy Ends e branch = Unit {0}
 
-abbrev pub IsTaken : Surroundings → State → Insn → Branch → Type 0
+abbrev pub IsTaken : Environment → State → Insn → Branch → Type 0
 IsTaken w s i branch = IsTakenBy (flow_of i) (effect w.context s.memory s.registers i) branch
 
--- the step goes on to a member of the state behind the branch that it takes, or exits where the abstract step does
-abbrev pub Follows : {D : Type 0} → (D → ℕ → Type 0) → Surroundings → List Insn → Mode → Places → State → Insn → Next D → StepResult → Type 0
-Follows Member w code mode places s i answer (Goes t) = (branch : Branch) × IsTaken w s i branch × IsBehindSome Member code mode places s i branch (state_behind answer branch) t
+-- the step goes on to a member of the state after the branch that it takes, or exits where the abstract step does
+abbrev pub Follows : {D : Type 0} → (D → ℕ → Type 0) → Environment → List Insn → Mode → Places → State → Insn → Next D → StepResult → Type 0
+Follows Member w code mode places s i answer (Goes t) = (branch : Branch) × IsTaken w s i branch × IsBehindSome Member code mode places s i branch (state_after answer branch) t
 Follows Member w code mode places s i answer (Exits verdict) = IsExit answer
 Follows Member w code mode places s i answer (Sticks reason slot) = ⊥
 
--- Every step at the instruction, from a member with a datagram of at most 65,507 bytes, in real surroundings and in code
+-- Every step at the instruction, from a member with a datagram of at most 65,507 bytes, in a possible environment and in code
 -- in which each branch of the instruction leads to a slot. The step isn't stuck.
 abbrev pub StepsFollow : {D : Type 0} → (D → ℕ → Type 0) → AbsState D → Insn → Next D → Type 0
-StepsFollow Member a i answer = (w : Surroundings) (code : List Insn) (mode : Mode) (places : Places) (s : State)
-    → AreReal w → fetch code s.slot ≡ Begins i → ((branch : Branch) → IsOk (branch_slot code s.slot i branch)) → s.memory.length ≤ MAX_DATAGRAM → IsMember Member mode places a s
+StepsFollow Member a i answer = (w : Environment) (code : List Insn) (mode : Mode) (places : Places) (s : State)
+    → IsPossible w → fetch code s.slot ≡ Begins i → ((branch : Branch) → IsOk (branch_slot code s.slot i branch)) → s.memory.length ≤ MAX_DATAGRAM → IsMember Member mode places a s
     → Follows Member w code mode places s i answer (step w code s)

@@ -4,6 +4,7 @@ use Rattle.std.specs.Prelude.{◌≡◌, ℕ, ◌<◌, Bool, true, ℤ, pos, ◌
 use Rattle.insn.specs.declared.register.Reg.{Reg}
 use Rattle.semantics.specs.Machine.{State}
 use Rattle.semantics.specs.Kept.{IsTagged}
+use Rattle.semantics.specs.declared.limits.TheConstants.{STACK_BYTES}
 use Rattle.semantics.specs.Effects.{value_at}
 use Rattle.semantics.specs.declared.value.Value.{Value}
 use Rattle.semantics.specs.declared.value.Value.TheVariants as value
@@ -80,5 +81,5 @@ pub record IsMember {D : Type 0} (Member : D → ℕ → Type 0) (mode : Mode) (
   pub known_count : length a.registers ≡ 11
   pub marks_count : length a.marks.words ≡ 8
   pub registers : (r : Reg) → IsValue Member mode places (abstract_at a.registers r) (value_at s.registers r)
-  pub cells : (i : ℕ) → i < 512 → IsCell mode (is_marked a.marks i) (slice_index_or s.memory.stack i None)
+  pub cells : (i : ℕ) → i < STACK_BYTES → IsCell mode (is_marked a.marks i) (slice_index_or s.memory.stack i None)
   pub tagged : IsTagged s

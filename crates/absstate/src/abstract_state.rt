@@ -2,9 +2,11 @@
 
 ghost use Rattle.std.specs.Prelude.{◌≡◌, ◌+◌, ◌≤◌};
 ghost use Rattle.insn.specs.Codes.{byte_count};
+ghost use Rattle.semantics.specs.declared.limits.TheConstants.{STACK_BYTES};
 ghost use Rattle.absstate.specs.AbstractStates.{no_marks, is_marked, are_marked, mark, marked, first_state, proved_of, with_value, with_least, with_answer, with_out};
 
 use insn::{Reg, Size};
+use semantics::STACK_BYTES;
 use std::alloc::AllocError;
 
 /// A place of the datagram from which pointers count their offsets.
@@ -68,11 +70,11 @@ impl Marks {
         }
     }
 
-    /// Sets a byte; there is none from the index 512 on.
+    /// Marks a byte as set; an index of 512 or more is ignored.
     fn set(&mut self, index: usize)
         ensures { self.new ≡ mark self.old index }
     {
-        if index < 512 {
+        if index < STACK_BYTES {
             self.words[index / 64] |= 1 << (index % 64);
         }
     }
@@ -89,7 +91,7 @@ impl Marks {
 
     /// Returns whether the `n` bytes from an index on are set.
     pub fn are_set(&self, index: usize, n: usize) -> bool
-        requires { index + n ≤ 512 }
+        requires { index + n ≤ STACK_BYTES }
         ensures { result ≡ are_marked self.now index n }
     {
         for i in index..index + n {
@@ -174,7 +176,7 @@ impl<D: Copy> AbsState<D> {
         }
     }
 
-    /// Raises the least length of the datagram to another one, if there is one.
+    /// Raises the proved length of the datagram to another one; `None` leaves it.
     pub(crate) fn set_least(&mut self, least: Option<i64>)
         ensures { self.new ≡ with_least self.old least }
     {

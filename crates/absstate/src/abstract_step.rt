@@ -11,7 +11,7 @@ ghost use Rattle.semantics.specs.declared.reason.Reason.TheVariants.{PointerArit
 use crate::abstract_state::{AbsState, AbstractValue};
 use crate::branching::branch_step;
 use crate::calling::call_step;
-use crate::change::{Change, Effect};
+use crate::change::{Change, Transition};
 use crate::loading::{load_signed_step, load_step};
 use crate::storing::store_step;
 use insn::{AluOp, Insn, Operand, Reg, UnaryOp, Width, extended};
@@ -19,12 +19,12 @@ use interval::{Bounds, Domain};
 use semantics::{Reason, moved_place, writable};
 use std::alloc::AllocError;
 
-/// The states behind an accepted step.
+/// The states after an accepted step.
 #[derive(Debug, PartialEq, Eq)]
 pub enum Next<D> {
     /// The one state that follows.
     On(AbsState<D>),
-    /// The states of the two branches of a conditional jump, `None` for a branch that can't be taken.
+    /// The states of the two branches of a conditional jump, `None` for an infeasible branch.
     Fork {
         not_taken: Option<AbsState<D>>,
         taken: Option<AbsState<D>>,
@@ -129,11 +129,11 @@ fn unary_result<D: Domain>(op: UnaryOp, a: AbstractValue<D>) -> Result<AbstractV
 pub(crate) fn written<D: Copy>(
     dst: Reg,
     known: Result<AbstractValue<D>, Reason>,
-) -> Result<Effect<D>, Reason>
+) -> Result<Transition<D>, Reason>
     ensures { (a : AbsState D) → answer_of a result ≡ written a dst known }
 {
     writable(dst)?;
-    Ok(Effect::On(Change::Register {
+    Ok(Transition::On(Change::Register {
         reg: dst,
         known: known?,
     }))
@@ -145,7 +145,7 @@ fn alu_step<D: Domain>(
     op: AluOp,
     dst: Reg,
     operand: Operand,
-) -> Result<Effect<D>, Reason>
+) -> Result<Transition<D>, Reason>
     ensures { answer_of state.now result ≡ alu_step D.ops state.now width op dst operand }
 {
     let a = read(state, dst)?;
@@ -158,24 +158,24 @@ fn unary_step<D: Domain>(
     op: UnaryOp,
     dst: Reg,
     operand: Operand,
-) -> Result<Effect<D>, Reason>
+) -> Result<Transition<D>, Reason>
     ensures { answer_of state.now result ≡ unary_step D.ops state.now op dst operand }
 {
     let a = operand_abstract(state, operand)?;
     written(dst, unary_result(op, a))
 }
 
-fn exit_step<D: Copy>(state: &AbsState<D>) -> Result<Effect<D>, Reason>
+fn exit_step<D: Copy>(state: &AbsState<D>) -> Result<Transition<D>, Reason>
     ensures { answer_of state.now result ≡ exit_step state.now }
 {
     match read(state, Reg::R0)? {
-        AbstractValue::Scalar(_) => Ok(Effect::Exit),
+        AbstractValue::Scalar(_) => Ok(Transition::Exit),
         _ => Err(Reason::ExitNotScalar),
     }
 }
 
-/// Returns what the abstract step of an instruction changes, by the instruction's form.
-fn effect_of<D: Domain>(state: &AbsState<D>, insn: Insn) -> Result<Effect<D>, Reason>
+/// Returns the transition of an instruction, by its form.
+fn transition_of<D: Domain>(state: &AbsState<D>, insn: Insn) -> Result<Transition<D>, Reason>
     ensures step { answer_of state.now result ≡ step D.ops state.now insn }
     ensures fits { Fits insn }
 {
@@ -207,7 +207,7 @@ fn effect_of<D: Domain>(state: &AbsState<D>, insn: Insn) -> Result<Effect<D>, Re
         Insn::Swap { op, size, dst } => {
             unary_step(state, UnaryOp::Swap(op, size), dst, Operand::Reg(dst))
         }
-        Insn::Jump { .. } | Insn::LongJump { .. } => Ok(Effect::On(Change::Nothing)),
+        Insn::Jump { .. } | Insn::LongJump { .. } => Ok(Transition::On(Change::Nothing)),
         Insn::JumpIf {
             width,
             condition,
@@ -246,21 +246,21 @@ impl<D: Domain> AbsState<D> {
     ghost use Rattle.absstate.specs.Changes.{answer_of};
     ghost use Rattle.absstate.specs.MemberSteps.{StepsFollow};
 
-    /// Returns what the abstract step of an instruction changes.
+    /// Returns the transition of an instruction's abstract step: the changes that it makes.
     ///
     /// # Errors
     /// As [`AbsState::step`].
-    pub fn effect(&self, insn: &Insn) -> Result<Effect<D>, Reason>
+    pub fn transition(&self, insn: &Insn) -> Result<Transition<D>, Reason>
         ensures step { answer_of self.now result ≡ step D.ops self.now insn.now }
         ensures fits { Fits insn.now }
     {
-        effect_of(self, *insn)
+        transition_of(self, *insn)
     }
 
     /// Makes the abstract step of an instruction.
     ///
     /// Where it is accepted, the machine's step from each member of the state with a datagram of at most 65,507 bytes isn't
-    /// stuck: it exits where the answer is `Exit`, and else leads to a member of the state behind it, of the branch that it
+    /// stuck: it exits where the answer is `Exit`, and else leads to a member of the state after it, of the branch that it
     /// takes.
     ///
     /// # Errors
@@ -269,7 +269,7 @@ impl<D: Domain> AbsState<D> {
         ensures step { result ≡ step D.ops self.now insn.now }
         ensures members { IfOk result (λ next. StepsFollow D.Member self.now insn.now next) }
     {
-        let effect = effect_of(self, *insn)?;
-        Ok(self.behind(effect))
+        let transition = transition_of(self, *insn)?;
+        Ok(self.after(transition))
     }
 }

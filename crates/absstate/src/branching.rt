@@ -9,13 +9,13 @@ ghost use Rattle.absstate.specs.AbstractSteps.{with_operands, passed, order_impl
 
 use crate::abstract_state::{AbsState, AbstractValue, Anchor};
 use crate::abstract_step::{operand_abstract, read};
-use crate::change::{Change, Effect};
+use crate::change::{Change, Transition};
 use insn::{Condition, Operand, Reg, Width};
 use interval::{Domain, Refined, Test};
 use semantics::Reason;
 
-/// Returns the change by which the operands of a test that was passed become what is left of them. An imm isn't changed,
-/// and of a register that is compared with itself no more is known.
+/// Returns the change that narrows the operands of a passed test. An imm isn't changed, and neither is a register that is
+/// compared with itself.
 fn with_operands<D: Copy>(dst: Reg, operand: Operand, left: Refined<D>) -> Change<D>
     ensures { (state : AbsState D) → changed state result ≡ with_operands state dst operand (left.a, left.b) }
 {
@@ -29,7 +29,7 @@ fn with_operands<D: Copy>(dst: Reg, operand: Operand, left: Refined<D>) -> Chang
     }
 }
 
-/// Returns the change behind a test on two numbers that was passed, `None` where no two of them pass it.
+/// Returns the change after a test on two numbers that was passed, `None` where no two of them pass it.
 /// See docs/DECISIONS.md, "Branches that cannot be taken".
 fn passed<D: Domain>(
     test: Test,
@@ -132,11 +132,11 @@ fn places_fork<D: Copy>(
     condition: Condition,
     a: AbstractValue<D>,
     b: AbstractValue<D>,
-) -> Result<Effect<D>, Reason>
+) -> Result<Transition<D>, Reason>
     ensures { (state : AbsState D) → answer_of state result ≡ places_fork state width condition a b }
 {
     let implied = places_compared(width, condition, a, b)?;
-    Ok(Effect::Fork {
+    Ok(Transition::Fork {
         not_taken: Some(Change::Least(implied.not_taken)),
         taken: Some(Change::Least(implied.taken)),
     })
@@ -149,11 +149,11 @@ fn fork<D: Domain>(
     operand: Operand,
     a: AbstractValue<D>,
     b: AbstractValue<D>,
-) -> Result<Effect<D>, Reason>
+) -> Result<Transition<D>, Reason>
     ensures { (state : AbsState D) → answer_of state result ≡ fork D.ops state width condition dst operand a b }
 {
     match (a, b) {
-        (AbstractValue::Scalar(a), AbstractValue::Scalar(b)) => Ok(Effect::Fork {
+        (AbstractValue::Scalar(a), AbstractValue::Scalar(b)) => Ok(Transition::Fork {
             not_taken: passed(Test::Fails(condition), width, dst, operand, a, b),
             taken: passed(Test::Holds(condition), width, dst, operand, a, b),
         }),
@@ -161,14 +161,14 @@ fn fork<D: Domain>(
     }
 }
 
-/// Makes the abstract step of a conditional jump.
+/// Returns the transition of a conditional jump.
 pub(crate) fn branch_step<D: Domain>(
     state: &AbsState<D>,
     width: Width,
     condition: Condition,
     dst: Reg,
     operand: Operand,
-) -> Result<Effect<D>, Reason>
+) -> Result<Transition<D>, Reason>
     ensures { answer_of state.now result ≡ branch_step D.ops state.now width condition dst operand }
 {
     let a = read(state, dst)?;

@@ -6,10 +6,12 @@ ghost use Rattle.absstate.specs.AbstractSteps.{context_argument, number_argument
 ghost use Rattle.absstate.specs.declared.abstract_state.AbsState.{AbsState};
 ghost use Rattle.absstate.specs.declared.abstract_step.Next.TheVariants.{On};
 ghost use Rattle.semantics.specs.declared.helper.Helper.TheVariants.{ChannelPeer, Window};
+ghost use Rattle.semantics.specs.declared.helper.TheConstants.{RECORD_BYTES};
+ghost use Rattle.semantics.specs.declared.limits.TheConstants.{STACK_BYTES};
 
 use crate::abstract_state::{AbsState, AbstractValue, Marks};
 use crate::abstract_step::read;
-use crate::change::{Change, Effect};
+use crate::change::{Change, Transition};
 use insn::Reg;
 use interval::Domain;
 use semantics::{Helper, RECORD_BYTES, Reason, index_in_stack};
@@ -39,7 +41,7 @@ fn number_argument<D: Copy>(state: &AbsState<D>, reg: Reg) -> Result<(), Reason>
 #[tactic(auto, using(semantics::specs::AccessLaws::index_short))]
 fn stack_index<D: Copy>(pointer: AbstractValue<D>) -> Option<usize>
     ensures index { result ≡ stack_index pointer }
-    ensures inside { IfSome result (λ i. i + 8 ≤ 512) }
+    ensures inside { IfSome result (λ i. i + RECORD_BYTES ≤ STACK_BYTES) }
 {
     match pointer {
         AbstractValue::Stack(offset) => index_in_stack(i64::from(offset), 0, RECORD_BYTES),
@@ -50,7 +52,7 @@ fn stack_index<D: Copy>(pointer: AbstractValue<D>) -> Option<usize>
 /// Returns the index, among the stack cells, of the eight bytes that an argument points to.
 fn stack_argument<D: Copy>(state: &AbsState<D>, reg: Reg) -> Result<usize, Reason>
     ensures index { result ≡ stack_argument state.now reg }
-    ensures inside { IfOk result (λ i. i + 8 ≤ 512) }
+    ensures inside { IfOk result (λ i. i + RECORD_BYTES ≤ STACK_BYTES) }
 {
     let argument = read(state, reg)?;
     stack_index(argument).ok_or(Reason::HelperArgument(reg.number()))
@@ -58,7 +60,7 @@ fn stack_argument<D: Copy>(state: &AbsState<D>, reg: Reg) -> Result<usize, Reaso
 
 /// Tests whether the address record at an index of the stack may be read.
 fn record_readable(marks: &Marks, index: usize) -> Result<(), Reason>
-    requires { index + 8 ≤ 512 }
+    requires { index + RECORD_BYTES ≤ STACK_BYTES }
     ensures { result ≡ record_readable marks.now index }
 {
     if marks.are_set(index, RECORD_BYTES) {
@@ -87,14 +89,14 @@ fn greatest_answer(helper: Helper) -> u64
 }
 
 /// Returns the change of a call.
-fn answer<D: Domain>(helper: Helper, out: Option<u16>) -> Effect<D>
+fn answer<D: Domain>(helper: Helper, out: Option<u16>) -> Transition<D>
     ensures { (state : AbsState D) → next_of state result ≡ On (answered D.ops state helper out) }
 {
     let answer = D::range(0, greatest_answer(helper));
-    Effect::On(Change::Answer { answer, out })
+    Transition::On(Change::Answer { answer, out })
 }
 
-fn channel_peer_step<D: Domain>(state: &AbsState<D>) -> Result<Effect<D>, Reason>
+fn channel_peer_step<D: Domain>(state: &AbsState<D>) -> Result<Transition<D>, Reason>
     ensures { answer_of state.now result ≡ helper_step D.ops state.now ChannelPeer }
 {
     context_argument(state)?;
@@ -103,7 +105,7 @@ fn channel_peer_step<D: Domain>(state: &AbsState<D>) -> Result<Effect<D>, Reason
     Ok(answer(Helper::ChannelPeer, Some(out as u16)))
 }
 
-fn address_step<D: Domain>(state: &AbsState<D>, helper: Helper) -> Result<Effect<D>, Reason>
+fn address_step<D: Domain>(state: &AbsState<D>, helper: Helper) -> Result<Transition<D>, Reason>
     ensures { answer_of state.now result ≡ address_step D.ops state.now helper }
 {
     context_argument(state)?;
@@ -111,7 +113,7 @@ fn address_step<D: Domain>(state: &AbsState<D>, helper: Helper) -> Result<Effect
     Ok(answer(helper, None))
 }
 
-fn window_step<D: Domain>(state: &AbsState<D>) -> Result<Effect<D>, Reason>
+fn window_step<D: Domain>(state: &AbsState<D>) -> Result<Transition<D>, Reason>
     ensures { answer_of state.now result ≡ helper_step D.ops state.now Window }
 {
     context_argument(state)?;
@@ -121,7 +123,10 @@ fn window_step<D: Domain>(state: &AbsState<D>) -> Result<Effect<D>, Reason>
 }
 
 /// Makes the abstract step of a call.
-pub(crate) fn call_step<D: Domain>(state: &AbsState<D>, number: i32) -> Result<Effect<D>, Reason>
+pub(crate) fn call_step<D: Domain>(
+    state: &AbsState<D>,
+    number: i32,
+) -> Result<Transition<D>, Reason>
     ensures { answer_of state.now result ≡ call_step D.ops state.now number }
 {
     match Helper::from_number(number).ok_or(Reason::UnknownHelper)? {

@@ -1,4 +1,4 @@
-//! What a step changes of an abstract state. A change is small, and is made in place.
+//! Changes of an abstract state, which a step returns. A change is small, and is made in place.
 
 ghost use Rattle.std.specs.Prelude.{◌≡◌};
 ghost use Rattle.std.specs.Option.{option_map};
@@ -9,7 +9,7 @@ use crate::abstract_step::Next;
 use insn::{Reg, Size};
 use interval::Refined;
 
-/// What is changed of a state.
+/// A change of an abstract state.
 /// See docs/DECISIONS.md, "A step answers with its change".
 #[derive(Debug, Drop)]
 pub enum Change<D> {
@@ -26,26 +26,26 @@ pub enum Change<D> {
         src: Reg,
         left: Refined<D>,
     },
-    /// The datagram has a least length, if there is one.
+    /// The proved length of the datagram is raised to this one; `None` leaves it.
     Least(Option<i64>),
     /// The stack bytes of an access are set, from an index on.
     Marks {
         index: u16,
         size: Size,
     },
-    /// A call answers, and the address record at the index `out` of the stack is set, if there is one.
+    /// The answer of a call is written, and the address record at the index `out` of the stack is set, if there is one.
     Answer {
         answer: D,
         out: Option<u16>,
     },
 }
 
-/// What an accepted step changes: as [`Next`], with changes in place of states.
+/// The transition of an accepted step: as [`Next`], with changes in place of states.
 #[derive(Debug, Drop)]
-pub enum Effect<D> {
-    /// The change on the one way to go on.
+pub enum Transition<D> {
+    /// The change before the one next instruction.
     On(Change<D>),
-    /// The changes on the two branches of a conditional jump, `None` for a branch that can't be taken.
+    /// The changes on the two branches of a conditional jump, `None` for an infeasible branch.
     Fork {
         not_taken: Option<Change<D>>,
         taken: Option<Change<D>>,
@@ -75,8 +75,8 @@ impl<D: Copy> AbsState<D> {
         }
     }
 
-    /// Returns the state behind a change.
-    fn behind_change(&self, change: Change<D>) -> AbsState<D>
+    /// Returns the state after a change.
+    fn after_change(&self, change: Change<D>) -> AbsState<D>
         ensures { result ≡ changed self.now change }
     {
         let mut state = *self;
@@ -84,24 +84,24 @@ impl<D: Copy> AbsState<D> {
         state
     }
 
-    /// Returns the state of a branch, if that can be taken.
-    fn behind_branch(&self, change: Option<Change<D>>) -> Option<AbsState<D>>
+    /// Returns the state of a branch; `None` for an infeasible one.
+    fn after_branch(&self, change: Option<Change<D>>) -> Option<AbsState<D>>
         ensures { result ≡ option_map (changed self.now) change }
     {
-        Some(self.behind_change(change?))
+        Some(self.after_change(change?))
     }
 
-    /// Returns the states behind an accepted step.
-    pub(crate) fn behind(&self, effect: Effect<D>) -> Next<D>
-        ensures { result ≡ next_of self.now effect }
+    /// Returns the states after an accepted step.
+    pub(crate) fn after(&self, transition: Transition<D>) -> Next<D>
+        ensures { result ≡ next_of self.now transition }
     {
-        match effect {
-            Effect::On(change) => Next::On(self.behind_change(change)),
-            Effect::Fork { not_taken, taken } => Next::Fork {
-                not_taken: self.behind_branch(not_taken),
-                taken: self.behind_branch(taken),
+        match transition {
+            Transition::On(change) => Next::On(self.after_change(change)),
+            Transition::Fork { not_taken, taken } => Next::Fork {
+                not_taken: self.after_branch(not_taken),
+                taken: self.after_branch(taken),
             },
-            Effect::Exit => Next::Exit,
+            Transition::Exit => Next::Exit,
         }
     }
 }

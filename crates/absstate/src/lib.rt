@@ -12,4 +12,4 @@ mod storing;
 
 pub use abstract_state::{AbsState, AbstractValue, Anchor, Marks};
 pub use abstract_step::Next;
-pub use change::{Change, Effect};
+pub use change::{Change, Transition};

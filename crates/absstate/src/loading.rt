@@ -6,7 +6,7 @@ ghost use Rattle.absstate.specs.AbstractSteps.{field_known, load_field, region_r
 
 use crate::abstract_state::{AbsState, AbstractValue, Anchor, Marks};
 use crate::abstract_step::{read, written};
-use crate::change::Effect;
+use crate::change::Transition;
 use crate::memory::{Region, locate};
 use insn::{Reg, SignedSize, Size};
 use interval::Domain;
@@ -130,7 +130,7 @@ pub(crate) fn load_step<D: Domain>(
     dst: Reg,
     base: Reg,
     displacement: i16,
-) -> Result<Effect<D>, Reason>
+) -> Result<Transition<D>, Reason>
     ensures { answer_of state.now result ≡ load_step D.ops state.now size dst base displacement }
 {
     let from = read(state, base)?;
@@ -144,7 +144,7 @@ pub(crate) fn load_signed_step<D: Domain>(
     dst: Reg,
     base: Reg,
     displacement: i16,
-) -> Result<Effect<D>, Reason>
+) -> Result<Transition<D>, Reason>
     ensures { answer_of state.now result ≡ load_signed_step D.ops state.now size dst base displacement }
 {
     let from = read(state, base)?;

@@ -8,7 +8,7 @@ ghost use Rattle.absstate.specs.declared.abstract_state.AbsState.{AbsState};
 
 use crate::abstract_state::{AbsState, AbstractValue};
 use crate::abstract_step::{operand_abstract, read};
-use crate::change::{Change, Effect};
+use crate::change::{Change, Transition};
 use crate::memory::{Region, locate};
 use insn::{Operand, Reg, Size};
 use interval::Domain;
@@ -55,7 +55,7 @@ pub(crate) fn store_step<D: Domain>(
     base: Reg,
     operand: Operand,
     displacement: i16,
-) -> Result<Effect<D>, Reason>
+) -> Result<Transition<D>, Reason>
     ensures { answer_of state.now result ≡ store_step D.ops state.now size base operand displacement }
 {
     let to = read(state, base)?;
@@ -63,5 +63,5 @@ pub(crate) fn store_step<D: Domain>(
     pointer(to)?;
     storable(known)?;
     let to = locate(state, to, displacement, size.bytes())?;
-    Ok(Effect::On(set_bytes(size, to)))
+    Ok(Transition::On(set_bytes(size, to)))
 }

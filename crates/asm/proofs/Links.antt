@@ -11,7 +11,7 @@ use Rattle.insn.specs.declared.decoding.TheConstants.{MAX_SLOTS}
 use Rattle.insn.specs.declared.instruction.Insn.{Insn}
 use Rattle.asm.specs.Lines.{lines_of}
 use Rattle.asm.specs.Statements.{Name, Statement, Labelled, Instruction}
-use Rattle.asm.specs.Programs.{IsInRange, slots_in, place_from, place, linked_one, linked, LacksLabel}
+use Rattle.asm.specs.Programs.{IsInRange, slots_in, slot_from, slot_of_label, linked_one, linked, LacksLabel}
 use Rattle.asm.specs.Reading.{read_line}
 use Rattle.asm.specs.Parsing.{said_in, IsUnfit, UnderstandsLine}
 use Rattle.asm.specs.Scanning.{Holds, IsTableOf, IsHalted, IsLinked, capped, lines_behind, Begins, Fails}
@@ -25,30 +25,30 @@ use Rattle.asm.specs.declared.table.Table.{Table}
 use Rattle.asm.proofs.Tables.{same, slots_more}
 use Rattle.asm.proofs.Scans.{length_more}
 
--- ---- places
+-- ---- label_slots
 
 -- a label stands at the end at most
-place_within : (slot : ℕ) (said : List (Option Statement)) (name : Name) (p : ℕ) → place_from slot said name ≡ Some p
+place_within : (slot : ℕ) (said : List (Option Statement)) (name : Name) (p : ℕ) → slot_from slot said name ≡ Some p
     → p ≤ slot + slots_in said
 place_within slot [] name p at = cc
 place_within slot (None ∷ said) name p at = place_within slot said name p at
 place_within slot (Some (Labelled n) ∷ said) name p at = by (bytes_eq n name) at (place_within slot said name p)
   where
-    by : (b : Bool) → cond b (Some slot) (place_from slot said name) ≡ Some p
-        → (place_from slot said name ≡ Some p → p ≤ slot + slots_in said)
+    by : (b : Bool) → cond b (Some slot) (slot_from slot said name) ≡ Some p
+        → (slot_from slot said name ≡ Some p → p ≤ slot + slots_in said)
         → p ≤ slot + slots_in said
     by true at behind = let here : slot ≡ p = cc in omega arith
     by false at behind = behind at
 place_within slot (Some (Instruction i t) ∷ said) name p at = omega
     (arith, place_within (slot + slots_of i) said name p at)
 
--- the table of a program that is not too long has the places as they are
+-- the table of a program that is not too long has the label_slots as they are
 pub place_found : (table : Table) (said : List (Option Statement)) (name : Bor (List ℕ)) (p : ℕ) → Holds table said
     → slots_in said ≤ MAX_SLOTS
-    → get same table.places name ≡ Some p → (place said name.now ≡ Some p) × (p ≤ MAX_SLOTS)
-place_found table said name p holds few is = by (place said name.now) refl (sym (holds.places name) ∙ is)
+    → get same table.label_slots name ≡ Some p → (slot_of_label said name.now ≡ Some p) × (p ≤ MAX_SLOTS)
+place_found table said name p holds few is = by (slot_of_label said name.now) refl (sym (holds.label_slots name) ∙ is)
   where
-    by : (o : Option ℕ) → place said name.now ≡ o → option_map capped o ≡ Some p → (o ≡ Some p) × (p ≤ MAX_SLOTS)
+    by : (o : Option ℕ) → slot_of_label said name.now ≡ o → option_map capped o ≡ Some p → (o ≡ Some p) × (p ≤ MAX_SLOTS)
     by None at e = absurd cc
     by (Some q) at e = let within : q ≤ 0 + slots_in said = place_within 0 said name.now q at in
         let counted : capped q ≡ p = cc in
@@ -72,25 +72,25 @@ slot_fits slot i few = omega (arith, slots_small i)
 -- ---- instructions
 
 -- the instructions of one line more
-linked_more : (places : Name → Option ℕ) (slot : ℕ) (before : List (Option Statement)) (s : Option Statement)
+linked_more : (label_slots : Name → Option ℕ) (slot : ℕ) (before : List (Option Statement)) (s : Option Statement)
     (code more : List Insn)
-    → linked places slot before ≡ Some code → linked places (slot + slots_in before) (s ∷ []) ≡ Some more
-    → linked places slot (before ++ s ∷ []) ≡ Some (code ++ more)
-linked_more places slot [] s code more is here = let none : [] ≡ code = cc in
-    ap (λ k. linked places k (s ∷ [])) (omega arith) ∙ here ∙ ap (λ c. Some (c ++ more)) none
-linked_more places slot (None ∷ before) s code more is here = linked_more places slot before s code more is here
-linked_more places slot (Some (Labelled n) ∷ before) s code more is here = linked_more places slot before s code more
+    → linked label_slots slot before ≡ Some code → linked label_slots (slot + slots_in before) (s ∷ []) ≡ Some more
+    → linked label_slots slot (before ++ s ∷ []) ≡ Some (code ++ more)
+linked_more label_slots slot [] s code more is here = let none : [] ≡ code = cc in
+    ap (λ k. linked label_slots k (s ∷ [])) (omega arith) ∙ here ∙ ap (λ c. Some (c ++ more)) none
+linked_more label_slots slot (None ∷ before) s code more is here = linked_more label_slots slot before s code more is here
+linked_more label_slots slot (Some (Labelled n) ∷ before) s code more is here = linked_more label_slots slot before s code more
     is here
-linked_more places slot (Some (Instruction i t) ∷ before) s code more is here =
-    by (linked_one places slot i t) (linked places (slot + slots_of i) before) refl is
-    (λ tail at. linked_more places (slot + slots_of i) before s tail more at
-    (ap (λ k. linked places k (s ∷ [])) (omega arith) ∙ here))
+linked_more label_slots slot (Some (Instruction i t) ∷ before) s code more is here =
+    by (linked_one label_slots slot i t) (linked label_slots (slot + slots_of i) before) refl is
+    (λ tail at. linked_more label_slots (slot + slots_of i) before s tail more at
+    (ap (λ k. linked label_slots k (s ∷ [])) (omega arith) ∙ here))
   where
-    by : (o : Option Insn) (q : Option (List Insn)) → linked places (slot + slots_of i) before ≡ q
+    by : (o : Option Insn) (q : Option (List Insn)) → linked label_slots (slot + slots_of i) before ≡ q
         → option_and_then (λ j. option_map (λ c. j ∷ c) q) o ≡ Some code
-        → ((tail : List Insn) → linked places (slot + slots_of i) before ≡ Some tail
-        → linked places (slot + slots_of i) (before ++ s ∷ []) ≡ Some (tail ++ more))
-        → option_and_then (λ j. option_map (λ c. j ∷ c) (linked places (slot + slots_of i) (before ++ s ∷ [])))
+        → ((tail : List Insn) → linked label_slots (slot + slots_of i) before ≡ Some tail
+        → linked label_slots (slot + slots_of i) (before ++ s ∷ []) ≡ Some (tail ++ more))
+        → option_and_then (λ j. option_map (λ c. j ∷ c) (linked label_slots (slot + slots_of i) (before ++ s ∷ [])))
         o ≡ Some (code ++ more)
     by None q at e behind = absurd cc
     by (Some j) None at e behind = absurd cc
@@ -134,7 +134,7 @@ linked_behind : (lines : List (List ℕ)) (table : Table) (n slot : ℕ) (left :
     (text : Bor (List ℕ)) (s : Option Statement)
     (rest : List (List ℕ)) (code more : List Insn) (k : IsLinked lines table n slot (lines_behind left) code)
     → left ≡ Some text → Begins text.now s rest
-    → linked (place k.said) slot (s ∷ []) ≡ Some more
+    → linked (slot_of_label k.said) slot (s ∷ []) ≡ Some more
     → IsLinked lines table (n + 1) (slot + slots_in (s ∷ [])) rest (code ++ more)
 linked_behind lines table n slot left text s rest code more k is first here =
     by k.after k.split (subst (λ ls. AllZip (λ line t. read_line line ≡ Some t) ls k.after)
@@ -157,8 +157,8 @@ linked_behind lines table n slot left text s rest code more k is first here =
           fit = fit.1;
           count = omega (arith, k.count, length_more k.before s);
           slots = omega (arith, k.slots, slots_more k.before s);
-          linked = linked_more (place k.said) 0 k.before s code more k.linked
-              (ap (λ p. linked (place k.said) p (s ∷ [])) (omega (arith, k.slots)) ∙ here);
+          linked = linked_more (slot_of_label k.said) 0 k.before s code more k.linked
+              (ap (λ p. linked (slot_of_label k.said) p (s ∷ [])) (omega (arith, k.slots)) ∙ here);
         }
 
 -- no line has a fault
@@ -186,7 +186,7 @@ pub linked_past : (lines : List (List ℕ)) (table : Table) (n slot : ℕ) (left
     → IsLinked lines table (n + 1) slot rest code
 linked_past lines table n slot left text l rest code k is first other = by l first other
   where
-    none : (s : Option Statement) → slots_in (s ∷ []) ≡ 0 → linked (place k.said) slot (s ∷ []) ≡ Some []
+    none : (s : Option Statement) → slots_in (s ∷ []) ≡ 0 → linked (slot_of_label k.said) slot (s ∷ []) ≡ Some []
         → Begins text.now s rest
         → IsLinked lines table (n + 1) slot rest code
     none s nowhere nothing first = subst (λ c. IsLinked lines table (n + 1) slot rest c) (append-nil code)
@@ -205,7 +205,7 @@ pub linked_insn : (lines : List (List ℕ)) (table : Table) (n slot : ℕ) (left
     (text : Bor (List ℕ)) (i : Insn) (target : Option Name)
     (rest : List (List ℕ)) (code : List Insn) (j : Insn) (k : IsLinked lines table n slot (lines_behind left) code)
     → left ≡ Some text
-    → Begins text.now (Some (Instruction i target)) rest → Some j ≡ linked_one (place k.said) slot i target
+    → Begins text.now (Some (Instruction i target)) rest → Some j ≡ linked_one (slot_of_label k.said) slot i target
     → IsLinked lines table (n + 1) (slot + slots_of i) rest (code ++ j ∷ [])
 linked_insn lines table n slot left text i target rest code j k is first one = subst
     (λ p. IsLinked lines table (n + 1) p rest (code ++ j ∷ [])) (omega arith)
@@ -217,11 +217,11 @@ pub unknown_label : (lines : List (List ℕ)) (table : Table) (n slot : ℕ) (le
     (text : Bor (List ℕ)) (i : Insn) (target : Option Name)
     (rest : List (List ℕ)) (code : List Insn) (k : IsLinked lines table n slot (lines_behind left) code)
     → left ≡ Some text
-    → Begins text.now (Some (Instruction i target)) rest → None ≡ linked_one (place k.said) slot i target
+    → Begins text.now (Some (Instruction i target)) rest → None ≡ linked_one (slot_of_label k.said) slot i target
     → IsHalted lines (error.UnknownLabel (n + 1))
 unknown_label lines table n slot left text i target rest code k is first none = by target first.read none
   where
-    lacks : (name : Name) → place k.said name ≡ None → (after : List (Option Statement)) → k.said ≡ k.before ++ after
+    lacks : (name : Name) → slot_of_label k.said name ≡ None → (after : List (Option Statement)) → k.said ≡ k.before ++ after
         → AllZip (λ line t. read_line line ≡ Some t) (first.line ∷ rest) after
         → read_line first.line ≡ Some (Some (Instruction i (Some name)))
         → LacksLabel k.said (n + 1)
@@ -244,7 +244,7 @@ unknown_label lines table n slot left text i target rest code k is first none = 
     missing f (Some p) e = absurd cc
 
     by : (target : Option Name) → read_line first.line ≡ Some (Some (Instruction i target))
-        → None ≡ linked_one (place k.said) slot i target
+        → None ≡ linked_one (slot_of_label k.said) slot i target
         → IsHalted lines (error.UnknownLabel (n + 1))
     by None read none = absurd cc
     by (Some name) read none = (

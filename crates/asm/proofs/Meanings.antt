@@ -7,7 +7,7 @@ use Rattle.insn.specs.declared.decoding.TheConstants.{MAX_SLOTS}
 use Rattle.insn.specs.declared.instruction.Insn.{Insn}
 use Rattle.asm.specs.Lines.{lines_of}
 use Rattle.asm.specs.Statements.{Statement, Labelled, Instruction}
-use Rattle.asm.specs.Programs.{Means, AreRead, place, linked, Names, IsAssembled, StopsAt, IsNoLine, IsOutOfRange, IsRepeated, IsRefused}
+use Rattle.asm.specs.Programs.{Means, AreRead, slot_of_label, linked, Names, IsAssembled, StopsAt, IsNoLine, IsOutOfRange, IsRepeated, IsRefused}
 use Rattle.asm.specs.Reading.{read_line}
 use Rattle.asm.specs.Parsing.{IsUnfit}
 use Rattle.asm.specs.Scanning.{AreUnderstood, Halts, IsUnread, IsTooLarge, IsOldLabel, IsHalted, IsCodeOf, IsBuilt}
@@ -124,7 +124,7 @@ halted_is_refused : ReaderLaws → (text : List ℕ) (e : AsmError) → IsHalted
 halted_is_refused laws text (error.Syntax n) h = inr (stops laws text n IsUnread IsNoLine (unread_is_no_line laws) h)
 halted_is_refused laws text (error.Range n) h = inr
     (stops laws text n IsTooLarge IsOutOfRange (too_large_is_out laws) h)
-halted_is_refused laws text (error.RepeatedLabel n) h = inr
+halted_is_refused laws text (error.DoubleLabel n) h = inr
     (stops laws text n IsOldLabel IsRepeated (old_is_repeated laws) h)
 halted_is_refused laws text error.TooLong h = inr (h.0, is_read laws (lines_of text) h.0 h.1, h.2)
 halted_is_refused laws text (error.UnknownLabel n) h = inr (h.0, is_read laws (lines_of text) h.0 h.1, h.2, h.3)
@@ -133,7 +133,7 @@ halted_is_refused laws text error.Memory h = inl refl
 refused_is_halted : ReaderLaws → (text : List ℕ) (e : AsmError) → IsRefused text e → IsHalted (lines_of text) e
 refused_is_halted laws text (error.Syntax n) r = halts laws text n IsUnread IsNoLine (no_line_is_unread laws) r
 refused_is_halted laws text (error.Range n) r = halts laws text n IsTooLarge IsOutOfRange (out_is_too_large laws) r
-refused_is_halted laws text (error.RepeatedLabel n) r = halts laws text n IsOldLabel IsRepeated (repeated_is_old laws) r
+refused_is_halted laws text (error.DoubleLabel n) r = halts laws text n IsOldLabel IsRepeated (repeated_is_old laws) r
 refused_is_halted laws text error.TooLong r = (r.0, is_understood laws (lines_of text) r.0 r.1, r.2)
 refused_is_halted laws text (error.UnknownLabel n) r = (r.0, is_understood laws (lines_of text) r.0 r.1, r.2, r.3)
 refused_is_halted laws text error.Memory r = absurd r
@@ -153,14 +153,14 @@ code_is_named laws text code a = record
     { said = a.said; read = is_read laws (lines_of text) a.said a.read; linked = a.linked }
 
 few_slots : (text : List ℕ) (code : List Insn) → IsCodeOf text code → slot_count code ≤ MAX_SLOTS
-few_slots text code a = omega (arith, a.few, slots_of_code (place a.said) 0 a.said code a.linked)
+few_slots text code a = omega (arith, a.few, slots_of_code (slot_of_label a.said) 0 a.said code a.linked)
 
 named_is_code : ReaderLaws → (text : List ℕ) (code : List Insn) → Names text code → slot_count code ≤ MAX_SLOTS
     → IsCodeOf text code
 named_is_code laws text code named few = record {
   said = named.said;
   read = is_understood laws (lines_of text) named.said named.read;
-  few = omega (arith, slots_of_code (place named.said) 0 named.said code named.linked);
+  few = omega (arith, slots_of_code (slot_of_label named.said) 0 named.said code named.linked);
   linked = named.linked;
 }
 
@@ -171,7 +171,7 @@ names_once laws text code other a b =
     let same : a.said ≡ b.said = said_is_one (lines_of text) a.said b.said
     (is_understood laws (lines_of text) a.said a.read).each
     (is_understood laws (lines_of text) b.said b.read).each in
-    let both : Some code ≡ Some other = sym a.linked ∙ ap (λ said. linked (place said) 0 said) same ∙ b.linked in cc
+    let both : Some code ≡ Some other = sym a.linked ∙ ap (λ said. linked (slot_of_label said) 0 said) same ∙ b.linked in cc
 
 -- ---- the clauses of `assemble`, by those of `build`
 

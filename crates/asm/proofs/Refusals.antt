@@ -8,7 +8,7 @@ use Rattle.insn.specs.declared.instruction.Insn.{Insn}
 use Rattle.insn.specs.declared.instruction.Insn.TheVariants.{Jump}
 use Rattle.asm.specs.Lines.{lines_of}
 use Rattle.asm.specs.Statements.{Name, Statement, Labelled, Instruction}
-use Rattle.asm.specs.Programs.{IsInRange, labels, IsNameAmong, AreDistinct, slots_in, place, with_distance, linked_one, linked, LacksLabel}
+use Rattle.asm.specs.Programs.{IsInRange, labels, IsNameAmong, AreDistinct, slots_in, slot_of_label, with_distance, linked_one, linked, LacksLabel}
 use Rattle.asm.specs.Reading.{read_line}
 use Rattle.asm.specs.Parsing.{IsUnfit}
 use Rattle.asm.specs.Scanning.{AreUnderstood, IsOld, IsUnread, IsTooLarge, IsOldLabel, IsHalted, IsCodeOf, Halts}
@@ -108,7 +108,7 @@ says_at (l ∷ before) line after (s ∷ all) each = let k = says_at before line
 abbrev LineFault : AsmError → ℕ → List (Option Statement) → Option (Option Statement) → Type 0
 LineFault (error.Syntax m) n said s = (m ≡ n) × IsUnread said s
 LineFault (error.Range m) n said s = (m ≡ n) × IsTooLarge said s
-LineFault (error.RepeatedLabel m) n said s = (m ≡ n) × IsOldLabel said s
+LineFault (error.DoubleLabel m) n said s = (m ≡ n) × IsOldLabel said s
 LineFault error.TooLong n said s = ⊥
 LineFault (error.UnknownLabel m) n said s = ⊥
 LineFault error.Memory n said s = ⊥
@@ -118,7 +118,7 @@ no_fault : (e : AsmError) (n : ℕ) (said : List (Option Statement)) (s : Option
     → IsInRange s → (IsOld said s → ⊥) → ⊥
 no_fault (error.Syntax m) n said s fault fits new = let none : Some s ≡ None = fault.1 in cc
 no_fault (error.Range m) n said s fault fits new = fault.1 fits
-no_fault (error.RepeatedLabel m) n said s fault fits new = new fault.1
+no_fault (error.DoubleLabel m) n said s fault fits new = new fault.1
 no_fault error.TooLong n said s fault fits new = fault
 no_fault (error.UnknownLabel m) n said s fault fits new = fault
 no_fault error.Memory n said s fault fits new = fault
@@ -135,13 +135,13 @@ one_fault : (e f : AsmError) (n : ℕ) (said : List (Option Statement)) (s : Opt
     → LineFault e n said s → LineFault f n said s → e ≡ f
 one_fault (error.Syntax m) (error.Syntax k) n said s a b = ap (λ i. error.Syntax i) (a.0 ∙ sym b.0)
 one_fault (error.Syntax m) (error.Range k) n said s a b = absurd (subst IsUnfit a.1 b.1)
-one_fault (error.Syntax m) (error.RepeatedLabel k) n said s a b = absurd (subst (IsOldLabel said) a.1 b.1)
+one_fault (error.Syntax m) (error.DoubleLabel k) n said s a b = absurd (subst (IsOldLabel said) a.1 b.1)
 one_fault (error.Range m) (error.Syntax k) n said s a b = absurd (subst IsUnfit b.1 a.1)
 one_fault (error.Range m) (error.Range k) n said s a b = ap (λ i. error.Range i) (a.0 ∙ sym b.0)
-one_fault (error.Range m) (error.RepeatedLabel k) n said s a b = absurd (fits_or_new said s a.1 b.1)
-one_fault (error.RepeatedLabel m) (error.Syntax k) n said s a b = absurd (subst (IsOldLabel said) b.1 a.1)
-one_fault (error.RepeatedLabel m) (error.Range k) n said s a b = absurd (fits_or_new said s b.1 a.1)
-one_fault (error.RepeatedLabel m) (error.RepeatedLabel k) n said s a b = ap (λ i. error.RepeatedLabel i) (a.0 ∙ sym b.0)
+one_fault (error.Range m) (error.DoubleLabel k) n said s a b = absurd (fits_or_new said s a.1 b.1)
+one_fault (error.DoubleLabel m) (error.Syntax k) n said s a b = absurd (subst (IsOldLabel said) b.1 a.1)
+one_fault (error.DoubleLabel m) (error.Range k) n said s a b = absurd (fits_or_new said s b.1 a.1)
+one_fault (error.DoubleLabel m) (error.DoubleLabel k) n said s a b = ap (λ i. error.DoubleLabel i) (a.0 ∙ sym b.0)
 one_fault error.TooLong f n said s a b = absurd a
 one_fault (error.UnknownLabel m) f n said s a b = absurd a
 one_fault error.Memory f n said s a b = absurd a
@@ -189,21 +189,21 @@ fails_once lines e f a b = by (cuts a.before a.line a.after b.before b.line b.af
 -- ---- texts without a fault of a line
 
 -- an unknown label leaves no code
-unknown_is_none : (places : Name → Option ℕ) (slot : ℕ) (before : List (Option Statement)) (i : Insn) (name : Name)
+unknown_is_none : (label_slots : Name → Option ℕ) (slot : ℕ) (before : List (Option Statement)) (i : Insn) (name : Name)
     (after : List (Option Statement))
-    → places name ≡ None → linked places slot (before ++ Some (Instruction i (Some name)) ∷ after) ≡ None
-unknown_is_none places slot [] i name after unknown = rw unknown
-unknown_is_none places slot (None ∷ before) i name after unknown = unknown_is_none places slot before i name after
+    → label_slots name ≡ None → linked label_slots slot (before ++ Some (Instruction i (Some name)) ∷ after) ≡ None
+unknown_is_none label_slots slot [] i name after unknown = rw unknown
+unknown_is_none label_slots slot (None ∷ before) i name after unknown = unknown_is_none label_slots slot before i name after
     unknown
-unknown_is_none places slot (Some (Labelled n) ∷ before) i name after unknown = unknown_is_none places slot before i
+unknown_is_none label_slots slot (Some (Labelled n) ∷ before) i name after unknown = unknown_is_none label_slots slot before i
     name after unknown
-unknown_is_none places slot (Some (Instruction h t) ∷ before) i name after unknown =
-    by (linked_one places slot h t) (unknown_is_none places (slot + slots_of h) before i name after unknown)
+unknown_is_none label_slots slot (Some (Instruction h t) ∷ before) i name after unknown =
+    by (linked_one label_slots slot h t) (unknown_is_none label_slots (slot + slots_of h) before i name after unknown)
   where
-    by : (o : Option Insn) → linked places (slot + slots_of h)
+    by : (o : Option Insn) → linked label_slots (slot + slots_of h)
         (before ++ Some (Instruction i (Some name)) ∷ after) ≡ None
         → option_and_then (λ j. option_map (λ code. j ∷ code)
-        (linked places (slot + slots_of h) (before ++ Some (Instruction i (Some name)) ∷ after))) o ≡ None
+        (linked label_slots (slot + slots_of h) (before ++ Some (Instruction i (Some name)) ∷ after))) o ≡ None
     by None none = refl
     by (Some j) none = ap (option_map (λ code. j ∷ code)) none
 
@@ -214,22 +214,22 @@ lacks_once said n m a b = by (cuts a.before _ a.after b.before _ b.after (sym a.
     by : Cuts a.before (Some (Instruction a.insn (Some a.name))) b.before (Some (Instruction b.insn (Some b.name)))
         → n ≡ m
     by (Same fronts here) = omega (arith, a.count, b.count, ap length fronts)
-    by (Before more is) = let none : is_some (linked (place said) 0 b.before) ≡ false = rw is
-        (ap is_some (unknown_is_none (place said) 0 a.before a.insn a.name more a.unknown)) in
-        let known : is_some (linked (place said) 0 b.before) ≡ true = b.known in absurd cc
-    by (Behind more is) = let none : is_some (linked (place said) 0 a.before) ≡ false = rw is
-        (ap is_some (unknown_is_none (place said) 0 b.before b.insn b.name more b.unknown)) in
-        let known : is_some (linked (place said) 0 a.before) ≡ true = a.known in absurd cc
+    by (Before more is) = let none : is_some (linked (slot_of_label said) 0 b.before) ≡ false = rw is
+        (ap is_some (unknown_is_none (slot_of_label said) 0 a.before a.insn a.name more a.unknown)) in
+        let known : is_some (linked (slot_of_label said) 0 b.before) ≡ true = b.known in absurd cc
+    by (Behind more is) = let none : is_some (linked (slot_of_label said) 0 a.before) ≡ false = rw is
+        (ap is_some (unknown_is_none (slot_of_label said) 0 b.before b.insn b.name more b.unknown)) in
+        let known : is_some (linked (slot_of_label said) 0 a.before) ≡ true = a.known in absurd cc
 
 -- the slots of a jump stay the same with another distance
 slots_kept : (i : Insn) (distance : ℤ) → slots_of (with_distance i distance) ≡ slots_of i
 slots_kept (Jump d) distance = refl
 slots_kept _ distance = refl
 
-slots_of_linked : (places : Name → Option ℕ) (slot : ℕ) (i : Insn) (target : Option Name) (j : Insn)
-    → linked_one places slot i target ≡ Some j → slots_of j ≡ slots_of i
-slots_of_linked places slot i None j is = let same : i ≡ j = cc in ap slots_of (sym same)
-slots_of_linked places slot i (Some name) j is = by (places name) is
+slots_of_linked : (label_slots : Name → Option ℕ) (slot : ℕ) (i : Insn) (target : Option Name) (j : Insn)
+    → linked_one label_slots slot i target ≡ Some j → slots_of j ≡ slots_of i
+slots_of_linked label_slots slot i None j is = let same : i ≡ j = cc in ap slots_of (sym same)
+slots_of_linked label_slots slot i (Some name) j is = by (label_slots name) is
   where
     by : (o : Option ℕ) → option_map (λ p. with_distance i (pos p -ℤ pos (slot + 1))) o ≡ Some j
         → slots_of j ≡ slots_of i
@@ -238,24 +238,24 @@ slots_of_linked places slot i (Some name) j is = by (places name) is
         ∙ slots_kept i (pos p -ℤ pos (slot + 1))
 
 -- the code has the slots of the lines
-pub slots_of_code : (places : Name → Option ℕ) (slot : ℕ) (said : List (Option Statement)) (code : List Insn)
-    → linked places slot said ≡ Some code
+pub slots_of_code : (label_slots : Name → Option ℕ) (slot : ℕ) (said : List (Option Statement)) (code : List Insn)
+    → linked label_slots slot said ≡ Some code
     → slot_count code ≡ slots_in said
-slots_of_code places slot [] code is = let none : [] ≡ code = cc in ap slot_count (sym none)
-slots_of_code places slot (None ∷ said) code is = slots_of_code places slot said code is
-slots_of_code places slot (Some (Labelled n) ∷ said) code is = slots_of_code places slot said code is
-slots_of_code places slot (Some (Instruction i t) ∷ said) code is =
-    by (linked_one places slot i t) (linked places (slot + slots_of i) said) refl is
-    (slots_of_code places (slot + slots_of i) said)
+slots_of_code label_slots slot [] code is = let none : [] ≡ code = cc in ap slot_count (sym none)
+slots_of_code label_slots slot (None ∷ said) code is = slots_of_code label_slots slot said code is
+slots_of_code label_slots slot (Some (Labelled n) ∷ said) code is = slots_of_code label_slots slot said code is
+slots_of_code label_slots slot (Some (Instruction i t) ∷ said) code is =
+    by (linked_one label_slots slot i t) (linked label_slots (slot + slots_of i) said) refl is
+    (slots_of_code label_slots (slot + slots_of i) said)
   where
-    by : (o : Option Insn) (q : Option (List Insn)) → linked_one places slot i t ≡ o
+    by : (o : Option Insn) (q : Option (List Insn)) → linked_one label_slots slot i t ≡ o
         → option_and_then (λ j. option_map (λ c. j ∷ c) q) o ≡ Some code
         → ((tail : List Insn) → q ≡ Some tail → slot_count tail ≡ slots_in said)
         → slot_count code ≡ slots_of i + slots_in said
     by None q one is behind = absurd cc
     by (Some j) None one is behind = absurd cc
     by (Some j) (Some tail) one is behind = let first : j ∷ tail ≡ code = cc in
-        omega (arith, ap slot_count first, slots_of_linked places slot i t j one, behind tail refl)
+        omega (arith, ap slot_count first, slots_of_linked label_slots slot i t j one, behind tail refl)
 
 -- ---- a text has one program or one refusal
 
@@ -265,7 +265,7 @@ WholeFault said error.TooLong = MAX_SLOTS < slots_in said
 WholeFault said (error.UnknownLabel n) = (slots_in said ≤ MAX_SLOTS) × LacksLabel said n
 WholeFault said (error.Syntax n) = ⊥
 WholeFault said (error.Range n) = ⊥
-WholeFault said (error.RepeatedLabel n) = ⊥
+WholeFault said (error.DoubleLabel n) = ⊥
 WholeFault said error.Memory = ⊥
 
 record FailsWhole (lines : List (List ℕ)) (e : AsmError) : Type 0 where
@@ -292,8 +292,8 @@ failing : (lines : List (List ℕ)) (e : AsmError) → e ≢ error.Memory → Is
     → FailsAt lines e ⊎ FailsWhole lines e
 failing lines (error.Syntax n) other h = inl (line_fails lines (error.Syntax n) n IsUnread h (h.count, h.fault))
 failing lines (error.Range n) other h = inl (line_fails lines (error.Range n) n IsTooLarge h (h.count, h.fault))
-failing lines (error.RepeatedLabel n) other h = inl
-    (line_fails lines (error.RepeatedLabel n) n IsOldLabel h (h.count, h.fault))
+failing lines (error.DoubleLabel n) other h = inl
+    (line_fails lines (error.DoubleLabel n) n IsOldLabel h (h.count, h.fault))
 failing lines error.TooLong other h = inr (record { said = h.0; read = h.1; fault = h.2 })
 failing lines (error.UnknownLabel n) other h = inr (record { said = h.0; read = h.1; fault = (h.2, h.3) })
 failing lines error.Memory other h = absurd (other refl)
@@ -306,11 +306,11 @@ whole_once said (error.UnknownLabel n) (error.UnknownLabel m) a b = ap (λ k. er
     (lacks_once said n m a.1 b.1)
 whole_once said (error.Syntax n) f a b = absurd a
 whole_once said (error.Range n) f a b = absurd a
-whole_once said (error.RepeatedLabel n) f a b = absurd a
+whole_once said (error.DoubleLabel n) f a b = absurd a
 whole_once said error.Memory f a b = absurd a
 whole_once said e (error.Syntax n) a b = absurd b
 whole_once said e (error.Range n) a b = absurd b
-whole_once said e (error.RepeatedLabel n) a b = absurd b
+whole_once said e (error.DoubleLabel n) a b = absurd b
 whole_once said e error.Memory a b = absurd b
 
 -- where a line fails, the lines are not understood
@@ -330,20 +330,20 @@ halts_once lines e f of_line of_other a b = by (failing lines e of_line a) (fail
     by (inr a) (inr b) = whole_once a.said e f a.fault
         (subst (λ said. WholeFault said f) (said_is_one lines b.said a.said b.read.each a.read.each) b.fault)
 
--- a text that has a program is refused for want of memory alone
+-- a text that has a program is refused for a failed allocation alone
 pub halts_or_code : (text : List ℕ) (code : List Insn) (e : AsmError) → e ≢ error.Memory → IsCodeOf text code
     → IsHalted (lines_of text) e → ⊥
 halts_or_code text code e other a h = by (failing (lines_of text) e other h)
   where
     whole : (e : AsmError) → WholeFault a.said e → ⊥
     whole error.TooLong many = omega (arith, a.few, many)
-    whole (error.UnknownLabel n) (few, lacks) = let none : linked (place a.said) 0 a.said ≡ None =
-        ap (λ said. linked (place a.said) 0 said) lacks.split
-        ∙ unknown_is_none (place a.said) 0 lacks.before lacks.insn lacks.name lacks.after lacks.unknown in
+    whole (error.UnknownLabel n) (few, lacks) = let none : linked (slot_of_label a.said) 0 a.said ≡ None =
+        ap (λ said. linked (slot_of_label a.said) 0 said) lacks.split
+        ∙ unknown_is_none (slot_of_label a.said) 0 lacks.before lacks.insn lacks.name lacks.after lacks.unknown in
         let both : Some code ≡ None = sym a.linked ∙ none in cc
     whole (error.Syntax n) fault = fault
     whole (error.Range n) fault = fault
-    whole (error.RepeatedLabel n) fault = fault
+    whole (error.DoubleLabel n) fault = fault
     whole error.Memory fault = fault
 
     by : FailsAt (lines_of text) e ⊎ FailsWhole (lines_of text) e → ⊥

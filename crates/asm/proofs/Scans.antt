@@ -137,7 +137,7 @@ pub halted_at_label : (lines : List (List ℕ)) (n : ℕ) (left : Option (Bor (L
 halted_at_label lines n left text s rest table new e scanned is first added = by e (added scanned.said scanned.holds)
   where
     by : (e : AsmError) → Adds scanned.said s (n + 1) new (Err e) → IsHalted lines e
-    by (error.RepeatedLabel m) (here, old) = record {
+    by (error.DoubleLabel m) (here, old) = record {
       before = scanned.before;
       line = first.line;
       after = rest;

@@ -7,7 +7,7 @@ use denote.Ref.{Bor}
 use Rattle.asm.specs.Lines.{Token, is_blank}
 use Rattle.asm.specs.Statements.{Statement, Labelled, Instruction}
 use Rattle.asm.specs.Programs.{IsInRange}
-use Rattle.asm.specs.Reading.{Read, tokens_of, Place, Target}
+use Rattle.asm.specs.Reading.{Read, tokens_of, MemoryOperand, Target}
 use Rattle.asm.specs.declared.refusal.Fault.{Fault}
 use Rattle.asm.specs.declared.refusal.Fault.TheVariants.{Syntax, Range}
 use Rattle.asm.specs.Radices.{radix_of}
@@ -34,7 +34,7 @@ abbrev pub operand_value : Written → Operand
 operand_value (written.Reg r) = operand.Reg r
 operand_value (written.Integer n) = operand.Imm (integer_value n)
 
-abbrev pub address_value : Address → Place
+abbrev pub address_value : Address → MemoryOperand
 address_value a = record { base = a.base; displacement = integer_value a.displacement }
 
 abbrev pub goal_value : Goal → Target
@@ -80,7 +80,8 @@ abbrev pub IsUnfit : Option (Option Statement) → Type 0
 IsUnfit None = ⊥
 IsUnfit (Some s) = IsInRange s → ⊥
 
--- a line by what it says: the result says that, and its numbers fit; else a number does not, or nothing is said
+-- a line is parsed: as the statement that it has, if the numbers of that fit; `Range` where one does not fit; `Syntax`
+-- where the line has no statement
 abbrev pub UnderstandsLine : Option (Option Statement) → Result Line Fault → Type 0
 UnderstandsLine said (Ok l) = (said ≡ Some (said_in l)) × IsInRange (said_in l)
 UnderstandsLine said (Err Syntax) = said ≡ None

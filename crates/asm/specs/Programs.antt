@@ -54,14 +54,14 @@ slots_in (Some (Labelled name) ∷ more) = slots_in more
 slots_in (Some (Instruction i target) ∷ more) = slots_of i + slots_in more
 
 -- the slot of a label, which is that of the next instruction; the first line has the slot given
-abbrev pub place_from : ℕ → List (Option Statement) → Name → Option ℕ
-place_from slot [] name = None
-place_from slot (None ∷ more) name = place_from slot more name
-place_from slot (Some (Labelled n) ∷ more) name = if bytes_eq n name then Some slot else place_from slot more name
-place_from slot (Some (Instruction i target) ∷ more) name = place_from (slot + slots_of i) more name
+abbrev pub slot_from : ℕ → List (Option Statement) → Name → Option ℕ
+slot_from slot [] name = None
+slot_from slot (None ∷ more) name = slot_from slot more name
+slot_from slot (Some (Labelled n) ∷ more) name = if bytes_eq n name then Some slot else slot_from slot more name
+slot_from slot (Some (Instruction i target) ∷ more) name = slot_from (slot + slots_of i) more name
 
-abbrev pub place : List (Option Statement) → Name → Option ℕ
-place said name = place_from 0 said name
+abbrev pub slot_of_label : List (Option Statement) → Name → Option ℕ
+slot_of_label said name = slot_from 0 said name
 
 -- a jump with its distance
 abbrev pub with_distance : Insn → ℤ → Insn
@@ -72,16 +72,16 @@ with_distance i distance = i
 
 -- a distance counts from the slot behind the jump
 abbrev pub linked_one : (Name → Option ℕ) → ℕ → Insn → Option Name → Option Insn
-linked_one places slot i None = Some i
-linked_one places slot i (Some name) = option_map (λ p. with_distance i (pos p -ℤ pos (slot + 1))) (places name)
+linked_one label_slots slot i None = Some i
+linked_one label_slots slot i (Some name) = option_map (λ p. with_distance i (pos p -ℤ pos (slot + 1))) (label_slots name)
 
 -- the instructions, each jump to a label with its distance; none where a label is unknown
 abbrev pub linked : (Name → Option ℕ) → ℕ → List (Option Statement) → Option (List Insn)
-linked places slot [] = Some []
-linked places slot (None ∷ more) = linked places slot more
-linked places slot (Some (Labelled name) ∷ more) = linked places slot more
-linked places slot (Some (Instruction i target) ∷ more) = option_and_then
-    (λ j. option_map (λ code. j ∷ code) (linked places (slot + slots_of i) more)) (linked_one places slot i target)
+linked label_slots slot [] = Some []
+linked label_slots slot (None ∷ more) = linked label_slots slot more
+linked label_slots slot (Some (Labelled name) ∷ more) = linked label_slots slot more
+linked label_slots slot (Some (Instruction i target) ∷ more) = option_and_then
+    (λ j. option_map (λ code. j ∷ code) (linked label_slots (slot + slots_of i) more)) (linked_one label_slots slot i target)
 
 -- ---- texts
 
@@ -89,7 +89,7 @@ linked places slot (Some (Instruction i target) ∷ more) = option_and_then
 pub record Names (text : List ℕ) (code : List Insn) : Type 0 where
   pub said : List (Option Statement)
   pub read : AreRead (lines_of text) said
-  pub linked : linked (place said) 0 said ≡ Some code
+  pub linked : linked (slot_of_label said) 0 said ≡ Some code
 
 -- the bytes are the encoding of a program of at most 4,096 slots that the text names
 pub record IsAssembled (text bytes : List ℕ) : Type 0 where
@@ -131,14 +131,14 @@ pub record LacksLabel (said : List (Option Statement)) (n : ℕ) : Type 0 where
   pub after : List (Option Statement)
   pub split : said ≡ before ++ Some (Instruction insn (Some name)) ∷ after
   pub count : n ≡ length before + 1
-  pub known : is_some (linked (place said) 0 before) ≡ true
-  pub unknown : place said name ≡ None
+  pub known : is_some (linked (slot_of_label said) 0 before) ≡ true
+  pub unknown : slot_of_label said name ≡ None
 
 -- The faults of lines come first, in the order of the lines; then the number of slots; then the first unknown label.
 abbrev pub IsRefused : List ℕ → AsmError → Type 0
 IsRefused text (error.Syntax n) = StopsAt text n IsNoLine
 IsRefused text (error.Range n) = StopsAt text n IsOutOfRange
-IsRefused text (error.RepeatedLabel n) = StopsAt text n IsRepeated
+IsRefused text (error.DoubleLabel n) = StopsAt text n IsRepeated
 IsRefused text error.TooLong = (said : List (Option Statement)) × AreRead (lines_of text) said × (MAX_SLOTS < slots_in said)
 IsRefused text (error.UnknownLabel n) = (said : List (Option Statement)) × AreRead (lines_of text) said × (slots_in said ≤ MAX_SLOTS)
     × LacksLabel said n

@@ -160,11 +160,11 @@ abbrev pub target : List Token → Option (Read Target)
 target ts = name_or (name ts) (signed_number ts)
 
 -- the register and the displacement of an address
-pub record Place : Type 0 where
+pub record MemoryOperand : Type 0 where
   pub base : Reg
   pub displacement : ℤ
 
-abbrev pub address : List Token → Option (Read Place)
+abbrev pub address : List Token → Option (Read MemoryOperand)
 address ts = do
   opened ← sign (codes "[") ts
   base ← register opened

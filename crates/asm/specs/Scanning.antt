@@ -9,7 +9,7 @@ use Rattle.insn.specs.declared.decoding.TheConstants.{MAX_SLOTS}
 use Rattle.insn.specs.declared.instruction.Insn.{Insn}
 use Rattle.asm.specs.Lines.{lines_of}
 use Rattle.asm.specs.Statements.{Statement, Labelled, Instruction}
-use Rattle.asm.specs.Programs.{IsInRange, labels, IsNameAmong, AreDistinct, slots_in, place, linked, LacksLabel}
+use Rattle.asm.specs.Programs.{IsInRange, labels, IsNameAmong, AreDistinct, slots_in, slot_of_label, linked, LacksLabel}
 use Rattle.asm.specs.Reading.{read_line}
 use Rattle.asm.specs.Parsing.{IsUnfit, UnderstandsLine}
 use Rattle.asm.specs.Faults.{fault_at}
@@ -54,11 +54,11 @@ pub record AreUnderstood (lines : List (List ℕ)) (said : List (Option Statemen
 abbrev pub capped : ℕ → ℕ
 capped slots = min slots (MAX_SLOTS + 1)
 
--- a table has the slots, and the place of each label
+-- a table has the slots, and the slot of each label
 pub record Holds (table : Table) (said : List (Option Statement)) : Type 0 where
   pub slots : table.slots ≡ capped (slots_in said)
-  pub places : (name : Bor (List ℕ))
-      → get (λ x y. pointwise nat_eq x.now y.now) table.places name ≡ option_map capped (place said name.now)
+  pub label_slots : (name : Bor (List ℕ))
+      → get (λ x y. pointwise nat_eq x.now y.now) table.label_slots name ≡ option_map capped (slot_of_label said name.now)
 
 -- a label is new
 abbrev pub IsNew : List (Option Statement) → Option Statement → Type 0
@@ -75,7 +75,7 @@ IsOld said (Some (Instruction i target)) = ⊥
 -- a table with what one more line says
 abbrev pub Adds : List (Option Statement) → Option Statement → ℕ → Table → Result (Unit {0}) AsmError → Type 0
 Adds said s n table (Ok x) = Holds table (said ++ s ∷ []) × IsNew said s
-Adds said s n table (Err (error.RepeatedLabel m)) = (m ≡ n) × IsOld said s
+Adds said s n table (Err (error.DoubleLabel m)) = (m ≡ n) × IsOld said s
 Adds said s n table (Err error.Memory) = Unit {0}
 Adds said s n table (Err (error.Syntax m)) = ⊥
 Adds said s n table (Err (error.Range m)) = ⊥
@@ -126,7 +126,7 @@ IsOldLabel said (Some s) = IsOld said s
 abbrev pub IsHalted : List (List ℕ) → AsmError → Type 0
 IsHalted lines (error.Syntax n) = Halts lines n IsUnread
 IsHalted lines (error.Range n) = Halts lines n IsTooLarge
-IsHalted lines (error.RepeatedLabel n) = Halts lines n IsOldLabel
+IsHalted lines (error.DoubleLabel n) = Halts lines n IsOldLabel
 IsHalted lines error.TooLong = (said : List (Option Statement)) × AreUnderstood lines said × (MAX_SLOTS < slots_in said)
 IsHalted lines (error.UnknownLabel n) = (said : List (Option Statement)) × AreUnderstood lines said ×
     (slots_in said ≤ MAX_SLOTS)
@@ -149,14 +149,14 @@ pub record IsLinked (lines : List (List ℕ)) (table : Table) (n slot : ℕ) (re
   pub fit : AllByRecursion IsInRange after
   pub count : n ≡ length before
   pub slots : slot ≡ slots_in before
-  pub linked : linked (place said) 0 before ≡ Some code
+  pub linked : linked (slot_of_label said) 0 before ≡ Some code
 
 -- the instructions of a text without a fault
 pub record IsCodeOf (text : List ℕ) (code : List Insn) : Type 0 where
   pub said : List (Option Statement)
   pub read : AreUnderstood (lines_of text) said
   pub few : slots_in said ≤ MAX_SLOTS
-  pub linked : linked (place said) 0 said ≡ Some code
+  pub linked : linked (slot_of_label said) 0 said ≡ Some code
 
 -- the bytes are the encoding of those instructions
 pub record IsBuilt (text bytes : List ℕ) : Type 0 where

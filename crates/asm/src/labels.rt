@@ -19,7 +19,7 @@ impl<'a> Table<'a> {
         ensures { Holds result [] }
     {
         Table {
-            places: IndexMap::new(alloc),
+            label_slots: IndexMap::new(alloc),
             slots: 0,
         }
     }
@@ -30,10 +30,10 @@ impl<'a> Table<'a> {
         ensures { (said : List (Option Statement)) → Holds self.old said
             → Adds said (Some (Labelled name.now)) number self.new result }
     {
-        if self.places.contains_key(name) {
-            return Err(AsmError::RepeatedLabel(number));
+        if self.label_slots.contains_key(name) {
+            return Err(AsmError::DoubleLabel(number));
         }
-        self.places.insert(name, self.slots)?;
+        self.label_slots.insert(name, self.slots)?;
         Ok(())
     }
 

@@ -66,7 +66,7 @@ pub(crate) fn is_name(word: &[u8]) -> bool
     word.len() <= MAX_NAME
 }
 
-/// Returns how many characters of a word stand first.
+/// Returns the length of the word that `rest` begins with.
 fn word_length(rest: &[u8]) -> usize
     ensures { result ≡ prefix_len is_in_words rest.now }
 {
@@ -103,7 +103,7 @@ fn are_digits(radix: Radix, digits: &[u8]) -> bool
     digits.iter().all(|d| char::from(*d).is_digit(base))
 }
 
-/// Returns the number of these digits, if they are digits, and some.
+/// Returns the number that one or more digits spell, or `None`.
 fn number_of<'a>(radix: Radix, digits: &'a [u8]) -> Option<Number<'a>>
     ensures { option_map number_value result
         ≡ (if is_numeral (radix_of radix) digits.now then Some (digits_value (radix_of radix) digits.now) else None) }

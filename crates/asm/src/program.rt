@@ -3,7 +3,7 @@
 ghost use Rattle.std.specs.Prelude.{◌≡◌, ◌∷◌, ◌≤◌, ◌⊎◌, List, ℕ, Option, option_map, length, IfOk, IfErr, MatchResult, IsErrAnd};
 ghost use Rattle.asm.specs.Lines.{lines_of};
 ghost use Rattle.asm.specs.Statements.{Statement};
-ghost use Rattle.asm.specs.Programs.{slots_in, place, with_distance, linked_one, Names, IsAssembled, IsRefused};
+ghost use Rattle.asm.specs.Programs.{slots_in, slot_of_label, with_distance, linked_one, Names, IsAssembled, IsRefused};
 ghost use Rattle.asm.specs.declared.refusal.AsmError.TheVariants.{Memory};
 ghost use Rattle.insn.specs.Encoding.{slot_count, encodings, AllFit};
 ghost use Rattle.insn.specs.Spelling.{listing};
@@ -97,13 +97,13 @@ fn linked(table: &Table<'_>, insn: Insn, label: Option<&[u8]>, slot: usize) -> O
     requires slot { slot ≤ MAX_SLOTS }
     requires table { (said : List (Option Statement)) × Holds table.now said × (slots_in said ≤ MAX_SLOTS) }
     ensures { (said : List (Option Statement)) → Holds table.now said → slots_in said ≤ MAX_SLOTS
-        → result ≡ linked_one (place said) slot insn (option_map (λ name. name.now) label.entry) }
+        → result ≡ linked_one (slot_of_label said) slot insn (option_map (λ name. name.now) label.entry) }
 {
     let Some(name) = label else {
         return Some(insn);
     };
-    let place = *table.places.get(name)?;
-    Some(with_distance(insn, place as i16 - (slot + 1) as i16))
+    let target = *table.label_slots.get(name)?;
+    Some(with_distance(insn, target as i16 - (slot + 1) as i16))
 }
 
 /// Returns the instructions of a text whose lines have no fault, with the distances of the jumps to labels.
@@ -160,17 +160,17 @@ pub fn assemble(alloc: Global, text: &str) -> Result<Vec<u8>, AsmError>
     build(alloc, text)
 }
 
-/// A text names at most one program.
+/// States that a text names at most one program.
 pub fn texts_name_one_program()
     ensures { (text : List ℕ) (code other : List Insn) → Names text code → Names text other → code ≡ other }
 {}
 
-/// A text has at most one refusal.
+/// States that a text has at most one refusal.
 pub fn refusals_are_unique()
     ensures { (text : List ℕ) (d e : AsmError) → IsRefused text d → IsRefused text e → d ≡ e }
 {}
 
-/// The text of a program names it.
+/// States that the text of a program names it.
 pub fn listings_name_their_program()
     ensures { (code : List Insn) → AllFit code → Names (listing code) code }
 {}

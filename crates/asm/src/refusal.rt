@@ -21,11 +21,11 @@ pub enum AsmError {
     UnknownLabel(usize),
     /// The label of the line stands on an earlier line already.
     #[error("L4 at line {0}")]
-    RepeatedLabel(usize),
+    DoubleLabel(usize),
     /// The program has more than 4,096 slots.
     #[error("L5")]
     TooLong,
-    /// There was no memory.
+    /// Memory ran out.
     #[error("L6")]
     Memory,
 }

@@ -48,8 +48,13 @@ impl Addr {
 }
 
 impl Default for Addr {
+    ghost use Rattle.std.specs.Prelude.{◌≡◌, ◌∷◌, []};
+    ghost use Rattle.attributes.specs.declared.address.Addr.TheVariants.{V4};
+
     /// Returns the unspecified address of IPv4, 0.0.0.0, with the port 0.
-    fn default() -> Self {
+    fn default() -> Self
+        ensures { result ≡ V4 (0 ∷ 0 ∷ 0 ∷ 0 ∷ []) 0 }
+    {
         Addr::V4 {
             ip: [0; 4],
             port: 0,

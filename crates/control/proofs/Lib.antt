@@ -1,4 +1,4 @@
 pub mod Types
 pub mod Peers
 pub mod Limits
-pub mod Outcomes
+pub mod Decisions

@@ -35,15 +35,15 @@ use Rattle.control.specs.declared.request.Request.{Request}
 use Rattle.control.specs.declared.request.Request.TheVariants as request
 
 -- what is granted, and the rows then, or the error
-abbrev pub Outcome : Type 0
-Outcome = Result (Grant × Rows) ErrorCode
+abbrev pub Decision : Type 0
+Decision = Result (Grant × Rows) ErrorCode
 
 -- A grant comes with its rows; an error leaves the rows as they were.
-abbrev pub Gives : Outcome → Rows → Result Grant ErrorCode → Rows → Type 0
+abbrev pub Gives : Decision → Rows → Result Grant ErrorCode → Rows → Type 0
 Gives (Ok granted) old result new = (result ≡ Ok granted.0) × (new ≡ granted.1)
 Gives (Err error) old result new = (result ≡ Err error) × (new ≡ old)
 
--- the slot of a grant is one of so many
+-- a granted slot is below `slots`
 abbrev pub IsInside : ℕ → Grant → Type 0
 IsInside slots Mapped = Unit {0}
 IsInside slots (Allocated slot lifetime) = slot < slots
@@ -99,20 +99,20 @@ acceptable_lifetime p = do
   requested ← requested_lifetime p
   Ok (lifetime_for requested)
 
-abbrev pub allocate_anew : Addr → ℕ → Parts → Rows → Outcome
+abbrev pub allocate_anew : Addr → ℕ → Parts → Rows → Decision
 allocate_anew client user p rows = do
   lifetime ← acceptable_lifetime p
   made ← changed (tables.allocate client user p.transaction_id lifetime rows)
   Ok (Allocated made.0 lifetime, made.1)
 
 -- where the client has an allocation, and where it has none
-abbrev pub allocate_beside : Option Allocation → Addr → ℕ → Parts → Rows → Rows → Outcome
+abbrev pub allocate_beside : Option Allocation → Addr → ℕ → Parts → Rows → Rows → Decision
 allocate_beside None client user p old rows = allocate_anew client user p rows
 allocate_beside (Some a) client user p old rows = do
   _ ← check (is_repeated a user p) AllocationMismatch
   Ok (Allocated a.slot a.lifetime, old)
 
-abbrev pub allocate : Addr → ℕ → Parts → Rows → Rows → Outcome
+abbrev pub allocate : Addr → ℕ → Parts → Rows → Rows → Decision
 allocate client user p old rows = allocate_beside (allocation_of client rows) client user p old rows
 
 -- ---- Refresh (section 8)
@@ -129,7 +129,7 @@ abbrev pub refresh_for : Option ℕ → ℕ
 refresh_for None = lifetime_for None
 refresh_for (Some requested) = if nat_eq requested 0 then 0 else lifetime_for (Some requested)
 
-abbrev pub refresh : Addr → ℕ → Parts → Rows → Outcome
+abbrev pub refresh : Addr → ℕ → Parts → Rows → Decision
 refresh client user p rows = do
   a ← own_allocation client user rows
   family ← requested_family p
@@ -165,7 +165,7 @@ are_ipv4 p = do
   peers ← peers_in p
   Ok (list_all is_ipv4 peers)
 
-abbrev pub create_permission : Addr → ℕ → Parts → Rows → Outcome
+abbrev pub create_permission : Addr → ℕ → Parts → Rows → Decision
 create_permission client user p rows = do
   a ← own_allocation client user rows
   peers ← peers_in p
@@ -175,7 +175,7 @@ create_permission client user p rows = do
 
 -- ---- ChannelBind (section 12)
 
-abbrev pub channel_bind : Addr → ℕ → Parts → Rows → Outcome
+abbrev pub channel_bind : Addr → ℕ → Parts → Rows → Decision
 channel_bind client user p rows = do
   a ← own_allocation client user rows
   number ← required (number_in 2) (value_in p CHANNEL_NUMBER)
@@ -207,7 +207,7 @@ abbrev pub all_understood : Parts → Result (Unit {0}) ErrorCode
 all_understood p = check (is_empty (unknown_types p)) UnknownAttribute
 
 -- a request of a user whose credentials were accepted; Binding needs none
-abbrev pub served : Request → Addr → ℕ → Parts → Rows → Rows → Outcome
+abbrev pub served : Request → Addr → ℕ → Parts → Rows → Rows → Decision
 served request.Binding client user p old rows = Ok (Mapped, old)
 served request.Allocate client user p old rows = allocate client user p old rows
 served request.Refresh client user p old rows = refresh client user p rows
@@ -215,19 +215,19 @@ served request.CreatePermission client user p old rows = create_permission clien
 served request.ChannelBind client user p old rows = channel_bind client user p rows
 
 -- where all attributes are understood
-abbrev pub understood_and_served : Request → Addr → ℕ → Parts → Rows → Rows → Outcome
+abbrev pub understood_and_served : Request → Addr → ℕ → Parts → Rows → Rows → Decision
 understood_and_served r client user p old rows = do
   _ ← all_understood p
   served r client user p old rows
 
 -- with the result of the check of the credentials
-abbrev pub outcome : Request → Result ℕ AuthError → Addr → Parts → Rows → Rows → Outcome
-outcome r checked client p old rows = do
+abbrev pub decision : Request → Result ℕ AuthError → Addr → Parts → Rows → Rows → Decision
+decision r checked client p old rows = do
   user ← authenticated checked
   understood_and_served r client user p old rows
 
 -- Binding
-abbrev pub binding : Parts → Rows → Outcome
+abbrev pub binding : Parts → Rows → Decision
 binding p old = do
   _ ← all_understood p
   Ok (Mapped, old)

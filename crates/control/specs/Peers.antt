@@ -1,4 +1,4 @@
--- Meaning. The addresses of a CreatePermission request, each IP address once.
+-- Internal. The well-formed addresses of a CreatePermission request, and one step of collecting those that differ.
 use Rattle.std.specs.Prelude.{◌||◌, List, [], ◌∷◌, ◌++◌, length, nat_le, bytes_eq, filter_map, if◌then◌else◌}
 use Rattle.std.specs.List.{list_any}
 use Rattle.stun.specs.Attributes.{values_of}

@@ -43,21 +43,21 @@ grant_attributes config client tx (grant.Allocated slot lifetime) =
 grant_attributes config client tx (grant.Refreshed lifetime) = attribute LIFETIME (big_bytes 4 lifetime) ∷ []
 grant_attributes config client tx grant.Done = []
 
--- a relayed address has a port
+-- the port of a relayed address is at most 65,535
 abbrev pub HasPort : Config → Grant → Type 0
 HasPort config grant.Mapped = Unit {0}
 HasPort config (grant.Allocated slot lifetime) = config.first_port + slot < 0x10000
 HasPort config (grant.Refreshed lifetime) = Unit {0}
 HasPort config grant.Done = Unit {0}
 
--- what a client needs to ask again with credentials
-abbrev pub demand : Config → List Attribute
-demand config = attribute REALM (string_bytes config.realm) ∷ attribute NONCE config.nonce.bytes ∷ []
+-- the challenge to a client: the realm and the nonce (RFC 8489, section 9.2.4)
+abbrev pub challenge : Config → List Attribute
+challenge config = attribute REALM (string_bytes config.realm) ∷ attribute NONCE config.nonce.bytes ∷ []
 
 -- the attributes behind ERROR-CODE
 abbrev pub error_details : Config → Parts → ErrorCode → List Attribute
-error_details config p Unauthenticated = demand config
-error_details config p StaleNonce = demand config
+error_details config p Unauthenticated = challenge config
+error_details config p StaleNonce = challenge config
 error_details config p UnknownAttribute = attribute UNKNOWN_ATTRIBUTES (unknown_value (unknown_types p)) ∷ []
 error_details config p BadRequest = []
 error_details config p AllocationMismatch = []
@@ -104,7 +104,7 @@ abbrev pub reply_to : Config → Request → Addr → Parts → Option (List ℕ
 reply_to config r client p key (Ok grant) = reply r class.Success p.transaction_id (grant_attributes config client p.transaction_id grant) key
 reply_to config r client p key (Err error) = reply r class.Error p.transaction_id (error_attributes config p error) key
 
--- a builder's message has these attributes more, which take so many bytes at most
+-- appends these attributes, at most `most` bytes
 pub record Pushes (attributes : List Attribute) (most : ℕ) (old new : Builder) : Type 0 where
   pub parts : parts_of new ≡ with_attributes (parts_of old) attributes
   pub used : used_of new ≤ used_of old + most

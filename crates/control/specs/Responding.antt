@@ -7,7 +7,7 @@ use Rattle.attributes.specs.declared.address.Addr.{Addr}
 use Rattle.credentials.specs.Checks.{IsChecked, names_of, user_key}
 use Rattle.credentials.specs.declared.checking.AuthError.{AuthError}
 use Rattle.tables.specs.Rows.{Rows, rows_at}
-use Rattle.control.specs.Control.{Outcome, outcome, binding}
+use Rattle.control.specs.Control.{Decision, decision, binding}
 use Rattle.control.specs.Replies.{kind_of, reply_to}
 use Rattle.control.specs.Values.{is_ipv4}
 use Rattle.control.specs.declared.config.Config.{Config}
@@ -21,16 +21,16 @@ key_for config (Ok user) = Some (user_key (string_bytes config.realm) (names_of 
 key_for config (Err e) = None
 
 -- what is granted, without the rows
-abbrev pub granted : Outcome → Result Grant ErrorCode
+abbrev pub granted : Decision → Result Grant ErrorCode
 granted (Ok given) = Ok given.0
 granted (Err error) = Err error
 
 -- an error changes nothing
-abbrev pub rows_of : Rows → Outcome → Rows
+abbrev pub rows_of : Rows → Decision → Rows
 rows_of old (Ok given) = given.1
 rows_of old (Err error) = old
 
-pub record IsAnswer (config : Config) (r : Request) (client : Addr) (p : Parts) (key : Option (List ℕ)) (result : Outcome) (old new : Rows) (written : List ℕ) : Type 0 where
+pub record IsAnswer (config : Config) (r : Request) (client : Addr) (p : Parts) (key : Option (List ℕ)) (result : Decision) (old new : Rows) (written : List ℕ) : Type 0 where
   pub rows : new ≡ rows_of old result
   pub bytes : written ≡ parts_bytes (reply_to config r client p key (granted result))
 
@@ -38,7 +38,7 @@ pub record IsAnswer (config : Config) (r : Request) (client : Addr) (p : Parts) 
 pub record IsCheckedAnswer (config : Config) (now : ℕ) (r : Request) (client : Addr) (p : Parts) (old new : Rows) (written : List ℕ) : Type 0 where
   pub checked : Result ℕ AuthError
   pub is_checked : IsChecked p (string_bytes config.realm) (names_of config.users.items) config.nonce.bytes checked
-  pub answer : IsAnswer config r client p (key_for config checked) (outcome r checked client p old (rows_at now old)) old new written
+  pub answer : IsAnswer config r client p (key_for config checked) (decision r checked client p old (rows_at now old)) old new written
 
 -- the answer to a request: that to Binding is not signed, since its credentials are not looked at
 abbrev pub Answers : Config → ℕ → Request → Addr → Parts → Rows → Rows → List ℕ → Type 0

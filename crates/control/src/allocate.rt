@@ -73,7 +73,8 @@ pub(crate) fn allocate(
     message: &Message<'_>,
     now: u64,
 ) -> Result<Grant, ErrorCode>
-    ensures gives { Gives (allocate client user message.now tables.old (rows_at now tables.old)) tables.old result tables.new }
+    ensures gives { Gives (allocate client user message.now tables.old (rows_at now tables.old))
+        tables.old result tables.new }
     ensures inside { IfOk result (IsInside (length tables.old.slots)) }
     ensures slots { length tables.new.slots ≡ length tables.old.slots }
 {

@@ -13,7 +13,7 @@ use std::fmt;
 pub struct Config {
     /// The relayed IP address.
     pub ip: [u8; 4],
-    /// The relayed port of slot 0, at least 1. That of a slot is as many above it.
+    /// The relayed port of slot 0, at least 1; slot i has `first_port + i`.
     pub first_port: u16,
     /// The number of slots, 1 to 256; the last port is at most 65,535.
     pub slots: usize,

@@ -46,7 +46,7 @@ fn has_ip(peers: &[Addr], peer: &Addr) -> bool
     peers.iter().any(|known| known.ip() == peer.ip())
 }
 
-/// Adds an address to those that differ, if its IP address isn't among them and there is room.
+/// Adds an address, unless its IP address is in the list or the list is full.
 fn add_peer(peers: &mut ArrayVec<Addr, MAX_PEERS>, peer: Addr)
     ensures { peers.new.items ≡ with_peer peers.old.items peer }
 {
@@ -55,8 +55,8 @@ fn add_peer(peers: &mut ArrayVec<Addr, MAX_PEERS>, peer: Addr)
     }
 }
 
-/// Returns the first [`MAX_PEERS`] addresses of a request whose IP addresses differ: a permission for each of them is
-/// granted or refused as one for all addresses is.
+/// Returns the first [`MAX_PEERS`] addresses of a request whose IP addresses differ. Permitting these is granted or
+/// refused exactly as permitting all is.
 fn distinct_peers(message: &Message<'_>) -> ArrayVec<Addr, MAX_PEERS>
     ensures { StandsFor result.items (peers_of message.now) }
 {
@@ -82,7 +82,8 @@ pub(crate) fn create_permission(
     message: &Message<'_>,
     now: u64,
 ) -> Result<Grant, ErrorCode>
-    ensures gives { Gives (create_permission client user message.now (rows_at now tables.old)) tables.old result tables.new }
+    ensures gives { Gives (create_permission client user message.now (rows_at now tables.old))
+        tables.old result tables.new }
     ensures slots { length tables.new.slots ≡ length tables.old.slots }
 {
     let allocation = own_allocation(tables, client, user, now)?;

@@ -11,7 +11,7 @@ use std::sync::ledger::{Blank, Ledger};
 use stun::registry::ErrorCode;
 use tables::{Allocation, Refused, Steps, Tables};
 
-/// Looks up the allocation of a client at a moment, and counts the keys compared.
+/// Returns the allocation of a client at a moment. Look-ups take a counter, whose name `blank` gives.
 fn allocation_by<L: Ledger>(
     tables: &Tables,
     client: Addr,
@@ -28,7 +28,7 @@ fn allocation_by<L: Ledger>(
     tables.allocation_of(client, now, &mut steps).copied()
 }
 
-/// Returns the allocation of a client at a moment; nothing counts the keys compared.
+/// Returns the allocation of a client at a moment, over a counter that no contract names.
 pub(crate) fn allocation_of(tables: &Tables, client: Addr, now: u64) -> Option<Allocation>
     ensures allocation { result ≡ allocation_of client (rows_at now tables.now) }
     ensures inside { IfSome result (λ a. a.slot < length tables.now.slots) }

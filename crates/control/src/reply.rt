@@ -7,7 +7,7 @@ ghost use Rattle.stun.specs.declared.registry.Class.TheVariants as class;
 ghost use Rattle.credentials.specs.Keys.{key_bytes};
 ghost use Rattle.stun.specs.Endian.{big_bytes};
 ghost use Rattle.stun.specs.declared.registry.attribute.TheConstants.{LIFETIME as LIFETIME_TYPE};
-ghost use Rattle.control.specs.Replies.{attribute, signed_if, Pushes, HasPort, relayed_address, grant_attributes, demand, error_details, error_attributes, reply, reply_to};
+ghost use Rattle.control.specs.Replies.{attribute, signed_if, Pushes, HasPort, relayed_address, grant_attributes, challenge, error_details, error_attributes, reply, reply_to};
 
 use crate::config::Config;
 use crate::request::Request;
@@ -27,7 +27,7 @@ pub enum Grant {
     Allocated { slot: usize, lifetime: u32 },
     /// A new lifetime of the allocation, in seconds; 0 where it was deleted.
     Refreshed { lifetime: u32 },
-    /// Nothing that the response says.
+    /// No attributes of its own: CreatePermission and ChannelBind.
     Done,
 }
 
@@ -55,7 +55,8 @@ fn push_lifetime(builder: &mut Builder<'_>, seconds: u32)
 fn push_grant(builder: &mut Builder<'_>, config: &Config, client: &Addr, grant: Grant)
     requires room { used_of builder.old + 100 ≤ room_of builder.old }
     requires port { HasPort config.now grant }
-    ensures { Pushes (grant_attributes config.now client.now (parts_of builder.old).transaction_id grant) 56 builder.old builder.new }
+    ensures { Pushes (grant_attributes config.now client.now (parts_of builder.old).transaction_id grant) 56
+        builder.old builder.new }
 {
     match grant {
         Grant::Mapped => push_xor_addr(builder, XOR_MAPPED_ADDRESS, client),
@@ -69,11 +70,11 @@ fn push_grant(builder: &mut Builder<'_>, config: &Config, client: &Addr, grant: 
     }
 }
 
-/// Appends the realm and the nonce, which a client needs to ask again.
-fn push_demand(builder: &mut Builder<'_>, config: &Config)
+/// Appends the realm and the nonce, which challenge the client to authenticate (RFC 8489, section 9.2.4).
+fn push_challenge(builder: &mut Builder<'_>, config: &Config)
     requires room { used_of builder.old + 300 ≤ room_of builder.old }
     requires realm { length (string_bytes config.now.realm) ≤ 128 }
-    ensures { Pushes (demand config.now) 210 builder.old builder.new }
+    ensures { Pushes (challenge config.now) 210 builder.old builder.new }
 {
     builder.push(REALM, &config.realm.as_bytes());
     builder.push(NONCE, &config.nonce.as_bytes());
@@ -86,7 +87,7 @@ fn push_details(builder: &mut Builder<'_>, config: &Config, message: &Message<'_
     ensures { Pushes (error_details config.now message.now error) 210 builder.old builder.new }
 {
     match error {
-        ErrorCode::Unauthenticated | ErrorCode::StaleNonce => push_demand(builder, config),
+        ErrorCode::Unauthenticated | ErrorCode::StaleNonce => push_challenge(builder, config),
         ErrorCode::UnknownAttribute => push_unknown(builder, &unknown_types(message)),
         _ => {}
     }
@@ -161,16 +162,17 @@ pub(crate) fn write_reply(
     request: Request,
     client: &Addr,
     message: &Message<'_>,
-    outcome: Result<Grant, ErrorCode>,
+    decision: Result<Grant, ErrorCode>,
     key: Option<Key>,
 ) -> usize
     requires room { 1500 ≤ length out.old }
     requires realm { length (string_bytes config.now.realm) ≤ 128 }
-    requires port { IfOk outcome (HasPort config.now) }
+    requires port { IfOk decision (HasPort config.now) }
     ensures inside { result ≤ length out.new }
-    ensures bytes { take result out.new ≡ parts_bytes (reply_to config.now request client.now message.now (option_map key_bytes key) outcome) }
+    ensures bytes { take result out.new
+        ≡ parts_bytes (reply_to config.now request client.now message.now (option_map key_bytes key) decision) }
 {
-    match outcome {
+    match decision {
         Ok(grant) => write_grant(out, config, request, &message.tx(), client, grant, key),
         Err(error) => write_error(out, config, request, message, error, key),
     }

@@ -34,7 +34,7 @@ impl Request {
         }
     }
 
-    /// Returns the number of the type of a reply.
+    /// Returns the number of the message type of this method and a class.
     pub(crate) fn kind(self, class: Class) -> u16
         ensures kind { result ≡ kind_of self class }
         ensures fits { result < 0x4000 }

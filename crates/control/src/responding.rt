@@ -49,7 +49,8 @@ fn serve(
     message: &Message<'_>,
     now: u64,
 ) -> Result<Grant, ErrorCode>
-    ensures gives { Gives (understood_and_served request client user message.now tables.old (rows_at now tables.old)) tables.old result tables.new }
+    ensures gives { Gives (understood_and_served request client user message.now tables.old (rows_at now tables.old))
+        tables.old result tables.new }
     ensures inside { IfOk result (IsInside (length tables.old.slots)) }
     ensures slots { length tables.new.slots ≡ length tables.old.slots }
 {
@@ -68,9 +69,12 @@ fn serve(
 /// # Errors
 /// The first test that fails, in the order of [`AuthError`].
 fn check_credentials(config: &Config, message: &Message<'_>) -> Result<Authenticated, AuthError>
-    ensures found { IfOk result (λ a. IsChecked message.now (string_bytes config.now.realm) (names_of config.now.users.items) config.now.nonce.bytes (Ok a.user)) }
-    ensures key { IfOk result (λ a. key_bytes a.key ≡ user_key (string_bytes config.now.realm) (names_of config.now.users.items) a.user) }
-    ensures refused { IfErr result (λ e. IsChecked message.now (string_bytes config.now.realm) (names_of config.now.users.items) config.now.nonce.bytes (Err e)) }
+    ensures found { IfOk result (λ a. IsChecked message.now (string_bytes config.now.realm)
+        (names_of config.now.users.items) config.now.nonce.bytes (Ok a.user)) }
+    ensures key { IfOk result (λ a. key_bytes a.key
+        ≡ user_key (string_bytes config.now.realm) (names_of config.now.users.items) a.user) }
+    ensures refused { IfErr result (λ e. IsChecked message.now (string_bytes config.now.realm)
+        (names_of config.now.users.items) config.now.nonce.bytes (Err e)) }
 {
     authenticate(message, &config.realm, &config.users, config.nonce.as_str())
 }
@@ -96,13 +100,13 @@ fn answer_user(
     match check_credentials(config, message) {
         Ok(authenticated) => {
             let user = authenticated.user;
-            let outcome = serve(tables, request, client, user, message, now);
+            let decision = serve(tables, request, client, user, message, now);
             let key = Some(authenticated.key);
-            write_reply(out, config, request, &client, message, outcome, key)
+            write_reply(out, config, request, &client, message, decision, key)
         }
         Err(error) => {
-            let outcome = Err(refused_credentials(error));
-            write_reply(out, config, request, &client, message, outcome, None)
+            let decision = Err(refused_credentials(error));
+            write_reply(out, config, request, &client, message, decision, None)
         }
     }
 }
@@ -137,8 +141,8 @@ pub fn respond(
     }
     match request {
         Request::Binding => {
-            let outcome = binding(message);
-            write_reply(out, config, request, &client, message, outcome, None)
+            let decision = binding(message);
+            write_reply(out, config, request, &client, message, decision, None)
         }
         _ => answer_user(tables, config, now, client, request, message, out),
     }

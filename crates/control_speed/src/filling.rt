@@ -5,7 +5,7 @@ use attributes::Addr;
 use control::Config;
 use credentials::User;
 use std::alloc::{AllocError, Global};
-use tables::{MAX_CHANNELS, MAX_SLOTS, Refused, Tables};
+use tables::{MAX_ALLOCATIONS, MAX_CHANNELS, Refused, Tables};
 
 /// The moment of all requests, in seconds.
 pub const NOW: u64 = 1000;
@@ -55,7 +55,7 @@ pub fn config(alloc: Global) -> Result<Config, AllocError> {
     Ok(Config {
         ip: [203, 0, 113, 1],
         first_port: 49152,
-        slots: MAX_SLOTS,
+        slots: MAX_ALLOCATIONS,
         realm: String::from_str(alloc, REALM)?,
         nonce,
         users,

@@ -10,7 +10,7 @@ use anyhow::{Context, Result, bail};
 use filling::{config, fill};
 use std::env;
 use std::rt::Env;
-use tables::{MAX_SLOTS, Tables};
+use tables::{MAX_ALLOCATIONS, Tables};
 use work::Work;
 
 fn run<R: Env + Print + AllocGlobal>(rt: &R) -> Result<()> {
@@ -21,7 +21,7 @@ fn run<R: Env + Print + AllocGlobal>(rt: &R) -> Result<()> {
     let work = Work::of(work).context("no such METHOD")?;
     let count = count.parse::<u64>().context("COUNT is no number")?;
     let config = config(rt.alloc())?;
-    let mut tables = Tables::new(rt.alloc(), MAX_SLOTS)?;
+    let mut tables = Tables::new(rt.alloc(), MAX_ALLOCATIONS)?;
     fill(&mut tables)?;
     let successes = work.repeat(&mut tables, &config, count)?;
     println!(rt; "{successes} of {count} replies are successes")?;

@@ -4,7 +4,7 @@ use Rattle.std.specs.Prelude.{option_map, ◌==◌, if◌then◌else◌}
 use Rattle.stun.specs.Registry.{message_integrity}
 use Rattle.stun.specs.Messages.{Padded, Parts, attribute_of, up_to_integrity, before_first, zero_padded}
 use Rattle.credentials.specs.Hmac.{hmac}
-use Rattle.credentials.specs.Checks.{Names, IsUser, IsFresh, IsChecked, user_key, value_in}
+use Rattle.credentials.specs.Checks.{Names, IsUser, HasCredentials, IsChecked, user_key, value_in}
 use Rattle.credentials.specs.Integrity.{covered_bytes, code_under, code_of}
 use Rattle.credentials.specs.Signs.{IsUnsigned, signed}
 use Rattle.credentials.proofs.Values.{value_cons}
@@ -66,7 +66,7 @@ sign_is_accepted p name realm nonce users index is user =
     let key : List ℕ = user_key realm users index in
     let code : List ℕ = code_of key p in
     let code_is : value_in (signed key p) message_integrity ≡ Some code = value_is p.attributes code is.no_code in
-    let fresh : IsFresh (signed key p) nonce code name = record {
+    let fresh : HasCredentials (signed key p) nonce code name = record {
       code_is = code_is;
       name_is = kept p.attributes USERNAME code name is.no_code is.name_is;
       realm = is.realm;

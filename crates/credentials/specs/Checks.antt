@@ -34,7 +34,7 @@ abbrev pub user_key : List ℕ → Names → ℕ → List ℕ
 user_key realm users index = key_of (slice_index_or users index ([], [])).0 realm (slice_index_or users index ([], [])).1
 
 -- a message has a code, a name, a realm and the nonce
-pub record IsFresh (p : Parts) (nonce code name : List ℕ) : Type 0 where
+pub record HasCredentials (p : Parts) (nonce code name : List ℕ) : Type 0 where
   pub code_is : value_in p message_integrity ≡ Some code
   pub name_is : value_in p USERNAME ≡ Some name
   pub realm : List ℕ
@@ -47,9 +47,16 @@ IsNoUser users name = (k : ℕ) → k < length users → (slice_index_or users k
 
 -- the result of the check: a user's index, or the first test that fails; the realm that a message names is not compared
 abbrev pub IsChecked : Parts → List ℕ → Names → List ℕ → Result ℕ AuthError → Type 0
-IsChecked p realm users nonce (Ok index) = (code : List ℕ) × (name : List ℕ) × IsFresh p nonce code name × IsUser users name index × (code_under (user_key realm users index) p ≡ Some code)
+IsChecked p realm users nonce (Ok index) =
+    (code : List ℕ) × (name : List ℕ) × HasCredentials p nonce code name × IsUser users name index
+    × (code_under (user_key realm users index) p ≡ Some code)
 IsChecked p realm users nonce (Err Missing) = value_in p message_integrity ≡ None
-IsChecked p realm users nonce (Err Incomplete) = (value_in p message_integrity ≢ None) × ((value_in p USERNAME ≡ None) ⊎ (value_in p REALM ≡ None) ⊎ (value_in p NONCE ≡ None))
-IsChecked p realm users nonce (Err StaleNonce) = (other : List ℕ) × (code : List ℕ) × (name : List ℕ) × IsFresh p other code name × (other ≢ nonce)
-IsChecked p realm users nonce (Err UnknownUser) = (code : List ℕ) × (name : List ℕ) × IsFresh p nonce code name × IsNoUser users name
-IsChecked p realm users nonce (Err WrongCode) = (code : List ℕ) × (name : List ℕ) × (index : ℕ) × IsFresh p nonce code name × IsUser users name index × (code_under (user_key realm users index) p ≢ Some code)
+IsChecked p realm users nonce (Err Incomplete) =
+    (value_in p message_integrity ≢ None) × ((value_in p USERNAME ≡ None) ⊎ (value_in p REALM ≡ None) ⊎ (value_in p NONCE ≡ None))
+IsChecked p realm users nonce (Err StaleNonce) =
+    (other : List ℕ) × (code : List ℕ) × (name : List ℕ) × HasCredentials p other code name × (other ≢ nonce)
+IsChecked p realm users nonce (Err UnknownUser) =
+    (code : List ℕ) × (name : List ℕ) × HasCredentials p nonce code name × IsNoUser users name
+IsChecked p realm users nonce (Err WrongCode) =
+    (code : List ℕ) × (name : List ℕ) × (index : ℕ) × HasCredentials p nonce code name × IsUser users name index
+    × (code_under (user_key realm users index) p ≢ Some code)

@@ -4,7 +4,7 @@ ghost use Rattle.std.specs.Prelude.{◌≡◌, ℕ, List, Result, Some, Ok, Err,
 ghost use Rattle.stun.specs.Messages.{Parts};
 ghost use Rattle.credentials.specs.Keys.{key_of, key_bytes};
 ghost use Rattle.credentials.specs.Integrity.{code_under};
-ghost use Rattle.credentials.specs.Checks.{names_of, Names, user_key, IsUser, IsNoUser, IsFresh, IsChecked};
+ghost use Rattle.credentials.specs.Checks.{names_of, Names, user_key, IsUser, IsNoUser, HasCredentials, IsChecked};
 ghost use Rattle.credentials.specs.declared.checking.AuthError.{AuthError};
 
 use crate::key::Key;
@@ -48,6 +48,7 @@ pub struct Authenticated {
 }
 
 /// Returns the right code of a message under a key, if the message has a MESSAGE-INTEGRITY.
+/// See docs/DECISIONS.md, "Two scans of a check".
 fn code_under(key: &Key, message: &Message<'_>) -> Option<[u8; 20]>
     ensures { result ≡ code_under (key_bytes key.now) message.now }
 {
@@ -101,12 +102,12 @@ fn user_of(users: &[User], name: &[u8]) -> Option<usize>
     None
 }
 
-/// Returns the code and the name of a message that has both, a realm and this nonce.
+/// Returns the MESSAGE-INTEGRITY and the USERNAME of a message that also has a REALM and the current NONCE.
 ///
 /// # Errors
 /// Returns C1 to C3.
-fn fresh<'a>(message: &Message<'a>, nonce: &str) -> Result<(&'a [u8], &'a [u8]), AuthError>
-    ensures found { IfOk result (λ r. IsFresh message.now nonce.now r.0.now r.1.now) }
+fn presented<'a>(message: &Message<'a>, nonce: &str) -> Result<(&'a [u8], &'a [u8]), AuthError>
+    ensures found { IfOk result (λ r. HasCredentials message.now nonce.now r.0.now r.1.now) }
     ensures refused { IfErr result (λ e. (realm : List ℕ) (users : Names)
         → IsChecked message.now realm users nonce.now (Err e)) }
 {
@@ -140,7 +141,7 @@ pub fn authenticate(
     ensures refused { IfErr result
         (λ e. IsChecked message.now realm.now (names_of users.now) nonce.now (Err e)) }
 {
-    let (code, name) = fresh(message, nonce)?;
+    let (code, name) = presented(message, nonce)?;
     let Some(index) = user_of(users, name) else {
         return Err(AuthError::UnknownUser);
     };

@@ -18,7 +18,7 @@ pub(crate) struct Credentials<'a> {
     pub nonce: Option<&'a [u8]>,
 }
 
-/// Returns the value that was found before, or else that of an attribute of a type.
+/// Returns `found` if there is one, else the value of an attribute if it has a type.
 fn or_value<'a>(found: Option<&'a [u8]>, attr: Attr<'a>, kind: u16) -> Option<&'a [u8]>
     ensures { option_copied result ≡ option_or (option_copied found.entry)
         (if attr.entry.kind == kind then Some attr.entry.value.now else None) }

@@ -16,8 +16,8 @@ use crate::key::Key;
 use stun::registry::attribute::MESSAGE_INTEGRITY;
 use stun::{Builder, NoRoom};
 
-/// Returns the code under a key over the bytes before a MESSAGE-INTEGRITY, with the length in the header
-/// counted to the end of that attribute.
+/// Returns the HMAC under a key over the bytes before a MESSAGE-INTEGRITY, with the length in the header counted to the end
+/// of that attribute (RFC 8489, section 14.5).
 pub(crate) fn code_over(message: &[u8], key: &Key) -> [u8; 20]
     requires { 20 ≤ length message.now }
     ensures { result ≡ hmac (key_bytes key.now)
@@ -29,7 +29,7 @@ pub(crate) fn code_over(message: &[u8], key: &Key) -> [u8; 20]
     hmac_sha1(key.bytes(), &[kind, &length.to_be_bytes(), rest])
 }
 
-/// Returns the code that a message is signed with under a key.
+/// Returns the HMAC under a key that signs the message so far.
 fn code_for(builder: &Builder<'_>, key: &Key) -> [u8; 20]
     ensures { result ≡ code_in builder.now key.now }
 {

@@ -1,5 +1,5 @@
--- Internal. The instruction of a slot's fields, as decoding finds it. Where the offset or the imm of a slot chooses
--- none, the instruction here has another one, so that the fields are not those of any instruction.
+-- Internal. The instruction of a slot's fields, as decoding finds it. Where the offset or the imm of a slot selects no
+-- instruction, the one here encodes another value there, so that comparing the fields refuses it.
 use Rattle.std.specs.Prelude.{◌≡◌, ◌≢◌, ℕ, ◌==◌, ℤ, pos, negsuc, ◌≤◌, ◌<◌, Bool, false, List, ◌++◌, length, take, Option, Some, None, if◌then◌else◌}
 use Rattle.insn.specs.Register.{number_of}
 use Rattle.insn.specs.Opcode.{byte_of, IsOpcode}

@@ -51,8 +51,8 @@ fn move_of(width: Width, source: Source, dst: Reg, src: Reg, offset: i16, imm: i
     }
 }
 
-/// Returns the instruction of an opcode, with the fields that it uses and the imm of a second slot. An offset or an imm that chooses no
-/// instruction gives one that has another there.
+/// Returns the instruction of an opcode, with the fields that it uses and the imm of a second slot. Where the offset or
+/// the imm selects no instruction, the result encodes another value there, so that comparing the fields refuses it.
 fn insn_of(head: Head, offset: i16, imm: i32, high: i32) -> Insn
     ensures { result ≡ form head.opcode head.dst head.src offset imm high }
 {
@@ -196,7 +196,8 @@ fn typed(fields: Fields, head: Head, rest: &[u8]) -> Result<Insn, SlotFault>
 /// Decodes the instruction at the beginning of the bytes, or returns its fault.
 fn first(bytes: &[u8]) -> Result<Insn, SlotFault>
     requires { 8 ≤ length bytes.now }
-    ensures found { IfOk result (λ i. Fits i × (take (8 * slots_of i) bytes.now ≡ encoding i) × (8 * slots_of i ≤ length bytes.now)) }
+    ensures found { IfOk result (λ i. Fits i × (take (8 * slots_of i) bytes.now ≡ encoding i)
+        × (8 * slots_of i ≤ length bytes.now)) }
     ensures refused { IfErr result (HasFault bytes.now) }
 {
     let fields = read_slot(bytes);
@@ -248,12 +249,12 @@ pub fn decode(alloc: Global, bytes: &[u8]) -> Result<Vec<Insn>, DecodeError>
     instructions(alloc, bytes)
 }
 
-/// Bytes have at most one refusal.
+/// States that bytes have at most one refusal.
 pub fn refusals_are_unique()
     ensures { (bytes : List ℕ) (d e : DecodeError) → IsRefused bytes d → IsRefused bytes e → d ≡ e }
 {}
 
-/// Bytes that are refused encode no program.
+/// States that bytes that are refused encode no program.
 pub fn refused_bytes_encode_nothing()
     ensures { (bytes : List ℕ) (e : DecodeError) (code : List Insn) → IsRefused bytes e → Encodes code bytes → ⊥ }
 {}

@@ -41,16 +41,17 @@ pub fn encode(alloc: Global, code: &[Insn]) -> Result<Vec<u8>, AllocError>
     Ok(bytes)
 }
 
-/// Different instructions have encodings of which neither begins the other, so bytes are read as
+/// States that of the encodings of different instructions neither begins the other, so that bytes are read as
 /// instructions in at most one way.
 pub fn no_encoding_begins_another()
     ensures { (i j : Insn) (rest other : List ℕ) → Fits i → Fits j
         → encoding i ++ rest ≡ encoding j ++ other → i ≡ j }
 {}
 
-/// Different programs have different encodings.
+/// States that different programs have different encodings.
 pub fn encodings_are_unique()
-    ensures { (code other : List Insn) → AllFit code → AllFit other → encodings code ≡ encodings other → code ≡ other }
+    ensures { (code other : List Insn) → AllFit code → AllFit other
+        → encodings code ≡ encodings other → code ≡ other }
 {}
 
 /// Encodes a program and decodes the bytes: the result is the same program, unless memory runs out.

@@ -36,7 +36,7 @@ single n = from_to n n
 abbrev pub is_single : Bounds → Bool
 is_single x = x.lo == x.hi
 
--- an operand of a width: where it may not be a word of the width, it is any
+-- an operand of a width: all words of the width where it may exceed them
 abbrev pub narrowed : Width → Bounds → Bounds
 narrowed w x = if nat_lt x.hi (modulus w) then x else all w
 
@@ -56,7 +56,7 @@ remainder x y = if nat_lt 0 y.lo then from_to 0 (min x.hi (y.hi - 1)) else from_
 unfoldable pub ones : ℕ → ℕ
 ones n = 2 ^ (64 - leading_zeros w64 n) - 1
 
--- shifted by a single count; by any other, only that the number doesn't grow
+-- shifted by an exact count; by any other, the number doesn't grow
 abbrev pub shifted_right : Width → Bounds → Bounds → Bounds
 shifted_right w x y = if is_single y then from_to (x.lo / 2 ^ (y.lo % bit_count w)) (x.hi / 2 ^ (y.lo % bit_count w)) else from_to 0 x.hi
 

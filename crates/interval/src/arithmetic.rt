@@ -36,7 +36,7 @@ pub(crate) fn are_positive(width: Width, a: Interval, b: Interval) -> bool
     is_positive(width, a.ends().hi) && is_positive(width, b.ends().hi)
 }
 
-/// Returns an operand of a width: where it may not be a word of the width, it is any.
+/// Returns an operand of a width: all words of the width where it may exceed them.
 fn narrowed(width: Width, a: Interval) -> Interval
     ensures { result ≡ narrowed width a }
 {
@@ -117,7 +117,7 @@ fn ones(n: u64) -> u64
     u64::MAX.checked_shr(n.leading_zeros()).unwrap_or(0)
 }
 
-/// Returns the count of a shift, modulo the width, if there is one alone.
+/// Returns the count of a shift, modulo the width, if it is exact.
 fn single_count(width: Width, b: Interval) -> Option<u32>
     ensures { result ≡ if is_single b then Some (b.lo % bit_count width) else None }
 {
@@ -128,7 +128,7 @@ fn single_count(width: Width, b: Interval) -> Option<u32>
     }
 }
 
-/// Shifts to the left by a single count, where no bit is lost.
+/// Shifts to the left by an exact count, where no bit is lost.
 fn shifted_left(width: Width, a: Interval, b: Interval) -> Interval
     ensures { result ≡ ranged Lsh width a b }
 {
@@ -138,7 +138,7 @@ fn shifted_left(width: Width, a: Interval, b: Interval) -> Interval
     }
 }
 
-/// Shifts to the right by a single count; by any other, the number doesn't grow.
+/// Shifts to the right by an exact count; by any other, returns 0 to the upper end of `a`.
 fn shifted_right(width: Width, a: Interval, b: Interval) -> Interval
     ensures { result ≡ shifted_right width a b }
 {

@@ -1,4 +1,4 @@
-//! What a verifier knows of a number: a domain that anyone can replace, and intervals as its first value.
+//! The numeric domain of a verifier: the trait `Domain` of abstract numbers, and `Interval`, its first implementation.
 #![tactic(auto)]
 
 mod arithmetic;

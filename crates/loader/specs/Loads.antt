@@ -16,7 +16,7 @@ pub record IsLoaded (code : List Insn) (bytes : List ℕ) : Type 0 where
   pub safe : IsSafe code
 
 -- The refusals of bytes: their fault; a refusal that verification with the budget may give on the program that they
--- encode; and want of memory.
+-- encode; and a failed allocation.
 abbrev pub IsLoadRefusal : List ℕ → LoadError → Type 0
 IsLoadRefusal bytes (Decode e) = (e ≡ error.Memory) ⊎ IsRefused bytes e
 IsLoadRefusal bytes (Verify e) = (code : List Insn) × Encodes code bytes × MayRefuse code BUDGET e

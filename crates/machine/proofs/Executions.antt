@@ -3,7 +3,7 @@ use Rattle.std.proofs.Common.{◌≡◌, ℕ, suc, ◌+◌, ◌-◌, ◌≤◌, 
 use Rattle.std.proofs.lemmas.List.{length-append, append-nil}
 use Rattle.insn.specs.declared.instruction.Insn.{Insn}
 use Rattle.semantics.specs.Effects.{effect}
-use Rattle.semantics.specs.Machine.{Context, Memory, State, Surroundings, first_registers, no_plan}
+use Rattle.semantics.specs.Machine.{Context, Memory, State, Environment, first_registers, no_plan}
 use Rattle.semantics.specs.declared.plan.Plan.{Plan}
 use Rattle.semantics.specs.Slots.{fetch, last_slot, IsAt}
 use Rattle.semantics.specs.SlotLaws.{at_start}
@@ -57,7 +57,7 @@ starts with_step program answers context memory old = record {
 }
 
 -- one turn of the loop, at what stands at the slot
-abbrev turned_to : Surroundings → List Insn → Memory → Plan → ℕ → List Value → ℕ → List Visit → List Visit → runs.StepResult → Run
+abbrev turned_to : Environment → List Insn → Memory → Plan → ℕ → List Value → ℕ → List Visit → List Visit → runs.StepResult → Run
 turned_to w program memory plan slot registers steps path more r =
     after (path ++ more) (onwards (state_at slot registers memory plan) r (λ next. run w program (length program - steps) next))
 

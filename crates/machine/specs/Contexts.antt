@@ -29,6 +29,6 @@ context_of c = record { side = side_number c.side; source = address_record c.sou
 abbrev pub Answers : Type 0
 Answers = ℕ → ℕ → AddressRecord → ℕ × AddressRecord
 
--- the surroundings of a run
-abbrev pub around : machine.Context → Answers → machine.Surroundings
+-- the environment of a run
+abbrev pub around : machine.Context → Answers → machine.Environment
 around c answers = record { context = c; answer = answers }

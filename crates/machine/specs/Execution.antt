@@ -1,7 +1,7 @@
 -- Internal. A run from the first registers to its end, and the memory that it leaves.
 use Rattle.std.specs.Prelude.{◌≡◌, ℕ, ◌+◌, ◌<◌, ◌≤◌, List, length, fold, IfSome, Result, Ok, Err}
 use Rattle.insn.specs.declared.instruction.Insn.{Insn}
-use Rattle.semantics.specs.Machine.{Context, IsContext, Memory, State, Surroundings, context_bytes, first_registers, no_plan}
+use Rattle.semantics.specs.Machine.{Context, IsContext, Memory, State, Environment, context_bytes, first_registers, no_plan}
 use Rattle.semantics.specs.declared.limits.TheConstants.{HEADROOM, TAILROOM}
 use Rattle.semantics.specs.declared.plan.Plan.{Plan}
 use Rattle.semantics.specs.Slots.{IsAt}
@@ -65,7 +65,7 @@ IfEnds (code.Exits verdict) P = P
 IfEnds (code.Sticks reason) P = P
 
 -- the run from the first registers to its end: at most one step for each instruction, and one past the last
-abbrev pub whole_run : Surroundings → List Insn → Memory → Run
+abbrev pub whole_run : Environment → List Insn → Memory → Run
 whole_run w program memory = run w program (length program + 1) (state_at 0 first_registers memory no_plan)
 
 -- the end of the code's run is that of the definitions' run

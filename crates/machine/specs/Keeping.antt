@@ -1,7 +1,8 @@
 -- Interface. The log of the storing sink.
-use Rattle.std.specs.Prelude.{List, [], ◌∷◌, ◌++◌, length, nat_lt, if◌then◌else◌}
+use Rattle.std.specs.Prelude.{List, [], ◌∷◌, ◌++◌, take}
 use Rattle.semantics.specs.declared.fetching.Visit.{Visit}
+use Rattle.machine.specs.declared.sink.TheConstants.{KEPT}
 
--- one more step, while there is room
+-- one more step, of which the first 4,096 are kept
 abbrev pub kept_more : List Visit → Visit → List Visit
-kept_more kept v = if nat_lt (length kept) 4096 then kept ++ v ∷ [] else kept
+kept_more kept v = take KEPT (kept ++ v ∷ [])

@@ -1,7 +1,7 @@
 -- Meaning. The runs over a frame, their outcomes, and the frame as they leave it.
 use Rattle.std.specs.Prelude.{◌≡◌, ℕ, ◌+◌, List, ◌++◌, length, drop, option_map, false, Result, Ok, Err, fold}
 use Rattle.insn.specs.declared.instruction.Insn.{Insn}
-use Rattle.semantics.specs.Machine.{Surroundings, start}
+use Rattle.semantics.specs.Machine.{Environment, start}
 use Rattle.semantics.specs.Runs as runs
 use Rattle.semantics.specs.Runs.{Run, Exited, run}
 use Rattle.semantics.specs.declared.fetching.Visit.{Visit}
@@ -11,21 +11,21 @@ use Rattle.machine.specs.Contexts.{Answers, address_of, around, context_of}
 use Rattle.machine.specs.declared.outcome.Outcome.{Outcome}
 use Rattle.machine.specs.declared.outcome.Stuck.{Stuck}
 
--- the surroundings of a run over a frame
-abbrev pub surroundings_of : Contents → Answers → Surroundings
-surroundings_of f answers = around (context_of f.context) answers
+-- the environment of a run over a frame
+abbrev pub environment_of : Contents → Answers → Environment
+environment_of f answers = around (context_of f.context) answers
 
 -- the run over a datagram, to its end
-abbrev pub run_over : Surroundings → List Insn → List ℕ → Run
+abbrev pub run_over : Environment → List Insn → List ℕ → Run
 run_over w code datagram = run w code (length code + 1) (start datagram)
 
 -- the run of a started frame, to its end
 abbrev pub run_of : List Insn → Contents → Answers → Run
-run_of code f answer = run_over (surroundings_of f answer) code (datagram_of f)
+run_of code f answer = run_over (environment_of f answer) code (datagram_of f)
 
 -- the run of a started frame, of at most as many steps as the program has instructions
 abbrev pub safe_run_of : List Insn → Contents → Answers → Run
-safe_run_of code f answer = run (surroundings_of f answer) code (length code) (start (datagram_of f))
+safe_run_of code f answer = run (environment_of f answer) code (length code) (start (datagram_of f))
 
 -- the outcome of a run that exits
 pub record IsOutcome (o : Outcome) (r : Run) : Type 0 where

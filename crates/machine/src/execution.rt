@@ -134,7 +134,7 @@ fn ask<H: Helpers>(
     put_record(stack, out, address);
 }
 
-/// Answers a call that changes the plan: 0 where there is a value to be set, and else 1.
+/// Writes the answer of a call that changes the plan: 0 if `value` is `Some`, else 1.
 fn answer_change<T>(registers: &mut Registers, value: &Option<T>)
     ensures { registers.new ≡ called registers.old (plan_answer value.now) }
 {
@@ -144,7 +144,7 @@ fn answer_change<T>(registers: &mut Registers, value: &Option<T>)
     }
 }
 
-/// Sets the window of the plan, if there is one, and answers whether.
+/// Sets the window of the plan if `window` is `Some`, and writes the answer.
 /// See docs/DECISIONS.md, "A refused window leaves the plan".
 fn set_window(plan: &mut Plan, registers: &mut Registers, window: Option<(usize, usize)>)
     ensures plan { plan.new ≡ with_window plan.old window }
@@ -156,7 +156,7 @@ fn set_window(plan: &mut Plan, registers: &mut Registers, window: Option<(usize,
     answer_change(registers, &window);
 }
 
-/// Sets the destination of the plan, if there is one, and answers whether.
+/// Sets the destination of the plan if `destination` is `Some`, and writes the answer.
 fn set_destination(plan: &mut Plan, registers: &mut Registers, destination: Option<[u8; 8]>)
     ensures plan { plan.new ≡ with_destination plan.old destination }
     ensures registers { registers.new ≡ called registers.old (plan_answer destination) }
@@ -167,7 +167,7 @@ fn set_destination(plan: &mut Plan, registers: &mut Registers, destination: Opti
     answer_change(registers, &destination);
 }
 
-/// Applies an effect behind which the run goes on to the next instruction to registers, memory and plan.
+/// Applies an effect to registers, memory and plan, after which the run goes on to the next instruction.
 fn apply<H: Helpers>(
     given: &Environment<H>,
     stack: &mut [Option<u8>],

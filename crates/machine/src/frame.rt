@@ -46,19 +46,19 @@ const NO_CONTEXT: Context = Context {
     tx: [0; 12],
 };
 
-/// The items of a slice of bytes are bytes.
+/// States that each item of a `[u8]` is below 256.
 fn all_fit(bytes: &[u8])
     ensures { All (λ b. b < 256) bytes.now }
 {}
 
-/// An array of `N` bytes has `N` bytes.
+/// States that an array of `N` bytes has `N` items, each below 256.
 fn are_bytes<const N: usize>(bytes: &[u8; N])
     ensures { AreBytes N bytes.now }
 {
     all_fit(bytes);
 }
 
-/// Every context has the sizes of the definitions' context.
+/// States that every context has the sizes of the definitions' context.
 fn is_context(context: &Context)
     ensures { IsContext (context_of context.now) }
 {

@@ -51,12 +51,13 @@ pub struct Kept {
 impl Model for Kept {
     ghost use Rattle.std.specs.Prelude.{◌≤◌, List, length, vec_capacity};
     ghost use Rattle.semantics.specs.declared.fetching.Visit.{Visit};
+    ghost use Rattle.machine.specs.declared.sink.TheConstants.{KEPT};
 
     ghost Value = { List Visit };
 
     ghost view = { λ k. k.visits.items };
 
-    ghost invariant = { λ k. (length k.visits.items ≤ 4096) × (4096 ≤ vec_capacity k.visits) };
+    ghost invariant = { λ k. (length k.visits.items ≤ KEPT) × (KEPT ≤ vec_capacity k.visits) };
 }
 
 impl Kept {
@@ -109,20 +110,19 @@ pub struct Lines<W: Write> {
 }
 
 impl<W: Write> Model for Lines<W> {
-    ghost use Rattle.std.specs.Prelude.{is_some};
     ghost use Rattle.machine.specs.Lines.{Written};
 
     ghost Value = { Written };
 
-    ghost view = { λ l. record { contents = W.contents l.writer; has_fault = is_some l.fault } };
+    ghost view = { λ l. record { contents = W.contents l.writer; fault = l.fault } };
 }
 
 impl<W: Write> Lines<W> {
-    ghost use Rattle.std.specs.Prelude.{◌≡◌, true, false, MatchResult};
+    ghost use Rattle.std.specs.Prelude.{◌≡◌, Some, None, MatchResult};
 
     /// Returns a sink that writes to `writer`, without a fault.
     pub fn new(writer: W) -> Lines<W>
-        ensures { result ≡ record { contents = W.contents writer; has_fault = false } }
+        ensures { result ≡ record { contents = W.contents writer; fault = None } }
     {
         Lines {
             writer,
@@ -137,7 +137,8 @@ impl<W: Write> Lines<W> {
     pub fn finish(self) -> io::Result<W>
     where
         W: Drop,
-        ensures { MatchResult result (λ w. self ≡ record { contents = W.contents w; has_fault = false }) (λ e. self.has_fault ≡ true) }
+        ensures { MatchResult result (λ w. self ≡ record { contents = W.contents w; fault = None })
+            (λ e. self.fault ≡ Some e) }
     {
         let Lines { writer, fault } = self;
         match fault {
@@ -148,7 +149,9 @@ impl<W: Write> Lines<W> {
 }
 
 impl<W: Write> Sink for Lines<W> {
-    ghost use Rattle.std.specs.Prelude.{◌≡◌, true};
+    ghost use Rattle.std.specs.Prelude.{◌≡◌, None, Option, is_some, true};
+    ghost use Rattle.std.specs.Io.KnownBytes.{Appends};
+    ghost use Rattle.machine.specs.Lines.{step_line};
 
     ghost Log = { Unit {0} };
 
@@ -157,7 +160,9 @@ impl<W: Write> Sink for Lines<W> {
     ghost with_step = { λ t v. tt };
 
     fn step(&mut self, slot: usize, insn: &Insn)
-        ensures after_a_fault { self.old.has_fault ≡ true → self.new ≡ self.old }
+        ensures written { self.new.fault ≡ None
+            → Appends self.old.contents self.new.contents (step_line slot insn.now) }
+        ensures after_a_fault { is_some self.old.fault ≡ true → self.new ≡ self.old }
     {
         if self.fault.is_none() {
             self.fault = writeln!(self.writer, "{slot} {insn}").err();

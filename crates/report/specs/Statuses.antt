@@ -1,6 +1,8 @@
 -- Meaning. What the exit status says about the program file and the data.
-use Rattle.std.specs.Prelude.{◌≡◌, ◌⊎◌, ℕ, List}
+use Rattle.std.specs.Prelude.{◌≡◌, ◌⊎◌, ℕ, List, Option}
+use Rattle.std.specs.Io.KnownBytes.{Appends}
 use Rattle.insn.specs.Encoding.{Encodes}
+use Rattle.insn.specs.Spelling.{listing}
 use Rattle.insn.specs.declared.instruction.Insn.{Insn}
 use Rattle.insn.specs.Refusal.{IsRefused}
 use Rattle.insn.specs.declared.refusal.DecodeError.{DecodeError}
@@ -54,6 +56,12 @@ abbrev pub Succeeds : Ask → List ℕ → Type 0
 Succeeds ask.Verify file = IsSafeFile file
 Succeeds (ask.Trace hex) file = TraceEnds (digits_of hex) file IsExit
 Succeeds ask.Disassemble file = HasProgram file
+
+-- what a success has written, where what the output holds is known: of a disassembly, the text of the program
+abbrev pub Writes : Ask → List ℕ → Option (List ℕ) → Option (List ℕ) → Type 0
+Writes ask.Verify file old new = Unit {0}
+Writes (ask.Trace hex) file old new = Unit {0}
+Writes ask.Disassemble file old new = (code : List Insn) × Encodes code file × Appends old new (listing code)
 
 -- the printed report says so: the loader refuses the file, or the traced run gets stuck
 abbrev pub PrintsRefusal : Ask → List ℕ → Type 0

@@ -7,7 +7,7 @@ ghost use Rattle.machine.specs.Contexts.{context_of};
 ghost use Rattle.report.specs.Traces.{digits_of, trace_context, EncodeDatagram, HasNoDatagram};
 ghost use Rattle.report.specs.declared.error.ReportError.TheVariants.{Data, Output};
 ghost use Rattle.report.specs.declared.reporting.Ask.TheVariants.{Disassemble, Trace, Verify};
-ghost use Rattle.report.specs.Statuses.{IsNoProgram, IsPrinted, IsRefusal, MayFail, Succeeds};
+ghost use Rattle.report.specs.Statuses.{IsNoProgram, IsPrinted, IsRefusal, MayFail, Succeeds, Writes};
 
 use crate::error::{ReportError, fail};
 use disasm::disassemble;
@@ -131,6 +131,7 @@ fn program(alloc: Global, file: &[u8]) -> Result<Vec<Insn>, ReportError>
 /// Prints the program as text, and returns the status.
 fn report_disassembly<W: Write>(alloc: Global, file: &[u8], out: &mut W) -> Result<u8, ReportError>
     ensures printed { IfOk result (IsPrinted Disassemble file.now) }
+    ensures written { OnOk result (Writes Disassemble file.now (W.contents out.old) (W.contents out.new)) }
     ensures failed { IfErr result (MayFail Disassemble file.now) }
 {
     let code = program(alloc, file)?;
@@ -178,6 +179,8 @@ fn report_trace<W: Write>(
 /// Prints the report, flushes the output and returns the status.
 fn print<W: Write>(alloc: Global, ask: Ask<'_>, file: &[u8], out: &mut W) -> Result<u8, ReportError>
     ensures printed { IfOk result (IsPrinted ask.entry file.now) }
+    ensures written { IfOk result (λ status. status ≡ 0
+        → Writes ask.entry file.now (W.contents out.old) (W.contents out.new)) }
     ensures failed { IfErr result (MayFail ask.entry file.now) }
 {
     let status = match ask {
@@ -208,6 +211,7 @@ pub fn report<W: Write, E: Write>(
 ) -> u8
     ensures range { (result ≡ 0) ⊎ ((result ≡ 1) ⊎ ((result ≡ 3) ⊎ (result ≡ 4))) }
     ensures success { result ≡ 0 → Succeeds ask.entry file.now }
+    ensures written { result ≡ 0 → Writes ask.entry file.now (W.contents out.old) (W.contents out.new) }
     ensures refusal { result ≡ 1 → IsRefusal ask.entry file.now }
     ensures output { result ≡ 3 → MayFail ask.entry file.now Output }
 {

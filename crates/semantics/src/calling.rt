@@ -60,7 +60,7 @@ pub(crate) fn record_argument(
     bytes_of_cells(part_of(memory.stack, index, RECORD_BYTES)).ok_or(Reason::UninitStack)
 }
 
-/// Asks for the peer of a channel.
+/// Returns the effect of helper 1, which asks for the peer of a channel.
 fn channel_peer_effect(registers: &Registers) -> Result<Effect, Reason>
     ensures { (c : Context) (m : machine.Memory) → result ≡ helper_effect c m registers.now ChannelPeer }
 {
@@ -79,7 +79,8 @@ fn channel_peer_effect(registers: &Registers) -> Result<Effect, Reason>
     })
 }
 
-/// Asks about an address: the channel that is bound to it, or whether it has a permission.
+/// Returns the effect of helper 2 or 3, which ask about an address: the channel that is bound to it, or whether it has a
+/// permission.
 fn address_effect(
     memory: &Memory<'_>,
     registers: &Registers,
@@ -100,7 +101,7 @@ fn address_effect(
     })
 }
 
-/// Sets the window.
+/// Returns the effect of helper 4, which sets the window.
 fn window_effect(memory: &Memory<'_>, registers: &Registers) -> Result<Effect, Reason>
     ensures { (c : Context) → result ≡ helper_effect c (memory_of memory.now) registers.now Window }
 {
@@ -110,7 +111,7 @@ fn window_effect(memory: &Memory<'_>, registers: &Registers) -> Result<Effect, R
     Ok(Effect::SetWindow(window_within(memory.length, front, length)))
 }
 
-/// Sets the destination.
+/// Returns the effect of helper 5, which sets the destination.
 fn destination_effect(
     context: &[u8; CONTEXT_BYTES],
     memory: &Memory<'_>,
@@ -131,7 +132,8 @@ pub(crate) fn call_effect(
     registers: &Registers,
     number: i32,
 ) -> Result<Effect, Reason>
-    ensures { (c : Context) → IsContext c → context.now ≡ context_bytes c (memory.now).length → result ≡ call_effect c (memory_of memory.now) registers.now number }
+    ensures { (c : Context) → IsContext c → context.now ≡ context_bytes c (memory.now).length
+        → result ≡ call_effect c (memory_of memory.now) registers.now number }
 {
     match Helper::from_number(number).ok_or(Reason::UnknownHelper)? {
         Helper::ChannelPeer => channel_peer_effect(registers),

@@ -45,8 +45,8 @@ pub enum Effect {
         question: Question,
         out: Option<usize>,
     },
-    /// Sets the window, by its front and its length, and answers 0 in `r0`; or answers 1, where there is none. As `Ask`
-    /// otherwise.
+    /// Sets the window, by its front and its length, and writes 0 to `r0`. `None` where it would not lie in memory: the
+    /// plan stays as it is, and `r0` is 1. `r1` to `r5` hold nothing afterwards. Goes on to the next instruction.
     SetWindow(Option<(usize, usize)>),
     /// Sets the destination, as `SetWindow` does the window.
     SetDestination(Option<[u8; RECORD_BYTES]>),
@@ -276,7 +276,10 @@ fn pointer(base: Value) -> Result<(), Reason>
     }
 }
 
-/// Returns the number that is stored: a pointer is not.
+/// Returns the number to store.
+///
+/// # Errors
+/// `PointerStored` for a pointer.
 fn stored_number(value: Value) -> Result<u64, Reason>
     ensures { result ≡ stored_number value }
 {
@@ -323,7 +326,8 @@ pub fn effect_of(
     registers: &Registers,
     insn: &Insn,
 ) -> Result<Effect, Reason>
-    ensures { (c : Context) → IsContext c → context.now ≡ context_bytes c (memory.now).length → result ≡ effect c (memory_of memory.now) registers.now insn.now }
+    ensures { (c : Context) → IsContext c → context.now ≡ context_bytes c (memory.now).length
+        → result ≡ effect c (memory_of memory.now) registers.now insn.now }
 {
     match *insn {
         Insn::Alu {

@@ -36,7 +36,7 @@ pub enum Field {
     Side,
 }
 
-/// Returns the field that is read by an access to the context record, an exact read of the whole of one, or `None`.
+/// Returns the field that a load of `size` bytes at `displacement` reads; `None` unless it is exactly one whole field.
 pub fn field_at(displacement: i16, size: Size) -> Option<Field>
     ensures { result ≡ field_at displacement size }
 {
@@ -167,7 +167,8 @@ pub fn load(
     displacement: i16,
     size: Size,
 ) -> Result<Value, Reason>
-    ensures { (c : Context) → context.now ≡ context_bytes c (memory.now).length → result ≡ load c (memory_of memory.now) base displacement size }
+    ensures { (c : Context) → context.now ≡ context_bytes c (memory.now).length
+        → result ≡ load c (memory_of memory.now) base displacement size }
 {
     match base {
         Value::Ctx => load_field(context, displacement, size),

@@ -2,7 +2,7 @@
 
 ghost use Rattle.std.specs.Prelude.{◌≡◌, ◌≤◌, ◌+◌};
 ghost use Rattle.std.specs.Prelude.{length as count};
-ghost use Rattle.semantics.specs.declared.limits.TheConstants.{STACK_BYTES, MAX_DATAGRAM};
+ghost use Rattle.semantics.specs.declared.limits.TheConstants.{STACK_BYTES, HEADROOM, TAILROOM, MAX_DATAGRAM};
 
 /// The memory that a program reaches by pointers.
 #[derive(Drop)]
@@ -14,6 +14,6 @@ pub struct Memory<'a> {
     /// The datagram's length, at most 65,507.
     pub length: usize,
     ghost cells: { count stack.now ≡ STACK_BYTES },
-    ghost surrounded: { count bytes.now ≡ 64 + length + 3 },
+    ghost surrounded: { count bytes.now ≡ HEADROOM + length + TAILROOM },
     ghost short: { length ≤ MAX_DATAGRAM },
 }

@@ -42,7 +42,8 @@ fn low_bytes(n: usize, value: u64) -> [u8; 8]
 /// Stores the low bytes of a number at a location: in the cells of the stack, or in headroom, datagram and tailroom.
 pub fn store(stack: &mut [Option<u8>], bytes: &mut [u8], at: Location, size: Size, value: u64)
     requires { IsInside (memory_with stack.old bytes.old 0) (byte_count size) at }
-    ensures { (n : ℕ) → memory_with stack.new bytes.new n ≡ written_at (memory_with stack.old bytes.old n) at (little_bytes (byte_count size) value) }
+    ensures { (n : ℕ) → memory_with stack.new bytes.new n
+        ≡ written_at (memory_with stack.old bytes.old n) at (little_bytes (byte_count size) value) }
 {
     let n = size.bytes();
     match at {

@@ -1,11 +1,11 @@
-//! A count that contracts alone see.
+//! A ghost counter: contracts see it, and it has no bytes at run time.
 #![tactic(auto)]
 
 use std::marker::Model;
 use std::sync::ledger::{Blank, Book, Ledger, Share};
 
-/// How many steps were made: abstract steps of the verifier, or keys that a look-up compared. It has no bytes at run
-/// time, and only `tick` changes it.
+/// How many steps were made: abstract steps of the verifier, and, once look-ups count, keys that they compare. It has no
+/// bytes at run time, and only `tick` changes it.
 /// See docs/DECISIONS.md, "One count".
 #[derive(Drop)]
 pub struct Steps<L: Ledger> {

@@ -1,4 +1,4 @@
--- Meaning. Message types: a method and a class (RFC 8489, section 5).
+-- Meaning. Message types: a method (RFC 8489, section 18.2; RFC 8656, section 17) and a class (RFC 8489, section 5).
 use Rattle.std.specs.Prelude.{ℕ, ◌+◌}
 use Rattle.stun.specs.declared.registry.Method.{Method}
 use Rattle.stun.specs.declared.registry.Method.TheVariants.{Binding, Allocate, Refresh, Send, Data, CreatePermission, ChannelBind}

@@ -74,7 +74,7 @@ impl Class {
     ghost use Rattle.stun.specs.Types.{class_bits};
     ghost use Rattle.stun.specs.declared.registry.Class as declared;
 
-    /// Returns the two bits of the class where a message type has them.
+    /// Returns the class bits C1 and C0 in their positions, bits 8 and 4 (RFC 8489, section 5).
     fn bits(self) -> u16
         ensures bits { result ≡ class_bits self }
         ensures fits { result ≤ 0x110 }
@@ -87,7 +87,7 @@ impl Class {
         }
     }
 
-    /// Returns the class of two bits of a message type.
+    /// Returns the class of bits in these positions, `None` where other bits are set.
     fn from_bits(bits: u16) -> Option<Class>
         ensures found { IfSome result (λ c. class_bits c ≡ bits) }
         ensures only { (c : declared.Class) → class_bits c ≡ bits → result ≡ Some c }

@@ -59,6 +59,6 @@ written {A} shown xs i new d same =
     let long : length ys ≡ length xs = length-set shown i (new (get_or shown i d)) ∙ ap length same in
     items-with_items (record { items = xs }) ys long ∙ ap (λ s. set s i (new (get_or s i d))) same
 
--- where a place was found in the same elements
+-- where an index was found in the same elements
 pub placed : {A : Type 0} (p : A → Bool) {shown xs : List A} {r o : Option ℕ} → shown ≡ xs → r ≡ position p shown → r ≡ o → position p xs ≡ o
 placed p same found is = ap (position p) (sym same) ∙ sym found ∙ is

@@ -88,7 +88,7 @@ module _ {K : Type 0} {R : K → K → Ordering} (o : IsTotalOrder R) (same : Is
         same_map o same _ _ (λ q. get-from_entries o (map f (filter p xs)) q ∙ find-filter test p is q xs h
         ∙ sym (get-retain_keys m (λ k. test (get m k)) q (λ x e. ap test (get_tied o m q x e)) ∙ ap G (get-from_entries o (map f xs) q)))
 
-    -- the value at a place
+    -- the value at an index
     pub find_at : (q : K) (xs : List Row) (i : ℕ) (d : Row) → Distinct xs → i < length xs → q ≡ (f (get_or xs i d)).0 → lookup R q (map f xs) ≡ Some (f (get_or xs i d)).1
     find_at q [] i d h l e = absurd (omega arith)
     find_at q (x ∷ xs) zero d h l e = cond-true (eq_by_cmp R q (f x).0) _ _ (itself q (f x).0 e)
@@ -98,7 +98,7 @@ module _ {K : Type 0} {R : K → K → Ordering} (o : IsTotalOrder R) (same : Is
         cond-false (eq_by_cmp R q (f x).0) _ _ (apart q (f x).0 (λ s. AllPairs-head R' x xs h i d within (sym s ∙ e)))
         ∙ find_at q xs i d (AllPairs-tail R' x xs h) within e
 
-    -- the place of a value that is found
+    -- the index of a value that is found
     pub find_row : (q : K) (xs : List Row) (v : X) → lookup R q (map f xs) ≡ Some v
         → (i : ℕ) × (i < length xs) × ((d : Row) → q ≡ (f (get_or xs i d)).0) × ((d : Row) → (f (get_or xs i d)).1 ≡ v)
     find_row q [] v e = absurd (none-some v e)

@@ -51,7 +51,7 @@ end_kept m ip (x ∷ xs) end there =
 inserted : (m : PermissionMap) (ip : List ℕ) (end : ℕ) → get (insert m ip end) ip ≡ Some end
 inserted m ip end = get-insert ip_total m ip end ip ∙ cond-true (eq_by_cmp ip_cmp ip ip) _ _ (is_itself ip)
 
--- at a place of a list stands this IP address
+-- at an index of a list stands this IP address
 abbrev pub HasIp : List ℕ → List Addr → Type 0
 HasIp ip [] = ⊥
 HasIp ip (x ∷ xs) = (ip ≡ ip_of x) ⊎ HasIp ip xs

@@ -14,7 +14,7 @@ pub record Rows : Type 0 where
 
 -- ---- the rows that count
 
--- an allocation that has ended takes its rows along
+-- where the allocation has ended, its rows have too
 abbrev pub held_at : ℕ → Held → Option Held
 held_at t held =
     if nat_lt t held.allocation.end
@@ -32,6 +32,6 @@ counting t rows = record { moment = t; slots = slots_at t rows.slots }
 abbrev pub rows_at : ℕ → Rows → Rows
 rows_at t rows = counting (moment_of rows.moment t) rows
 
--- the rows of so many slots before the first change
+-- `count` empty slots, before the first change
 abbrev pub no_rows : ℕ → Rows
 no_rows count = record { moment = 0; slots = replicate count None }

@@ -66,15 +66,15 @@ impl Model for Channels {
     ghost invariant = { λ c. AreChannels c.rows.items };
 }
 
-/// Returns the place of the channel with a number, if there is one.
-fn place_of(rows: &[Channel], number: u16) -> Option<usize>
+/// Returns the index of the channel with a number, if there is one.
+fn index_of(rows: &[Channel], number: u16) -> Option<usize>
     ensures { result ≡ position (λ row. nat_eq number row.number) rows.now }
 {
     rows.iter().position(|row| number == row.number)
 }
 
-/// Returns the place of the channel that is bound to a peer, if there is one.
-fn place_to(rows: &[Channel], peer: &Addr) -> Option<usize>
+/// Returns the index of the channel that is bound to a peer, if there is one.
+fn index_to(rows: &[Channel], peer: &Addr) -> Option<usize>
     ensures { result ≡ position (λ row. is_same_address peer.now row.binding.peer) rows.now }
 {
     rows.iter().position(|row| is_same(peer, &row.binding.peer))
@@ -101,10 +101,10 @@ impl Channels {
         ensures { result ≡ get self.now number }
     {
         let rows = self.rows.as_slice();
-        let Some(place) = place_of(rows, number) else {
+        let Some(index) = index_of(rows, number) else {
             return None;
         };
-        Some(rows[place].binding)
+        Some(rows[index].binding)
     }
 
     /// Returns the number that is bound to a peer, if there is one.
@@ -112,10 +112,10 @@ impl Channels {
         ensures { result ≡ number_to peer.now self.now }
     {
         let rows = self.rows.as_slice();
-        let Some(place) = place_to(rows, peer) else {
+        let Some(index) = index_to(rows, peer) else {
             return None;
         };
-        Some(rows[place].number)
+        Some(rows[index].number)
     }
 
     /// Returns the number that is bound to a peer by a channel that counts at a moment, if there is one.
@@ -124,10 +124,10 @@ impl Channels {
         ensures range { IfSome result (λ n. (0x4000 ≤ n) × (n ≤ 0x4fff)) }
     {
         let rows = self.rows.as_slice();
-        let Some(place) = place_to(rows, peer) else {
+        let Some(index) = index_to(rows, peer) else {
             return None;
         };
-        let row = rows[place];
+        let row = rows[index];
         if moment < row.binding.end {
             Some(row.number)
         } else {
@@ -172,8 +172,8 @@ impl Channels {
         ensures full { OnErr result (MAX_CHANNELS < len (insert self.old number binding)) }
         ensures unchanged { OnErr result (self.new ≡ self.old) }
     {
-        if let Some(place) = place_of(self.rows.as_slice(), number) {
-            self.rows[place].binding = binding;
+        if let Some(index) = index_of(self.rows.as_slice(), number) {
+            self.rows[index].binding = binding;
             return Ok(());
         }
         if self.rows.is_full() {

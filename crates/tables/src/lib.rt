@@ -19,4 +19,4 @@ pub use moment::LATEST;
 pub use permissions::{MAX_PERMISSIONS, PERMISSION_LIFETIME};
 pub use refusal::Refused;
 pub use steps::Steps;
-pub use storage::{MAX_SLOTS, Tables};
+pub use storage::{MAX_ALLOCATIONS, Tables};

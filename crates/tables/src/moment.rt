@@ -6,7 +6,7 @@ ghost use Rattle.tables.specs.Moments.{moment_of};
 /// The latest moment, in seconds. A later one counts as this.
 pub const LATEST: u64 = 1 << 62;
 
-/// Returns the moment that counts where one is handed in: at most the latest, and at least the greatest of the changes made.
+/// Clamps a moment to at most [`LATEST`], and then to at least the greatest of the changes made.
 pub(crate) fn moment_of(greatest: u64, now: u64) -> u64
     ensures { result ≡ moment_of greatest now }
 {

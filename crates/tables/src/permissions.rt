@@ -56,8 +56,8 @@ impl Model for Permissions {
     ghost invariant = { λ p. ArePermissions p.rows.items };
 }
 
-/// Returns the place of the permission of an IP address, if there is one.
-fn place_of(rows: &[Permission], ip: &Addr) -> Option<usize>
+/// Returns the index of the permission of an IP address, if there is one.
+fn index_of(rows: &[Permission], ip: &Addr) -> Option<usize>
     ensures { result ≡ position (λ row. eq_by_cmp ip_cmp (ip_of ip.now) (ip_of row.ip)) rows.now }
 {
     rows.iter().position(|row| is_same_ip(ip, &row.ip))
@@ -85,10 +85,10 @@ impl Permissions {
         ensures { result ≡ get self.now (ip_of ip.now) }
     {
         let rows = self.rows.as_slice();
-        let Some(place) = place_of(rows, ip) else {
+        let Some(index) = index_of(rows, ip) else {
             return None;
         };
-        Some(rows[place].end)
+        Some(rows[index].end)
     }
 
     /// Returns the permissions that count at a moment.
@@ -116,8 +116,8 @@ impl Permissions {
         ensures full { OnErr result (MAX_PERMISSIONS < len (insert self.old (ip_of ip) end)) }
         ensures unchanged { OnErr result (self.new ≡ self.old) }
     {
-        if let Some(place) = place_of(self.rows.as_slice(), &ip) {
-            self.rows[place].end = end;
+        if let Some(index) = index_of(self.rows.as_slice(), &ip) {
+            self.rows[index].end = end;
             return Ok(());
         }
         if self.rows.is_full() {

@@ -9,11 +9,11 @@ use attributes::Addr;
 use std::alloc::{AllocError, Global};
 use std::marker::Model;
 
-/// The greatest number of slots.
-pub const MAX_SLOTS: usize = 256;
+/// The greatest number of slots, each of which has one allocation or none.
+pub const MAX_ALLOCATIONS: usize = 256;
 
 /// The tables: for each slot an allocation with its permissions and channels, or nothing. A row counts at a moment as long
-/// as that is smaller than its end, and its allocation counts. All memory is allocated by [`Tables::new`].
+/// as the moment is smaller than its end, and its allocation counts. All memory is allocated by [`Tables::new`].
 ///
 /// The model is the rows that count at the greatest moment of the changes made. What is stored may have ended.
 /// See docs/DECISIONS.md, "The model of the tables".
@@ -45,15 +45,15 @@ impl Tables {
     ghost use Rattle.tables.specs.LookUps.{held_in, held_by};
     ghost use Rattle.tables.specs.Changes.{first_free, with_held};
     ghost use Rattle.tables.specs.declared.moment.TheConstants.{LATEST};
-    ghost use Rattle.tables.specs.declared.storage.TheConstants.{MAX_SLOTS};
+    ghost use Rattle.tables.specs.declared.storage.TheConstants.{MAX_ALLOCATIONS};
 
-    /// Makes tables of 1 to [`MAX_SLOTS`] slots, none of which has an allocation.
+    /// Makes tables of 1 to [`MAX_ALLOCATIONS`] slots, none of which has an allocation.
     ///
     /// # Errors
     /// Where memory runs out.
     pub fn new(alloc: Global, slots: usize) -> Result<Tables, AllocError>
         requires some { 1 ≤ slots }
-        requires few { slots ≤ MAX_SLOTS }
+        requires few { slots ≤ MAX_ALLOCATIONS }
         ensures { IfOk result (λ t. t ≡ no_rows slots) }
     {
         let mut rows = Vec::with_capacity(alloc, slots)?;
@@ -85,7 +85,8 @@ impl Tables {
     /// Returns what a slot holds, if its allocation counts at a moment. Of the permissions and channels some may have ended.
     pub(crate) fn held(&self, slot: usize, moment: u64) -> Option<&Held>
         requires later { self.now.moment ≤ moment }
-        ensures held { option_and_then (held_at moment) (option_copied result) ≡ held_in (counting moment self.now) slot }
+        ensures held { option_and_then (held_at moment) (option_copied result)
+            ≡ held_in (counting moment self.now) slot }
         ensures counts { IfSome result (λ held. moment < held.now.allocation.end) }
         ensures placed { IfSome result (λ held. held.now.allocation.slot < length self.now.slots) }
     {
@@ -105,7 +106,8 @@ impl Tables {
     /// Returns what a client's slot holds, if its allocation counts at a moment.
     pub(crate) fn held_by(&self, client: &Addr, moment: u64) -> Option<&Held>
         requires later { self.now.moment ≤ moment }
-        ensures held { option_and_then (held_at moment) (option_copied result) ≡ held_by client.now (counting moment self.now) }
+        ensures held { option_and_then (held_at moment) (option_copied result)
+            ≡ held_by client.now (counting moment self.now) }
         ensures counts { IfSome result (λ held. moment < held.now.allocation.end) }
         ensures placed { IfSome result (λ held. held.now.allocation.slot < length self.now.slots) }
     {

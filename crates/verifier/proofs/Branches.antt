@@ -15,7 +15,7 @@ use Rattle.semantics.specs.declared.reason.Reason.{Reason}
 use Rattle.semantics.specs.declared.reason.Reason.TheVariants as reasons
 use Rattle.semantics.specs.declared.fetching.Fetched.{Fetched}
 use Rattle.semantics.specs.declared.fetching.Fetched.TheVariants.{Begins}
-use Rattle.absstate.specs.MemberSteps.{state_behind}
+use Rattle.absstate.specs.MemberSteps.{state_after}
 use Rattle.absstate.specs.Successors.{Ends, successors_of, successors_in}
 use Rattle.absstate.specs.StepLaws.Bounds.{not_le}
 use Rattle.absstate.specs.StepLaws.MemoryValues.{abs_is}
@@ -81,8 +81,8 @@ flow_begins code slot n k flow.Ends branch next e = next e
 pub branch_begins : (code : List Insn) (slot n : ℕ) (i : Insn) (branch : Branch) → EndsInExit code → fetch code slot ≡ Begins i → (successors_of i ≡ Ends → ⊥) → branch_slot code slot i branch ≡ Ok n → (j : Insn) × (fetch code n ≡ Begins j)
 branch_begins code slot n i branch exit here on e = flow_begins code slot n (slots_of i) (flow_of i) branch (next_is code slot n i exit here on) e
 
--- an instruction with a state behind it goes on
-pub state_goes_on : {D : Type 0} (i : Insn) (answer : Next D) (branch : Branch) (b : AbsState D) → successors_in answer ≡ successors_of i → state_behind answer branch ≡ Some b → successors_of i ≡ Ends → ⊥
+-- an instruction with a state after it goes on
+pub state_goes_on : {D : Type 0} (i : Insn) (answer : Next D) (branch : Branch) (b : AbsState D) → successors_in answer ≡ successors_of i → state_after answer branch ≡ Some b → successors_of i ≡ Ends → ⊥
 state_goes_on i (next.On c) branch b same e = one_goes_on (successors_of i) same
 state_goes_on i (next.Fork not_taken taken) branch b same e = two_goes_on (successors_of i) same
 state_goes_on i next.Exit branch b same e = absurd cc

@@ -6,10 +6,10 @@ use Rattle.std.proofs.lemmas.List.{length-replicate}
 use Rattle.std.proofs.lemmas.List.Elements.{All-replicate}
 use Rattle.insn.specs.Encoding.{Fits}
 use Rattle.insn.specs.declared.instruction.Insn.{Insn}
-use Rattle.semantics.specs.Machine.{State, AreBytes, Surroundings, start}
+use Rattle.semantics.specs.Machine.{State, AreBytes, Environment, start}
 use Rattle.semantics.specs.Slots.{fetch}
 use Rattle.semantics.specs.Flow.{branch_slot}
-use Rattle.semantics.specs.Runs.{Sticks, AreReal}
+use Rattle.semantics.specs.Runs.{Sticks, IsPossible}
 use Rattle.semantics.specs.LooseRuns.{LooseStep, LooselyReaches, IsLooselyStuck}
 use Rattle.semantics.specs.declared.reason.Reason.{Reason}
 use Rattle.semantics.specs.declared.fetching.Fetched.TheVariants.{Begins}
@@ -19,7 +19,7 @@ use Rattle.interval.specs.Domains.{Operations, AreSound, ArePrecise}
 use Rattle.absstate.specs.AbstractStates.{first_state}
 use Rattle.absstate.specs.AbstractSteps as abstract
 use Rattle.absstate.specs.Membership.{Strict, IsMember}
-use Rattle.absstate.specs.MemberSteps.{state_behind}
+use Rattle.absstate.specs.MemberSteps.{state_after}
 use Rattle.absstate.specs.StepLaws.MemoryValues.{abs_is}
 use Rattle.absstate.specs.StepLaws.Members.{at_first, first_member, loosens_itself, loosens_then}
 use Rattle.absstate.specs.StepLaws.Following.{step_is}
@@ -28,13 +28,13 @@ use Rattle.absstate.specs.StepLaws.Refusing as refusing
 use Rattle.absstate.specs.declared.abstract_state.AbsState.{AbsState}
 use Rattle.absstate.specs.declared.abstract_step.Next.{Next}
 use Rattle.verifier.specs.Layout.{HasGoodJumps}
-use Rattle.verifier.specs.PendingStates.{some_surroundings, IsReachedOver, IsReached}
+use Rattle.verifier.specs.PendingStates.{some_environment, IsReachedOver, IsReached}
 use Rattle.verifier.specs.Walk.{LeadsTo, IsNext, IsLeft, GoesOn, IsRefusedAt}
 use Rattle.verifier.specs.declared.walk.Pending.{Pending}
 
 -- ---- one step more
 
-one_more : (w : Surroundings) (code : List Insn) (m : ℕ) (s t u : State) → LooselyReaches w code m s t → LooseStep w code t u → LooselyReaches w code (suc m) s u
+one_more : (w : Environment) (code : List Insn) (m : ℕ) (s t u : State) → LooselyReaches w code m s t → LooseStep w code t u → LooselyReaches w code (suc m) s u
 one_more w code zero s t u reaches on = (u, subst (λ (r : State). LooseStep w code r u) (sym reaches) on, refl)
 one_more w code (suc m) s t u reaches on = (reaches.0, reaches.1, one_more w code m reaches.0 t u reaches.2 on)
 
@@ -62,8 +62,8 @@ zeros_fit n = All-replicate (λ (b : ℕ). b < 256) n 0 (omega arith)
 zero_bytes : (n : ℕ) → AreBytes n (replicate n 0)
 zero_bytes n = record { count = let zero_byte : ℕ = 0 in length-replicate n zero_byte; fit = zeros_fit n }
 
-surroundings_are_real : AreReal some_surroundings
-surroundings_are_real = record {
+environment_is_possible : IsPossible some_environment
+environment_is_possible = record {
   context = record { side = omega arith; source = zero_bytes 8; transaction_id = zero_bytes 12 };
   helpers = record {
     channel_peer = λ n address word bytes. (omega arith, zero_bytes 8);
@@ -93,7 +93,7 @@ module _ {D : Type 0} (ops : Operations D) (Member : D → ℕ → Type 0) (soun
         };
   }
 
-  reached_by : (code : List Insn) (here p : Pending D) (b : AbsState D) (n : ℕ) → (r : IsReachedOver Member code here n) → p.state ≡ b → Opens Member some_surroundings code r.places r.loosened p.slot b → IsReachedOver Member code p n
+  reached_by : (code : List Insn) (here p : Pending D) (b : AbsState D) (n : ℕ) → (r : IsReachedOver Member code here n) → p.state ≡ b → Opens Member some_environment code r.places r.loosened p.slot b → IsReachedOver Member code p n
   reached_by code here p b n r state_is opens = record {
     datagram = r.datagram;
     bytes_fit = r.bytes_fit;
@@ -101,22 +101,22 @@ module _ {D : Type 0} (ops : Operations D) (Member : D → ℕ → Type 0) (soun
     last = opens.state;
     loosened = opens.loosened;
     places = r.places;
-    reaches = one_more some_surroundings code r.steps (start r.datagram) r.last opens.state r.reaches (r.loosened, r.loosens, opens.goes);
+    reaches = one_more some_environment code r.steps (start r.datagram) r.last opens.state r.reaches (r.loosened, r.loosens, opens.goes);
     loosens = opens.loosens;
     slot = opens.slot_is;
     size = opens.size ∙ r.size;
     member = subst (λ (c : AbsState D). IsMember Member Strict r.places c opens.loosened) (sym state_is) opens.member;
   }
 
-  -- ---- the pending states behind an accepted step
+  -- ---- the pending states after an accepted step
 
   module _ (precise : ArePrecise ops Member) (code : List Insn) (jumps : HasGoodJumps code) (here : Pending D) (i : Insn) (begins : fetch code here.slot ≡ Begins i) (fit : Fits i) (answer : Next D) (is : abstract.step ops here.state i ≡ Ok answer) (reached : IsReached Member code here) where
-    branch_reached : (branch : Branch) (b : AbsState D) (p : Pending D) → state_behind answer branch ≡ Some b → LeadsTo code here.slot i branch b p → IsReached Member code p
+    branch_reached : (branch : Branch) (b : AbsState D) (p : Pending D) → state_after answer branch ≡ Some b → LeadsTo code here.slot i branch b p → IsReached Member code p
     branch_reached branch b p behind point =
         let n : ℕ = unsigned_abs here.state.proved in
         let same : pos n ≡ here.state.proved = abs_is here.state.proved reached.not_negative in
         let r = reached.over n (equal_at_most here.state.proved (pos n) (sym same)) in
-        let rises = step_rises ops Member sound some_surroundings code r.places here.state r.loosened r.member i fit surroundings_are_real answer is branch b behind in
+        let rises = step_rises ops Member sound some_environment code r.places here.state r.loosened r.member i fit environment_is_possible answer is branch b behind in
         let proved_is : b.proved ≡ p.state.proved = ap (λ (c : AbsState D). c.proved) (sym point.state_is) in
         let more : here.state.proved ≤ℤ p.state.proved = at_most here.state.proved b.proved p.state.proved rises (equal_at_most b.proved p.state.proved proved_is) in
         record {
@@ -126,23 +126,23 @@ module _ {D : Type 0} (ops : Operations D) (Member : D → ℕ → Type 0) (soun
               let begins_at : fetch code over.loosened.slot ≡ Begins i = ap (fetch code) over.slot ∙ begins in
               let long : b.proved ≤ℤ pos over.loosened.memory.length = at_most b.proved p.state.proved (pos over.loosened.memory.length) (equal_at_most b.proved p.state.proved proved_is) (subst (λ (k : ℕ). p.state.proved ≤ℤ pos k) (sym over.size) le) in
               reached_by code here p b m over point.state_is
-              (step_opens ops Member sound some_surroundings code over.places here.state over.loosened over.member i fit precise surroundings_are_real begins_at answer is branch b p.slot behind
+              (step_opens ops Member sound some_environment code over.places here.state over.loosened over.member i fit precise environment_is_possible begins_at answer is branch b p.slot behind
               (ap (λ (k : ℕ). branch_slot code k i branch) over.slot ∙ point.leads) long);
         }
 
-    next_reached : (state : Option (AbsState D)) → state_behind answer NotTaken ≡ state → (on : Option (Pending D)) → IsNext code here.slot i NotTaken state on → IfSome on (IsReached Member code)
+    next_reached : (state : Option (AbsState D)) → state_after answer NotTaken ≡ state → (on : Option (Pending D)) → IsNext code here.slot i NotTaken state on → IfSome on (IsReached Member code)
     next_reached None e None next = tt
     next_reached None e (Some p) next = absurd next
     next_reached (Some b) e None next = absurd next
     next_reached (Some b) e (Some p) next = branch_reached NotTaken b p e next
 
-    left_reached : (state : Option (AbsState D)) → state_behind answer Taken ≡ state → (left : List (Pending D)) → IsLeft code here.slot i Taken state left → All (IsReached Member code) left
+    left_reached : (state : Option (AbsState D)) → state_after answer Taken ≡ state → (left : List (Pending D)) → IsLeft code here.slot i Taken state left → All (IsReached Member code) left
     left_reached None e left none = all_none (IsReached Member code) left none
     left_reached (Some b) e left one = subst (All (IsReached Member code)) (sym one.2) (all_one (IsReached Member code) one.0 (branch_reached Taken b one.0 e one.1))
 
-    -- each pending state behind an accepted step is reached
+    -- each pending state after an accepted step is reached
     pub reached_after : (on : Option (Pending D)) (left : List (Pending D)) → GoesOn code here.slot i answer on left → IfSome on (IsReached Member code) × All (IsReached Member code) left
-    reached_after on left goes = (next_reached (state_behind answer NotTaken) refl on goes.0, left_reached (state_behind answer Taken) refl left goes.1)
+    reached_after on left goes = (next_reached (state_after answer NotTaken) refl on goes.0, left_reached (state_after answer Taken) refl left goes.1)
 
   -- ---- refusals
 
@@ -155,8 +155,8 @@ module _ {D : Type 0} (ops : Operations D) (Member : D → ℕ → Type 0) (soun
       let f = refusing.refusal_is_real ops Member sound precise r.places here.state r.loosened r.member refusal.insn refusal.fits reason refusal.step_is (ap (λ (k : ℕ). pos k) r.size ∙ same) in
       let slot : f.state.slot ≡ here.slot = f.loosens.slot ∙ r.slot in
       record {
-        surroundings = some_surroundings;
-        real = surroundings_are_real;
+        environment = some_environment;
+        possible = environment_is_possible;
         datagram = r.datagram;
         bytes_fit = r.bytes_fit;
         steps = r.steps;
@@ -164,5 +164,5 @@ module _ {D : Type 0} (ops : Operations D) (Member : D → ℕ → Type 0) (soun
         loosened = f.state;
         reaches = r.reaches;
         loosens = loosens_then r.last r.loosened f.state r.loosens f.loosens;
-        stuck = step_is some_surroundings code f.state refusal.insn (Err reason) (ap (fetch code) slot ∙ refusal.begins) (f.stuck some_surroundings.context surroundings_are_real.context) ∙ ap (Sticks reason) slot;
+        stuck = step_is some_environment code f.state refusal.insn (Err reason) (ap (fetch code) slot ∙ refusal.begins) (f.stuck some_environment.context environment_is_possible.context) ∙ ap (Sticks reason) slot;
       }

@@ -3,11 +3,11 @@ use Rattle.std.proofs.Common.{◌≡◌, ℕ, suc, ◌-◌, ◌<◌, ◌≤◌, 
 use Rattle.std.specs.Prelude.{IfSome}
 use Rattle.insn.specs.Encoding.{Fits}
 use Rattle.insn.specs.declared.instruction.Insn.{Insn}
-use Rattle.semantics.specs.Machine.{State, Surroundings}
+use Rattle.semantics.specs.Machine.{State, Environment}
 use Rattle.semantics.specs.Slots.{fetch, ahead}
 use Rattle.semantics.specs.SlotLaws.{ahead_falls}
 use Rattle.semantics.specs.Flow.{branch_slot}
-use Rattle.semantics.specs.Runs.{StepResult, Goes, Exits, Sticks, Run, AreReal, onwards, step, run}
+use Rattle.semantics.specs.Runs.{StepResult, Goes, Exits, Sticks, Run, IsPossible, onwards, step, run}
 use Rattle.semantics.specs.RunLaws.{exits_the_same}
 use Rattle.semantics.specs.declared.limits.TheConstants.{MAX_DATAGRAM}
 use Rattle.semantics.specs.declared.reason.Reason.{Reason}
@@ -17,7 +17,7 @@ use Rattle.semantics.specs.declared.fetching.Branch.TheVariants.{NotTaken, Taken
 use Rattle.interval.specs.Domains.{Operations, AreSound}
 use Rattle.absstate.specs.AbstractSteps as abstract
 use Rattle.absstate.specs.Membership.{Places, Loose, IsMember}
-use Rattle.absstate.specs.MemberSteps.{IsBehindSome, state_behind, Follows}
+use Rattle.absstate.specs.MemberSteps.{IsBehindSome, state_after, Follows}
 use Rattle.absstate.specs.StepLaws.Following.{steps_follow}
 use Rattle.absstate.specs.declared.abstract_state.AbsState.{AbsState}
 use Rattle.absstate.specs.declared.abstract_step.Next.{Next}
@@ -36,7 +36,7 @@ module _ {D : Type 0} (Member : D → ℕ → Type 0) (code : List Insn) (i : In
   one_less = fuel_is code s.slot i here
 
   -- a run exits where its step leads to a member of a pending state ahead of which every run exits
-  exits_by : (w : Surroundings) (places : Places) (p : Pending D) (t : State) → AreReal w → step w code s ≡ Goes t → t.slot ≡ p.slot → t.memory.length ≤ MAX_DATAGRAM → IsMember Member Loose places p.state t → AllRunsExit Member code p → s.slot < p.slot → ExitsFrom w code s
+  exits_by : (w : Environment) (places : Places) (p : Pending D) (t : State) → IsPossible w → step w code s ≡ Goes t → t.slot ≡ p.slot → t.memory.length ≤ MAX_DATAGRAM → IsMember Member Loose places p.state t → AllRunsExit Member code p → s.slot < p.slot → ExitsFrom w code s
   exits_by w places p t real goes slot short member good rises =
       let ends = good w places t real slot short member in
       let m : ℕ = ahead code s.slot - 1 in
@@ -48,7 +48,7 @@ module _ {D : Type 0} (Member : D → ℕ → Type 0) (code : List Insn) (i : In
             ∙ ap (λ (r : Run). r.ending) same ∙ ends.1,
       )
 
-  exits_now : (w : Surroundings) (verdict : ℕ) → step w code s ≡ Exits verdict → ExitsFrom w code s
+  exits_now : (w : Environment) (verdict : ℕ) → step w code s ≡ Exits verdict → ExitsFrom w code s
   exits_now w verdict exits =
       let m : ℕ = ahead code s.slot - 1 in (
         verdict,
@@ -59,7 +59,7 @@ module _ {D : Type 0} (Member : D → ℕ → Type 0) (code : List Insn) (i : In
 of_one : {D : Type 0} (P : Pending D → Type 0) (left : List (Pending D)) (q : Pending D) → left ≡ q ∷ [] → All P left → P q
 of_one P left q e all = subst (λ (xs : List _). All P xs → P q) (sym e) (λ ps. ps 0 q (omega arith)) all
 
-module _ {D : Type 0} (Member : D → ℕ → Type 0) (code : List Insn) (i : Insn) (w : Surroundings) (places : Places) (s : State) (real : AreReal w) (short : s.memory.length ≤ MAX_DATAGRAM) (here : fetch code s.slot ≡ Begins i) where
+module _ {D : Type 0} (Member : D → ℕ → Type 0) (code : List Insn) (i : Insn) (w : Environment) (places : Places) (s : State) (real : IsPossible w) (short : s.memory.length ≤ MAX_DATAGRAM) (here : fetch code s.slot ≡ Begins i) where
   -- the step leads to a member of the state of a branch
   good_branch : (branch : Branch) (b : AbsState D) (p : Pending D) (t : State) → LeadsTo code s.slot i branch b p → step w code s ≡ Goes t → IsBehindSome Member code Loose places s i branch (Some b) t → AllRunsExit Member code p → ExitsFrom w code s
   good_branch branch b p t point goes behind good =
@@ -76,8 +76,8 @@ module _ {D : Type 0} (Member : D → ℕ → Type 0) (code : List Insn) (i : In
   good_left (Some b) left t next good goes behind = good_branch Taken b next.0 t next.1 goes behind (of_one (AllRunsExit Member code) left next.0 next.2 good)
 
   good_from : (answer : Next D) (on : Option (Pending D)) (left : List (Pending D)) → GoesOn code s.slot i answer on left → IfSome on (AllRunsExit Member code) → All (AllRunsExit Member code) left → (r : StepResult) → step w code s ≡ r → Follows Member w code Loose places s i answer r → ExitsFrom w code s
-  good_from answer on left goes good goods (Goes t) is (NotTaken, taken, behind) = good_next (state_behind answer NotTaken) on t goes.0 good is behind
-  good_from answer on left goes good goods (Goes t) is (Taken, taken, behind) = good_left (state_behind answer Taken) left t goes.1 goods is behind
+  good_from answer on left goes good goods (Goes t) is (NotTaken, taken, behind) = good_next (state_after answer NotTaken) on t goes.0 good is behind
+  good_from answer on left goes good goods (Goes t) is (Taken, taken, behind) = good_left (state_after answer Taken) left t goes.1 goods is behind
   good_from answer on left goes good goods (Exits verdict) is follows = exits_now Member code i s here w verdict is
   good_from answer on left goes good goods (Sticks reason slot) is follows = absurd follows
 

@@ -16,7 +16,7 @@ use Rattle.semantics.specs.declared.fetching.Fetched.TheVariants.{Begins}
 use Rattle.semantics.specs.declared.fetching.Branch.TheVariants.{NotTaken, Taken}
 use Rattle.interval.specs.Domains.{Operations, AreSound, ArePrecise}
 use Rattle.absstate.specs.Membership.{Loose}
-use Rattle.absstate.specs.MemberSteps.{state_behind}
+use Rattle.absstate.specs.MemberSteps.{state_after}
 use Rattle.absstate.specs.AbstractStates.{first_state}
 use Rattle.absstate.specs.AbstractSteps as abstract
 use Rattle.absstate.specs.StepReasons.{IsStepReason}
@@ -49,7 +49,7 @@ fault_reason : {D : Type 0} (a : Result (Next D) Reason) (reason : Reason) → I
 fault_reason (Ok n) reason h e = absurd cc
 fault_reason (Err f) reason h e = subst IsStepReason (let is : f ≡ reason = cc in is) h
 
--- an accepted step of a path, behind which some states are left pending
+-- an accepted step of a path, after which some states are left pending
 pub advances : {D : Type 0} (ops : Operations D) (code : List Insn) (here : Pending D) (old new : List (Pending D)) (i : Insn) → fetch code here.slot ≡ Begins i → Fits i → (answer : Next D) → abstract.step ops here.state i ≡ Ok answer
     → (on : Option (Pending D)) (left : List (Pending D)) → new ≡ old ++ left → GoesOn code here.slot i answer on left → Advances ops code here old on new
 advances ops code here old new i begins fits answer is on left new_is goes = record {
@@ -94,21 +94,21 @@ some_begins code here inside =
     let fuel : count_from code here ≡ length (beginnings_from code (suc (ahead code here.slot - 1)) here.slot) = ap (λ (k : ℕ). length (beginnings_from code k here.slot)) (fuel_is code here.slot i inside.1) in
     omega (arith, fuel, counted_at code here.slot (ahead code here.slot - 1) i inside.1)
 
--- ---- the states behind a step
+-- ---- the states after a step
 
 module _ {D : Type 0} (code : List Insn) (here : Pending D) (laid_out : IsLaidOut code) (i : Insn) (at : fetch code here.slot ≡ Begins i) (answer : Next D) (ways : successors_in answer ≡ successors_of i) where
-  next_inside : (state : Option (AbsState D)) → state_behind answer NotTaken ≡ state → (on : Option (Pending D)) → IsNext code here.slot i NotTaken state on → IfSome on (IsInside code)
+  next_inside : (state : Option (AbsState D)) → state_after answer NotTaken ≡ state → (on : Option (Pending D)) → IsNext code here.slot i NotTaken state on → IfSome on (IsInside code)
   next_inside None e None next = tt
   next_inside None e (Some p) next = absurd next
   next_inside (Some b) e None next = absurd next
   next_inside (Some b) e (Some p) next = branch_begins code here.slot p.slot i NotTaken laid_out.exit at (state_goes_on i answer NotTaken b ways e) next.leads
 
-  left_inside : (state : Option (AbsState D)) → state_behind answer Taken ≡ state → (left : List (Pending D)) → IsLeft code here.slot i Taken state left → All (IsInside code) left
+  left_inside : (state : Option (AbsState D)) → state_after answer Taken ≡ state → (left : List (Pending D)) → IsLeft code here.slot i Taken state left → All (IsInside code) left
   left_inside None e left none = all_none (IsInside code) left none
   left_inside (Some b) e left one = subst (All (IsInside code)) (sym one.2) (all_one (IsInside code) one.0 (branch_begins code here.slot one.0.slot i Taken laid_out.exit at (state_goes_on i answer Taken b ways e) one.1.leads))
 
   goes_inside : (on : Option (Pending D)) (left : List (Pending D)) → GoesOn code here.slot i answer on left → IfSome on (IsInside code) × All (IsInside code) left
-  goes_inside on left goes = (next_inside (state_behind answer NotTaken) refl on goes.0, left_inside (state_behind answer Taken) refl left goes.1)
+  goes_inside on left goes = (next_inside (state_after answer NotTaken) refl on goes.0, left_inside (state_after answer Taken) refl left goes.1)
 
 module _ {D : Type 0} (ops : Operations D) (Member : D → ℕ → Type 0) (sound : AreSound ops Member) where
   -- the walk after some steps, with a current state and others pending
@@ -139,7 +139,7 @@ module _ {D : Type 0} (ops : Operations D) (Member : D → ℕ → Type 0) (soun
     successors_are : successors_in adv.accepted ≡ successors_of adv.insn
     successors_are = answer_successors (abstract.step ops here.state adv.insn) adv.insn adv.accepted (step_successors ops here.state adv.insn) adv.step_is
 
-    -- a fact of the earlier pending states, and of those behind the step, holds of all that are pending
+    -- a fact of the earlier pending states, and of those after the step, holds of all that are pending
     all_new : (P : Pending D → Type 0) → All P old → All P adv.left → All P new
     all_new P olds lefts = subst (All P) (sym adv.new_is) (All-append P old adv.left olds lefts)
 

@@ -3,9 +3,9 @@ use Rattle.std.specs.Prelude.{◌≡◌, ℕ, ◌≤◌, ◌<◌, pos, ◌≤ℤ
 use Rattle.insn.specs.Encoding.{slot_count}
 use Rattle.insn.specs.declared.decoding.TheConstants.{MAX_SLOTS}
 use Rattle.insn.specs.declared.instruction.Insn.{Insn}
-use Rattle.semantics.specs.Machine.{State, Surroundings, start}
+use Rattle.semantics.specs.Machine.{State, Environment, start}
 use Rattle.semantics.specs.Slots.{ahead}
-use Rattle.semantics.specs.Runs.{Exited, run, AreReal, IsSafe}
+use Rattle.semantics.specs.Runs.{Exited, run, IsPossible, IsSafe}
 use Rattle.semantics.specs.declared.limits.TheConstants.{MAX_DATAGRAM}
 use Rattle.semantics.specs.LooseRuns.{Loosens, LooselyReaches, beginnings_from}
 use Rattle.absstate.specs.Membership.{Places, Loose, Strict, IsMember}
@@ -14,12 +14,13 @@ use Rattle.verifier.specs.declared.walk.Pending.{Pending}
 -- ---- accepted code exits
 
 -- a run from a state exits within as many steps as instructions are ahead
-abbrev pub ExitsFrom : Surroundings → List Insn → State → Type 0
+abbrev pub ExitsFrom : Environment → List Insn → State → Type 0
 ExitsFrom w code s = (verdict : ℕ) × ((run w code (ahead code s.slot) s).ending ≡ Exited verdict)
 
--- so does every run, in real surroundings, from every member of a pending state with a datagram of at most 65,507 bytes
+-- every run exits so, in a possible environment, from every member of a pending state with a datagram of at most 65,507
+-- bytes
 abbrev pub AllRunsExit : {D : Type 0} → (D → ℕ → Type 0) → List Insn → Pending D → Type 0
-AllRunsExit Member code p = (w : Surroundings) (places : Places) (s : State) → AreReal w → s.slot ≡ p.slot → s.memory.length ≤ MAX_DATAGRAM → IsMember Member Loose places p.state s → ExitsFrom w code s
+AllRunsExit Member code p = (w : Environment) (places : Places) (s : State) → IsPossible w → s.slot ≡ p.slot → s.memory.length ≤ MAX_DATAGRAM → IsMember Member Loose places p.state s → ExitsFrom w code s
 
 -- a verified program is safe, and not too long
 pub record IsVerified (code : List Insn) : Type 0 where
@@ -28,9 +29,9 @@ pub record IsVerified (code : List Insn) : Type 0 where
 
 -- ---- loose runs reach every pending state
 
--- surroundings that a relay can give: a client's datagram, and helpers that find nothing
-abbrev pub some_surroundings : Surroundings
-some_surroundings = record {
+-- an environment that a relay can give: a client's datagram, and helpers that find nothing
+abbrev pub some_environment : Environment
+some_environment = record {
   context = record { side = 0; source = replicate 8 0; transaction_id = replicate 12 0 };
   answer = λ helper number address. (0, replicate 8 0);
 }
@@ -43,7 +44,7 @@ pub record IsReachedOver {D : Type 0} (Member : D → ℕ → Type 0) (code : Li
   pub last : State
   pub loosened : State
   pub places : Places
-  pub reaches : LooselyReaches some_surroundings code steps (start datagram) last
+  pub reaches : LooselyReaches some_environment code steps (start datagram) last
   pub loosens : Loosens last loosened
   pub slot : loosened.slot ≡ p.slot
   pub size : loosened.memory.length ≡ n

@@ -11,7 +11,7 @@ use Rattle.verifier.specs.declared.refusal.Refusal.{Refusal}
 use Rattle.verifier.specs.declared.refusal.Refusal.TheVariants as refusal
 
 -- What may be refused of code: the first fault of its layout; a step, where that refusal is real; the step at an
--- instruction, where the code has more beginnings of paths than the budget; and want of memory.
+-- instruction, where the code has more beginnings of paths than the budget; and a failed allocation.
 abbrev pub MayRefuseWhere : (Reason → ℕ → Type 0) → List Insn → ℕ → Refusal → Type 0
 MayRefuseWhere IsReal code budget (refusal.Stuck reason slot) = IsLayoutFault code reason slot ⊎ (IsLaidOut code × IsStepReason reason × IsReal reason slot)
 MayRefuseWhere IsReal code budget (refusal.Budget slot) = IsLaidOut code × StartsAt code slot × (budget < length (beginnings code))

@@ -10,7 +10,7 @@ use Rattle.semantics.specs.declared.fetching.Branch.{Branch}
 use Rattle.semantics.specs.declared.fetching.Branch.TheVariants.{NotTaken, Taken}
 use Rattle.interval.specs.Domains.{Operations}
 use Rattle.absstate.specs.AbstractSteps.{step}
-use Rattle.absstate.specs.MemberSteps.{state_behind}
+use Rattle.absstate.specs.MemberSteps.{state_after}
 use Rattle.absstate.specs.declared.abstract_state.AbsState.{AbsState}
 use Rattle.absstate.specs.declared.abstract_step.Next.{Next}
 use Rattle.verifier.specs.Layout.{StartsAt}
@@ -32,25 +32,25 @@ abbrev pub followed : {D : Type 0} → Bool → Pending D → Option (Pending D)
 followed true p = Some p
 followed false p = None
 
--- the state of a branch, if that can be taken, is followed next
+-- the state of a branch is followed next where the branch is feasible
 abbrev pub IsNext : {D : Type 0} → List Insn → ℕ → Insn → Branch → Option (AbsState D) → Option (Pending D) → Type 0
 IsNext code here i branch None None = Unit {0}
 IsNext code here i branch None (Some p) = ⊥
 IsNext code here i branch (Some state) None = ⊥
 IsNext code here i branch (Some state) (Some p) = LeadsTo code here i branch state p
 
--- the state of a branch, if that can be taken, is left pending, and no other
+-- the state of a branch is left pending where the branch is feasible, and no other
 abbrev pub IsLeft : {D : Type 0} → List Insn → ℕ → Insn → Branch → Option (AbsState D) → List (Pending D) → Type 0
 IsLeft code here i branch None left = left ≡ []
 IsLeft {D = D} code here i branch (Some state) left = (p : Pending D) × LeadsTo code here i branch state p × (left ≡ p ∷ [])
 
--- the list of pending states is longer by it
+-- the pending states, with that of the taken branch pushed where the branch is feasible
 abbrev pub Leaves : {D : Type 0} → List Insn → ℕ → Insn → Option (AbsState D) → List (Pending D) → List (Pending D) → Type 0
 Leaves {D = D} code here i state old new = (left : List (Pending D)) × (new ≡ old ++ left) × IsLeft code here i Taken state left
 
 -- the branch that isn't taken is followed next, and the one that is taken is left pending
 abbrev pub GoesOn : {D : Type 0} → List Insn → ℕ → Insn → Next D → Option (Pending D) → List (Pending D) → Type 0
-GoesOn code here i answer on left = IsNext code here i NotTaken (state_behind answer NotTaken) on × IsLeft code here i Taken (state_behind answer Taken) left
+GoesOn code here i answer on left = IsNext code here i NotTaken (state_after answer NotTaken) on × IsLeft code here i Taken (state_after answer Taken) left
 
 -- one step of a path: its instruction is accepted, and the walk goes on so
 pub record Advances {D : Type 0} (ops : Operations D) (code : List Insn) (here : Pending D) (old : List (Pending D)) (next : Option (Pending D)) (new : List (Pending D)) : Type 0 where
@@ -70,19 +70,19 @@ pub record IsRefusedAt {D : Type 0} (ops : Operations D) (code : List Insn) (her
   pub fits : Fits insn
   pub step_is : step ops here.state insn ≡ Err reason
 
--- want of memory, with the instruction at a slot in hand
+-- an allocation failure, with the instruction at a slot in hand
 abbrev pub IsOutOfMemory : ℕ → Refusal → Type 0
 IsOutOfMemory here (refusal.Stuck reason slot) = ⊥
 IsOutOfMemory here (refusal.Budget slot) = ⊥
 IsOutOfMemory here (refusal.Memory slot) = slot ≡ here
 
--- a refusal of one step: a refused step of the path, or want of memory
+-- a refusal of one step: a refused step of the path, or a failed allocation
 abbrev pub IsStepRefusal : {D : Type 0} → Operations D → List Insn → Pending D → Refusal → Type 0
 IsStepRefusal ops code here (refusal.Stuck reason slot) = (slot ≡ here.slot) × IsRefusedAt ops code here reason
 IsStepRefusal ops code here (refusal.Budget slot) = ⊥
 IsStepRefusal ops code here (refusal.Memory slot) = Unit {0}
 
--- the state that is followed: the next one of the path, or behind its exit the last one left pending
+-- the state that is followed: the next one of the path, or after its exit the last one left pending
 abbrev pub Picks : {D : Type 0} → Option (Pending D) → List (Pending D) → Option (Pending D) → List (Pending D) → Type 0
 Picks (Some p) old picked new = (picked ≡ Some p) × (new ≡ old)
 Picks None old (Some p) new = old ≡ new ++ p ∷ []

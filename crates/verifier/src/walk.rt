@@ -14,7 +14,7 @@ ghost use Rattle.semantics.specs.declared.fetching.Branch.TheVariants.{NotTaken,
 
 use crate::layout::check_layout;
 use crate::refusal::Refusal;
-use absstate::{AbsState, Change, Effect};
+use absstate::{AbsState, Change, Transition};
 use insn::Insn;
 use interval::{Domain, Interval};
 use semantics::{Branch, Fetched, Program};
@@ -94,8 +94,8 @@ fn slot_after(program: &Program, slot: usize, insn: Insn, branch: Branch) -> usi
     }
 }
 
-/// Goes on by the branch not taken, if that can be taken: changes the state to that of the branch, at the slot that it
-/// leads to. Returns whether it can.
+/// Goes on by the branch not taken: changes the state to that of the branch, at the slot that it leads to. Returns whether
+/// the branch is feasible.
 fn go_on<D: Copy>(
     program: &Program,
     insn: Insn,
@@ -105,7 +105,8 @@ fn go_on<D: Copy>(
     requires few { slot_count program.now ≤ MAX_SLOTS }
     requires inside { here.old.slot < slot_count program.now }
     requires good { IsOk (branch_slot program.now here.old.slot insn NotTaken) }
-    ensures { IsNext program.now here.old.slot insn NotTaken (option_map (changed here.old.state) change) (followed result here.new) }
+    ensures { IsNext program.now here.old.slot insn NotTaken (option_map (changed here.old.state) change)
+        (followed result here.new) }
 {
     let Some(change) = change else {
         return false;
@@ -115,7 +116,7 @@ fn go_on<D: Copy>(
     true
 }
 
-/// Leaves the state of a taken branch pending, if that branch can be taken.
+/// Leaves the state of a taken branch pending, if the branch is feasible.
 fn leave<D: Copy>(
     program: &Program,
     insn: Insn,
@@ -126,7 +127,8 @@ fn leave<D: Copy>(
     requires few { slot_count program.now ≤ MAX_SLOTS }
     requires inside { here.now.slot < slot_count program.now }
     requires good { IsOk (branch_slot program.now here.now.slot insn Taken) }
-    ensures left { OnOk result (Leaves program.now here.now.slot insn (option_map (changed here.now.state) change) pending.old.items pending.new.items) }
+    ensures left { OnOk result (Leaves program.now here.now.slot insn (option_map (changed here.now.state) change)
+        pending.old.items pending.new.items) }
     ensures memory { IfErr result (IsOutOfMemory here.now.slot) }
 {
     if let Some(change) = change {
@@ -150,21 +152,22 @@ fn advance<D: Domain>(
     requires few { slot_count program.now ≤ MAX_SLOTS }
     requires laid_out { IsLaidOut program.now }
     requires inside { IsInside program.now here.old }
-    ensures advanced { IfOk result (λ on. Advances D.ops program.now here.old pending.old.items (followed on here.new) pending.new.items) }
+    ensures advanced { IfOk result (λ on. Advances D.ops program.now here.old pending.old.items
+        (followed on here.new) pending.new.items) }
     ensures refused { IfErr result (IsStepRefusal D.ops program.now here.old) }
 {
     let slot = here.slot;
     let Fetched::Begins(insn) = program.fetch(slot) else {
         unreachable!()
     };
-    let effect = here
+    let transition = here
         .state
-        .effect(&insn)
+        .transition(&insn)
         .map_err(|reason| Refusal::Stuck { reason, slot })?;
-    match effect {
-        Effect::Exit => Ok(false),
-        Effect::On(change) => Ok(go_on(program, insn, Some(change), here)),
-        Effect::Fork { not_taken, taken } => {
+    match transition {
+        Transition::Exit => Ok(false),
+        Transition::On(change) => Ok(go_on(program, insn, Some(change), here)),
+        Transition::Fork { not_taken, taken } => {
             leave(program, insn, taken, here, pending)?;
             Ok(go_on(program, insn, not_taken, here))
         }

@@ -7,7 +7,7 @@ use Rattle.insn.specs.Endian.{little_bytes}
 use Rattle.insn.specs.declared.instruction.Insn.{Insn}
 use Rattle.semantics.specs.Access.{written_at}
 use Rattle.semantics.specs.ContextLaws.{little_bytes_fit, length-little_bytes}
-use Rattle.semantics.specs.Machine.{AreBytes, Context, IsContext, Memory, State, Surroundings}
+use Rattle.semantics.specs.Machine.{AreBytes, Context, IsContext, Memory, State, Environment}
 use Rattle.semantics.specs.declared.plan.Plan.{Plan}
 use Rattle.semantics.specs.declared.helper.Helper.{Helper}
 use Rattle.semantics.specs.declared.helper.Helper.TheVariants as helper
@@ -17,7 +17,7 @@ use Rattle.semantics.specs.declared.access.Location.TheVariants.{InStack, InByte
 use Rattle.semantics.specs.declared.limits.TheConstants.{MAX_DATAGRAM}
 use Rattle.semantics.specs.Effects as effects
 use Rattle.semantics.specs.Slots.{fetch, target}
-use Rattle.semantics.specs.Runs.{Goes, AreReal, called, answered_at, answered, plan_answer, with_window, with_destination, planned, applied, landed, stepped, step, write_register}
+use Rattle.semantics.specs.Runs.{Goes, IsPossible, called, answered_at, answered, plan_answer, with_window, with_destination, planned, applied, landed, stepped, step, write_register}
 use Rattle.semantics.specs.Flow.{Flow, flow_of, flow_slot, branch_slot}
 use Rattle.semantics.specs.Flow as flow
 use Rattle.semantics.specs.LooseRuns.{effect_of_branch}
@@ -63,7 +63,7 @@ small_answer None = omega arith
 small_answer (Some x) = omega arith
 
 -- the step at an instruction is its effect applied
-pub step_is : (w : Surroundings) (code : List Insn) (s : State) (i : Insn) (r : Result Effect Reason) → fetch code s.slot ≡ Begins i → effects.effect w.context s.memory s.registers i ≡ r → step w code s ≡ applied w code s i r
+pub step_is : (w : Environment) (code : List Insn) (s : State) (i : Insn) (r : Result Effect Reason) → fetch code s.slot ≡ Begins i → effects.effect w.context s.memory s.registers i ≡ r → step w code s ≡ applied w code s i r
 step_is w code s i r here e = ap (stepped w code s) here ∙ ap (applied w code s i) e
 
 ok_of : (r : Result ℕ Reason) → IsOk r → (n : ℕ) × (r ≡ Ok n)
@@ -82,10 +82,10 @@ slot_by : (code : List Insn) (slot n : ℕ) (i : Insn) (branch : Branch) (f : Fl
 slot_by code slot n i branch f is leads = sym (ap (λ (g : Flow). flow_slot code slot (slots_of i) g branch) is) ∙ leads
 
 -- a jump, and either branch of a conditional one, go on at the slot that they lead to
-pub jump_goes : (w : Surroundings) (code : List Insn) (s : State) (i : Insn) (offset : ℤ) (branch : Branch) (n : ℕ) → flow_of i ≡ flow.Jumps offset → branch_slot code s.slot i branch ≡ Ok n → applied w code s i (Ok (effect.Jump offset)) ≡ Goes (record s { slot = n })
+pub jump_goes : (w : Environment) (code : List Insn) (s : State) (i : Insn) (offset : ℤ) (branch : Branch) (n : ℕ) → flow_of i ≡ flow.Jumps offset → branch_slot code s.slot i branch ≡ Ok n → applied w code s i (Ok (effect.Jump offset)) ≡ Goes (record s { slot = n })
 jump_goes w code s i offset branch n is leads = landed_at s (target code s.slot offset) n (slot_by code s.slot n i branch (flow.Jumps offset) is leads)
 
-pub branch_goes : (w : Surroundings) (code : List Insn) (s : State) (i : Insn) (offset : ℤ) (branch : Branch) (n : ℕ) → flow_of i ≡ flow.Forks offset → branch_slot code s.slot i branch ≡ Ok n → applied w code s i (Ok (effect_of_branch offset branch)) ≡ Goes (record s { slot = n })
+pub branch_goes : (w : Environment) (code : List Insn) (s : State) (i : Insn) (offset : ℤ) (branch : Branch) (n : ℕ) → flow_of i ≡ flow.Forks offset → branch_slot code s.slot i branch ≡ Ok n → applied w code s i (Ok (effect_of_branch offset branch)) ≡ Goes (record s { slot = n })
 branch_goes w code s i offset Taken n is leads = landed_at s (target code s.slot offset) n (slot_by code s.slot n i Taken (flow.Forks offset) is leads)
 branch_goes w code s i offset NotTaken n is leads = ap (λ (k : ℕ). Goes (record s { slot = k })) (same_slot (s.slot + slots_of i) n (slot_by code s.slot n i NotTaken (flow.Forks offset) is leads))
 
@@ -107,7 +107,7 @@ module _ {D : Type 0} (ops : Operations D) (Member : D → ℕ → Type 0) (soun
   accepted_agree mode places a s member c real i fit answer is =
       agreed (IsEffectOf ops Member sound mode places a s i) (abstract.step ops a i) (effects.effect c s.memory s.registers i) answer (steps_agree ops Member sound none_claimed mode places a s member c real i fit (no_claims mode a s i)) is
 
-  -- the state behind a call is a member: of a look-up, and of a change of the plan
+  -- the state after a call is a member: of a look-up, and of a change of the plan
   in_range : (n hi : ℕ) → hi ≤ 0x4fff → n ≤ hi → Member (ops.range 0 hi) n
   in_range n hi small le = sound.range 0 hi n (omega (arith, small)) (omega arith) le
 
@@ -122,7 +122,7 @@ module _ {D : Type 0} (ops : Operations D) (Member : D → ℕ → Type 0) (soun
   both_of None record_is room are = tt
   both_of (Some j) record_is room are = (room, are)
 
-  pub asked_member : (w : Surroundings) (code : List Insn) (mode : Mode) (places : Places) (a : AbsState D) (s : State) → IsMember Member mode places a s → (i : Insn) → AreReal w → (b : AbsState D) (q : Question) (out : Option ℕ) → IsAsked ops Member sound a i b q out
+  pub asked_member : (w : Environment) (code : List Insn) (mode : Mode) (places : Places) (a : AbsState D) (s : State) → IsMember Member mode places a s → (i : Insn) → IsPossible w → (b : AbsState D) (q : Question) (out : Option ℕ) → IsAsked ops Member sound a i b q out
       → IsMember Member mode places b (answered s (s.slot + slots_of i) out (w.answer q.helper q.number q.address))
   asked_member w code mode places a s member i real b q out is =
       let answer = w.answer q.helper q.number q.address in
@@ -137,7 +137,7 @@ module _ {D : Type 0} (ops : Operations D) (Member : D → ℕ → Type 0) (soun
       (member_planned Member mode places (with_answer a (ops.range 0 (abstract.greatest_answer h))) (record s { slot = s.slot + slots_of i; registers = called s.registers n })
       (member_called Member sound.words mode places a s (ops.range 0 (abstract.greatest_answer h)) n (s.slot + slots_of i) member (in_range n (abstract.greatest_answer h) (bounded h) (omega (arith, small, one)))) plan)
 
-  module _ (w : Surroundings) (code : List Insn) (mode : Mode) (places : Places) (a : AbsState D) (s : State) (member : IsMember Member mode places a s) (i : Insn) (fit : Fits i) (real : AreReal w) (here : fetch code s.slot ≡ Begins i) (good : (branch : Branch) → IsOk (branch_slot code s.slot i branch)) where
+  module _ (w : Environment) (code : List Insn) (mode : Mode) (places : Places) (a : AbsState D) (s : State) (member : IsMember Member mode places a s) (i : Insn) (fit : Fits i) (real : IsPossible w) (here : fetch code s.slot ≡ Begins i) (good : (branch : Branch) → IsOk (branch_slot code s.slot i branch)) where
     behind : (branch : Branch) (b : AbsState D) → ((to : ℕ) → IsMember Member mode places b (record s { slot = to })) → (n : ℕ) → branch_slot code s.slot i branch ≡ Ok n → IsBehind Member code mode places s i branch b (record s { slot = n })
     behind branch b h n leads = record { leads = leads; size = refl; member = h n }
 

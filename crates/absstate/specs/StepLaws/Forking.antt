@@ -28,7 +28,7 @@ use Rattle.interval.specs.Domains.{Operations, AreSound, ArePrecise, HasMembers,
 use Rattle.interval.specs.declared.domain.Test.{Test}
 use Rattle.interval.specs.declared.domain.Test.TheVariants.{Holds, Fails}
 use Rattle.absstate.specs.AbstractStates.{with_value, with_least}
-use Rattle.absstate.specs.MemberSteps.{state_behind}
+use Rattle.absstate.specs.MemberSteps.{state_after}
 use Rattle.absstate.specs.AbstractSteps as abstract
 use Rattle.absstate.specs.Membership.{Mode, Strict, Places, IsHeld, IsMember}
 use Rattle.absstate.specs.declared.abstract_state.AbstractValue.TheVariants as known
@@ -157,11 +157,11 @@ module _ {D : Type 0} (ops : Operations D) (Member : D → ℕ → Type 0) (soun
     pub branch : Branch
     pub effect_is : e ≡ effect_of_branch offset branch
     pub behind : AbsState D
-    pub behind_is : state_behind (next.Fork not_taken taken) branch ≡ Some behind
+    pub behind_is : state_after (next.Fork not_taken taken) branch ≡ Some behind
     pub member : (to : ℕ) → IsMember Member mode places behind (record s { slot = to })
-    pub rises : (way : Branch) (b : AbsState D) → state_behind (next.Fork not_taken taken) way ≡ Some b → a.proved ≤ℤ b.proved
-    pub holds_of : (way : Branch) (b : AbsState D) → state_behind (next.Fork not_taken taken) way ≡ Some b → b.proved ≤ℤ pos s.memory.length → HoldsOf (bound_of condition (value_at s.registers dst) second way) s.memory.length
-    pub opens : ArePrecise ops Member → mode ≡ Strict → (way : Branch) (b : AbsState D) → state_behind (next.Fork not_taken taken) way ≡ Some b → b.proved ≤ℤ pos s.memory.length → (to : ℕ) → IsOpened Member places b s to
+    pub rises : (way : Branch) (b : AbsState D) → state_after (next.Fork not_taken taken) way ≡ Some b → a.proved ≤ℤ b.proved
+    pub holds_of : (way : Branch) (b : AbsState D) → state_after (next.Fork not_taken taken) way ≡ Some b → b.proved ≤ℤ pos s.memory.length → HoldsOf (bound_of condition (value_at s.registers dst) second way) s.memory.length
+    pub opens : ArePrecise ops Member → mode ≡ Strict → (way : Branch) (b : AbsState D) → state_after (next.Fork not_taken taken) way ≡ Some b → b.proved ≤ℤ pos s.memory.length → (to : ℕ) → IsOpened Member places b s to
 
   some_is : (x y : AbsState D) → ◌≡◌ {A = Option (AbsState D)} (Some x) (Some y) → x ≡ y
   some_is x y e = cc
@@ -182,7 +182,7 @@ module _ {D : Type 0} (ops : Operations D) (Member : D → ℕ → Type 0) (soun
       refined_opens strict (Some left) has b e to = subst (λ (z : AbsState D). IsOpened Member places z s to) (some_is (abstract.with_operands a dst o left) b e) (operands_opened places a s strict dst o x y left m n to h g dst_is o_is (has left refl))
 
       numbers_fork : (test : Test) (branch : Branch) (e : Effect) → e ≡ effect_of_branch offset branch → passes test w m n ≡ true
-          → state_behind (next.Fork (abstract.passed ops a (Fails c) w dst o x y) (abstract.passed ops a (Holds c) w dst o x y)) branch ≡ abstract.passed ops a test w dst o x y
+          → state_after (next.Fork (abstract.passed ops a (Fails c) w dst o x y) (abstract.passed ops a (Holds c) w dst o x y)) branch ≡ abstract.passed ops a test w dst o x y
           → Forks mode places a s (insn.JumpIf w c dst o offset) (abstract.passed ops a (Fails c) w dst o x y) (abstract.passed ops a (Holds c) w dst o x y) e
       numbers_fork test branch e e_is passed way_is =
           let behind = passed_by (ops.refine test w x y) (sound.refine test w x y m n h g passed) in
@@ -204,11 +204,11 @@ module _ {D : Type 0} (ops : Operations D) (Member : D → ℕ → Type 0) (soun
             holds_of = λ way b f le. subst (λ (v : Value). HoldsOf (bound_of c v (value.Scalar n) way) s.memory.length) (sym dst_is) tt;
             opens = opens;
           } where
-            rises : (way : Branch) (b : AbsState D) → state_behind (next.Fork (abstract.passed ops a (Fails c) w dst o x y) (abstract.passed ops a (Holds c) w dst o x y)) way ≡ Some b → a.proved ≤ℤ b.proved
+            rises : (way : Branch) (b : AbsState D) → state_after (next.Fork (abstract.passed ops a (Fails c) w dst o x y) (abstract.passed ops a (Holds c) w dst o x y)) way ≡ Some b → a.proved ≤ℤ b.proved
             rises NotTaken b f = refined_rises (ops.refine (Fails c) w x y) b f
             rises Taken b f = refined_rises (ops.refine (Holds c) w x y) b f
 
-            opens : ArePrecise ops Member → mode ≡ Strict → (way : Branch) (b : AbsState D) → state_behind (next.Fork (abstract.passed ops a (Fails c) w dst o x y) (abstract.passed ops a (Holds c) w dst o x y)) way ≡ Some b → b.proved ≤ℤ pos s.memory.length → (to : ℕ) → IsOpened Member places b s to
+            opens : ArePrecise ops Member → mode ≡ Strict → (way : Branch) (b : AbsState D) → state_after (next.Fork (abstract.passed ops a (Fails c) w dst o x y) (abstract.passed ops a (Holds c) w dst o x y)) way ≡ Some b → b.proved ≤ℤ pos s.memory.length → (to : ℕ) → IsOpened Member places b s to
             opens precise strict NotTaken b f le to = refined_opens (subst (λ (k : Mode). IsMember Member k places a s) strict member) (ops.refine (Fails c) w x y) (λ left. precise.refine (Fails c) w x y m n left h g) b f to
             opens precise strict Taken b f le to = refined_opens (subst (λ (k : Mode). IsMember Member k places a s) strict member) (ops.refine (Holds c) w x y) (λ left. precise.refine (Holds c) w x y m n left h g) b f to
 
@@ -218,14 +218,14 @@ module _ {D : Type 0} (ops : Operations D) (Member : D → ℕ → Type 0) (soun
 
     -- a place and the end
     module _ (bound : Branch → Option Bound) (second : Value) (o_is : effects.operand_value s.registers o ≡ Ok second) (bound_is : (way : Branch) → bound_of c (value_at s.registers dst) second way ≡ bound way) where
-      way_is : (way : Branch) → state_behind (next.Fork (Some (with_least a (abstract.implied_by bound).not_taken)) (Some (with_least a (abstract.implied_by bound).taken))) way ≡ Some (with_least a (abstract.least_of (bound way)))
+      way_is : (way : Branch) → state_after (next.Fork (Some (with_least a (abstract.implied_by bound).not_taken)) (Some (with_least a (abstract.implied_by bound).taken))) way ≡ Some (with_least a (abstract.least_of (bound way)))
       way_is NotTaken = refl
       way_is Taken = refl
 
-      least_is : (way : Branch) (b : AbsState D) → state_behind (next.Fork (Some (with_least a (abstract.implied_by bound).not_taken)) (Some (with_least a (abstract.implied_by bound).taken))) way ≡ Some b → with_least a (abstract.least_of (bound way)) ≡ b
+      least_is : (way : Branch) (b : AbsState D) → state_after (next.Fork (Some (with_least a (abstract.implied_by bound).not_taken)) (Some (with_least a (abstract.implied_by bound).taken))) way ≡ Some b → with_least a (abstract.least_of (bound way)) ≡ b
       least_is way b e = some_is (with_least a (abstract.least_of (bound way))) b (sym (way_is way) ∙ e)
 
-      least_holds : (way : Branch) (b : AbsState D) → state_behind (next.Fork (Some (with_least a (abstract.implied_by bound).not_taken)) (Some (with_least a (abstract.implied_by bound).taken))) way ≡ Some b → b.proved ≤ℤ pos s.memory.length → IsLeast (abstract.least_of (bound way)) s.memory.length
+      least_holds : (way : Branch) (b : AbsState D) → state_after (next.Fork (Some (with_least a (abstract.implied_by bound).not_taken)) (Some (with_least a (abstract.implied_by bound).taken))) way ≡ Some b → b.proved ≤ℤ pos s.memory.length → IsLeast (abstract.least_of (bound way)) s.memory.length
       least_holds way b e le = least_within a (abstract.least_of (bound way)) s.memory.length (subst (λ (z : AbsState D). z.proved ≤ℤ pos s.memory.length) (sym (least_is way b e)) le)
 
       least_opens : (strict : IsMember Member Strict places a s) (least : Option ℤ) → IsLeast least s.memory.length → (b : AbsState D) → with_least a least ≡ b → (to : ℕ) → IsOpened Member places b s to

@@ -112,7 +112,7 @@ module _ {D : Type 0} (Member : D → ℕ → Type 0) (mode : Mode) (places : Pl
     tagged = memory_tagged s memory n p is member.tagged;
   }
 
-  -- slot and plan are nothing that is known
+  -- slot and plan are no part of the abstract state
   member_elsewhere : (n : ℕ) (p : Plan) → IsMember Member mode places a (record s { slot = n; plan = p })
   member_elsewhere n p = with_new_memory a.marks s.memory n p member.marks_count refl member.tagged.memory member.cells
 
@@ -143,7 +143,7 @@ module _ {D : Type 0} (Member : D → ℕ → Type 0) (mode : Mode) (places : Pl
 
   -- ---- bytes are stored
 
-  -- the cells of the stack behind a store
+  -- the cells of the stack after a store
   stored_cell : (i n : ℕ) (bytes : List ℕ) → i + n ≤ 512 → length bytes ≡ n → (k : ℕ) → k < 512 → IsCell mode (is_marked (marked a.marks i n) k) (slice_index_or (put i (map Some bytes) s.memory.stack) k None)
   stored_cell i n bytes le long k lt =
       let cells : List (Option ℕ) = map (λ (b : ℕ). Some b) bytes in

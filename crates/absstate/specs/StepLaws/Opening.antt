@@ -11,10 +11,10 @@ use Rattle.insn.specs.declared.instruction.Insn.{Insn}
 use Rattle.semantics.specs.Access.{written_at}
 use Rattle.semantics.specs.ContextLaws.{little_bytes_fit, length-little_bytes}
 use Rattle.semantics.specs.Kept.{IsProper}
-use Rattle.semantics.specs.Machine.{Memory, State, Surroundings}
+use Rattle.semantics.specs.Machine.{Memory, State, Environment}
 use Rattle.semantics.specs.Effects as effects
 use Rattle.semantics.specs.Slots.{fetch}
-use Rattle.semantics.specs.Runs.{Goes, AreReal, answered, plan_answer, with_window, with_destination, planned, applied, step, write_register}
+use Rattle.semantics.specs.Runs.{Goes, IsPossible, answered, plan_answer, with_window, with_destination, planned, applied, step, write_register}
 use Rattle.semantics.specs.declared.helper.Helper.TheVariants as helper
 use Rattle.semantics.specs.Flow.{flow_of, branch_slot}
 use Rattle.semantics.specs.Flow as flow
@@ -30,7 +30,7 @@ use Rattle.interval.specs.Domains.{Operations, AreSound, ArePrecise}
 use Rattle.absstate.specs.AbstractSteps as abstract
 use Rattle.absstate.specs.Membership.{Strict, Places, IsMember}
 use Rattle.absstate.specs.AbstractStates.{with_value, with_answer, with_out}
-use Rattle.absstate.specs.MemberSteps.{state_behind}
+use Rattle.absstate.specs.MemberSteps.{state_after}
 use Rattle.absstate.specs.declared.abstract_state.AbstractValue.{AbstractValue}
 use Rattle.absstate.specs.declared.memory.Region.{Region}
 use Rattle.absstate.specs.declared.memory.Region.TheVariants as regions
@@ -45,7 +45,7 @@ use Rattle.absstate.specs.StepLaws.Simulation.{IsEffectOf}
 use Rattle.absstate.specs.StepLaws.Following.{accepted_agree, step_is, straight_leads, jump_goes, branch_goes, size_written, size_answered, small_answer, asked_member, planned_member}
 
 -- the state that a step or a branch leads to, and its loosening, a strict member
-pub record Opens {D : Type 0} (Member : D → ℕ → Type 0) (w : Surroundings) (code : List Insn) (places : Places) (s : State) (slot : ℕ) (b : AbsState D) : Type 0 where
+pub record Opens {D : Type 0} (Member : D → ℕ → Type 0) (w : Environment) (code : List Insn) (places : Places) (s : State) (slot : ℕ) (b : AbsState D) : Type 0 where
   pub state : State
   pub goes : (step w code s ≡ Goes state) ⊎ ((branch : Branch) × TakesBranch w code s branch state)
   pub loosened : State
@@ -71,8 +71,8 @@ out_proved a x (Some i) = refl
 at_most : (x y : ℤ) → x ≡ y → x ≤ℤ y
 at_most x y e = omega (arith, ints)
 
-module _ {D : Type 0} (ops : Operations D) (Member : D → ℕ → Type 0) (sound : AreSound ops Member) (w : Surroundings) (code : List Insn) (places : Places) (a : AbsState D) (s : State) (member : IsMember Member Strict places a s) (i : Insn) (fit : Fits i) where
-  effect_rises : (answer : Next D) (e : Effect) → IsEffectOf ops Member sound Strict places a s i answer e → (branch : Branch) (b : AbsState D) → state_behind answer branch ≡ Some b → a.proved ≤ℤ b.proved
+module _ {D : Type 0} (ops : Operations D) (Member : D → ℕ → Type 0) (sound : AreSound ops Member) (w : Environment) (code : List Insn) (places : Places) (a : AbsState D) (s : State) (member : IsMember Member Strict places a s) (i : Insn) (fit : Fits i) where
+  effect_rises : (answer : Next D) (e : Effect) → IsEffectOf ops Member sound Strict places a s i answer e → (branch : Branch) (b : AbsState D) → state_after answer branch ≡ Some b → a.proved ≤ℤ b.proved
   effect_rises (next.On c) (effect.Write r v) is NotTaken b e = at_most a.proved b.proved (sym (ap (λ (x : AbsState D). x.proved) is.1) ∙ ap (λ (x : AbsState D). x.proved) (same_state c b e))
   effect_rises (next.On c) (effect.Jump offset) is NotTaken b e = at_most a.proved b.proved (sym (ap (λ (x : AbsState D). x.proved) is.0) ∙ ap (λ (x : AbsState D). x.proved) (same_state c b e))
   effect_rises (next.On c) (effect.Store at z n) is NotTaken b e = at_most a.proved b.proved (region_proved a (byte_count z) is.0 ∙ sym (ap (λ (x : AbsState D). x.proved) is.1) ∙ ap (λ (x : AbsState D). x.proved) (same_state c b e))
@@ -85,13 +85,13 @@ module _ {D : Type 0} (ops : Operations D) (Member : D → ℕ → Type 0) (soun
   effect_rises (next.Fork not_taken taken) o f branch b e = f.rises branch b e
   effect_rises next.Exit o is branch b e = absurd cc
 
-  module _ (real : AreReal w) (answer : Next D) (is : abstract.step ops a i ≡ Ok answer) where
-    -- behind an accepted step, no less is proved of the datagram's length
-    pub step_rises : (branch : Branch) (b : AbsState D) → state_behind answer branch ≡ Some b → a.proved ≤ℤ b.proved
+  module _ (real : IsPossible w) (answer : Next D) (is : abstract.step ops a i ≡ Ok answer) where
+    -- after an accepted step, no less is proved of the datagram's length
+    pub step_rises : (branch : Branch) (b : AbsState D) → state_after answer branch ≡ Some b → a.proved ≤ℤ b.proved
     step_rises branch b e = let agree = accepted_agree ops Member sound Strict places a s member w.context real.context i fit answer is in effect_rises answer agree.0 agree.2 branch b e
 
-  module _ (precise : ArePrecise ops Member) (real : AreReal w) (here : fetch code s.slot ≡ Begins i) where
-    -- the one state behind an instruction that doesn't fork
+  module _ (precise : ArePrecise ops Member) (real : IsPossible w) (here : fetch code s.slot ≡ Begins i) where
+    -- the one state after an instruction that doesn't fork
     straight_slot : (n : ℕ) → flow_of i ≡ flow.Straight → branch_slot code s.slot i NotTaken ≡ Ok n → s.slot + slots_of i ≡ n
     straight_slot n past leads = same_slot (s.slot + slots_of i) n (sym (straight_leads code s.slot i NotTaken past) ∙ leads)
 
@@ -141,7 +141,7 @@ module _ {D : Type 0} (ops : Operations D) (Member : D → ℕ → Type 0) (soun
       effect_opens (effect.Exit verdict) is goes = absurd is
 
     fork_opens : (not_taken taken : Option (AbsState D)) (e : Effect) → effects.effect w.context s.memory s.registers i ≡ Ok e → Forks ops Member sound Strict places a s i not_taken taken e
-        → (branch : Branch) (b : AbsState D) (n : ℕ) → state_behind (next.Fork not_taken taken) branch ≡ Some b → branch_slot code s.slot i branch ≡ Ok n → b.proved ≤ℤ pos s.memory.length → Opens Member w code places s n b
+        → (branch : Branch) (b : AbsState D) (n : ℕ) → state_after (next.Fork not_taken taken) branch ≡ Some b → branch_slot code s.slot i branch ≡ Ok n → b.proved ≤ℤ pos s.memory.length → Opens Member w code places s n b
     fork_opens not_taken taken e effect_is f branch b n behind leads le =
         let opened = f.opens precise refl branch b behind le n in
         record {
@@ -170,7 +170,7 @@ module _ {D : Type 0} (ops : Operations D) (Member : D → ℕ → Type 0) (soun
           member = opened.member;
         }
 
-    pub step_opens : (answer : Next D) → abstract.step ops a i ≡ Ok answer → (branch : Branch) (b : AbsState D) (n : ℕ) → state_behind answer branch ≡ Some b → branch_slot code s.slot i branch ≡ Ok n → b.proved ≤ℤ pos s.memory.length → Opens Member w code places s n b
+    pub step_opens : (answer : Next D) → abstract.step ops a i ≡ Ok answer → (branch : Branch) (b : AbsState D) (n : ℕ) → state_after answer branch ≡ Some b → branch_slot code s.slot i branch ≡ Ok n → b.proved ≤ℤ pos s.memory.length → Opens Member w code places s n b
     step_opens (next.On c) is NotTaken b n e leads le =
         let agree = accepted_agree ops Member sound Strict places a s member w.context real.context i fit (next.On c) is in
         effect_opens b n leads agree.0 (subst (λ (x : AbsState D). IsEffectOf ops Member sound Strict places a s i (next.On x) agree.0) (same_state c b e) agree.2) (step_is w code s i (Ok agree.0) here agree.1)

@@ -29,7 +29,7 @@ use Rattle.absstate.specs.declared.abstract_state.AbstractValue.{AbstractValue}
 use Rattle.absstate.specs.declared.abstract_state.AbstractValue.TheVariants as known
 use Rattle.absstate.specs.StepLaws.Agreement.{Agree}
 
--- like is a member of what is known, and both are held by something wider
+-- v is held by k over a short datagram, and otherwise differs from a held value (`like`) in a number at most
 pub record IsResult {D : Type 0} (Member : D → ℕ → Type 0) (places : Places) (length : ℕ) (k : AbstractValue D) (v : Value) : Type 0 where
   pub held : length ≤ MAX_DATAGRAM → IsHeld Member places k v
   pub like : Value

@@ -1,4 +1,4 @@
--- Internal. What every tagged state keeps: behind the changes of a step, and in a loosening by proper values.
+-- Internal. What every tagged state keeps: after the changes of a step, and in a loosening by proper values.
 use Rattle.std.proofs.Common.{◌≡◌, ℕ, List, sym, ◌∙◌, subst, arith}
 use Rattle.std.proofs.lemmas.List.{length-set, get_or-set_same}
 use Rattle.std.proofs.lemmas.List.Elements.{All-set}
@@ -10,8 +10,8 @@ use Rattle.semantics.specs.Effects.{value_at}
 use Rattle.semantics.specs.Kept.{IsMemory, IsProper, IsTagged}
 use Rattle.semantics.specs.KeptLaws.{in_eleven, step_keeps}
 use Rattle.semantics.specs.LooseRuns.{SameKind}
-use Rattle.semantics.specs.Machine.{Memory, State, Surroundings}
-use Rattle.semantics.specs.Runs.{Goes, AreReal, step, write_register}
+use Rattle.semantics.specs.Machine.{Memory, State, Environment}
+use Rattle.semantics.specs.Runs.{Goes, IsPossible, step, write_register}
 use Rattle.semantics.specs.Slots.{fetch}
 use Rattle.semantics.specs.declared.fetching.Fetched.TheVariants.{Begins}
 use Rattle.semantics.specs.declared.plan.Plan.{Plan}
@@ -35,7 +35,7 @@ pub memory_tagged : (s : State) (m : Memory) (slot : ℕ) (plan : Plan) → IsMe
 memory_tagged s m slot plan memory is = record { count = is.count; registers = is.registers; memory = memory }
 
 -- a step writes a proper value
-pub written_proper : (w : Surroundings) (code : List Insn) (s : State) (i : Insn) (r : Reg) (v : Value) (slot : ℕ) → AreReal w → fetch code s.slot ≡ Begins i → Fits i → IsTagged s
+pub written_proper : (w : Environment) (code : List Insn) (s : State) (i : Insn) (r : Reg) (v : Value) (slot : ℕ) → IsPossible w → fetch code s.slot ≡ Begins i → Fits i → IsTagged s
     → step w code s ≡ Goes (record s { slot = slot; registers = write_register s r v }) → IsProper v
 written_proper w code s i r v slot real here fit is goes =
     let next : State = record s { slot = slot; registers = write_register s r v } in

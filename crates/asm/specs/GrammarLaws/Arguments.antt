@@ -9,7 +9,7 @@ use Rattle.insn.specs.declared.instruction.Operand.{Operand}
 use Rattle.insn.specs.declared.instruction.Operand.TheVariants as operand
 use Rattle.asm.specs.Lines.{Token}
 use Rattle.asm.specs.Statements.{Name, IsNumber, IsSigned, IsInteger, Plain, Label, IsWritten, written}
-use Rattle.asm.specs.Reading.{Read, sign, word, register_named, named, numbered, register, name, number, signed_number, integer, register_or, operand_in, as_imm, Target, as_distance, name_or, target, Place, address}
+use Rattle.asm.specs.Reading.{Read, sign, word, register_named, named, numbered, register, name, number, signed_number, integer, register_or, operand_in, as_imm, Target, as_distance, name_or, target, MemoryOperand, address}
 use Rattle.asm.specs.GrammarLaws.Steps.{bound, mapped, onward}
 use Rattle.asm.specs.GrammarLaws.Words.{same_text, register_is_named, named_register, name_is_named, named_name}
 use Rattle.asm.specs.GrammarLaws.Numbers.{number_is_numbered, numbered_number, number_is_no_register, number_is_no_minus}
@@ -263,7 +263,7 @@ sign_taken s (t ∷ ts) rest e =
     ap (λ (u : Token). u ∷ ts) (same_text t s parts.0) ∙ ap (λ (us : List Token). s ∷ us) parts.1
 
 -- these tokens are an address
-abbrev pub SpellsAddress : Place → List Token → Type 0
+abbrev pub SpellsAddress : MemoryOperand → List Token → Type 0
 SpellsAddress p ts = IsWritten (Plain (Address p.base p.displacement)) ts
 
 -- the parts of an address, one behind the other
@@ -282,7 +282,7 @@ address_split ts opened base displacement closed first (front, named, is) (signe
     (codes "[" ∷ text ∷ signed ++ codes "]" ∷ [], whole, (signed, h, refl))
 
 -- an address that is read stands first
-address_taken : (ts : List Token) (r : Read Place) → address ts ≡ Some r → BeginsWith SpellsAddress ts r
+address_taken : (ts : List Token) (r : Read MemoryOperand) → address ts ≡ Some r → BeginsWith SpellsAddress ts r
 address_taken ts r e =
     let opened = bound (sign (codes "[") ts) _ r e in
     let base = bound (register opened.0) _ r opened.2 in
@@ -295,7 +295,7 @@ address_taken ts r e =
     (sign_taken (codes "]") displacement.0.rest closed.0 closed.1))
 
 -- an address that stands first is read
-address_given : (p : Place) (front rest : List Token) → SpellsAddress p front → address (front ++ rest) ≡ before p rest
+address_given : (p : MemoryOperand) (front rest : List Token) → SpellsAddress p front → address (front ++ rest) ≡ before p rest
 address_given p front rest (signed, h, is) =
     let text : Token = register_name p.base in
     let behind : List Token = (signed ++ codes "]" ∷ []) ++ rest in

@@ -16,7 +16,7 @@ use Rattle.asm.specs.declared.mnemonic.Mnemonic.{Mnemonic}
 use Rattle.asm.specs.declared.mnemonic.Mnemonic.TheVariants.{Alu, Mov, Neg, SignExtend, Swap, Jump, LongJump, JumpIf, Load, LoadSigned, StoreImm, StoreReg, LoadImm, Call, Exit}
 use Rattle.asm.specs.Lines.{Token}
 use Rattle.asm.specs.Statements.{Name, Written, Plain, AreWritten, written, IsUnlinked, Statement, Instruction}
-use Rattle.asm.specs.Reading.{Read, ◌>>=◌, end, register, number, integer, operand_in, Target, target, Place, address, name_of, only_goal, one, jump, jump_if, store_imm, store_register, exit, instruction}
+use Rattle.asm.specs.Reading.{Read, ◌>>=◌, end, register, number, integer, operand_in, Target, target, MemoryOperand, address, name_of, only_goal, one, jump, jump_if, store_imm, store_register, exit, instruction}
 use Rattle.asm.specs.GrammarLaws.Steps.{bound, onward}
 use Rattle.asm.specs.GrammarLaws.Arguments.{register_reads, number_reads, integer_reads, operand_reads, target_reads, address_reads, SpellsTarget}
 use Rattle.asm.specs.GrammarLaws.Shapes.{last, last_taken, last_given, pair, pair_taken, pair_given, with_comma, comma_taken, comma_given, comma_first, made_last, no_more}
@@ -70,15 +70,15 @@ abbrev two_registers_of : (Reg → Reg → Insn) → Reg → Reg → Statement
 two_registers_of make dst src = Instruction (make dst src) None
 
 -- of a register and an address
-abbrev load_of : (Reg → Reg → ℤ → Insn) → Reg → Place → Statement
+abbrev load_of : (Reg → Reg → ℤ → Insn) → Reg → MemoryOperand → Statement
 load_of make dst p = Instruction (make dst p.base p.displacement) None
 
 -- of an address and a number
-abbrev store_imm_of : Size → Place → ℤ → Statement
+abbrev store_imm_of : Size → MemoryOperand → ℤ → Statement
 store_imm_of size p n = Instruction (insn.Store size p.base (operand.Imm n) p.displacement) None
 
 -- of an address and a register
-abbrev store_register_of : Size → Place → Reg → Statement
+abbrev store_register_of : Size → MemoryOperand → Reg → Statement
 store_register_of size p src = Instruction (insn.Store size p.base (operand.Reg src) p.displacement) None
 
 -- of a register and a number
@@ -242,8 +242,8 @@ instruction_taken Exit ts s e = exit_taken ts s e
 -- ---- from an instruction to the tokens
 
 -- a register and a displacement
-abbrev place_at : Reg → ℤ → Place
-place_at base displacement = record { base = base; displacement = displacement }
+abbrev memory_operand : Reg → ℤ → MemoryOperand
+memory_operand base displacement = record { base = base; displacement = displacement }
 
 -- a distance, and perhaps a label
 abbrev target_at : ℤ → Option Name → Target
@@ -269,16 +269,16 @@ instruction_given (insn.SignExtend x dst src) None ts h =
 instruction_given (insn.Swap op size dst) None ts h =
     one_is (insn.Swap op size) ts ∙ last_given register register_reads (one_of (insn.Swap op size)) dst ts h.1
 instruction_given (insn.Load size dst base displacement) None ts h =
-    let at = place_at base displacement in
+    let at = memory_operand base displacement in
     pair_given register address register_reads address_reads (load_of (insn.Load size)) dst at ts h.1
 instruction_given (insn.LoadSigned size dst base displacement) None ts h =
-    let at = place_at base displacement in
+    let at = memory_operand base displacement in
     pair_given register address register_reads address_reads (load_of (insn.LoadSigned size)) dst at ts h.1
 instruction_given (insn.Store size base (operand.Imm n) displacement) None ts h =
-    let at = place_at base displacement in
+    let at = memory_operand base displacement in
     store_imm_is size ts ∙ pair_given address integer address_reads integer_reads (store_imm_of size) at n ts h.1
 instruction_given (insn.Store size base (operand.Reg r) displacement) None ts h =
-    let at = place_at base displacement in
+    let at = memory_operand base displacement in
     store_register_is size ts
     ∙ pair_given address register address_reads register_reads (store_register_of size) at r ts h.1
 instruction_given (insn.LoadImm dst value) None ts h =

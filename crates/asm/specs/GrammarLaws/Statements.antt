@@ -18,7 +18,7 @@ use Rattle.asm.specs.GrammarLaws.StatementTokens.{AreOfArguments, arguments_toke
 
 -- ---- from the tokens to what they say
 
--- an instruction that is read is said
+-- an instruction that is read is one that the tokens spell
 statement_taken : (t : Token) (ts : List Token) (s : Statement) → statement t ts ≡ Some s → Says (Some s) (t ∷ ts)
 statement_taken t ts s e =
     let m = bound (mnemonic_named t) _ s e in
@@ -28,7 +28,7 @@ statement_taken t ts s e =
     record { unlinked = found.4.0; rest = ts; begun = ap (λ (u : Token). u ∷ ts) name; written = found.4.1 } in
     subst (λ (x : Statement). Says (Some x) (t ∷ ts)) (sym found.2) is
 
--- a label that is read is said
+-- a label that is read is one that the tokens spell
 label_taken : (t : Token) (ts rest : List Token) (s : Statement) → ts ≡ codes ":" ∷ rest → label t rest ≡ Some s
     → Says (Some s) (t ∷ ts)
 label_taken t ts rest s colon e =
@@ -61,7 +61,7 @@ no_label : (ts : List Token) → AreOfArguments ts → sign (codes ":") ts ≡ N
 no_label [] h = refl
 no_label (t ∷ ts) h = cond-false (bytes_eq t (codes ":")) (Some ts) None h.0.1
 
--- an instruction that is said is read
+-- an instruction that the tokens spell is read
 statement_given : (i : Insn) (target : Option Name) (ts : List Token) (h : IsInstruction i target ts)
     → statement (mnemonic i) h.rest ≡ Some (Instruction i target)
 statement_given i target ts h =

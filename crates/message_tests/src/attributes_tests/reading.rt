@@ -45,19 +45,31 @@ fn malformed_addresses_are_refused(rt: HostRuntime) {
 }
 
 #[test]
-fn numbers_are_read(rt: HostRuntime) {
+fn lifetimes_are_read(rt: HostRuntime) {
     assert_eq!(rt; lifetime(&[0, 0, 0x02, 0x58]), Ok(600));
     assert_eq!(rt; lifetime(&[0, 0, 2]), Err(BadValue(ValueKind::Lifetime)));
+}
+
+#[test]
+fn channel_numbers_are_read(rt: HostRuntime) {
     assert_eq!(rt; channel_number(&[0x40, 0x01, 0xff, 0xff]), Ok(0x4001));
     assert_eq!(rt;
         channel_number(&[0x40, 0x01]),
         Err(BadValue(ValueKind::ChannelNumber))
     );
+}
+
+#[test]
+fn transports_are_read(rt: HostRuntime) {
     assert_eq!(rt; requested_transport(&[17, 1, 2, 3]), Ok(17));
     assert_eq!(rt;
         requested_transport(&[17]),
         Err(BadValue(ValueKind::RequestedTransport))
     );
+}
+
+#[test]
+fn families_are_read(rt: HostRuntime) {
     assert_eq!(rt; requested_family(&[3, 0, 0, 0]), Ok(3));
     assert_eq!(rt;
         requested_family(&[1, 0, 0, 0, 0]),

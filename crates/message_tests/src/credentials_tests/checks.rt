@@ -2,6 +2,7 @@
 
 use crate::stun_tests::samples::LONG_TERM_REQUEST;
 use credentials::{AuthError, Key, User, authenticate, check, sign};
+use std::process::Abort;
 use std::test::Fail;
 use stun::registry::attribute::{MESSAGE_INTEGRITY, NONCE as NONCE_TYPE, REALM, USERNAME};
 use stun::{Builder, NoRoom, read};
@@ -17,42 +18,83 @@ fn user(rt: &HostRuntime, name: &str, password: &str) -> Result<User, Fail> {
     })
 }
 
+/// A realm, a user and a nonce that the sample request is checked against, and the result.
+#[derive(Clone, Copy)]
+struct Sample {
+    realm: &'static str,
+    name: &'static str,
+    password: &'static str,
+    nonce: &'static str,
+    want: Result<usize, AuthError>,
+}
+
+static SAMPLES: [Sample; 5] = [
+    Sample {
+        realm: "example.org",
+        name: "マトリックス",
+        password: "TheMatrIX",
+        nonce: NONCE,
+        want: Ok(1),
+    },
+    Sample {
+        realm: "example.com",
+        name: "マトリックス",
+        password: "TheMatrIX",
+        nonce: NONCE,
+        want: Err(AuthError::WrongCode),
+    },
+    Sample {
+        realm: "example.org",
+        name: "マトリックス",
+        password: "themat",
+        nonce: NONCE,
+        want: Err(AuthError::WrongCode),
+    },
+    Sample {
+        realm: "example.org",
+        name: "another",
+        password: "TheMatrIX",
+        nonce: NONCE,
+        want: Err(AuthError::UnknownUser),
+    },
+    Sample {
+        realm: "example.org",
+        name: "another",
+        password: "TheMatrIX",
+        nonce: "n1",
+        want: Err(AuthError::StaleNonce),
+    },
+];
+
+/// Checks the sample request against the user of a row, behind another user.
+fn sample_result(rt: &HostRuntime, sample: &Sample) -> Result<Result<usize, AuthError>, Fail> {
+    let message = read(&LONG_TERM_REQUEST)?;
+    let users = [
+        user(rt, "other", "word")?,
+        user(rt, sample.name, sample.password)?,
+    ];
+    Ok(check(&message, sample.realm, &users, sample.nonce))
+}
+
 #[test]
 fn the_sample_request_is_checked(rt: HostRuntime) -> Result<(), Fail> {
+    for sample in SAMPLES.iter() {
+        assert_eq!(rt; sample_result(&rt, sample)?, sample.want);
+    }
+    Ok(())
+}
+
+#[test]
+fn the_sample_request_has_its_key(rt: HostRuntime) -> Result<(), Fail> {
     let message = read(&LONG_TERM_REQUEST)?;
-    let other = [user(&rt, "other", "TheMatrIX")?];
-    let wrong = [user(&rt, "マトリックス", "themat")?];
-    let users = [
-        user(&rt, "other", "word")?,
-        user(&rt, "マトリックス", "TheMatrIX")?,
-    ];
-    assert_eq!(rt; check(&message, "example.org", &users, NONCE), Ok(1));
-    assert_eq!(rt;
-        check(&message, "example.com", &users, NONCE),
-        Err(AuthError::WrongCode)
-    );
-    assert_eq!(rt;
-        check(&message, "example.org", &wrong, NONCE),
-        Err(AuthError::WrongCode)
-    );
-    assert_eq!(rt;
-        check(&message, "example.org", &other, NONCE),
-        Err(AuthError::UnknownUser)
-    );
-    assert_eq!(rt;
-        check(&message, "example.org", &other, "n1"),
-        Err(AuthError::StaleNonce)
-    );
+    let users = [user(&rt, "マトリックス", "TheMatrIX")?];
     let authenticated = authenticate(&message, "example.org", &users, NONCE)?;
-    assert_eq!(rt; authenticated.user, 1);
     // MD5 of the user, the realm and the password, with colons between them
-    assert_eq!(rt;
-        *authenticated.key.bytes(),
-        [
-            0xe8, 0xca, 0x7a, 0xd5, 0x9d, 0x5e, 0xb0, 0x51, 0x8e, 0x31, 0x29, 0x11, 0xd2, 0xda,
-            0xb2, 0xa9,
-        ]
-    );
+    let key = [
+        0xe8, 0xca, 0x7a, 0xd5, 0x9d, 0x5e, 0xb0, 0x51, 0x8e, 0x31, 0x29, 0x11, 0xd2, 0xda, 0xb2,
+        0xa9,
+    ];
+    assert_eq!(rt; *authenticated.key.bytes(), key);
     Ok(())
 }
 
@@ -155,7 +197,7 @@ struct Case {
     want: Result<usize, AuthError>,
 }
 
-const CASES: [Case; 21] = [
+static CASES: [Case; 21] = [
     Case {
         before: &[USER, RELAY, FRESH],
         code: Code::Signed,
@@ -333,15 +375,24 @@ fn written(buffer: &mut [u8], case: &Case) -> Result<usize, Fail> {
     Ok(builder.finish())
 }
 
+/// Checks the message of a case.
+fn result_of<R: Abort>(
+    rt: &R,
+    case: &Case,
+    users: &[User],
+) -> Result<Result<usize, AuthError>, Fail> {
+    let mut buffer = [0; 200];
+    let n = written(&mut buffer, case)?;
+    assert!(rt; n <= buffer.len());
+    let message = read(&buffer[..n])?;
+    Ok(check(&message, "relay", users, "n1"))
+}
+
 #[test]
 fn the_first_test_that_fails_is_answered(rt: HostRuntime) -> Result<(), Fail> {
     let users = [user(&rt, "user", "pass")?, user(&rt, "user", "word")?];
-    for case in CASES {
-        let mut buffer = [0; 200];
-        let n = written(&mut buffer, &case)?;
-        assert!(rt; n <= buffer.len());
-        let message = read(&buffer[..n])?;
-        assert_eq!(rt; check(&message, "relay", &users, "n1"), case.want);
+    for case in CASES.iter() {
+        assert_eq!(rt; result_of(&rt, case, &users)?, case.want);
     }
     Ok(())
 }

@@ -13,12 +13,14 @@ use super::{
 use insn::Insn;
 use loader::load;
 use machine::{
-    Addr, Frame, Helpers, KEPT, Kept, MAX_DATAGRAM, NoAllocation, Outcome, Silent, Sink, run, trace,
+    Addr, Context, Frame, Helpers, KEPT, Kept, MAX_DATAGRAM, NoAllocation, Outcome, Silent, Sink,
+    run, trace,
 };
 use report::Ask;
 use std::alloc::Global;
 use std::process::Abort;
 use std::test::Fail;
+use verifier::Verified;
 
 static TRACED: [Traced; 24] = [
     Traced {
@@ -348,6 +350,48 @@ fn seeded(alloc: Global, seed: u64, count: usize) -> Result<Vec<u8>, Fail> {
     Ok(bytes)
 }
 
+/// The seeds of datagrams, their lengths, and where they come from.
+static SEEDED: [(u64, usize, Context); 12] = [
+    (1, 0, CLIENT),
+    (2, 1, PEER),
+    (3, 1, CLIENT),
+    (4, 3, PEER),
+    (5, 4, CLIENT),
+    (6, 4, PEER),
+    (7, 5, CLIENT),
+    (8, 20, CLIENT),
+    (9, 20, PEER),
+    (10, 1472, CLIENT),
+    (11, 65_507, PEER),
+    (12, 65_507, CLIENT),
+];
+
+/// Runs and traces a program over a datagram, and compares how the two end.
+fn expect_same_end<R: Abort>(
+    rt: &R,
+    program: &Verified,
+    context: &Context,
+    datagram: &[u8],
+    ran: &mut Frame,
+    traced: &mut Frame,
+)
+    requires { length datagram.now ≤ 65507 }
+{
+    start_on(ran, context, datagram);
+    start_on(traced, context, datagram);
+    let outcome = run(program, ran, &NoAllocation);
+    let ended = trace(program.code(), traced, &NoAllocation, &mut Silent);
+    assert_eq!(rt; ended, Ok(outcome));
+}
+
+/// Compares what two frames show after a run and a trace over datagrams of a length.
+fn expect_same_frames<R: Abort>(rt: &R, ran: &Frame, traced: &Frame, count: usize) {
+    assert_eq!(rt; ran.datagram().len(), count);
+    assert_eq!(rt; traced.datagram(), ran.datagram());
+    assert_eq!(rt; traced.window(), ran.window());
+    assert_eq!(rt; traced.started(), ran.started());
+}
+
 /// Runs and traces a program over seeded datagrams from either side, each in a frame of its own, and compares
 /// the two.
 fn agree<R: Abort + AllocGlobal>(
@@ -358,32 +402,11 @@ fn agree<R: Abort + AllocGlobal>(
 ) -> Result<(), Fail> {
     let file = program(rt, slots)?;
     let loaded = load(rt.alloc(), &file)?;
-    let code = loaded.program().code();
-    for (seed, count, context) in [
-        (1, 0, CLIENT),
-        (2, 1, PEER),
-        (3, 1, CLIENT),
-        (4, 3, PEER),
-        (5, 4, CLIENT),
-        (6, 4, PEER),
-        (7, 5, CLIENT),
-        (8, 20, CLIENT),
-        (9, 20, PEER),
-        (10, 1472, CLIENT),
-        (11, 65_507, PEER),
-        (12, 65_507, CLIENT),
-    ] {
-        let datagram = seeded(rt.alloc(), seed, count)?;
+    for (seed, count, context) in SEEDED.iter() {
+        let datagram = seeded(rt.alloc(), *seed, *count)?;
         assert!(rt; datagram.len() <= MAX_DATAGRAM);
-        start_on(ran, &context, &datagram);
-        start_on(traced, &context, &datagram);
-        let outcome = run(loaded.program(), ran, &NoAllocation);
-        let ended = trace(code, traced, &NoAllocation, &mut Silent);
-        assert_eq!(rt; ended, Ok(outcome), "{slots} {seed}");
-        assert_eq!(rt; ran.datagram().len(), count, "{slots} {seed}");
-        assert_eq!(rt; traced.datagram(), ran.datagram(), "{slots} {seed}");
-        assert_eq!(rt; traced.window(), ran.window(), "{slots} {seed}");
-        assert_eq!(rt; traced.started(), ran.started(), "{slots} {seed}");
+        expect_same_end(rt, loaded.program(), context, &datagram, ran, traced);
+        expect_same_frames(rt, ran, traced, *count);
     }
     Ok(())
 }

@@ -382,6 +382,7 @@ fn a_failing_output_is_reported(rt: HostRuntime) -> Result<(), Fail> {
     let hex = None;
     expect_failures(&rt, Ask::Verify, &file, ROOMS.as_slice());
     expect_failures(&rt, Ask::Trace { hex }, &file, ROOMS.as_slice());
+    expect_failures(&rt, Ask::Disassemble, &file, ROOMS.as_slice());
     // a line that cannot be printed changes no status
     let hex = Some("0");
     assert_eq!(rt; status_without_a_line(&rt, Ask::Verify, &file, 0), 3);

@@ -4,7 +4,7 @@ use Rattle.tables.specs.Rows.{rows_at}
 use Rattle.tables.specs.PermitLaws.{StandsFor}
 use Rattle.control.specs.Control.{Gives, create_permission}
 use Rattle.control.specs.Peers.{peers_of}
-use Rattle.control.proofs.Outcomes.{permit_gives}
+use Rattle.control.proofs.Decisions.{permit_gives}
 use Rattle.control.proofs.create_permission.create_permission.Goals as goal
 
 pub returns-in-Ok-clause-gives : goal.returns-in-Ok-clause-gives

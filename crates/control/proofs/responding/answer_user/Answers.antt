@@ -4,7 +4,7 @@ use Rattle.credentials.specs.Checks.{names_of, user_key}
 use Rattle.tables.specs.Rows.{rows_at}
 use Rattle.control.specs.Control.{understood_and_served}
 use Rattle.control.specs.Replies.{reply_to}
-use Rattle.control.proofs.Outcomes.{rows_given, grant_given}
+use Rattle.control.proofs.Decisions.{rows_given, grant_given}
 use Rattle.control.proofs.responding.answer_user.Goals as goal
 
 pub returns-in-Ok-clause-answer : goal.returns-in-Ok-clause-answer
@@ -19,11 +19,11 @@ returns-in-Ok-clause-answer c =
       checked = Ok user;
       is_checked = c.in-Ok.ensures.found;
       answer = record {
-        rows = rows_given served old c.serve-outcome.new.tables c.serve-outcome.result c.serve-outcome.ensures.gives;
+        rows = rows_given served old c.serve-decision.new.tables c.serve-decision.result c.serve-decision.ensures.gives;
         bytes =
             c.write_reply.ensures.bytes
-            ∙ ap (λ k. parts_bytes (reply_to config c.args.request c.args.client p (Some k) c.serve-outcome.result)) c.in-Ok.ensures.key
-            ∙ ap (λ result. parts_bytes (reply_to config c.args.request c.args.client p (Some key) result)) (grant_given served old c.serve-outcome.new.tables c.serve-outcome.result c.serve-outcome.ensures.gives);
+            ∙ ap (λ k. parts_bytes (reply_to config c.args.request c.args.client p (Some k) c.serve-decision.result)) c.in-Ok.ensures.key
+            ∙ ap (λ result. parts_bytes (reply_to config c.args.request c.args.client p (Some key) result)) (grant_given served old c.serve-decision.new.tables c.serve-decision.result c.serve-decision.ensures.gives);
       };
     }
 

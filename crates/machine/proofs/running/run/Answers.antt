@@ -2,21 +2,21 @@ use Rattle.std.proofs.Common.{◌≡◌, ◌≤◌, List, length, sym, ap, ◌�
 use Rattle.insn.specs.declared.instruction.Insn.{Insn}
 use Rattle.semantics.specs.Runs.{Run, IsSafe}
 use Rattle.machine.specs.Contents.{datagram_of}
-use Rattle.machine.specs.Tracing.{IsOutcome, surroundings_of, safe_run_of, left_by}
+use Rattle.machine.specs.Tracing.{IsOutcome, environment_of, safe_run_of, left_by}
 use Rattle.machine.proofs.SafeRuns.{no_step_past, never_stuck, few_steps}
 use Rattle.machine.proofs.running.run.Goals as goal
 
 pub unreachable-requires : goal.unreachable-requires
 unreachable-requires g c =
     let walked = c.in-Err.ensures in
-    let w = surroundings_of c.args.frame.now (g.H.Helpers.answers c.args.helpers.now) in
+    let w = environment_of c.args.frame.now (g.H.Helpers.answers c.args.helpers.now) in
     never_stuck w c.code.result.now (datagram_of c.args.frame.now) c.in-Err.field-0.reason c.in-Err.field-0.slot (subst IsSafe (sym c.code.ensures.code) c.code.ensures.safe) (record { context = walked.context; helpers = g.H.Helpers.lawful c.args.helpers.now }) walked.datagram walked.run.ending
 
 pub returns-clause-outcome : goal.returns-clause-outcome
 returns-clause-outcome g c =
     let walked = c.in-Ok.ensures in
     let answers = g.H.Helpers.answers c.args.helpers.now in
-    let w = surroundings_of c.args.frame.now answers in
+    let w = environment_of c.args.frame.now answers in
     let safe : IsSafe c.code.result.now = subst IsSafe (sym c.code.ensures.code) c.code.ensures.safe in
     let same = no_step_past w c.code.result.now (datagram_of c.args.frame.now) safe (record { context = walked.context; helpers = g.H.Helpers.lawful c.args.helpers.now }) walked.datagram in
     subst (λ (code : List Insn). IsOutcome c.in-Ok.outcome (safe_run_of code c.args.frame.now answers)) c.code.ensures.code
@@ -25,7 +25,7 @@ returns-clause-outcome g c =
 pub returns-clause-steps : goal.returns-clause-steps
 returns-clause-steps g c =
     let walked = c.in-Ok.ensures in
-    let w = surroundings_of c.args.frame.now (g.H.Helpers.answers c.args.helpers.now) in
+    let w = environment_of c.args.frame.now (g.H.Helpers.answers c.args.helpers.now) in
     let safe : IsSafe c.code.result.now = subst IsSafe (sym c.code.ensures.code) c.code.ensures.safe in
     let same = no_step_past w c.code.result.now (datagram_of c.args.frame.now) safe (record { context = walked.context; helpers = g.H.Helpers.lawful c.args.helpers.now }) walked.datagram in
     subst (λ (code : List Insn). c.in-Ok.outcome.steps ≤ length code) c.code.ensures.code
@@ -35,7 +35,7 @@ pub returns-clause-left : goal.returns-clause-left
 returns-clause-left g c =
     let walked = c.in-Ok.ensures in
     let answers = g.H.Helpers.answers c.args.helpers.now in
-    let w = surroundings_of c.args.frame.now answers in
+    let w = environment_of c.args.frame.now answers in
     let safe : IsSafe c.code.result.now = subst IsSafe (sym c.code.ensures.code) c.code.ensures.safe in
     let same = no_step_past w c.code.result.now (datagram_of c.args.frame.now) safe (record { context = walked.context; helpers = g.H.Helpers.lawful c.args.helpers.now }) walked.datagram in
     subst (λ (code : List Insn). c.execute_frame.new.frame ≡ left_by c.args.frame.now (safe_run_of code c.args.frame.now answers)) c.code.ensures.code

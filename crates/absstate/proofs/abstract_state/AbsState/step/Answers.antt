@@ -5,5 +5,5 @@ use Rattle.absstate.proofs.abstract_state.AbsState.step.Goals as goal
 
 pub returns-clause-members : goal.returns-clause-members
 returns-clause-members g c =
-    let is : Ok c.behind.result ≡ step g.D.Domain.ops c.args.self.now c.args.insn.now = search rules in
-    followed g.D.Domain.ops g.D.Domain.Member g.met.D.Domain.laws c.args.self.now c.args.insn.now c.effect_of.ensures.fits (Ok c.behind.result) is
+    let is : Ok c.after.result ≡ step g.D.Domain.ops c.args.self.now c.args.insn.now = search rules in
+    followed g.D.Domain.ops g.D.Domain.Member g.met.D.Domain.laws c.args.self.now c.args.insn.now c.transition_of.ensures.fits (Ok c.after.result) is

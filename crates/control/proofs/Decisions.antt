@@ -1,4 +1,4 @@
--- Outcomes: what they grant, and the rows behind them.
+-- Decisions: what they grant, and the rows behind them.
 use Rattle.std.proofs.Common.{◌≡◌, ℕ, true, List, [], ◌∷◌, Some, None, Result, Ok, Err, is_ok, true≢false, sym, ap, ◌∙◌, refl, subst}
 use Rattle.std.specs.List.{list_all}
 use Rattle.stun.specs.Attributes.{values_of}
@@ -12,7 +12,7 @@ use Rattle.tables.specs.PermitLaws.{StandsFor, permit_alike}
 use Rattle.tables.specs.Rows.{Rows}
 use Rattle.tables.specs.declared.allocation.Allocation.{Allocation}
 use Rattle.tables.specs.declared.refusal.Refused.{Refused}
-use Rattle.control.specs.Control.{◌>>=◌, check, changed, error_of, Outcome, Gives, own_allocation, peers_in, are_ipv4, addresses_in, some_addresses, create_permission}
+use Rattle.control.specs.Control.{◌>>=◌, check, changed, error_of, Decision, Gives, own_allocation, peers_in, are_ipv4, addresses_in, some_addresses, create_permission}
 use Rattle.control.specs.Peers.{peers_of}
 use Rattle.control.specs.Values.{is_ipv4}
 use Rattle.control.specs.Responding.{granted, rows_of}
@@ -21,13 +21,13 @@ use Rattle.control.specs.declared.reply.Grant.TheVariants.{Done}
 use Rattle.control.proofs.Peers.{all_read}
 
 -- a change that answers nothing more
-abbrev pub done : Change (Unit {0}) → Outcome
+abbrev pub done : Change (Unit {0}) → Decision
 done x = changed x >>= λ made. Ok (Done, made.1)
 
-abbrev pub permit_all : Allocation → Rows → List Addr → Outcome
+abbrev pub permit_all : Allocation → Rows → List Addr → Decision
 permit_all a rows peers = check (list_all is_ipv4 peers) PeerAddressFamilyMismatch >>= λ _. done (permit a.slot peers rows)
 
-abbrev pub permit_for : Parts → Rows → Allocation → Outcome
+abbrev pub permit_for : Parts → Rows → Allocation → Decision
 permit_for p rows a = peers_in p >>= permit_all a rows
 
 abbrev err_or : {A E : Type 0} → E → Result A E → E
@@ -47,11 +47,11 @@ same_Err d e is = ap (λ r. err_or d r) is
 same_Ok : {A E : Type 0} (x y : A) → ◌≡◌ {A = Result A E} (Ok x) (Ok y) → x ≡ y
 same_Ok x y is = ap (λ r. ok_or_else x r) is
 
-pub rows_given : (x : Outcome) (old new : Rows) (result : Result Grant ErrorCode) → Gives x old result new → new ≡ rows_of old x
+pub rows_given : (x : Decision) (old new : Rows) (result : Result Grant ErrorCode) → Gives x old result new → new ≡ rows_of old x
 rows_given (Ok given) old new result h = h.1
 rows_given (Err error) old new result h = h.1
 
-pub grant_given : (x : Outcome) (old new : Rows) (result : Result Grant ErrorCode) → Gives x old result new → result ≡ granted x
+pub grant_given : (x : Decision) (old new : Rows) (result : Result Grant ErrorCode) → Gives x old result new → result ≡ granted x
 grant_given (Ok given) old new result h = h.0
 grant_given (Err error) old new result h = h.0
 
@@ -83,4 +83,4 @@ pub permit_gives : (client : Addr) (user : ℕ) (p : Parts) (rows : Rows) (a : A
 permit_gives client user p rows a few old new result own ipv4 stands follows =
     let same = create_permission-is client user p rows a own ipv4 ∙ ap done (sym (permit_alike few (peers_of p) stands a.slot rows)) in
     let given = gives_change (permit a.slot few rows) old new result follows in
-    ((λ u is. subst (λ (x : Outcome). Gives x old (Ok Done) new) (sym same) (given.0 u is)), λ e is. subst (λ (x : Outcome). Gives x old (Err (error_of e)) new) (sym same) (given.1 e is))
+    ((λ u is. subst (λ (x : Decision). Gives x old (Ok Done) new) (sym same) (given.0 u is)), λ e is. subst (λ (x : Decision). Gives x old (Err (error_of e)) new) (sym same) (given.1 e is))

@@ -2,7 +2,7 @@ use Rattle.std.proofs.Common.{sym, subst, rules}
 use Rattle.std.specs.Prelude.{FitsSigned}
 use Rattle.std.specs.Int.{w16}
 use Rattle.insn.specs.Encoding.{OperandFits, Fits}
-use Rattle.absstate.proofs.abstract_step.effect_of.Goals as goal
+use Rattle.absstate.proofs.abstract_step.transition_of.Goals as goal
 
 pub returns-in-JumpIf-clause-fits : goal.returns-in-JumpIf-clause-fits
 returns-in-JumpIf-clause-fits g c =
