@@ -34,8 +34,8 @@ use Rattle.semantics.specs.LooseRuns.{Bound, AtMost, Below, data_bound, exchange
 use Rattle.semantics.specs.declared.fetching.Branch.{Branch}
 use Rattle.semantics.specs.declared.fetching.Branch.TheVariants.{NotTaken, Taken}
 use Rattle.semantics.specs.declared.limits.TheConstants.{MAX_DATAGRAM, STACK_BYTES, TAILROOM}
-use Rattle.semantics.specs.declared.loading.Field.{Field}
-use Rattle.semantics.specs.declared.loading.Field.TheVariants as field
+use Rattle.semantics.specs.declared.loading.ContextField.{ContextField}
+use Rattle.semantics.specs.declared.loading.ContextField.TheVariants as field
 use Rattle.semantics.specs.declared.reason.Reason.{Reason}
 use Rattle.semantics.specs.declared.reason.Reason.TheVariants.{UninitRegister, UninitStack, StackBounds, ContextAccess, DatagramBounds, PointerArithmetic, PointerCompare, PointerStored, UnknownHelper, HelperArgument, ExitNotScalar, NotAPointer}
 use Rattle.interval.specs.Domains.{Operations}
@@ -241,7 +241,7 @@ abbrev pub number_of_size : {D : Type 0} → Operations D → Size → D
 number_of_size ops z = ops.range 0 (256 ^ byte_count z - 1)
 
 -- the fields of the context record: a datagram has at most 65,507 bytes, and a side is 0 or 1
-abbrev pub field_known : {D : Type 0} → Operations D → Field → AbstractValue D
+abbrev pub field_known : {D : Type 0} → Operations D → ContextField → AbstractValue D
 field_known ops field.Datagram = Data First (pos 0)
 field_known ops field.End = End
 field_known ops field.Length = Scalar (ops.range 0 MAX_DATAGRAM)

@@ -10,7 +10,7 @@ use crate::change::Transition;
 use crate::memory::{Region, locate};
 use insn::{Reg, SignedSize, Size};
 use interval::Domain;
-use semantics::{Field, MAX_DATAGRAM, Reason, field_at};
+use semantics::{ContextField, MAX_DATAGRAM, Reason, field_at};
 
 /// Returns the abstract number of all numbers of a size.
 fn number_of_size<D: Domain>(size: Size) -> D
@@ -26,19 +26,21 @@ fn number_of_size<D: Domain>(size: Size) -> D
 
 /// Returns what is known of a field of the context record.
 /// See docs/DECISIONS.md, "The length of a datagram".
-fn field_known<D: Domain>(field: Field) -> AbstractValue<D>
+fn field_known<D: Domain>(field: ContextField) -> AbstractValue<D>
     ensures { result ≡ field_known D.ops field }
 {
     match field {
-        Field::Datagram => AbstractValue::Data {
+        ContextField::Datagram => AbstractValue::Data {
             anchor: Anchor::First,
             offset: 0,
         },
-        Field::End => AbstractValue::End,
-        Field::Length => AbstractValue::Scalar(D::range(0, MAX_DATAGRAM as u64)),
-        Field::Source | Field::IdHead => AbstractValue::Scalar(number_of_size(Size::Double)),
-        Field::IdTail => AbstractValue::Scalar(number_of_size(Size::Word)),
-        Field::Side => AbstractValue::Scalar(D::range(0, 1)),
+        ContextField::End => AbstractValue::End,
+        ContextField::Length => AbstractValue::Scalar(D::range(0, MAX_DATAGRAM as u64)),
+        ContextField::Source | ContextField::IdHead => AbstractValue::Scalar(number_of_size(
+            Size::Double,
+        )),
+        ContextField::IdTail => AbstractValue::Scalar(number_of_size(Size::Word)),
+        ContextField::Side => AbstractValue::Scalar(D::range(0, 1)),
     }
 }
 

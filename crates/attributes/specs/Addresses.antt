@@ -70,5 +70,5 @@ unfoldable pub address_value : Addr → List ℕ → List ℕ
 address_value address transaction_id = 0 ∷ address_tail address transaction_id
 
 -- the value under the transaction id of a builder's message
-abbrev pub value_in : Builder → Addr → List ℕ
-value_in builder address = address_value address (parts_of builder).transaction_id
+abbrev pub address_value_in : Builder → Addr → List ℕ
+address_value_in builder address = address_value address (parts_of builder).transaction_id

@@ -10,5 +10,5 @@ pub record IsNumberValue (n number : ℕ) (value : List ℕ) : Type 0 where
   pub spelled : value ≡ big_bytes n number ++ rest
 
 -- the number of a value, if it has one
-abbrev pub number_in : ℕ → List ℕ → Option ℕ
-number_in n value = if nat_eq (length value) 4 then Some (big_number n value) else None
+abbrev pub number_of_value : ℕ → List ℕ → Option ℕ
+number_of_value n value = if nat_eq (length value) 4 then Some (big_number n value) else None

@@ -3,10 +3,10 @@
 ghost use Rattle.std.specs.Prelude.{◌≡◌, ℕ, List, ◌<◌, ◌+◌, slice_index, ◌≤◌, ◌∷◌, ◌++◌, length, take, drop, IfOk, IfErr, IsOkAnd, OnOk, OnErr, bit_xor};
 ghost use Rattle.std.specs.Result.{result_ok};
 ghost use Rattle.stun.specs.Endian.{big_bytes};
-ghost use Rattle.stun.specs.Builders.{used_of, room_of, SameBuffer, Appends, HasNoRoom};
+ghost use Rattle.stun.specs.Builders.{used_of, capacity_of, SameBuffer, Appends, HasNoRoom};
 ghost use Rattle.stun.specs.Registry.{magic_cookie};
 ghost use Rattle.stun.specs.declared.registry.family.TheConstants.{IPV4, IPV6};
-ghost use Rattle.attributes.specs.Addresses.{HasWidth, IsAddress, IsAddressValue, address_value, address_in, port_in, value_in, cookie_half, ipv6_mask, masked};
+ghost use Rattle.attributes.specs.Addresses.{HasWidth, IsAddress, IsAddressValue, address_value, address_in, port_in, address_value_in, cookie_half, ipv6_mask, masked};
 ghost use Rattle.attributes.specs.declared.address.Addr as addr;
 ghost use Rattle.attributes.specs.declared.refusal.ValueKind.TheVariants as kinds;
 
@@ -195,9 +195,9 @@ fn ipv6_value(ip: &[u8; 16], port: u16, tx: &[u8; 12]) -> [u8; IPV6_BYTES]
 #[tactic(auto, unfolding(crate::specs::Addresses::address_value))]
 pub fn write_xor_addr(builder: &mut Builder<'_>, kind: u16, address: &Addr) -> Result<(), NoRoom>
     ensures appends { OnOk result
-        (Appends kind (value_in builder.old address.now) builder.old builder.new) }
+        (Appends kind (address_value_in builder.old address.now) builder.old builder.new) }
     ensures no_room { OnErr result
-        (HasNoRoom (value_in builder.old address.now) builder.old builder.new) }
+        (HasNoRoom (address_value_in builder.old address.now) builder.old builder.new) }
     ensures same_buffer { SameBuffer builder.old builder.new }
 {
     match address {
@@ -212,8 +212,8 @@ pub fn write_xor_addr(builder: &mut Builder<'_>, kind: u16, address: &Addr) -> R
 /// Appends an attribute with an XOR address where there is room for the longest, so that it can't fail.
 #[tactic(auto, unfolding(crate::specs::Addresses::address_value))]
 pub fn push_xor_addr(builder: &mut Builder<'_>, kind: u16, address: &Addr)
-    requires room { used_of builder.old + 27 ≤ room_of builder.old }
-    ensures appends { Appends kind (value_in builder.old address.now) builder.old builder.new }
+    requires room { used_of builder.old + 27 ≤ capacity_of builder.old }
+    ensures appends { Appends kind (address_value_in builder.old address.now) builder.old builder.new }
     ensures most { used_of builder.new ≤ used_of builder.old + 24 }
     ensures same_buffer { SameBuffer builder.old builder.new }
 {

@@ -1,7 +1,7 @@
 //! The attributes of an error response (RFC 8489, sections 14.8 and 14.13).
 
 ghost use Rattle.std.specs.Prelude.{◌≡◌, ◌+◌, ◌*◌, ◌≤◌, length, OnOk, OnErr};
-ghost use Rattle.stun.specs.Builders.{used_of, room_of, SameBuffer, Appends, HasNoRoom};
+ghost use Rattle.stun.specs.Builders.{used_of, capacity_of, SameBuffer, Appends, HasNoRoom};
 ghost use Rattle.stun.specs.declared.registry.attribute.TheConstants.{ERROR_CODE, UNKNOWN_ATTRIBUTES};
 ghost use Rattle.attributes.specs.Errors.{error_value, unknown_value};
 
@@ -68,7 +68,7 @@ pub fn write_error(builder: &mut Builder<'_>, error: ErrorCode) -> Result<(), No
 
 /// Appends ERROR-CODE where there is room for the longest phrase, so that it can't fail.
 pub fn push_error(builder: &mut Builder<'_>, error: ErrorCode)
-    requires room { used_of builder.old + 41 ≤ room_of builder.old }
+    requires room { used_of builder.old + 41 ≤ capacity_of builder.old }
     ensures appends { Appends ERROR_CODE (error_value error) builder.old builder.new }
     ensures most { used_of builder.new ≤ used_of builder.old + 40 }
     ensures same_buffer { SameBuffer builder.old builder.new }
@@ -93,7 +93,7 @@ pub fn write_unknown(builder: &mut Builder<'_>, kinds: &[u16]) -> Result<(), NoR
 /// Appends UNKNOWN-ATTRIBUTES where there is room, so that it can't fail.
 #[tactic(auto, using(crate::proofs::Unknown::unknown_length))]
 pub fn push_unknown(builder: &mut Builder<'_>, kinds: &[u16])
-    requires room { used_of builder.old + 2 * length kinds.now + 7 ≤ room_of builder.old }
+    requires room { used_of builder.old + 2 * length kinds.now + 7 ≤ capacity_of builder.old }
     ensures appends { Appends UNKNOWN_ATTRIBUTES (unknown_value kinds.now) builder.old builder.new }
     ensures most { used_of builder.new ≤ used_of builder.old + 2 * length kinds.now + 6 }
     ensures same_buffer { SameBuffer builder.old builder.new }

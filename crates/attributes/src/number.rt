@@ -3,7 +3,7 @@
 ghost use Rattle.std.specs.Prelude.{◌≡◌, ℕ, List, ◌<◌, ◌^◌, IfOk, IfErr};
 ghost use Rattle.stun.specs.Endian.{big_bytes};
 ghost use Rattle.std.specs.Result.{result_ok};
-ghost use Rattle.attributes.specs.Values.{IsNumberValue, number_in};
+ghost use Rattle.attributes.specs.Values.{IsNumberValue, number_of_value};
 ghost use Rattle.attributes.specs.declared.refusal.ValueKind.TheVariants as kinds;
 
 use crate::refusal::{BadValue, ValueKind};
@@ -18,7 +18,7 @@ const LENGTH: usize = 4;
 /// Returns A1 for a value of another length.
 #[tactic(auto, using(crate::proofs::Numbers::number_read))]
 pub fn lifetime(value: &[u8]) -> Result<u32, BadValue>
-    ensures reads { result_ok result ≡ number_in 4 value.now }
+    ensures reads { result_ok result ≡ number_of_value 4 value.now }
     ensures found { IfOk result (λ n. IsNumberValue 4 n value.now) }
     ensures refused { IfErr result (λ e. (n : ℕ) → IsNumberValue 4 n value.now → ⊥) }
     ensures kind { IfErr result (λ e. e.0 ≡ kinds.Lifetime) }
@@ -37,7 +37,7 @@ pub fn lifetime(value: &[u8]) -> Result<u32, BadValue>
 /// Returns A1 for a value of another length.
 #[tactic(auto, using(crate::proofs::Numbers::number_read))]
 pub fn channel_number(value: &[u8]) -> Result<u16, BadValue>
-    ensures reads { result_ok result ≡ number_in 2 value.now }
+    ensures reads { result_ok result ≡ number_of_value 2 value.now }
     ensures found { IfOk result (λ n. IsNumberValue 2 n value.now) }
     ensures refused { IfErr result (λ e. (n : ℕ) → IsNumberValue 2 n value.now → ⊥) }
     ensures kind { IfErr result (λ e. e.0 ≡ kinds.ChannelNumber) }
@@ -55,7 +55,7 @@ pub fn channel_number(value: &[u8]) -> Result<u16, BadValue>
 /// Returns A1, with the kind of the value, for a value of another length.
 #[tactic(auto, using(crate::proofs::Numbers::first_read))]
 fn first_byte(value: &[u8], kind: ValueKind) -> Result<u8, BadValue>
-    ensures reads { result_ok result ≡ number_in 1 value.now }
+    ensures reads { result_ok result ≡ number_of_value 1 value.now }
     ensures found { IfOk result (λ n. IsNumberValue 1 n value.now) }
     ensures refused { IfErr result (λ e. (n : ℕ) → IsNumberValue 1 n value.now → ⊥) }
     ensures kind { IfErr result (λ e. e.0 ≡ kind) }
@@ -73,7 +73,7 @@ fn first_byte(value: &[u8], kind: ValueKind) -> Result<u8, BadValue>
 /// # Errors
 /// Returns A1 for a value of another length.
 pub fn requested_transport(value: &[u8]) -> Result<u8, BadValue>
-    ensures reads { result_ok result ≡ number_in 1 value.now }
+    ensures reads { result_ok result ≡ number_of_value 1 value.now }
     ensures found { IfOk result (λ n. IsNumberValue 1 n value.now) }
     ensures refused { IfErr result (λ e. (n : ℕ) → IsNumberValue 1 n value.now → ⊥) }
     ensures kind { IfErr result (λ e. e.0 ≡ kinds.RequestedTransport) }
@@ -87,7 +87,7 @@ pub fn requested_transport(value: &[u8]) -> Result<u8, BadValue>
 /// # Errors
 /// Returns A1 for a value of another length.
 pub fn requested_family(value: &[u8]) -> Result<u8, BadValue>
-    ensures reads { result_ok result ≡ number_in 1 value.now }
+    ensures reads { result_ok result ≡ number_of_value 1 value.now }
     ensures found { IfOk result (λ n. IsNumberValue 1 n value.now) }
     ensures refused { IfErr result (λ e. (n : ℕ) → IsNumberValue 1 n value.now → ⊥) }
     ensures kind { IfErr result (λ e. e.0 ≡ kinds.RequestedFamily) }

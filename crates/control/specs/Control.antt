@@ -11,8 +11,8 @@ use Rattle.stun.specs.declared.registry.ErrorCode.{ErrorCode}
 use Rattle.stun.specs.declared.registry.ErrorCode.TheVariants.{BadRequest, Unauthenticated, UnknownAttribute, AllocationMismatch, StaleNonce, AddressFamilyNotSupported, WrongCredentials, UnsupportedTransport, PeerAddressFamilyMismatch, InsufficientCapacity}
 use Rattle.attributes.specs.declared.address.Addr.{Addr}
 use Rattle.attributes.specs.Addresses.{address_in}
-use Rattle.attributes.specs.Values.{number_in}
-use Rattle.credentials.specs.Checks.{value_in}
+use Rattle.attributes.specs.Values.{number_of_value}
+use Rattle.credentials.specs.Checks.{first_value}
 use Rattle.credentials.specs.declared.checking.AuthError.{AuthError}
 use Rattle.credentials.specs.declared.checking.AuthError.TheVariants.{Missing, Incomplete, UnknownUser, WrongCode}
 use Rattle.credentials.specs.declared.checking.AuthError.TheVariants as auth
@@ -78,10 +78,10 @@ lifetime_for None = MIN_LIFETIME
 lifetime_for (Some requested) = max MIN_LIFETIME (min requested MAX_LIFETIME)
 
 abbrev pub requested_lifetime : Parts → Result (Option ℕ) ErrorCode
-requested_lifetime p = optional (number_in 4) (value_in p LIFETIME)
+requested_lifetime p = optional (number_of_value 4) (first_value p LIFETIME)
 
 abbrev pub requested_family : Parts → Result (Option ℕ) ErrorCode
-requested_family p = optional (number_in 1) (value_in p REQUESTED_ADDRESS_FAMILY)
+requested_family p = optional (number_of_value 1) (first_value p REQUESTED_ADDRESS_FAMILY)
 
 -- ---- Allocate (RFC 8656, section 7)
 
@@ -92,7 +92,7 @@ is_repeated a user p = bytes_eq a.tx p.transaction_id && nat_eq a.user user
 -- the lifetime to give, where all values can be granted
 abbrev pub acceptable_lifetime : Parts → Result ℕ ErrorCode
 acceptable_lifetime p = do
-  transport ← required (number_in 1) (value_in p REQUESTED_TRANSPORT)
+  transport ← required (number_of_value 1) (first_value p REQUESTED_TRANSPORT)
   _ ← check (nat_eq transport UDP) UnsupportedTransport
   family ← requested_family p
   _ ← check (is_none_or (nat_eq IPV4) family) AddressFamilyNotSupported
@@ -178,8 +178,8 @@ create_permission client user p rows = do
 abbrev pub channel_bind : Addr → ℕ → Parts → Rows → Decision
 channel_bind client user p rows = do
   a ← own_allocation client user rows
-  number ← required (number_in 2) (value_in p CHANNEL_NUMBER)
-  peer ← required (address_in p.transaction_id) (value_in p XOR_PEER_ADDRESS)
+  number ← required (number_of_value 2) (first_value p CHANNEL_NUMBER)
+  peer ← required (address_in p.transaction_id) (first_value p XOR_PEER_ADDRESS)
   _ ← check (is_between 0x4000 0x4fff number) BadRequest
   _ ← check (is_ipv4 peer) PeerAddressFamilyMismatch
   made ← changed (tables.bind a.slot number peer rows)

@@ -1,6 +1,6 @@
 -- Meaning. Replies: their attributes in order, and their bytes.
 use Rattle.std.specs.Prelude.{◌≡◌, ℕ, ◌+◌, ◌<◌, ◌≤◌, List, [], ◌∷◌, Option, None, Some, Result, Ok, Err, string_bytes}
-use Rattle.stun.specs.Builders.{parts_of, used_of, room_of, SameBuffer}
+use Rattle.stun.specs.Builders.{parts_of, used_of, capacity_of, SameBuffer}
 use Rattle.stun.specs.Endian.{big_bytes}
 use Rattle.stun.specs.Messages.{Attribute, Parts, started, with_attribute}
 use Rattle.stun.specs.Types.{type_number}
@@ -108,5 +108,5 @@ reply_to config r client p key (Err error) = reply r class.Error p.transaction_i
 pub record Pushes (attributes : List Attribute) (most : ℕ) (old new : Builder) : Type 0 where
   pub parts : parts_of new ≡ with_attributes (parts_of old) attributes
   pub used : used_of new ≤ used_of old + most
-  pub room : room_of new ≡ room_of old
+  pub room : capacity_of new ≡ capacity_of old
   pub same_buffer : SameBuffer old new

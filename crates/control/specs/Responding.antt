@@ -4,7 +4,7 @@ use Rattle.stun.specs.Messages.{Parts, parts_bytes}
 use Rattle.stun.specs.declared.registry.Class.TheVariants as class
 use Rattle.stun.specs.declared.registry.ErrorCode.{ErrorCode}
 use Rattle.attributes.specs.declared.address.Addr.{Addr}
-use Rattle.credentials.specs.Checks.{IsChecked, names_of, user_key}
+use Rattle.credentials.specs.Checks.{IsChecked, accounts_of, user_key}
 use Rattle.credentials.specs.declared.checking.AuthError.{AuthError}
 use Rattle.tables.specs.Rows.{Rows, rows_at}
 use Rattle.control.specs.Control.{Decision, decision, binding}
@@ -17,7 +17,7 @@ use Rattle.control.specs.declared.request.Request.TheVariants as request
 
 -- the key that a reply is signed under: that of the user whose credentials were accepted
 abbrev pub key_for : Config → Result ℕ AuthError → Option (List ℕ)
-key_for config (Ok user) = Some (user_key (string_bytes config.realm) (names_of config.users.items) user)
+key_for config (Ok user) = Some (user_key (string_bytes config.realm) (accounts_of config.users.items) user)
 key_for config (Err e) = None
 
 -- what is granted, without the rows
@@ -37,7 +37,7 @@ pub record IsAnswer (config : Config) (r : Request) (client : Addr) (p : Parts) 
 -- the answer to a request whose credentials are checked
 pub record IsCheckedAnswer (config : Config) (now : ℕ) (r : Request) (client : Addr) (p : Parts) (old new : Rows) (written : List ℕ) : Type 0 where
   pub checked : Result ℕ AuthError
-  pub is_checked : IsChecked p (string_bytes config.realm) (names_of config.users.items) config.nonce.bytes checked
+  pub is_checked : IsChecked p (string_bytes config.realm) (accounts_of config.users.items) config.nonce.bytes checked
   pub answer : IsAnswer config r client p (key_for config checked) (decision r checked client p old (rows_at now old)) old new written
 
 -- the answer to a request: that to Binding is not signed, since its credentials are not looked at

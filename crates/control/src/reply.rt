@@ -1,7 +1,7 @@
 //! Replies (RFC 8489, sections 6.3 and 9.2.4; RFC 8656, sections 7 to 12). There is always room for one, so none can fail.
 
 ghost use Rattle.std.specs.Prelude.{◌≡◌, ◌≤◌, ◌+◌, ◌<◌, [], ◌∷◌, take, length, IfOk, option_map, string_bytes};
-ghost use Rattle.stun.specs.Builders.{parts_of, used_of, room_of, SameBuffer};
+ghost use Rattle.stun.specs.Builders.{parts_of, used_of, capacity_of, SameBuffer};
 ghost use Rattle.stun.specs.Messages.{parts_bytes};
 ghost use Rattle.stun.specs.declared.registry.Class.TheVariants as class;
 ghost use Rattle.credentials.specs.Keys.{key_bytes};
@@ -44,7 +44,7 @@ fn relayed_address(config: &Config, slot: usize) -> Addr
 
 /// Appends LIFETIME.
 fn push_lifetime(builder: &mut Builder<'_>, seconds: u32)
-    requires room { used_of builder.old + 11 ≤ room_of builder.old }
+    requires room { used_of builder.old + 11 ≤ capacity_of builder.old }
     ensures { Pushes (attribute LIFETIME_TYPE (big_bytes 4 seconds) ∷ []) 8 builder.old builder.new }
 {
     let value = seconds.to_be_bytes();
@@ -53,7 +53,7 @@ fn push_lifetime(builder: &mut Builder<'_>, seconds: u32)
 
 /// Appends the attributes of a success response.
 fn push_grant(builder: &mut Builder<'_>, config: &Config, client: &Addr, grant: Grant)
-    requires room { used_of builder.old + 100 ≤ room_of builder.old }
+    requires room { used_of builder.old + 100 ≤ capacity_of builder.old }
     requires port { HasPort config.now grant }
     ensures { Pushes (grant_attributes config.now client.now (parts_of builder.old).transaction_id grant) 56
         builder.old builder.new }
@@ -72,7 +72,7 @@ fn push_grant(builder: &mut Builder<'_>, config: &Config, client: &Addr, grant: 
 
 /// Appends the realm and the nonce, which challenge the client to authenticate (RFC 8489, section 9.2.4).
 fn push_challenge(builder: &mut Builder<'_>, config: &Config)
-    requires room { used_of builder.old + 300 ≤ room_of builder.old }
+    requires room { used_of builder.old + 300 ≤ capacity_of builder.old }
     requires realm { length (string_bytes config.now.realm) ≤ 128 }
     ensures { Pushes (challenge config.now) 210 builder.old builder.new }
 {
@@ -82,7 +82,7 @@ fn push_challenge(builder: &mut Builder<'_>, config: &Config)
 
 /// Appends what follows ERROR-CODE in an error response.
 fn push_details(builder: &mut Builder<'_>, config: &Config, message: &Message<'_>, error: ErrorCode)
-    requires room { used_of builder.old + 300 ≤ room_of builder.old }
+    requires room { used_of builder.old + 300 ≤ capacity_of builder.old }
     requires realm { length (string_bytes config.now.realm) ≤ 128 }
     ensures { Pushes (error_details config.now message.now error) 210 builder.old builder.new }
 {
@@ -95,9 +95,9 @@ fn push_details(builder: &mut Builder<'_>, config: &Config, message: &Message<'_
 
 /// Signs a reply under a key, if there is one.
 fn sign_if(builder: &mut Builder<'_>, key: Option<Key>)
-    requires room { used_of builder.old + 27 ≤ room_of builder.old }
+    requires room { used_of builder.old + 27 ≤ capacity_of builder.old }
     ensures parts { parts_of builder.new ≡ signed_if (option_map key_bytes key) (parts_of builder.old) }
-    ensures room { room_of builder.new ≡ room_of builder.old }
+    ensures room { capacity_of builder.new ≡ capacity_of builder.old }
     ensures same_buffer { SameBuffer builder.old builder.new }
 {
     if let Some(key) = key {

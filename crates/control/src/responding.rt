@@ -1,7 +1,7 @@
 //! The answers to messages.
 
 ghost use Rattle.std.specs.Prelude.{◌≡◌, ◌≤◌, ◌+◌, None, Ok, Err, length, take, IfOk, IfErr, string_bytes};
-ghost use Rattle.credentials.specs.Checks.{IsChecked, names_of, user_key};
+ghost use Rattle.credentials.specs.Checks.{IsChecked, accounts_of, user_key};
 ghost use Rattle.credentials.specs.Keys.{key_bytes};
 ghost use Rattle.tables.specs.Rows.{rows_at};
 ghost use Rattle.control.specs.Configs.{fault};
@@ -70,11 +70,11 @@ fn serve(
 /// The first test that fails, in the order of [`AuthError`].
 fn check_credentials(config: &Config, message: &Message<'_>) -> Result<Authenticated, AuthError>
     ensures found { IfOk result (λ a. IsChecked message.now (string_bytes config.now.realm)
-        (names_of config.now.users.items) config.now.nonce.bytes (Ok a.user)) }
+        (accounts_of config.now.users.items) config.now.nonce.bytes (Ok a.user)) }
     ensures key { IfOk result (λ a. key_bytes a.key
-        ≡ user_key (string_bytes config.now.realm) (names_of config.now.users.items) a.user) }
+        ≡ user_key (string_bytes config.now.realm) (accounts_of config.now.users.items) a.user) }
     ensures refused { IfErr result (λ e. IsChecked message.now (string_bytes config.now.realm)
-        (names_of config.now.users.items) config.now.nonce.bytes (Err e)) }
+        (accounts_of config.now.users.items) config.now.nonce.bytes (Err e)) }
 {
     authenticate(message, &config.realm, &config.users, config.nonce.as_str())
 }

@@ -1,10 +1,10 @@
 //! The values of a request's attributes, as they are read.
 
 ghost use Rattle.std.specs.Prelude.{◌≡◌};
-ghost use Rattle.credentials.specs.Checks.{value_in};
+ghost use Rattle.credentials.specs.Checks.{first_value};
 ghost use Rattle.stun.specs.declared.registry.attribute.TheConstants.{CHANNEL_NUMBER as CHANNEL_TYPE, LIFETIME as LIFETIME_TYPE, XOR_PEER_ADDRESS as PEER_TYPE, REQUESTED_ADDRESS_FAMILY as FAMILY_TYPE, REQUESTED_TRANSPORT as TRANSPORT_TYPE};
 ghost use Rattle.attributes.specs.Addresses.{address_in};
-ghost use Rattle.attributes.specs.Values.{number_in};
+ghost use Rattle.attributes.specs.Values.{number_of_value};
 ghost use Rattle.control.specs.Values.{is_ipv4, optional, required};
 
 use attributes::{
@@ -18,7 +18,7 @@ use stun::registry::attribute::{
 
 /// Returns the protocol of REQUESTED-TRANSPORT, which must be there.
 pub(crate) fn transport_of(message: &Message<'_>) -> Result<u8, ErrorCode>
-    ensures { result ≡ required (number_in 1) (value_in message.now TRANSPORT_TYPE) }
+    ensures { result ≡ required (number_of_value 1) (first_value message.now TRANSPORT_TYPE) }
 {
     let value = message
         .value_of(REQUESTED_TRANSPORT)
@@ -28,7 +28,7 @@ pub(crate) fn transport_of(message: &Message<'_>) -> Result<u8, ErrorCode>
 
 /// Returns the family of REQUESTED-ADDRESS-FAMILY, if it is there.
 pub(crate) fn family_of(message: &Message<'_>) -> Result<Option<u8>, ErrorCode>
-    ensures { result ≡ optional (number_in 1) (value_in message.now FAMILY_TYPE) }
+    ensures { result ≡ optional (number_of_value 1) (first_value message.now FAMILY_TYPE) }
 {
     let Some(value) = message.value_of(REQUESTED_ADDRESS_FAMILY) else {
         return Ok(None);
@@ -39,7 +39,7 @@ pub(crate) fn family_of(message: &Message<'_>) -> Result<Option<u8>, ErrorCode>
 
 /// Returns the seconds of LIFETIME, if it is there.
 pub(crate) fn lifetime_of(message: &Message<'_>) -> Result<Option<u32>, ErrorCode>
-    ensures { result ≡ optional (number_in 4) (value_in message.now LIFETIME_TYPE) }
+    ensures { result ≡ optional (number_of_value 4) (first_value message.now LIFETIME_TYPE) }
 {
     let Some(value) = message.value_of(LIFETIME) else {
         return Ok(None);
@@ -50,7 +50,7 @@ pub(crate) fn lifetime_of(message: &Message<'_>) -> Result<Option<u32>, ErrorCod
 
 /// Returns the number of CHANNEL-NUMBER, which must be there.
 pub(crate) fn channel_of(message: &Message<'_>) -> Result<u16, ErrorCode>
-    ensures { result ≡ required (number_in 2) (value_in message.now CHANNEL_TYPE) }
+    ensures { result ≡ required (number_of_value 2) (first_value message.now CHANNEL_TYPE) }
 {
     let value = message
         .value_of(CHANNEL_NUMBER)
@@ -67,7 +67,7 @@ pub(crate) fn address_in(value: &[u8], tx: &[u8; 12]) -> Option<Addr>
 
 /// Returns the address of XOR-PEER-ADDRESS, which must be there.
 pub(crate) fn peer_of(message: &Message<'_>) -> Result<Addr, ErrorCode>
-    ensures { result ≡ required (address_in message.now.transaction_id) (value_in message.now PEER_TYPE) }
+    ensures { result ≡ required (address_in message.now.transaction_id) (first_value message.now PEER_TYPE) }
 {
     let value = message
         .value_of(XOR_PEER_ADDRESS)

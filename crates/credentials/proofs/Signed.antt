@@ -4,7 +4,7 @@ use Rattle.std.specs.Prelude.{option_map, ◌==◌, if◌then◌else◌}
 use Rattle.stun.specs.Registry.{message_integrity}
 use Rattle.stun.specs.Messages.{Padded, Parts, attribute_of, up_to_integrity, before_first, zero_padded}
 use Rattle.credentials.specs.Hmac.{hmac}
-use Rattle.credentials.specs.Checks.{Names, IsUser, HasCredentials, IsChecked, user_key, value_in}
+use Rattle.credentials.specs.Checks.{Accounts, IsUser, HasCredentials, IsChecked, user_key, first_value}
 use Rattle.credentials.specs.Integrity.{covered_bytes, code_under, code_of}
 use Rattle.credentials.specs.Signs.{IsUnsigned, signed}
 use Rattle.credentials.proofs.Values.{value_cons}
@@ -37,13 +37,13 @@ value_is [] value e = refl
 value_is (a ∷ attributes) value e = value_cons message_integrity (attribute_of a) (map attribute_of (if a.kind == message_integrity then [] else up_to_integrity (attributes ++ zero_padded message_integrity value ∷ []))) ∙ value_step (a.kind == message_integrity) a value (before_first attributes) (up_to_integrity (attributes ++ zero_padded message_integrity value ∷ [])) (value_is attributes value) e
 
 -- the code of a signed message is the right one
-pub sign_is_right : (key : List ℕ) (p q : Parts) → q ≡ signed key p → before_first p.attributes ≡ None → code_under key q ≡ value_in q message_integrity
+pub sign_is_right : (key : List ℕ) (p q : Parts) → q ≡ signed key p → before_first p.attributes ≡ None → code_under key q ≡ first_value q message_integrity
 sign_is_right key p q is none =
     let code : List ℕ = code_of key p in
-    let right : code_under key (signed key p) ≡ value_in (signed key p) message_integrity =
+    let right : code_under key (signed key p) ≡ first_value (signed key p) message_integrity =
     ap (λ (o : Option (List Padded)). option_map (λ front. hmac key (covered_bytes p front)) o) (front_is p.attributes code none)
     ∙ sym (value_is p.attributes code none) in
-    ap (code_under key) is ∙ right ∙ ap (λ (r : Parts). value_in r message_integrity) (sym is)
+    ap (code_under key) is ∙ right ∙ ap (λ (r : Parts). first_value r message_integrity) (sym is)
 
 -- attributes without a MESSAGE-INTEGRITY have the same values with one behind them
 kept_step : (b c : Bool) (a : Padded) (kind : ℕ) (x value : List ℕ) (o : Option (List Padded)) (before after : List Padded)
@@ -61,11 +61,11 @@ kept (a ∷ attributes) kind code value e is =
     ∙ kept_step (a.kind == message_integrity) (a.kind == kind) a kind a.value value (before_first attributes) (up_to_integrity attributes) (up_to_integrity (attributes ++ zero_padded message_integrity code ∷ [])) (kept attributes kind code value) e (sym (value_cons kind (attribute_of a) (map attribute_of (if a.kind == message_integrity then [] else up_to_integrity attributes))) ∙ is)
 
 -- a message that lacks only its code, with this code
-pub sign_is_accepted : (p : Parts) (name realm nonce : List ℕ) (users : Names) (index : ℕ) → IsUnsigned p nonce name → IsUser users name index → IsChecked (signed (user_key realm users index) p) realm users nonce (Ok index)
+pub sign_is_accepted : (p : Parts) (name realm nonce : List ℕ) (users : Accounts) (index : ℕ) → IsUnsigned p nonce name → IsUser users name index → IsChecked (signed (user_key realm users index) p) realm users nonce (Ok index)
 sign_is_accepted p name realm nonce users index is user =
     let key : List ℕ = user_key realm users index in
     let code : List ℕ = code_of key p in
-    let code_is : value_in (signed key p) message_integrity ≡ Some code = value_is p.attributes code is.no_code in
+    let code_is : first_value (signed key p) message_integrity ≡ Some code = value_is p.attributes code is.no_code in
     let fresh : HasCredentials (signed key p) nonce code name = record {
       code_is = code_is;
       name_is = kept p.attributes USERNAME code name is.no_code is.name_is;

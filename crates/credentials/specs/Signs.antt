@@ -8,7 +8,7 @@ use Rattle.stun.specs.declared.building.Builder.{Builder}
 use Rattle.credentials.specs.declared.key.Key.{Key}
 use Rattle.credentials.specs.Keys.{key_bytes}
 use Rattle.credentials.specs.Integrity.{code_of}
-use Rattle.credentials.specs.Checks.{value_in}
+use Rattle.credentials.specs.Checks.{first_value}
 
 -- the message with a MESSAGE-INTEGRITY behind its attributes
 abbrev pub signed : List ℕ → Parts → Parts
@@ -21,7 +21,7 @@ code_in builder key = code_of (key_bytes key) (parts_of builder)
 -- a message that lacks only its code: it has a name, a realm and the nonce
 pub record IsUnsigned (p : Parts) (nonce name : List ℕ) : Type 0 where
   pub no_code : before_first p.attributes ≡ None
-  pub name_is : value_in p USERNAME ≡ Some name
+  pub name_is : first_value p USERNAME ≡ Some name
   pub realm : List ℕ
-  pub realm_is : value_in p REALM ≡ Some realm
-  pub nonce_is : value_in p NONCE ≡ Some nonce
+  pub realm_is : first_value p REALM ≡ Some realm
+  pub nonce_is : first_value p NONCE ≡ Some nonce

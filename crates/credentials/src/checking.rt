@@ -4,7 +4,7 @@ ghost use Rattle.std.specs.Prelude.{◌≡◌, ℕ, List, Result, Some, Ok, Err,
 ghost use Rattle.stun.specs.Messages.{Parts};
 ghost use Rattle.credentials.specs.Keys.{key_of, key_bytes};
 ghost use Rattle.credentials.specs.Integrity.{code_under};
-ghost use Rattle.credentials.specs.Checks.{names_of, Names, user_key, IsUser, IsNoUser, HasCredentials, IsChecked};
+ghost use Rattle.credentials.specs.Checks.{accounts_of, Accounts, user_key, IsUser, IsNoUser, HasCredentials, IsChecked};
 ghost use Rattle.credentials.specs.declared.checking.AuthError.{AuthError};
 
 use crate::key::Key;
@@ -91,8 +91,8 @@ fn key_of_user(user: &User, realm: &str) -> Key
 /// Returns the index of the first user of a name.
 /// See docs/DECISIONS.md, "The first user of a name".
 fn user_of(users: &[User], name: &[u8]) -> Option<usize>
-    ensures some { IfSome result (IsUser (names_of users.now) name.now) }
-    ensures none { IfNone result (IsNoUser (names_of users.now) name.now) }
+    ensures some { IfSome result (IsUser (accounts_of users.now) name.now) }
+    ensures none { IfNone result (IsNoUser (accounts_of users.now) name.now) }
 {
     for index in 0..users.len() {
         if has_name(&users[index], name) {
@@ -108,7 +108,7 @@ fn user_of(users: &[User], name: &[u8]) -> Option<usize>
 /// Returns C1 to C3.
 fn presented<'a>(message: &Message<'a>, nonce: &str) -> Result<(&'a [u8], &'a [u8]), AuthError>
     ensures found { IfOk result (λ r. HasCredentials message.now nonce.now r.0.now r.1.now) }
-    ensures refused { IfErr result (λ e. (realm : List ℕ) (users : Names)
+    ensures refused { IfErr result (λ e. (realm : List ℕ) (users : Accounts)
         → IsChecked message.now realm users nonce.now (Err e)) }
 {
     let found = credentials_of(message);
@@ -136,10 +136,10 @@ pub fn authenticate(
     nonce: &str,
 ) -> Result<Authenticated, AuthError>
     ensures found { IfOk result
-        (λ a. IsChecked message.now realm.now (names_of users.now) nonce.now (Ok a.user)) }
-    ensures key { IfOk result (λ a. key_bytes a.key ≡ user_key realm.now (names_of users.now) a.user) }
+        (λ a. IsChecked message.now realm.now (accounts_of users.now) nonce.now (Ok a.user)) }
+    ensures key { IfOk result (λ a. key_bytes a.key ≡ user_key realm.now (accounts_of users.now) a.user) }
     ensures refused { IfErr result
-        (λ e. IsChecked message.now realm.now (names_of users.now) nonce.now (Err e)) }
+        (λ e. IsChecked message.now realm.now (accounts_of users.now) nonce.now (Err e)) }
 {
     let (code, name) = presented(message, nonce)?;
     let Some(index) = user_of(users, name) else {
@@ -163,7 +163,7 @@ pub fn check(
     users: &[User],
     nonce: &str,
 ) -> Result<usize, AuthError>
-    ensures { IsChecked message.now realm.now (names_of users.now) nonce.now result }
+    ensures { IsChecked message.now realm.now (accounts_of users.now) nonce.now result }
 {
     let authenticated = authenticate(message, realm, users, nonce)?;
     Ok(authenticated.user)
@@ -171,6 +171,6 @@ pub fn check(
 
 /// States that the ordered check has at most one result for a message.
 pub fn results_are_unique()
-    ensures { (p : Parts) (realm : List ℕ) (users : Names) (nonce : List ℕ) (a b : Result ℕ AuthError)
+    ensures { (p : Parts) (realm : List ℕ) (users : Accounts) (nonce : List ℕ) (a b : Result ℕ AuthError)
         → IsChecked p realm users nonce a → IsChecked p realm users nonce b → a ≡ b }
 {}

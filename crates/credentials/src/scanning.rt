@@ -4,7 +4,7 @@ ghost use Rattle.std.specs.Prelude.{◌≡◌, Some, None, ◌==◌, if◌then�
 ghost use Rattle.std.specs.Option.{option_or};
 ghost use Rattle.stun.specs.Registry.{message_integrity};
 ghost use Rattle.stun.specs.declared.registry.attribute.TheConstants.{USERNAME, REALM, NONCE};
-ghost use Rattle.credentials.specs.Checks.{value_in};
+ghost use Rattle.credentials.specs.Checks.{first_value};
 
 use stun::registry::attribute::{MESSAGE_INTEGRITY, NONCE, REALM, USERNAME};
 use stun::{Attr, Message};
@@ -32,10 +32,10 @@ fn or_value<'a>(found: Option<&'a [u8]>, attr: Attr<'a>, kind: u16) -> Option<&'
 
 /// Returns the first code, name, realm and nonce of a message, in one scan of its attributes.
 pub(crate) fn credentials_of<'a>(message: &Message<'a>) -> Credentials<'a>
-    ensures code { option_copied result.code ≡ value_in message.now message_integrity }
-    ensures name { option_copied result.name ≡ value_in message.now USERNAME }
-    ensures realm { option_copied result.realm ≡ value_in message.now REALM }
-    ensures nonce { option_copied result.nonce ≡ value_in message.now NONCE }
+    ensures code { option_copied result.code ≡ first_value message.now message_integrity }
+    ensures name { option_copied result.name ≡ first_value message.now USERNAME }
+    ensures realm { option_copied result.realm ≡ first_value message.now REALM }
+    ensures nonce { option_copied result.nonce ≡ first_value message.now NONCE }
 {
     let mut found = Credentials {
         code: None,

@@ -4,11 +4,11 @@ ghost use Rattle.std.specs.Prelude.{◌≡◌, ◌≤◌, ◌+◌, ◌%◌, ◌+
 ghost use Rattle.stun.specs.Endian.{big_bytes};
 ghost use Rattle.stun.specs.Messages.{Parts, before_first};
 ghost use Rattle.stun.specs.Registry.{message_integrity};
-ghost use Rattle.stun.specs.Builders.{used_of, room_of, SameBuffer, Appends, HasNoRoom};
+ghost use Rattle.stun.specs.Builders.{used_of, capacity_of, SameBuffer, Appends, HasNoRoom};
 ghost use Rattle.credentials.specs.Hmac.{hmac};
 ghost use Rattle.credentials.specs.Integrity.{code_under};
 ghost use Rattle.credentials.specs.Keys.{key_bytes};
-ghost use Rattle.credentials.specs.Checks.{Names, IsUser, IsChecked, user_key, value_in};
+ghost use Rattle.credentials.specs.Checks.{Accounts, IsUser, IsChecked, user_key, first_value};
 ghost use Rattle.credentials.specs.Signs.{IsUnsigned, signed, code_in};
 
 use crate::hmac::hmac_sha1;
@@ -52,7 +52,7 @@ pub fn sign(builder: &mut Builder<'_>, key: &Key) -> Result<(), NoRoom>
 
 /// Appends MESSAGE-INTEGRITY, as [`sign`] does, where there is room, so that it can't fail.
 pub fn push_integrity(builder: &mut Builder<'_>, key: &Key)
-    requires room { used_of builder.old + 27 ≤ room_of builder.old }
+    requires room { used_of builder.old + 27 ≤ capacity_of builder.old }
     ensures appends { Appends message_integrity (code_in builder.old key.now) builder.old builder.new }
     ensures used { used_of builder.new ≡ used_of builder.old + 24 }
     ensures same_buffer { SameBuffer builder.old builder.new }
@@ -65,13 +65,13 @@ pub fn push_integrity(builder: &mut Builder<'_>, key: &Key)
 /// [`check`](crate::check) requires under that key.
 pub fn what_is_signed_is_right()
     ensures { (key : List ℕ) (p : Parts) → before_first p.attributes ≡ None
-        → code_under key (signed key p) ≡ value_in (signed key p) message_integrity }
+        → code_under key (signed key p) ≡ first_value (signed key p) message_integrity }
 {}
 
 /// States that a message which lacks only its code, signed under the key of the first user of its name, is
 /// accepted: [`check`](crate::check) returns the index of that user.
 pub fn what_is_signed_is_accepted()
-    ensures { (p : Parts) (name realm nonce : List ℕ) (users : Names) (index : ℕ)
+    ensures { (p : Parts) (name realm nonce : List ℕ) (users : Accounts) (index : ℕ)
         → IsUnsigned p nonce name → IsUser users name index
         → IsChecked (signed (user_key realm users index) p) realm users nonce (Ok index) }
 {}

@@ -21,7 +21,7 @@ pub use effect::{Effect, Registers, effect_of, moved_place, writable};
 pub use fetching::{Branch, Fetched, Position, Visit, fetch, last, target};
 pub use helper::{Helper, Question, RECORD_BYTES};
 pub use limits::{HEADROOM, MAX_DATAGRAM, MAX_OFFSET, STACK_BYTES, TAILROOM};
-pub use loading::{CONTEXT_BYTES, Field, field_at};
+pub use loading::{CONTEXT_BYTES, ContextField, field_at};
 pub use memory::Memory;
 pub use plan::Plan;
 pub use program::Program;

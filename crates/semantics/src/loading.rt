@@ -19,7 +19,7 @@ pub const CONTEXT_BYTES: usize = 48;
 /// A field of the context record.
 /// See docs/DECISIONS.md, "The context record".
 #[derive(Clone, Copy, Debug, PartialEq, Eq)]
-pub enum Field {
+pub enum ContextField {
     /// The datagram's first byte, a pointer.
     Datagram,
     /// The datagram's end, a pointer.
@@ -37,17 +37,17 @@ pub enum Field {
 }
 
 /// Returns the field that a load of `size` bytes at `displacement` reads; `None` unless it is exactly one whole field.
-pub fn field_at(displacement: i16, size: Size) -> Option<Field>
+pub fn field_at(displacement: i16, size: Size) -> Option<ContextField>
     ensures { result ≡ field_at displacement size }
 {
     match (displacement, size) {
-        (0, Size::Double) => Some(Field::Datagram),
-        (8, Size::Double) => Some(Field::End),
-        (16, Size::Double) => Some(Field::Length),
-        (24, Size::Double) => Some(Field::Source),
-        (32, Size::Double) => Some(Field::IdHead),
-        (40, Size::Word) => Some(Field::IdTail),
-        (44, Size::Word) => Some(Field::Side),
+        (0, Size::Double) => Some(ContextField::Datagram),
+        (8, Size::Double) => Some(ContextField::End),
+        (16, Size::Double) => Some(ContextField::Length),
+        (24, Size::Double) => Some(ContextField::Source),
+        (32, Size::Double) => Some(ContextField::IdHead),
+        (40, Size::Word) => Some(ContextField::IdTail),
+        (44, Size::Word) => Some(ContextField::Side),
         _ => None,
     }
 }
@@ -107,17 +107,17 @@ pub(crate) fn side(context: &[u8; CONTEXT_BYTES]) -> u64
 }
 
 /// Returns the value of a field of the context record.
-fn field_value(context: &[u8; CONTEXT_BYTES], field: Field) -> Value
+fn field_value(context: &[u8; CONTEXT_BYTES], field: ContextField) -> Value
     ensures { result ≡ field_value context.now field }
 {
     match field {
-        Field::Datagram => Value::Data(0),
-        Field::End => Value::End,
-        Field::Length => field_number(context, 8, 16),
-        Field::Source => field_number(context, 8, 24),
-        Field::IdHead => field_number(context, 8, 32),
-        Field::IdTail => field_number(context, 4, 40),
-        Field::Side => field_number(context, 4, 44),
+        ContextField::Datagram => Value::Data(0),
+        ContextField::End => Value::End,
+        ContextField::Length => field_number(context, 8, 16),
+        ContextField::Source => field_number(context, 8, 24),
+        ContextField::IdHead => field_number(context, 8, 32),
+        ContextField::IdTail => field_number(context, 4, 40),
+        ContextField::Side => field_number(context, 4, 44),
     }
 }
 

@@ -7,7 +7,7 @@ use Rattle.byteorder.specs.Numbers.{big_number-reads_back}
 use Rattle.stun.specs.Registry.{magic_cookie}
 use Rattle.stun.specs.Messages.{Padded, IsPadded, Parts, AreParts, padding_count, attributes_bytes, header, parts_bytes}
 use Rattle.stun.specs.Refusals.{number_at, HasLength, IsRefused}
-use Rattle.stun.specs.Reading.{attributes_in, parts_in, AreAttributes, HasHeader, IsDatagram}
+use Rattle.stun.specs.Reading.{attributes_in, parts_in, AreAttributes, HasHeader, EncodesParts}
 use Rattle.stun.specs.declared.refusal.StunError.{StunError}
 use Rattle.stun.specs.declared.refusal.StunError.TheVariants.{TooShort, NotStun, BadCookie, BadLength, AttributeOverrun}
 use Rattle.stun.proofs.Grammar.{piece_take, piece_drop, bytes_of_2, bytes_of_4, small_2, attributes_are, are_attributes_of, length_of_attribute}
@@ -50,7 +50,7 @@ number_small (b0 ∷ b1 ∷ []) long small = absurd (omega arith)
 number_small (b0 ∷ b1 ∷ b2 ∷ []) long small = absurd (omega arith)
 number_small (b0 ∷ b1 ∷ b2 ∷ b3 ∷ t) long small = small_2 b2 b3 t (small 2) (small 3)
 
-pub accepted_has_parts : (bytes : List ℕ) → ((k : ℕ) → slice_index bytes k < 256) → IsAccepted bytes → IsDatagram bytes
+pub accepted_has_parts : (bytes : List ℕ) → ((k : ℕ) → slice_index bytes k < 256) → IsAccepted bytes → EncodesParts bytes
 accepted_has_parts bytes small is =
     let body = drop 20 bytes in
     let body_length : length (attributes_bytes (attributes_in body)) ≡ number_at 2 2 bytes =

@@ -7,7 +7,7 @@ use Rattle.std.proofs.lemmas.List.{length-drop, append-nil}
 use Rattle.stun.specs.Registry.{message_integrity}
 use Rattle.stun.specs.Messages.{Padded, IsPadded, Parts, AreParts, attribute_of, attribute_bytes, attributes_bytes, header, up_to_integrity, before_first, before_integrity, message_of, parts_bytes, Message, IsMessage}
 use Rattle.stun.specs.Attributes.{attributes_left}
-use Rattle.stun.specs.Reading.{first_padded, attributes_in, parts_in, BeginsWith, AreAttributes, IsDatagram}
+use Rattle.stun.specs.Reading.{first_padded, attributes_in, parts_in, BeginsWith, AreAttributes, EncodesParts}
 use Rattle.stun.proofs.Grammar.{attributes_split, attributes_tail, none_begin}
 use Rattle.stun.proofs.Datagrams.{parts_unique, body_is, length_of_parts}
 
@@ -111,11 +111,11 @@ front_is p bytes body n are spelled body_is found =
 pub same_message : (m n : Message) (bytes : List ℕ) → IsMessage m bytes → IsMessage n bytes → m ≡ n
 same_message m n bytes a b = a.3 ∙ ap message_of (parts_unique a.0 b.0 a.1 b.1 (sym a.2 ∙ b.2)) ∙ sym b.3
 
-pub length_of_datagram : (bytes body : List ℕ) → IsDatagram bytes → body ≡ drop 20 bytes → 20 + length body ≡ length bytes
+pub length_of_datagram : (bytes body : List ℕ) → EncodesParts bytes → body ≡ drop 20 bytes → 20 + length body ≡ length bytes
 length_of_datagram bytes body is body_there =
     omega (arith, ap length body_there, length-drop 20 bytes, ap length is.spelled, length_of_parts (parts_in bytes) is.are_parts)
 
-pub front_of : (bytes body front : List ℕ) (n : ℕ) (p : Parts) → IsDatagram bytes → parts_in bytes ≡ p → body ≡ drop 20 bytes → front ≡ take (20 + n) bytes
+pub front_of : (bytes body front : List ℕ) (n : ℕ) (p : Parts) → EncodesParts bytes → parts_in bytes ≡ p → body ≡ drop 20 bytes → front ≡ take (20 + n) bytes
     → Some (take n body) ≡ option_map attributes_bytes (before_first (attributes_in body)) → Some front ≡ before_integrity p
 front_of bytes body front n p is parts_is body_there front_there found =
     let spelled = body_there ∙ ap (drop 20) is.spelled ∙ body_is (parts_in bytes) is.are_parts in

@@ -18,8 +18,8 @@ abbrev pub used_of : Builder → ℕ
 used_of b = used_in (bytes_of b)
 
 -- the most bytes that a message in this buffer may have: the smaller of the buffer's length and 65,552
-abbrev pub room_of : Builder → ℕ
-room_of b = room_in (bytes_of b)
+abbrev pub capacity_of : Builder → ℕ
+capacity_of b = room_in (bytes_of b)
 
 -- the name of the reference to the caller's buffer
 abbrev pub buffer_name : Builder → GName
@@ -34,10 +34,10 @@ pub record Appends (kind : ℕ) (value : List ℕ) (old new : Builder) : Type 0 
   pub parts : parts_of new ≡ with_attribute (parts_of old) kind value
   pub bytes : bytes_of new ≡ over (parts_of new) (bytes_of old)
   pub used : used_of new ≡ used_of old + attribute_length value
-  pub room : room_of new ≡ room_of old
-  pub fits : used_of new ≤ room_of new
+  pub room : capacity_of new ≡ capacity_of old
+  pub fits : used_of new ≤ capacity_of new
 
 -- the attribute doesn't fit, and nothing is changed
 pub record HasNoRoom (value : List ℕ) (old new : Builder) : Type 0 where
-  pub full : room_of old < used_of old + attribute_length value
+  pub full : capacity_of old < used_of old + attribute_length value
   pub unchanged : bytes_of new ≡ bytes_of old

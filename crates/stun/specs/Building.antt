@@ -2,7 +2,7 @@
 use Rattle.std.specs.Prelude.{◌≡◌, ℕ, ◌+◌, ◌≤◌, min, List, ◌++◌, length, take, drop}
 use Rattle.stun.specs.Messages.{Parts, parts_bytes, started, with_attribute, attribute_length}
 use Rattle.stun.specs.Refusals.{number_at}
-use Rattle.stun.specs.Reading.{parts_in, IsDatagram}
+use Rattle.stun.specs.Reading.{parts_in, EncodesParts}
 
 -- the message that a buffer begins with
 abbrev pub message_in : List ℕ → List ℕ
@@ -10,7 +10,7 @@ message_in bytes = take (20 + number_at 2 2 bytes) bytes
 
 pub record IsBuilding (bytes : List ℕ) : Type 0 where
   pub inside : 20 + number_at 2 2 bytes ≤ length bytes
-  pub message : IsDatagram (message_in bytes)
+  pub message : EncodesParts (message_in bytes)
 
 -- its parts
 unfoldable pub built : List ℕ → Parts

@@ -3,7 +3,7 @@ use Rattle.std.specs.Prelude.{ℕ, List}
 use Rattle.std.specs.List.{AllByRecursion-prop}
 use Rattle.std.specs.Coded.{Coded-set, coded_ℕ, coded_list, le_prop}
 use Rattle.stun.specs.Messages.{Padded, IsPadded, Parts, AreParts}
-use Rattle.stun.specs.Reading.{parts_in, IsDatagram}
+use Rattle.stun.specs.Reading.{parts_in, EncodesParts}
 use Rattle.stun.specs.Building.{IsBuilding, message_in}
 
 IsPadded-prop : (a : Padded) → IsProp (IsPadded a)
@@ -17,7 +17,7 @@ AreParts-prop p x y = λ i. record {
   short = le_prop x.short y.short i;
 }
 
-IsDatagram-prop : (bytes : List ℕ) → IsProp (IsDatagram bytes)
+IsDatagram-prop : (bytes : List ℕ) → IsProp (EncodesParts bytes)
 IsDatagram-prop bytes x y = λ i. record {
   are_parts = AreParts-prop (parts_in bytes) x.are_parts y.are_parts i;
   spelled = Coded-set (coded_list coded_ℕ) _ _ x.spelled y.spelled i;

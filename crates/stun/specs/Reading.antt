@@ -41,7 +41,7 @@ pub record AreAttributes (bytes : List ℕ) : Type 0 where
   pub padded : AllByRecursion IsPadded (attributes_in bytes)
   pub spelled : bytes ≡ attributes_bytes (attributes_in bytes)
 
-pub record IsDatagram (bytes : List ℕ) : Type 0 where
+pub record EncodesParts (bytes : List ℕ) : Type 0 where
   pub are_parts : AreParts (parts_in bytes)
   pub spelled : bytes ≡ parts_bytes (parts_in bytes)
 

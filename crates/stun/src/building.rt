@@ -20,7 +20,7 @@ impl<'a> Builder<'a> {
     ghost use Rattle.std.specs.Prelude.{◌≡◌, ◌+◌, ◌<◌, ◌≤◌, length, take, OnOk, OnErr, IfOk};
     ghost use Rattle.stun.specs.Messages.{AreParts, parts_bytes, message_of, IsMessage};
     ghost use Rattle.stun.specs.Building.{IsBuilding, built, used_in, room_in, Begins};
-    ghost use Rattle.stun.specs.Builders.{bytes_of, buffer_name, parts_of, used_of, room_of, SameBuffer, Appends, HasNoRoom};
+    ghost use Rattle.stun.specs.Builders.{bytes_of, buffer_name, parts_of, used_of, capacity_of, SameBuffer, Appends, HasNoRoom};
     ghost use Rattle.std.specs.Borrow.{sem, Array, u8, RestsIfErr};
 
     /// Begins a message with no attributes over the first bytes of a buffer.
@@ -61,7 +61,7 @@ impl<'a> Builder<'a> {
         ensures bytes { bytes_of result ≡ buffer.old }
         ensures parts { parts_of result ≡ built buffer.old }
         ensures used { used_of result ≡ used_in buffer.old }
-        ensures room { room_of result ≡ room_in buffer.old }
+        ensures room { capacity_of result ≡ room_in buffer.old }
         ensures same_buffer { buffer_name result ≡ buffer.entry.ghost_name }
     {
         Builder { buffer }
@@ -107,7 +107,7 @@ impl<'a> Builder<'a> {
     /// beside the value are the type, the length and the most padding.
     /// See docs/DECISIONS.md, "A push that cannot fail".
     pub fn push<V: AttributeValue>(&mut self, kind: u16, value: &V)
-        requires room { used_of self.old + length (V.bytes value.now) + 7 ≤ room_of self.old }
+        requires room { used_of self.old + length (V.bytes value.now) + 7 ≤ capacity_of self.old }
         ensures appends { Appends kind (V.bytes value.now) self.old self.new }
         ensures same_buffer { SameBuffer self.old self.new }
     {
@@ -131,7 +131,7 @@ impl<'a> Builder<'a> {
         ensures bytes { take result (bytes_of self.entry) ≡ parts_bytes (parts_of self.entry) }
         ensures message { IsMessage (message_of (parts_of self.entry))
             (take result (bytes_of self.entry)) }
-        ensures inside { result ≤ room_of self.entry }
+        ensures inside { result ≤ capacity_of self.entry }
         ensures buffer { self.exit.0.now ≡ bytes_of self.entry }
     {
         self.written().len()

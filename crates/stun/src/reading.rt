@@ -30,11 +30,11 @@ impl<'a> Model for Message<'a> {
 
     ghost coded = { parts_code };
 
-    ghost use Rattle.stun.specs.Reading.{parts_in, IsDatagram};
+    ghost use Rattle.stun.specs.Reading.{parts_in, EncodesParts};
 
     ghost view = { λ m. parts_in m.bytes.now };
 
-    ghost invariant = { λ m. IsDatagram m.bytes.now };
+    ghost invariant = { λ m. EncodesParts m.bytes.now };
 }
 
 impl<'a> Message<'a> {

@@ -14,8 +14,8 @@ use Rattle.semantics.specs.Loading.{field_at, field_value}
 use Rattle.semantics.specs.Machine.{Context, IsContext, context_bytes}
 use Rattle.semantics.specs.NumberLaws.{bytes_fit}
 use Rattle.semantics.specs.declared.limits.TheConstants.{MAX_DATAGRAM}
-use Rattle.semantics.specs.declared.loading.Field.{Field}
-use Rattle.semantics.specs.declared.loading.Field.TheVariants as field
+use Rattle.semantics.specs.declared.loading.ContextField.{ContextField}
+use Rattle.semantics.specs.declared.loading.ContextField.TheVariants as field
 use Rattle.semantics.specs.declared.reason.Reason.{Reason}
 use Rattle.semantics.specs.declared.reason.Reason.TheVariants.{ContextAccess}
 use Rattle.semantics.specs.declared.value.Value.{Value}
@@ -80,7 +80,7 @@ module _ {D : Type 0} (ops : Operations D) (Member : D → ℕ → Type 0) (soun
   held_result : (k : AbstractValue D) (v : Value) → IsHeld Member places k v → IsResult Member places length k v
   held_result k v h = of_member Member places length k v h
 
-  field_result : (f : Field) → IsResult Member places length (field_known ops f) (field_value (context_bytes c length) f)
+  field_result : (f : ContextField) → IsResult Member places length (field_known ops f) (field_value (context_bytes c length) f)
   field_result field.Datagram = held_result (field_known ops field.Datagram) (value.Data (pos 0)) (0, tt, ap value.Data (first_is (places First) first))
   field_result field.End = held_result known.End value.End (0, tt, refl)
   field_result field.Length = length_result
@@ -89,7 +89,7 @@ module _ {D : Type 0} (ops : Operations D) (Member : D → ℕ → Type 0) (soun
   field_result field.IdTail = held_result (field_known ops field.IdTail) (value.Scalar (number_of 4 40)) (word 40)
   field_result field.Side = held_result (field_known ops field.Side) (value.Scalar (number_of 4 44)) side_held
 
-  found_agree : (f : Option Field) → Agree claimed (IsResult Member places length) (ok_or f ContextAccess >>= λ g. Ok (field_known ops g)) (ok_or f ContextAccess >>= λ g. Ok (field_value (context_bytes c length) g))
+  found_agree : (f : Option ContextField) → Agree claimed (IsResult Member places length) (ok_or f ContextAccess >>= λ g. Ok (field_known ops g)) (ok_or f ContextAccess >>= λ g. Ok (field_value (context_bytes c length) g))
   found_agree None = λ claim. refl
   found_agree (Some f) = field_result f
 

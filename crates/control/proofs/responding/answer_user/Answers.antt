@@ -1,6 +1,6 @@
 use Rattle.std.proofs.Common.{Ok, Err, Some, None, ap, ◌∙◌, refl, string_bytes}
 use Rattle.stun.specs.Messages.{parts_bytes}
-use Rattle.credentials.specs.Checks.{names_of, user_key}
+use Rattle.credentials.specs.Checks.{accounts_of, user_key}
 use Rattle.tables.specs.Rows.{rows_at}
 use Rattle.control.specs.Control.{understood_and_served}
 use Rattle.control.specs.Replies.{reply_to}
@@ -13,7 +13,7 @@ returns-in-Ok-clause-answer c =
     let p = c.args.message.now in
     let old = c.args.tables.now in
     let user = c.in-Ok.authenticated.user in
-    let key = user_key (string_bytes config.realm) (names_of config.users.items) user in
+    let key = user_key (string_bytes config.realm) (accounts_of config.users.items) user in
     let served = understood_and_served c.args.request c.args.client user p old (rows_at c.args.now old) in
     record {
       checked = Ok user;

@@ -1,7 +1,7 @@
 use Rattle.std.proofs.Common.{arith, rules, refl, sym, ap, ◌∙◌}
 use Rattle.stun.specs.Messages.{message_of}
 use Rattle.stun.specs.Refusals.{IsRefused}
-use Rattle.stun.specs.Reading.{IsDatagram}
+use Rattle.stun.specs.Reading.{EncodesParts}
 use Rattle.stun.specs.declared.refusal.StunError.TheVariants.{AttributeOverrun}
 use Rattle.stun.proofs.Datagrams.{refused_is_no_message, overrun, accepted, accepted_has_parts, parts_are}
 use Rattle.stun.proofs.reading.read.Goals as goal
@@ -22,7 +22,7 @@ pub returns-then-not-are_attributes-clause-refused :
     goal.returns-then-not-are_attributes-clause-refused
 returns-then-not-are_attributes-clause-refused c = overruns c
 
-is_datagram : (c : goal.Else-not-are_attributes) → IsDatagram c.args.bytes.now
+is_datagram : (c : goal.Else-not-are_attributes) → EncodesParts c.args.bytes.now
 is_datagram c =
     accepted_has_parts c.args.bytes.now (λ k. omega (arith, c.type_inv.bytes k))
     (accepted c.args.bytes.now _ (search rules) c.split_at.ensures.back (c.are_attributes.ensures.0 c.if-not-are_attributes.false))
