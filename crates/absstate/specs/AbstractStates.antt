@@ -1,11 +1,11 @@
 -- Interface. The abstract state at a slot of a path: what the verifier knows of each machine state that can be there.
 -- Its numbers are those of a domain D.
-use Rattle.std.specs.Prelude.{ℕ, zero, suc, ◌/◌, ◌%◌, ◌^◌, Bool, true, ◌&&◌, ◌==◌, ℤ, pos, int_lt, List, [], ◌∷◌, Option, Some, None, slice_index_or, slice_set, if◌then◌else◌}
-use Rattle.std.specs.Int.Bits.{bit_or}
+use Rattle.std.specs.Prelude.{ℕ, zero, suc, Bool, true, false, ◌&&◌, ℤ, pos, int_lt, List, [], ◌∷◌, replicate, Option, Some, None, slice_index_or, slice_set, if◌then◌else◌}
 use Rattle.insn.specs.Register.{number_of}
 use Rattle.insn.specs.declared.register.Reg.{Reg}
 use Rattle.insn.specs.declared.register.Reg.TheVariants.{R0, R1, R2, R3, R4, R5}
 use Rattle.semantics.specs.declared.helper.TheConstants.{RECORD_BYTES}
+use Rattle.semantics.specs.declared.limits.TheConstants.{STACK_BYTES}
 use Rattle.absstate.specs.declared.abstract_state.AbstractValue.{AbstractValue}
 use Rattle.absstate.specs.declared.abstract_state.AbstractValue.TheVariants.{Nothing, Scalar, Ctx, Stack}
 use Rattle.absstate.specs.declared.abstract_state.Anchor.{Anchor}
@@ -17,12 +17,12 @@ abbrev pub abstract_at : {D : Type 0} → List (AbstractValue D) → Reg → Abs
 abstract_at registers r = slice_index_or registers (number_of r) Nothing
 
 -- no stack byte is set
-abbrev pub no_marks : Marks
-no_marks = record { words = 0 ∷ 0 ∷ 0 ∷ 0 ∷ 0 ∷ 0 ∷ 0 ∷ 0 ∷ [] }
+unfoldable pub no_marks : Marks
+no_marks = record { cells = replicate STACK_BYTES false }
 
--- whether a stack byte is set, by its index from the first one: a bit of eight words
+-- whether a stack byte is set, by its index from the first one
 abbrev pub is_marked : Marks → ℕ → Bool
-is_marked m i = (slice_index_or m.words (i / 64) 0 / 2 ^ (i % 64)) % 2 == 1
+is_marked m i = slice_index_or m.cells i false
 
 -- whether n bytes from an index on are set
 abbrev pub are_marked : Marks → ℕ → ℕ → Bool
@@ -31,7 +31,7 @@ are_marked m i (suc n) = is_marked m i && are_marked m (suc i) n
 
 -- the marks with one byte more set
 abbrev pub mark : Marks → ℕ → Marks
-mark m i = record { words = slice_set m.words (i / 64) (bit_or (slice_index_or m.words (i / 64) 0) (2 ^ (i % 64))) }
+mark m i = record { cells = slice_set m.cells i true }
 
 -- the marks with n bytes from an index on set
 abbrev pub marked : Marks → ℕ → ℕ → Marks

@@ -79,7 +79,7 @@ pub record IsMember {D : Type 0} (Member : D → ℕ → Type 0) (mode : Mode) (
   pub anchored : (anchor : Anchor) → IsPlaceOf anchor (places anchor)
   pub reaches : (anchor : Anchor) → (places anchor +ℤ proved_of a anchor) ≤ℤ pos s.memory.length
   pub known_count : length a.registers ≡ 11
-  pub marks_count : length a.marks.words ≡ 8
+  pub marks_count : length a.marks.cells ≡ STACK_BYTES
   pub registers : (r : Reg) → IsValue Member mode places (abstract_at a.registers r) (value_at s.registers r)
   pub cells : (i : ℕ) → i < STACK_BYTES → IsCell mode (is_marked a.marks i) (slice_index_or s.memory.stack i None)
   pub tagged : IsTagged s

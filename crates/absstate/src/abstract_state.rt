@@ -46,10 +46,10 @@ impl<D: Copy> Clone for AbstractValue<D> {
 
 impl<D: Copy> Copy for AbstractValue<D> {}
 
-/// The stack bytes that are set, a bit for each.
+/// The stack bytes that are set: a mark for each, from the first byte on.
 #[derive(Clone, Copy, Debug, PartialEq, Eq)]
 pub struct Marks {
-    words: [u64; 8],
+    cells: [bool; STACK_BYTES],
 }
 
 impl Marks {
@@ -57,15 +57,17 @@ impl Marks {
     pub fn none() -> Marks
         ensures { result ≡ no_marks }
     {
-        Marks { words: [0; 8] }
+        Marks {
+            cells: [false; STACK_BYTES],
+        }
     }
 
     /// Returns whether a byte is set, by its index from the first one of the stack.
     pub fn is_set(&self, index: usize) -> bool
         ensures { result ≡ is_marked self.now index }
     {
-        match self.words.get(index / 64) {
-            Some(word) => (*word >> (index % 64)) % 2 == 1,
+        match self.cells.get(index) {
+            Some(mark) => *mark,
             None => false,
         }
     }
@@ -75,7 +77,7 @@ impl Marks {
         ensures { self.new ≡ mark self.old index }
     {
         if index < STACK_BYTES {
-            self.words[index / 64] |= 1 << (index % 64);
+            self.cells[index] = true;
         }
     }
 

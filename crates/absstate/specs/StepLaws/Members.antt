@@ -1,10 +1,9 @@
 -- Interface. Steps keep members, and members of one abstract state are loosenings of each other.
-use Rattle.std.proofs.Common.{◌≡◌, ℕ, zero, suc, ◌+◌, ◌<◌, ◌≤◌, ◌^◌, ◌/◌, ◌%◌, Bool, true, false, ℤ, pos, ◌+ℤ◌, ◌≤ℤ◌, List, length, get_or, map, Option, Some, None, refl, sym, ap, ◌∙◌, subst, arith, All, inl, inr}
-use Rattle.std.specs.Prelude.{◌-◌, is_some, IfSome, ◌==◌, int_lt, slice_index_or, slice_set, if◌then◌else◌}
+use Rattle.std.proofs.Common.{◌≡◌, ℕ, zero, suc, ◌+◌, ◌<◌, ◌≤◌, ◌^◌, Bool, true, false, ℤ, pos, ◌+ℤ◌, ◌≤ℤ◌, List, length, get_or, map, Option, Some, None, refl, sym, ap, ◌∙◌, subst, arith, All, inl, inr}
+use Rattle.std.specs.Prelude.{◌-◌, is_some, IfSome, int_lt, slice_index_or, slice_set, if◌then◌else◌}
 use Rattle.std.proofs.lemmas.Int.{ints}
 use Rattle.std.proofs.lemmas.Bool.{cases_eq, cases_lt}
-use Rattle.std.proofs.Math.Nat.{zero-div}
-use Rattle.std.proofs.lemmas.List.{get_or-set_other, set-get_or, length-set, length-map, get_or-map, get_or-replicate, get_or_past}
+use Rattle.std.proofs.lemmas.List.{get_or-set_other, set-get_or, length-set, length-map, length-replicate, get_or-map, get_or-replicate, get_or_past}
 use Rattle.std.proofs.lemmas.Grind.{get_or-set_at}
 use Rattle.insn.specs.Register.{number_of}
 use Rattle.insn.specs.declared.register.Reg.{Reg}
@@ -18,6 +17,7 @@ use Rattle.semantics.specs.declared.plan.Plan.{Plan}
 use Rattle.semantics.specs.declared.access.Location.{Location}
 use Rattle.semantics.specs.declared.access.Location.TheVariants.{InStack, InBytes}
 use Rattle.semantics.specs.StartLaws.{nothing_set}
+use Rattle.semantics.specs.declared.limits.TheConstants.{STACK_BYTES}
 use Rattle.semantics.specs.Effects.{value_at}
 use Rattle.semantics.specs.Runs.{write_register, called, answered}
 use Rattle.semantics.specs.LooseRuns.{SameKind, Loosens}
@@ -100,7 +100,7 @@ module _ {D : Type 0} (Member : D → ℕ → Type 0) (mode : Mode) (places : Pl
       (member_written r k (value_at s.registers r) n held (register_proper s r member.tagged))
 
   -- memory is replaced by another one of the same length, and the marks by those of its cells
-  with_new_memory : (marks : Marks) (memory : Memory) (n : ℕ) (p : Plan) → length marks.words ≡ 8 → memory.length ≡ s.memory.length → IsMemory memory → ((i : ℕ) → i < 512 → IsCell mode (is_marked marks i) (slice_index_or memory.stack i None))
+  with_new_memory : (marks : Marks) (memory : Memory) (n : ℕ) (p : Plan) → length marks.cells ≡ STACK_BYTES → memory.length ≡ s.memory.length → IsMemory memory → ((i : ℕ) → i < 512 → IsCell mode (is_marked marks i) (slice_index_or memory.stack i None))
       → IsMember Member mode places (record a { marks = marks }) (record s { slot = n; memory = memory; plan = p })
   with_new_memory marks memory n p count size is cells = record {
     anchored = member.anchored;
@@ -199,17 +199,16 @@ module _ {D : Type 0} (Member : D → ℕ → Type 0) (words : (x : D) (n : ℕ)
 abbrev pub at_first : Places
 at_first anchor = pos 0
 
-zeros_at : (k : ℕ) → get_or no_marks.words k 0 ≡ 0
-zeros_at k = elim (cases_lt k 8) [
-  | inl lt ↦ let zero_word : ℕ = 0 in get_or-replicate 8 k zero_word 0 lt
-  | inr le ↦ get_or_past no_marks.words k 0 le
-]
-
-no_bit : (n : ℕ) → ((0 / n) % 2 == 1) ≡ false
-no_bit n = ap (λ (k : ℕ). k % 2 == 1) (zero-div n)
+no_marks_count : length no_marks.cells ≡ STACK_BYTES
+unfolding no_marks
+no_marks_count = length-replicate STACK_BYTES false
 
 unmarked : (i : ℕ) → is_marked no_marks i ≡ false
-unmarked i = ap (λ (w : ℕ). (w / 2 ^ (i % 64)) % 2 == 1) (zeros_at (i / 64)) ∙ no_bit (2 ^ (i % 64))
+unfolding no_marks
+unmarked i = elim (cases_lt i STACK_BYTES) [
+  | inl lt ↦ get_or-replicate STACK_BYTES i false false lt
+  | inr le ↦ get_or_past no_marks.cells i false (omega (arith, no_marks_count, le))
+]
 
 first_registers_are : {D : Type 0} (Member : D → ℕ → Type 0) (mode : Mode) (d : List ℕ) (r : Reg) → IsValue Member mode at_first (abstract_at first_state.registers r) (value_at (start d).registers r)
 first_registers_are Member mode d reg.R0 = λ e. refl
@@ -239,7 +238,7 @@ first_member Member mode d fit = record {
   anchored = first_place;
   reaches = reaches_at_first Member (length d);
   known_count = refl;
-  marks_count = refl;
+  marks_count = no_marks_count;
   registers = first_registers_are Member mode d;
   cells = λ i lt. record {
     held = marked_is_not (is_marked no_marks i) (is_some (get_or empty_stack i None)) (unmarked i);
