@@ -48,7 +48,6 @@ pub struct Authenticated {
 }
 
 /// Returns the right code of a message under a key, if the message has a MESSAGE-INTEGRITY.
-/// See docs/DECISIONS.md, "Two scans of a check".
 fn code_under(key: &Key, message: &Message<'_>) -> Option<[u8; 20]>
     ensures { result ≡ code_under (key_bytes key.now) message.now }
 {
@@ -122,9 +121,9 @@ fn presented<'a>(message: &Message<'a>, nonce: &str) -> Result<(&'a [u8], &'a [u
     Ok((code, name))
 }
 
-/// Checks the credentials of a request: it has a code, a name, a realm and the nonce, a user has the name,
-/// and the code is the right one under the key of that user. Returns that user and key. The realm that the
-/// request names is not compared.
+/// Checks the credentials of a request, in one scan of its attributes: it has a code, a name, a realm and the nonce,
+/// a user has the name, and the code is the right one under the key of that user. Returns that user and key. The
+/// realm that the request names is not compared.
 /// See docs/DECISIONS.md, "The key of a check".
 ///
 /// # Errors

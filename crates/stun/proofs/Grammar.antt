@@ -1,7 +1,7 @@
 -- Attributes and parts are those of their bytes, and of no others.
 use Rattle.std.proofs.Common.{◌≡◌, ℕ, zero, suc, ◌+◌, ◌*◌, ◌/◌, ◌%◌, ◌<◌, ◌≤◌, List, [], ◌∷◌, ◌++◌, length, take, drop, slice_index, subst, refl, sym, ap, ◌∙◌, arith, append_assoc}
 use Rattle.std.specs.List.{AllByRecursion}
-use Rattle.std.proofs.lemmas.List.{length-append, length-drop, length-take-le, take-append-drop, drop-drop, nil_from_length}
+use Rattle.std.proofs.lemmas.List.{length-append, length-drop, length-take-le, take-append-drop, drop-drop, nil_from_length, append-nil}
 use Rattle.byteorder.specs.Endian.{big_bytes, big_number}
 use Rattle.byteorder.specs.Numbers.{big_number-reads_back}
 use Rattle.stun.specs.Messages.{Padded, IsPadded, padding_count, attribute_bytes, attributes_bytes}
@@ -162,11 +162,6 @@ pub no_attributes : (bytes : List ℕ) → length bytes ≤ 0 → AreAttributes 
 no_attributes bytes none = are_attributes_of bytes [] tt (nil_from_length bytes (omega arith))
 
 -- one more in front
-attributes_cons : (bytes : List ℕ) (kind : ℕ) (value rest : List ℕ) → BeginsWith bytes kind value rest → AreAttributes rest → AreAttributes bytes
-attributes_cons bytes kind value rest first are =
-    are_attributes_of bytes (first_padded bytes ∷ attributes_in rest) (first.padded, are.padded)
-    (first.spelled ∙ ap (λ (r : List ℕ). attribute_bytes (first_padded bytes) ++ r) are.spelled)
-
 not_nothing : (bytes : List ℕ) (kind : ℕ) (value rest : List ℕ) → BeginsWith bytes kind value rest → bytes ≡ [] → ⊥
 not_nothing bytes kind value rest first nothing = omega (arith, ap length nothing, ap length first.spelled, length_of_attribute (first_padded bytes) rest first.padded)
 
@@ -188,23 +183,20 @@ attributes_split bytes kind value rest first are =
     attributes_are bytes (first_padded bytes ∷ attributes_in rest) (first.padded, are.padded)
     (first.spelled ∙ ap (λ (r : List ℕ). attribute_bytes (first_padded bytes) ++ r) are.spelled)
 
--- what the walk keeps: the bytes are attributes exactly where the rest is
-pub record Walked (bytes rest : List ℕ) : Type 0 where
-  pub back : AreAttributes rest → AreAttributes bytes
-  pub forth : AreAttributes bytes → AreAttributes rest
+-- ---- lists of attributes
 
-pub walked_more : (bytes rest : List ℕ) (kind : ℕ) (value after : List ℕ) → Walked bytes rest → BeginsWith rest kind value after → Walked bytes after
-walked_more bytes rest kind value after walked first = record {
-  back = λ a. walked.back (attributes_cons rest kind value after first a);
-  forth = λ a. attributes_tail rest kind value after first (walked.forth a);
-}
+pub bytes_append : (front back : List Padded) → attributes_bytes (front ++ back) ≡ attributes_bytes front ++ attributes_bytes back
+bytes_append [] back = refl
+bytes_append (a ∷ front) back = ap (λ b. attribute_bytes a ++ b) (bytes_append front back) ∙ sym (append_assoc (attribute_bytes a) (attributes_bytes front) (attributes_bytes back))
+
+pub push_bytes : (front : List Padded) (a : Padded) → attributes_bytes (front ++ a ∷ []) ≡ attributes_bytes front ++ attribute_bytes a
+push_bytes front a = bytes_append front (a ∷ []) ∙ ap (λ b. attributes_bytes front ++ b) (append-nil (attribute_bytes a))
+
+pub push_all : (front : List Padded) (a : Padded) → AllByRecursion IsPadded front → IsPadded a → AllByRecursion IsPadded (front ++ a ∷ [])
+push_all [] a all is = (is, tt)
+push_all (b ∷ front) a all is = (all.0, push_all front a all.1 is)
 
 pub none_begin : (bytes : List ℕ) → 0 < length bytes → ((a : Padded) (r : List ℕ) → IsPadded a → bytes ≡ attribute_bytes a ++ r → ⊥)
     → (list : List Padded) → AllByRecursion IsPadded list → bytes ≡ attributes_bytes list → ⊥
 none_begin bytes some none [] all spelled = omega (arith, ap length spelled)
 none_begin bytes some none (a ∷ list) all spelled = none a (attributes_bytes list) all.0 spelled
-
-pub walked_none : (bytes rest : List ℕ) → Walked bytes rest → 0 < length rest → ((a : Padded) (r : List ℕ) → IsPadded a → rest ≡ attribute_bytes a ++ r → ⊥) → AreAttributes bytes → ⊥
-walked_none bytes rest walked some none are =
-    let a = walked.forth are in
-    none_begin rest some none (attributes_in rest) a.padded a.spelled

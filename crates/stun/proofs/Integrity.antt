@@ -1,15 +1,17 @@
 -- The attributes up to the first MESSAGE-INTEGRITY, and the bytes before it.
-use Rattle.std.proofs.Common.{◌≡◌, ℕ, suc, ◌+◌, ◌<◌, List, [], ◌∷◌, ◌++◌, map, length, take, drop, Bool, true, false, refl, sym, ap, ◌∙◌, arith, append_assoc, Option, Some, None, option_map}
+use Rattle.std.proofs.Common.{◌≡◌, ℕ, ◌+◌, ◌-◌, ◌<◌, ◌≤◌, List, [], ◌∷◌, ◌++◌, map, length, take, Bool, true, false, refl, sym, ap, ◌∙◌, arith, append_assoc, Option, Some, None, option_map}
 use Rattle.std.specs.Prelude.{◌==◌, if◌then◌else◌}
+use Rattle.std.specs.Bool.{then_some}
+use Rattle.std.specs.Option.{option_or}
 use Rattle.std.specs.List.{AllByRecursion}
 use Rattle.std.proofs.lemmas.Bool.{eq-eqb, ne_eqb}
-use Rattle.std.proofs.lemmas.List.{length-drop, append-nil}
+use Rattle.std.proofs.lemmas.List.{length-append, append-nil, nil_from_length}
 use Rattle.stun.specs.Registry.{message_integrity}
 use Rattle.stun.specs.Messages.{Padded, IsPadded, Parts, AreParts, attribute_of, attribute_bytes, attributes_bytes, header, up_to_integrity, before_first, before_integrity, message_of, parts_bytes, Message, IsMessage}
 use Rattle.stun.specs.Attributes.{attributes_left}
-use Rattle.stun.specs.Reading.{first_padded, attributes_in, parts_in, BeginsWith, AreAttributes, EncodesParts}
-use Rattle.stun.proofs.Grammar.{attributes_split, attributes_tail, none_begin}
-use Rattle.stun.proofs.Datagrams.{parts_unique, body_is, length_of_parts}
+use Rattle.stun.specs.Reading.{first_padded, attributes_in, parts_in, integrity_at, BeginsWith, AreAttributes, EncodesParts, IsRead}
+use Rattle.stun.proofs.Grammar.{attributes_split, attributes_tail, none_begin, attributes_are, are_attributes_of, bytes_append, push_bytes, push_all, piece_take}
+use Rattle.stun.proofs.Datagrams.{parts_unique}
 
 -- ---- the iterator
 
@@ -44,81 +46,124 @@ more_left bytes kind value rest first are other =
 
 -- ---- the first MESSAGE-INTEGRITY
 
--- what the search for it keeps
-pub record Sought (bytes rest : List ℕ) : Type 0 where
+abbrev bytes_count : List Padded → ℕ
+bytes_count front = length (attributes_bytes front)
+
+-- what the scan keeps: the attributes that it has passed
+pub record Scanned (bytes rest : List ℕ) (at : Option ℕ) : Type 0 where
   pub front : List Padded
-  pub are : AreAttributes rest
+  pub padded : AllByRecursion IsPadded front
   pub parts : bytes ≡ attributes_bytes front ++ rest
-  pub same : before_first (attributes_in bytes) ≡ option_map (λ f. front ++ f) (before_first (attributes_in rest))
+  pub rest_are : AreAttributes bytes → AreAttributes rest
+  pub found : at ≡ option_map (λ f. length (attributes_bytes f)) (before_first front)
 
-first_if : (bytes : List ℕ) (kind : ℕ) (value rest : List ℕ) (test : Bool) → BeginsWith bytes kind value rest → AreAttributes bytes → ((first_padded bytes).kind == message_integrity) ≡ test
-    → before_first (attributes_in bytes) ≡ (if test then Some [] else option_map (λ f. first_padded bytes ∷ f) (before_first (attributes_in rest)))
-first_if bytes kind value rest test first are tested =
-    ap before_first (split_of bytes kind value rest first are)
-    ∙ (λ i. if tested i then Some [] else option_map (λ f. first_padded bytes ∷ f) (before_first (attributes_in rest)))
+pub none_scanned : (bytes : List ℕ) → Scanned bytes bytes None
+none_scanned bytes = record { front = []; padded = tt; parts = refl; rest_are = λ are. are; found = refl }
 
-push_bytes : (front : List Padded) (a : Padded) (rest : List ℕ) → attributes_bytes (front ++ a ∷ []) ++ rest ≡ attributes_bytes front ++ (attribute_bytes a ++ rest)
-push_bytes [] a rest = ap (λ b. b ++ rest) (append-nil (attribute_bytes a))
-push_bytes (b ∷ front) a rest =
-    append_assoc (attribute_bytes b) (attributes_bytes (front ++ a ∷ [])) rest ∙ ap (λ c. attribute_bytes b ++ c) (push_bytes front a rest) ∙ sym (append_assoc (attribute_bytes b) (attributes_bytes front) (attribute_bytes a ++ rest))
+mapped_or : {A B : Type 0} (f : A → B) (o p : Option A) → option_map f (option_or o p) ≡ option_or (option_map f o) (option_map f p)
+mapped_or f None p = refl
+mapped_or f (Some x) p = refl
 
-push_option : (front : List Padded) (a : Padded) (o : Option (List Padded)) → option_map (λ f. front ++ f) (option_map (λ f. a ∷ f) o) ≡ option_map (λ f. (front ++ a ∷ []) ++ f) o
-push_option front a None = refl
-push_option front a (Some f) = ap Some (sym (append_assoc front (a ∷ []) f))
+test_is : {A : Type 0} (test : Bool) (x : A) → (if test then Some x else None) ≡ then_some test x
+test_is true x = refl
+test_is false x = refl
 
-pub sought_more : (bytes rest : List ℕ) (kind : ℕ) (value after : List ℕ) → Sought bytes rest → BeginsWith rest kind value after → (kind ≡ message_integrity → ⊥) → Sought bytes after
-sought_more bytes rest kind value after sought first other =
+mapped_test : {A B : Type 0} (f : A → B) (test : Bool) (x : A) → option_map f (then_some test x) ≡ then_some test (f x)
+mapped_test f true x = refl
+mapped_test f false x = refl
+
+pushed_behind : (test : Bool) (b : Padded) (front : List Padded) (a : Padded) → before_first (front ++ a ∷ []) ≡ option_or (before_first front) (then_some (a.kind == message_integrity) front)
+    → (if test then Some [] else option_map (λ f. b ∷ f) (before_first (front ++ a ∷ [])))
+    ≡ option_or (if test then Some [] else option_map (λ f. b ∷ f) (before_first front)) (then_some (a.kind == message_integrity) (b ∷ front))
+pushed_behind true b front a same = refl
+pushed_behind false b front a same =
+    ap (option_map (λ f. b ∷ f)) same
+    ∙ mapped_or (λ f. b ∷ f) (before_first front) (then_some (a.kind == message_integrity) front)
+    ∙ ap (option_or (option_map (λ f. b ∷ f) (before_first front))) (mapped_test (λ f. b ∷ f) (a.kind == message_integrity) front)
+
+first_pushed : (front : List Padded) (a : Padded) → before_first (front ++ a ∷ []) ≡ option_or (before_first front) (then_some (a.kind == message_integrity) front)
+first_pushed [] a = test_is (a.kind == message_integrity) []
+first_pushed (b ∷ front) a = pushed_behind (b.kind == message_integrity) b front a (first_pushed front a)
+
+pub scanned_more : (bytes rest : List ℕ) (at : Option ℕ) (kind : ℕ) (value after : List ℕ) → Scanned bytes rest at → BeginsWith rest kind value after
+    → Scanned bytes after (option_or at (then_some (kind == message_integrity) (length bytes - length rest)))
+scanned_more bytes rest at kind value after scanned first =
     let a = first_padded rest in
-    let tested = ne_eqb a.kind message_integrity (λ e. other (first.kind_is ∙ e)) in
+    let front = scanned.front in
+    let here : length bytes - length rest ≡ bytes_count front = omega (arith, ap length scanned.parts, length-append (attributes_bytes front) rest) in
+    let test = a.kind == message_integrity in
     record {
-      front = sought.front ++ a ∷ [];
-      are = attributes_tail rest kind value after first sought.are;
-      parts = sought.parts ∙ ap (λ b. attributes_bytes sought.front ++ b) first.spelled ∙ sym (push_bytes sought.front a after);
-      same = sought.same ∙ ap (option_map (λ f. sought.front ++ f)) (first_if rest kind value after false first sought.are tested) ∙ push_option sought.front a (before_first (attributes_in after));
+      front = front ++ a ∷ [];
+      padded = push_all front a scanned.padded first.padded;
+      parts = scanned.parts ∙ ap (λ b. attributes_bytes front ++ b) first.spelled ∙ sym (append_assoc (attributes_bytes front) (attribute_bytes a) after) ∙ ap (λ b. b ++ after) (sym (push_bytes front a));
+      rest_are = λ are. attributes_tail rest kind value after first (scanned.rest_are are);
+      found =
+          (λ i. option_or (scanned.found i) (then_some (first.kind_is i == message_integrity) (here i)))
+          ∙ ap (option_or (option_map bytes_count (before_first front))) (sym (mapped_test bytes_count test front))
+          ∙ sym (mapped_or bytes_count (before_first front) (then_some test front))
+          ∙ ap (option_map bytes_count) (sym (first_pushed front a));
     }
 
-pub never_none : (bytes rest : List ℕ) → Sought bytes rest → 0 < length rest → ((a : Padded) (r : List ℕ) → IsPadded a → rest ≡ attribute_bytes a ++ r → ⊥) → ⊥
-never_none bytes rest sought some none = none_begin rest some none (attributes_in rest) sought.are.padded sought.are.spelled
+pub scan_overruns : (bytes rest : List ℕ) (at : Option ℕ) → Scanned bytes rest at → 0 < length rest → ((a : Padded) (r : List ℕ) → IsPadded a → rest ≡ attribute_bytes a ++ r → ⊥) → AreAttributes bytes → ⊥
+scan_overruns bytes rest at scanned some none are =
+    let left = scanned.rest_are are in
+    none_begin rest some none (attributes_in rest) left.padded left.spelled
 
--- ---- of a message
+pub scanned_all : (bytes rest : List ℕ) (at : Option ℕ) → Scanned bytes rest at → length rest ≤ 0 → AreAttributes bytes × (at ≡ integrity_at bytes)
+scanned_all bytes rest at scanned none =
+    let spelled = scanned.parts ∙ ap (λ b. attributes_bytes scanned.front ++ b) (nil_from_length rest (omega (arith, none))) ∙ append-nil (attributes_bytes scanned.front) in
+    (are_attributes_of bytes scanned.front scanned.padded spelled, scanned.found ∙ ap (λ l. option_map bytes_count (before_first l)) (sym (attributes_are bytes scanned.front scanned.padded spelled)))
 
--- a piece more, in an option
-zero_first : (n : ℕ) → 0 + n ≡ n
-zero_first n = omega arith
+-- ---- the bytes before it
 
-suc_first : (a n : ℕ) → suc a + n ≡ suc (a + n)
-suc_first a n = omega arith
+-- attributes begin with those before the first MESSAGE-INTEGRITY
+front_step : (test : Bool) (a : Padded) (list : List Padded) (o : Option (List Padded)) (f : List Padded) → ((g : List Padded) → o ≡ Some g → (r : List Padded) × (list ≡ g ++ r))
+    → (if test then Some [] else option_map (λ g. a ∷ g) o) ≡ Some f → (r : List Padded) × (a ∷ list ≡ f ++ r)
+front_step true a list o f behind e = let none : [] ≡ f = cc in (a ∷ list, ap (λ g. g ++ a ∷ list) none)
+front_step false a list None f behind e = absurd cc
+front_step false a list (Some g) f behind e =
+    let is : a ∷ g ≡ f = cc in
+    let rest = behind g refl in
+    (rest.0, ap (λ l. a ∷ l) rest.1 ∙ ap (λ l. l ++ rest.0) is)
 
-in_front : (x : List ℕ) (o : Option (List Padded)) → option_map (λ b. x ++ b) (option_map attributes_bytes o) ≡ option_map (λ front. x ++ attributes_bytes front) o
-in_front x None = refl
-in_front x (Some f) = refl
-
-take_more_piece : (x y : List ℕ) (n : ℕ) → take (length x + n) (x ++ y) ≡ x ++ take n y
-take_more_piece [] y n = ap (λ k. take k y) (zero_first n)
-take_more_piece (a ∷ x) y n = ap (λ k. take k (a ∷ x ++ y)) (suc_first (length x) n) ∙ ap (λ l. a ∷ l) (take_more_piece x y n)
+behind_front : (list f : List Padded) → before_first list ≡ Some f → (r : List Padded) × (list ≡ f ++ r)
+behind_front [] f e = absurd cc
+behind_front (a ∷ list) f e = front_step (a.kind == message_integrity) a list (before_first list) f (behind_front list) e
 
 abbrev header_of : Parts → List ℕ
 header_of p = header p.kind (length (attributes_bytes p.attributes)) p.transaction_id
 
-pub front_is : (p : Parts) (bytes body : List ℕ) (n : ℕ) → AreParts p → bytes ≡ parts_bytes p → body ≡ attributes_bytes p.attributes
-    → Some (take n body) ≡ option_map attributes_bytes (before_first p.attributes) → Some (take (20 + n) bytes) ≡ before_integrity p
-front_is p bytes body n are spelled body_is found =
-    let x : List ℕ = header_of p in
-    let long : length x ≡ 20 = omega (arith, are.transaction_id) in
-    ap Some (ap (take (20 + n)) spelled ∙ ap (λ k. take (k + n) (x ++ attributes_bytes p.attributes)) (sym long) ∙ take_more_piece x (attributes_bytes p.attributes) n ∙ ap (λ b. x ++ take n b) (sym body_is))
-    ∙ ap (option_map (λ b. x ++ b)) found ∙ in_front x (before_first p.attributes)
+header_length : (p : Parts) → AreParts p → length (header_of p) ≡ 20
+header_length p are = omega (arith, are.transaction_id)
+
+front_is : (p : Parts) (f : List Padded) → AreParts p → before_first p.attributes ≡ Some f
+    → (take (20 + bytes_count f) (parts_bytes p) ≡ header_of p ++ attributes_bytes f) × (20 + bytes_count f ≤ length (parts_bytes p))
+front_is p f are found =
+    let rest = behind_front p.attributes f found in
+    let x = header_of p in
+    let front = attributes_bytes f in
+    let after = attributes_bytes rest.0 in
+    let bytes : attributes_bytes p.attributes ≡ front ++ after = ap attributes_bytes rest.1 ∙ bytes_append f rest.0 in
+    let whole : parts_bytes p ≡ (x ++ front) ++ after = ap (λ b. x ++ b) bytes ∙ sym (append_assoc x front after) in
+    let size : 20 + bytes_count f ≡ length (x ++ front) = omega (arith, header_length p are, length-append x front) in
+    (ap (take (20 + bytes_count f)) whole ∙ piece_take (x ++ front) after (20 + bytes_count f) size, omega (arith, ap length whole, size, length-append (x ++ front) after))
+
+found_in : (bytes front : List ℕ) (n : ℕ) (o : Option (List Padded)) → EncodesParts bytes → before_first (parts_in bytes).attributes ≡ o → Some n ≡ option_map bytes_count o
+    → (20 + n ≤ length bytes) × (front ≡ take (20 + n) bytes → Some front ≡ option_map (λ f. header_of (parts_in bytes) ++ attributes_bytes f) o)
+found_in bytes front n None is same at = absurd cc
+found_in bytes front n (Some f) is same at =
+    let n_is : n ≡ bytes_count f = cc in
+    let there = front_is (parts_in bytes) f is.are_parts same in
+    (omega (arith, n_is, there.1, ap length is.spelled), λ e. ap Some (e ∙ (λ i. take (20 + n_is i) (is.spelled i)) ∙ there.0))
+
+pub front_fits : (bytes : List ℕ) (at : Option ℕ) (n : ℕ) → IsRead bytes at → at ≡ Some n → 20 + n ≤ length bytes
+front_fits bytes at n is found = (found_in bytes [] n (before_first (parts_in bytes).attributes) is.encodes refl (sym found ∙ is.integrity_is)).0
+
+pub front_found : (bytes front : List ℕ) (at : Option ℕ) (n : ℕ) (p : Parts) → IsRead bytes at → at ≡ Some n → parts_in bytes ≡ p → front ≡ take (20 + n) bytes → Some front ≡ before_integrity p
+front_found bytes front at n p is found parts_is there =
+    (found_in bytes front n (before_first (parts_in bytes).attributes) is.encodes refl (sym found ∙ is.integrity_is)).1 there ∙ ap before_integrity parts_is
+
+-- ---- of a message
 
 pub same_message : (m n : Message) (bytes : List ℕ) → IsMessage m bytes → IsMessage n bytes → m ≡ n
 same_message m n bytes a b = a.3 ∙ ap message_of (parts_unique a.0 b.0 a.1 b.1 (sym a.2 ∙ b.2)) ∙ sym b.3
-
-pub length_of_datagram : (bytes body : List ℕ) → EncodesParts bytes → body ≡ drop 20 bytes → 20 + length body ≡ length bytes
-length_of_datagram bytes body is body_there =
-    omega (arith, ap length body_there, length-drop 20 bytes, ap length is.spelled, length_of_parts (parts_in bytes) is.are_parts)
-
-pub front_of : (bytes body front : List ℕ) (n : ℕ) (p : Parts) → EncodesParts bytes → parts_in bytes ≡ p → body ≡ drop 20 bytes → front ≡ take (20 + n) bytes
-    → Some (take n body) ≡ option_map attributes_bytes (before_first (attributes_in body)) → Some front ≡ before_integrity p
-front_of bytes body front n p is parts_is body_there front_there found =
-    let spelled = body_there ∙ ap (drop 20) is.spelled ∙ body_is (parts_in bytes) is.are_parts in
-    ap Some front_there
-    ∙ front_is (parts_in bytes) bytes body n is.are_parts is.spelled spelled (found ∙ ap (λ b. option_map attributes_bytes (before_first (attributes_in b))) body_there)
-    ∙ ap before_integrity parts_is

@@ -1,14 +1,13 @@
 -- What is written over bytes, and the parts of what stands in a buffer.
-use Rattle.std.proofs.Common.{◌≡◌, ℕ, zero, suc, ◌+◌, ◌%◌, ◌<◌, ◌≤◌, min, List, [], ◌∷◌, ◌++◌, length, take, drop, replicate, subst, refl, sym, ap, ◌∙◌, arith, append_assoc}
-use Rattle.std.specs.List.{AllByRecursion}
-use Rattle.std.proofs.lemmas.List.{length-append, length-drop, length-take-le, take-append-drop, drop-drop, append-nil}
+use Rattle.std.proofs.Common.{◌≡◌, ℕ, zero, suc, ◌+◌, ◌%◌, ◌<◌, ◌≤◌, min, List, ◌++◌, length, take, drop, replicate, subst, refl, sym, ap, ◌∙◌, arith, append_assoc}
+use Rattle.std.proofs.lemmas.List.{length-append, length-drop, length-take-le, take-append-drop, drop-drop}
 use Rattle.byteorder.specs.Endian.{big_bytes}
 use Rattle.byteorder.specs.Numbers.{big_number-reads_back}
 use Rattle.stun.specs.Registry.{magic_cookie}
-use Rattle.stun.specs.Messages.{Padded, IsPadded, Parts, AreParts, padding_count, attribute_bytes, attributes_bytes, header, parts_bytes, zero_padded, with_attribute, started, attribute_length}
+use Rattle.stun.specs.Messages.{Parts, AreParts, padding_count, attribute_bytes, attributes_bytes, header, parts_bytes, zero_padded, with_attribute, started, attribute_length}
 use Rattle.stun.specs.Refusals.{number_at}
 use Rattle.stun.specs.Building.{IsBuilding, message_in, built, used_in, room_in, over, patched, Begins, IsAppended}
-use Rattle.stun.proofs.Grammar.{piece_take, piece_drop}
+use Rattle.stun.proofs.Grammar.{piece_take, piece_drop, push_bytes, push_all}
 use Rattle.stun.proofs.Datagrams.{parts_are, fours, length_of_parts}
 
 -- ---- pieces written one after the other
@@ -93,14 +92,6 @@ split_building b is =
     (whole, long, omega (arith, long, length_of_parts p is.message.are_parts))
 
 -- ---- one attribute more
-
-push_all : (list : List Padded) (a : Padded) → AllByRecursion IsPadded list → IsPadded a → AllByRecursion IsPadded (list ++ a ∷ [])
-push_all [] a all is = (is, tt)
-push_all (b ∷ list) a all is = (all.0, push_all list a all.1 is)
-
-push_bytes : (list : List Padded) (a : Padded) → attributes_bytes (list ++ a ∷ []) ≡ attributes_bytes list ++ attribute_bytes a
-push_bytes [] a = append-nil (attribute_bytes a)
-push_bytes (b ∷ list) a = ap (λ c. attribute_bytes b ++ c) (push_bytes list a) ∙ sym (append_assoc (attribute_bytes b) (attributes_bytes list) (attribute_bytes a))
 
 pub length_replicate : (n : ℕ) → length {A = ℕ} (replicate n 0) ≡ n
 length_replicate zero = refl

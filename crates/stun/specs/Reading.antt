@@ -1,8 +1,8 @@
 -- Interface. The attributes and the parts that bytes encode, for bytes that are known to encode some.
-use Rattle.std.specs.Prelude.{◌≡◌, ℕ, zero, suc, ◌+◌, ◌<◌, ◌≤◌, List, [], ◌∷◌, ◌++◌, length, take, drop, refl}
+use Rattle.std.specs.Prelude.{◌≡◌, ℕ, zero, suc, ◌+◌, ◌<◌, ◌≤◌, List, [], ◌∷◌, ◌++◌, length, take, drop, refl, Option, option_map}
 use Rattle.std.specs.List.{AllByRecursion}
 use Rattle.std.specs.Coded.{Coded, code_by, coded×, coded_list, coded_ℕ}
-use Rattle.stun.specs.Messages.{Padded, IsPadded, Parts, AreParts, padding_count, attribute_bytes, attributes_bytes, parts_bytes}
+use Rattle.stun.specs.Messages.{Padded, IsPadded, Parts, AreParts, padding_count, attribute_bytes, attributes_bytes, parts_bytes, before_first}
 use Rattle.stun.specs.Registry.{magic_cookie}
 use Rattle.stun.specs.Refusals.{number_at, HasLength}
 
@@ -44,6 +44,15 @@ pub record AreAttributes (bytes : List ℕ) : Type 0 where
 pub record EncodesParts (bytes : List ℕ) : Type 0 where
   pub are_parts : AreParts (parts_in bytes)
   pub spelled : bytes ≡ parts_bytes (parts_in bytes)
+
+-- the byte of attributes at which the first MESSAGE-INTEGRITY begins
+abbrev pub integrity_at : List ℕ → Option ℕ
+integrity_at bytes = option_map (λ front. length (attributes_bytes front)) (before_first (attributes_in bytes))
+
+-- what a message that was read keeps
+pub record IsRead (bytes : List ℕ) (integrity : Option ℕ) : Type 0 where
+  pub encodes : EncodesParts bytes
+  pub integrity_is : integrity ≡ integrity_at (drop 20 bytes)
 
 -- the conditions on the first 20 bytes of a datagram
 pub record HasHeader (bytes : List ℕ) : Type 0 where

@@ -1,11 +1,13 @@
 //! The attributes of a message (RFC 8489, section 14).
 
-ghost use Rattle.std.specs.Prelude.{◌≡◌, ℕ, ◌≤◌, ◌++◌, List, length, take, option_map, IfSome, MatchOption, Decides};
-ghost use Rattle.stun.specs.Messages.{Padded, IsPadded, padding_count, attribute_bytes, attributes_bytes, before_first};
+ghost use Rattle.std.specs.Prelude.{◌≡◌, ℕ, ◌++◌, List, IfOk, IfErr, MatchOption};
+ghost use Rattle.stun.specs.Messages.{Padded, IsPadded, padding_count, attribute_bytes};
 ghost use Rattle.std.specs.Iterator.{YieldsFirstBy};
 ghost use Rattle.stun.specs.Attributes.{attributes_left, values_of};
-ghost use Rattle.stun.specs.Reading.{AreAttributes, BeginsWith, attributes_in};
+ghost use Rattle.stun.specs.Reading.{AreAttributes, BeginsWith, attributes_in, integrity_at};
+ghost use Rattle.stun.specs.declared.refusal.StunError.TheVariants.{AttributeOverrun};
 
+use crate::refusal::StunError;
 use crate::registry::attribute::MESSAGE_INTEGRITY;
 use byteorder::{BigEndian, ByteOrder};
 use std::marker::Model;
@@ -48,36 +50,26 @@ pub(crate) fn split_attribute(bytes: &[u8]) -> Option<(Attr<'_>, &[u8])>
     Some((Attr { kind, value }, rest))
 }
 
-/// Returns whether bytes are attributes, of which none overruns.
-pub(crate) fn are_attributes(bytes: &[u8]) -> bool
-    ensures { Decides result (AreAttributes bytes.now) }
+/// Scans bytes that have to be attributes. Returns the byte at which the first MESSAGE-INTEGRITY begins, if there is
+/// one.
+///
+/// # Errors
+/// Returns S5 where an attribute overruns the bytes, before or after the first MESSAGE-INTEGRITY.
+pub(crate) fn scan(bytes: &[u8]) -> Result<Option<usize>, StunError>
+    ensures found { IfOk result (λ at. AreAttributes bytes.now × (at ≡ integrity_at bytes.now)) }
+    ensures overrun { IfErr result (λ e. (e ≡ AttributeOverrun) × (AreAttributes bytes.now → ⊥)) }
 {
+    let mut integrity = None;
     let mut rest = bytes;
     while rest.len() > 0 {
-        match split_attribute(rest) {
-            None => return false,
-            Some((_, after)) => rest = after,
-        }
-    }
-    true
-}
-
-/// Returns at which byte of the attributes the first MESSAGE-INTEGRITY begins.
-pub(crate) fn before_integrity_at(bytes: &[u8]) -> Option<usize>
-    requires { AreAttributes bytes.now }
-    ensures inside { IfSome result (λ n. n ≤ length bytes.now) }
-    ensures front { option_map (λ n. take n bytes.now) result
-        ≡ option_map attributes_bytes (before_first (attributes_in bytes.now)) }
-{
-    let mut rest = bytes;
-    while rest.len() > 0 {
-        let (attr, after) = split_attribute(rest)?;
-        if attr.kind == MESSAGE_INTEGRITY {
-            return Some(bytes.len() - rest.len());
-        }
+        let Some((attr, after)) = split_attribute(rest) else {
+            return Err(StunError::AttributeOverrun);
+        };
+        let at = bytes.len() - rest.len();
+        integrity = integrity.or((attr.kind == MESSAGE_INTEGRITY).then_some(at));
         rest = after;
     }
-    None
+    Ok(integrity)
 }
 
 /// An iterator over the attributes of a message up to and including its first MESSAGE-INTEGRITY. Contracts

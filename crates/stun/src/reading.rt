@@ -6,7 +6,7 @@ ghost use Rattle.stun.specs.Reading.{HasHeader};
 ghost use Rattle.stun.specs.Refusals.{IsRefused};
 ghost use Rattle.stun.specs.declared.refusal.StunError.{StunError};
 
-use crate::attributes::{Attrs, Values, are_attributes, before_integrity_at};
+use crate::attributes::{Attrs, Values, scan};
 use crate::refusal::StunError;
 use crate::registry::MAGIC_COOKIE;
 use byteorder::{BigEndian, ByteOrder};
@@ -20,6 +20,8 @@ pub const HEADER_BYTES: usize = 20;
 #[derive(Drop)]
 pub struct Message<'a> {
     bytes: &'a [u8],
+    /// The byte of the attributes at which the first MESSAGE-INTEGRITY begins.
+    integrity: Option<usize>,
 }
 
 impl<'a> Model for Message<'a> {
@@ -30,11 +32,11 @@ impl<'a> Model for Message<'a> {
 
     ghost coded = { parts_code };
 
-    ghost use Rattle.stun.specs.Reading.{parts_in, EncodesParts};
+    ghost use Rattle.stun.specs.Reading.{parts_in, IsRead};
 
     ghost view = { λ m. parts_in m.bytes.now };
 
-    ghost invariant = { λ m. EncodesParts m.bytes.now };
+    ghost invariant = { λ m. IsRead m.bytes.now m.integrity };
 }
 
 impl<'a> Message<'a> {
@@ -87,9 +89,8 @@ impl<'a> Message<'a> {
         ensures front { option_copied result ≡ before_integrity self.now }
         ensures are_parts { AreParts self.now }
     {
-        let (_, attributes) = self.bytes.split_at(HEADER_BYTES);
-        let length = before_integrity_at(attributes)?;
-        let (front, _) = self.bytes.split_at(HEADER_BYTES + length);
+        let at = self.integrity?;
+        let (front, _) = self.bytes.split_at(HEADER_BYTES + at);
         Some(front)
     }
 }
@@ -134,10 +135,8 @@ pub fn read(bytes: &[u8]) -> Result<Message<'_>, StunError>
 {
     test_header(bytes)?;
     let (_, attributes) = bytes.split_at(HEADER_BYTES);
-    if !are_attributes(attributes) {
-        return Err(StunError::AttributeOverrun);
-    }
-    Ok(Message { bytes })
+    let integrity = scan(attributes)?;
+    Ok(Message { bytes, integrity })
 }
 
 /// States that bytes have at most one refusal.

@@ -1,5 +1,5 @@
 -- Internal. The walk over all paths: how it goes on from a step, and the refusals of a step.
-use Rattle.std.specs.Prelude.{◌≡◌, ℕ, Bool, true, false, List, [], ◌∷◌, ◌++◌, Option, Some, None, Ok, Err}
+use Rattle.std.specs.Prelude.{◌≡◌, ℕ, List, [], ◌∷◌, ◌++◌, Option, Some, None, Ok, Err}
 use Rattle.insn.specs.Encoding.{Fits}
 use Rattle.insn.specs.declared.instruction.Insn.{Insn}
 use Rattle.semantics.specs.Slots.{fetch}
@@ -17,6 +17,8 @@ use Rattle.verifier.specs.Layout.{StartsAt}
 use Rattle.verifier.specs.declared.refusal.Refusal.{Refusal}
 use Rattle.verifier.specs.declared.refusal.Refusal.TheVariants as refusal
 use Rattle.verifier.specs.declared.walk.Pending.{Pending}
+use Rattle.verifier.specs.declared.walk.Path.{Path}
+use Rattle.verifier.specs.declared.walk.Path.TheVariants.{Continues, Ended}
 
 -- an instruction begins at the slot of a pending state
 abbrev pub IsInside : {D : Type 0} → List Insn → Pending D → Type 0
@@ -27,10 +29,10 @@ pub record LeadsTo {D : Type 0} (code : List Insn) (here : ℕ) (i : Insn) (bran
   pub leads : branch_slot code here i branch ≡ Ok p.slot
   pub state_is : p.state ≡ state
 
--- a pending state, where the path goes on
-abbrev pub followed : {D : Type 0} → Bool → Pending D → Option (Pending D)
-followed true p = Some p
-followed false p = None
+-- the pending state to follow, where the path continues
+abbrev pub followed : {D : Type 0} → Path → Pending D → Option (Pending D)
+followed Continues p = Some p
+followed Ended p = None
 
 -- the state of a branch is followed next where the branch is feasible
 abbrev pub IsNext : {D : Type 0} → List Insn → ℕ → Insn → Branch → Option (AbsState D) → Option (Pending D) → Type 0

@@ -42,6 +42,13 @@ impl<D: Copy> Clone for Pending<D> {
 
 impl<D: Copy> Copy for Pending<D> {}
 
+/// Whether the current path continues from the state at hand, or has ended.
+#[derive(Clone, Copy)]
+pub enum Path {
+    Continues,
+    Ended,
+}
+
 /// A program that was accepted: every run of it exits. Only `verify_with` makes one.
 #[derive(Drop)]
 pub struct Verified {
@@ -94,14 +101,14 @@ fn slot_after(program: &Program, slot: usize, insn: Insn, branch: Branch) -> usi
     }
 }
 
-/// Goes on by the branch not taken: changes the state to that of the branch, at the slot that it leads to. Returns whether
-/// the branch is feasible.
+/// Goes on by the branch not taken: changes the state to that of the branch, at the slot that it leads to. The path ends
+/// where the branch isn't feasible.
 fn go_on<D: Copy>(
     program: &Program,
     insn: Insn,
     change: Option<Change<D>>,
     here: &mut Pending<D>,
-) -> bool
+) -> Path
     requires few { slot_count program.now ≤ MAX_SLOTS }
     requires inside { here.old.slot < slot_count program.now }
     requires good { IsOk (branch_slot program.now here.old.slot insn NotTaken) }
@@ -109,11 +116,11 @@ fn go_on<D: Copy>(
         (followed result here.new) }
 {
     let Some(change) = change else {
-        return false;
+        return Path::Ended;
     };
     here.state.change(change);
     here.slot = slot_after(program, here.slot, insn, Branch::NotTaken);
-    true
+    Path::Continues
 }
 
 /// Leaves the state of a taken branch pending, if the branch is feasible.
@@ -142,18 +149,18 @@ fn leave<D: Copy>(
     Ok(())
 }
 
-/// Makes one step of a path, and goes on to the state to follow next: that of the branch not taken. Returns whether there
-/// is one. The taken branch of a conditional jump is left pending.
+/// Makes one step of the current path, and goes on to its next state: that of the branch not taken. The taken branch of a
+/// conditional jump is left pending.
 fn advance<D: Domain>(
     program: &Program,
     here: &mut Pending<D>,
     pending: &mut Vec<Pending<D>>,
-) -> Result<bool, Refusal>
+) -> Result<Path, Refusal>
     requires few { slot_count program.now ≤ MAX_SLOTS }
     requires laid_out { IsLaidOut program.now }
     requires inside { IsInside program.now here.old }
-    ensures advanced { IfOk result (λ on. Advances D.ops program.now here.old pending.old.items
-        (followed on here.new) pending.new.items) }
+    ensures advanced { IfOk result (λ path. Advances D.ops program.now here.old pending.old.items
+        (followed path here.new) pending.new.items) }
     ensures refused { IfErr result (IsStepRefusal D.ops program.now here.old) }
 {
     let slot = here.slot;
@@ -165,7 +172,7 @@ fn advance<D: Domain>(
         .transition(&insn)
         .map_err(|reason| Refusal::Stuck { reason, slot })?;
     match transition {
-        Transition::Exit => Ok(false),
+        Transition::Exit => Ok(Path::Ended),
         Transition::On(change) => Ok(go_on(program, insn, Some(change), here)),
         Transition::Fork { not_taken, taken } => {
             leave(program, insn, taken, here, pending)?;
@@ -174,20 +181,20 @@ fn advance<D: Domain>(
     }
 }
 
-/// Goes on to the state to follow next: that of the current path, or, after its end, the last pending one. Returns
-/// whether there is one.
-fn follow<D: Copy>(on: bool, here: &mut Pending<D>, pending: &mut Vec<Pending<D>>) -> bool
-    ensures { Picks (followed on here.old) pending.old.items (followed result here.new) pending.new.items }
+/// Goes on to the state to follow next: that of the current path, or, where it has ended, the last pending one. Where none
+/// is pending, all paths have ended.
+fn follow<D: Copy>(path: Path, here: &mut Pending<D>, pending: &mut Vec<Pending<D>>) -> Path
+    ensures { Picks (followed path here.old) pending.old.items (followed result here.new) pending.new.items }
 {
-    if on {
-        return true;
+    if let Path::Continues = path {
+        return path;
     }
     match pending.pop() {
         Some(last) => {
             *here = last;
-            true
+            Path::Continues
         }
-        None => false,
+        None => Path::Ended,
     }
 }
 
@@ -214,9 +221,10 @@ fn walk<D: Domain, L: Ledger>(
     };
     for _ in 0..budget {
         steps.tick();
-        let on = advance(program, &mut here, &mut pending)?;
-        if !follow(on, &mut here, &mut pending) {
-            return Ok(());
+        let path = advance(program, &mut here, &mut pending)?;
+        match follow(path, &mut here, &mut pending) {
+            Path::Continues => {}
+            Path::Ended => return Ok(()),
         }
     }
     Err(Refusal::Budget { slot: here.slot })

@@ -1,34 +1,37 @@
-use Rattle.std.proofs.Common.{arith, rules, refl, sym, ap, ◌∙◌}
+use Rattle.std.proofs.Common.{arith, rules, refl, subst, sym, ap, ◌∙◌}
 use Rattle.stun.specs.Messages.{message_of}
 use Rattle.stun.specs.Refusals.{IsRefused}
-use Rattle.stun.specs.Reading.{EncodesParts}
+use Rattle.stun.specs.Reading.{EncodesParts, integrity_at}
 use Rattle.stun.specs.declared.refusal.StunError.TheVariants.{AttributeOverrun}
 use Rattle.stun.proofs.Datagrams.{refused_is_no_message, overrun, accepted, accepted_has_parts, parts_are}
 use Rattle.stun.proofs.reading.read.Goals as goal
+use Rattle.stun.proofs.reading.read.Goals.{In_ok-integrity}
 
 pub returns-in_err-test_header-clause-only : goal.returns-in_err-test_header-clause-only
 returns-in_err-test_header-clause-only c p are spelled =
     absurd (refused_is_no_message c.args.bytes.now _ p c.in_err-test_header.ensures.refused are spelled)
 
-overruns : (c : goal.Then-not-are_attributes) → IsRefused c.args.bytes.now AttributeOverrun
+overruns : (c : goal.After-from_residual-in_err-integrity) → IsRefused c.args.bytes.now AttributeOverrun
 overruns c =
-    overrun c.args.bytes.now _ (search rules) c.split_at.ensures.back (λ are. search (rules, sym c.if-not-are_attributes.true ∙ c.are_attributes.ensures.1 are))
+    overrun c.args.bytes.now _ (search rules) c.split_at.ensures.back c.in_err-integrity.ensures.overrun.1
 
-pub returns-then-not-are_attributes-clause-only : goal.returns-then-not-are_attributes-clause-only
-returns-then-not-are_attributes-clause-only c p are spelled =
+pub returns-in_err-integrity-clause-only : goal.returns-in_err-integrity-clause-only
+returns-in_err-integrity-clause-only c p are spelled =
     absurd (refused_is_no_message c.args.bytes.now AttributeOverrun p (overruns c) are spelled)
 
-pub returns-then-not-are_attributes-clause-refused :
-    goal.returns-then-not-are_attributes-clause-refused
-returns-then-not-are_attributes-clause-refused c = overruns c
+pub returns-in_err-integrity-clause-refused :
+    goal.returns-in_err-integrity-clause-refused
+returns-in_err-integrity-clause-refused c =
+    let refused = subst (IsRefused c.args.bytes.now) (sym c.in_err-integrity.ensures.overrun.0) (overruns c) in
+    search rules
 
-is_datagram : (c : goal.Else-not-are_attributes) → EncodesParts c.args.bytes.now
+is_datagram : (c : In_ok-integrity) → EncodesParts c.args.bytes.now
 is_datagram c =
     accepted_has_parts c.args.bytes.now (λ k. omega (arith, c.type_inv.bytes k))
-    (accepted c.args.bytes.now _ (search rules) c.split_at.ensures.back (c.are_attributes.ensures.0 c.if-not-are_attributes.false))
+    (accepted c.args.bytes.now _ (search rules) c.split_at.ensures.back c.in_ok-integrity.ensures.found.0)
 
 pub invariant_of-result : goal.invariant_of-result
-invariant_of-result c = is_datagram c
+invariant_of-result c = record { encodes = is_datagram c; integrity_is = c.in_ok-integrity.ensures.found.1 ∙ ap integrity_at c.split_at.ensures.back }
 
 pub returns-clause-found : goal.returns-clause-found
 returns-clause-found c = let d = is_datagram c in (d.are_parts, d.spelled)
@@ -40,9 +43,9 @@ pub returns-in_err-test_header-clause-every : goal.returns-in_err-test_header-cl
 returns-in_err-test_header-clause-every c m is =
     absurd (refused_is_no_message c.args.bytes.now _ is.0 c.in_err-test_header.ensures.refused is.1 is.2)
 
-pub returns-then-not-are_attributes-clause-every :
-    goal.returns-then-not-are_attributes-clause-every
-returns-then-not-are_attributes-clause-every c m is =
+pub returns-in_err-integrity-clause-every :
+    goal.returns-in_err-integrity-clause-every
+returns-in_err-integrity-clause-every c m is =
     absurd (refused_is_no_message c.args.bytes.now AttributeOverrun is.0 (overruns c) is.1 is.2)
 
 pub returns-clause-message : goal.returns-clause-message

@@ -1,4 +1,4 @@
-use Rattle.std.proofs.Common.{◌≡◌, Bool, true, false, List, Option, sym, subst, arith}
+use Rattle.std.proofs.Common.{◌≡◌, List, Option, sym, subst, arith}
 use Rattle.std.proofs.lemmas.Result.{err_from_is_err_and}
 use Rattle.absstate.specs.declared.abstract_state.AbsState.{AbsState}
 use Rattle.insn.specs.declared.instruction.Insn.{Insn}
@@ -10,12 +10,14 @@ use Rattle.verifier.specs.Walk.{IsStepRefusal, Picks, followed}
 use Rattle.verifier.specs.declared.refusal.Refusal.{Refusal}
 use Rattle.verifier.specs.declared.refusal.Refusal.TheVariants as refusal
 use Rattle.verifier.specs.declared.walk.Pending.{Pending}
+use Rattle.verifier.specs.declared.walk.Path.{Path}
+use Rattle.verifier.specs.declared.walk.Path.TheVariants.{Continues, Ended}
 use Rattle.verifier.proofs.Walking.{IsWalking, begins, goes_on, ends, safe, real, more_paths}
 use Rattle.verifier.proofs.walk.walk.Goals as goal
 
 -- what is picked, where it is known whether there is any
-picks : {D : Type 0} (on : Option (Pending D)) (old new : List (Pending D)) (here : Pending D) (some other : Bool) → some ≡ other → Picks on old (followed some here) new → Picks on old (followed other here) new
-picks on old new here some other e h = subst (λ (b : Bool). Picks on old (followed b here) new) e h
+picks : {D : Type 0} (on : Option (Pending D)) (old new : List (Pending D)) (here : Pending D) (some other : Path) → some ≡ other → Picks on old (followed some here) new → Picks on old (followed other here) new
+picks on old new here some other e h = subst (λ (b : Path). Picks on old (followed b here) new) e h
 
 pub start-requires : goal.start-requires
 start-requires g c = state_fits (lone g.row.D.mir) g.met.D.Domain.small
@@ -36,14 +38,14 @@ loop-init g c = record {
 pub loop-preserved : goal.loop-preserved
 loop-preserved g c = record {
   count = omega (arith, c.tick.ensures, c.loop.invariant.count);
-  walking = goes_on g.D.Domain.ops g.D.Domain.Member g.met.D.Domain.laws c.args.program.now c.loop.counter c.loop.here c.loop.pending.items c.advance.new.pending.items (followed c.in_ok-on.on c.advance.new.here) c.requires.laid_out c.loop.invariant.walking c.in_ok-on.ensures.advanced c.follow.new.here c.follow.new.pending.items (picks (followed c.in_ok-on.on c.advance.new.here) c.advance.new.pending.items c.follow.new.pending.items c.follow.new.here c.follow.result true c.if-not-follow.false c.follow.ensures);
+  walking = goes_on g.D.Domain.ops g.D.Domain.Member g.met.D.Domain.laws c.args.program.now c.loop.counter c.loop.here c.loop.pending.items c.advance.new.pending.items (followed c.in_ok-path.path c.advance.new.here) c.requires.laid_out c.loop.invariant.walking c.in_ok-path.ensures.advanced c.follow.new.here c.follow.new.pending.items (picks (followed c.in_ok-path.path c.advance.new.here) c.advance.new.pending.items c.follow.new.pending.items c.follow.new.here c.follow.result Continues c.in-Continues.is c.follow.ensures);
 }
 
-pub returns-in_err-on-clause-refused : goal.returns-in_err-on-clause-refused
-returns-in_err-on-clause-refused g c = let p = err_from_is_err_and c.from_residual.result c.from_residual.ensures.1 in rw (p.1, p.2) (real g.D.Domain.ops g.D.Domain.Member g.met.D.Domain.laws c.args.program.now c.args.budget c.loop.counter c.loop.here c.loop.pending.items c.in_err-on.field-0.0 c.requires.laid_out c.loop.invariant.walking c.in_err-on.ensures.refused)
+pub returns-in_err-path-clause-refused : goal.returns-in_err-path-clause-refused
+returns-in_err-path-clause-refused g c = let p = err_from_is_err_and c.from_residual.result c.from_residual.ensures.1 in rw (p.1, p.2) (real g.D.Domain.ops g.D.Domain.Member g.met.D.Domain.laws c.args.program.now c.args.budget c.loop.counter c.loop.here c.loop.pending.items c.in_err-path.field-0.0 c.requires.laid_out c.loop.invariant.walking c.in_err-path.ensures.refused)
 
-pub returns-then-not-follow-clause-safe : goal.returns-then-not-follow-clause-safe
-returns-then-not-follow-clause-safe g c = safe g.D.Domain.ops g.D.Domain.Member g.met.D.Domain.laws c.args.program.now (ends g.D.Domain.ops g.D.Domain.Member g.met.D.Domain.laws c.args.program.now c.loop.counter c.loop.here c.loop.pending.items c.advance.new.pending.items (followed c.in_ok-on.on c.advance.new.here) c.requires.laid_out c.loop.invariant.walking c.in_ok-on.ensures.advanced c.follow.new.pending.items (picks (followed c.in_ok-on.on c.advance.new.here) c.advance.new.pending.items c.follow.new.pending.items c.follow.new.here c.follow.result false c.if-not-follow.true c.follow.ensures))
+pub returns-in-Ended-clause-safe : goal.returns-in-Ended-clause-safe
+returns-in-Ended-clause-safe g c = safe g.D.Domain.ops g.D.Domain.Member g.met.D.Domain.laws c.args.program.now (ends g.D.Domain.ops g.D.Domain.Member g.met.D.Domain.laws c.args.program.now c.loop.counter c.loop.here c.loop.pending.items c.advance.new.pending.items (followed c.in_ok-path.path c.advance.new.here) c.requires.laid_out c.loop.invariant.walking c.in_ok-path.ensures.advanced c.follow.new.pending.items (picks (followed c.in_ok-path.path c.advance.new.here) c.advance.new.pending.items c.follow.new.pending.items c.follow.new.here c.follow.result Ended c.in-Ended.is c.follow.ensures))
 
 pub returns-clause-refused : goal.returns-clause-refused
 returns-clause-refused g c =
@@ -56,16 +58,16 @@ no_budget ops code here (refusal.Stuck reason slot) P refused = tt
 no_budget ops code here (refusal.Budget slot) P refused = absurd refused
 no_budget ops code here (refusal.Memory slot) P refused = tt
 
-pub returns-in_err-on-clause-counts : goal.returns-in_err-on-clause-counts
-returns-in_err-on-clause-counts g c =
+pub returns-in_err-path-clause-counts : goal.returns-in_err-path-clause-counts
+returns-in_err-path-clause-counts g c =
     let p = err_from_is_err_and c.from_residual.result c.from_residual.ensures.1 in
     record {
       bound = omega (arith, c.tick.ensures, c.loop.invariant.count);
-      budget_made = rw (p.1, p.2) (no_budget g.D.Domain.ops c.args.program.now c.loop.here c.in_err-on.field-0.0 _ c.in_err-on.ensures.refused);
+      budget_made = rw (p.1, p.2) (no_budget g.D.Domain.ops c.args.program.now c.loop.here c.in_err-path.field-0.0 _ c.in_err-path.ensures.refused);
     }
 
-pub returns-then-not-follow-clause-counts : goal.returns-then-not-follow-clause-counts
-returns-then-not-follow-clause-counts g c = record { bound = omega (arith, c.tick.ensures, c.loop.invariant.count); budget_made = tt }
+pub returns-in-Ended-clause-counts : goal.returns-in-Ended-clause-counts
+returns-in-Ended-clause-counts g c = record { bound = omega (arith, c.tick.ensures, c.loop.invariant.count); budget_made = tt }
 
 pub returns-clause-counts : goal.returns-clause-counts
 returns-clause-counts g c = record { bound = omega (arith, c.loop.invariant.count); budget_made = omega (arith, c.loop.invariant.count) }

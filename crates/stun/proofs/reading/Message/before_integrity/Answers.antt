@@ -1,17 +1,15 @@
-use Rattle.std.proofs.Common.{arith, rules}
-use Rattle.stun.proofs.Integrity.{length_of_datagram, front_of}
+use Rattle.std.proofs.Common.{rules}
+use Rattle.stun.proofs.Integrity.{front_fits, front_found}
 use Rattle.stun.proofs.reading.Message.before_integrity.Goals as goal
 
-pub overflow_add-length : goal.overflow_add-length
-overflow_add-length c =
-    let whole = length_of_datagram c.self.inside.bytes.now _ c.self.invariant c.split_at.ensures.back in
-    let inside = c.in_ok-length.ensures.inside in
+pub overflow_add-at : goal.overflow_add-at
+overflow_add-at c =
+    let fits = front_fits _ _ _ c.self.invariant c.in_ok-at.was in
     search rules
 
-pub split_at-requires-2 : goal.split_at-requires-2
-split_at-requires-2 c =
-    let inside = c.in_ok-length.ensures.inside in
-    omega (arith, length_of_datagram c.self.inside.bytes.now _ c.self.invariant c.split_at.ensures.back)
+pub split_at-requires : goal.split_at-requires
+split_at-requires c = front_fits _ _ _ c.self.invariant c.in_ok-at.was
 
 pub returns-clause-front : goal.returns-clause-front
-returns-clause-front c = front_of c.self.inside.bytes.now _ _ c.in_ok-length.length c.args.self.now c.self.invariant c.self.view_is c.split_at.ensures.back c.split_at-2.ensures.front c.in_ok-length.ensures.front
+returns-clause-front c =
+    front_found _ _ _ _ _ c.self.invariant c.in_ok-at.was c.self.view_is c.split_at.ensures.front
