@@ -10,9 +10,9 @@ use Rattle.clap.specs.declared.parser.matches.ArgMatches.{ArgMatches}
 use Rattle.clap.proofs.OnLiterals.{clap_on_literals}
 use Rattle.command_line.specs.Commands.{faults_of, subcommand_in}
 use Rattle.command_line.specs.Lines.{IsOperand, IsLineOf, IsParsedAs, IsTraceLine}
-use Rattle.command_line.specs.Requests.{Requests, value_of}
-use Rattle.command_line.specs.declared.Request.{Request}
-use Rattle.command_line.specs.declared.Request.TheVariants.{Verify, Trace, Assemble, Disassemble}
+use Rattle.command_line.specs.Subcommands.{IsSubcommand, value_of}
+use Rattle.command_line.specs.declared.Subcommand.{Subcommand}
+use Rattle.command_line.specs.declared.Subcommand.TheVariants.{Verify, Trace, Assemble, Disassemble}
 
 -- the line has no fault, and its subcommand has this name and these values
 pub record Reads (words : List Text) (name file : Text) (hex : Option Text) : Type 0 where
@@ -92,10 +92,10 @@ collected : (o : Option (Text × List Row)) (name file : Text) (hex : Option Tex
 collected None name file hex n f d = absurd (none-some name n)
 collected (Some p) name file hex n f d = (same_Some _ _ n, same_Some _ _ f, same_Some _ _ d)
 
--- the line has no fault, and its subcommand makes this request
-pub record Makes (words : List Text) (r : Request) : Type 0 where
+-- the line has no fault, and has this subcommand
+pub record Makes (words : List Text) (r : Subcommand) : Type 0 where
   pub good : faults_of words ≡ []
-  pub subcommand : IsSomeAnd (subcommand_in words) (λ p. Requests p r)
+  pub subcommand : IsSomeAnd (subcommand_in words) (λ p. IsSubcommand p r)
 
 weaker : {A : Type 0} (o : Option A) (P Q : A → Type 0) → ((a : A) → P a → Q a) → IsSomeAnd o P → IsSomeAnd o Q
 weaker None P Q f h = h
@@ -104,13 +104,13 @@ weaker (Some a) P Q f h = f a h
 verify_made : (words : List Text) (file : Bor Text) → Reads words (codes "verify") file.now None → Makes words (Verify file)
 verify_made words file r = record {
   good = r.good;
-  subcommand = weaker (subcommand_in words) (Has (codes "verify") file.now None) (λ p. Requests p (Verify file)) (λ p h. (h.0, h.1)) (collected (subcommand_in words) (codes "verify") file.now None r.name_is r.file_is r.data_is);
+  subcommand = weaker (subcommand_in words) (Has (codes "verify") file.now None) (λ p. IsSubcommand p (Verify file)) (λ p h. (h.0, h.1)) (collected (subcommand_in words) (codes "verify") file.now None r.name_is r.file_is r.data_is);
 }
 
 disassemble_made : (words : List Text) (file : Bor Text) → Reads words (codes "disassemble") file.now None → Makes words (Disassemble file)
 disassemble_made words file r = record {
   good = r.good;
-  subcommand = weaker (subcommand_in words) (Has (codes "disassemble") file.now None) (λ p. Requests p (Disassemble file)) (λ p h. (h.0, h.1)) (collected (subcommand_in words) (codes "disassemble") file.now None r.name_is r.file_is r.data_is);
+  subcommand = weaker (subcommand_in words) (Has (codes "disassemble") file.now None) (λ p. IsSubcommand p (Disassemble file)) (λ p h. (h.0, h.1)) (collected (subcommand_in words) (codes "disassemble") file.now None r.name_is r.file_is r.data_is);
 }
 
 assemble_made : (words : List Text) (input output : Bor Text) → ReadsFiles words (codes "assemble") input.now output.now → Makes words (Assemble input output)
@@ -131,7 +131,7 @@ with_data file hex words o (name, inr (inl l)) = subst (λ w. Reads w (codes "tr
 with_data file hex words o (name, inr (inr (inl l))) = subst (λ w. Reads w (codes "trace") file.now (Some hex.now)) (sym l) (joined_last name file.now hex.now o)
 with_data file hex words o (name, inr (inr (inr l))) = subst (λ w. Reads w (codes "trace") file.now (Some hex.now)) (sym l) (joined_first name file.now hex.now o)
 
-made : (r : Request) (words : List Text) → IsLineOf r words → Makes words r
+made : (r : Subcommand) (words : List Text) → IsLineOf r words → Makes words r
 made (Verify file) words (o, (name, l)) = verify_made words file (subst (λ w. Reads w (codes "verify") file.now None) (sym l) (verify_read name file.now o))
 made (Assemble input output) words (o, (name, l)) = assemble_made words input output (subst (λ w. ReadsFiles w (codes "assemble") input.now output.now) (sym l) (assemble_read name input.now output.now o.0 o.1))
 made (Disassemble file) words (o, (name, l)) = disassemble_made words file (subst (λ w. Reads w (codes "disassemble") file.now None) (sym l) (disassemble_read name file.now o))
@@ -142,6 +142,6 @@ no_kind : (kinds : Kinds) (e : Error) → kinds ≡ [] → HasKind kinds e → k
 no_kind kinds e none h = elim (subst (λ ks. HasKind ks e) none h) [ inl memory ↦ memory | inr among ↦ absurd among ]
 
 pub parsed : (words : List Text) (result : Result ArgMatches Error) → IfOk result (λ m. subcommand_rows_of m ≡ subcommand_in words) → FailsBy (faults_of words) result
-    → (r : Request) → IsLineOf r words → IsParsedAs r result
-parsed words (Ok m) found refused r line = subst (λ o. IsSomeAnd o (λ p. Requests p r)) (sym found) (made r words line).subcommand
+    → (r : Subcommand) → IsLineOf r words → IsParsedAs r result
+parsed words (Ok m) found refused r line = subst (λ o. IsSomeAnd o (λ p. IsSubcommand p r)) (sym found) (made r words line).subcommand
 parsed words (Err e) found refused r line = no_kind (faults_of words) e (made r words line).good refused

@@ -1,6 +1,6 @@
 -- What the name and the entries of a subcommand that was met say of it.
 use Rattle.std.proofs.Common.{◌≡◌, ◌∙◌, ◌⊎◌, sym, ap, refl, arith, inl, inr, codes, ℕ, List, [], ◌∷◌, Option, Some, None, IfSome, IsSomeAnd, Bor}
-use Rattle.command_line.specs.Requests.{TakesFile, RequestsNothing}
+use Rattle.command_line.specs.Subcommands.{TakesFile, IsNoSubcommand}
 use Rattle.std.specs.Prelude.{option_map, Box}
 use Rattle.std.specs.Box.{box_value}
 use Rattle.std.proofs.lemmas.Option.{none-some, same_Some}
@@ -65,11 +65,11 @@ takes_no_file name (inl is) e = disassemble_is_not_assemble (sym is ∙ e)
 takes_no_file name (inr (inl is)) e = verify_is_not_assemble (sym is ∙ e)
 takes_no_file name (inr (inr is)) e = trace_is_not_assemble (sym is ∙ e)
 
--- a subcommand that takes FILE requests nothing without it
-pub lacks_file : (name : Text) (rows : List Row) → TakesFile name → first_of (codes "file") rows ≡ None → RequestsNothing (name, rows)
+-- a subcommand that takes FILE is none without it
+pub lacks_file : (name : Text) (rows : List Row) → TakesFile name → first_of (codes "file") rows ≡ None → IsNoSubcommand (name, rows)
 lacks_file name rows takes none = record { file = λ _. none; files = λ e. absurd (takes_no_file name takes e) }
 
--- assemble requests nothing without one of its files
+-- assemble is none without one of its files
 pub lacks_files : (name : Text) (rows : List Row) → name ≡ codes "assemble"
-    → (first_of (codes "in") rows ≡ None) ⊎ (first_of (codes "out") rows ≡ None) → RequestsNothing (name, rows)
+    → (first_of (codes "in") rows ≡ None) ⊎ (first_of (codes "out") rows ≡ None) → IsNoSubcommand (name, rows)
 lacks_files name rows is none = record { file = λ takes. absurd (takes_no_file name takes is); files = λ _. none }

@@ -1,4 +1,4 @@
 -- Internal. The modules of this folder.
 pub mod Commands
 pub mod Lines
-pub mod Requests
+pub mod Subcommands

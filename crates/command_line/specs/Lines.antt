@@ -4,9 +4,9 @@ use Rattle.clap.specs.Words.{Text, kind_of, subcommand_rows_of}
 use Rattle.clap.specs.declared.error.Error.{Error}
 use Rattle.clap.specs.declared.error.kind.ErrorKind.TheVariants.{OutOfMemory}
 use Rattle.clap.specs.declared.parser.matches.ArgMatches.{ArgMatches}
-use Rattle.command_line.specs.Requests.{Requests}
-use Rattle.command_line.specs.declared.Request.{Request}
-use Rattle.command_line.specs.declared.Request.TheVariants.{Verify, Trace, Assemble, Disassemble}
+use Rattle.command_line.specs.Subcommands.{IsSubcommand}
+use Rattle.command_line.specs.declared.Subcommand.{Subcommand}
+use Rattle.command_line.specs.declared.Subcommand.TheVariants.{Verify, Trace, Assemble, Disassemble}
 
 abbrev pub begins_with_minus : Text → Bool
 begins_with_minus [] = false
@@ -24,8 +24,8 @@ IsTraceLine file hex words = (name : Text) × (
     ⊎ ((words ≡ name ∷ codes "trace" ∷ file ∷ (codes "--data=" ++ hex) ∷ [])
     ⊎ (words ≡ name ∷ codes "trace" ∷ (codes "--data=" ++ hex) ∷ file ∷ []))))
 
--- the words are one of the usual lines of the request, in which the files are operands
-abbrev pub IsLineOf : Request → List Text → Type 0
+-- the words are one of the usual lines of the subcommand, in which the files are operands
+abbrev pub IsLineOf : Subcommand → List Text → Type 0
 IsLineOf (Verify file) words = IsOperand file.now × ((name : Text) × (words ≡ name ∷ codes "verify" ∷ file.now ∷ []))
 IsLineOf (Trace file None) words = IsOperand file.now × ((name : Text) × (words ≡ name ∷ codes "trace" ∷ file.now ∷ []))
 IsLineOf (Trace file (Some hex)) words = IsOperand file.now × IsTraceLine file.now hex.now words
@@ -33,6 +33,6 @@ IsLineOf (Assemble input output) words = (IsOperand input.now × IsOperand outpu
     × ((name : Text) × (words ≡ name ∷ codes "assemble" ∷ input.now ∷ output.now ∷ []))
 IsLineOf (Disassemble file) words = IsOperand file.now × ((name : Text) × (words ≡ name ∷ codes "disassemble" ∷ file.now ∷ []))
 
--- the matches make this request, or memory ran out
-abbrev pub IsParsedAs : Request → Result ArgMatches Error → Type 0
-IsParsedAs r result = MatchResult result (λ m. IsSomeAnd (subcommand_rows_of m) (λ p. Requests p r)) (λ e. kind_of e ≡ OutOfMemory)
+-- the matches are those of this subcommand, or memory ran out
+abbrev pub IsParsedAs : Subcommand → Result ArgMatches Error → Type 0
+IsParsedAs s result = MatchResult result (λ m. IsSomeAnd (subcommand_rows_of m) (λ p. IsSubcommand p s)) (λ e. kind_of e ≡ OutOfMemory)

@@ -5,8 +5,8 @@ ghost use Rattle.std.specs.Prelude.{◌≡◌, true, false, map, IfOk, IfSome, I
 ghost use Rattle.clap.specs.Words.{FailsBy, has_subcommand, rule_of, subcommand_rows_of};
 ghost use Rattle.command_line.specs.Commands.{HasShape, assemble_command, bare_command, data_option, disassemble_command, faults_of, file_argument, input_argument, output_argument, relayd_command, subcommand_in, text_command, trace_command, verify_command};
 ghost use Rattle.command_line.specs.Lines.{IsLineOf, IsParsedAs};
-ghost use Rattle.command_line.specs.Requests.{Requests, RequestsNothing};
-ghost use Rattle.command_line.specs.declared.Request.{Request};
+ghost use Rattle.command_line.specs.Subcommands.{IsSubcommand, IsNoSubcommand};
+ghost use Rattle.command_line.specs.declared.Subcommand.{Subcommand};
 
 use clap::{Arg, ArgAction, ArgMatches, Command, Error};
 use std::alloc::{AllocError, Global};
@@ -15,9 +15,9 @@ use std::convert::AsStr;
 /// The version that `--version` prints.
 const VERSION: &str = "0.1.0";
 
-/// A request of the command line.
+/// A subcommand of relayd, with the values of its arguments.
 #[derive(Clone, Copy, Debug)]
-pub enum Request<'a> {
+pub enum Subcommand<'a> {
     /// Verify the program in a file.
     Verify {
         file: &'a str,
@@ -165,36 +165,36 @@ pub fn line<'a, S: AsStr>(alloc: Global, words: &'a [S]) -> Result<ArgMatches<'a
     ensures present { IfOk result (λ m. has_subcommand m ≡ true) }
     ensures found { IfOk result (λ m. subcommand_rows_of m ≡ subcommand_in (map S.text words.entry.now)) }
     ensures refused { FailsBy (faults_of (map S.text words.entry.now)) result }
-    ensures usual { (r : Request) → IsLineOf r (map S.text words.entry.now) → IsParsedAs r result }
+    ensures usual { (s : Subcommand) → IsLineOf s (map S.text words.entry.now) → IsParsedAs s result }
 {
     relayd(alloc)?.try_get_matches_from(words)
 }
 
-/// Returns the request of a parsed command line, or `None` where the matches are not those of a
+/// Returns the subcommand of a parsed command line, or `None` where the matches are not those of a
 /// subcommand of relayd.
-pub fn requested<'a>(matches: &ArgMatches<'a>) -> Option<Request<'a>>
-    ensures found { IfSome result (λ r. IsSomeAnd (subcommand_rows_of matches.now) (λ p. Requests p r)) }
-    ensures none { IfNone result (IfSome (subcommand_rows_of matches.now) RequestsNothing) }
+pub fn subcommand_of<'a>(matches: &ArgMatches<'a>) -> Option<Subcommand<'a>>
+    ensures found { IfSome result (λ s. IsSomeAnd (subcommand_rows_of matches.now) (λ p. IsSubcommand p s)) }
+    ensures none { IfNone result (IfSome (subcommand_rows_of matches.now) IsNoSubcommand) }
 {
     let (name, matches) = matches.subcommand()?;
     match name {
         "assemble" => {
             let input = matches.get_str("in")?;
             let output = matches.get_str("out")?;
-            Some(Request::Assemble { input, output })
+            Some(Subcommand::Assemble { input, output })
         }
         "disassemble" => {
             let file = matches.get_str("file")?;
-            Some(Request::Disassemble { file })
+            Some(Subcommand::Disassemble { file })
         }
         "verify" => {
             let file = matches.get_str("file")?;
-            Some(Request::Verify { file })
+            Some(Subcommand::Verify { file })
         }
         "trace" => {
             let file = matches.get_str("file")?;
             let data = matches.get_str("data");
-            Some(Request::Trace { file, data })
+            Some(Subcommand::Trace { file, data })
         }
         _ => None,
     }

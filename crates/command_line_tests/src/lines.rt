@@ -1,105 +1,105 @@
-//! Command lines with what they request, why they are refused, and what the help texts say.
+//! Command lines with their subcommands, why they are refused, and what the help texts say.
 
-use command_line::{line, requested};
+use command_line::{line, subcommand_of};
 use std::test::Fail;
 
-/// A command line and the request in it.
+/// A command line and its subcommand.
 #[derive(Clone, Copy)]
 struct Good {
     words: &'static [&'static str],
-    request: &'static str,
+    subcommand: &'static str,
 }
 
 const GOOD: [Good; 19] = [
     Good {
         words: &["relayd", "verify", "a.bpf"],
-        request: r#"Verify { file: "a.bpf" }"#,
+        subcommand: r#"Verify { file: "a.bpf" }"#,
     },
     Good {
         words: &["relayd", "assemble", "a.s", "a.bpf"],
-        request: r#"Assemble { input: "a.s", output: "a.bpf" }"#,
+        subcommand: r#"Assemble { input: "a.s", output: "a.bpf" }"#,
     },
     Good {
         words: &["relayd", "assemble", "a.s", "a.s"],
-        request: r#"Assemble { input: "a.s", output: "a.s" }"#,
+        subcommand: r#"Assemble { input: "a.s", output: "a.s" }"#,
     },
     Good {
         words: &["relayd", "assemble", "--", "--help", "-o"],
-        request: r#"Assemble { input: "--help", output: "-o" }"#,
+        subcommand: r#"Assemble { input: "--help", output: "-o" }"#,
     },
     Good {
         words: &["relayd", "disassemble", "a.bpf"],
-        request: r#"Disassemble { file: "a.bpf" }"#,
+        subcommand: r#"Disassemble { file: "a.bpf" }"#,
     },
     Good {
         words: &["relayd", "trace", "a.bpf"],
-        request: r#"Trace { file: "a.bpf", data: None }"#,
+        subcommand: r#"Trace { file: "a.bpf", data: None }"#,
     },
     Good {
         words: &["relayd", "trace", "a.bpf", "--data", "00ff"],
-        request: r#"Trace { file: "a.bpf", data: Some("00ff") }"#,
+        subcommand: r#"Trace { file: "a.bpf", data: Some("00ff") }"#,
     },
     Good {
         words: &["relayd", "trace", "--data", "00ff", "a.bpf"],
-        request: r#"Trace { file: "a.bpf", data: Some("00ff") }"#,
+        subcommand: r#"Trace { file: "a.bpf", data: Some("00ff") }"#,
     },
     Good {
         words: &["relayd", "trace", "a.bpf", "--data=00ff"],
-        request: r#"Trace { file: "a.bpf", data: Some("00ff") }"#,
+        subcommand: r#"Trace { file: "a.bpf", data: Some("00ff") }"#,
     },
     Good {
         words: &["relayd", "trace", "--data=00ff", "a.bpf"],
-        request: r#"Trace { file: "a.bpf", data: Some("00ff") }"#,
+        subcommand: r#"Trace { file: "a.bpf", data: Some("00ff") }"#,
     },
     // a comma, an equals sign and a blank part nothing
     Good {
         words: &["relayd", "trace", "a.bpf", "--data", "00,ff"],
-        request: r#"Trace { file: "a.bpf", data: Some("00,ff") }"#,
+        subcommand: r#"Trace { file: "a.bpf", data: Some("00,ff") }"#,
     },
     Good {
         words: &["relayd", "trace", "a.bpf", "--data=0=1"],
-        request: r#"Trace { file: "a.bpf", data: Some("0=1") }"#,
+        subcommand: r#"Trace { file: "a.bpf", data: Some("0=1") }"#,
     },
     Good {
         words: &["relayd", "trace", "a,b c.bpf", "--data", "00 ff"],
-        request: r#"Trace { file: "a,b c.bpf", data: Some("00 ff") }"#,
+        subcommand: r#"Trace { file: "a,b c.bpf", data: Some("00 ff") }"#,
     },
     Good {
         words: &["relayd", "trace", "a.bpf", "--data", ""],
-        request: r#"Trace { file: "a.bpf", data: Some("") }"#,
+        subcommand: r#"Trace { file: "a.bpf", data: Some("") }"#,
     },
     Good {
         words: &["relayd", "trace", "a.bpf", "--data="],
-        request: r#"Trace { file: "a.bpf", data: Some("") }"#,
+        subcommand: r#"Trace { file: "a.bpf", data: Some("") }"#,
     },
     // a file may have the name of a subcommand, and that of an option behind `--`
     Good {
         words: &["relayd", "verify", "trace"],
-        request: r#"Verify { file: "trace" }"#,
+        subcommand: r#"Verify { file: "trace" }"#,
     },
     Good {
         words: &["relayd", "verify", "--", "--help"],
-        request: r#"Verify { file: "--help" }"#,
+        subcommand: r#"Verify { file: "--help" }"#,
     },
     Good {
         words: &["relayd", "trace", "--data", "00", "--", "--data"],
-        request: r#"Trace { file: "--data", data: Some("00") }"#,
+        subcommand: r#"Trace { file: "--data", data: Some("00") }"#,
     },
     // the program may have any name
     Good {
         words: &["./r", "verify", "a.bpf"],
-        request: r#"Verify { file: "a.bpf" }"#,
+        subcommand: r#"Verify { file: "a.bpf" }"#,
     },
 ];
 
 #[test]
 fn good_lines_are_parsed(rt: HostRuntime) -> Result<(), Fail> {
-    for Good { words, request } in GOOD {
+    for Good { words, subcommand } in GOOD {
         let matches = line(rt.alloc(), words)?;
-        match requested(&matches) {
+        match subcommand_of(&matches) {
             Some(found) => {
                 let shown = format!(in rt.alloc(); "{found:?}")?;
-                assert_eq!(rt; shown.as_str(), request, "{words:?}");
+                assert_eq!(rt; shown.as_str(), subcommand, "{words:?}");
             }
             None => assert!(rt; false, "{words:?}"),
         }

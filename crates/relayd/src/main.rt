@@ -3,7 +3,7 @@
 
 use asm::{AsmError, assemble};
 use clap::error::ErrorKind as LineErrorKind;
-use command_line::{Request, line, requested};
+use command_line::{Subcommand, line, subcommand_of};
 use report::{Ask, ReportError, fail, report};
 use std::alloc::AllocError;
 use std::io::{self, BufWriter, Write};
@@ -97,13 +97,13 @@ fn run<R: Env + Files + Print + Eprint + AllocGlobal, E: Write>(rt: &R, err: &mu
     };
     match line(rt.alloc(), words.as_slice()) {
         Err(error) => report_line(rt, err, &error),
-        Ok(matches) => match requested(&matches) {
-            Some(Request::Verify { file }) => report_file(rt, err, file, Ask::Verify),
-            Some(Request::Trace { file, data }) => {
+        Ok(matches) => match subcommand_of(&matches) {
+            Some(Subcommand::Verify { file }) => report_file(rt, err, file, Ask::Verify),
+            Some(Subcommand::Trace { file, data }) => {
                 report_file(rt, err, file, Ask::Trace { hex: data })
             }
-            Some(Request::Disassemble { file }) => report_file(rt, err, file, Ask::Disassemble),
-            Some(Request::Assemble { input, output }) => assemble_file(rt, err, input, output),
+            Some(Subcommand::Disassemble { file }) => report_file(rt, err, file, Ask::Disassemble),
+            Some(Subcommand::Assemble { input, output }) => assemble_file(rt, err, input, output),
             None => BAD_LINE,
         },
     }

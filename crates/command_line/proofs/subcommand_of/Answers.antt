@@ -1,32 +1,32 @@
 use Rattle.std.proofs.Common.{Some, None, codes, inl, inr}
 use Rattle.clap.specs.Words.{found_of, rows_of}
-use Rattle.command_line.specs.Requests.{RequestsNothing}
+use Rattle.command_line.specs.Subcommands.{IsNoSubcommand}
 use Rattle.command_line.proofs.Subcommands.{one_met, any_met, read, read_as, lacks_file, lacks_files}
-use Rattle.command_line.proofs.requested.Goals as goal
+use Rattle.command_line.proofs.subcommand_of.Goals as goal
 
 pub returns-in_err-input-in-assemble-clause-none : goal.returns-in_err-input-in-assemble-clause-none
 returns-in_err-input-in-assemble-clause-none c =
-    rw c.from_residual-in_err-input-in-assemble.ensures (any_met c.args.matches.now c.in_ok-name.name.now (found_of c.in_ok-name.matches.now) RequestsNothing c.in_ok-name.ensures.name c.in_ok-name.ensures.rows
+    rw c.from_residual-in_err-input-in-assemble.ensures (any_met c.args.matches.now c.in_ok-name.name.now (found_of c.in_ok-name.matches.now) IsNoSubcommand c.in_ok-name.ensures.name c.in_ok-name.ensures.rows
     (lacks_files c.in_ok-name.name.now (rows_of (found_of c.in_ok-name.matches.now)) c.in-assemble.is (inl (read_as (found_of c.in_ok-name.matches.now) (codes "in") _ None c.get_str.ensures c.in_err-input-in-assemble.was))))
 
 pub returns-in_err-output-in-assemble-clause-none : goal.returns-in_err-output-in-assemble-clause-none
 returns-in_err-output-in-assemble-clause-none c =
-    rw c.from_residual-in_err-output-in-assemble.ensures (any_met c.args.matches.now c.in_ok-name.name.now (found_of c.in_ok-name.matches.now) RequestsNothing c.in_ok-name.ensures.name c.in_ok-name.ensures.rows
+    rw c.from_residual-in_err-output-in-assemble.ensures (any_met c.args.matches.now c.in_ok-name.name.now (found_of c.in_ok-name.matches.now) IsNoSubcommand c.in_ok-name.ensures.name c.in_ok-name.ensures.rows
     (lacks_files c.in_ok-name.name.now (rows_of (found_of c.in_ok-name.matches.now)) c.in-assemble.is (inr (read_as (found_of c.in_ok-name.matches.now) (codes "out") _ None c.get_str-in-assemble.ensures c.in_err-output-in-assemble.was))))
 
 pub returns-in_err-file-in-disassemble-clause-none : goal.returns-in_err-file-in-disassemble-clause-none
 returns-in_err-file-in-disassemble-clause-none c =
-    rw c.from_residual-in_err-file-in-disassemble.ensures (any_met c.args.matches.now c.in_ok-name.name.now (found_of c.in_ok-name.matches.now) RequestsNothing c.in_ok-name.ensures.name c.in_ok-name.ensures.rows
+    rw c.from_residual-in_err-file-in-disassemble.ensures (any_met c.args.matches.now c.in_ok-name.name.now (found_of c.in_ok-name.matches.now) IsNoSubcommand c.in_ok-name.ensures.name c.in_ok-name.ensures.rows
     (lacks_file c.in_ok-name.name.now (rows_of (found_of c.in_ok-name.matches.now)) (inl c.in-disassemble.is) (read_as (found_of c.in_ok-name.matches.now) (codes "file") _ None c.get_str-in-disassemble.ensures c.in_err-file-in-disassemble.was)))
 
 pub returns-in_err-file-in-verify-clause-none : goal.returns-in_err-file-in-verify-clause-none
 returns-in_err-file-in-verify-clause-none c =
-    rw c.from_residual-in_err-file-in-verify.ensures (any_met c.args.matches.now c.in_ok-name.name.now (found_of c.in_ok-name.matches.now) RequestsNothing c.in_ok-name.ensures.name c.in_ok-name.ensures.rows
+    rw c.from_residual-in_err-file-in-verify.ensures (any_met c.args.matches.now c.in_ok-name.name.now (found_of c.in_ok-name.matches.now) IsNoSubcommand c.in_ok-name.ensures.name c.in_ok-name.ensures.rows
     (lacks_file c.in_ok-name.name.now (rows_of (found_of c.in_ok-name.matches.now)) (inr (inl c.in-verify.is)) (read_as (found_of c.in_ok-name.matches.now) (codes "file") _ None c.get_str-in-verify.ensures c.in_err-file-in-verify.was)))
 
 pub returns-in_err-file-in-trace-clause-none : goal.returns-in_err-file-in-trace-clause-none
 returns-in_err-file-in-trace-clause-none c =
-    rw c.from_residual-in_err-file-in-trace.ensures (any_met c.args.matches.now c.in_ok-name.name.now (found_of c.in_ok-name.matches.now) RequestsNothing c.in_ok-name.ensures.name c.in_ok-name.ensures.rows
+    rw c.from_residual-in_err-file-in-trace.ensures (any_met c.args.matches.now c.in_ok-name.name.now (found_of c.in_ok-name.matches.now) IsNoSubcommand c.in_ok-name.ensures.name c.in_ok-name.ensures.rows
     (lacks_file c.in_ok-name.name.now (rows_of (found_of c.in_ok-name.matches.now)) (inr (inr c.in-trace.is)) (read_as (found_of c.in_ok-name.matches.now) (codes "file") _ None c.get_str-in-trace.ensures c.in_err-file-in-trace.was)))
 
 pub returns-in_ok-output-in-assemble-clause-found : goal.returns-in_ok-output-in-assemble-clause-found
