@@ -1,12 +1,11 @@
 //! Signs messages (RFC 8489, section 14.5).
 
-ghost use Rattle.std.specs.Prelude.{◌≡◌, ◌≤◌, ◌+◌, ◌%◌, ◌++◌, ℕ, List, length, take, drop, None, Ok, OnOk, OnErr};
-ghost use Rattle.stun.specs.Endian.{big_bytes};
-ghost use Rattle.stun.specs.Messages.{Parts, before_first};
+ghost use Rattle.std.specs.Prelude.{◌≡◌, ◌≤◌, ◌+◌, ◌++◌, ℕ, List, length, None, Ok, OnOk, OnErr};
+ghost use Rattle.stun.specs.Messages.{Padded, Parts, header, attributes_bytes, before_first};
 ghost use Rattle.stun.specs.Registry.{message_integrity};
 ghost use Rattle.stun.specs.Builders.{used_of, capacity_of, SameBuffer, Appends, HasNoRoom};
 ghost use Rattle.credentials.specs.Hmac.{hmac};
-ghost use Rattle.credentials.specs.Integrity.{code_under};
+ghost use Rattle.credentials.specs.Integrity.{covered_bytes, code_under};
 ghost use Rattle.credentials.specs.Keys.{key_bytes};
 ghost use Rattle.credentials.specs.Checks.{Accounts, IsUser, IsChecked, user_key, first_value};
 ghost use Rattle.credentials.specs.Signs.{IsUnsigned, signed, code_in};
@@ -17,15 +16,16 @@ use stun::registry::attribute::MESSAGE_INTEGRITY;
 use stun::{Builder, NoRoom};
 
 /// Returns the HMAC under a key over the bytes before a MESSAGE-INTEGRITY, with the length in the header counted to the end
-/// of that attribute (RFC 8489, section 14.5).
-pub(crate) fn code_over(message: &[u8], key: &Key) -> [u8; 20]
-    requires { 20 ≤ length message.now }
-    ensures { result ≡ hmac (key_bytes key.now)
-        (take 2 message.now ++ (big_bytes 2 ((length message.now + 4) % 65536) ++ drop 4 message.now)) }
+/// of that attribute (RFC 8489, section 14.5), whatever length it had.
+pub(crate) fn code_over(front: &[u8], key: &Key) -> [u8; 20]
+    requires { 20 ≤ length front.now }
+    ensures { (p : Parts) (n : ℕ) (attributes : List Padded) → length p.transaction_id ≡ 12
+        → front.now ≡ header p.kind n p.transaction_id ++ attributes_bytes attributes
+        → result ≡ hmac (key_bytes key.now) (covered_bytes p attributes) }
 {
-    let (kind, rest) = message.split_at(2);
+    let (kind, rest) = front.split_at(2);
     let (_, rest) = rest.split_at(2);
-    let length = ((message.len() + 4) % 65_536) as u16;
+    let length = ((front.len() + 4) % 65_536) as u16;
     hmac_sha1(key.bytes(), &[kind, &length.to_be_bytes(), rest])
 }
 

@@ -1,5 +1,8 @@
-use Rattle.std.proofs.Common.{rules}
+use Rattle.std.proofs.Common.{get_or, sym, ap, ◌∙◌}
+use Rattle.semantics.specs.Effects.{held}
+use Rattle.semantics.specs.declared.value.Value.TheVariants.{Nothing}
 use Rattle.semantics.proofs.effect.read.Goals as goal
 
 pub returns-in-Nothing : goal.returns-in-Nothing
-returns-in-Nothing c = search rules
+returns-in-Nothing c =
+    sym (ap (λ k. held (get_or c.args.registers.now k Nothing)) (sym c.number.ensures) ∙ ap held c.in-Nothing.is)
