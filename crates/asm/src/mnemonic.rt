@@ -6,7 +6,7 @@ ghost use Rattle.asm.specs.Reading.{operator_named, condition_named, among, conv
 use insn::{AluOp, Condition, Extension, SignedSize, Size, SwapOp, SwapSize, Width};
 
 /// What a mnemonic says of its instruction: all but the arguments.
-#[derive(Clone, Copy, Debug, PartialEq, Eq)]
+#[derive(Clone, Copy)]
 pub(crate) enum Mnemonic {
     Alu(Width, AluOp),
     Mov(Width),

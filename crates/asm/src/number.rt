@@ -6,7 +6,7 @@ ghost use Rattle.asm.specs.Radices.{radix_of, is_numeral};
 use crate::radix::Radix;
 
 /// The digits of a number without a sign, at least one.
-#[derive(Clone, Copy, Debug)]
+#[derive(Clone, Copy)]
 pub(crate) struct Number<'a> {
     pub(crate) radix: Radix,
     pub(crate) digits: &'a [u8],
@@ -14,7 +14,7 @@ pub(crate) struct Number<'a> {
 }
 
 /// A number with its sign.
-#[derive(Clone, Copy, Debug)]
+#[derive(Clone, Copy)]
 pub(crate) struct Integer<'a> {
     pub(crate) is_negative: bool,
     pub(crate) magnitude: Number<'a>,

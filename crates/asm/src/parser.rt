@@ -128,28 +128,28 @@ fn numbered<'a>(word: &'a [u8]) -> Option<Number<'a>>
 }
 
 /// The second operand of an instruction, as it is written.
-#[derive(Clone, Copy, Debug)]
+#[derive(Clone, Copy)]
 pub(crate) enum Written<'a> {
     Reg(Reg),
     Integer(Integer<'a>),
 }
 
 /// Where a jump goes, as it is written.
-#[derive(Clone, Copy, Debug)]
+#[derive(Clone, Copy)]
 pub(crate) enum Goal<'a> {
     Label(&'a [u8]),
     Distance(Integer<'a>),
 }
 
 /// The address in a register, with a displacement, as it is written.
-#[derive(Clone, Copy, Debug)]
+#[derive(Clone, Copy)]
 pub(crate) struct Address<'a> {
     pub(crate) base: Reg,
     pub(crate) displacement: Integer<'a>,
 }
 
 /// A parser of the rest of a line.
-#[derive(Clone, Copy, Debug)]
+#[derive(Clone, Copy)]
 pub(crate) struct Parser<'a> {
     rest: &'a [u8],
 }

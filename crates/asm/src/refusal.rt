@@ -47,7 +47,7 @@ impl<T: Drop> From<AllocFailed<T>> for AsmError {
 }
 
 /// The fault of a line by itself.
-#[derive(Clone, Copy, Debug, PartialEq, Eq)]
+#[derive(Clone, Copy)]
 pub(crate) enum Fault {
     /// The line is not in the grammar.
     Syntax,

@@ -14,7 +14,7 @@ use crate::refusal::Fault;
 use insn::{AluOp, Condition, Extension, Insn, Operand, Reg, SignedSize, Size, Width};
 
 /// What a line says.
-#[derive(Clone, Copy, Debug)]
+#[derive(Clone, Copy)]
 pub(crate) enum Line<'a> {
     /// Nothing.
     Empty,

@@ -94,7 +94,8 @@ fn answer_user(
     requires ports { config.now.first_port + config.now.slots ≤ 0x10000 }
     requires slots { length tables.old.slots ≡ config.now.slots }
     ensures inside { result ≤ length out.new }
-    ensures answer { IsCheckedAnswer config.now now request client message.now tables.old tables.new (take result out.new) }
+    ensures answer { IsCheckedAnswer config.now now request client message.now tables.old tables.new
+        (take result out.new) }
     ensures slots { length tables.new.slots ≡ length tables.old.slots }
 {
     match check_credentials(config, message) {

@@ -84,7 +84,8 @@ pub fn load(alloc: Global, bytes: &[u8]) -> Result<Loaded, LoadError>
 
     // Allocation failures aside, the faults of the bytes are named exactly, and so are those of the layout.
     ensures decode { (e : DecodeError) → IsRefused bytes.now e → IsUnlessMemory (Decode e) result }
-    ensures layout { (code : List Insn) (reason : Reason) (slot : ℕ) → Encodes code bytes.now → IsLayoutFault code reason slot
+    ensures layout { (code : List Insn) (reason : Reason) (slot : ℕ)
+        → Encodes code bytes.now → IsLayoutFault code reason slot
         → IsUnlessMemory (Verify (Refusal.Stuck reason slot)) result }
 {
     let code = decode(alloc, bytes)?;

@@ -87,7 +87,7 @@ frame_run with_step program answers f context stack stack' area plan old new res
     let whole : IsWholeRun with_step program answers context (start (datagram_of f)).memory left plan old new result =
     subst (λ (m : Memory). IsWholeRun with_step program answers context m left plan old new result) (memory_is f.area stack f.length f.window frame) walked in
     let is : IsRecordOf context (length (datagram_of f)) (context_of f.context) = record {
-      real = real;
+      is_context = real;
       spelled = spelled ∙ ap (context_bytes (context_of f.context)) (sym (datagram_length f.area f.length frame.long frame.short));
     } in
     record {

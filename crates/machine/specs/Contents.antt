@@ -56,7 +56,7 @@ pub record HoldsDatagram (area : List ℕ) (stack : List (Option ℕ)) (count : 
 -- a frame's memory, and a context of the definitions' sizes
 pub record IsFrame (area : List ℕ) (stack : List (Option ℕ)) (count : ℕ) (is_started : Bool) (window : Option (ℕ × ℕ)) (context : Context) : Type 0 where
   pub holds : HoldsDatagram area stack count is_started window
-  pub real : IsContext (context_of context)
+  pub is_context : IsContext (context_of context)
 
 -- a new frame: zeros, the empty datagram, not started, no window
 pub record IsNew (f : Contents) : Type 0 where

@@ -22,7 +22,7 @@ use Rattle.machine.specs.declared.outcome.Stuck.{Stuck}
 
 -- bytes that are the record of a context, where the datagram has a length
 pub record IsRecordOf (bytes : List ℕ) (length : ℕ) (c : Context) : Type 0 where
-  pub real : IsContext c
+  pub is_context : IsContext c
   pub spelled : bytes ≡ context_bytes c length
 
 abbrev pub IsContextRecord : List ℕ → ℕ → Type 0

@@ -31,7 +31,13 @@ impl Model for Frame {
 
     ghost Value = { Contents };
 
-    ghost view = { λ f. record { area = f.area.items; length = f.length; is_started = f.is_started; context = f.context; window = f.window } };
+    ghost view = { λ f. record {
+      area = f.area.items;
+      length = f.length;
+      is_started = f.is_started;
+      context = f.context;
+      window = f.window;
+    } };
 
     ghost invariant = { λ f. IsFrame f.area.items f.stack.items f.length f.is_started f.window f.context };
 }

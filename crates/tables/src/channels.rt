@@ -16,7 +16,7 @@ pub const CHANNEL_LIFETIME: u64 = 600;
 pub const MAX_CHANNELS: usize = 64;
 
 /// What a channel is bound to.
-#[derive(Clone, Copy, Debug, PartialEq, Eq)]
+#[derive(Clone, Copy)]
 pub(crate) struct Binding {
     /// The peer's address and port.
     pub(crate) peer: Addr,
@@ -25,7 +25,7 @@ pub(crate) struct Binding {
 }
 
 /// A channel that is bound.
-#[derive(Clone, Copy, Debug, PartialEq, Eq)]
+#[derive(Clone, Copy)]
 pub(crate) struct Channel {
     pub(crate) number: u16,
     pub(crate) binding: Binding,

@@ -18,7 +18,7 @@ pub const PERMISSION_LIFETIME: u64 = 300;
 pub const MAX_PERMISSIONS: usize = 64;
 
 /// The permission of an IP address.
-#[derive(Clone, Copy, Debug, PartialEq, Eq)]
+#[derive(Clone, Copy)]
 pub(crate) struct Permission {
     /// The address, whose port is not looked at.
     pub(crate) ip: Addr,

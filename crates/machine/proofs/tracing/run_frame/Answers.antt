@@ -35,5 +35,5 @@ returns-clause-run g c =
     let whole = written left area c.frame.inside.area.len (c.execute_in-ended.auto.area ∙ c.deref_mut-2.ensures.len) in
     let Runs : Contents → List ℕ → Type 0 = λ f a. RunsOver g.S.Sink.with_step answers c.args.code.now f (record frame { area = a; is_started = false; window = plan.window }) plan (g.S.Sink.log c.args.sink.now) (g.S.Sink.log c.execute_in-ended.new.sink) c.execute_in-ended.result in
     let runs : Runs frame (take c.frame.inside.area.len (left ++ drop (length left) area)) =
-    subst (λ (a : List ℕ). Runs frame a) (sym whole) (frame_run g.S.Sink.with_step c.args.code.now answers frame c.context_record-context.result stack c.execute_in-ended.new.stack left plan _ _ _ holds c.frame.invariant.real spelled walked behind) in
+    subst (λ (a : List ℕ). Runs frame a) (sym whole) (frame_run g.S.Sink.with_step c.args.code.now answers frame c.context_record-context.result stack c.execute_in-ended.new.stack left plan _ _ _ holds c.frame.invariant.is_context spelled walked behind) in
     subst (λ (f : Contents). Runs f (take c.frame.inside.area.len (left ++ drop (length left) area))) c.frame.view_is runs

@@ -14,7 +14,7 @@ invariant_of-result c = record {
     ready = λ e. absurd cc;
     inside = tt;
   };
-  real = c.is_context.ensures;
+  is_context = c.is_context.ensures;
 }
 
 pub returns : goal.returns

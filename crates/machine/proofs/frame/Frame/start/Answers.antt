@@ -13,7 +13,7 @@ invariant_of-self c =
       holds = subst (λ (s : List (Option ℕ)). HoldsDatagram (take c.self.inside.area.len (c.surround.new.bytes ++ drop (length c.surround.new.bytes) c.self.inside.area.items)) s c.args.n true None) (sym stack)
           (subst (λ (a : List ℕ). HoldsDatagram a c.clear_stack.new.stack c.args.n true None) (sym area)
           (is_frame c.deref_mut-2.result.now c.surround.new.bytes c.clear_stack.new.stack c.args.n long c.requires c.clear_stack.ensures c.surround.ensures));
-      real = c.is_context.ensures;
+      is_context = c.is_context.ensures;
     }
 
 pub returns : goal.returns
