@@ -3,9 +3,9 @@
 -- domain.
 use Rattle.std.specs.Prelude.{ℕ, ◌+◌, ◌-◌, ◌^◌, ◌≤◌, Bool, true, false, ℤ, pos, ◌+ℤ◌, Option, Some, None, Result, Ok, Err, ◌==◌, if◌then◌else◌}
 use Rattle.std.specs.Option.{ok_or, option_map}
-use Rattle.std.specs.Int.{w64, cast_unsigned}
 use Rattle.insn.specs.Codes.{byte_count, unsigned_size}
 use Rattle.insn.specs.Register.{number_of}
+use Rattle.insn.specs.Words.{imm_word, target_of}
 use Rattle.insn.specs.declared.register.Reg.{Reg}
 use Rattle.insn.specs.declared.register.Reg.TheVariants as reg
 use Rattle.insn.specs.declared.size.Size.{Size}
@@ -66,9 +66,10 @@ held End = Ok End
 abbrev pub read : {D : Type 0} → AbsState D → Reg → Result (AbstractValue D) Reason
 read a r = held (abstract_at a.registers r)
 
-abbrev pub operand_abstract : {D : Type 0} → Operations D → AbsState D → Operand → Result (AbstractValue D) Reason
-operand_abstract ops a (operand.Reg r) = read a r
-operand_abstract ops a (operand.Imm n) = Ok (Scalar (ops.exact (cast_unsigned w64 n)))
+-- a register, or the imm as a word of the instruction's width
+abbrev pub operand_abstract : {D : Type 0} → Operations D → Width → AbsState D → Operand → Result (AbstractValue D) Reason
+operand_abstract ops w a (operand.Reg r) = read a r
+operand_abstract ops w a (operand.Imm n) = Ok (Scalar (ops.exact (imm_word w n)))
 
 -- ---- arithmetic
 
@@ -116,12 +117,12 @@ written a dst result = do
 abbrev pub alu_step : {D : Type 0} → Operations D → AbsState D → Width → AluOp → Reg → Operand → Result (Next D) Reason
 alu_step ops a w op dst o = do
   x ← read a dst
-  y ← operand_abstract ops a o
+  y ← operand_abstract ops w a o
   written a dst (alu_result ops op w x y)
 
-abbrev pub unary_step : {D : Type 0} → Operations D → AbsState D → UnaryOp → Reg → Operand → Result (Next D) Reason
-unary_step ops a op dst o = do
-  x ← operand_abstract ops a o
+abbrev pub unary_step : {D : Type 0} → Operations D → AbsState D → Width → UnaryOp → Reg → Operand → Result (Next D) Reason
+unary_step ops a w op dst o = do
+  x ← operand_abstract ops w a o
   written a dst (unary_result ops op x)
 
 -- ---- conditional jumps of two numbers
@@ -194,7 +195,7 @@ fork ops a w c dst o x y = places_fork a w c x y
 abbrev pub branch_step : {D : Type 0} → Operations D → AbsState D → Width → Condition → Reg → Operand → Result (Next D) Reason
 branch_step ops a w c dst o = do
   x ← read a dst
-  y ← operand_abstract ops a o
+  y ← operand_abstract ops w a o
   fork ops a w c dst o x y
 
 -- ---- memory
@@ -300,7 +301,7 @@ storable _ = Err PointerStored
 abbrev pub store_step : {D : Type 0} → Operations D → AbsState D → Size → Reg → Operand → ℤ → Result (Next D) Reason
 store_step ops a z base o d = do
   to ← read a base
-  known ← operand_abstract ops a o
+  known ← operand_abstract ops W64 a o
   u ← pointer to
   v ← storable known
   r ← located a to d (byte_count z)
@@ -399,10 +400,10 @@ exit_step a = do
 
 abbrev pub step : {D : Type 0} → Operations D → AbsState D → Insn → Result (Next D) Reason
 step ops a (insn.Alu w op dst o) = alu_step ops a w op dst o
-step ops a (insn.Mov w dst o) = unary_step ops a (Mov w) dst o
-step ops a (insn.Neg w dst) = unary_step ops a (Neg w) dst (operand.Reg dst)
-step ops a (insn.SignExtend e dst src) = unary_step ops a (SignExtend e) dst (operand.Reg src)
-step ops a (insn.Swap op z dst) = unary_step ops a (Swap op z) dst (operand.Reg dst)
+step ops a (insn.Mov w dst o) = unary_step ops a w (Mov w) dst o
+step ops a (insn.Neg w dst) = unary_step ops a w (Neg w) dst (operand.Reg dst)
+step ops a (insn.SignExtend e dst src) = unary_step ops a (target_of e) (SignExtend e) dst (operand.Reg src)
+step ops a (insn.Swap op z dst) = unary_step ops a W64 (Swap op z) dst (operand.Reg dst)
 step ops a (insn.Jump offset) = Ok (next.On a)
 step ops a (insn.LongJump offset) = Ok (next.On a)
 step ops a (insn.JumpIf w c dst o offset) = branch_step ops a w c dst o

@@ -14,7 +14,7 @@ use crate::calling::call_step;
 use crate::change::{Change, Transition};
 use crate::loading::{load_signed_step, load_step};
 use crate::storing::store_step;
-use insn::{AluOp, Insn, Operand, Reg, UnaryOp, Width, extended};
+use insn::{AluOp, Insn, Operand, Reg, UnaryOp, Width, imm_word};
 use interval::{Bounds, Domain};
 use semantics::{Reason, moved_place, writable};
 use std::alloc::AllocError;
@@ -55,16 +55,17 @@ pub(crate) fn read<D: Copy>(state: &AbsState<D>, reg: Reg) -> Result<AbstractVal
     }
 }
 
-/// Returns the value of an operand.
+/// Returns the value of an operand of an instruction of a width.
 pub(crate) fn operand_abstract<D: Domain>(
     state: &AbsState<D>,
+    width: Width,
     operand: Operand,
 ) -> Result<AbstractValue<D>, Reason>
-    ensures { result ≡ operand_abstract D.ops state.now operand }
+    ensures { result ≡ operand_abstract D.ops width state.now operand }
 {
     match operand {
         Operand::Reg(reg) => read(state, reg),
-        Operand::Imm(n) => Ok(AbstractValue::Scalar(D::exact(extended(n)))),
+        Operand::Imm(n) => Ok(AbstractValue::Scalar(D::exact(imm_word(width, n)))),
     }
 }
 
@@ -149,19 +150,20 @@ fn alu_step<D: Domain>(
     ensures { answer_of state.now result ≡ alu_step D.ops state.now width op dst operand }
 {
     let a = read(state, dst)?;
-    let b = operand_abstract(state, operand)?;
+    let b = operand_abstract(state, width, operand)?;
     written(dst, alu_result(op, width, a, b))
 }
 
 fn unary_step<D: Domain>(
     state: &AbsState<D>,
+    width: Width,
     op: UnaryOp,
     dst: Reg,
     operand: Operand,
 ) -> Result<Transition<D>, Reason>
-    ensures { answer_of state.now result ≡ unary_step D.ops state.now op dst operand }
+    ensures { answer_of state.now result ≡ unary_step D.ops state.now width op dst operand }
 {
-    let a = operand_abstract(state, operand)?;
+    let a = operand_abstract(state, width, operand)?;
     written(dst, unary_result(op, a))
 }
 
@@ -190,9 +192,9 @@ fn transition_of<D: Domain>(state: &AbsState<D>, insn: Insn) -> Result<Transitio
             width,
             dst,
             operand,
-        } => unary_step(state, UnaryOp::Mov(width), dst, operand),
+        } => unary_step(state, width, UnaryOp::Mov(width), dst, operand),
         Insn::Neg { width, dst } => {
-            unary_step(state, UnaryOp::Neg(width), dst, Operand::Reg(dst))
+            unary_step(state, width, UnaryOp::Neg(width), dst, Operand::Reg(dst))
         }
         Insn::SignExtend {
             extension,
@@ -200,12 +202,14 @@ fn transition_of<D: Domain>(state: &AbsState<D>, insn: Insn) -> Result<Transitio
             src,
         } => unary_step(
             state,
+            extension.target(),
             UnaryOp::SignExtend(extension),
             dst,
             Operand::Reg(src),
         ),
         Insn::Swap { op, size, dst } => {
-            unary_step(state, UnaryOp::Swap(op, size), dst, Operand::Reg(dst))
+            let operand = Operand::Reg(dst);
+            unary_step(state, Width::W64, UnaryOp::Swap(op, size), dst, operand)
         }
         Insn::Jump { .. } | Insn::LongJump { .. } => Ok(Transition::On(Change::Nothing)),
         Insn::JumpIf {

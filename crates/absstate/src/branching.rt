@@ -172,6 +172,6 @@ pub(crate) fn branch_step<D: Domain>(
     ensures { answer_of state.now result ≡ branch_step D.ops state.now width condition dst operand }
 {
     let a = read(state, dst)?;
-    let b = operand_abstract(state, operand)?;
+    let b = operand_abstract(state, width, operand)?;
     fork(width, condition, dst, operand, a, b)
 }

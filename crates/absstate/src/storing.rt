@@ -10,7 +10,7 @@ use crate::abstract_state::{AbsState, AbstractValue};
 use crate::abstract_step::{operand_abstract, read};
 use crate::change::{Change, Transition};
 use crate::memory::{Region, locate};
-use insn::{Operand, Reg, Size};
+use insn::{Operand, Reg, Size, Width};
 use interval::Domain;
 use semantics::Reason;
 
@@ -59,7 +59,7 @@ pub(crate) fn store_step<D: Domain>(
     ensures { answer_of state.now result ≡ store_step D.ops state.now size base operand displacement }
 {
     let to = read(state, base)?;
-    let known = operand_abstract(state, operand)?;
+    let known = operand_abstract(state, Width::W64, operand)?;
     pointer(to)?;
     storable(known)?;
     let to = locate(state, to, displacement, size.bytes())?;

@@ -1,3 +1,4 @@
 -- Internal. The modules of this folder.
+pub mod Records
 pub mod Nothing
 pub mod NothingLaws

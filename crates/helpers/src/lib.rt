@@ -2,5 +2,7 @@
 #![tactic(auto)]
 
 mod lookups;
+mod record;
 
 pub use lookups::{Helpers, NoAllocation};
+pub use record::{address_of, address_record};

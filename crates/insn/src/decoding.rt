@@ -24,6 +24,11 @@ use std::alloc::Global;
 /// The greatest number of slots that a program may have.
 pub const MAX_SLOTS: usize = 4096;
 
+/// States the greatest number of slots.
+pub fn limits()
+    ensures slots { MAX_SLOTS ≡ 4096 }
+{}
+
 fn operand_of(source: Source, src: Reg, imm: i32) -> Operand
     ensures { result ≡ with_source source src imm }
 {

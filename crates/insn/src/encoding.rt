@@ -2,7 +2,7 @@
 
 ghost use Rattle.std.specs.Prelude.{◌≡◌, ◌≤◌, ◌++◌, ℕ, List, IfOk, OnOk, MatchResult};
 ghost use Rattle.insn.specs.Fields.{HaveRoom, slot_bytes};
-ghost use Rattle.insn.specs.Encoding.{encoding, encodings, slot_count, Fits, AllFit};
+ghost use Rattle.insn.specs.Encoding.{encoding, encodings, slot_count, Fits, AllFit, Encodes};
 ghost use Rattle.insn.specs.declared.instruction.Insn.{Insn};
 ghost use Rattle.insn.specs.declared.refusal.DecodeError.TheVariants.{Memory};
 
@@ -52,6 +52,11 @@ pub fn no_encoding_begins_another()
 pub fn encodings_are_unique()
     ensures { (code other : List Insn) → AllFit code → AllFit other
         → encodings code ≡ encodings other → code ≡ other }
+{}
+
+/// States that bytes encode at most one program.
+pub fn bytes_encode_one_program()
+    ensures { (code other : List Insn) (bytes : List ℕ) → Encodes code bytes → Encodes other bytes → code ≡ other }
 {}
 
 /// Encodes a program and decodes the bytes: the result is the same program, unless memory runs out.

@@ -16,12 +16,14 @@ mod width;
 mod word;
 
 pub use condition::Condition;
-pub use decoding::{MAX_SLOTS, decode, refusals_are_unique, refused_bytes_encode_nothing};
-pub use encoding::{encode, encodings_are_unique, no_encoding_begins_another, read_back};
+pub use decoding::{MAX_SLOTS, decode, limits, refusals_are_unique, refused_bytes_encode_nothing};
+pub use encoding::{
+    bytes_encode_one_program, encode, encodings_are_unique, no_encoding_begins_another, read_back,
+};
 pub use instruction::{Insn, Operand};
 pub use operator::{AluOp, Extension, SwapOp, UnaryOp};
 pub use refusal::DecodeError;
 pub use register::Reg;
 pub use size::{SignedSize, Size, SwapSize};
 pub use width::Width;
-pub use word::{alu, extended, holds, little_endian, sign_extended, unary, write_little_endian};
+pub use word::{alu, holds, imm_word, little_endian, sign_extended, unary, write_little_endian};

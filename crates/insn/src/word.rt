@@ -4,7 +4,7 @@ ghost use Rattle.std.specs.Prelude.{◌≡◌, ◌≤◌, ◌<◌, ◌%◌, ◌^
 ghost use Rattle.std.specs.Int.{w64, cast_unsigned, cast_signed, swap_bytes};
 ghost use Rattle.std.specs.Int.RustNames.{int_div, int_rem};
 ghost use Rattle.byteorder.specs.Endian.{little_number, little_bytes};
-ghost use Rattle.insn.specs.Words.{modulus, cut, whole, alu, unary, holds, sign_extended, swap_width};
+ghost use Rattle.insn.specs.Words.{modulus, cut, imm_word, whole, alu, unary, holds, sign_extended, swap_width};
 ghost use mir.Val.{bits};
 
 use crate::condition::Condition;
@@ -138,11 +138,14 @@ pub fn holds(condition: Condition, width: Width, a: u64, b: u64) -> bool
     }
 }
 
-/// Returns an imm operand as a 64-bit word, sign-extended.
-pub fn extended(imm: i32) -> u64
-    ensures { result ≡ cast_unsigned w64 imm }
+/// Returns an imm operand as a word of a width: sign-extended to 64 bits, or the 32-bit number that it encodes.
+pub fn imm_word(width: Width, imm: i32) -> u64
+    ensures { result ≡ imm_word width imm }
 {
-    i64::from(imm).cast_unsigned()
+    match width {
+        Width::W32 => u64::from(imm.cast_unsigned()),
+        Width::W64 => i64::from(imm).cast_unsigned(),
+    }
 }
 
 /// Reads the little-endian number in 1 to 8 bytes.

@@ -1,21 +1,24 @@
 -- The bytes of a frame that was started.
-use Rattle.std.proofs.Common.{◌≡◌, ℕ, ◌+◌, ◌-◌, ◌≤◌, true, false, List, [], ◌∷◌, ◌++◌, length, take, drop, replicate, Option, None, Result, Ok, Err, refl, sym, ap, ◌∙◌, subst, arith, append_assoc}
-use Rattle.std.proofs.lemmas.List.{length-append, length-take-le, length-drop, take_at, take-append-drop, drop-drop, drop_all, append-nil}
-use Rattle.std.specs.Prelude.{option_map}
+use Rattle.std.proofs.Common.{◌≡◌, ℕ, ◌+◌, ◌-◌, ◌≤◌, true, false, List, [], ◌∷◌, ◌++◌, length, take, drop, replicate, Option, None, Some, Result, Ok, Err, refl, sym, ap, ◌∙◌, subst, arith, append_assoc}
+use Rattle.std.proofs.lemmas.List.{length-append, length-take-le, length-drop, take_at, take-append-drop, drop-drop, drop_all, append-nil, drop-append-le, take-append-le}
+use Rattle.std.specs.Prelude.{option_map, IfSome}
 use Rattle.std.proofs.lemmas.Slice.{drop-append-drop}
 use Rattle.std.proofs.Math.Seq.{take-append-add}
 use Rattle.insn.specs.declared.instruction.Insn.{Insn}
 use Rattle.semantics.specs.Machine.{IsContext, Memory, context_bytes, headroom, surrounded, empty_stack, start}
 use Rattle.semantics.specs.declared.plan.Plan.{Plan}
 use Rattle.semantics.specs.Runs.{Run}
+use Rattle.semantics.specs.Calls.{IsWindow}
+use Rattle.semantics.specs.Extents.{HasExtent, start_extent, run_extent}
 use Rattle.semantics.specs.StartLaws.{length-headroom, length-surrounded, length-empty_stack}
-use Rattle.machine.specs.Contents.{Contents, HoldsDatagram, datagram_of, with_room}
+use Rattle.machine.specs.Contents.{Contents, HoldsDatagram, datagram_of, window_of, with_room}
 use Rattle.machine.specs.FrameLaws.{datagram_inside}
 use Rattle.semantics.specs.Views.{memory_with}
 use Rattle.semantics.specs.declared.fetching.Visit.{Visit}
-use Rattle.machine.specs.Contexts.{Answers, address_of, context_of}
+use Rattle.helpers.specs.Records.{address_of}
+use Rattle.machine.specs.Contexts.{Answers, context_of}
 use Rattle.machine.specs.Execution.{IsRecordOf, IsWholeRun, RunsOver}
-use Rattle.machine.specs.Tracing.{run_of, left_by, IsFrameRun}
+use Rattle.machine.specs.Tracing.{environment_of, run_of, left_by, IsFrameRun, Shows}
 use Rattle.attributes.specs.declared.address.Addr.{Addr}
 use Rattle.machine.specs.declared.execution.Exited.{Exited}
 use Rattle.machine.specs.declared.outcome.Stuck.{Stuck}
@@ -135,3 +138,29 @@ written_behind old bytes len e long =
 -- a frame whose vector is written so has its room written
 pub frame_written : (f now : Contents) (bytes area : List ℕ) → f ≡ now → area ≡ take (length f.area) (take 64 f.area ++ bytes ++ drop (64 + length bytes) f.area) → record f { area = area; is_started = false } ≡ with_room now bytes
 frame_written f now bytes area same e = (λ i. record f { area = e i; is_started = false }) ∙ ap (λ (g : Contents). with_room g bytes) same
+
+-- ---- what a frame shows of a run
+
+part_front : (n i : ℕ) (bytes rest : List ℕ) → i + n ≤ length bytes → take n (drop i (bytes ++ rest)) ≡ take n (drop i bytes)
+part_front n i bytes rest le =
+    ap (take n) (drop-append-le i bytes rest (omega (arith, le))) ∙ take-append-le n (drop i bytes) rest (omega (arith, length-drop i bytes, le))
+
+window_front : (size : ℕ) (window : Option (ℕ × ℕ)) (bytes rest : List ℕ) → length bytes ≡ 64 + size + 3 → IfSome window (IsWindow size) → option_map (λ w. take w.1 (drop w.0 (bytes ++ rest))) window ≡ option_map (λ w. take w.1 (drop w.0 bytes)) window
+window_front size None bytes rest long h = refl
+window_front size (Some w) bytes rest long h = ap Some (part_front w.1 w.0 bytes rest (omega (arith, long, h.0)))
+
+pub shows_left : (f after : Contents) (r : Run) → length (datagram_of f) ≡ f.length → HasExtent (length (datagram_of f)) r.state → after ≡ left_by f r → Shows after (length (datagram_of f)) r
+shows_left f after r long extent e =
+    let size : ℕ = length (datagram_of f) in
+    let bytes : List ℕ = r.state.memory.bytes in
+    let rest : List ℕ = drop (67 + f.length) f.area in
+    let datagram : datagram_of (left_by f r) ≡ take size (drop 64 bytes) =
+    ap (λ (n : ℕ). take n (drop 64 (bytes ++ rest))) (sym long) ∙ part_front size 64 bytes rest (omega (arith, extent.bytes)) in
+    let window : option_map (window_of (left_by f r)) r.state.plan.window ≡ option_map (λ w. take w.1 (drop w.0 bytes)) r.state.plan.window = window_front size r.state.plan.window bytes rest extent.bytes extent.plan.window in
+    subst (λ (g : Contents). Shows g size r) (sym e) (record { extent = extent; datagram = datagram; window = window })
+
+pub shows_run : {Log : Type 0} (with_step : Log → Visit → Log) (answers : Answers) (program : List Insn) (before after : Contents) (plan : Plan) (old new : Log) (result : Result Exited Stuck)
+    → length (datagram_of before) ≡ before.length → RunsOver with_step answers program before after plan old new result → Shows after (length (datagram_of before)) (run_of program before answers)
+shows_run with_step answers program before after plan old new result long runs =
+    let extent = run_extent (environment_of before answers) program (length (datagram_of before)) (length program + 1) (start (datagram_of before)) (start_extent (datagram_of before)) in
+    shows_left before after (run_of program before answers) long extent runs.left

@@ -2,7 +2,7 @@
 use Rattle.std.specs.Prelude.{◌≡◌, ℕ, ◌+◌, ◌<◌, ◌≤◌, List, length, fold, IfSome, Result, Ok, Err}
 use Rattle.insn.specs.declared.instruction.Insn.{Insn}
 use Rattle.semantics.specs.Machine.{Context, IsContext, Memory, State, Environment, context_bytes, first_registers, no_plan}
-use Rattle.semantics.specs.declared.limits.TheConstants.{HEADROOM, TAILROOM}
+use Rattle.semantics.specs.Calls.{IsWindow}
 use Rattle.semantics.specs.declared.plan.Plan.{Plan}
 use Rattle.semantics.specs.Slots.{IsAt}
 use Rattle.semantics.specs.Runs as runs
@@ -34,7 +34,7 @@ state_at slot registers memory plan = record { slot = slot; registers = register
 
 -- a window that is planned lies in headroom, datagram and tailroom
 abbrev pub IsInside : ℕ → Plan → Type 0
-IsInside length plan = IfSome plan.window (λ w. w.0 + w.1 ≤ HEADROOM + length + TAILROOM)
+IsInside length plan = IfSome plan.window (IsWindow length)
 
 -- the result of a step that leaves these registers, this memory and this plan, as the definitions have it
 abbrev pub result_of : ℕ → List Value → Memory → Plan → StepResult → runs.StepResult

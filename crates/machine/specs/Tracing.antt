@@ -6,8 +6,11 @@ use Rattle.semantics.specs.Runs as runs
 use Rattle.semantics.specs.Runs.{Run, Exited, run}
 use Rattle.semantics.specs.declared.fetching.Visit.{Visit}
 use Rattle.semantics.specs.declared.limits.TheConstants.{HEADROOM, TAILROOM}
-use Rattle.machine.specs.Contents.{Contents, datagram_of}
-use Rattle.machine.specs.Contexts.{Answers, address_of, around, context_of}
+use Rattle.semantics.specs.Access.{part}
+use Rattle.semantics.specs.Extents.{HasExtent}
+use Rattle.machine.specs.Contents.{Contents, datagram_of, window_of}
+use Rattle.helpers.specs.Records.{address_of}
+use Rattle.machine.specs.Contexts.{Answers, around, context_of}
 use Rattle.machine.specs.declared.outcome.Outcome.{Outcome}
 use Rattle.machine.specs.declared.outcome.Stuck.{Stuck}
 
@@ -37,6 +40,13 @@ pub record IsOutcome (o : Outcome) (r : Run) : Type 0 where
 -- the frame as a run leaves it
 abbrev pub left_by : Contents → Run → Contents
 left_by f r = record f { area = r.state.memory.bytes ++ drop (HEADROOM + TAILROOM + f.length) f.area; is_started = false; window = r.state.plan.window }
+
+-- A frame shows what a run over a datagram of a length left: those bytes of its memory that are the datagram's, and those of
+-- the window. The memory has its sizes, the window lies in it, and a destination is a valid address record.
+pub record Shows (f : Contents) (size : ℕ) (r : Run) : Type 0 where
+  pub extent : HasExtent size r.state
+  pub datagram : datagram_of f ≡ part size HEADROOM r.state.memory.bytes
+  pub window : option_map (window_of f) f.window ≡ option_map (λ w. part w.1 w.0 r.state.memory.bytes) r.state.plan.window
 
 -- the end of the code's run over a frame is that of the definitions' run
 abbrev pub EndsWith : Result Outcome Stuck → Run → Type 0

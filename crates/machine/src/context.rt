@@ -1,12 +1,11 @@
 //! The context of a run, what a program may read about the current datagram, and its record.
 
-ghost use Rattle.std.specs.Prelude.{◌≡◌, ◌≤◌, ◌+◌, ◌∷◌, ◌++◌, length, take, drop};
-ghost use Rattle.insn.specs.Endian.{big_bytes};
+ghost use Rattle.std.specs.Prelude.{◌≡◌, ◌≤◌, ◌+◌, ◌++◌, length, take, drop};
 ghost use Rattle.semantics.specs.Machine.{context_bytes};
-ghost use Rattle.machine.specs.Contexts.{address_of, address_record, context_of, side_number};
+ghost use Rattle.machine.specs.Contexts.{context_of, side_number};
 
 use attributes::Addr;
-use byteorder::{BigEndian, ByteOrder};
+use helpers::address_record;
 use semantics::CONTEXT_BYTES;
 
 /// The side that a datagram came from: a client, or a peer of a relayed address.
@@ -22,27 +21,6 @@ pub struct Context {
     pub side: Side,
     pub source: Addr,
     pub tx: [u8; 12],
-}
-
-/// Returns the record of an IPv4 address: zero, the family 1, the port and the address, in network byte order.
-fn ipv4_record(ip: &[u8; 4], port: u16) -> [u8; 8]
-    ensures { result ≡ 0 ∷ 1 ∷ big_bytes 2 port ++ ip.now }
-{
-    let mut bytes = [0; 8];
-    bytes[1] = 1;
-    bytes[2..4].copy_from_slice(&port.to_be_bytes());
-    bytes[4..].copy_from_slice(ip);
-    bytes
-}
-
-/// Returns the record of an address: that of an IPv4 address, and eight zeros for an IPv6 address.
-fn address_record(address: &Addr) -> [u8; 8]
-    ensures { result ≡ address_record address.now }
-{
-    match address {
-        Addr::V4 { ip, port } => ipv4_record(ip, *port),
-        Addr::V6 { .. } => [0; 8],
-    }
 }
 
 /// Returns the number of a side in the context record: 0 for a client, 1 for a peer.
@@ -73,23 +51,4 @@ pub(crate) fn context_record(context: &Context, length: usize) -> [u8; CONTEXT_B
     write_part(&mut bytes, 32, &context.tx);
     write_part(&mut bytes, 44, &side_number(context.side).to_le_bytes());
     bytes
-}
-
-/// Returns the IP address in a record.
-fn ip_of(bytes: &[u8; 8]) -> [u8; 4]
-    ensures { result ≡ drop 4 bytes.now }
-{
-    let mut ip = [0; 4];
-    ip.copy_from_slice(&bytes[4..]);
-    ip
-}
-
-/// Returns the address of a record.
-pub(crate) fn address_of(bytes: &[u8; 8]) -> Addr
-    ensures { result ≡ address_of bytes.now }
-{
-    Addr::V4 {
-        ip: ip_of(bytes),
-        port: BigEndian::read_u16(&bytes[2..]),
-    }
 }

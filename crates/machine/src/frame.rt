@@ -170,6 +170,14 @@ impl Frame {
         self.area.slice_mut(HEADROOM..HEADROOM + MAX_DATAGRAM)
     }
 
+    /// Returns the room for a datagram, 65,507 bytes, as it stands.
+    pub fn room(&self) -> &[u8]
+        ensures value { result.now ≡ room_of self.now }
+        ensures len { length (room_of self.now) ≡ MAX_DATAGRAM }
+    {
+        &self.area[HEADROOM..HEADROOM + MAX_DATAGRAM]
+    }
+
     /// Returns whether the frame is started, so that a run may begin.
     pub fn started(&self) -> bool
         ensures { result ≡ self.now.is_started }
@@ -181,6 +189,7 @@ impl Frame {
     pub fn datagram(&self) -> &[u8]
         ensures bytes { result.now ≡ datagram_of self.now }
         ensures short { IsDatagram (datagram_of self.now) }
+        ensures length { length (datagram_of self.now) ≡ self.now.length }
     {
         datagram_in(&self.area, self.length)
     }

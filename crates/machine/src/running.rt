@@ -1,7 +1,8 @@
 //! The runs of verified programs.
 
 ghost use Rattle.std.specs.Prelude.{◌≡◌, ◌≤◌, true, length};
-ghost use Rattle.machine.specs.Tracing.{safe_run_of, IsOutcome, left_by};
+ghost use Rattle.machine.specs.Contents.{datagram_of};
+ghost use Rattle.machine.specs.Tracing.{safe_run_of, IsOutcome, left_by, Shows};
 
 use crate::frame::Frame;
 use crate::outcome::Outcome;
@@ -18,6 +19,8 @@ pub fn run<H: Helpers>(program: &Verified, frame: &mut Frame, helpers: &H) -> Ou
     ensures outcome { IsOutcome result (safe_run_of program.now frame.old (H.answers helpers.now)) }
     ensures steps { result.steps ≤ length program.now }
     ensures left { frame.new ≡ left_by frame.old (safe_run_of program.now frame.old (H.answers helpers.now)) }
+    ensures shows { Shows frame.new (length (datagram_of frame.old))
+        (safe_run_of program.now frame.old (H.answers helpers.now)) }
 {
     match execute_frame(program.code(), frame, helpers, &mut Silent) {
         Ok(outcome) => outcome,

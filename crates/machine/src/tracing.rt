@@ -10,17 +10,18 @@ ghost use Rattle.semantics.specs.Runs.{IsDatagram};
 ghost use Rattle.semantics.specs.Views.{memory_with};
 ghost use Rattle.semantics.specs.declared.limits.TheConstants.{STACK_BYTES, HEADROOM, MAX_DATAGRAM, TAILROOM};
 ghost use Rattle.machine.specs.Contents.{datagram_of};
-ghost use Rattle.machine.specs.Contexts.{address_of, context_of};
+ghost use Rattle.helpers.specs.Records.{address_of};
+ghost use Rattle.machine.specs.Contexts.{context_of};
 ghost use Rattle.machine.specs.Execution.{IsInside, IsContextRecord, IsWholeRun, RunsOver};
-ghost use Rattle.machine.specs.Tracing.{run_of, IsOutcome, left_by, IsFrameRun};
+ghost use Rattle.machine.specs.Tracing.{run_of, IsOutcome, left_by, IsFrameRun, Shows};
 
-use crate::context::{address_of, context_record};
+use crate::context::context_record;
 use crate::execution::{Environment, Exited, execute};
 use crate::frame::Frame;
 use crate::outcome::{Outcome, Stuck};
 use crate::sink::Sink;
 use attributes::Addr;
-use helpers::Helpers;
+use helpers::{Helpers, address_of};
 use insn::Insn;
 use semantics::{HEADROOM, Plan, TAILROOM};
 
@@ -76,6 +77,7 @@ fn run_frame<H: Helpers, S: Sink>(
     requires started { frame.old.is_started ≡ true }
     requires planless { plan.old ≡ no_plan }
     ensures datagram { IsDatagram (datagram_of frame.old) }
+    ensures length { count (datagram_of frame.old) ≡ frame.old.length }
     ensures context { IsContext (context_of frame.old.context) }
     ensures run { RunsOver S.with_step (H.answers helpers.now) code.now frame.old frame.new plan.new
         (S.log sink.old) (S.log sink.new) result }
@@ -118,6 +120,8 @@ pub(crate) fn execute_frame<H: Helpers, S: Sink>(
     ensures context { IsContext (context_of frame.old.context) }
     ensures run { IsFrameRun S.with_step (H.answers helpers.now) code.now frame.old frame.new
         (S.log sink.old) (S.log sink.new) result }
+    ensures shows { Shows frame.new (count (datagram_of frame.old))
+        (run_of code.now frame.old (H.answers helpers.now)) }
 {
     let mut plan = NO_PLAN;
     match run_frame(code, frame, helpers, &mut plan, sink) {
@@ -149,6 +153,8 @@ pub fn trace<H: Helpers, S: Sink>(
     ensures err { IfErr result
         (λ s. (run_of code.now frame.old (H.answers helpers.now)).ending ≡ runs.Stuck s.reason s.slot) }
     ensures left { frame.new ≡ left_by frame.old (run_of code.now frame.old (H.answers helpers.now)) }
+    ensures shows { Shows frame.new (count (datagram_of frame.old))
+        (run_of code.now frame.old (H.answers helpers.now)) }
     ensures reported { S.log sink.new
         ≡ fold S.with_step (S.log sink.old) (run_of code.now frame.old (H.answers helpers.now)).path }
 {

@@ -16,6 +16,8 @@ pub mod Slots
 pub mod SlotLaws
 pub mod Runs
 pub mod RunLaws
+pub mod Extents
+pub mod SwapLaws
 pub mod KeptLaws
 pub mod Flow
 pub mod LooseRuns

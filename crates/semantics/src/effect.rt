@@ -17,7 +17,7 @@ use crate::memory::Memory;
 use crate::reason::Reason;
 use crate::value::Value;
 use insn::{
-    AluOp, Condition, Insn, Operand, Reg, SignedSize, Size, UnaryOp, Width, alu, extended, holds,
+    AluOp, Condition, Insn, Operand, Reg, SignedSize, Size, UnaryOp, Width, alu, holds, imm_word,
     unary,
 };
 
@@ -71,12 +71,13 @@ pub(crate) fn read(registers: &Registers, reg: Reg) -> Result<Value, Reason>
     }
 }
 
-fn operand_value(registers: &Registers, operand: Operand) -> Result<Value, Reason>
-    ensures { result ≡ operand_value registers.now operand }
+/// Returns the value of an operand of an instruction of a width.
+fn operand_value(registers: &Registers, width: Width, operand: Operand) -> Result<Value, Reason>
+    ensures { result ≡ operand_value width registers.now operand }
 {
     match operand {
         Operand::Reg(reg) => read(registers, reg),
-        Operand::Imm(n) => Ok(Value::Scalar(extended(n))),
+        Operand::Imm(n) => Ok(Value::Scalar(imm_word(width, n))),
     }
 }
 
@@ -162,19 +163,20 @@ fn alu_effect(
     ensures { result ≡ alu_effect registers.now width op dst operand }
 {
     let a = read(registers, dst)?;
-    let b = operand_value(registers, operand)?;
+    let b = operand_value(registers, width, operand)?;
     written(dst, alu_result(op, width, a, b))
 }
 
 fn unary_effect(
     registers: &Registers,
+    width: Width,
     op: UnaryOp,
     dst: Reg,
     operand: Operand,
 ) -> Result<Effect, Reason>
-    ensures { result ≡ unary_effect registers.now op dst operand }
+    ensures { result ≡ unary_effect registers.now width op dst operand }
 {
-    let a = operand_value(registers, operand)?;
+    let a = operand_value(registers, width, operand)?;
     written(dst, unary_result(op, a))
 }
 
@@ -226,7 +228,7 @@ fn jump_if_effect(
     ensures { result ≡ jump_if_effect registers.now length width condition dst operand offset }
 {
     let a = read(registers, dst)?;
-    let b = operand_value(registers, operand)?;
+    let b = operand_value(registers, width, operand)?;
     if compared(length, width, condition, a, b)? {
         Ok(Effect::Jump {
             offset: i32::from(offset),
@@ -300,7 +302,7 @@ fn store_effect(
     ensures { result ≡ store_effect registers.now (memory.now).length size base operand displacement }
 {
     let to = read(registers, base)?;
-    let value = operand_value(registers, operand)?;
+    let value = operand_value(registers, Width::W64, operand)?;
     pointer(to)?;
     let value = stored_number(value)?;
     let at = locate(memory, to, displacement, size.bytes())?;
@@ -340,9 +342,15 @@ pub fn effect_of(
             width,
             dst,
             operand,
-        } => unary_effect(registers, UnaryOp::Mov(width), dst, operand),
+        } => unary_effect(registers, width, UnaryOp::Mov(width), dst, operand),
         Insn::Neg { width, dst } => {
-            unary_effect(registers, UnaryOp::Neg(width), dst, Operand::Reg(dst))
+            unary_effect(
+                registers,
+                width,
+                UnaryOp::Neg(width),
+                dst,
+                Operand::Reg(dst),
+            )
         }
         Insn::SignExtend {
             extension,
@@ -350,12 +358,14 @@ pub fn effect_of(
             src,
         } => unary_effect(
             registers,
+            extension.target(),
             UnaryOp::SignExtend(extension),
             dst,
             Operand::Reg(src),
         ),
         Insn::Swap { op, size, dst } => {
-            unary_effect(registers, UnaryOp::Swap(op, size), dst, Operand::Reg(dst))
+            let operand = Operand::Reg(dst);
+            unary_effect(registers, Width::W64, UnaryOp::Swap(op, size), dst, operand)
         }
         Insn::Jump { offset } => Ok(Effect::Jump {
             offset: i32::from(offset),

@@ -3,6 +3,7 @@ use Rattle.std.proofs.Common.{◌≡◌, ℕ, Bool, true, false, Result, Ok, Err
 use Rattle.std.specs.Prelude.{ℤ, pos, Option, Some, None, ◌+ℤ◌, IfOk, IfErr}
 use Rattle.std.specs.Option.{ok_or}
 use Rattle.insn.specs.Codes.{byte_count, unsigned_size}
+use Rattle.insn.specs.Words.{target_of}
 use Rattle.insn.specs.declared.register.Reg.{Reg}
 use Rattle.insn.specs.declared.register.Reg.TheVariants as reg
 use Rattle.insn.specs.declared.width.Width.{Width}
@@ -65,8 +66,8 @@ module _ {D : Type 0} (ops : Operations D) where
   unfolding HasOne
   goes_straight a dst known = every HasOne (writable dst) _ (λ u. every HasOne known _ (λ k. refl))
 
-  unary_straight : (a : AbsState D) (op : UnaryOp) (dst : Reg) (o : Operand) → IfOk (abstract.unary_step ops a op dst o) HasOne
-  unary_straight a op dst o = every HasOne (abstract.operand_abstract ops a o) _ (λ x. goes_straight a dst (abstract.unary_result ops op x))
+  unary_straight : (a : AbsState D) (w : Width) (op : UnaryOp) (dst : Reg) (o : Operand) → IfOk (abstract.unary_step ops a w op dst o) HasOne
+  unary_straight a w op dst o = every HasOne (abstract.operand_abstract ops w a o) _ (λ x. goes_straight a dst (abstract.unary_result ops op x))
 
   load_straight : (a : AbsState D) (loaded : AbstractValue D → Result (AbstractValue D) Reason) (dst base : Reg) → IfOk (abstract.loaded_step a loaded dst base) HasOne
   load_straight a loaded dst base = every HasOne (abstract.read a base) _ (λ x. goes_straight a dst (loaded x))
@@ -99,18 +100,18 @@ module _ {D : Type 0} (ops : Operations D) where
   -- an accepted step has the successors of its instruction
   pub step_successors : (a : AbsState D) (i : Insn) → IfOk (abstract.step ops a i) (λ answer. successors_in answer ≡ successors_of i)
   unfolding HasOne HasTwo
-  step_successors a (insn.Alu w op dst o) = every HasOne (abstract.read a dst) _ (λ x. every HasOne (abstract.operand_abstract ops a o) _ (λ y. goes_straight a dst (abstract.alu_result ops op w x y)))
-  step_successors a (insn.Mov w dst o) = unary_straight a (Mov w) dst o
-  step_successors a (insn.Neg w dst) = unary_straight a (Neg w) dst (operand.Reg dst)
-  step_successors a (insn.SignExtend e dst src) = unary_straight a (SignExtend e) dst (operand.Reg src)
-  step_successors a (insn.Swap op z dst) = unary_straight a (Swap op z) dst (operand.Reg dst)
+  step_successors a (insn.Alu w op dst o) = every HasOne (abstract.read a dst) _ (λ x. every HasOne (abstract.operand_abstract ops w a o) _ (λ y. goes_straight a dst (abstract.alu_result ops op w x y)))
+  step_successors a (insn.Mov w dst o) = unary_straight a w (Mov w) dst o
+  step_successors a (insn.Neg w dst) = unary_straight a w (Neg w) dst (operand.Reg dst)
+  step_successors a (insn.SignExtend e dst src) = unary_straight a (target_of e) (SignExtend e) dst (operand.Reg src)
+  step_successors a (insn.Swap op z dst) = unary_straight a W64 (Swap op z) dst (operand.Reg dst)
   step_successors a (insn.Jump offset) = refl
   step_successors a (insn.LongJump offset) = refl
-  step_successors a (insn.JumpIf w c dst o offset) = every HasTwo (abstract.read a dst) _ (λ x. every HasTwo (abstract.operand_abstract ops a o) _ (λ y. forks a w c dst o x y))
+  step_successors a (insn.JumpIf w c dst o offset) = every HasTwo (abstract.read a dst) _ (λ x. every HasTwo (abstract.operand_abstract ops w a o) _ (λ y. forks a w c dst o x y))
   step_successors a (insn.Load z dst base d) = load_straight a (λ pointer. abstract.load ops a pointer d z) dst base
   step_successors a (insn.LoadSigned z dst base d) = load_straight a (λ pointer. abstract.load_signed ops a pointer d z) dst base
   step_successors a (insn.Store z base o d) =
-      every HasOne (abstract.read a base) _ (λ to. every HasOne (abstract.operand_abstract ops a o) _ (λ known. every HasOne (abstract.pointer to) _ (λ u. every HasOne (abstract.storable known) _ (λ v. every HasOne (abstract.located a to d (byte_count z)) _ (λ r. refl)))))
+      every HasOne (abstract.read a base) _ (λ to. every HasOne (abstract.operand_abstract ops W64 a o) _ (λ known. every HasOne (abstract.pointer to) _ (λ u. every HasOne (abstract.storable known) _ (λ v. every HasOne (abstract.located a to d (byte_count z)) _ (λ r. refl)))))
   step_successors a (insn.LoadImm dst value) = goes_straight a dst (Ok (known.Scalar (ops.exact value)))
   step_successors a (insn.Call n) = every HasOne (ok_or (helper_of n) reasons.UnknownHelper) _ (λ h. helper_straight a h)
   step_successors a insn.Exit = every (λ (answer : Next D). successors_in answer ≡ successors_of insn.Exit) (abstract.read a reg.R0) _ exits
@@ -129,9 +130,9 @@ module _ {D : Type 0} (ops : Operations D) where
   held_reasons known.Nothing = tt
   held_reasons k = tt
 
-  operand_reasons : (a : AbsState D) (o : Operand) → IfErr (abstract.operand_abstract ops a o) IsStepReason
-  operand_reasons a (operand.Reg r) = held_reasons (abstract_at a.registers r)
-  operand_reasons a (operand.Imm n) = tt
+  operand_reasons : (w : Width) (a : AbsState D) (o : Operand) → IfErr (abstract.operand_abstract ops w a o) IsStepReason
+  operand_reasons w a (operand.Reg r) = held_reasons (abstract_at a.registers r)
+  operand_reasons w a (operand.Imm n) = tt
 
   moved_reasons : (kind : ℤ → AbstractValue D) (o : Option ℤ) → IfErr (abstract.moved kind o) IsStepReason
   moved_reasons kind None = tt
@@ -214,7 +215,7 @@ module _ {D : Type 0} (ops : Operations D) where
 
   store_reasons : (a : AbsState D) (z : Size) (base : Reg) (o : Operand) (d : ℤ) → IfErr (abstract.store_step ops a z base o d) IsStepReason
   store_reasons a z base o d =
-      faults IsStepReason (abstract.read a base) _ (held_reasons (abstract_at a.registers base)) (λ to. faults IsStepReason (abstract.operand_abstract ops a o) _ (operand_reasons a o)
+      faults IsStepReason (abstract.read a base) _ (held_reasons (abstract_at a.registers base)) (λ to. faults IsStepReason (abstract.operand_abstract ops W64 a o) _ (operand_reasons W64 a o)
       (λ known. faults IsStepReason (abstract.pointer to) _ (pointer_reasons to) (λ u. faults IsStepReason (abstract.storable known) _ (storable_reasons known)
       (λ v. faults IsStepReason (abstract.located a to d (byte_count z)) _ (region_reasons a to d (byte_count z)) (λ r. tt)))))
 
@@ -260,8 +261,8 @@ module _ {D : Type 0} (ops : Operations D) where
   written_reasons : (a : AbsState D) (dst : Reg) (known : Result (AbstractValue D) Reason) → IfErr known IsStepReason → IfErr (abstract.written a dst known) IsStepReason
   written_reasons a dst known h = faults IsStepReason (writable dst) _ (may_write dst) (λ u. faults IsStepReason known _ h (λ k. tt))
 
-  one_step_reasons : (a : AbsState D) (op : UnaryOp) (dst : Reg) (o : Operand) → IfErr (abstract.unary_step ops a op dst o) IsStepReason
-  one_step_reasons a op dst o = faults IsStepReason (abstract.operand_abstract ops a o) _ (operand_reasons a o) (λ x. written_reasons a dst (abstract.unary_result ops op x) (unary_reasons op x))
+  one_step_reasons : (a : AbsState D) (w : Width) (op : UnaryOp) (dst : Reg) (o : Operand) → IfErr (abstract.unary_step ops a w op dst o) IsStepReason
+  one_step_reasons a w op dst o = faults IsStepReason (abstract.operand_abstract ops w a o) _ (operand_reasons w a o) (λ x. written_reasons a dst (abstract.unary_result ops op x) (unary_reasons op x))
 
   load_step_reasons : (a : AbsState D) (loaded : AbstractValue D → Result (AbstractValue D) Reason) (dst base : Reg) → ((x : AbstractValue D) → IfErr (loaded x) IsStepReason) → IfErr (abstract.loaded_step a loaded dst base) IsStepReason
   load_step_reasons a loaded dst base h = faults IsStepReason (abstract.read a base) _ (held_reasons (abstract_at a.registers base)) (λ x. written_reasons a dst (loaded x) (h x))
@@ -269,16 +270,16 @@ module _ {D : Type 0} (ops : Operations D) where
   -- a refused step has one of the reasons of steps
   pub step_reasons : (a : AbsState D) (i : Insn) → IfErr (abstract.step ops a i) IsStepReason
   step_reasons a (insn.Alu w op dst o) =
-      faults IsStepReason (abstract.read a dst) _ (held_reasons (abstract_at a.registers dst)) (λ x. faults IsStepReason (abstract.operand_abstract ops a o) _ (operand_reasons a o)
+      faults IsStepReason (abstract.read a dst) _ (held_reasons (abstract_at a.registers dst)) (λ x. faults IsStepReason (abstract.operand_abstract ops w a o) _ (operand_reasons w a o)
       (λ y. written_reasons a dst (abstract.alu_result ops op w x y) (alu_reasons op w x y)))
-  step_reasons a (insn.Mov w dst o) = one_step_reasons a (Mov w) dst o
-  step_reasons a (insn.Neg w dst) = one_step_reasons a (Neg w) dst (operand.Reg dst)
-  step_reasons a (insn.SignExtend e dst src) = one_step_reasons a (SignExtend e) dst (operand.Reg src)
-  step_reasons a (insn.Swap op z dst) = one_step_reasons a (Swap op z) dst (operand.Reg dst)
+  step_reasons a (insn.Mov w dst o) = one_step_reasons a w (Mov w) dst o
+  step_reasons a (insn.Neg w dst) = one_step_reasons a w (Neg w) dst (operand.Reg dst)
+  step_reasons a (insn.SignExtend e dst src) = one_step_reasons a (target_of e) (SignExtend e) dst (operand.Reg src)
+  step_reasons a (insn.Swap op z dst) = one_step_reasons a W64 (Swap op z) dst (operand.Reg dst)
   step_reasons a (insn.Jump offset) = tt
   step_reasons a (insn.LongJump offset) = tt
   step_reasons a (insn.JumpIf w c dst o offset) =
-      faults IsStepReason (abstract.read a dst) _ (held_reasons (abstract_at a.registers dst)) (λ x. faults IsStepReason (abstract.operand_abstract ops a o) _ (operand_reasons a o)
+      faults IsStepReason (abstract.read a dst) _ (held_reasons (abstract_at a.registers dst)) (λ x. faults IsStepReason (abstract.operand_abstract ops w a o) _ (operand_reasons w a o)
       (λ y. fork_reasons a w c dst o x y))
   step_reasons a (insn.Load z dst base d) = load_step_reasons a (λ pointer. abstract.load ops a pointer d z) dst base (λ x. load_reasons a x d z)
   step_reasons a (insn.LoadSigned z dst base d) = load_step_reasons a (λ pointer. abstract.load_signed ops a pointer d z) dst base (λ x. number_reasons a x d (byte_count (unsigned_size z)) ops.top)

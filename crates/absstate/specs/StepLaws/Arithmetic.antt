@@ -2,10 +2,9 @@
 use Rattle.std.proofs.Common.{◌≡◌, ℕ, ◌<◌, ◌^◌, Bool, true, false, ℤ, pos, ◌+ℤ◌, Option, Some, None, Result, Ok, Err, refl, sym, ap, ◌∙◌, subst, arith}
 use Rattle.std.specs.Prelude.{◌==◌, if◌then◌else◌}
 use Rattle.std.proofs.lemmas.Bool.{eqb-true}
-use Rattle.std.specs.Int.{w64, cast_unsigned}
 use Rattle.std.proofs.lemmas.Int.{ints}
 use Rattle.insn.specs.Encoding.{OperandFits}
-use Rattle.insn.specs.Words.{alu, unary}
+use Rattle.insn.specs.Words.{alu, unary, imm_word}
 use Rattle.insn.specs.declared.width.Width.{Width}
 use Rattle.insn.specs.declared.width.Width.TheVariants.{W32, W64}
 use Rattle.insn.specs.declared.operator.UnaryOp.{UnaryOp}
@@ -16,7 +15,7 @@ use Rattle.insn.specs.declared.instruction.Operand.{Operand}
 use Rattle.insn.specs.declared.instruction.Operand.TheVariants as operand
 use Rattle.insn.specs.declared.instruction.Insn.{Insn}
 use Rattle.insn.specs.declared.instruction.Insn.TheVariants as insn
-use Rattle.semantics.specs.NumberLaws.{imm_word}
+use Rattle.semantics.specs.NumberLaws.{imm_below}
 use Rattle.semantics.specs.Machine.{State}
 use Rattle.semantics.specs.Effects as effects
 use Rattle.semantics.specs.Effects.{value_at, moved_place}
@@ -91,9 +90,9 @@ module _ {D : Type 0} (ops : Operations D) (Member : D → ℕ → Type 0) (soun
     pub read_agrees : (a : AbsState D) (s : State) → IsMember Member mode places a s → (r : Reg) → Agree claimed (IsHeld Member places) (abstract.read a r) (effects.read s.registers r)
     read_agrees a s member r = held_agrees (abstract_at a.registers r) (value_at s.registers r) (member.registers r)
 
-    pub operand_agrees : (a : AbsState D) (s : State) → IsMember Member mode places a s → (o : Operand) → OperandFits o → Agree claimed (IsHeld Member places) (abstract.operand_abstract ops a o) (effects.operand_value s.registers o)
-    operand_agrees a s member (operand.Reg r) fit = read_agrees a s member r
-    operand_agrees a s member (operand.Imm n) fit = (cast_unsigned w64 n, sound.exact (cast_unsigned w64 n) (imm_word n fit), refl)
+    pub operand_agrees : (a : AbsState D) (s : State) → IsMember Member mode places a s → (w : Width) (o : Operand) → OperandFits o → Agree claimed (IsHeld Member places) (abstract.operand_abstract ops w a o) (effects.operand_value w s.registers o)
+    operand_agrees a s member w (operand.Reg r) fit = read_agrees a s member r
+    operand_agrees a s member w (operand.Imm n) fit = (imm_word w n, sound.exact (imm_word w n) (imm_below w n fit), refl)
 
   -- ---- arithmetic
 

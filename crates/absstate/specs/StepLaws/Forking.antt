@@ -63,10 +63,10 @@ module _ {D : Type 0} (ops : Operations D) (Member : D → ℕ → Type 0) (soun
 
   module _ (mode : Mode) (places : Places) (a : AbsState D) (s : State) (member : IsMember Member mode places a s) (dst : Reg) where
     -- the operands are members of what is left of them
-    operands_known : (o : Operand) (left : D × D) (m n to : ℕ) → value_at s.registers dst ≡ value.Scalar m → effects.operand_value s.registers o ≡ Ok (value.Scalar n) → Member left.0 m → Member left.1 n
+    operands_known : (w : Width) (o : Operand) (left : D × D) (m n to : ℕ) → value_at s.registers dst ≡ value.Scalar m → effects.operand_value w s.registers o ≡ Ok (value.Scalar n) → Member left.0 m → Member left.1 n
         → IsMember Member mode places (abstract.with_operands a dst o left) (record s { slot = to })
-    operands_known (operand.Imm k) left m n to dst_is o_is h g = member_known Member mode places a s member dst (known.Scalar left.0) to (m, h, dst_is)
-    operands_known (operand.Reg src) left m n to dst_is o_is h g =
+    operands_known w (operand.Imm k) left m n to dst_is o_is h g = member_known Member mode places a s member dst (known.Scalar left.0) to (m, h, dst_is)
+    operands_known w (operand.Reg src) left m n to dst_is o_is h g =
         cond_both (number_of dst == number_of src) a (with_value (with_value a dst (known.Scalar left.0)) src (known.Scalar left.1)) (λ b. IsMember Member mode places b (record s { slot = to }))
         (λ e. member_moved Member mode places a s member to)
         (λ e. member_known Member mode places (with_value a dst (known.Scalar left.0)) (record s { slot = to }) (member_known Member mode places a s member dst (known.Scalar left.0) to (m, h, dst_is)) src (known.Scalar left.1) to (n, g, held_is (value_at s.registers src) (value.Scalar n) o_is))
@@ -120,10 +120,10 @@ module _ {D : Type 0} (ops : Operations D) (Member : D → ℕ → Type 0) (soun
           member = moved;
         }
 
-    operands_opened : (o : Operand) (x y : D) (left : D × D) (m n to : ℕ) → Member x m → Member y n → value_at s.registers dst ≡ value.Scalar m → effects.operand_value s.registers o ≡ Ok (value.Scalar n) → HasMembers Member left
+    operands_opened : (w : Width) (o : Operand) (x y : D) (left : D × D) (m n to : ℕ) → Member x m → Member y n → value_at s.registers dst ≡ value.Scalar m → effects.operand_value w s.registers o ≡ Ok (value.Scalar n) → HasMembers Member left
         → IsOpened Member places (abstract.with_operands a dst o left) s to
-    operands_opened (operand.Imm k) x y left m n to h g dst_is o_is has = replaced dst x left.0 m has.first to h dst_is has.of_first
-    operands_opened (operand.Reg src) x y left m n to h g dst_is o_is has =
+    operands_opened w (operand.Imm k) x y left m n to h g dst_is o_is has = replaced dst x left.0 m has.first to h dst_is has.of_first
+    operands_opened w (operand.Reg src) x y left m n to h g dst_is o_is has =
         cond_both (number_of dst == number_of src) a (with_value (with_value a dst (known.Scalar left.0)) src (known.Scalar left.1)) (λ b. IsOpened Member places b s to)
         (λ e. stays to)
         (λ e. both_replaced src x y left m n to h g dst_is (held_is (value_at s.registers src) (value.Scalar n) o_is) has)
@@ -153,7 +153,7 @@ module _ {D : Type 0} (ops : Operations D) (Member : D → ℕ → Type 0) (soun
     pub offset : ℤ
     pub jump : i ≡ insn.JumpIf width condition dst operand offset
     pub second : Value
-    pub operand_is : effects.operand_value s.registers operand ≡ Ok second
+    pub operand_is : effects.operand_value width s.registers operand ≡ Ok second
     pub branch : Branch
     pub effect_is : e ≡ effect_of_branch offset branch
     pub behind : AbsState D
@@ -168,10 +168,10 @@ module _ {D : Type 0} (ops : Operations D) (Member : D → ℕ → Type 0) (soun
 
   module _ (mode : Mode) (places : Places) (a : AbsState D) (s : State) (member : IsMember Member mode places a s) (w : Width) (c : Condition) (dst : Reg) (o : Operand) (offset : ℤ) where
     -- two numbers
-    module _ (x y : D) (m n : ℕ) (h : Member x m) (g : Member y n) (dst_is : value_at s.registers dst ≡ value.Scalar m) (o_is : effects.operand_value s.registers o ≡ Ok (value.Scalar n)) where
+    module _ (x y : D) (m n : ℕ) (h : Member x m) (g : Member y n) (dst_is : value_at s.registers dst ≡ value.Scalar m) (o_is : effects.operand_value w s.registers o ≡ Ok (value.Scalar n)) where
       passed_by : (r : Option (D × D)) → Keeps Member r m n → (behind : AbsState D) × (abstract.refined a dst o r ≡ Some behind) × ((to : ℕ) → IsMember Member mode places behind (record s { slot = to }))
       passed_by None kept = absurd kept
-      passed_by (Some left) kept = (abstract.with_operands a dst o left, refl, λ to. operands_known mode places a s member dst o left m n to dst_is o_is kept.0 kept.1)
+      passed_by (Some left) kept = (abstract.with_operands a dst o left, refl, λ to. operands_known mode places a s member dst w o left m n to dst_is o_is kept.0 kept.1)
 
       refined_rises : (r : Option (D × D)) (b : AbsState D) → abstract.refined a dst o r ≡ Some b → a.proved ≤ℤ b.proved
       refined_rises None b e = absurd cc
@@ -179,7 +179,7 @@ module _ {D : Type 0} (ops : Operations D) (Member : D → ℕ → Type 0) (soun
 
       refined_opens : (strict : IsMember Member Strict places a s) (r : Option (D × D)) → ((left : D × D) → r ≡ Some left → HasMembers Member left) → (b : AbsState D) → abstract.refined a dst o r ≡ Some b → (to : ℕ) → IsOpened Member places b s to
       refined_opens strict None has b e to = absurd cc
-      refined_opens strict (Some left) has b e to = subst (λ (z : AbsState D). IsOpened Member places z s to) (some_is (abstract.with_operands a dst o left) b e) (operands_opened places a s strict dst o x y left m n to h g dst_is o_is (has left refl))
+      refined_opens strict (Some left) has b e to = subst (λ (z : AbsState D). IsOpened Member places z s to) (some_is (abstract.with_operands a dst o left) b e) (operands_opened places a s strict dst w o x y left m n to h g dst_is o_is (has left refl))
 
       numbers_fork : (test : Test) (branch : Branch) (e : Effect) → e ≡ effect_of_branch offset branch → passes test w m n ≡ true
           → state_after (next.Fork (abstract.passed ops a (Fails c) w dst o x y) (abstract.passed ops a (Holds c) w dst o x y)) branch ≡ abstract.passed ops a test w dst o x y
@@ -217,7 +217,7 @@ module _ {D : Type 0} (ops : Operations D) (Member : D → ℕ → Type 0) (soun
       fork_by false e = numbers_fork (Fails c) NotTaken effect.Pass refl (ap not e) refl
 
     -- a place and the end
-    module _ (bound : Branch → Option Bound) (second : Value) (o_is : effects.operand_value s.registers o ≡ Ok second) (bound_is : (way : Branch) → bound_of c (value_at s.registers dst) second way ≡ bound way) where
+    module _ (bound : Branch → Option Bound) (second : Value) (o_is : effects.operand_value w s.registers o ≡ Ok second) (bound_is : (way : Branch) → bound_of c (value_at s.registers dst) second way ≡ bound way) where
       way_is : (way : Branch) → state_after (next.Fork (Some (with_least a (abstract.implied_by bound).not_taken)) (Some (with_least a (abstract.implied_by bound).taken))) way ≡ Some (with_least a (abstract.least_of (bound way)))
       way_is NotTaken = refl
       way_is Taken = refl

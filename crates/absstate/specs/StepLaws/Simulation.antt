@@ -2,10 +2,9 @@
 use Rattle.std.proofs.Common.{◌≡◌, ℕ, ℤ, pos, ◌+ℤ◌, Option, Some, None, Result, Ok, refl, sym, ap, ◌∙◌, subst, arith}
 use Rattle.std.specs.Prelude.{◌+◌, ◌≤◌, IfSome, if◌then◌else◌}
 use Rattle.std.specs.Option.{ok_or}
-use Rattle.std.specs.Int.{w64, cast_unsigned}
 use Rattle.insn.specs.Codes.{byte_count}
 use Rattle.insn.specs.Encoding.{OperandFits, Fits}
-use Rattle.insn.specs.Words.{holds}
+use Rattle.insn.specs.Words.{holds, imm_word, target_of}
 use Rattle.insn.specs.declared.width.Width.{Width}
 use Rattle.insn.specs.declared.width.Width.TheVariants.{W64}
 use Rattle.insn.specs.declared.operator.UnaryOp.{UnaryOp}
@@ -22,7 +21,7 @@ use Rattle.insn.specs.declared.instruction.Insn.TheVariants as insn
 use Rattle.semantics.specs.Fallible.{◌>>=◌}
 use Rattle.semantics.specs.Access.{location}
 use Rattle.semantics.specs.Calls.{helper_of, helper_number, question, no_address}
-use Rattle.semantics.specs.NumberLaws.{imm_word, no_address_bytes}
+use Rattle.semantics.specs.NumberLaws.{imm_below, no_address_bytes}
 use Rattle.semantics.specs.Machine.{AddressRecord, AreBytes, Context, IsContext, State}
 use Rattle.semantics.specs.declared.helper.Helper.{Helper}
 use Rattle.semantics.specs.declared.helper.Helper.TheVariants as helper
@@ -102,14 +101,14 @@ module _ {D : Type 0} (ops : Operations D) (Member : D → ℕ → Type 0) (soun
     abbrev Claims : Insn → Type 0
     Claims i = AreClaims ops Member sound claimed mode a s i
 
-    strays_if : (w : Width) (op : AluOp) (o : Operand) (dst : Reg) → OperandFits o → Claims (insn.Alu w op dst o) → (x y : AbstractValue D) (u v : Value) → abstract.read a dst ≡ Ok x → abstract.operand_abstract ops a o ≡ Ok y
-        → effects.read s.registers dst ≡ Ok u → effects.operand_value s.registers o ≡ Ok v → claimed PointerArithmetic → StraysBy ops Member sound op w x y u v
+    strays_if : (w : Width) (op : AluOp) (o : Operand) (dst : Reg) → OperandFits o → Claims (insn.Alu w op dst o) → (x y : AbstractValue D) (u v : Value) → abstract.read a dst ≡ Ok x → abstract.operand_abstract ops w a o ≡ Ok y
+        → effects.read s.registers dst ≡ Ok u → effects.operand_value w s.registers o ≡ Ok v → claimed PointerArithmetic → StraysBy ops Member sound op w x y u v
     strays_if w op (operand.Reg r) dst fit claims x y u v p p' q q' c =
         strays_same ops Member sound op w (abstract_at a.registers dst) x (abstract_at a.registers r) y (value_at s.registers dst) u (value_at s.registers r) v
         (held_known ops Member sound (abstract_at a.registers dst) x p) (held_known ops Member sound (abstract_at a.registers r) y p') (held_is (value_at s.registers dst) u q) (held_is (value_at s.registers r) v q') (claims.arithmetic c)
     strays_if w op (operand.Imm n) dst fit claims x y u v p p' q q' c =
-        subst (λ (z : AbstractValue D). StraysBy ops Member sound op w x z u v) (ok_is ops Member sound (known.Scalar (ops.exact (cast_unsigned w64 n))) y p')
-        (single_strays ops Member sound op w x (ops.exact (cast_unsigned w64 n)) (cast_unsigned w64 n) (claims.exact c (cast_unsigned w64 n) (imm_word n fit)) u v)
+        subst (λ (z : AbstractValue D). StraysBy ops Member sound op w x z u v) (ok_is ops Member sound (known.Scalar (ops.exact (imm_word w n))) y p')
+        (single_strays ops Member sound op w x (ops.exact (imm_word w n)) (imm_word w n) (claims.exact c (imm_word w n) (imm_below w n fit)) u v)
 
     -- a result is written
     result_written : (i : Insn) (dst : Reg) (r : Result (AbstractValue D) Reason) (r' : Result Value Reason) → GoesPast i → Agree claimed (IsResult Member places s.memory.length) r r' → Agree claimed (IsEffectOf mode places a s i) (abstract.written a dst r) (effects.written dst r')
@@ -125,44 +124,44 @@ module _ {D : Type 0} (ops : Operations D) (Member : D → ℕ → Type 0) (soun
     alu_agrees w op dst o fit claims =
         and_then claimed (IsHeld Member places) (IsEffectOf mode places a s (insn.Alu w op dst o)) (abstract.read a dst) (effects.read s.registers dst) _ _
         (read_agrees ops Member sound claimed mode places claims.registers a s member dst)
-        (λ x u p q held_x. and_then claimed (IsHeld Member places) (IsEffectOf mode places a s (insn.Alu w op dst o)) (abstract.operand_abstract ops a o) (effects.operand_value s.registers o) _ _
-        (operand_agrees ops Member sound claimed mode places claims.registers a s member o fit)
+        (λ x u p q held_x. and_then claimed (IsHeld Member places) (IsEffectOf mode places a s (insn.Alu w op dst o)) (abstract.operand_abstract ops w a o) (effects.operand_value w s.registers o) _ _
+        (operand_agrees ops Member sound claimed mode places claims.registers a s member w o fit)
         (λ y v p' q' held_y. written_agrees (insn.Alu w op dst o) dst (abstract.alu_result ops op w x y) (effects.alu_result op w u v) refl
         (result_held ops Member sound claimed places first op w x y u v held_x held_y (strays_if w op o dst fit claims x y u v p p' q q'))))
 
-    unary_agrees : (i : Insn) (op : UnaryOp) (dst : Reg) (o : Operand) → GoesPast i → OperandFits o → Claims i
-        → Agree claimed (IsEffectOf mode places a s i) (abstract.unary_step ops a op dst o) (effects.unary_effect s.registers op dst o)
-    unary_agrees i op dst o past fit claims =
-        and_then claimed (IsHeld Member places) (IsEffectOf mode places a s i) (abstract.operand_abstract ops a o) (effects.operand_value s.registers o) _ _
-        (operand_agrees ops Member sound claimed mode places claims.registers a s member o fit)
+    unary_agrees : (i : Insn) (w : Width) (op : UnaryOp) (dst : Reg) (o : Operand) → GoesPast i → OperandFits o → Claims i
+        → Agree claimed (IsEffectOf mode places a s i) (abstract.unary_step ops a w op dst o) (effects.unary_effect s.registers w op dst o)
+    unary_agrees i w op dst o past fit claims =
+        and_then claimed (IsHeld Member places) (IsEffectOf mode places a s i) (abstract.operand_abstract ops w a o) (effects.operand_value w s.registers o) _ _
+        (operand_agrees ops Member sound claimed mode places claims.registers a s member w o fit)
         (λ x u p q held. written_agrees i dst (abstract.unary_result ops op x) (effects.unary_result op u) past (unary_held ops Member sound claimed places first op x u held))
 
     module _ (w : Width) (c : Condition) (dst : Reg) (o : Operand) (offset : ℤ) where
       abbrev ForksAgree : AbstractValue D → AbstractValue D → Value → Value → Type 0
       ForksAgree x y u v = Agree claimed (IsEffectOf mode places a s (insn.JumpIf w c dst o offset)) (abstract.fork ops a w c dst o x y) (effects.compared s.memory.length w c u v >>= λ taken. Ok (if taken then effect.Jump offset else effect.Pass))
 
-    data_fork : (c : Condition) (dst : Reg) (o : Operand) (offset : ℤ) (k p : ℤ) → p ≡ k → value_at s.registers dst ≡ value.Data p → effects.operand_value s.registers o ≡ Ok value.End → ForksAgree W64 c dst o offset (known.Data First k) known.End (value.Data p) value.End
+    data_fork : (c : Condition) (dst : Reg) (o : Operand) (offset : ℤ) (k p : ℤ) → p ≡ k → value_at s.registers dst ≡ value.Data p → effects.operand_value W64 s.registers o ≡ Ok value.End → ForksAgree W64 c dst o offset (known.Data First k) known.End (value.Data p) value.End
     data_fork c dst o offset k p e dst_is o_is =
         subst (λ (z : ℤ). value_at s.registers dst ≡ value.Data z → ForksAgree W64 c dst o offset (known.Data First k) known.End (value.Data z) value.End) (sym e)
         (λ is. and_then claimed (Implies (data_bound c k) s.memory.length) (IsEffectOf mode places a s (insn.JumpIf W64 c dst o offset)) (abstract.order_implies c (data_bound c k)) (effects.ordered c k (pos s.memory.length)) _ _ (first_agree claimed k s.memory.length c)
         (λ t taken q q' implies. forked ops Member sound mode places a s member W64 c dst o offset (data_bound c k) value.End o_is (λ way. ap (λ (v : Value). bound_of c v value.End way) is) t taken implies))
         dst_is
 
-    end_fork : (c : Condition) (dst : Reg) (o : Operand) (offset : ℤ) (k p : ℤ) → p ≡ k → value_at s.registers dst ≡ value.End → effects.operand_value s.registers o ≡ Ok (value.Data p) → ForksAgree W64 c dst o offset known.End (known.Data First k) value.End (value.Data p)
+    end_fork : (c : Condition) (dst : Reg) (o : Operand) (offset : ℤ) (k p : ℤ) → p ≡ k → value_at s.registers dst ≡ value.End → effects.operand_value W64 s.registers o ≡ Ok (value.Data p) → ForksAgree W64 c dst o offset known.End (known.Data First k) value.End (value.Data p)
     end_fork c dst o offset k p e dst_is o_is =
-        subst (λ (z : ℤ). effects.operand_value s.registers o ≡ Ok (value.Data z) → ForksAgree W64 c dst o offset known.End (known.Data First k) value.End (value.Data z)) (sym e)
+        subst (λ (z : ℤ). effects.operand_value W64 s.registers o ≡ Ok (value.Data z) → ForksAgree W64 c dst o offset known.End (known.Data First k) value.End (value.Data z)) (sym e)
         (λ is. and_then claimed (Implies (data_bound (exchanged c) k) s.memory.length) (IsEffectOf mode places a s (insn.JumpIf W64 c dst o offset)) (abstract.order_implies c (data_bound (exchanged c) k)) (effects.ordered c (pos s.memory.length) k) _ _ (second_agree claimed k s.memory.length c)
         (λ t taken q q' implies. forked ops Member sound mode places a s member W64 c dst o offset (data_bound (exchanged c) k) (value.Data k) is (λ way. ap (λ (v : Value). bound_of c v (value.Data k) way) dst_is) t taken implies))
         o_is
 
-    forks_agree : (w : Width) (c : Condition) (dst : Reg) (o : Operand) (offset : ℤ) (x y : AbstractValue D) (m n : ℕ) → IsNumberOf Member x m → IsNumberOf Member y n → value_at s.registers dst ≡ value_of places x m → effects.operand_value s.registers o ≡ Ok (value_of places y n)
+    forks_agree : (w : Width) (c : Condition) (dst : Reg) (o : Operand) (offset : ℤ) (x y : AbstractValue D) (m n : ℕ) → IsNumberOf Member x m → IsNumberOf Member y n → value_at s.registers dst ≡ value_of places x m → effects.operand_value w s.registers o ≡ Ok (value_of places y n)
         → ForksAgree w c dst o offset x y (value_of places x m) (value_of places y n)
     forks_agree w c dst o offset (known.Scalar x) (known.Scalar y) m n h g dst_is o_is = fork_by ops Member sound mode places a s member w c dst o offset x y m n h g dst_is o_is (holds c w m n) refl
     forks_agree W64 c dst o offset (known.Data First k) known.End m n h g dst_is o_is = data_fork c dst o offset k (places First +ℤ k) (from_first (places First) k first) dst_is o_is
     forks_agree W64 c dst o offset known.End (known.Data First k) m n h g dst_is o_is = end_fork c dst o offset k (places First +ℤ k) (from_first (places First) k first) dst_is o_is
     forks_agree w c dst o offset x y m n h g dst_is o_is = λ claim. refl
 
-    fork_held : (w : Width) (c : Condition) (dst : Reg) (o : Operand) (offset : ℤ) (x y : AbstractValue D) (u v : Value) → IsHeld Member places x u → IsHeld Member places y v → effects.read s.registers dst ≡ Ok u → effects.operand_value s.registers o ≡ Ok v → ForksAgree w c dst o offset x y u v
+    fork_held : (w : Width) (c : Condition) (dst : Reg) (o : Operand) (offset : ℤ) (x y : AbstractValue D) (u v : Value) → IsHeld Member places x u → IsHeld Member places y v → effects.read s.registers dst ≡ Ok u → effects.operand_value w s.registers o ≡ Ok v → ForksAgree w c dst o offset x y u v
     fork_held w c dst o offset x y u v hx hy p q =
         subst (λ (u' : Value). ForksAgree w c dst o offset x y u' v) (sym hx.2) (subst (λ (v' : Value). ForksAgree w c dst o offset x y (value_of places x hx.0) v') (sym hy.2)
         (forks_agree w c dst o offset x y hx.0 hy.0 hx.1 hy.1 (held_is (value_at s.registers dst) u p ∙ hx.2) (q ∙ ap Ok hy.2)))
@@ -172,8 +171,8 @@ module _ {D : Type 0} (ops : Operations D) (Member : D → ℕ → Type 0) (soun
     jumps_agree w c dst o offset fit claims =
         and_then claimed (IsHeld Member places) (IsEffectOf mode places a s (insn.JumpIf w c dst o offset)) (abstract.read a dst) (effects.read s.registers dst) _ _
         (read_agrees ops Member sound claimed mode places claims.registers a s member dst)
-        (λ x u p q held_x. and_then claimed (IsHeld Member places) (IsEffectOf mode places a s (insn.JumpIf w c dst o offset)) (abstract.operand_abstract ops a o) (effects.operand_value s.registers o) _ _
-        (operand_agrees ops Member sound claimed mode places claims.registers a s member o fit)
+        (λ x u p q held_x. and_then claimed (IsHeld Member places) (IsEffectOf mode places a s (insn.JumpIf w c dst o offset)) (abstract.operand_abstract ops w a o) (effects.operand_value w s.registers o) _ _
+        (operand_agrees ops Member sound claimed mode places claims.registers a s member w o fit)
         (λ y v p' q' held_y. fork_held w c dst o offset x y u v held_x held_y q q'))
 
     loads_agree : (i : Insn) (known_of : AbstractValue D → Result (AbstractValue D) Reason) (loaded : Value → Result Value Reason) (dst base : Reg) → GoesPast i → Claims i
@@ -192,8 +191,8 @@ module _ {D : Type 0} (ops : Operations D) (Member : D → ℕ → Type 0) (soun
     stores_agree z base o d fit claims =
         and_then claimed (IsHeld Member places) (IsEffectOf mode places a s (insn.Store z base o d)) (abstract.read a base) (effects.read s.registers base) _ _
         (read_agrees ops Member sound claimed mode places claims.registers a s member base)
-        (λ x u p q held_x. and_then claimed (IsHeld Member places) (IsEffectOf mode places a s (insn.Store z base o d)) (abstract.operand_abstract ops a o) (effects.operand_value s.registers o) _ _
-        (operand_agrees ops Member sound claimed mode places claims.registers a s member o fit)
+        (λ x u p q held_x. and_then claimed (IsHeld Member places) (IsEffectOf mode places a s (insn.Store z base o d)) (abstract.operand_abstract ops W64 a o) (effects.operand_value W64 s.registers o) _ _
+        (operand_agrees ops Member sound claimed mode places claims.registers a s member W64 o fit)
         (λ y v p' q' held_y. store_held z base o d claims x y u v held_x held_y)) where
           pointers_agree : (x : AbstractValue D) (m : ℕ) → IsNumberOf Member x m → Agree claimed (λ u v. Unit {0}) (abstract.pointer x) (effects.pointer (value_of places x m))
           pointers_agree (known.Scalar n) m h = λ c. refl
@@ -284,10 +283,10 @@ module _ {D : Type 0} (ops : Operations D) (Member : D → ℕ → Type 0) (soun
     -- the abstract step of each form agrees with the machine's
     pub steps_agree : (c : Context) → IsContext c → (i : Insn) → Fits i → AreClaims ops Member sound claimed mode a s i → Agree claimed (IsEffectOf mode places a s i) (abstract.step ops a i) (effects.effect c s.memory s.registers i)
     steps_agree c real (insn.Alu w op dst o) fit claims = alu_agrees w op dst o fit claims
-    steps_agree c real (insn.Mov w dst o) fit claims = unary_agrees (insn.Mov w dst o) (Mov w) dst o refl fit claims
-    steps_agree c real (insn.Neg w dst) fit claims = unary_agrees (insn.Neg w dst) (Neg w) dst (operand.Reg dst) refl tt claims
-    steps_agree c real (insn.SignExtend e dst src) fit claims = unary_agrees (insn.SignExtend e dst src) (SignExtend e) dst (operand.Reg src) refl tt claims
-    steps_agree c real (insn.Swap op z dst) fit claims = unary_agrees (insn.Swap op z dst) (Swap op z) dst (operand.Reg dst) refl tt claims
+    steps_agree c real (insn.Mov w dst o) fit claims = unary_agrees (insn.Mov w dst o) w (Mov w) dst o refl fit claims
+    steps_agree c real (insn.Neg w dst) fit claims = unary_agrees (insn.Neg w dst) w (Neg w) dst (operand.Reg dst) refl tt claims
+    steps_agree c real (insn.SignExtend e dst src) fit claims = unary_agrees (insn.SignExtend e dst src) (target_of e) (SignExtend e) dst (operand.Reg src) refl tt claims
+    steps_agree c real (insn.Swap op z dst) fit claims = unary_agrees (insn.Swap op z dst) W64 (Swap op z) dst (operand.Reg dst) refl tt claims
     steps_agree c real (insn.Jump offset) fit claims = (refl, refl)
     steps_agree c real (insn.LongJump offset) fit claims = (refl, refl)
     steps_agree c real (insn.JumpIf w condition dst o offset) fit claims = jumps_agree w condition dst o offset fit.0 claims

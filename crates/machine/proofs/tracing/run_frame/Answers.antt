@@ -1,5 +1,6 @@
 use Rattle.std.proofs.Common.{◌≡◌, ◌+◌, ◌++◌, ◌≤◌, ℕ, Bool, List, Option, Some, None, true, false, length, take, drop, sym, ap, ◌∙◌, subst, arith}
 use Rattle.std.specs.Prelude.{IfSome}
+use Rattle.semantics.specs.Calls.{IsWindow}
 use Rattle.semantics.specs.Machine.{context_bytes}
 use Rattle.semantics.specs.Views.{memory_with}
 use Rattle.semantics.specs.declared.plan.Plan.{Plan}
@@ -9,9 +10,9 @@ use Rattle.machine.specs.Execution.{IsWholeRun, RunsOver}
 use Rattle.machine.proofs.Frames.{written, datagram_length, frame_run}
 use Rattle.machine.proofs.tracing.run_frame.Goals as goal
 
-in_area : (window : Option (ℕ × ℕ)) (n : ℕ) → n ≤ 65507 → IfSome window (λ w. w.0 + w.1 ≤ 64 + n + 3) → IfSome window (λ w. w.0 + w.1 ≤ area_size)
+in_area : (window : Option (ℕ × ℕ)) (n : ℕ) → n ≤ 65507 → IfSome window (IsWindow n) → IfSome window (λ w. w.0 + w.1 ≤ area_size)
 in_area None n short h = tt
-in_area (Some w) n short h = omega (arith, h, short)
+in_area (Some w) n short h = omega (arith, h.0, short)
 
 pub returns-clause-run : goal.returns-clause-run
 returns-clause-run g c =

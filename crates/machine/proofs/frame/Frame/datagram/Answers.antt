@@ -13,3 +13,8 @@ returns-clause-short c =
       short = omega (arith, size, c.self.invariant.holds.short);
       bytes_fit = subst (All (λ b. b < 256)) shown c.datagram_in.ensures.fit;
     }
+
+pub returns-clause-length : goal.returns-clause-length
+returns-clause-length c =
+    sym (ap (λ f. length (datagram_of f)) c.self.view_is) ∙ datagram_length c.self.inside.area.items c.self.inside.length c.self.invariant.holds.long c.self.invariant.holds.short
+    ∙ ap (λ f. f.length) c.self.view_is

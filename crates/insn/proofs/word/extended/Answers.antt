@@ -1,5 +1,0 @@
-use Rattle.std.proofs.Common.{rules}
-use Rattle.insn.proofs.word.extended.Goals as goal
-
-pub returns : goal.returns
-returns c = search rules

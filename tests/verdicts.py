@@ -1,0 +1,114 @@
+"""Assembles programs and compares what the built relayd says of them by `verify`.
+
+Rows are worked by hand from the tables of intervals and of the verifier.
+"""
+
+import pathlib
+import sys
+import tempfile
+
+from program import finish, run
+
+# `ldxw`: 0 or 1, and any number of 32 bits
+SIDE = "ldxw r2, [r1+44]"
+WORD = "ldxw r2, [r1+40]"
+
+# a number, an instruction of 32 bits with a negative imm, and the greatest number that its result may be
+GREATEST = [
+    (SIDE, "add.32 r2, -2147483648", 2**31 + 1),
+    (SIDE, "mul.32 r2, -2147483648", 2**31),
+    (WORD, "and.32 r2, -2147483648", 2**31),
+    (SIDE, "or.32 r2, -1", 2**32 - 1),
+    (SIDE, "div.32 r2, -1", 0),
+    (WORD, "mod.32 r2, -2", 2**32 - 3),
+    (SIDE, "lsh.32 r2, -1", 2**31),
+    (WORD, "rsh.32 r2, -1", 1),
+    (SIDE, "arsh.32 r2, -1", 0),
+    (WORD, "mov.32 r2, -1", 2**32 - 1),
+]
+
+# a comparison of 0 or 1 with a negative imm, and whether it holds
+COMPARED = [
+    ("jeq.32 r2, -1", False),
+    ("jne.32 r2, -1", True),
+    ("jgt.32 r2, -2", False),
+    ("jge.32 r2, -1", False),
+    ("jlt.32 r2, -1", True),
+    ("jle.32 r2, -2", True),
+]
+
+# a program, and what is printed of it
+PROGRAMS = [
+    # an imm of 32 bits is the number that it encodes
+    (
+        [SIDE, "div.32 r2, -1", "mov r3, r10", "add r3, -8", "add r3, r2", "stdw [r3+0], 0", "mov r0, 0", "exit"],
+        "accepted 8 instructions\n",
+    ),
+    (
+        [SIDE, "rsh.32 r2, -1", "mov r3, r10", "add r3, -8", "add r3, r2", "stdw [r3+0], 0", "mov r0, 0", "exit"],
+        "accepted 8 instructions\n",
+    ),
+    ([SIDE, "mov r0, 0", "jeq.32 r2, -1, +1", "exit", "ldxb r0, [r0+0]", "exit"], "accepted 6 instructions\n"),
+    ([SIDE, "mov r0, 0", "jgt.32 r2, -2, +1", "exit", "ldxb r0, [r0+0]", "exit"], "accepted 6 instructions\n"),
+    (
+        [WORD, "mov r0, 0", "jne.32 r2, -1, +5", "rsh r2, 31", "mov r3, r10", "add r3, -9", "add r3, r2"]
+        + ["stdw [r3+0], 0", "exit"],
+        "accepted 9 instructions\n",
+    ),
+    # at 64 bits it has its sign extended: no number of 32 bits is above it
+    ([WORD, "mov r0, 0", "jgt r2, -2, +1", "exit", "ldxb r0, [r0+0]", "exit"], "accepted 6 instructions\n"),
+    # and one of 32 bits may be
+    ([WORD, "mov r0, 0", "jgt.32 r2, -2, +1", "exit", "ldxb r0, [r0+0]", "exit"], "refused V18 at 4\n"),
+]
+
+
+def bounded(number, instruction, greatest):
+    """Returns a program with a fault that is met where a result is above a number."""
+    above = [f"lddw r4, {greatest}", "jgt r2, r4, +1", "exit", "ldxb r0, [r0+0]", "exit"]
+    return ["mov r0, 0", number, instruction, *above]
+
+
+def decided(comparison, holds):
+    """Returns a program with a fault on the branch that a comparison can't take."""
+    fault, end = "ldxb r0, [r0+0]", "exit"
+    branches = [fault, end, end] if holds else [end, fault, end]
+    return ["mov r0, 0", SIDE, f"{comparison}, +{2 if holds else 1}", *branches]
+
+
+def rows():
+    """Yields each program with what is printed of it."""
+    for number, instruction, greatest in GREATEST:
+        program = bounded(number, instruction, greatest)
+        yield program, f"accepted {len(program)} instructions\n"
+        if greatest:
+            # one less is not known
+            yield bounded(number, instruction, greatest - 1), f"refused V18 at {len(program) - 1}\n"
+    for comparison, holds in COMPARED:
+        program = decided(comparison, holds)
+        yield program, f"accepted {len(program)} instructions\n"
+    yield from PROGRAMS
+
+
+def printed(folder, program):
+    """Returns what relayd prints of a program."""
+    text, file = folder / "text.s", folder / "file.bpf"
+    text.write_text("".join(f"{line}\n" for line in program), encoding="utf-8")
+    status, out, err = run(["assemble", text, file])
+    if status:
+        return out + err
+    return run(["verify", file])[1]
+
+
+def main():
+    """Verifies every row, and returns the exit status."""
+    failures, count = [], 0
+    with tempfile.TemporaryDirectory() as name:
+        for count, (program, wanted) in enumerate(rows(), 1):
+            found = printed(pathlib.Path(name), program)
+            if found != wanted:
+                failures.append(f"{'; '.join(program)}: {found!r}, not {wanted!r}")
+    return finish(failures, f"verdicts: {count} programs, {len(failures)} failures")
+
+
+if __name__ == "__main__":
+    sys.exit(main())
