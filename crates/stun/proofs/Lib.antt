@@ -1,4 +1,5 @@
 pub mod Grammar
 pub mod Datagrams
+pub mod Readings
 pub mod Integrity
 pub mod Writing

@@ -6,7 +6,7 @@ use Rattle.byteorder.specs.Numbers.{big_number-reads_back}
 use Rattle.stun.specs.Registry.{magic_cookie}
 use Rattle.stun.specs.Messages.{Parts, AreParts, padding_count, attribute_bytes, attributes_bytes, header, parts_bytes, zero_padded, with_attribute, started, attribute_length}
 use Rattle.stun.specs.Refusals.{number_at}
-use Rattle.stun.specs.Building.{IsBuilding, message_in, built, used_in, room_in, over, patched, Begins, IsAppended}
+use Rattle.stun.specs.Building.{IsBuilding, message_bytes, built, used_in, room_in, over, patched, Begins, IsAppended}
 use Rattle.stun.proofs.Grammar.{piece_take, piece_drop, push_bytes, push_all}
 use Rattle.stun.proofs.Datagrams.{parts_are, fours, length_of_parts}
 
@@ -54,7 +54,7 @@ attribute_written b b1 b2 b3 b4 value zeros kind n at at2 at3 at4 e1 e2 e3 e4 n_
 
 pub record Stands (p : Parts) (r b : List ℕ) : Type 0 where
   pub building : IsBuilding b
-  pub message : message_in b ≡ parts_bytes p
+  pub message : message_bytes b ≡ parts_bytes p
   pub parts : built b ≡ p
   pub behind : drop (length (parts_bytes p)) b ≡ r
 
@@ -65,8 +65,8 @@ stands b p r are spelled =
     let x = attributes_bytes p.attributes in
     let length_is : number_at 2 2 (whole ++ r) ≡ length x = big_number-reads_back 2 (length x) ((big_bytes 4 magic_cookie ++ p.transaction_id) ++ x ++ r) are.short in
     let end : 20 + number_at 2 2 (whole ++ r) ≡ length whole = omega (arith, length_is, length_of_parts p are) in
-    let front : message_in b ≡ whole = ap message_in spelled ∙ piece_take whole r (20 + number_at 2 2 (whole ++ r)) end in
-    let parts_is : built b ≡ p = parts_are (message_in b) p are front in
+    let front : message_bytes b ≡ whole = ap message_bytes spelled ∙ piece_take whole r (20 + number_at 2 2 (whole ++ r)) end in
+    let parts_is : built b ≡ p = parts_are (message_bytes b) p are front in
     record {
       building = record {
         inside = omega (arith, ap length spelled, ap (number_at 2 2) spelled, end, length-append whole r);
@@ -86,7 +86,7 @@ unfolding built
 split_building b is =
     let p = built b in
     let spelled = is.message.spelled in
-    let front : length (message_in b) ≡ 20 + number_at 2 2 b = length-take-le (20 + number_at 2 2 b) b is.inside in
+    let front : length (message_bytes b) ≡ 20 + number_at 2 2 b = length-take-le (20 + number_at 2 2 b) b is.inside in
     let long : length (parts_bytes p) ≡ 20 + number_at 2 2 b = ap length (sym spelled) ∙ front in
     let whole = sym (take-append-drop (20 + number_at 2 2 b) b) ∙ (λ i. spelled i ++ drop (sym long i) b) in
     (whole, long, omega (arith, long, length_of_parts p is.message.are_parts))

@@ -4,17 +4,17 @@ use Rattle.stun.specs.Messages.{Parts, parts_bytes, started, with_attribute, att
 use Rattle.stun.specs.Refusals.{number_at}
 use Rattle.stun.specs.Reading.{parts_in, EncodesParts}
 
--- the message that a buffer begins with
-abbrev pub message_in : List ℕ → List ℕ
-message_in bytes = take (20 + number_at 2 2 bytes) bytes
+-- the bytes of the message that a buffer begins with
+abbrev pub message_bytes : List ℕ → List ℕ
+message_bytes bytes = take (20 + number_at 2 2 bytes) bytes
 
 pub record IsBuilding (bytes : List ℕ) : Type 0 where
   pub inside : 20 + number_at 2 2 bytes ≤ length bytes
-  pub message : EncodesParts (message_in bytes)
+  pub message : EncodesParts (message_bytes bytes)
 
 -- its parts
 unfoldable pub built : List ℕ → Parts
-built bytes = parts_in (message_in bytes)
+built bytes = parts_in (message_bytes bytes)
 
 -- its length
 unfoldable pub used_in : List ℕ → ℕ

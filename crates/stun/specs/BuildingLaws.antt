@@ -4,7 +4,7 @@ use Rattle.std.specs.List.{AllByRecursion-prop}
 use Rattle.std.specs.Coded.{Coded-set, coded_ℕ, coded_list, le_prop}
 use Rattle.stun.specs.Messages.{Padded, IsPadded, Parts, AreParts}
 use Rattle.stun.specs.Reading.{parts_in, EncodesParts}
-use Rattle.stun.specs.Building.{IsBuilding, message_in}
+use Rattle.stun.specs.Building.{IsBuilding, message_bytes}
 
 IsPadded-prop : (a : Padded) → IsProp (IsPadded a)
 IsPadded-prop a x y = λ i. record { kind = le_prop x.kind y.kind i; value = le_prop x.value y.value i; padding = Coded-set coded_ℕ _ _ x.padding y.padding i }
@@ -24,4 +24,4 @@ IsDatagram-prop bytes x y = λ i. record {
 }
 
 pub IsBuilding-prop : (bytes : List ℕ) → IsProp (IsBuilding bytes)
-IsBuilding-prop bytes x y = λ i. record { inside = le_prop x.inside y.inside i; message = IsDatagram-prop (message_in bytes) x.message y.message i }
+IsBuilding-prop bytes x y = λ i. record { inside = le_prop x.inside y.inside i; message = IsDatagram-prop (message_bytes bytes) x.message y.message i }

@@ -1,6 +1,7 @@
 -- Meaning. ChannelData messages and their datagrams (RFC 8656, section 12.4).
 use Rattle.std.specs.Prelude.{◌≡◌, ℕ, ◌<◌, ◌≤◌, List, ◌++◌, length}
 use Rattle.byteorder.specs.Endian.{big_bytes}
+use Rattle.stun.specs.declared.registry.TheConstants.{FIRST_CHANNEL, LAST_CHANNEL}
 
 pub record ChannelMessage : Type 0 where
   pub number : ℕ
@@ -10,10 +11,10 @@ pub record ChannelMessage : Type 0 where
 abbrev pub channel_bytes : ChannelMessage → List ℕ
 channel_bytes m = big_bytes 2 m.number ++ big_bytes 2 (length m.bytes) ++ m.bytes
 
--- a channel's number lies in 0x4000 to 0x7FFF, and what follows the data is ignored
+-- a number of channels, from 0x4000 to 0x7FFF; what follows the data is ignored
 pub record IsChannelMessage (m : ChannelMessage) (bytes : List ℕ) : Type 0 where
-  pub low : 0x4000 ≤ m.number
-  pub high : m.number ≤ 0x7fff
+  pub low : FIRST_CHANNEL ≤ m.number
+  pub high : m.number ≤ LAST_CHANNEL
   pub short : length m.bytes < 0x10000
   pub rest : List ℕ
   pub spelled : bytes ≡ channel_bytes m ++ rest

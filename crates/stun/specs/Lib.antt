@@ -4,9 +4,11 @@ pub mod Messages
 pub mod Types
 pub mod ErrorCodes
 pub mod Refusals
+pub mod Ranges
 pub mod Channels
 pub use Rattle.byteorder.specs.Endian
 pub mod Reading
+pub mod Datagrams
 pub mod Attributes
 pub mod ChannelData
 pub mod Building

@@ -1,9 +1,11 @@
 //! ChannelData messages (RFC 8656, section 12.4).
 
-ghost use Rattle.std.specs.Prelude.{◌≡◌, IfSome, IsSomeAnd};
+ghost use Rattle.std.specs.Prelude.{◌≡◌, IfSome, IsSomeAnd, option_map};
 ghost use Rattle.stun.specs.Channels.{ChannelMessage, IsChannelMessage};
 ghost use Rattle.stun.specs.ChannelData.{channel_message};
+ghost use Rattle.stun.specs.Datagrams.{channel_in};
 
+use crate::registry::{FIRST_CHANNEL, LAST_CHANNEL};
 use byteorder::{BigEndian, ByteOrder};
 
 /// The length of what precedes the data, in bytes.
@@ -18,6 +20,7 @@ pub struct ChannelData<'a> {
 
 /// Parses a datagram as a ChannelData message (RFC 8656, section 12.4). What follows the data is ignored.
 pub fn read_channel(bytes: &[u8]) -> Option<ChannelData<'_>>
+    ensures reads { option_map channel_message result ≡ channel_in bytes.now }
     ensures found { IfSome result (λ m. IsChannelMessage (channel_message m) bytes.now) }
     ensures only { (m : ChannelMessage) → IsChannelMessage m bytes.now
         → IsSomeAnd result (λ r. channel_message r ≡ m) }
@@ -29,7 +32,7 @@ pub fn read_channel(bytes: &[u8]) -> Option<ChannelData<'_>>
     let (_, rest) = bytes.split_at(2);
     let length = BigEndian::read_u16(rest) as usize;
     let (_, rest) = bytes.split_at(CHANNEL_HEADER_BYTES);
-    if number < 0x4000 || number > 0x7FFF || length > rest.len() {
+    if number < FIRST_CHANNEL || number > LAST_CHANNEL || length > rest.len() {
         return None;
     }
     let (data, _) = rest.split_at(length);

@@ -1,9 +1,11 @@
 //! Parses datagrams as messages (RFC 8489, sections 5, 6.3 and 14).
 
 ghost use Rattle.std.specs.Prelude.{◌≡◌, ℕ, List, IfOk, IfErr, OnOk, IsOkAnd, option_copied};
+ghost use Rattle.std.specs.Result.{result_ok};
 ghost use Rattle.stun.specs.Messages.{Message as SpecMessage, Parts, AreParts, parts_bytes, message_of, before_integrity, IsMessage};
 ghost use Rattle.stun.specs.Reading.{HasHeader};
 ghost use Rattle.stun.specs.Refusals.{IsRefused};
+ghost use Rattle.stun.specs.Datagrams.{message_in};
 ghost use Rattle.stun.specs.declared.refusal.StunError.{StunError};
 
 use crate::attributes::{Attrs, Values, scan};
@@ -40,7 +42,7 @@ impl<'a> Model for Message<'a> {
 }
 
 impl<'a> Message<'a> {
-    ghost use Rattle.stun.specs.Messages.{AreParts, message_of, before_integrity};
+    ghost use Rattle.stun.specs.Messages.{AreParts, attributes_bytes, message_of, before_integrity};
     ghost use Rattle.stun.specs.Attributes.{values_of, value_of};
 
     /// Returns the type: 14 bits of method and class (RFC 8489, section 5).
@@ -59,6 +61,14 @@ impl<'a> Message<'a> {
         let (id, _) = id.split_at(12);
         tx.copy_from_slice(id);
         tx
+    }
+
+    /// Returns the bytes of all attributes with their padding: the datagram after its header.
+    pub fn attribute_bytes(&self) -> &'a [u8]
+        ensures { result.now ≡ attributes_bytes self.now.attributes }
+    {
+        let (_, attributes) = self.bytes.split_at(HEADER_BYTES);
+        attributes
     }
 
     /// Returns an iterator over the attributes up to and including the first MESSAGE-INTEGRITY: what follows
@@ -127,6 +137,7 @@ fn test_header(bytes: &[u8]) -> Result<(), StunError>
 /// Returns the first refusal of [`StunError`], in their order. An attribute may also overrun after the first
 /// MESSAGE-INTEGRITY.
 pub fn read(bytes: &[u8]) -> Result<Message<'_>, StunError>
+    ensures reads { result_ok result ≡ message_in bytes.now }
     ensures message { IfOk result (λ m. IsMessage (message_of m) bytes.now) }
     ensures every { (m : SpecMessage) → IsMessage m bytes.now → IsOkAnd result (λ r. message_of r ≡ m) }
     ensures found { IfOk result (λ m. AreParts m × (bytes.now ≡ parts_bytes m)) }

@@ -9,6 +9,12 @@ ghost use Rattle.stun.specs.declared.registry.ErrorCode as errors;
 /// The magic cookie of every message (RFC 8489, section 5).
 pub const MAGIC_COOKIE: u32 = 0x2112_A442;
 
+/// The first number of a channel (RFC 8656, section 12.4).
+pub const FIRST_CHANNEL: u16 = 0x4000;
+
+/// The last number with which a datagram is read as a channel message.
+pub const LAST_CHANNEL: u16 = 0x7FFF;
+
 /// A method (RFC 8489, section 18.2; RFC 8656, section 17).
 #[derive(Clone, Copy, Debug, PartialEq, Eq)]
 pub enum Method {

@@ -1,9 +1,11 @@
 use Rattle.std.proofs.Common.{arith, rules, refl, subst, sym, ap, ◌∙◌}
+use Rattle.std.proofs.lemmas.Result.{err_from_is_err_and}
 use Rattle.stun.specs.Messages.{message_of}
 use Rattle.stun.specs.Refusals.{IsRefused}
 use Rattle.stun.specs.Reading.{EncodesParts, integrity_at}
 use Rattle.stun.specs.declared.refusal.StunError.TheVariants.{AttributeOverrun}
 use Rattle.stun.proofs.Datagrams.{refused_is_no_message, overrun, accepted, accepted_has_parts, parts_are}
+use Rattle.stun.proofs.Readings.{reads_parts, reads_nothing}
 use Rattle.stun.proofs.reading.read.Goals as goal
 use Rattle.stun.proofs.reading.read.Goals.{In_ok-integrity}
 
@@ -53,3 +55,17 @@ returns-clause-message c = let d = is_datagram c in (_, d.are_parts, d.spelled, 
 
 pub returns-clause-every : goal.returns-clause-every
 returns-clause-every c m is = ap message_of (parts_are c.args.bytes.now is.0 is.1 is.2) ∙ sym is.3
+
+pub returns-in_err-test_header-clause-reads : goal.returns-in_err-test_header-clause-reads
+returns-in_err-test_header-clause-reads c =
+    let p = err_from_is_err_and c.from_residual.result c.from_residual.ensures.1 in
+    rw p.1 (reads_nothing c.args.bytes.now (λ p are spelled. refused_is_no_message c.args.bytes.now _ p c.in_err-test_header.ensures.refused are spelled))
+
+pub returns-in_err-integrity-clause-reads :
+    goal.returns-in_err-integrity-clause-reads
+returns-in_err-integrity-clause-reads c =
+    let p = err_from_is_err_and c.from_residual-in_err-integrity.result c.from_residual-in_err-integrity.ensures.1 in
+    rw p.1 (reads_nothing c.args.bytes.now (λ p are spelled. refused_is_no_message c.args.bytes.now AttributeOverrun p (overruns c) are spelled))
+
+pub returns-clause-reads : goal.returns-clause-reads
+returns-clause-reads c = reads_parts c.args.bytes.now (is_datagram c)
