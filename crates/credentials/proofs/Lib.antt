@@ -2,3 +2,4 @@ pub mod CodeBytes
 pub mod Users
 pub mod Values
 pub mod Signed
+pub mod Results

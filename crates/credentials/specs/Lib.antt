@@ -2,5 +2,6 @@
 pub mod Hmac
 pub mod Integrity
 pub mod Checks
+pub mod Results
 pub mod Keys
 pub mod Signs

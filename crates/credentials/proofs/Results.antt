@@ -1,0 +1,118 @@
+-- The result of a check is that of the function.
+use Rattle.std.proofs.Common.{◌≡◌, ◌≢◌, ℕ, zero, suc, ◌+◌, ◌<◌, ◌⊎◌, Bool, true, false, List, [], ◌∷◌, length, refl, sym, ap, ◌∙◌, inl, inr, arith}
+use Rattle.std.specs.Prelude.{bytes_eq, Option, None, Some, Result, Ok, Err, ok_or}
+use Rattle.std.specs.List.{position_from}
+use Rattle.std.proofs.lemmas.Bool.{cond-true, cond-false, false_from_ne_true}
+use Rattle.std.proofs.lemmas.Iterator.Adapters.{position_from-zero}
+use Rattle.std.proofs.lemmas.Slice.Eq.{bytes_eq-Decides}
+use Rattle.stun.specs.Messages.{Parts}
+use Rattle.stun.specs.Registry.{message_integrity}
+use Rattle.stun.specs.declared.registry.attribute.TheConstants.{USERNAME, REALM, NONCE}
+use Rattle.credentials.specs.Checks.{Accounts, HasCredentials, IsChecked, IsUser, IsNoUser, first_value, user_key}
+use Rattle.credentials.specs.Integrity.{code_under}
+use Rattle.credentials.specs.Results.{◌>>=◌, check, user_of, checked}
+use Rattle.credentials.specs.declared.checking.AuthError.{AuthError}
+use Rattle.credentials.specs.declared.checking.AuthError.TheVariants.{Missing, Incomplete, StaleNonce, UnknownUser, WrongCode}
+
+same_bytes : (xs ys : List ℕ) → xs ≡ ys → bytes_eq xs ys ≡ true
+same_bytes xs ys e = (bytes_eq-Decides xs ys).1 e
+
+other_bytes : (xs ys : List ℕ) → xs ≢ ys → bytes_eq xs ys ≡ false
+other_bytes xs ys ne = false_from_ne_true (bytes_eq xs ys) (λ t. ne ((bytes_eq-Decides xs ys).0 t))
+
+-- ---- users
+
+user_from : (name : List ℕ) (i : ℕ) (users : Accounts) (index : ℕ) → IsUser users name index → position_from (λ user. bytes_eq user.0 name) i users ≡ Some (i + index)
+user_from name i [] index is = absurd (omega (arith, is.inside))
+user_from name i (u ∷ us) zero is =
+    let here : i ≡ i + 0 = omega arith in
+    cond-true (bytes_eq u.0 name) (Some i) (position_from (λ user. bytes_eq user.0 name) (i + 1) us) (same_bytes u.0 name is.named) ∙ ap Some here
+user_from name i (u ∷ us) (suc k) is =
+    let rest : IsUser us name k = record { inside = omega (arith, is.inside); named = is.named; first = λ j lt. is.first (suc j) (omega (arith, lt)) } in
+    let next : i + 1 + k ≡ i + suc k = omega arith in
+    cond-false (bytes_eq u.0 name) (Some i) (position_from (λ user. bytes_eq user.0 name) (i + 1) us) (other_bytes u.0 name (is.first 0 (omega arith))) ∙ user_from name (i + 1) us k rest ∙ ap Some next
+
+no_user_from : (name : List ℕ) (i : ℕ) (users : Accounts) → IsNoUser users name → position_from (λ user. bytes_eq user.0 name) i users ≡ None
+no_user_from name i [] none = refl
+no_user_from name i (u ∷ us) none =
+    cond-false (bytes_eq u.0 name) (Some i) (position_from (λ user. bytes_eq user.0 name) (i + 1) us) (other_bytes u.0 name (none 0 (omega arith)))
+    ∙ no_user_from name (i + 1) us (λ k lt. none (suc k) (omega (arith, lt)))
+
+user_is : (users : Accounts) (name : List ℕ) (index : ℕ) → IsUser users name index → user_of users name ≡ Some index
+user_is users name index is =
+    let here : 0 + index ≡ index = omega arith in
+    position_from-zero (λ user. bytes_eq user.0 name) users ∙ user_from name 0 users index is ∙ ap Some here
+
+user_is_none : (users : Accounts) (name : List ℕ) → IsNoUser users name → user_of users name ≡ None
+user_is_none users name none = position_from-zero (λ user. bytes_eq user.0 name) users ∙ no_user_from name 0 users none
+
+-- ---- the tests, from the last to the first
+
+module _ (p : Parts) (realm : List ℕ) (users : Accounts) (nonce : List ℕ) where
+  abbrev code_tested : ℕ → List ℕ → Option (List ℕ) → Result ℕ AuthError
+  code_tested index code made = do
+    right ← ok_or made WrongCode
+    _ ← check (bytes_eq right code) WrongCode
+    Ok index
+
+  abbrev user_tested : List ℕ → Option ℕ → Result ℕ AuthError
+  user_tested code user = do
+    index ← ok_or user UnknownUser
+    code_tested index code (code_under (user_key realm users index) p)
+
+  abbrev nonce_tested : List ℕ → List ℕ → List ℕ → Result ℕ AuthError
+  nonce_tested code name given = do
+    _ ← check (bytes_eq given nonce) StaleNonce
+    user_tested code (user_of users name)
+
+  abbrev all_tested : Option (List ℕ) → Option (List ℕ) → Option (List ℕ) → Option (List ℕ) → Result ℕ AuthError
+  all_tested code name realm given = do
+    code ← ok_or code Missing
+    name ← ok_or name Incomplete
+    _ ← ok_or realm Incomplete
+    given ← ok_or given Incomplete
+    nonce_tested code name given
+
+  right_code : (index : ℕ) (code : List ℕ) → code_tested index code (Some code) ≡ Ok index
+  right_code index code = ap (λ b. check b WrongCode >>= (λ _. Ok index)) (same_bytes code code refl)
+
+  wrong_code : (index : ℕ) (code : List ℕ) (made : Option (List ℕ)) → made ≢ Some code → code_tested index code made ≡ Err WrongCode
+  wrong_code index code None ne = refl
+  wrong_code index code (Some right) ne = ap (λ b. check b WrongCode >>= (λ _. Ok index)) (other_bytes right code (λ e. ne (ap Some e)))
+
+  -- with all four attributes, the nonce is compared
+  with_all : (code name given : List ℕ) → HasCredentials p given code name → checked p realm users nonce ≡ nonce_tested code name given
+  with_all code name given has =
+      λ i. all_tested (has.code_is i) (has.name_is i) (has.realm_is i) (has.nonce_is i)
+
+  -- with the current nonce, the user is looked up
+  looked_up : (code name : List ℕ) → HasCredentials p nonce code name → checked p realm users nonce ≡ user_tested code (user_of users name)
+  looked_up code name has =
+      with_all code name nonce has ∙ ap (λ b. check b StaleNonce >>= (λ _. user_tested code (user_of users name))) (same_bytes nonce nonce refl)
+
+  of_user : (code name : List ℕ) (index : ℕ) → HasCredentials p nonce code name → IsUser users name index
+      → checked p realm users nonce ≡ code_tested index code (code_under (user_key realm users index) p)
+  of_user code name index has is = looked_up code name has ∙ ap (user_tested code) (user_is users name index is)
+
+  incomplete : (code : List ℕ) (a b c : Option (List ℕ)) → (a ≡ None) ⊎ (b ≡ None) ⊎ (c ≡ None) → all_tested (Some code) a b c ≡ Err Incomplete
+  incomplete code None b c h = refl
+  incomplete code (Some x) None c h = refl
+  incomplete code (Some x) (Some y) None h = refl
+  incomplete code (Some x) (Some y) (Some z) (inl e) = absurd cc
+  incomplete code (Some x) (Some y) (Some z) (inr (inl e)) = absurd cc
+  incomplete code (Some x) (Some y) (Some z) (inr (inr e)) = absurd cc
+
+  with_code : (code a b c : Option (List ℕ)) → code ≢ None → ((a ≡ None) ⊎ (b ≡ None) ⊎ (c ≡ None)) → all_tested code a b c ≡ Err Incomplete
+  with_code None a b c some h = absurd (some refl)
+  with_code (Some code) a b c some h = incomplete code a b c h
+
+  pub result_is_checked : (r : Result ℕ AuthError) → IsChecked p realm users nonce r → r ≡ checked p realm users nonce
+  result_is_checked (Ok index) (code, name, has, is, right) =
+      sym (of_user code name index has is ∙ ap (code_tested index code) right ∙ right_code index code)
+  result_is_checked (Err Missing) none = sym (ap (λ code. all_tested code (first_value p USERNAME) (first_value p REALM) (first_value p NONCE)) none)
+  result_is_checked (Err Incomplete) (some, missing) = sym (with_code (first_value p message_integrity) (first_value p USERNAME) (first_value p REALM) (first_value p NONCE) some missing)
+  result_is_checked (Err StaleNonce) (other, code, name, has, ne) =
+      sym (with_all code name other has ∙ ap (λ b. check b StaleNonce >>= (λ _. user_tested code (user_of users name))) (other_bytes other nonce ne))
+  result_is_checked (Err UnknownUser) (code, name, has, none) = sym (looked_up code name has ∙ ap (user_tested code) (user_is_none users name none))
+  result_is_checked (Err WrongCode) (code, name, index, has, is, wrong) =
+      sym (of_user code name index has is ∙ wrong_code index code (code_under (user_key realm users index) p) wrong)
