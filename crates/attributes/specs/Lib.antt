@@ -1,4 +1,5 @@
 -- Internal. The modules of this folder.
 pub mod Addresses
+pub mod AddressTexts
 pub mod Values
 pub mod Errors

@@ -1,6 +1,6 @@
 -- Meaning. The result of the check of a request's credentials, as a function: the tests in their order, of which the
 -- first that fails gives the error.
-use Rattle.std.specs.Prelude.{ℕ, Bool, List, [], bytes_eq, Option, Result, Ok, Err, ok_or, if◌then◌else◌}
+use Rattle.std.specs.Prelude.{ℕ, Bool, List, bytes_eq, Option, Result, Ok, Err, ok_or, if◌then◌else◌}
 use Rattle.std.specs.List.{position}
 use Rattle.stun.specs.Registry.{message_integrity}
 use Rattle.stun.specs.declared.registry.attribute.TheConstants.{USERNAME, REALM, NONCE}

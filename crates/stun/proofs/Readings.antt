@@ -1,13 +1,13 @@
 -- A datagram is a message where the parts in it spell it.
-use Rattle.std.proofs.Common.{◌≡◌, ℕ, Bool, true, List, [], ◌∷◌, drop, length, refl, sym, ap, ◌∙◌, inl, inr, eqb-true, eq-eqb}
-use Rattle.std.specs.Prelude.{◌&&◌, ◌==◌, nat_lt, bytes_eq, Option, None, Some}
+use Rattle.std.proofs.Common.{◌≡◌, ℕ, true, List, [], ◌∷◌, drop, length, refl, sym, ap, ◌∙◌, inl, inr, eqb-true, eq-eqb}
+use Rattle.std.specs.Prelude.{◌&&◌, ◌==◌, nat_lt, bytes_eq, None, Some}
 use Rattle.std.specs.List.{AllByRecursion, list_all}
 use Rattle.std.proofs.lemmas.Bool.{cases_Bool, cond-true, cond-false, and_parts, and_from, lt-ltb, ltb-true}
 use Rattle.std.proofs.lemmas.Slice.Eq.{bytes_eq-Decides}
 use Rattle.stun.specs.Messages.{Padded, IsPadded, Parts, AreParts, attributes_bytes, parts_bytes, padding_count}
 use Rattle.stun.specs.Reading.{parts_in, EncodesParts}
 use Rattle.stun.specs.Datagrams.{is_padded, are_parts, is_message, message_in}
-use Rattle.stun.proofs.Datagrams.{parts_are, body_is}
+use Rattle.stun.proofs.Datagrams.{body_is}
 
 is_padded_from : (a : Padded) → IsPadded a → is_padded a ≡ true
 is_padded_from a h = and_from _ _ (and_from _ _ (lt-ltb a.kind 0x10000 h.kind) (lt-ltb (length a.value) 0x10000 h.value)) (eq-eqb _ _ h.padding)

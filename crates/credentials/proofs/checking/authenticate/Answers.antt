@@ -33,13 +33,22 @@ returns-in_default-clause-checked c =
 pub returns-then-is_code-clause-checked : goal.returns-then-is_code-clause-checked
 returns-then-is_code-clause-checked c =
     let key = c.key_of_user-key.ensures ∙ key_at c.args.users.now c.args.realm.now c.in-Some.index c.index-users-index.result c.in-Some.ensures.some.inside c.index-users-index.is in
-    result_is_checked c.args.message.now c.args.realm.now (accounts_of c.args.users.now) c.args.nonce.now (Ok c.in-Some.index)
-    (c.in_ok-code.code.now, c.in_ok-code.name.now, c.in_ok-code.ensures.found, c.in-Some.ensures.some,
-    ap (λ k. code_under k c.args.message.now) (sym key) ∙ c.if-is_code.ensures.0 refl)
+    result_is_checked c.args.message.now c.args.realm.now (accounts_of c.args.users.now) c.args.nonce.now (Ok c.in-Some.index) (
+      c.in_ok-code.code.now,
+      c.in_ok-code.name.now,
+      c.in_ok-code.ensures.found,
+      c.in-Some.ensures.some,
+      ap (λ k. code_under k c.args.message.now) (sym key) ∙ c.if-is_code.ensures.0 refl,
+    )
 
 pub returns-else-is_code-clause-checked : goal.returns-else-is_code-clause-checked
 returns-else-is_code-clause-checked c =
     let key = c.key_of_user-key.ensures ∙ key_at c.args.users.now c.args.realm.now c.in-Some.index c.index-users-index.result c.in-Some.ensures.some.inside c.index-users-index.is in
-    result_is_checked c.args.message.now c.args.realm.now (accounts_of c.args.users.now) c.args.nonce.now (Err WrongCode)
-    (c.in_ok-code.code.now, c.in_ok-code.name.now, c.in-Some.index, c.in_ok-code.ensures.found, c.in-Some.ensures.some,
-    λ right. false_is_not_true (c.if-is_code.ensures.1 (ap (λ k. code_under k c.args.message.now) key ∙ right)))
+    result_is_checked c.args.message.now c.args.realm.now (accounts_of c.args.users.now) c.args.nonce.now (Err WrongCode) (
+      c.in_ok-code.code.now,
+      c.in_ok-code.name.now,
+      c.in-Some.index,
+      c.in_ok-code.ensures.found,
+      c.in-Some.ensures.some,
+      λ right. false_is_not_true (c.if-is_code.ensures.1 (ap (λ k. code_under k c.args.message.now) key ∙ right)),
+    )
