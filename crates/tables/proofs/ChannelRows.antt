@@ -12,7 +12,8 @@ use Rattle.std.proofs.lemmas.List.Quantifiers.{position-Some, all_pairs_push}
 use Rattle.attributes.specs.declared.address.Addr.{Addr}
 use Rattle.attributes.specs.declared.address.Addr.TheVariants.{V4}
 use Rattle.tables.specs.Addresses.{is_same_address}
-use Rattle.tables.specs.Channels.{channels_at, number_to, may_bind, is_none_or, channels_of, AreChannels}
+use Rattle.tables.specs.Channels.{channels_at, number_to, may_bind, is_none_or}
+use Rattle.tables.specs.RowLists.{channels_of, AreChannels}
 use Rattle.tables.specs.Retained.{kept}
 use Rattle.tables.specs.RetainedLaws.{get-kept_of, kept_from}
 use Rattle.tables.specs.RowLaws.{binding_counts}

@@ -5,3 +5,4 @@ pub mod PermissionRows
 pub mod ChannelRows
 pub mod Slots
 pub mod Found
+pub mod HeldRows

@@ -1,13 +1,13 @@
 -- Finite maps by `from_entries` of lists whose keys differ.
-use Rattle.std.proofs.Common.{◌≡◌, ◌≢◌, ℕ, zero, suc, ◌+◌, ◌<◌, ◌≤◌, Bool, true, false, cond, T, ◌&&◌, List, [], ◌∷◌, ◌++◌, map, filter, find, length, get_or, set, Option, Some, None, is_some, option_map, All, AllPairs, position, Ordering, Less, Equal, Greater, is_eq, is_lt, sym, refl, ap, ◌∙◌, subst, inl, inr, arith}
+use Rattle.std.proofs.Common.{◌≡◌, ◌≢◌, ℕ, zero, suc, ◌+◌, ◌<◌, ◌≤◌, Bool, true, false, cond, List, [], ◌∷◌, ◌++◌, map, filter, find, length, get_or, set, Option, Some, None, is_some, option_map, All, AllPairs, position, Ordering, is_eq, sym, refl, ap, ◌∙◌, subst, inl, inr, arith}
 use Rattle.std.specs.Ordering.{eq_by_cmp}
-use Rattle.std.specs.Cmp.{IsTotalOrder, Equal-is, tied_itself, eq_by_cmp_equiv}
-use Rattle.std.specs.FinMap.{FinMap, IsAntisymmetric, get, insert, len, entries, retain_keys, from_entries, get-entries, get-from_entries, get-insert, get-retain_keys, get_tied, same_map, from_entries_push, len-insert, len-empty, entries_sorted, contains_key, find as lookup, is_sorted}
-use Rattle.std.specs.FinMap.Entries.{below_all}
+use Rattle.std.specs.Cmp.{IsTotalOrder, Equal-is, tied_itself}
+use Rattle.std.specs.FinMap.{FinMap, IsAntisymmetric, get, insert, len, entries, retain_keys, from_entries, get-entries, get-from_entries, get-insert, get-retain_keys, get_tied, same_map, from_entries_push, len-insert, len-empty, contains_key, find as lookup}
 use Rattle.std.proofs.lemmas.Bool.{cases_Bool, cond-true, cond-false, false_from_ne_true, both_ways}
 use Rattle.std.proofs.lemmas.Option.{none-some, same_Some}
 use Rattle.std.proofs.lemmas.List.{map-append, get_or_default}
 use Rattle.std.proofs.lemmas.List.Quantifiers.{position-Some, all_pairs_push}
+use Rattle.tables.specs.MapLaws.{entry_found}
 use Rattle.tables.specs.RetainedLaws.{none_kept}
 use Rattle.tables.proofs.Lists.{AllPairs-head, AllPairs-tail, AllPairs-set, position-None}
 
@@ -21,19 +21,6 @@ swapped false b x y z apart = refl
 shadowed : {A : Type 0} (b : Bool) (x y z : A) → cond b x z ≡ cond b x (cond b y z)
 shadowed true x y z = refl
 shadowed false x y z = refl
-
-first : (a b : Bool) → T (a && b) → T a
-first true b p = tt
-first false b p = p
-
-second : (a b : Bool) → T (a && b) → T b
-second true b p = p
-second false b p = absurd p
-
-less_differs : (r : Ordering) → T (is_lt r) → is_eq r ≡ false
-less_differs Less p = refl
-less_differs Equal p = absurd p
-less_differs Greater p = absurd p
 
 module _ {K : Type 0} {R : K → K → Ordering} (o : IsTotalOrder R) (same : IsAntisymmetric R) where
   pub tied : (q k : K) → eq_by_cmp R q k ≡ true → q ≡ k
@@ -183,24 +170,6 @@ len-insert-ge o m k v = elim (cases_Bool (contains_key m k)) [
 -- ---- a search among the values
 
 module _ {K X : Type 0} {R : K → K → Ordering} (o : IsTotalOrder R) (same : IsAntisymmetric R) where
-  below_found : (k : K) (t : K × X → Bool) (es : List (K × X)) (e : K × X) → T (below_all R k es) → find t es ≡ Some e → T (is_lt (R k e.0))
-  below_found k t [] e h s = absurd (none-some e s)
-  below_found k t (x ∷ es) e h s = elim (cases_Bool (t x)) [
-    | inl b ↦ subst (λ (y : K × X). T (is_lt (R k y.0))) (same_Some _ _ (sym (cond-true (t x) _ _ b) ∙ s)) (first _ _ h)
-    | inr b ↦ below_found k t es e (second _ _ h) (sym (cond-false (t x) _ _ b) ∙ s)
-  ]
-
-  -- an entry of a list in order is the one of its key
-  lookup_found : (t : K × X → Bool) (es : List (K × X)) (e : K × X) → T (is_sorted R es) → find t es ≡ Some e → lookup R e.0 es ≡ Some e.1
-  lookup_found t [] e h s = absurd (none-some e s)
-  lookup_found t (x ∷ es) e h s = elim (cases_Bool (t x)) [
-    | inl b ↦ subst (λ (y : K × X). lookup R y.0 (x ∷ es) ≡ Some y.1) (same_Some _ _ (sym (cond-true (t x) _ _ b) ∙ s)) (cond-true (eq_by_cmp R x.0 x.0) _ _ (ap is_eq (tied_itself o x.0)))
-    | inr b ↦
-        let later = sym (cond-false (t x) _ _ b) ∙ s in
-        let far : eq_by_cmp R e.0 x.0 ≡ false = (eq_by_cmp_equiv o).symm e.0 x.0 ∙ less_differs (R x.0 e.0) (below_found x.0 t es e (first _ _ h) later) in
-        cond-false (eq_by_cmp R e.0 x.0) _ _ far ∙ lookup_found t es e (second _ _ h) later
-  ]
-
   passes_found : (t : K × X → Bool) (es : List (K × X)) (e : K × X) → find t es ≡ Some e → t e ≡ true
   passes_found t [] e s = absurd (none-some e s)
   passes_found t (x ∷ es) e s = elim (cases_Bool (t x)) [
@@ -230,12 +199,12 @@ module _ {K X : Type 0} {R : K → K → Ordering} (o : IsTotalOrder R) (same : 
   key_where-None p m h =
       elim (find (λ e. p e.1) (entries m)) as (λ r. find (λ e. p e.1) (entries m) ≡ r → option_map (λ e. e.0) r ≡ None) [
         | None ↦ λ _. refl
-        | Some e ↦ λ s. absurd (both_ways (p e.1) (h e.0 e.1 (get-entries m e.0 ∙ lookup_found (λ e. p e.1) (entries m) e (entries_sorted m) s)) (passes_found (λ e. p e.1) (entries m) e s))
+        | Some e ↦ λ s. absurd (both_ways (p e.1) (h e.0 e.1 (entry_found o (λ e. p e.1) m e s)) (passes_found (λ e. p e.1) (entries m) e s))
       ] refl
 
   pub key_where-Some : (p : X → Bool) (m : FinMap R X) (k : K) (v : X) → PassesOnce p m → get m k ≡ Some v → p v ≡ true → key_where p m ≡ Some k
   key_where-Some p m k v once at passes =
       elim (find (λ e. p e.1) (entries m)) as (λ r. find (λ e. p e.1) (entries m) ≡ r → option_map (λ e. e.0) r ≡ Some k) [
         | None ↦ λ s. absurd (both_ways (p v) (fails_unfound p (entries m) s k v (sym (get-entries m k) ∙ at)) passes)
-        | Some e ↦ λ s. ap Some (once e.0 k e.1 v (get-entries m e.0 ∙ lookup_found (λ e. p e.1) (entries m) e (entries_sorted m) s) at (passes_found (λ e. p e.1) (entries m) e s) passes)
+        | Some e ↦ λ s. ap Some (once e.0 k e.1 v (entry_found o (λ e. p e.1) m e s) at (passes_found (λ e. p e.1) (entries m) e s) passes)
       ] refl

@@ -9,7 +9,8 @@ use Rattle.attributes.specs.declared.address.Addr.{Addr}
 use Rattle.attributes.specs.declared.address.Addr.TheVariants.{V4}
 use Rattle.tables.specs.Addresses.{ip_cmp}
 use Rattle.tables.specs.Moments.{counts_at}
-use Rattle.tables.specs.Permissions.{PermissionMap, permissions_at, permissions_of, with_all, ArePermissions}
+use Rattle.tables.specs.Permissions.{PermissionMap, permissions_at, with_all}
+use Rattle.tables.specs.RowLists.{permissions_of, ArePermissions}
 use Rattle.tables.specs.RowLaws.{ip_total, ip_antisymmetric}
 use Rattle.tables.specs.declared.permissions.Permission.{Permission}
 use Rattle.tables.proofs.Lists.{length-filter-le}

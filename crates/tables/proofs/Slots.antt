@@ -44,6 +44,12 @@ module _ (last : ℕ) (slots : List (Option Held)) (now : Rows) (shows : ShowsSt
 pub slot_shown : (shown slots : List (Option Held)) (i : ℕ) (slot : Option Held) → shown ≡ slots → true ≡ nat_lt i (length shown) → slot ≡ get_or shown i slot → slice_get slots i ≡ Some slot
 slot_shown shown slots i slot same within at = ap (λ s. slice_get s i) (sym same) ∙ slice_get_read shown (length shown) i slot refl (ltb-true i (length shown) (sym within)) at
 
+-- what an iteration gives
+pub slot_at : (shown slots : List (Option Held)) (i : ℕ) (slot : Option Held) (held : Held) → shown ≡ slots → i < length shown → slot ≡ get_or shown i slot → slot ≡ Some held
+    → option_flatten (slice_get slots i) ≡ Some held
+slot_at shown slots i slot held same within at is =
+    ap (λ s. option_flatten (slice_get s i)) (sym same) ∙ ap option_flatten (slice_get_read shown (length shown) i slot refl within at) ∙ is
+
 -- ---- a client
 
 pub found_by : (t : ℕ) (client : Addr) (shown : List (Option Held)) (i : ℕ) (slot : Option Held) (held : Held) → i < length shown → slot ≡ get_or shown i slot → slot ≡ Some held

@@ -1,13 +1,17 @@
 -- Meaning. The channels of an allocation (RFC 8656, section 12).
-use Rattle.std.specs.Prelude.{◌≢◌, ℕ, ◌≤◌, Bool, true, ◌&&◌, IsFalse, List, map, All, AllPairs, find, Option, None, Some, nat_eq}
+use Rattle.std.specs.Prelude.{ℕ, ◌≤◌, Bool, true, ◌&&◌, find, Option, None, Some, nat_eq}
 use Rattle.std.specs.Option.{option_map}
 use Rattle.std.specs.Ordering.{nat_cmp}
-use Rattle.std.specs.FinMap.{FinMap, get, entries, retain_keys, from_entries}
+use Rattle.std.specs.FinMap.{FinMap, get, entries, retain_keys}
 use Rattle.attributes.specs.declared.address.Addr.{Addr}
 use Rattle.tables.specs.Addresses.{is_same_address}
 use Rattle.tables.specs.Moments.{counts_at}
 use Rattle.tables.specs.declared.channels.Binding.{Binding}
-use Rattle.tables.specs.declared.channels.Channel.{Channel}
+use Rattle.tables.specs.declared.channels.TheConstants.{FIRST_CHANNEL, LAST_CHANNEL}
+
+-- the numbers of channels
+abbrev pub IsChannelNumber : ℕ → Type 0
+IsChannelNumber number = (FIRST_CHANNEL ≤ number) × (number ≤ LAST_CHANNEL)
 
 -- the peer and the end of each channel, by its number
 abbrev pub ChannelMap : Type 0
@@ -31,15 +35,3 @@ is_none_or test (Some x) = test x
 -- whether this number is bound to no other peer, and this peer to no other number
 abbrev pub may_bind : ChannelMap → ℕ → Addr → Bool
 may_bind channels number peer = is_none_or (λ b. is_same_address peer b.peer) (get channels number) && is_none_or (nat_eq number) (number_to peer channels)
-
--- ---- as they are stored
-
-abbrev pub channels_of : List Channel → ChannelMap
-channels_of rows = from_entries (map (λ row. (row.number, row.binding)) rows)
-
--- each number and each peer stands once, and the numbers are those of channels
-pub record AreChannels (rows : List Channel) : Type 0 where
-  pub distinct : AllPairs (λ a b. a.number ≢ b.number) rows
-  pub peers : AllPairs (λ a b. IsFalse (is_same_address a.binding.peer b.binding.peer)) rows
-  pub low : All (λ row. 0x4000 ≤ row.number) rows
-  pub high : All (λ row. row.number ≤ 0x4fff) rows

@@ -1,11 +1,12 @@
 -- Meaning. Look-ups in the rows that count.
 use Rattle.std.specs.Prelude.{ℕ, Bool, false, Option, None, Some, slice_get, is_some, find}
 use Rattle.std.specs.Option.{option_map, option_and_then, option_flatten}
-use Rattle.std.specs.FinMap.{get}
+use Rattle.std.specs.FinMap.{empty, get}
 use Rattle.attributes.specs.Addresses.{ip_of}
 use Rattle.attributes.specs.declared.address.Addr.{Addr}
 use Rattle.tables.specs.Addresses.{is_same_address}
-use Rattle.tables.specs.Channels.{number_to}
+use Rattle.tables.specs.Channels.{ChannelMap, number_to}
+use Rattle.tables.specs.Permissions.{PermissionMap}
 use Rattle.tables.specs.Rows.{Rows}
 use Rattle.tables.specs.declared.allocation.Allocation.{Allocation}
 use Rattle.tables.specs.declared.held.Held.{Held}
@@ -41,3 +42,18 @@ channel_of slot peer rows = option_and_then (λ held. number_to peer held.channe
 -- whether an IP address has a permission at a slot
 abbrev pub permitted : ℕ → Addr → Rows → Bool
 permitted slot ip rows = is_some (option_and_then (λ held. get held.permissions (ip_of ip)) (held_in rows slot))
+
+-- the permissions and the channels of what a slot holds
+abbrev pub permissions_held : Option Held → PermissionMap
+permissions_held None = empty
+permissions_held (Some held) = held.permissions
+
+abbrev pub channels_held : Option Held → ChannelMap
+channels_held None = empty
+channels_held (Some held) = held.channels
+
+abbrev pub permissions_at_slot : ℕ → Rows → PermissionMap
+permissions_at_slot slot rows = permissions_held (held_in rows slot)
+
+abbrev pub channels_at_slot : ℕ → Rows → ChannelMap
+channels_at_slot slot rows = channels_held (held_in rows slot)

@@ -1,11 +1,12 @@
 -- Internal. Laws of what a test of the values keeps of a finite map.
-use Rattle.std.specs.Prelude.{◌≡◌, Bool, true, false, cond, ◌⊎◌, Option, None, Some, refl}
+use Rattle.std.specs.Prelude.{◌≡◌, ◌≤◌, Bool, true, false, cond, ◌⊎◌, Option, None, Some, refl}
 use Rattle.std.specs.Cmp.{IsTotalOrder}
 use Rattle.std.specs.declared.cmp.Ordering.{Ordering}
-use Rattle.std.specs.FinMap.{FinMap, IsAntisymmetric, get, retain_keys, get-retain_keys, get_tied, same_map}
+use Rattle.std.specs.FinMap.{FinMap, IsAntisymmetric, get, len, get-retain_keys, get_tied, same_map}
 use Rattle.std.proofs.Common.{sym, ap, ◌∙◌, inl, inr}
 use Rattle.std.proofs.lemmas.Bool.{cases_Bool, cond-true, cond-false, both_ways}
 use Rattle.std.proofs.lemmas.Option.{none-some}
+use Rattle.tables.specs.MapLaws.{len-within}
 use Rattle.tables.specs.Retained.{kept, kept_of}
 
 pub none_kept : {X : Type 0} (b : Bool) → ◌≡◌ {A = Option X} (cond b None None) None
@@ -45,3 +46,6 @@ module _ {X : Type 0} (earlier later : Option X → Bool) (weaker : (x : X) → 
   pub kept_of_again : {K : Type 0} {R : K → K → Ordering} → IsTotalOrder R → IsAntisymmetric R → (m : FinMap R X) → kept_of later (kept_of earlier m) ≡ kept_of later m
   kept_of_again o same m =
       same_map o same _ _ (λ q. get-kept_of o later (kept_of earlier m) q ∙ ap (kept later) (get-kept_of o earlier m q) ∙ kept_again (get m q) ∙ sym (get-kept_of o later m q))
+
+pub len-kept_of : {K X : Type 0} {R : K → K → Ordering} → IsTotalOrder R → (test : Option X → Bool) (m : FinMap R X) → len (kept_of test m) ≤ len m
+len-kept_of o test m = len-within o (kept_of test m) m (λ q v h. (kept_from test (get m q) v (sym (get-kept_of o test m q) ∙ h)).0)

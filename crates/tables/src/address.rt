@@ -1,11 +1,21 @@
-//! Addresses, compared.
+//! Addresses: which are of IPv4, and which are the same.
 
 ghost use Rattle.std.specs.Prelude.{◌≡◌};
 ghost use Rattle.std.specs.Ordering.{eq_by_cmp};
 ghost use Rattle.attributes.specs.Addresses.{ip_of};
-ghost use Rattle.tables.specs.Addresses.{ip_cmp, is_same_address};
+ghost use Rattle.tables.specs.Addresses.{ip_cmp, is_ipv4, is_same_address};
 
 use attributes::Addr;
+
+/// Returns whether an address is one of IPv4.
+pub fn is_ipv4(address: &Addr) -> bool
+    ensures { result ≡ is_ipv4 address.now }
+{
+    match address {
+        Addr::V4 { .. } => true,
+        Addr::V6 { .. } => false,
+    }
+}
 
 /// Returns whether two addresses have the same IP address.
 pub(crate) fn is_same_ip(a: &Addr, b: &Addr) -> bool

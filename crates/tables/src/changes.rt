@@ -1,4 +1,4 @@
-//! Changes. A refused one changes nothing.
+//! Changes. A refused one changes nothing. They are asked for addresses of IPv4 alone.
 
 use crate::allocation::Allocation;
 use crate::channels::{Binding, CHANNEL_LIFETIME, Channels};
@@ -6,10 +6,14 @@ use crate::held::Held;
 use crate::permissions::{PERMISSION_LIFETIME, Permissions};
 use crate::refusal::Refused;
 use crate::storage::Tables;
-use attributes::Addr;
+use attributes::{Addr, is_address};
 
 impl Tables {
-    ghost use Rattle.std.specs.Prelude.{◌≡◌, ◌≤◌, ◌<◌, IfOk, List, length};
+    ghost use Rattle.std.specs.Prelude.{◌≡◌, ◌≤◌, ◌<◌, IfOk, IsTrue, List, length};
+    ghost use Rattle.std.specs.List.{list_all};
+    ghost use Rattle.tables.specs.Addresses.{is_ipv4};
+    ghost use Rattle.tables.specs.Channels.{IsChannelNumber};
+    ghost use Rattle.tables.specs.Moments.{moment_of};
     ghost use Rattle.tables.specs.Rows.{rows_at};
     ghost use Rattle.tables.specs.Changes.{Follows, allocate, refresh, permit, bind};
 
@@ -26,8 +30,10 @@ impl Tables {
         tx: [u8; 12],
         lifetime: u32,
     ) -> Result<usize, Refused>
+        requires ipv4 { IsTrue (is_ipv4 client) }
         ensures follows { Follows (allocate client user tx lifetime (rows_at now self.old)) self.old result self.new }
         ensures inside { IfOk result (λ slot. slot < length self.old.slots) }
+        ensures moment { (self.old.moment ≤ self.new.moment) × (self.new.moment ≤ moment_of self.old.moment now) }
         ensures slots { length self.new.slots ≡ length self.old.slots }
     {
         let moment = self.moment_at(now);
@@ -35,6 +41,7 @@ impl Tables {
             return Err(Refused::Mismatch);
         }
         let slot = self.first_free(moment).ok_or(Refused::Capacity)?;
+        is_address(&client);
         let allocation = Allocation {
             slot,
             client,
@@ -62,6 +69,7 @@ impl Tables {
     /// `NoAllocation` where the slot has none.
     pub fn refresh(&mut self, now: u64, slot: usize, lifetime: u32) -> Result<(), Refused>
         ensures follows { Follows (refresh slot lifetime (rows_at now self.old)) self.old result self.new }
+        ensures moment { (self.old.moment ≤ self.new.moment) × (self.new.moment ≤ moment_of self.old.moment now) }
         ensures slots { length self.new.slots ≡ length self.old.slots }
     {
         let moment = self.moment_at(now);
@@ -86,7 +94,9 @@ impl Tables {
     ///
     /// [`MAX_PERMISSIONS`]: crate::MAX_PERMISSIONS
     pub fn permit(&mut self, now: u64, slot: usize, ips: &[Addr]) -> Result<(), Refused>
+        requires ipv4 { IsTrue (list_all is_ipv4 ips.now) }
         ensures follows { Follows (permit slot ips.now (rows_at now self.old)) self.old result self.new }
+        ensures moment { (self.old.moment ≤ self.new.moment) × (self.new.moment ≤ moment_of self.old.moment now) }
         ensures slots { length self.new.slots ≡ length self.old.slots }
     {
         let moment = self.moment_at(now);
@@ -112,12 +122,15 @@ impl Tables {
     /// [`MAX_CHANNELS`]: crate::MAX_CHANNELS
     /// [`MAX_PERMISSIONS`]: crate::MAX_PERMISSIONS
     pub fn bind(&mut self, now: u64, slot: usize, number: u16, peer: Addr) -> Result<(), Refused>
-        requires range { (0x4000 ≤ number) × (number ≤ 0x4fff) }
+        requires range { IsChannelNumber number }
+        requires ipv4 { IsTrue (is_ipv4 peer) }
         ensures follows { Follows (bind slot number peer (rows_at now self.old)) self.old result self.new }
+        ensures moment { (self.old.moment ≤ self.new.moment) × (self.new.moment ≤ moment_of self.old.moment now) }
         ensures slots { length self.new.slots ≡ length self.old.slots }
     {
         let moment = self.moment_at(now);
         let held = self.held(slot, moment).ok_or(Refused::NoAllocation)?;
+        is_address(&peer);
         let mut channels = held.channels.at(moment);
         if !channels.may_bind(number, &peer) {
             return Err(Refused::Conflict);

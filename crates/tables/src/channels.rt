@@ -15,20 +15,28 @@ pub const CHANNEL_LIFETIME: u64 = 600;
 /// The greatest number of channels of an allocation.
 pub const MAX_CHANNELS: usize = 64;
 
+/// The least number of a channel (RFC 8656, section 12).
+pub const FIRST_CHANNEL: u16 = 0x4000;
+
+/// The greatest number of a channel (RFC 8656, section 12).
+pub const LAST_CHANNEL: u16 = 0x4fff;
+
 /// What a channel is bound to.
-#[derive(Clone, Copy)]
-pub(crate) struct Binding {
+#[derive(Clone, Copy, Debug, PartialEq, Eq)]
+pub struct Binding {
     /// The peer's address and port.
-    pub(crate) peer: Addr,
+    pub peer: Addr,
     /// The first moment at which it doesn't count any more, in seconds.
-    pub(crate) end: u64,
+    pub end: u64,
 }
 
 /// A channel that is bound.
-#[derive(Clone, Copy)]
-pub(crate) struct Channel {
-    pub(crate) number: u16,
-    pub(crate) binding: Binding,
+#[derive(Clone, Copy, Debug, PartialEq, Eq)]
+pub struct Channel {
+    /// The channel's number.
+    pub number: u16,
+    /// The peer that it is bound to, and its end.
+    pub binding: Binding,
 }
 
 impl Default for Channel {
@@ -52,7 +60,8 @@ pub(crate) struct Channels {
 }
 
 impl Model for Channels {
-    ghost use Rattle.tables.specs.Channels.{ChannelMap, channels_of, AreChannels};
+    ghost use Rattle.tables.specs.Channels.{ChannelMap};
+    ghost use Rattle.tables.specs.RowLists.{channels_of, AreChannels};
     ghost use Rattle.std.specs.Coded.{coded_ℕ};
     ghost use Rattle.std.specs.FinMap.{code};
     ghost use Rattle.tables.specs.contracts.channels.Binding as binding;
@@ -83,7 +92,8 @@ fn index_to(rows: &[Channel], peer: &Addr) -> Option<usize>
 impl Channels {
     ghost use Rattle.std.specs.Prelude.{◌≡◌, ◌<◌, ◌≤◌, OnOk, OnErr, IfErr, IfSome, IsTrue, option_map};
     ghost use Rattle.std.specs.FinMap.{empty, get, insert, len};
-    ghost use Rattle.tables.specs.Channels.{channels_at, number_to, may_bind};
+    ghost use Rattle.tables.specs.Channels.{IsChannelNumber, channels_at, number_to, may_bind};
+    ghost use Rattle.tables.specs.RowLists.{AreChannels, channels_of};
     ghost use Rattle.tables.specs.declared.channels.TheConstants.{MAX_CHANNELS};
     ghost use Rattle.tables.specs.declared.refusal.Refused.TheVariants.{Capacity};
 
@@ -121,7 +131,7 @@ impl Channels {
     /// Returns the number that is bound to a peer by a channel that counts at a moment, if there is one.
     pub(crate) fn number_at(&self, peer: &Addr, moment: u64) -> Option<u16>
         ensures number { result ≡ number_to peer.now (channels_at moment self.now) }
-        ensures range { IfSome result (λ n. (0x4000 ≤ n) × (n ≤ 0x4fff)) }
+        ensures range { IfSome result IsChannelNumber }
     {
         let rows = self.rows.as_slice();
         let Some(index) = index_to(rows, peer) else {
@@ -133,6 +143,14 @@ impl Channels {
         } else {
             None
         }
+    }
+
+    /// Returns the channels, in the order in which they were bound.
+    pub(crate) fn into_rows(self) -> ArrayVec<Channel, MAX_CHANNELS>
+        ensures channels { channels_of result.items ≡ self }
+        ensures distinct { AreChannels result.items }
+    {
+        self.rows
     }
 
     /// Returns the channels that count at a moment.
@@ -164,7 +182,7 @@ impl Channels {
     /// # Errors
     /// `Capacity` where there would be more than [`MAX_CHANNELS`]. Nothing is changed then.
     pub(crate) fn put(&mut self, number: u16, binding: Binding) -> Result<(), Refused>
-        requires range { (0x4000 ≤ number) × (number ≤ 0x4fff) }
+        requires range { IsChannelNumber number }
         requires free { IsTrue (may_bind self.old number binding.peer) }
         ensures put { OnOk result (self.new ≡ insert self.old number binding) }
         ensures few { OnOk result (len self.new ≤ MAX_CHANNELS) }

@@ -9,6 +9,7 @@ use steps::Steps;
 impl Tables {
     ghost use Rattle.std.specs.Prelude.{◌≡◌, ◌≤◌, ◌<◌, IfSome, length};
     ghost use Rattle.std.specs.Option.{option_copied};
+    ghost use Rattle.tables.specs.Channels.{IsChannelNumber};
     ghost use Rattle.tables.specs.Rows.{rows_at};
     ghost use Rattle.tables.specs.LookUps.{allocation_of, allocation_at, peer_of, channel_of, permitted};
 
@@ -59,7 +60,10 @@ impl Tables {
         }
     }
 
-    /// Returns the channel of a slot that is bound to a peer at a moment: a number from 0x4000 to 0x4FFF.
+    /// Returns the channel of a slot that is bound to a peer at a moment: a number from [`FIRST_CHANNEL`] to [`LAST_CHANNEL`].
+    ///
+    /// [`FIRST_CHANNEL`]: crate::FIRST_CHANNEL
+    /// [`LAST_CHANNEL`]: crate::LAST_CHANNEL
     pub fn channel_of<L: Ledger>(
         &self,
         slot: usize,
@@ -68,7 +72,7 @@ impl Tables {
         steps: &mut Steps<L>,
     ) -> Option<u16>
         ensures number { result ≡ channel_of slot peer (rows_at now self.now) }
-        ensures range { IfSome result (λ n. (0x4000 ≤ n) × (n ≤ 0x4fff)) }
+        ensures range { IfSome result IsChannelNumber }
     {
         let moment = self.moment_at(now);
         let held = self.held(slot, moment)?;

@@ -7,7 +7,7 @@ ghost use Rattle.tables.specs.Moments.{moment_of};
 pub const LATEST: u64 = 1 << 62;
 
 /// Clamps a moment to at most [`LATEST`], and then to at least the greatest of the changes made.
-pub(crate) fn moment_of(greatest: u64, now: u64) -> u64
+pub fn moment_of(greatest: u64, now: u64) -> u64
     ensures { result ≡ moment_of greatest now }
 {
     greatest.max(now.min(LATEST))

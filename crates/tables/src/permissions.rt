@@ -18,12 +18,12 @@ pub const PERMISSION_LIFETIME: u64 = 300;
 pub const MAX_PERMISSIONS: usize = 64;
 
 /// The permission of an IP address.
-#[derive(Clone, Copy)]
-pub(crate) struct Permission {
+#[derive(Clone, Copy, Debug, PartialEq, Eq)]
+pub struct Permission {
     /// The address, whose port is not looked at.
-    pub(crate) ip: Addr,
+    pub ip: Addr,
     /// The first moment at which it doesn't count any more, in seconds.
-    pub(crate) end: u64,
+    pub end: u64,
 }
 
 impl Default for Permission {
@@ -45,11 +45,14 @@ pub(crate) struct Permissions {
 }
 
 impl Model for Permissions {
-    ghost use Rattle.tables.specs.Permissions.{PermissionMap, coded_permissions, permissions_of, ArePermissions};
+    ghost use Rattle.tables.specs.Permissions.{PermissionMap};
+    ghost use Rattle.std.specs.Coded.{coded_ℕ, coded_list};
+    ghost use Rattle.std.specs.FinMap.{code};
+    ghost use Rattle.tables.specs.RowLists.{permissions_of, ArePermissions};
 
     ghost Value = { PermissionMap };
 
-    ghost coded = { coded_permissions };
+    ghost coded = { code (coded_list coded_ℕ) coded_ℕ };
 
     ghost view = { λ p. permissions_of p.rows.items };
 
@@ -68,6 +71,7 @@ impl Permissions {
     ghost use Rattle.std.specs.FinMap.{empty, get, insert, len};
     ghost use Rattle.attributes.specs.Addresses.{ip_of};
     ghost use Rattle.tables.specs.Permissions.{permissions_at, with_all};
+    ghost use Rattle.tables.specs.RowLists.{ArePermissions, permissions_of};
     ghost use Rattle.tables.specs.declared.permissions.TheConstants.{MAX_PERMISSIONS};
     ghost use Rattle.tables.specs.declared.refusal.Refused.TheVariants.{Capacity};
 
@@ -89,6 +93,14 @@ impl Permissions {
             return None;
         };
         Some(rows[index].end)
+    }
+
+    /// Returns the permissions, in the order in which they were first given.
+    pub(crate) fn into_rows(self) -> ArrayVec<Permission, MAX_PERMISSIONS>
+        ensures permissions { permissions_of result.items ≡ self }
+        ensures distinct { ArePermissions result.items }
+    {
+        self.rows
     }
 
     /// Returns the permissions that count at a moment.

@@ -25,7 +25,8 @@ pub struct Tables {
 
 impl Model for Tables {
     ghost use Rattle.tables.specs.Rows.{Rows, slots_at};
-    ghost use Rattle.tables.specs.Storage.{AreTables, coded_rows};
+    ghost use Rattle.tables.specs.Storage.{coded_rows};
+    ghost use Rattle.tables.specs.WellFormed.{AreWellFormed};
     ghost use Rattle.tables.specs.contracts.held.Held as held;
 
     ghost Value = { Rows };
@@ -34,7 +35,7 @@ impl Model for Tables {
 
     ghost view = { λ t. record { moment = t.moment; slots = slots_at t.moment t.slots.items } };
 
-    ghost invariant = { λ t. AreTables t.moment t.slots.items };
+    ghost invariant = { λ t. AreWellFormed (record { moment = t.moment; slots = t.slots.items }) };
 }
 
 impl Tables {
@@ -44,6 +45,7 @@ impl Tables {
     ghost use Rattle.tables.specs.Rows.{no_rows, counting, held_at};
     ghost use Rattle.tables.specs.LookUps.{held_in, held_by};
     ghost use Rattle.tables.specs.Changes.{first_free, with_held};
+    ghost use Rattle.tables.specs.WellFormed.{IsHeldAt, AreWellFormed};
     ghost use Rattle.tables.specs.declared.moment.TheConstants.{LATEST};
     ghost use Rattle.tables.specs.declared.storage.TheConstants.{MAX_ALLOCATIONS};
 
@@ -73,6 +75,13 @@ impl Tables {
         self.slots.len()
     }
 
+    /// States that the rows are well formed.
+    pub fn are_well_formed(&self)
+        ensures { AreWellFormed self.now }
+    {
+        let _ = &self.moment;
+    }
+
     /// Returns the moment that counts where one is handed in.
     pub(crate) fn moment_at(&self, now: u64) -> u64
         ensures moment { result ≡ moment_of self.now.moment now }
@@ -88,7 +97,8 @@ impl Tables {
         ensures held { option_and_then (held_at moment) (option_copied result)
             ≡ held_in (counting moment self.now) slot }
         ensures counts { IfSome result (λ held. moment < held.now.allocation.end) }
-        ensures placed { IfSome result (λ held. held.now.allocation.slot < length self.now.slots) }
+        ensures held_at { IfSome result (λ held. IsHeldAt slot held.now) }
+        ensures inside { IfSome result (λ _. slot < length self.now.slots) }
     {
         let Some(slot) = self.slots.get(slot) else {
             return None;
@@ -138,10 +148,11 @@ impl Tables {
     /// Puts into a slot what it holds from a moment on, the greatest so far.
     pub(crate) fn hold(&mut self, slot: usize, moment: u64, held: Held)
         requires inside { slot < length self.old.slots }
-        requires placed { held.allocation.slot < length self.old.slots }
+        requires held_at { IsHeldAt slot held }
         requires later { self.old.moment ≤ moment }
         requires latest { moment ≤ LATEST }
         ensures held { self.new ≡ with_held (counting moment self.old) slot held }
+        ensures moment { self.new.moment ≡ moment }
         ensures slots { length self.new.slots ≡ length self.old.slots }
     {
         self.moment = moment;

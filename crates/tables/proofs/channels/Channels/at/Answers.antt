@@ -1,7 +1,8 @@
 use Rattle.std.proofs.Common.{◌≡◌, nat_lt, length, filter, take, ap, ◌∙◌, sym, subst, arith}
 use Rattle.std.proofs.lemmas.Grind.{common_steps}
 use Rattle.std.proofs.lemmas.List.{take_all, length-take}
-use Rattle.tables.specs.Channels.{AreChannels, channels_at, channels_of}
+use Rattle.tables.specs.Channels.{channels_at}
+use Rattle.tables.specs.RowLists.{AreChannels, channels_of}
 use Rattle.tables.proofs.Lists.{length-filter-le}
 use Rattle.tables.proofs.ChannelRows.{filtered_are, filtered}
 use Rattle.tables.proofs.channels.Channels.at.Goals as goal

@@ -1,7 +1,8 @@
 use Rattle.std.proofs.Common.{◌≡◌, ◌<◌, ◌≤◌, IsTrue, length, ap, ◌∙◌, sym, subst, arith}
 use Rattle.std.specs.FinMap.{insert, len}
 use Rattle.std.proofs.lemmas.Bool.{eqb-true, eqb-false}
-use Rattle.tables.specs.Channels.{AreChannels, channels_of, may_bind}
+use Rattle.tables.specs.Channels.{may_bind}
+use Rattle.tables.specs.RowLists.{AreChannels, channels_of}
 use Rattle.tables.specs.declared.channels.TheConstants.{MAX_CHANNELS}
 use Rattle.tables.proofs.Lists.{written, placed}
 use Rattle.tables.proofs.ChannelRows.{is_for, blank, rebound, renewed_are, renewed, len-renewed, pushed_are, pushed, len-pushed, len-insert-full}

@@ -2,7 +2,8 @@ use Rattle.std.proofs.Common.{◌≡◌, nat_lt, length, filter, take, ap, ◌�
 use Rattle.std.proofs.lemmas.Grind.{common_steps}
 use Rattle.std.specs.FinMap.{len}
 use Rattle.std.proofs.lemmas.List.{take_all, length-take}
-use Rattle.tables.specs.Permissions.{ArePermissions, permissions_at, permissions_of}
+use Rattle.tables.specs.Permissions.{permissions_at}
+use Rattle.tables.specs.RowLists.{ArePermissions, permissions_of}
 use Rattle.tables.specs.declared.permissions.TheConstants.{MAX_PERMISSIONS}
 use Rattle.tables.proofs.Lists.{length-filter-le}
 use Rattle.tables.proofs.PermissionRows.{filtered_are, filtered, len-filtered}

@@ -2,7 +2,7 @@ use Rattle.std.proofs.Common.{◌≡◌, ◌<◌, ◌≤◌, length, ap, ◌∙�
 use Rattle.std.specs.FinMap.{insert, len}
 use Rattle.std.proofs.lemmas.Bool.{eqb-true, eqb-false}
 use Rattle.attributes.specs.Addresses.{ip_of}
-use Rattle.tables.specs.Permissions.{ArePermissions, permissions_of}
+use Rattle.tables.specs.RowLists.{ArePermissions, permissions_of}
 use Rattle.tables.specs.declared.permissions.TheConstants.{MAX_PERMISSIONS}
 use Rattle.tables.proofs.Lists.{written, placed}
 use Rattle.tables.proofs.PermissionRows.{is_for, blank, ending, renewed_are, renewed, len-renewed, pushed_are, pushed, len-pushed, len-insert-full}

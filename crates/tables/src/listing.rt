@@ -1,0 +1,37 @@
+//! Every permission and every channel of an allocation, each with its end.
+
+use crate::channels::{Channel, MAX_CHANNELS};
+use crate::permissions::{MAX_PERMISSIONS, Permission};
+use crate::storage::Tables;
+use arrayvec::ArrayVec;
+
+impl Tables {
+    ghost use Rattle.std.specs.Prelude.{◌≡◌};
+    ghost use Rattle.tables.specs.Rows.{rows_at};
+    ghost use Rattle.tables.specs.LookUps.{permissions_at_slot, channels_at_slot};
+    ghost use Rattle.tables.specs.RowLists.{permissions_of, channels_of, ArePermissions, AreChannels};
+
+    /// Returns the permissions at a slot that count at a moment. A slot without an allocation has none.
+    pub fn permissions(&self, slot: usize, now: u64) -> ArrayVec<Permission, MAX_PERMISSIONS>
+        ensures permissions { permissions_of result.items ≡ permissions_at_slot slot (rows_at now self.now) }
+        ensures distinct { ArePermissions result.items }
+    {
+        let moment = self.moment_at(now);
+        let Some(held) = self.held(slot, moment) else {
+            return ArrayVec::new();
+        };
+        held.permissions.at(moment).into_rows()
+    }
+
+    /// Returns the channels at a slot that count at a moment. A slot without an allocation has none.
+    pub fn channels(&self, slot: usize, now: u64) -> ArrayVec<Channel, MAX_CHANNELS>
+        ensures channels { channels_of result.items ≡ channels_at_slot slot (rows_at now self.now) }
+        ensures distinct { AreChannels result.items }
+    {
+        let moment = self.moment_at(now);
+        let Some(held) = self.held(slot, moment) else {
+            return ArrayVec::new();
+        };
+        held.channels.at(moment).into_rows()
+    }
+}
