@@ -2,3 +2,5 @@
 pub mod Records
 pub mod Nothing
 pub mod NothingLaws
+pub mod LookUps
+pub mod LawfulLaws

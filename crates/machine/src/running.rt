@@ -2,7 +2,7 @@
 
 ghost use Rattle.std.specs.Prelude.{◌≡◌, ◌≤◌, true, length};
 ghost use Rattle.machine.specs.Contents.{datagram_of};
-ghost use Rattle.machine.specs.Tracing.{safe_run_of, IsOutcome, left_by, Shows};
+ghost use Rattle.machine.specs.Tracing.{run_of, safe_run_of, IsOutcome, left_by, Shows};
 
 use crate::frame::Frame;
 use crate::outcome::Outcome;
@@ -19,6 +19,8 @@ pub fn run<H: Helpers>(program: &Verified, frame: &mut Frame, helpers: &H) -> Ou
     ensures outcome { IsOutcome result (safe_run_of program.now frame.old (H.answers helpers.now)) }
     ensures steps { result.steps ≤ length program.now }
     ensures left { frame.new ≡ left_by frame.old (safe_run_of program.now frame.old (H.answers helpers.now)) }
+    ensures whole { run_of program.now frame.old (H.answers helpers.now)
+        ≡ safe_run_of program.now frame.old (H.answers helpers.now) }
     ensures shows { Shows frame.new (length (datagram_of frame.old))
         (safe_run_of program.now frame.old (H.answers helpers.now)) }
 {

@@ -272,3 +272,15 @@ channel_of-number slot peer rows number are =
       | None ↦ λ is there. absurd (none-some number there)
       | Some held ↦ λ is there. number_bound slot number held peer (find (λ e. is_same_address peer e.1.peer) (entries held.channels)) (are.held slot held is) refl there
     ] refl
+
+number_of_bound : (slot number : ℕ) (held : Held) (peer : Addr) (o : Option Binding) → IsHeldAt slot held → get held.channels number ≡ o → option_map (λ b. b.peer) o ≡ Some peer → IsChannelNumber number
+number_of_bound slot number held peer None is at there = absurd (none-some peer there)
+number_of_bound slot number held peer (Some binding) is at there = (is.channels number binding at).in_range
+
+-- a number that is bound is one of the numbers of channels
+pub peer_of-number : (slot number : ℕ) (rows : Rows) (peer : Addr) → AreWellFormed rows → peer_of slot number rows ≡ Some peer → IsChannelNumber number
+peer_of-number slot number rows peer are =
+    elim (held_in rows slot) as (λ o. held_in rows slot ≡ o → option_and_then (λ held. option_map (λ b. b.peer) (get held.channels number)) o ≡ Some peer → IsChannelNumber number) [
+      | None ↦ λ is there. absurd (none-some peer there)
+      | Some held ↦ λ is there. number_of_bound slot number held peer (get held.channels number) (are.held slot held is) refl there
+    ] refl

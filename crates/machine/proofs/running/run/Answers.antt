@@ -2,7 +2,7 @@ use Rattle.std.proofs.Common.{◌≡◌, ◌≤◌, ℕ, List, length, sym, ap, 
 use Rattle.insn.specs.declared.instruction.Insn.{Insn}
 use Rattle.semantics.specs.Runs.{Run, IsSafe}
 use Rattle.machine.specs.Contents.{datagram_of}
-use Rattle.machine.specs.Tracing.{IsOutcome, Shows, environment_of, safe_run_of, left_by}
+use Rattle.machine.specs.Tracing.{IsOutcome, Shows, environment_of, run_of, safe_run_of, left_by}
 use Rattle.machine.proofs.SafeRuns.{no_step_past, never_stuck, few_steps}
 use Rattle.machine.proofs.running.run.Goals as goal
 
@@ -51,3 +51,12 @@ returns-clause-shows g c =
     let same = no_step_past w c.code.result.now (datagram_of c.args.frame.now) safe (record { context = walked.context; helpers = g.H.Helpers.lawful c.args.helpers.now }) walked.datagram in
     subst (λ (code : List Insn). Shows c.execute_frame.new.frame size (safe_run_of code c.args.frame.now answers)) c.code.ensures.code
     (subst (Shows c.execute_frame.new.frame size) same walked.shows)
+
+pub returns-clause-whole : goal.returns-clause-whole
+returns-clause-whole g c =
+    let walked = c.in-Ok.ensures in
+    let answers = g.H.Helpers.answers c.args.helpers.now in
+    let w = environment_of c.args.frame.now answers in
+    let safe : IsSafe c.code.result.now = subst IsSafe (sym c.code.ensures.code) c.code.ensures.safe in
+    let same = no_step_past w c.code.result.now (datagram_of c.args.frame.now) safe (record { context = walked.context; helpers = g.H.Helpers.lawful c.args.helpers.now }) walked.datagram in
+    subst (λ (code : List Insn). run_of code c.args.frame.now answers ≡ safe_run_of code c.args.frame.now answers) c.code.ensures.code same
