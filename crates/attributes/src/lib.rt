@@ -5,6 +5,7 @@ mod address;
 mod error;
 mod number;
 mod refusal;
+mod text;
 
 pub use address::{
     Addr, addresses_are_unique, is_address, push_xor_addr, read_back, read_xor_addr,

@@ -1,13 +1,11 @@
 -- Meaning. Configurations, and the first of their fields that is outside its limits.
 use Rattle.std.specs.Prelude.{ℕ, ◌+◌, Bool, true, not, ◌&&◌, List, [], ◌∷◌, length, find, ◌==◌, nat_le, bytes_eq, string_bytes, Option}
 use Rattle.std.specs.List.{list_all, list_any}
+use Rattle.stun.specs.Ranges.{is_between}
 use Rattle.credentials.specs.declared.checking.User.{User}
 use Rattle.control.specs.declared.config.Config.{Config}
 use Rattle.control.specs.declared.config.Field.{Field}
 use Rattle.control.specs.declared.config.Field.TheVariants.{FirstPort, Slots, Realm, Nonce, Users}
-
-abbrev pub is_between : ℕ → ℕ → ℕ → Bool
-is_between low high n = nat_le low n && nat_le n high
 
 -- printable bytes from the lowest on, at least one of them
 abbrev pub is_text : ℕ → ℕ → List ℕ → Bool

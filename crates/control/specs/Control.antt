@@ -5,6 +5,7 @@ use Rattle.std.specs.Prelude.{◌≡◌, ℕ, ◌<◌, Bool, true, false, ◌&&�
 use Rattle.std.specs.List.{list_all}
 use Rattle.stun.specs.Attributes.{values_of}
 use Rattle.stun.specs.Messages.{Parts, message_of}
+use Rattle.stun.specs.Ranges.{is_between}
 use Rattle.stun.specs.declared.registry.attribute.TheConstants.{CHANNEL_NUMBER, LIFETIME, XOR_PEER_ADDRESS, REQUESTED_ADDRESS_FAMILY, REQUESTED_TRANSPORT}
 use Rattle.stun.specs.declared.registry.family.TheConstants.{IPV4}
 use Rattle.stun.specs.declared.registry.ErrorCode.{ErrorCode}
@@ -24,7 +25,6 @@ use Rattle.tables.specs.LookUps.{allocation_of}
 use Rattle.tables.specs.declared.allocation.Allocation.{Allocation}
 use Rattle.tables.specs.declared.refusal.Refused.{Refused}
 use Rattle.tables.specs.declared.refusal.Refused.TheVariants.{Mismatch, Capacity, Conflict, NoAllocation}
-use Rattle.control.specs.Configs.{is_between}
 use Rattle.control.specs.Unknown.{unknown_types}
 use Rattle.control.specs.Values.{is_ipv4, optional, required}
 use Rattle.control.specs.declared.allocate.TheConstants.{UDP}

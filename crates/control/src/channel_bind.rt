@@ -2,7 +2,7 @@
 
 ghost use Rattle.std.specs.Prelude.{◌≡◌, length};
 ghost use Rattle.tables.specs.Rows.{rows_at};
-ghost use Rattle.control.specs.Configs.{is_between};
+ghost use Rattle.stun.specs.Ranges.{is_between};
 ghost use Rattle.control.specs.Control.{Gives, channel_bind};
 
 use crate::owning::{error_of, own_allocation};

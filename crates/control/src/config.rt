@@ -2,7 +2,8 @@
 
 ghost use Rattle.std.specs.Prelude.{◌≡◌};
 ghost use Rattle.std.specs.List.{list_all};
-ghost use Rattle.control.specs.Configs.{is_between, is_text, is_user, has_name, are_distinct};
+ghost use Rattle.stun.specs.Ranges.{is_between};
+ghost use Rattle.control.specs.Configs.{is_text, is_user, has_name, are_distinct};
 
 use arrayvec::ArrayString;
 use credentials::User;

@@ -67,8 +67,8 @@ impl<'a> Message<'a> {
     pub fn attribute_bytes(&self) -> &'a [u8]
         ensures { result.now ≡ attributes_bytes self.now.attributes }
     {
-        let (_, attributes) = self.bytes.split_at(HEADER_BYTES);
-        attributes
+        let (_, body) = self.bytes.split_at(HEADER_BYTES);
+        body
     }
 
     /// Returns an iterator over the attributes up to and including the first MESSAGE-INTEGRITY: what follows

@@ -2,7 +2,7 @@ use Rattle.std.proofs.Common.{take}
 use Rattle.std.specs.Fmt.{HasWritten, IsPlainFormatter}
 use Rattle.std.specs.List.{flat_map}
 use Rattle.attributes.specs.AddressTexts.{hex_digits}
-use Rattle.attributes.proofs.address.HexBytesDisplay.fmt.Given as goal
+use Rattle.attributes.proofs.text.HexBytesDisplay.fmt.Given as goal
 
 abbrev pub invariant-loop-byte : goal.invariant-loop-byte
 invariant-loop-byte g l =

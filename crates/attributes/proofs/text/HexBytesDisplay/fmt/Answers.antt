@@ -3,7 +3,7 @@ use Rattle.std.specs.List.{flat_map}
 use Rattle.std.proofs.lemmas.List.{flat_map_more, take_more}
 use Rattle.std.proofs.Output.{has_written_append, has_written_of_eq}
 use Rattle.attributes.specs.AddressTexts.{hex_digits}
-use Rattle.attributes.proofs.address.HexBytesDisplay.fmt.Goals as goal
+use Rattle.attributes.proofs.text.HexBytesDisplay.fmt.Goals as goal
 
 one_more : (bytes : List ℕ) (i : ℕ) → i < length bytes → flat_map hex_digits (take i bytes) ++ hex_digits (get_or bytes i 0) ≡ flat_map hex_digits (take (i + 1) bytes)
 one_more bytes i inside = flat_map_more hex_digits [] (take i bytes) (get_or bytes i 0) ∙ ap (flat_map hex_digits) (sym (take_more bytes i 0 inside))

@@ -1,7 +1,7 @@
 use Rattle.std.proofs.Common.{◌<◌, false, arith, rules}
 use Rattle.std.proofs.Output.{has_written_of_eq}
 use Rattle.std.proofs.lemmas.Fmt.{hex_byte}
-use Rattle.attributes.proofs.address.HexByteDisplay.fmt.Goals as goal
+use Rattle.attributes.proofs.text.HexByteDisplay.fmt.Goals as goal
 
 pub returns-clause-writes : goal.returns-clause-writes
 returns-clause-writes g c = λ p ok.
