@@ -12,6 +12,7 @@ ghost use Rattle.credentials.specs.Signs.{signed};
 
 use attributes::{Addr, push_error, push_xor_addr, write_error, write_unknown, write_xor_addr};
 use credentials::{Key, push_integrity};
+use std::process::Abort;
 use std::test::Fail;
 use stun::registry::attribute::{LIFETIME, NONCE, REALM, XOR_MAPPED_ADDRESS, XOR_RELAYED_ADDRESS};
 use stun::registry::{Class, ErrorCode, MessageType, Method};
@@ -75,8 +76,8 @@ const BINDING_SUCCESS: [u8; 32] = [
     0x00, 0x00, 0x00, 0x00, 0x00, 0x20, 0x00, 0x08, 0x00, 0x01, 0x2e, 0xb2, 0xe7, 0x21, 0xc0, 0x40,
 ];
 
-#[test]
-fn a_binding_success_is_built(rt: HostRuntime) -> Result<(), Fail> {
+/// Checks a success that is built.
+fn check_binding_success(rt: &impl Abort) -> Result<(), Fail> {
     let mut buffer = [0xff; 32];
     let mut builder = Builder::start(&mut buffer, kind(Method::Binding, Class::Success), ZERO_ID)?;
     let client = Addr::V4 {
@@ -97,8 +98,8 @@ const ALLOCATE_ERROR: [u8; 64] = [
     0x72, 0x65, 0x6c, 0x61, 0x79, 0x00, 0x00, 0x00, 0x00, 0x15, 0x00, 0x02, 0x6e, 0x31, 0x00, 0x00,
 ];
 
-#[test]
-fn a_demand_for_credentials_is_built(rt: HostRuntime) -> Result<(), Fail> {
+/// Checks a demand for credentials that is built.
+fn check_demand(rt: &impl Abort) -> Result<(), Fail> {
     let mut buffer = [0xff; 64];
     let mut builder = Builder::start(&mut buffer, kind(Method::Allocate, Class::Error), ZERO_ID)?;
     write_error(&mut builder, ErrorCode::Unauthenticated)?;
@@ -109,8 +110,8 @@ fn a_demand_for_credentials_is_built(rt: HostRuntime) -> Result<(), Fail> {
     Ok(())
 }
 
-#[test]
-fn the_same_demand_is_pushed(rt: HostRuntime) {
+/// Checks the same demand, pushed.
+fn check_pushed_demand(rt: &impl Abort) {
     let mut buffer = [0xff; 1500];
     let n = demand(&mut buffer, &ZERO_ID, b"relay", b"n1");
     assert_eq!(rt; n, 64);
@@ -125,8 +126,8 @@ const BINDING_ERROR: [u8; 56] = [
     0x00, 0x0a, 0x00, 0x02, 0x00, 0x1a, 0x00, 0x00,
 ];
 
-#[test]
-fn an_error_that_names_unknown_attributes_is_built(rt: HostRuntime) -> Result<(), Fail> {
+/// Checks an error that names an attribute which isn't understood.
+fn check_unknown_attribute(rt: &impl Abort) -> Result<(), Fail> {
     let mut buffer = [0xff; 56];
     let mut builder = Builder::start(&mut buffer, kind(Method::Binding, Class::Error), ZERO_ID)?;
     write_error(&mut builder, ErrorCode::UnknownAttribute)?;
@@ -144,8 +145,8 @@ const ALLOCATE_SUCCESS: [u8; 64] = [
     0xd7, 0x09, 0x1f, 0x97, 0x95, 0xa2, 0x2b, 0x3f, 0x96, 0x1c, 0xb4, 0x4b, 0x6f, 0x1b, 0x8a, 0xb7,
 ];
 
-#[test]
-fn a_signed_grant_is_pushed(rt: HostRuntime) {
+/// Checks a signed grant, pushed.
+fn check_pushed_grant(rt: &impl Abort) {
     let mut buffer = [0xff; 1500];
     let relayed = Addr::V4 {
         ip: [198, 51, 100, 2],
@@ -155,4 +156,14 @@ fn a_signed_grant_is_pushed(rt: HostRuntime) {
     let n = grant(&mut buffer, &ZERO_ID, &relayed, 600, &key);
     assert_eq!(rt; n, 64);
     assert!(rt; buffer.starts_with(&ALLOCATE_SUCCESS));
+}
+
+#[test]
+fn replies_are_built_byte_for_byte(rt: HostRuntime) -> Result<(), Fail> {
+    check_binding_success(&rt)?;
+    check_demand(&rt)?;
+    check_pushed_demand(&rt);
+    check_unknown_attribute(&rt)?;
+    check_pushed_grant(&rt);
+    Ok(())
 }

@@ -87,8 +87,16 @@ fn refusal<R: AllocGlobal>(rt: &R, datagram: &[u8], users: &[User]) -> Result<St
     }
 }
 
+/// Returns the code of the refusal of a lifetime.
+fn refusal_of_value<R: AllocGlobal>(rt: &R, value: &[u8]) -> Result<String, Fail> {
+    match lifetime(value) {
+        Ok(_) => Ok(String::from_str(rt.alloc(), "accepted")?),
+        Err(error) => Ok(format!(in rt.alloc(); "{error}")?),
+    }
+}
+
 #[test]
-fn the_smallest_datagrams_are_refused(rt: HostRuntime) -> Result<(), Fail> {
+fn the_smallest_datagrams_and_values_are_refused(rt: HostRuntime) -> Result<(), Fail> {
     let users = [User {
         name: String::from_str(rt.alloc(), "user")?,
         password: String::from_str(rt.alloc(), "password")?,
@@ -97,18 +105,8 @@ fn the_smallest_datagrams_are_refused(rt: HostRuntime) -> Result<(), Fail> {
         let found = refusal(&rt, &bytes_of(&rt, hex)?, &users)?;
         assert_eq!(rt; found.as_str(), code, "{hex}");
     }
-    Ok(())
-}
-
-#[test]
-fn the_smallest_value_is_refused(rt: HostRuntime) -> Result<(), Fail> {
     let Smallest { code, hex } = VALUE;
-    match lifetime(&bytes_of(&rt, hex)?) {
-        Ok(_) => assert!(rt; false),
-        Err(error) => {
-            let found = format!(in rt.alloc(); "{error}")?;
-            assert_eq!(rt; found.as_str(), code);
-        }
-    }
+    let found = refusal_of_value(&rt, &bytes_of(&rt, hex)?)?;
+    assert_eq!(rt; found.as_str(), code, "{hex}");
     Ok(())
 }

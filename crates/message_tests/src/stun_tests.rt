@@ -10,15 +10,15 @@ mod values;
 use stun::read;
 
 /// An attribute that a message must have.
-#[derive(Drop)]
-pub struct Part<'a> {
+#[derive(Clone, Copy)]
+pub struct Part {
     pub kind: u16,
-    pub value: &'a [u8],
+    pub value: &'static [u8],
 }
 
 /// Whether the bytes are a message of this type and id, with exactly these attributes up to its
 /// MESSAGE-INTEGRITY.
-pub fn reads_as(bytes: &[u8], kind: u16, tx: &[u8], parts: &[Part<'_>]) -> bool {
+pub fn reads_as(bytes: &[u8], kind: u16, tx: &[u8], parts: &[Part]) -> bool {
     let Ok(message) = read(bytes) else {
         return false;
     };

@@ -6,24 +6,6 @@ use attributes::{
     requested_family, requested_transport,
 };
 
-#[test]
-fn addresses_are_read(rt: HostRuntime) {
-    for row in ADDRESSES {
-        assert_eq!(rt; read_xor_addr(row.value, &row.tx), Ok(row.address));
-    }
-}
-
-#[test]
-fn the_first_byte_of_an_address_is_ignored(rt: HostRuntime) {
-    let address = Addr::V4 {
-        ip: [198, 51, 100, 2],
-        port: 4000,
-    };
-    let value = [0xff, 0x01, 0x2e, 0xb2, 0xe7, 0x21, 0xc0, 0x40];
-    assert_eq!(rt; read_xor_addr(&value, &ZERO_ID), Ok(address));
-    assert_eq!(rt; read_back(&address, &ZERO_ID, &value), Ok(address));
-}
-
 /// No family, nine bytes, family 3, and each family with the length of the other.
 const MALFORMED: [&[u8]; 6] = [
     &[],
@@ -35,44 +17,105 @@ const MALFORMED: [&[u8]; 6] = [
 ];
 
 #[test]
-fn malformed_addresses_are_refused(rt: HostRuntime) {
+fn addresses_are_read(rt: HostRuntime) {
+    for (index, row) in ADDRESSES.iter().enumerate() {
+        assert_eq!(rt;
+            read_xor_addr(row.value, &row.tx),
+            Ok(row.address),
+            "row {index}"
+        );
+    }
     for value in MALFORMED {
         assert_eq!(rt;
             read_xor_addr(value, &ZERO_ID),
-            Err(BadValue(ValueKind::Address))
+            Err(BadValue(ValueKind::Address)),
+            "{value:?}"
         );
+    }
+    // the first byte is ignored
+    let address = Addr::V4 {
+        ip: [198, 51, 100, 2],
+        port: 4000,
+    };
+    let value = [0xff, 0x01, 0x2e, 0xb2, 0xe7, 0x21, 0xc0, 0x40];
+    assert_eq!(rt; read_xor_addr(&value, &ZERO_ID), Ok(address));
+    assert_eq!(rt; read_back(&address, &ZERO_ID, &value), Ok(address));
+}
+
+/// Returns the number that a value of a kind is read as.
+fn number_of(kind: ValueKind, value: &[u8]) -> Result<u32, BadValue> {
+    match kind {
+        ValueKind::Lifetime => lifetime(value),
+        ValueKind::ChannelNumber => Ok(u32::from(channel_number(value)?)),
+        ValueKind::RequestedTransport => Ok(u32::from(requested_transport(value)?)),
+        ValueKind::RequestedFamily => Ok(u32::from(requested_family(value)?)),
+        ValueKind::Address => Err(BadValue(kind)),
     }
 }
 
-#[test]
-fn lifetimes_are_read(rt: HostRuntime) {
-    assert_eq!(rt; lifetime(&[0, 0, 0x02, 0x58]), Ok(600));
-    assert_eq!(rt; lifetime(&[0, 0, 2]), Err(BadValue(ValueKind::Lifetime)));
+/// A value of a kind, and its number, if it has one.
+#[derive(Clone, Copy)]
+struct NumberRow {
+    kind: ValueKind,
+    value: &'static [u8],
+    number: Option<u32>,
 }
 
-#[test]
-fn channel_numbers_are_read(rt: HostRuntime) {
-    assert_eq!(rt; channel_number(&[0x40, 0x01, 0xff, 0xff]), Ok(0x4001));
-    assert_eq!(rt;
-        channel_number(&[0x40, 0x01]),
-        Err(BadValue(ValueKind::ChannelNumber))
-    );
-}
+const NUMBERS: [NumberRow; 8] = [
+    NumberRow {
+        kind: ValueKind::Lifetime,
+        value: &[0, 0, 0x02, 0x58],
+        number: Some(600),
+    },
+    NumberRow {
+        kind: ValueKind::Lifetime,
+        value: &[0, 0, 2],
+        number: None,
+    },
+    NumberRow {
+        kind: ValueKind::ChannelNumber,
+        value: &[0x40, 0x01, 0xff, 0xff],
+        number: Some(0x4001),
+    },
+    NumberRow {
+        kind: ValueKind::ChannelNumber,
+        value: &[0x40, 0x01],
+        number: None,
+    },
+    NumberRow {
+        kind: ValueKind::RequestedTransport,
+        value: &[17, 1, 2, 3],
+        number: Some(17),
+    },
+    NumberRow {
+        kind: ValueKind::RequestedTransport,
+        value: &[17],
+        number: None,
+    },
+    NumberRow {
+        kind: ValueKind::RequestedFamily,
+        value: &[3, 0, 0, 0],
+        number: Some(3),
+    },
+    NumberRow {
+        kind: ValueKind::RequestedFamily,
+        value: &[1, 0, 0, 0, 0],
+        number: None,
+    },
+];
 
 #[test]
-fn transports_are_read(rt: HostRuntime) {
-    assert_eq!(rt; requested_transport(&[17, 1, 2, 3]), Ok(17));
-    assert_eq!(rt;
-        requested_transport(&[17]),
-        Err(BadValue(ValueKind::RequestedTransport))
-    );
-}
-
-#[test]
-fn families_are_read(rt: HostRuntime) {
-    assert_eq!(rt; requested_family(&[3, 0, 0, 0]), Ok(3));
-    assert_eq!(rt;
-        requested_family(&[1, 0, 0, 0, 0]),
-        Err(BadValue(ValueKind::RequestedFamily))
-    );
+fn numbers_are_read(rt: HostRuntime) {
+    for row in NUMBERS {
+        let NumberRow {
+            kind,
+            value,
+            number,
+        } = row;
+        assert_eq!(rt;
+            number_of(kind, value),
+            number.ok_or(BadValue(kind)),
+            "{kind:?} {value:?}"
+        );
+    }
 }

@@ -2,6 +2,8 @@
 
 use crate::attributes_tests::{ADDRESSES, ZERO_ID};
 use attributes::{write_error, write_unknown, write_xor_addr};
+use std::alloc::Global;
+use std::process::Abort;
 use std::test::Fail;
 use stun::registry::ErrorCode;
 use stun::registry::attribute::XOR_RELAYED_ADDRESS;
@@ -15,18 +17,21 @@ fn attributes<'b>(builder: &'b Builder<'_>) -> &'b [u8] {
     }
 }
 
-#[test]
-fn addresses_are_written(rt: HostRuntime) -> Result<(), Fail> {
-    for row in ADDRESSES {
+/// Checks the attribute of each address.
+fn check_addresses(rt: &impl Abort) -> Result<(), Fail> {
+    for (index, row) in ADDRESSES.iter().enumerate() {
         let mut buffer = [0xff; 44];
         let mut builder = Builder::start(&mut buffer, 0x0101, row.tx)?;
         write_xor_addr(&mut builder, XOR_RELAYED_ADDRESS, &row.address)?;
         let written = attributes(&builder);
-        assert_eq!(rt; written.len(), 4 + row.value.len());
+        assert_eq!(rt; written.len(), 4 + row.value.len(), "row {index}");
         let (front, written) = written.split_at(4);
         assert!(rt; row.value.len() < 256);
-        assert!(rt; front == [0x00, 0x16, 0x00, row.value.len() as u8].as_slice());
-        assert!(rt; written == row.value);
+        assert!(rt;
+            front == [0x00, 0x16, 0x00, row.value.len() as u8].as_slice(),
+            "row {index}"
+        );
+        assert!(rt; written == row.value, "row {index}");
     }
     Ok(())
 }
@@ -49,13 +54,14 @@ const ERRORS: [ErrorRow; 2] = [
     },
 ];
 
-#[test]
-fn errors_are_written(rt: HostRuntime) -> Result<(), Fail> {
+/// Checks the attribute of each of these errors.
+fn check_errors(rt: &impl Abort) -> Result<(), Fail> {
     for row in ERRORS {
+        let error = row.error;
         let mut buffer = [0xff; 60];
         let mut builder = Builder::start(&mut buffer, 0x0113, ZERO_ID)?;
-        write_error(&mut builder, row.error)?;
-        assert!(rt; attributes(&builder) == row.attribute);
+        write_error(&mut builder, error)?;
+        assert!(rt; attributes(&builder) == row.attribute, "{error:?}");
     }
     Ok(())
 }
@@ -88,19 +94,20 @@ const UNKNOWN: [UnknownRow; 4] = [
     },
 ];
 
-#[test]
-fn unknown_types_are_written(rt: HostRuntime) -> Result<(), Fail> {
+/// Checks the attribute that names each of these lists of types.
+fn check_unknown(rt: &impl Abort) -> Result<(), Fail> {
     for row in UNKNOWN {
+        let kinds = row.kinds;
         let mut buffer = [0xff; 40];
         let mut builder = Builder::start(&mut buffer, 0x0111, ZERO_ID)?;
-        write_unknown(&mut builder, row.kinds)?;
-        assert!(rt; attributes(&builder) == row.attribute);
+        write_unknown(&mut builder, kinds)?;
+        assert!(rt; attributes(&builder) == row.attribute, "{kinds:?}");
     }
     Ok(())
 }
 
-#[test]
-fn what_has_no_room_changes_nothing(rt: HostRuntime) -> Result<(), Fail> {
+/// Checks that what has no room changes nothing.
+fn check_no_room(rt: &impl Abort) -> Result<(), Fail> {
     let mut buffer = [0xff; 31];
     let mut builder = Builder::start(&mut buffer, 0x0111, ZERO_ID)?;
     assert_eq!(rt;
@@ -117,14 +124,23 @@ fn what_has_no_room_changes_nothing(rt: HostRuntime) -> Result<(), Fail> {
     Ok(())
 }
 
-#[test]
-fn a_list_of_types_stops_at_the_greatest_length(rt: HostRuntime) -> Result<(), Fail> {
-    let mut buffer: Vec<u8> = vec![in rt.alloc(); 0; 70000]?;
-    let kinds: Vec<u16> = vec![in rt.alloc(); 1; 32765]?;
+/// Checks that a list of types stops at the greatest length of a message.
+fn check_longest_list(rt: &impl Abort, alloc: Global) -> Result<(), Fail> {
+    let mut buffer: Vec<u8> = vec![in alloc; 0; 70000]?;
+    let kinds: Vec<u16> = vec![in alloc; 1; 32765]?;
     let mut builder = Builder::start(buffer.as_mut_slice(), 0x0111, ZERO_ID)?;
     assert_eq!(rt; write_unknown(&mut builder, kinds.as_slice()), Err(NoRoom));
     let (most, _) = kinds.split_at(32764);
     write_unknown(&mut builder, most)?;
     assert_eq!(rt; builder.written().len(), 65552);
     Ok(())
+}
+
+#[test]
+fn values_are_written(rt: HostRuntime) -> Result<(), Fail> {
+    check_addresses(&rt)?;
+    check_errors(&rt)?;
+    check_unknown(&rt)?;
+    check_no_room(&rt)?;
+    check_longest_list(&rt, rt.alloc())
 }

@@ -2,6 +2,7 @@
 
 use crate::stun_tests::samples::LONG_TERM_REQUEST;
 use credentials::{AuthError, Key, User, authenticate, check, sign};
+use std::alloc::Global;
 use std::process::Abort;
 use std::test::Fail;
 use stun::registry::attribute::{MESSAGE_INTEGRITY, NONCE as NONCE_TYPE, REALM, USERNAME};
@@ -11,10 +12,10 @@ use stun::{Builder, NoRoom, read};
 /// the password `TheMatrIX`, its realm `example.org`.
 const NONCE: &str = "f//499k954d6OL34oL9FSTvy64sA";
 
-fn user(rt: &HostRuntime, name: &str, password: &str) -> Result<User, Fail> {
+fn user(alloc: Global, name: &str, password: &str) -> Result<User, Fail> {
     Ok(User {
-        name: String::from_str(rt.alloc(), name)?,
-        password: String::from_str(rt.alloc(), password)?,
+        name: String::from_str(alloc, name)?,
+        password: String::from_str(alloc, password)?,
     })
 }
 
@@ -67,27 +68,19 @@ static SAMPLES: [Sample; 5] = [
 ];
 
 /// Checks the sample request against the user of a row, behind another user.
-fn sample_result(rt: &HostRuntime, sample: &Sample) -> Result<Result<usize, AuthError>, Fail> {
+fn sample_result(alloc: Global, sample: &Sample) -> Result<Result<usize, AuthError>, Fail> {
     let message = read(&LONG_TERM_REQUEST)?;
     let users = [
-        user(rt, "other", "word")?,
-        user(rt, sample.name, sample.password)?,
+        user(alloc, "other", "word")?,
+        user(alloc, sample.name, sample.password)?,
     ];
     Ok(check(&message, sample.realm, &users, sample.nonce))
 }
 
-#[test]
-fn the_sample_request_is_checked(rt: HostRuntime) -> Result<(), Fail> {
-    for sample in SAMPLES.iter() {
-        assert_eq!(rt; sample_result(&rt, sample)?, sample.want);
-    }
-    Ok(())
-}
-
-#[test]
-fn the_sample_request_has_its_key(rt: HostRuntime) -> Result<(), Fail> {
+/// Checks that the sample request has its key.
+fn check_sample_key(rt: &impl Abort, alloc: Global) -> Result<(), Fail> {
     let message = read(&LONG_TERM_REQUEST)?;
-    let users = [user(&rt, "マトリックス", "TheMatrIX")?];
+    let users = [user(alloc, "マトリックス", "TheMatrIX")?];
     let authenticated = authenticate(&message, "example.org", &users, NONCE)?;
     // MD5 of the user, the realm and the password, with colons between them
     let key = [
@@ -98,8 +91,8 @@ fn the_sample_request_has_its_key(rt: HostRuntime) -> Result<(), Fail> {
     Ok(())
 }
 
-#[test]
-fn the_sample_request_is_signed_byte_for_byte(rt: HostRuntime) -> Result<(), Fail> {
+/// Checks that the sample request is signed byte for byte.
+fn check_sample_signed(rt: &impl Abort) -> Result<(), Fail> {
     let mut buffer = [0xff; 116];
     let id = [
         0x78, 0xad, 0x34, 0x33, 0xc6, 0xad, 0x72, 0xc0, 0x29, 0xda, 0x41, 0x2e,
@@ -115,7 +108,20 @@ fn the_sample_request_is_signed_byte_for_byte(rt: HostRuntime) -> Result<(), Fai
 }
 
 #[test]
-fn a_code_that_has_no_room_changes_nothing(rt: HostRuntime) -> Result<(), Fail> {
+fn the_sample_request_is_checked_and_signed(rt: HostRuntime) -> Result<(), Fail> {
+    for (index, sample) in SAMPLES.iter().enumerate() {
+        assert_eq!(rt;
+            sample_result(rt.alloc(), sample)?,
+            sample.want,
+            "row {index}"
+        );
+    }
+    check_sample_key(&rt, rt.alloc())?;
+    check_sample_signed(&rt)
+}
+
+/// Checks that a code which has no room changes nothing.
+fn check_no_room(rt: &impl Abort) -> Result<(), Fail> {
     let mut buffer = [0xff; 43];
     let mut builder = Builder::start(&mut buffer, 0x0001, [7; 12])?;
     assert_eq!(rt; sign(&mut builder, &Key::of("u", "r", "p")), Err(NoRoom));
@@ -388,18 +394,9 @@ fn result_of<R: Abort>(
     Ok(check(&message, "relay", users, "n1"))
 }
 
-#[test]
-fn the_first_test_that_fails_is_answered(rt: HostRuntime) -> Result<(), Fail> {
-    let users = [user(&rt, "user", "pass")?, user(&rt, "user", "word")?];
-    for case in CASES.iter() {
-        assert_eq!(rt; result_of(&rt, case, &users)?, case.want);
-    }
-    Ok(())
-}
-
-#[test]
-fn a_changed_byte_is_noticed(rt: HostRuntime) -> Result<(), Fail> {
-    let users = [user(&rt, "user", "pass")?];
+/// Checks that a message with a changed byte has a wrong code.
+fn check_changed_bytes(rt: &impl Abort, alloc: Global) -> Result<(), Fail> {
+    let users = [user(alloc, "user", "pass")?];
     let mut buffer = [0; 72];
     let n = written(&mut buffer, &CASES[0])?;
     assert_eq!(rt; n, 72);
@@ -410,8 +407,22 @@ fn a_changed_byte_is_noticed(rt: HostRuntime) -> Result<(), Fail> {
         let message = read(&bytes)?;
         assert_eq!(rt;
             check(&message, "relay", &users, "n1"),
-            Err(AuthError::WrongCode)
+            Err(AuthError::WrongCode),
+            "byte {i}"
         );
     }
     Ok(())
+}
+
+#[test]
+fn the_first_test_that_fails_is_answered(rt: HostRuntime) -> Result<(), Fail> {
+    let users = [
+        user(rt.alloc(), "user", "pass")?,
+        user(rt.alloc(), "user", "word")?,
+    ];
+    for (index, case) in CASES.iter().enumerate() {
+        assert_eq!(rt; result_of(&rt, case, &users)?, case.want, "case {index}");
+    }
+    check_changed_bytes(&rt, rt.alloc())?;
+    check_no_room(&rt)
 }

@@ -5,6 +5,7 @@ ghost use Rattle.std.specs.Prelude.{◌≤◌, length};
 use crate::stun_tests::samples::{IPV4_RESPONSE, IPV6_RESPONSE, REQUEST};
 use credentials::{Key, hmac_sha1};
 use sha1::Sha1;
+use std::process::Abort;
 use stun::read;
 
 /// A key of at most 64 bytes, the pieces of a message, and the code (RFC 2202, section 3, cases 1 to 5).
@@ -61,21 +62,12 @@ const CODES: [CodeRow; 5] = [
     },
 ];
 
-#[test]
-fn codes_are_those_of_the_standard(rt: HostRuntime) {
-    for row in CODES {
+/// Checks the code of each of these rows.
+fn check_codes(rt: &impl Abort) {
+    for (index, row) in CODES.iter().enumerate() {
         assert!(rt; row.key.len() <= 64);
-        assert_eq!(rt; hmac_sha1(row.key, row.pieces), row.code);
+        assert_eq!(rt; hmac_sha1(row.key, row.pieces), row.code, "row {index}");
     }
-}
-
-#[test]
-fn a_key_is_the_digest_of_user_realm_and_password(rt: HostRuntime) {
-    let key = [
-        0x84, 0x93, 0xfb, 0xc5, 0x3b, 0xa5, 0x82, 0xfb, 0x4c, 0x04, 0x4c, 0x45, 0x6b, 0xdc, 0x40,
-        0xeb,
-    ];
-    assert_eq!(rt; *Key::of("user", "realm", "pass").bytes(), key);
 }
 
 /// A key longer than a block, which is hashed before it is used (RFC 2104, section 2).
@@ -105,12 +97,13 @@ const CODES_UNDER_THE_LONG_KEY: [LongKeyRow; 2] = [
     },
 ];
 
-#[test]
-fn a_long_key_is_hashed_by_the_caller(rt: HostRuntime) {
-    for row in CODES_UNDER_THE_LONG_KEY {
+/// Checks the codes under the long key, which their caller hashes.
+fn check_codes_under_the_long_key(rt: &impl Abort) {
+    for (index, row) in CODES_UNDER_THE_LONG_KEY.iter().enumerate() {
         assert_eq!(rt;
             hmac_sha1(&Sha1::digest(&LONG_KEY), &[row.message]),
-            row.code
+            row.code,
+            "row {index}"
         );
     }
 }
@@ -135,10 +128,26 @@ fn codes_of<'a>(bytes: &'a [u8], key: &[u8]) -> Option<([u8; 20], &'a [u8])>
     Some((code, carried.value))
 }
 
-#[test]
-fn sample_messages_carry_their_codes(rt: HostRuntime) {
-    for sample in SAMPLES {
+/// Checks that each of these messages carries its code.
+fn check_samples(rt: &impl Abort) {
+    for (index, sample) in SAMPLES.iter().enumerate() {
         let codes = codes_of(sample, SAMPLE_PASSWORD);
-        assert!(rt; codes.is_some_and(|(made, carried)| made.as_slice() == carried));
+        assert!(rt;
+            codes.is_some_and(|(made, carried)| made.as_slice() == carried),
+            "row {index}"
+        );
     }
+}
+
+#[test]
+fn codes_and_keys_are_those_of_the_standards(rt: HostRuntime) {
+    check_codes(&rt);
+    check_codes_under_the_long_key(&rt);
+    check_samples(&rt);
+    // RFC 8489, section 9.2.2
+    let key = [
+        0x84, 0x93, 0xfb, 0xc5, 0x3b, 0xa5, 0x82, 0xfb, 0x4c, 0x04, 0x4c, 0x45, 0x6b, 0xdc, 0x40,
+        0xeb,
+    ];
+    assert_eq!(rt; *Key::of("user", "realm", "pass").bytes(), key);
 }

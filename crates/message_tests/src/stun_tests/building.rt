@@ -3,6 +3,8 @@
 ghost use Rattle.std.specs.Prelude.{◌≡◌, ◌<◌, take};
 ghost use Rattle.stun.specs.Messages.{parts_bytes, started, with_attribute};
 
+use std::alloc::Global;
+use std::process::Abort;
 use std::test::Fail;
 use stun::{Builder, NoRoom, begin, read_back};
 
@@ -20,8 +22,8 @@ fn reply(out: &mut [u8], tx: [u8; 12], value: &[u8]) -> usize
     builder.finish()
 }
 
-#[test]
-fn builds_a_binding_success(rt: HostRuntime) {
+/// Checks a Binding success, byte for byte.
+fn check_reply(rt: &impl Abort) {
     let mut out = [0xff; 40];
     let n = reply(&mut out, [0; 12], b"\x00\x01\x2e\xb2\xe7\x21\xc0\x40");
     assert_eq!(rt; n, 32);
@@ -33,8 +35,8 @@ fn builds_a_binding_success(rt: HostRuntime) {
     assert!(rt; out == want);
 }
 
-#[test]
-fn pads_with_zeros_and_counts_the_length_so_far(rt: HostRuntime) -> Result<(), Fail> {
+/// Checks that an attribute is padded with zeros, and that the header has the length so far.
+fn check_padding(rt: &impl Abort) -> Result<(), Fail> {
     let mut out = [0xff; 32];
     let mut builder = Builder::start(&mut out, 0x0111, [7; 12])?;
     assert!(rt;
@@ -52,18 +54,18 @@ fn pads_with_zeros_and_counts_the_length_so_far(rt: HostRuntime) -> Result<(), F
     Ok(())
 }
 
-#[test]
-fn has_no_room_for_a_header(rt: HostRuntime) {
+/// Checks that a buffer without room for a header is unchanged.
+fn check_short_buffer(rt: &impl Abort) {
     let mut out = [0xff; 19];
     assert!(rt; Builder::start(&mut out, 1, [0; 12]).is_err());
     assert!(rt; out == [0xff; 19]);
 }
 
-#[test]
-fn stops_at_the_greatest_length(rt: HostRuntime) -> Result<(), Fail> {
-    let mut out: Vec<u8> = vec![in rt.alloc(); 0; 70000]?;
-    let value: Vec<u8> = vec![in rt.alloc(); 1; 65528]?;
-    let longer: Vec<u8> = vec![in rt.alloc(); 1; 65529]?;
+/// Checks that a message stops at the greatest length.
+fn check_greatest_length(rt: &impl Abort, alloc: Global) -> Result<(), Fail> {
+    let mut out: Vec<u8> = vec![in alloc; 0; 70000]?;
+    let value: Vec<u8> = vec![in alloc; 1; 65528]?;
+    let longer: Vec<u8> = vec![in alloc; 1; 65529]?;
     let mut builder = Builder::start(out.as_mut_slice(), 1, [0; 12])?;
     assert!(rt; builder.attr(0x8022, longer.as_slice()) == Err(NoRoom));
     builder.attr(0x8022, value.as_slice())?;
@@ -71,4 +73,12 @@ fn stops_at_the_greatest_length(rt: HostRuntime) -> Result<(), Fail> {
     assert!(rt; builder.attr(0x8022, b"") == Err(NoRoom));
     assert!(rt; read_back(&builder).is_ok());
     Ok(())
+}
+
+#[test]
+fn messages_are_built(rt: HostRuntime) -> Result<(), Fail> {
+    check_reply(&rt);
+    check_padding(&rt)?;
+    check_short_buffer(&rt);
+    check_greatest_length(&rt, rt.alloc())
 }

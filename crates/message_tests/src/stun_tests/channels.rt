@@ -11,61 +11,57 @@ fn channel(bytes: &[u8]) -> Option<(u16, &[u8])> {
     }
 }
 
-/// A datagram, and the number and the data of the channel message that it encodes.
+/// A datagram, and the number and the data of the channel message that it begins with, if it does.
 #[derive(Clone, Copy)]
 struct ChannelRow {
     bytes: &'static [u8],
-    number: u16,
-    data: &'static [u8],
+    want: Option<(u16, &'static [u8])>,
 }
 
-const CHANNELS: [ChannelRow; 4] = [
+const CHANNELS: [ChannelRow; 8] = [
     ChannelRow {
         bytes: b"\x40\x01\x00\x03abc",
-        number: 0x4001,
-        data: b"abc",
+        want: Some((0x4001, b"abc")),
     },
     ChannelRow {
         bytes: b"\x40\x01\x00\x03abc\x00",
-        number: 0x4001,
-        data: b"abc",
+        want: Some((0x4001, b"abc")),
     },
     ChannelRow {
         bytes: b"\x50\x00\x00\x01a",
-        number: 0x5000,
-        data: b"a",
+        want: Some((0x5000, b"a")),
     },
     ChannelRow {
         bytes: b"\x7f\xff\x00\x00",
-        number: 0x7fff,
-        data: b"",
+        want: Some((0x7fff, b"")),
+    },
+    // a header cut short, data cut short
+    ChannelRow {
+        bytes: b"\x40\x01\x00",
+        want: None,
+    },
+    ChannelRow {
+        bytes: b"\x40\x01\x00\x04abc",
+        want: None,
+    },
+    // a number below and above those of channels
+    ChannelRow {
+        bytes: b"\x3f\xff\x00\x00",
+        want: None,
+    },
+    ChannelRow {
+        bytes: b"\x80\x00\x00\x00",
+        want: None,
     },
 ];
 
 #[test]
-fn reads_channel_data(rt: HostRuntime) {
+fn reads_channel_data(rt: HostRuntime) -> Result<(), Fail> {
     for row in CHANNELS {
-        assert!(rt; channel(row.bytes) == Some((row.number, row.data)));
+        let bytes = row.bytes;
+        assert!(rt; channel(bytes) == row.want, "{bytes:?}");
     }
-}
-
-/// A header cut short, data cut short, and a number below and above those of channels.
-const NO_CHANNELS: [&[u8]; 4] = [
-    b"\x40\x01\x00",
-    b"\x40\x01\x00\x04abc",
-    b"\x3f\xff\x00\x00",
-    b"\x80\x00\x00\x00",
-];
-
-#[test]
-fn reads_no_channel_data(rt: HostRuntime) {
-    for bytes in NO_CHANNELS {
-        assert!(rt; channel(bytes).is_none());
-    }
-}
-
-#[test]
-fn reads_the_longest_channel_data(rt: HostRuntime) -> Result<(), Fail> {
+    // the longest data, whole and cut short
     let mut bytes: Vec<u8> = vec![in rt.alloc(); 0xab; 4 + 0xffff]?;
     bytes[..4].copy_from_slice(b"\x40\x00\xff\xff");
     let (_, data) = bytes.split_at(4);

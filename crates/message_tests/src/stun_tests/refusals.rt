@@ -2,6 +2,7 @@
 
 use crate::stun_tests::samples::REQUEST;
 use crate::stun_tests::{Part, reads_as};
+use std::process::Abort;
 use std::test::Fail;
 use stun::{StunError, read};
 
@@ -18,15 +19,50 @@ const BINDING: [u8; 20] = [
     0x00, 0x01, 0x00, 0x00, 0x21, 0x12, 0xa4, 0x42, 0, 0, 0, 0, 0, 0, 0, 0, 0, 0, 0, 0,
 ];
 
-#[test]
-fn refuses_datagrams_shorter_than_a_header(rt: HostRuntime) {
-    assert!(rt; reads_as(&BINDING, 0x0001, &[0; 12], &[]));
-    assert_eq!(rt; refusal(&[0; 19]), Some(StunError::TooShort));
-    assert_eq!(rt; refusal(&[]), Some(StunError::TooShort));
-    // a first byte of 0x40 is no refusal of its own in them
-    let mut short = [0; 19];
-    short[0] = 0x40;
-    assert_eq!(rt; refusal(&short), Some(StunError::TooShort));
+/// A datagram, and what it is refused as.
+#[derive(Clone, Copy)]
+struct Refused {
+    bytes: &'static [u8],
+    want: StunError,
+}
+
+const REFUSED: [Refused; 5] = [
+    Refused {
+        bytes: &[0; 19],
+        want: StunError::TooShort,
+    },
+    Refused {
+        bytes: &[],
+        want: StunError::TooShort,
+    },
+    // a first byte of 0x40 is no refusal of its own in a short datagram
+    Refused {
+        bytes: &[0x40, 0, 0, 0, 0, 0, 0, 0, 0, 0, 0, 0, 0, 0, 0, 0, 0, 0, 0],
+        want: StunError::TooShort,
+    },
+    Refused {
+        bytes: &[
+            0x00, 0x01, 0x00, 0x04, 0x21, 0x12, 0xa4, 0x42, 0, 0, 0, 0, 0, 0, 0, 0, 0, 0, 0, 0,
+            0x80, 0x22, 0x00, 0x04,
+        ],
+        want: StunError::AttributeOverrun,
+    },
+    // after the MESSAGE-INTEGRITY
+    Refused {
+        bytes: &[
+            0x00, 0x01, 0x00, 0x08, 0x21, 0x12, 0xa4, 0x42, 0, 0, 0, 0, 0, 0, 0, 0, 0, 0, 0, 0,
+            0x00, 0x08, 0x00, 0x00, 0x80, 0x22, 0x00, 0x04,
+        ],
+        want: StunError::AttributeOverrun,
+    },
+];
+
+/// Checks the refusal of each of these datagrams.
+fn check_refused(rt: &impl Abort) {
+    for row in REFUSED {
+        let bytes = row.bytes;
+        assert_eq!(rt; refusal(bytes), Some(row.want), "{bytes:?}");
+    }
 }
 
 /// Bytes of the Binding request that are changed, and what it is then refused as.
@@ -71,37 +107,21 @@ const CHANGES: [Change; 8] = [
     },
 ];
 
-#[test]
-fn names_the_first_refusal(rt: HostRuntime) {
+/// Checks the first refusal of the Binding request with each of these changes.
+fn check_changes(rt: &impl Abort) {
     for change in CHANGES {
         let mut bytes = BINDING;
         for (at, byte) in change.bytes {
             assert!(rt; *at < 20);
             bytes[*at] = *byte;
         }
-        assert_eq!(rt; refusal(&bytes), Some(change.want));
+        assert_eq!(rt; refusal(&bytes), Some(change.want), "{bytes:?}");
     }
 }
 
-#[test]
-fn names_an_attribute_that_overruns(rt: HostRuntime) {
-    let overrun = [
-        0x00, 0x01, 0x00, 0x04, 0x21, 0x12, 0xa4, 0x42, 0, 0, 0, 0, 0, 0, 0, 0, 0, 0, 0, 0, 0x80,
-        0x22, 0x00, 0x04,
-    ];
-    assert_eq!(rt; refusal(&overrun), Some(StunError::AttributeOverrun));
-    let behind_integrity = [
-        0x00, 0x01, 0x00, 0x08, 0x21, 0x12, 0xa4, 0x42, 0, 0, 0, 0, 0, 0, 0, 0, 0, 0, 0, 0, 0x00,
-        0x08, 0x00, 0x00, 0x80, 0x22, 0x00, 0x04,
-    ];
-    assert_eq!(rt;
-        refusal(&behind_integrity),
-        Some(StunError::AttributeOverrun)
-    );
-}
-
-#[test]
-fn ignores_what_follows_the_integrity(rt: HostRuntime) {
+/// Checks that a message without attributes is read, and that what follows a MESSAGE-INTEGRITY is ignored.
+fn check_read(rt: &impl Abort) {
+    assert!(rt; reads_as(&BINDING, 0x0001, &[0; 12], &[]));
     let followed = [
         0x00, 0x01, 0x00, 0x0c, 0x21, 0x12, 0xa4, 0x42, 1, 2, 3, 4, 5, 6, 7, 8, 9, 10, 11, 12,
         0x00, 0x08, 0x00, 0x01, 0xff, 0x01, 0x02, 0x03, 0x00, 0x06, 0x00, 0x00,
@@ -120,8 +140,8 @@ fn ignores_what_follows_the_integrity(rt: HostRuntime) {
     );
 }
 
-#[test]
-fn names_the_refusal_of_each_prefix(rt: HostRuntime) {
+/// Checks the refusal of each prefix of the sample request.
+fn check_prefixes(rt: &impl Abort) {
     for n in 0..REQUEST.len() {
         let (front, _) = REQUEST.split_at(n);
         let want = if n < 20 {
@@ -146,8 +166,8 @@ fn changed(i: usize) -> Option<StunError> {
     }
 }
 
-#[test]
-fn names_the_refusal_of_each_changed_byte(rt: HostRuntime) {
+/// Checks the refusal of the sample request with each byte changed.
+fn check_changed_bytes(rt: &impl Abort) {
     for i in 0..REQUEST.len() {
         let mut bytes = REQUEST;
         bytes[i] ^= 0xff;
@@ -223,15 +243,24 @@ const LENGTHS: [Lengths; 9] = [
 ];
 
 #[test]
+fn names_the_first_refusal(rt: HostRuntime) {
+    check_read(&rt);
+    check_refused(&rt);
+    check_changes(&rt);
+    check_prefixes(&rt);
+    check_changed_bytes(&rt);
+}
+
+#[test]
 fn reads_lengths_up_to_their_limits(rt: HostRuntime) -> Result<(), Fail> {
-    for row in LENGTHS {
+    for (index, row) in LENGTHS.iter().enumerate() {
         let mut bytes: Vec<u8> = vec![in rt.alloc(); 0; row.size]?;
         assert!(rt; bytes.len() >= 24);
         bytes[..20].copy_from_slice(&BINDING);
         bytes[2..4].copy_from_slice(&row.header.to_be_bytes());
         bytes[20..22].copy_from_slice(b"\x80\x22");
         bytes[22..24].copy_from_slice(&row.attribute.to_be_bytes());
-        assert_eq!(rt; refusal(bytes.as_slice()), row.want);
+        assert_eq!(rt; refusal(bytes.as_slice()), row.want, "row {index}");
     }
     Ok(())
 }

@@ -1,14 +1,10 @@
 //! The registry, held against the registries of the standards, written out by hand.
 
+use std::process::Abort;
 use stun::registry::{
-    Class, ErrorCode, MAGIC_COOKIE, MessageType, Method, attribute, family, is_understood,
+    Class, ErrorCode, FIRST_CHANNEL, LAST_CHANNEL, MAGIC_COOKIE, MessageType, Method, attribute,
+    family, is_understood,
 };
-
-#[test]
-fn the_cookie_is_the_standards(rt: HostRuntime) {
-    // RFC 8489, section 5
-    assert_eq!(rt; MAGIC_COOKIE.to_be_bytes(), [0x21, 0x12, 0xa4, 0x42]);
-}
 
 /// A method and its number: Binding of RFC 8489, section 18.2, the others of RFC 8656, section 17.
 #[derive(Clone, Copy)]
@@ -84,8 +80,8 @@ fn type_of(method: u16, class: u16) -> u16 {
         | (method >> 7 & 0x1f) << 9
 }
 
-#[test]
-fn every_type_is_written_and_read_back(rt: HostRuntime) {
+/// Checks that each type is written and read back.
+fn check_types(rt: &impl Abort) {
     for row in METHODS {
         for class in CLASSES {
             let message_type = MessageType {
@@ -93,8 +89,12 @@ fn every_type_is_written_and_read_back(rt: HostRuntime) {
                 class: class.class,
             };
             let kind = type_of(row.number, class.bits);
-            assert_eq!(rt; message_type.kind(), kind);
-            assert_eq!(rt; MessageType::from_kind(kind), Some(message_type));
+            assert_eq!(rt; message_type.kind(), kind, "{message_type:?}");
+            assert_eq!(rt;
+                MessageType::from_kind(kind),
+                Some(message_type),
+                "{message_type:?}"
+            );
         }
     }
 }
@@ -102,10 +102,10 @@ fn every_type_is_written_and_read_back(rt: HostRuntime) {
 /// Types of other methods, and one of 15 bits.
 const OTHER_TYPES: [u16; 5] = [0x0000, 0x0002, 0x000a, 0x0021, 0x4001];
 
-#[test]
-fn other_types_are_not_read(rt: HostRuntime) {
+/// Checks that no other type is read.
+fn check_other_types(rt: &impl Abort) {
     for kind in OTHER_TYPES {
-        assert_eq!(rt; MessageType::from_kind(kind), None);
+        assert_eq!(rt; MessageType::from_kind(kind), None, "type {kind}");
     }
 }
 
@@ -176,14 +176,13 @@ const ATTRIBUTES: [AttributeRow; 14] = [
     },
 ];
 
-#[test]
-fn attributes_and_families_are_the_standards(rt: HostRuntime) {
+/// Checks the types of attributes, and that each is understood.
+fn check_attributes(rt: &impl Abort) {
     for row in ATTRIBUTES {
-        assert_eq!(rt; row.ours, row.number);
-        assert!(rt; is_understood(row.number));
+        let number = row.number;
+        assert_eq!(rt; row.ours, number);
+        assert!(rt; is_understood(number), "type {number}");
     }
-    // RFC 8489, section 14.1
-    assert_eq!(rt; (family::IPV4, family::IPV6), (0x01, 0x02));
 }
 
 /// Types of the two standards that are not understood: MAPPED-ADDRESS, EVEN-PORT, DONT-FRAGMENT,
@@ -193,13 +192,13 @@ const NOT_UNDERSTOOD: [u16; 6] = [0x0001, 0x0018, 0x001a, 0x001c, 0x0022, 0x7fff
 /// Types that are ignored: the first, SOFTWARE, FINGERPRINT, and the last.
 const IGNORED: [u16; 4] = [0x8000, 0x8022, 0x8028, 0xffff];
 
-#[test]
-fn types_from_0x8000_up_need_not_be_understood(rt: HostRuntime) {
+/// Checks that types from 0x8000 up need not be in the table.
+fn check_other_attributes(rt: &impl Abort) {
     for kind in NOT_UNDERSTOOD {
-        assert!(rt; !is_understood(kind));
+        assert!(rt; !is_understood(kind), "type {kind}");
     }
     for kind in IGNORED {
-        assert!(rt; is_understood(kind));
+        assert!(rt; is_understood(kind), "type {kind}");
     }
 }
 
@@ -265,10 +264,26 @@ const ERRORS: [ErrorRow; 10] = [
     },
 ];
 
-#[test]
-fn errors_are_the_standards(rt: HostRuntime) {
+/// Checks the codes and the phrases of errors.
+fn check_errors(rt: &impl Abort) {
     for row in ERRORS {
-        assert_eq!(rt; row.error.code(), row.code);
-        assert_eq!(rt; row.error.phrase(), row.phrase);
+        let error = row.error;
+        assert_eq!(rt; error.code(), row.code, "{error:?}");
+        assert_eq!(rt; error.phrase(), row.phrase, "{error:?}");
     }
+}
+
+#[test]
+fn the_numbers_are_the_standards(rt: HostRuntime) {
+    // RFC 8489, section 5
+    assert_eq!(rt; MAGIC_COOKIE.to_be_bytes(), [0x21, 0x12, 0xa4, 0x42]);
+    // RFC 8656, section 12
+    assert_eq!(rt; (FIRST_CHANNEL, LAST_CHANNEL), (0x4000, 0x7fff));
+    // RFC 8489, section 14.1
+    assert_eq!(rt; (family::IPV4, family::IPV6), (0x01, 0x02));
+    check_types(&rt);
+    check_other_types(&rt);
+    check_attributes(&rt);
+    check_other_attributes(&rt);
+    check_errors(&rt);
 }

@@ -56,122 +56,127 @@ fn integrity_begins_at(bytes: &[u8], length: usize) -> bool {
     }
 }
 
-#[test]
-fn reads_the_request(rt: HostRuntime) {
-    let parts = [
-        Part {
-            kind: 0x8022,
-            value: b"STUN test client",
-        },
-        Part {
-            kind: 0x0024,
-            value: b"\x6e\x00\x01\xff",
-        },
-        Part {
-            kind: 0x8029,
-            value: b"\x93\x2f\xf9\xb1\x51\x26\x3b\x36",
-        },
-        Part {
-            kind: 0x0006,
-            value: b"evtj:h6vY",
-        },
-        Part {
-            kind: 0x0008,
-            value: b"\x9a\xea\xa7\x0c\xbf\xd8\xcb\x56\x78\x1e\xf2\xb5\xb2\xd3\xf2\x49\xc1\xb5\x71\xa2",
-        },
-    ];
-    assert!(rt;
-        reads_as(
-            &REQUEST,
-            0x0001,
-            b"\xb7\xe7\xa7\x01\xbc\x34\xd6\x86\xfa\x87\xdf\xae",
-            &parts
-        )
-    );
-    assert!(rt; integrity_begins_at(&REQUEST, 76));
+/// A sample message: its type, its transaction id, its attributes up to its MESSAGE-INTEGRITY, and the byte at
+/// which this begins.
+struct Sample {
+    section: &'static str,
+    bytes: &'static [u8],
+    kind: u16,
+    tx: &'static [u8],
+    parts: &'static [Part],
+    integrity: usize,
 }
 
-#[test]
-fn reads_the_ipv4_response(rt: HostRuntime) {
-    let parts = [
-        Part {
-            kind: 0x8022,
-            value: b"test vector",
-        },
-        Part {
-            kind: 0x0020,
-            value: b"\x00\x01\xa1\x47\xe1\x12\xa6\x43",
-        },
-        Part {
-            kind: 0x0008,
-            value: b"\x2b\x91\xf5\x99\xfd\x9e\x90\xc3\x8c\x74\x89\xf9\x2a\xf9\xba\x53\xf0\x6b\xe7\xd7",
-        },
-    ];
-    assert!(rt;
-        reads_as(
-            &IPV4_RESPONSE,
-            0x0101,
-            b"\xb7\xe7\xa7\x01\xbc\x34\xd6\x86\xfa\x87\xdf\xae",
-            &parts
-        )
-    );
-    assert!(rt; integrity_begins_at(&IPV4_RESPONSE, 48));
-}
+static SAMPLES: [Sample; 4] = [
+    Sample {
+        section: "2.1",
+        bytes: &REQUEST,
+        kind: 0x0001,
+        tx: b"\xb7\xe7\xa7\x01\xbc\x34\xd6\x86\xfa\x87\xdf\xae",
+        parts: &[
+            Part {
+                kind: 0x8022,
+                value: b"STUN test client",
+            },
+            Part {
+                kind: 0x0024,
+                value: b"\x6e\x00\x01\xff",
+            },
+            Part {
+                kind: 0x8029,
+                value: b"\x93\x2f\xf9\xb1\x51\x26\x3b\x36",
+            },
+            Part {
+                kind: 0x0006,
+                value: b"evtj:h6vY",
+            },
+            Part {
+                kind: 0x0008,
+                value: b"\x9a\xea\xa7\x0c\xbf\xd8\xcb\x56\x78\x1e\xf2\xb5\xb2\xd3\xf2\x49\xc1\xb5\x71\xa2",
+            },
+        ],
+        integrity: 76,
+    },
+    Sample {
+        section: "2.2",
+        bytes: &IPV4_RESPONSE,
+        kind: 0x0101,
+        tx: b"\xb7\xe7\xa7\x01\xbc\x34\xd6\x86\xfa\x87\xdf\xae",
+        parts: &[
+            Part {
+                kind: 0x8022,
+                value: b"test vector",
+            },
+            Part {
+                kind: 0x0020,
+                value: b"\x00\x01\xa1\x47\xe1\x12\xa6\x43",
+            },
+            Part {
+                kind: 0x0008,
+                value: b"\x2b\x91\xf5\x99\xfd\x9e\x90\xc3\x8c\x74\x89\xf9\x2a\xf9\xba\x53\xf0\x6b\xe7\xd7",
+            },
+        ],
+        integrity: 48,
+    },
+    Sample {
+        section: "2.3",
+        bytes: &IPV6_RESPONSE,
+        kind: 0x0101,
+        tx: b"\xb7\xe7\xa7\x01\xbc\x34\xd6\x86\xfa\x87\xdf\xae",
+        parts: &[
+            Part {
+                kind: 0x8022,
+                value: b"test vector",
+            },
+            Part {
+                kind: 0x0020,
+                value: b"\x00\x02\xa1\x47\x01\x13\xa9\xfa\xa5\xd3\xf1\x79\xbc\x25\xf4\xb5\xbe\xd2\xb9\xd9",
+            },
+            Part {
+                kind: 0x0008,
+                value: b"\xa3\x82\x95\x4e\x4b\xe6\x7b\xf1\x17\x84\xc9\x7c\x82\x92\xc2\x75\xbf\xe3\xed\x41",
+            },
+        ],
+        integrity: 60,
+    },
+    Sample {
+        section: "2.4",
+        bytes: &LONG_TERM_REQUEST,
+        kind: 0x0001,
+        tx: b"\x78\xad\x34\x33\xc6\xad\x72\xc0\x29\xda\x41\x2e",
+        parts: &[
+            Part {
+                kind: 0x0006,
+                value: b"\xe3\x83\x9e\xe3\x83\x88\xe3\x83\xaa\xe3\x83\x83\xe3\x82\xaf\xe3\x82\xb9",
+            },
+            Part {
+                kind: 0x0015,
+                value: b"f//499k954d6OL34oL9FSTvy64sA",
+            },
+            Part {
+                kind: 0x0014,
+                value: b"example.org",
+            },
+            Part {
+                kind: 0x0008,
+                value: b"\xf6\x70\x24\x65\x6d\xd6\x4a\x3e\x02\xb8\xe0\x71\x2e\x85\xc9\xa2\x8c\xa8\x96\x66",
+            },
+        ],
+        integrity: 92,
+    },
+];
 
 #[test]
-fn reads_the_ipv6_response(rt: HostRuntime) {
-    let parts = [
-        Part {
-            kind: 0x8022,
-            value: b"test vector",
-        },
-        Part {
-            kind: 0x0020,
-            value: b"\x00\x02\xa1\x47\x01\x13\xa9\xfa\xa5\xd3\xf1\x79\xbc\x25\xf4\xb5\xbe\xd2\xb9\xd9",
-        },
-        Part {
-            kind: 0x0008,
-            value: b"\xa3\x82\x95\x4e\x4b\xe6\x7b\xf1\x17\x84\xc9\x7c\x82\x92\xc2\x75\xbf\xe3\xed\x41",
-        },
-    ];
-    assert!(rt;
-        reads_as(
-            &IPV6_RESPONSE,
-            0x0101,
-            b"\xb7\xe7\xa7\x01\xbc\x34\xd6\x86\xfa\x87\xdf\xae",
-            &parts
-        )
-    );
-    assert!(rt; integrity_begins_at(&IPV6_RESPONSE, 60));
-}
-
-#[test]
-fn reads_the_long_term_request(rt: HostRuntime) {
-    let parts = [
-        Part {
-            kind: 0x0006,
-            value: b"\xe3\x83\x9e\xe3\x83\x88\xe3\x83\xaa\xe3\x83\x83\xe3\x82\xaf\xe3\x82\xb9",
-        },
-        Part {
-            kind: 0x0015,
-            value: b"f//499k954d6OL34oL9FSTvy64sA",
-        },
-        Part {
-            kind: 0x0014,
-            value: b"example.org",
-        },
-        Part {
-            kind: 0x0008,
-            value: b"\xf6\x70\x24\x65\x6d\xd6\x4a\x3e\x02\xb8\xe0\x71\x2e\x85\xc9\xa2\x8c\xa8\x96\x66",
-        },
-    ];
-    assert!(rt;
-        reads_as(
-            &LONG_TERM_REQUEST,
-            0x0001,
-            b"\x78\xad\x34\x33\xc6\xad\x72\xc0\x29\xda\x41\x2e",
-            &parts
-        )
-    );
-    assert!(rt; integrity_begins_at(&LONG_TERM_REQUEST, 92));
+fn reads_the_sample_messages(rt: HostRuntime) {
+    for sample in SAMPLES.iter() {
+        let section = sample.section;
+        assert!(rt;
+            reads_as(sample.bytes, sample.kind, sample.tx, sample.parts),
+            "section {section}"
+        );
+        assert!(rt;
+            integrity_begins_at(sample.bytes, sample.integrity),
+            "section {section}"
+        );
+    }
 }

@@ -1,5 +1,6 @@
 //! Values of one type among the attributes of a message.
 
+use std::test::Fail;
 use stun::read;
 
 /// A Binding request with a FINGERPRINT, a USERNAME, two values of XOR-PEER-ADDRESS, a MESSAGE-INTEGRITY and a
@@ -11,31 +12,43 @@ const REQUEST: [u8; 60] = [
     0,
 ];
 
-#[test]
-fn finds_the_first_value_of_a_type(rt: HostRuntime) {
-    let message = read(&REQUEST);
-    // the FINGERPRINT before it is passed over
-    assert!(rt;
-        message
-            .as_ref()
-            .is_ok_and(|m| m.value_of(0x0006) == Some(b"u".as_slice()))
-    );
-    assert!(rt;
-        message
-            .as_ref()
-            .is_ok_and(|m| m.value_of(0x0012) == Some(b"ab".as_slice()))
-    );
-    assert!(rt; message.as_ref().is_ok_and(|m| m.value_of(0x0014).is_none()));
+/// A type, and its values up to the MESSAGE-INTEGRITY.
+#[derive(Clone, Copy)]
+struct ValuesRow {
+    kind: u16,
+    values: &'static [&'static [u8]],
 }
 
+const VALUES: [ValuesRow; 3] = [
+    // the FINGERPRINT before it is passed over
+    ValuesRow {
+        kind: 0x0006,
+        values: &[b"u"],
+    },
+    ValuesRow {
+        kind: 0x0012,
+        values: &[b"ab", b""],
+    },
+    ValuesRow {
+        kind: 0x0014,
+        values: &[],
+    },
+];
+
 #[test]
-fn finds_all_values_of_a_type_up_to_the_integrity(rt: HostRuntime) {
-    let Ok(message) = read(&REQUEST) else {
-        assert!(rt; false);
-        return;
-    };
-    let mut values = message.values_of(0x0012);
-    assert!(rt; values.next() == Some(b"ab".as_slice()));
-    assert!(rt; values.next() == Some(b"".as_slice()));
-    assert!(rt; values.next().is_none());
+fn finds_the_values_of_a_type(rt: HostRuntime) -> Result<(), Fail> {
+    let message = read(&REQUEST)?;
+    for row in VALUES {
+        let kind = row.kind;
+        assert!(rt;
+            message.value_of(kind) == row.values.first().copied(),
+            "type {kind}"
+        );
+        let mut values = message.values_of(kind);
+        for value in row.values {
+            assert!(rt; values.next() == Some(*value), "type {kind}");
+        }
+        assert!(rt; values.next().is_none(), "type {kind}");
+    }
+    Ok(())
 }
