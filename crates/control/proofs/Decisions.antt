@@ -12,10 +12,11 @@ use Rattle.tables.specs.PermitLaws.{StandsFor, permit_alike}
 use Rattle.tables.specs.Rows.{Rows}
 use Rattle.tables.specs.declared.allocation.Allocation.{Allocation}
 use Rattle.tables.specs.declared.refusal.Refused.{Refused}
-use Rattle.control.specs.Control.{◌>>=◌, check, changed, error_of, Decision, Gives, own_allocation, peers_in, are_ipv4, addresses_in, some_addresses, create_permission}
+use Rattle.control.specs.Control.{◌>>=◌, check, changed, error_of, Decision, own_allocation, peers_in, addresses_in, some_addresses, create_permission}
+use Rattle.control.specs.Serving.{Gives, are_ipv4}
 use Rattle.control.specs.Peers.{peers_of}
-use Rattle.control.specs.Values.{is_ipv4}
-use Rattle.control.specs.Responding.{granted, rows_of}
+use Rattle.tables.specs.Addresses.{is_ipv4}
+use Rattle.control.specs.Control.{granted, rows_of}
 use Rattle.control.specs.declared.reply.Grant.{Grant}
 use Rattle.control.specs.declared.reply.Grant.TheVariants.{Done}
 use Rattle.control.proofs.Peers.{all_read}

@@ -1,4 +1,5 @@
 pub mod Types
 pub mod Peers
+pub mod Kept
 pub mod Limits
 pub mod Decisions

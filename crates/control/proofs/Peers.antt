@@ -2,7 +2,7 @@
 use Rattle.std.proofs.Common.{◌≡◌, ℕ, ◌<◌, ◌≤◌, ◌⊎◌, inl, inr, Bool, true, false, cond, ◌&&◌, ◌||◌, List, [], ◌∷◌, ◌++◌, length, nat_le, bytes_eq, filter_map, Option, Some, None, Result, Ok, Err, sym, ap, ◌∙◌, subst, refl, arith, append_assoc, append-nil}
 use Rattle.std.specs.List.{list_all, list_any, cons_option}
 use Rattle.std.specs.FinMap.{len}
-use Rattle.std.proofs.lemmas.Bool.{cases_Bool, both_ways, leb-true}
+use Rattle.std.proofs.lemmas.Bool.{cases_Bool, both_ways, leb-true, and_parts, and_from}
 use Rattle.std.proofs.lemmas.Bool.Decides.{leb_tells}
 use Rattle.std.proofs.lemmas.Option.{none-some, same_Some}
 use Rattle.std.proofs.lemmas.Slice.Eq.{bytes_eq-Decides}
@@ -15,8 +15,12 @@ use Rattle.tables.specs.Permissions.{PermissionMap, with_all}
 use Rattle.tables.specs.PermitLaws.{HasIp, AreDistinct, permitted_again, permitted_many, distinct_push, StandsFor}
 use Rattle.tables.specs.declared.permissions.TheConstants.{MAX_PERMISSIONS}
 use Rattle.control.specs.Control.{◌>>=◌, both, addresses_in, some_addresses}
-use Rattle.control.specs.Peers.{with_peer}
-use Rattle.control.specs.Values.{is_ipv4}
+use Rattle.control.specs.Peers.{peers_of, with_peer}
+use Rattle.control.specs.Serving.{are_ipv4}
+use Rattle.stun.specs.Attributes.{values_of}
+use Rattle.stun.specs.Messages.{Parts, message_of}
+use Rattle.stun.specs.declared.registry.attribute.TheConstants.{XOR_PEER_ADDRESS}
+use Rattle.tables.specs.Addresses.{is_ipv4}
 use Rattle.control.specs.declared.create_permission.TheConstants.{MAX_PEERS}
 
 -- ---- whether all are of IPv4
@@ -157,3 +161,51 @@ all_read tx (value ∷ values) peers e =
         | Some rest ↦ λ is k. ap (λ (xs : List Addr). a ∷ xs) (all_read tx values rest is) ∙ same_Some (a ∷ rest) peers k
       ] refl h
     ] e
+
+err-ok : {A E : Type 0} {x : A} {e : E} → ◌≡◌ {A = Result A E} (Err e) (Ok x) → ⊥
+err-ok h = cc
+
+ok_value : {A E : Type 0} (x y : A) → ◌≡◌ {A = Result A E} (Ok x) (Ok y) → x ≡ y
+ok_value x y h = cc
+
+-- ---- addresses of IPv4
+
+-- those that were collected, and those that are left
+pub record AreIpv4 (peers left : List Addr) : Type 0 where
+  pub collected : list_all is_ipv4 peers ≡ true
+  pub rest : list_all is_ipv4 left ≡ true
+
+one_and_all : (a : Addr) (left : List Addr) → list_all is_ipv4 (a ∷ left) ≡ true → (is_ipv4 a ≡ true) × (list_all is_ipv4 left ≡ true)
+one_and_all a left e = and_parts _ _ e
+
+one_pushed : (peers : List Addr) (a : Addr) → list_all is_ipv4 peers ≡ true → is_ipv4 a ≡ true → list_all is_ipv4 (peers ++ a ∷ []) ≡ true
+one_pushed [] a e one = and_from _ _ one refl
+one_pushed (x ∷ xs) a e one = let parts = and_parts _ _ e in and_from _ _ parts.0 (one_pushed xs a parts.1 one)
+
+one_added : (peers : List Addr) (a : Addr) → list_all is_ipv4 peers ≡ true → is_ipv4 a ≡ true → list_all is_ipv4 (with_peer peers a) ≡ true
+one_added peers a e one =
+    let there : Bool = list_any (λ known. bytes_eq (ip_of known) (ip_of a)) peers || nat_le MAX_PEERS (length peers) in
+    elim there as (λ b. list_all is_ipv4 (cond b peers (peers ++ a ∷ [])) ≡ true) [
+      | true ↦ e
+      | false ↦ one_pushed peers a e one
+    ]
+
+pub ipv4_value : (tx : List ℕ) (peers more : List Addr) (a : Addr) (value : List ℕ) (values before : List (List ℕ))
+    → before ≡ value ∷ values → address_in tx value ≡ Some a → more ≡ with_peer peers a
+    → AreIpv4 peers (filter_map (address_in tx) before) → AreIpv4 more (filter_map (address_in tx) values)
+ipv4_value tx peers more a value values before first read added are =
+    let left : List Addr = filter_map (address_in tx) values in
+    let begun : filter_map (address_in tx) before ≡ a ∷ left = ap (filter_map (address_in tx)) first ∙ ap (λ o. cons_option o left) read in
+    let parts = one_and_all a left (sym (ap (list_all is_ipv4) begun) ∙ are.rest) in
+    record { collected = ap (list_all is_ipv4) added ∙ one_added peers a are.collected parts.0; rest = parts.1 }
+
+-- where all addresses of a request are of IPv4, those that are well formed are
+pub read_ipv4 : (p : Parts) → are_ipv4 p ≡ Ok true → list_all is_ipv4 (peers_of p) ≡ true
+read_ipv4 p =
+    let values : List (List ℕ) = values_of XOR_PEER_ADDRESS (message_of p).attributes in
+    elim (addresses_in p.transaction_id values) as
+    (λ o. addresses_in p.transaction_id values ≡ o → all_ipv4 o ≡ Ok true → list_all is_ipv4 (filter_map (address_in p.transaction_id) values) ≡ true) [
+      | None ↦ λ is h. absurd (err-ok h)
+      | Some [] ↦ λ is h. absurd (err-ok h)
+      | Some (peer ∷ peers) ↦ λ is h. ap (list_all is_ipv4) (all_read p.transaction_id values (peer ∷ peers) is) ∙ ok_value _ _ h
+    ] refl

@@ -27,12 +27,16 @@ abbrev pub are_distinct : List User → Bool
 are_distinct [] = true
 are_distinct (user ∷ users) = not (has_name users (string_bytes user.name)) && are_distinct users
 
+-- a nonce has no blank
+abbrev pub is_nonce : List ℕ → Bool
+is_nonce nonce = is_text 0x21 64 nonce
+
 -- whether a field is within its limits
 abbrev pub is_valid : Config → Field → Bool
 is_valid c FirstPort = nat_le 1 c.first_port
 is_valid c Slots = is_between 1 256 c.slots && nat_le (c.first_port + c.slots) 0x10000
 is_valid c Realm = is_text 0x20 128 (string_bytes c.realm)
-is_valid c Nonce = is_text 0x21 64 c.nonce.bytes
+is_valid c Nonce = is_nonce c.nonce.bytes
 is_valid c Users = is_between 1 64 (length c.users.items) && list_all is_user c.users.items && are_distinct c.users.items
 
 -- the fields that have limits, in their order

@@ -1,7 +1,7 @@
 -- Meaning. How requests are answered: credentials, then attributes that are not understood, then the tests of the
--- method in their order (RFC 8489, section 9.2.4; RFC 8656, sections 7, 8, 10 and 12). The first that fails gives the
--- error.
-use Rattle.std.specs.Prelude.{◌≡◌, ℕ, ◌<◌, Bool, true, false, ◌&&◌, List, [], ◌∷◌, max, min, nat_eq, bytes_eq, Option, None, Some, Result, Ok, Err, ok_or, if◌then◌else◌}
+-- method in their order. The first that fails gives the error. Each test is one of RFC 8489, section 9.2.4, or RFC 8656,
+-- sections 7, 8, 10 and 12; their order is this relay's own.
+use Rattle.std.specs.Prelude.{ℕ, Bool, true, false, ◌&&◌, List, [], ◌∷◌, max, min, nat_eq, bytes_eq, Option, None, Some, Result, Ok, Err, ok_or, if◌then◌else◌}
 use Rattle.std.specs.List.{list_all}
 use Rattle.stun.specs.Attributes.{values_of}
 use Rattle.stun.specs.Messages.{Parts, message_of}
@@ -17,38 +17,42 @@ use Rattle.credentials.specs.Checks.{first_value}
 use Rattle.credentials.specs.declared.checking.AuthError.{AuthError}
 use Rattle.credentials.specs.declared.checking.AuthError.TheVariants.{Missing, Incomplete, UnknownUser, WrongCode}
 use Rattle.credentials.specs.declared.checking.AuthError.TheVariants as auth
+use Rattle.tables.specs.Addresses.{is_ipv4}
 use Rattle.tables.specs.Rows.{Rows}
 use Rattle.tables.specs.Channels.{is_none_or}
 use Rattle.tables.specs.Changes.{Change}
 use Rattle.tables.specs.Changes as tables
 use Rattle.tables.specs.LookUps.{allocation_of}
 use Rattle.tables.specs.declared.allocation.Allocation.{Allocation}
+use Rattle.tables.specs.declared.channels.TheConstants.{FIRST_CHANNEL, LAST_CHANNEL}
 use Rattle.tables.specs.declared.refusal.Refused.{Refused}
 use Rattle.tables.specs.declared.refusal.Refused.TheVariants.{Mismatch, Capacity, Conflict, NoAllocation}
 use Rattle.control.specs.Unknown.{unknown_types}
-use Rattle.control.specs.Values.{is_ipv4, optional, required}
+use Rattle.control.specs.Values.{optional, required}
 use Rattle.control.specs.declared.allocate.TheConstants.{UDP}
 use Rattle.control.specs.declared.lifetime.TheConstants.{MIN_LIFETIME, MAX_LIFETIME}
 use Rattle.control.specs.declared.reply.Grant.{Grant}
 use Rattle.control.specs.declared.reply.Grant.TheVariants.{Mapped, Allocated, Refreshed, Done}
-use Rattle.control.specs.declared.request.Request.{Request}
-use Rattle.control.specs.declared.request.Request.TheVariants as request
+use Rattle.control.specs.declared.request.TurnRequest.{TurnRequest}
+use Rattle.control.specs.declared.request.TurnRequest.TheVariants as turn
 
--- what is granted, and the rows then, or the error
+-- what is granted, with new rows where they change, or the error
 abbrev pub Decision : Type 0
-Decision = Result (Grant × Rows) ErrorCode
+Decision = Result (Grant × Option Rows) ErrorCode
 
--- A grant comes with its rows; an error leaves the rows as they were.
-abbrev pub Gives : Decision → Rows → Result Grant ErrorCode → Rows → Type 0
-Gives (Ok granted) old result new = (result ≡ Ok granted.0) × (new ≡ granted.1)
-Gives (Err error) old result new = (result ≡ Err error) × (new ≡ old)
+-- what is granted, without the rows
+abbrev pub granted : Decision → Result Grant ErrorCode
+granted (Ok given) = Ok given.0
+granted (Err error) = Err error
 
--- a granted slot is below `slots`
-abbrev pub IsInside : ℕ → Grant → Type 0
-IsInside slots Mapped = Unit {0}
-IsInside slots (Allocated slot lifetime) = slot < slots
-IsInside slots (Refreshed lifetime) = Unit {0}
-IsInside slots Done = Unit {0}
+abbrev pub rows_after : Rows → Option Rows → Rows
+rows_after old None = old
+rows_after old (Some rows) = rows
+
+-- the rows afterwards: an error changes nothing
+abbrev pub rows_of : Rows → Decision → Rows
+rows_of old (Ok given) = rows_after old given.1
+rows_of old (Err error) = old
 
 infixl 10 ◌>>=◌
 abbrev pub ◌>>=◌ : {A B : Type 0} → Result A ErrorCode → (A → Result B ErrorCode) → Result B ErrorCode
@@ -66,8 +70,8 @@ error_of Capacity = InsufficientCapacity
 error_of Conflict = BadRequest
 error_of NoAllocation = AllocationMismatch
 
-abbrev pub changed : {A : Type 0} → Change A → Result (A × Rows) ErrorCode
-changed (Ok made) = Ok made
+abbrev pub changed : {A : Type 0} → Change A → Result (A × Option Rows) ErrorCode
+changed (Ok made) = Ok (made.0, Some made.1)
 changed (Err refused) = Err (error_of refused)
 
 -- ---- values
@@ -105,15 +109,15 @@ allocate_anew client user p rows = do
   made ← changed (tables.allocate client user p.transaction_id lifetime rows)
   Ok (Allocated made.0 lifetime, made.1)
 
--- where the client has an allocation, and where it has none
-abbrev pub allocate_beside : Option Allocation → Addr → ℕ → Parts → Rows → Rows → Decision
-allocate_beside None client user p old rows = allocate_anew client user p rows
-allocate_beside (Some a) client user p old rows = do
+-- where the client has no allocation, and where it has one, which a repeated request leaves as it is
+abbrev pub allocate_beside : Option Allocation → Addr → ℕ → Parts → Rows → Decision
+allocate_beside None client user p rows = allocate_anew client user p rows
+allocate_beside (Some a) client user p rows = do
   _ ← check (is_repeated a user p) AllocationMismatch
-  Ok (Allocated a.slot a.lifetime, old)
+  Ok (Allocated a.slot a.lifetime, None)
 
-abbrev pub allocate : Addr → ℕ → Parts → Rows → Rows → Decision
-allocate client user p old rows = allocate_beside (allocation_of client rows) client user p old rows
+abbrev pub allocate : Addr → ℕ → Parts → Rows → Decision
+allocate client user p rows = allocate_beside (allocation_of client rows) client user p rows
 
 -- ---- Refresh (section 8)
 
@@ -160,11 +164,6 @@ some_addresses (Some (peer ∷ peers)) = Ok (peer ∷ peers)
 abbrev pub peers_in : Parts → Result (List Addr) ErrorCode
 peers_in p = some_addresses (addresses_in p.transaction_id (values_of XOR_PEER_ADDRESS (message_of p).attributes))
 
-abbrev pub are_ipv4 : Parts → Result Bool ErrorCode
-are_ipv4 p = do
-  peers ← peers_in p
-  Ok (list_all is_ipv4 peers)
-
 abbrev pub create_permission : Addr → ℕ → Parts → Rows → Decision
 create_permission client user p rows = do
   a ← own_allocation client user rows
@@ -180,7 +179,7 @@ channel_bind client user p rows = do
   a ← own_allocation client user rows
   number ← required (number_of_value 2) (first_value p CHANNEL_NUMBER)
   peer ← required (address_in p.transaction_id) (first_value p XOR_PEER_ADDRESS)
-  _ ← check (is_between 0x4000 0x4fff number) BadRequest
+  _ ← check (is_between FIRST_CHANNEL LAST_CHANNEL number) BadRequest
   _ ← check (is_ipv4 peer) PeerAddressFamilyMismatch
   made ← changed (tables.bind a.slot number peer rows)
   Ok (Done, made.1)
@@ -203,36 +202,34 @@ abbrev pub is_empty : List ℕ → Bool
 is_empty [] = true
 is_empty (kind ∷ kinds) = false
 
-abbrev pub all_understood : Parts → Result (Unit {0}) ErrorCode
-all_understood p = check (is_empty (unknown_types p)) UnknownAttribute
+-- whether all attributes are understood
+abbrev pub all_understood : Parts → Bool
+all_understood p = is_empty (unknown_types p)
 
--- a request of a user whose credentials were accepted; Binding needs none
-abbrev pub served : Request → Addr → ℕ → Parts → Rows → Rows → Decision
-served request.Binding client user p old rows = Ok (Mapped, old)
-served request.Allocate client user p old rows = allocate client user p old rows
-served request.Refresh client user p old rows = refresh client user p rows
-served request.CreatePermission client user p old rows = create_permission client user p rows
-served request.ChannelBind client user p old rows = channel_bind client user p rows
+abbrev pub understood : Parts → Result (Unit {0}) ErrorCode
+understood p = check (all_understood p) UnknownAttribute
+
+-- a request of TURN of a user whose credentials were accepted
+abbrev pub served : TurnRequest → Addr → ℕ → Parts → Rows → Decision
+served turn.Allocate client user p rows = allocate client user p rows
+served turn.Refresh client user p rows = refresh client user p rows
+served turn.CreatePermission client user p rows = create_permission client user p rows
+served turn.ChannelBind client user p rows = channel_bind client user p rows
 
 -- where all attributes are understood
-abbrev pub understood_and_served : Request → Addr → ℕ → Parts → Rows → Rows → Decision
-understood_and_served r client user p old rows = do
-  _ ← all_understood p
-  served r client user p old rows
+abbrev pub understood_and_served : TurnRequest → Addr → ℕ → Parts → Rows → Decision
+understood_and_served r client user p rows = do
+  _ ← understood p
+  served r client user p rows
 
 -- with the result of the check of the credentials
-abbrev pub decision : Request → Result ℕ AuthError → Addr → Parts → Rows → Rows → Decision
-decision r checked client p old rows = do
+abbrev pub decision : TurnRequest → Result ℕ AuthError → Addr → Parts → Rows → Decision
+decision r checked client p rows = do
   user ← authenticated checked
-  understood_and_served r client user p old rows
+  understood_and_served r client user p rows
 
--- Binding
-abbrev pub binding : Parts → Rows → Decision
-binding p old = do
-  _ ← all_understood p
-  Ok (Mapped, old)
-
-abbrev pub binding_grant : Parts → Result Grant ErrorCode
-binding_grant p = do
-  _ ← all_understood p
-  Ok Mapped
+-- Binding (RFC 8489, section 12), which needs no credentials
+abbrev pub binding : Parts → Decision
+binding p = do
+  _ ← understood p
+  Ok (Mapped, None)

@@ -1,8 +1,10 @@
 -- Internal. The modules of this folder.
 pub mod Configs
+pub mod ConfigLaws
 pub mod Values
 pub mod Unknown
 pub mod Replies
 pub mod Control
+pub mod Serving
 pub mod Peers
 pub mod Responding

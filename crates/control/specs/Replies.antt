@@ -1,10 +1,8 @@
 -- Meaning. Replies: their attributes in order, and their bytes.
-use Rattle.std.specs.Prelude.{◌≡◌, ℕ, ◌+◌, ◌<◌, ◌≤◌, List, [], ◌∷◌, Option, None, Some, Result, Ok, Err, string_bytes}
-use Rattle.stun.specs.Builders.{parts_of, used_of, capacity_of, SameBuffer}
+use Rattle.std.specs.Prelude.{ℕ, ◌+◌, List, [], ◌∷◌, Option, None, Some, Result, Ok, Err, string_bytes}
 use Rattle.stun.specs.Endian.{big_bytes}
 use Rattle.stun.specs.Messages.{Attribute, Parts, started, with_attribute}
 use Rattle.stun.specs.Types.{type_number}
-use Rattle.stun.specs.declared.building.Builder.{Builder}
 use Rattle.stun.specs.declared.registry.Class.{Class}
 use Rattle.stun.specs.declared.registry.ErrorCode.{ErrorCode}
 use Rattle.stun.specs.declared.registry.ErrorCode.TheVariants.{BadRequest, Unauthenticated, UnknownAttribute, AllocationMismatch, StaleNonce, AddressFamilyNotSupported, WrongCredentials, UnsupportedTransport, PeerAddressFamilyMismatch, InsufficientCapacity}
@@ -24,6 +22,7 @@ use Rattle.control.specs.declared.reply.Grant.{Grant}
 use Rattle.control.specs.declared.reply.Grant.TheVariants as grant
 use Rattle.control.specs.declared.request.Request.{Request}
 use Rattle.control.specs.declared.request.Request.TheVariants as request
+use Rattle.control.specs.declared.request.TurnRequest.TheVariants as turn
 
 abbrev pub attribute : ℕ → List ℕ → Attribute
 attribute kind value = record { kind = kind; value = value }
@@ -43,18 +42,11 @@ grant_attributes config client tx (grant.Allocated slot lifetime) =
 grant_attributes config client tx (grant.Refreshed lifetime) = attribute LIFETIME (big_bytes 4 lifetime) ∷ []
 grant_attributes config client tx grant.Done = []
 
--- the port of a relayed address is at most 65,535
-abbrev pub HasPort : Config → Grant → Type 0
-HasPort config grant.Mapped = Unit {0}
-HasPort config (grant.Allocated slot lifetime) = config.first_port + slot < 0x10000
-HasPort config (grant.Refreshed lifetime) = Unit {0}
-HasPort config grant.Done = Unit {0}
-
 -- the challenge to a client: the realm and the nonce (RFC 8489, section 9.2.4)
 abbrev pub challenge : Config → List Attribute
 challenge config = attribute REALM (string_bytes config.realm) ∷ attribute NONCE config.nonce.bytes ∷ []
 
--- the attributes behind ERROR-CODE
+-- the attributes after ERROR-CODE
 abbrev pub error_details : Config → Parts → ErrorCode → List Attribute
 error_details config p Unauthenticated = challenge config
 error_details config p StaleNonce = challenge config
@@ -83,10 +75,10 @@ signed_if (Some key) p = signed key p
 
 abbrev pub method_of : Request → Method
 method_of request.Binding = method.Binding
-method_of request.Allocate = method.Allocate
-method_of request.Refresh = method.Refresh
-method_of request.CreatePermission = method.CreatePermission
-method_of request.ChannelBind = method.ChannelBind
+method_of (request.Turn turn.Allocate) = method.Allocate
+method_of (request.Turn turn.Refresh) = method.Refresh
+method_of (request.Turn turn.CreatePermission) = method.CreatePermission
+method_of (request.Turn turn.ChannelBind) = method.ChannelBind
 
 -- the type of a request, or of a reply to it, and its number
 abbrev pub type_of : Request → Class → MessageType
@@ -103,10 +95,3 @@ reply r class tx attributes key = signed_if key (with_attributes (started (kind_
 abbrev pub reply_to : Config → Request → Addr → Parts → Option (List ℕ) → Result Grant ErrorCode → Parts
 reply_to config r client p key (Ok grant) = reply r class.Success p.transaction_id (grant_attributes config client p.transaction_id grant) key
 reply_to config r client p key (Err error) = reply r class.Error p.transaction_id (error_attributes config p error) key
-
--- appends these attributes, at most `most` bytes
-pub record Pushes (attributes : List Attribute) (most : ℕ) (old new : Builder) : Type 0 where
-  pub parts : parts_of new ≡ with_attributes (parts_of old) attributes
-  pub used : used_of new ≤ used_of old + most
-  pub room : capacity_of new ≡ capacity_of old
-  pub same_buffer : SameBuffer old new

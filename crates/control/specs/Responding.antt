@@ -1,52 +1,38 @@
--- Meaning. The whole answer to a message: the rows behind it, and the bytes of a reply, none where there is no reply.
+-- Meaning. The whole answer to a message: the rows afterwards, and the bytes of a reply, none where there is no reply.
 use Rattle.std.specs.Prelude.{◌≡◌, ℕ, true, false, List, [], Option, None, Some, Result, Ok, Err, string_bytes}
 use Rattle.stun.specs.Messages.{Parts, parts_bytes}
 use Rattle.stun.specs.declared.registry.Class.TheVariants as class
-use Rattle.stun.specs.declared.registry.ErrorCode.{ErrorCode}
 use Rattle.attributes.specs.declared.address.Addr.{Addr}
 use Rattle.credentials.specs.Checks.{IsChecked, accounts_of, user_key}
 use Rattle.credentials.specs.declared.checking.AuthError.{AuthError}
+use Rattle.tables.specs.Addresses.{is_ipv4}
 use Rattle.tables.specs.Rows.{Rows, rows_at}
-use Rattle.control.specs.Control.{Decision, decision, binding}
+use Rattle.control.specs.Control.{Decision, granted, rows_of, decision, binding}
 use Rattle.control.specs.Replies.{kind_of, reply_to}
-use Rattle.control.specs.Values.{is_ipv4}
 use Rattle.control.specs.declared.config.Config.{Config}
-use Rattle.control.specs.declared.reply.Grant.{Grant}
 use Rattle.control.specs.declared.request.Request.{Request}
 use Rattle.control.specs.declared.request.Request.TheVariants as request
+use Rattle.control.specs.declared.request.TurnRequest.{TurnRequest}
 
 -- the key that a reply is signed under: that of the user whose credentials were accepted
 abbrev pub key_for : Config → Result ℕ AuthError → Option (List ℕ)
 key_for config (Ok user) = Some (user_key (string_bytes config.realm) (accounts_of config.users.items) user)
 key_for config (Err e) = None
 
--- what is granted, without the rows
-abbrev pub granted : Decision → Result Grant ErrorCode
-granted (Ok given) = Ok given.0
-granted (Err error) = Err error
-
--- an error changes nothing
-abbrev pub rows_of : Rows → Decision → Rows
-rows_of old (Ok given) = given.1
-rows_of old (Err error) = old
-
 pub record IsAnswer (config : Config) (r : Request) (client : Addr) (p : Parts) (key : Option (List ℕ)) (result : Decision) (old new : Rows) (written : List ℕ) : Type 0 where
   pub rows : new ≡ rows_of old result
   pub bytes : written ≡ parts_bytes (reply_to config r client p key (granted result))
 
 -- the answer to a request whose credentials are checked
-pub record IsCheckedAnswer (config : Config) (now : ℕ) (r : Request) (client : Addr) (p : Parts) (old new : Rows) (written : List ℕ) : Type 0 where
+pub record IsCheckedAnswer (config : Config) (now : ℕ) (r : TurnRequest) (client : Addr) (p : Parts) (old new : Rows) (written : List ℕ) : Type 0 where
   pub checked : Result ℕ AuthError
   pub is_checked : IsChecked p (string_bytes config.realm) (accounts_of config.users.items) config.nonce.bytes checked
-  pub answer : IsAnswer config r client p (key_for config checked) (decision r checked client p old (rows_at now old)) old new written
+  pub answer : IsAnswer config (request.Turn r) client p (key_for config checked) (decision r checked client p (rows_at now old)) old new written
 
 -- the answer to a request: that to Binding is not signed, since its credentials are not looked at
 abbrev pub Answers : Config → ℕ → Request → Addr → Parts → Rows → Rows → List ℕ → Type 0
-Answers config now request.Binding client p old new written = IsAnswer config request.Binding client p None (binding p old) old new written
-Answers config now request.Allocate client p old new written = IsCheckedAnswer config now request.Allocate client p old new written
-Answers config now request.Refresh client p old new written = IsCheckedAnswer config now request.Refresh client p old new written
-Answers config now request.CreatePermission client p old new written = IsCheckedAnswer config now request.CreatePermission client p old new written
-Answers config now request.ChannelBind client p old new written = IsCheckedAnswer config now request.ChannelBind client p old new written
+Answers config now request.Binding client p old new written = IsAnswer config request.Binding client p None (binding p) old new written
+Answers config now (request.Turn r) client p old new written = IsCheckedAnswer config now r client p old new written
 
 -- no reply, and no change
 pub record IsSilent (old new : Rows) (written : List ℕ) : Type 0 where

@@ -5,7 +5,7 @@ use Rattle.stun.specs.Attributes.{is_understood}
 use Rattle.stun.specs.Messages.{Parts, message_of}
 use Rattle.control.specs.declared.unknown.TheConstants.{MAX_UNKNOWN}
 
--- a type behind others, if it isn't among them
+-- a type after others, if it isn't among them
 abbrev pub with_type : List ℕ → ℕ → List ℕ
 with_type kinds kind = if list_any (λ k. k == kind) kinds then kinds else kinds ++ kind ∷ []
 

@@ -1,7 +1,5 @@
 -- Meaning. The values of a request's attributes: a malformed one is a bad request.
-use Rattle.std.specs.Prelude.{ℕ, Bool, true, false, List, Option, None, Some, Result, Ok, Err, ok_or, option_map}
-use Rattle.attributes.specs.declared.address.Addr.{Addr}
-use Rattle.attributes.specs.declared.address.Addr.TheVariants.{V4, V6}
+use Rattle.std.specs.Prelude.{ℕ, List, Option, None, Some, Result, Ok, Err, ok_or, option_map}
 use Rattle.stun.specs.declared.registry.ErrorCode.{ErrorCode}
 use Rattle.stun.specs.declared.registry.ErrorCode.TheVariants.{BadRequest}
 
@@ -14,7 +12,3 @@ optional parse (Some value) = ok_or (option_map Some (parse value)) BadRequest
 abbrev pub required : {A : Type 0} → (List ℕ → Option A) → Option (List ℕ) → Result A ErrorCode
 required parse None = Err BadRequest
 required parse (Some value) = ok_or (parse value) BadRequest
-
-abbrev pub is_ipv4 : Addr → Bool
-is_ipv4 (V4 ip port) = true
-is_ipv4 (V6 ip port) = false

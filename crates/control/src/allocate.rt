@@ -1,16 +1,20 @@
 //! Allocate (RFC 8656, section 7).
 
-ghost use Rattle.std.specs.Prelude.{◌≡◌, IfOk, length};
+ghost use Rattle.std.specs.Prelude.{◌≡◌, ◌≤◌, IfOk, IsTrue, length};
+ghost use Rattle.tables.specs.Moments.{moment_of};
 ghost use Rattle.tables.specs.Rows.{rows_at};
-ghost use Rattle.control.specs.Control.{Gives, IsInside, allocate, allocate_anew, acceptable_lifetime, is_repeated};
+ghost use Rattle.tables.specs.Addresses.{is_ipv4};
+ghost use Rattle.control.specs.Serving.{Gives, IsInside};
+ghost use Rattle.control.specs.Control.{allocate, allocate_anew, acceptable_lifetime, is_repeated};
 
 use crate::lifetime::lifetime_for;
-use crate::owning::{allocation_of, error_of};
+use crate::owning::error_of;
 use crate::reply::Grant;
 use crate::values::{family_of, lifetime_of, transport_of};
 use attributes::Addr;
 use stun::Message;
 use stun::registry::{ErrorCode, family};
+use tables::uncounted::allocation_of;
 use tables::{Allocation, Tables};
 
 /// The protocol number of UDP.
@@ -50,8 +54,11 @@ fn allocate_anew(
     message: &Message<'_>,
     now: u64,
 ) -> Result<Grant, ErrorCode>
+    requires ipv4 { IsTrue (is_ipv4 client) }
     ensures gives { Gives (allocate_anew client user message.now (rows_at now tables.old)) tables.old result tables.new }
     ensures inside { IfOk result (IsInside (length tables.old.slots)) }
+    ensures moment { (tables.old.moment ≤ tables.new.moment)
+        × (tables.new.moment ≤ moment_of tables.old.moment now) }
     ensures slots { length tables.new.slots ≡ length tables.old.slots }
 {
     let lifetime = acceptable_lifetime(message)?;
@@ -73,9 +80,11 @@ pub(crate) fn allocate(
     message: &Message<'_>,
     now: u64,
 ) -> Result<Grant, ErrorCode>
-    ensures gives { Gives (allocate client user message.now tables.old (rows_at now tables.old))
-        tables.old result tables.new }
+    requires ipv4 { IsTrue (is_ipv4 client) }
+    ensures gives { Gives (allocate client user message.now (rows_at now tables.old)) tables.old result tables.new }
     ensures inside { IfOk result (IsInside (length tables.old.slots)) }
+    ensures moment { (tables.old.moment ≤ tables.new.moment)
+        × (tables.new.moment ≤ moment_of tables.old.moment now) }
     ensures slots { length tables.new.slots ≡ length tables.old.slots }
 {
     let Some(allocation) = allocation_of(tables, client, now) else {

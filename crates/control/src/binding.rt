@@ -1,10 +1,10 @@
 //! Binding (RFC 8489, section 12).
 
 ghost use Rattle.std.specs.Prelude.{◌≡◌};
-ghost use Rattle.control.specs.Control.{binding_grant};
+ghost use Rattle.control.specs.Control.{binding, granted};
 
 use crate::reply::Grant;
-use crate::unknown::all_understood;
+use crate::unknown::check_understood;
 use stun::Message;
 use stun::registry::ErrorCode;
 
@@ -13,8 +13,8 @@ use stun::registry::ErrorCode;
 /// # Errors
 /// 420 where an attribute isn't understood.
 pub(crate) fn binding(message: &Message<'_>) -> Result<Grant, ErrorCode>
-    ensures { result ≡ binding_grant message.now }
+    ensures { result ≡ granted (binding message.now) }
 {
-    all_understood(message)?;
+    check_understood(message)?;
     Ok(Grant::Mapped)
 }

@@ -3,7 +3,7 @@
 ghost use Rattle.std.specs.Prelude.{◌≡◌};
 ghost use Rattle.std.specs.List.{list_all};
 ghost use Rattle.stun.specs.Ranges.{is_between};
-ghost use Rattle.control.specs.Configs.{is_text, is_user, has_name, are_distinct};
+ghost use Rattle.control.specs.Configs.{is_text, is_nonce, is_user, has_name, are_distinct};
 
 use arrayvec::ArrayString;
 use credentials::User;
@@ -72,6 +72,13 @@ fn is_text(text: &[u8], lowest: u8, longest: usize) -> bool
     (1..=longest).contains(&text.len()) && are_printable(text, lowest)
 }
 
+/// Returns whether a text can be a nonce: 1 to 64 bytes of 0x21 to 0x7E.
+pub fn is_nonce(text: &str) -> bool
+    ensures { result ≡ is_nonce text.now }
+{
+    is_text(text.as_bytes(), 0x21, 64)
+}
+
 /// Returns whether a user's name and password lie within their limits.
 fn is_user(user: &User) -> bool
     ensures { result ≡ is_user user.now }
@@ -112,6 +119,7 @@ fn are_distinct(users: &[User]) -> bool
 impl Config {
     ghost use Rattle.std.specs.Prelude.{◌≡◌};
     ghost use Rattle.control.specs.Configs.{is_valid, fault};
+    ghost use Rattle.control.specs.ConfigLaws.{IsWithinLimits};
 
     /// Returns whether a field lies within its limits.
     fn is_valid(&self, field: Field) -> bool
@@ -124,7 +132,7 @@ impl Config {
                     && usize::from(self.first_port) + self.slots <= 65_536
             }
             Field::Realm => is_text(self.realm.as_bytes(), 0x20, 128),
-            Field::Nonce => is_text(self.nonce.as_bytes(), 0x21, 64),
+            Field::Nonce => is_nonce(self.nonce.as_str()),
             Field::Users => {
                 (1..=64).contains(&self.users.len())
                     && are_users(&self.users)
@@ -132,6 +140,12 @@ impl Config {
             }
         }
     }
+
+    /// States the limits of a configuration without a fault.
+    pub fn is_within_limits(&self)
+        requires { fault self.now ≡ None }
+        ensures { IsWithinLimits self.now }
+    {}
 
     /// Returns the first field that lies outside its limits, in their order; `None` where all lie within them.
     pub fn fault(&self) -> Option<Field>

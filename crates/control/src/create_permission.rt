@@ -1,22 +1,25 @@
 //! CreatePermission (RFC 8656, section 10).
 
-ghost use Rattle.std.specs.Prelude.{◌≡◌, bytes_eq, length};
-ghost use Rattle.std.specs.List.{list_any};
+ghost use Rattle.std.specs.Prelude.{◌≡◌, ◌≤◌, bytes_eq, true, Ok, IsTrue, length};
+ghost use Rattle.std.specs.List.{list_all, list_any};
 ghost use Rattle.attributes.specs.Addresses.{ip_of};
+ghost use Rattle.tables.specs.Moments.{moment_of};
 ghost use Rattle.tables.specs.Rows.{rows_at};
-ghost use Rattle.control.specs.Control.{Gives, create_permission, are_ipv4};
+ghost use Rattle.tables.specs.Addresses.{is_ipv4};
+ghost use Rattle.control.specs.Serving.{Gives, are_ipv4};
+ghost use Rattle.control.specs.Control.{create_permission};
 ghost use Rattle.tables.specs.PermitLaws.{StandsFor};
 ghost use Rattle.control.specs.Peers.{peers_of, with_peer};
 
 use crate::owning::{error_of, own_allocation};
 use crate::reply::Grant;
-use crate::values::{address_in, is_ipv4};
+use crate::values::address_in;
 use arrayvec::ArrayVec;
 use attributes::Addr;
 use stun::Message;
 use stun::registry::ErrorCode;
 use stun::registry::attribute::XOR_PEER_ADDRESS;
-use tables::{MAX_PERMISSIONS, Tables};
+use tables::{MAX_PERMISSIONS, Tables, is_ipv4};
 
 /// One address more than an allocation may permit.
 pub const MAX_PEERS: usize = MAX_PERMISSIONS + 1;
@@ -58,7 +61,8 @@ fn add_peer(peers: &mut ArrayVec<Addr, MAX_PEERS>, peer: Addr)
 /// Returns the first [`MAX_PEERS`] addresses of a request whose IP addresses differ. Permitting these is granted or
 /// refused exactly as permitting all is.
 fn distinct_peers(message: &Message<'_>) -> ArrayVec<Addr, MAX_PEERS>
-    ensures { StandsFor result.items (peers_of message.now) }
+    ensures same { StandsFor result.items (peers_of message.now) }
+    ensures ipv4 { are_ipv4 message.now ≡ Ok true → IsTrue (list_all is_ipv4 result.items) }
 {
     let tx = message.tx();
     let mut peers = ArrayVec::new();
@@ -84,6 +88,8 @@ pub(crate) fn create_permission(
 ) -> Result<Grant, ErrorCode>
     ensures gives { Gives (create_permission client user message.now (rows_at now tables.old))
         tables.old result tables.new }
+    ensures moment { (tables.old.moment ≤ tables.new.moment)
+        × (tables.new.moment ≤ moment_of tables.old.moment now) }
     ensures slots { length tables.new.slots ≡ length tables.old.slots }
 {
     let allocation = own_allocation(tables, client, user, now)?;

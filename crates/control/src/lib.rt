@@ -7,6 +7,7 @@ mod channel_bind;
 mod config;
 mod create_permission;
 mod lifetime;
+mod numbers;
 mod owning;
 mod refresh;
 mod reply;
@@ -15,6 +16,8 @@ mod responding;
 mod unknown;
 mod values;
 
-pub use config::{Config, Field};
+pub use config::{Config, Field, is_nonce};
 pub use lifetime::{MAX_LIFETIME, MIN_LIFETIME};
+pub use numbers::all_numbers;
 pub use responding::respond;
+pub use unknown::all_understood;

@@ -1,40 +1,13 @@
 //! The allocation of a client.
 
-ghost use Rattle.std.specs.Prelude.{◌≡◌, ◌<◌, IfOk, IfSome, length};
+ghost use Rattle.std.specs.Prelude.{◌≡◌, ◌<◌, IfOk, length};
 ghost use Rattle.tables.specs.Rows.{rows_at};
-ghost use Rattle.tables.specs.LookUps.{allocation_of};
 ghost use Rattle.control.specs.Control.{own_allocation, error_of};
 
 use attributes::Addr;
-use std::marker::Brand;
-use std::sync::ledger::{Blank, Ledger};
 use stun::registry::ErrorCode;
-use tables::{Allocation, Refused, Steps, Tables};
-
-/// Returns the allocation of a client at a moment. Look-ups take a counter, whose name `blank` gives.
-fn allocation_by<L: Ledger>(
-    tables: &Tables,
-    client: Addr,
-    now: u64,
-    blank: Blank,
-) -> Option<Allocation>
-    requires name { blank.name ≡ L.name }
-    requires parts { blank.parts ≡ L.parts }
-    requires some { 0 < L.parts }
-    ensures allocation { result ≡ allocation_of client (rows_at now tables.now) }
-    ensures inside { IfSome result (λ a. a.slot < length tables.now.slots) }
-{
-    let mut steps = Steps::<L>::new(blank);
-    tables.allocation_of(client, now, &mut steps).copied()
-}
-
-/// Returns the allocation of a client at a moment, over a counter that no contract names.
-pub(crate) fn allocation_of(tables: &Tables, client: Addr, now: u64) -> Option<Allocation>
-    ensures allocation { result ≡ allocation_of client (rows_at now tables.now) }
-    ensures inside { IfSome result (λ a. a.slot < length tables.now.slots) }
-{
-    allocation_by::<Brand>(tables, client, now, Blank::new(1))
-}
+use tables::uncounted::allocation_of;
+use tables::{Allocation, Refused, Tables};
 
 /// Returns the allocation of a client, which must be the user's.
 ///

@@ -1,8 +1,10 @@
 //! Refresh (RFC 8656, section 8).
 
-ghost use Rattle.std.specs.Prelude.{◌≡◌, length};
+ghost use Rattle.std.specs.Prelude.{◌≡◌, ◌≤◌, length};
+ghost use Rattle.tables.specs.Moments.{moment_of};
 ghost use Rattle.tables.specs.Rows.{rows_at};
-ghost use Rattle.control.specs.Control.{Gives, refresh};
+ghost use Rattle.control.specs.Serving.{Gives};
+ghost use Rattle.control.specs.Control.{refresh};
 
 use crate::lifetime::refresh_for;
 use crate::owning::{error_of, own_allocation};
@@ -25,6 +27,8 @@ pub(crate) fn refresh(
     now: u64,
 ) -> Result<Grant, ErrorCode>
     ensures gives { Gives (refresh client user message.now (rows_at now tables.old)) tables.old result tables.new }
+    ensures moment { (tables.old.moment ≤ tables.new.moment)
+        × (tables.new.moment ≤ moment_of tables.old.moment now) }
     ensures slots { length tables.new.slots ≡ length tables.old.slots }
 {
     let allocation = own_allocation(tables, client, user, now)?;

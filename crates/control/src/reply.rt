@@ -1,13 +1,14 @@
 //! Replies (RFC 8489, sections 6.3 and 9.2.4; RFC 8656, sections 7 to 12). There is always room for one, so none can fail.
 
-ghost use Rattle.std.specs.Prelude.{◌≡◌, ◌≤◌, ◌+◌, ◌<◌, [], ◌∷◌, take, length, IfOk, option_map, string_bytes};
-ghost use Rattle.stun.specs.Builders.{parts_of, used_of, capacity_of, SameBuffer};
+ghost use Rattle.std.specs.Prelude.{◌≡◌, ◌≤◌, ◌+◌, ◌<◌, [], ◌∷◌, take, drop, length, IfOk, option_map, string_bytes};
+ghost use Rattle.stun.specs.Builders.{bytes_of, parts_of, used_of, capacity_of, SameBuffer};
 ghost use Rattle.stun.specs.Messages.{parts_bytes};
 ghost use Rattle.stun.specs.declared.registry.Class.TheVariants as class;
 ghost use Rattle.credentials.specs.Keys.{key_bytes};
 ghost use Rattle.stun.specs.Endian.{big_bytes};
 ghost use Rattle.stun.specs.declared.registry.attribute.TheConstants.{LIFETIME as LIFETIME_TYPE};
-ghost use Rattle.control.specs.Replies.{attribute, signed_if, Pushes, HasPort, relayed_address, grant_attributes, challenge, error_details, error_attributes, reply, reply_to};
+ghost use Rattle.control.specs.Serving.{HasPort, IsKeptFrom, Pushes};
+ghost use Rattle.control.specs.Replies.{attribute, signed_if, relayed_address, grant_attributes, challenge, error_details, error_attributes, reply, reply_to};
 
 use crate::config::Config;
 use crate::request::Request;
@@ -98,6 +99,8 @@ fn sign_if(builder: &mut Builder<'_>, key: Option<Key>)
     requires room { used_of builder.old + 27 ≤ capacity_of builder.old }
     ensures parts { parts_of builder.new ≡ signed_if (option_map key_bytes key) (parts_of builder.old) }
     ensures room { capacity_of builder.new ≡ capacity_of builder.old }
+    ensures longer { used_of builder.old ≤ used_of builder.new }
+    ensures kept { IsKeptFrom (used_of builder.new) (bytes_of builder.old) (bytes_of builder.new) }
     ensures same_buffer { SameBuffer builder.old builder.new }
 {
     if let Some(key) = key {
@@ -118,6 +121,7 @@ pub(crate) fn write_grant(
     requires room { 1500 ≤ length out.old }
     requires port { HasPort config.now grant }
     ensures inside { result ≤ length out.new }
+    ensures rest { drop result out.new ≡ drop result out.old }
     ensures bytes { take result out.new ≡ parts_bytes (reply request class.Success tx.now
         (grant_attributes config.now client.now tx.now grant) (option_map key_bytes key)) }
 {
@@ -142,6 +146,7 @@ pub(crate) fn write_error(
     requires room { 1500 ≤ length out.old }
     requires realm { length (string_bytes config.now.realm) ≤ 128 }
     ensures inside { result ≤ length out.new }
+    ensures rest { drop result out.new ≡ drop result out.old }
     ensures bytes { take result out.new ≡ parts_bytes (reply request class.Error message.now.transaction_id
         (error_attributes config.now message.now error) (option_map key_bytes key)) }
 {
@@ -169,6 +174,7 @@ pub(crate) fn write_reply(
     requires realm { length (string_bytes config.now.realm) ≤ 128 }
     requires port { IfOk decision (HasPort config.now) }
     ensures inside { result ≤ length out.new }
+    ensures rest { drop result out.new ≡ drop result out.old }
     ensures bytes { take result out.new
         ≡ parts_bytes (reply_to config.now request client.now message.now (option_map key_bytes key) decision) }
 {

@@ -5,14 +5,22 @@ ghost use Rattle.std.specs.Prelude.{◌≡◌};
 use stun::Message;
 use stun::registry::{Class, MessageType, Method};
 
-/// A request that is answered, by its method.
+/// A request of TURN, whose credentials are checked, by its method (RFC 8656).
 #[derive(Clone, Copy, Debug, PartialEq, Eq)]
-pub enum Request {
-    Binding,
+pub enum TurnRequest {
     Allocate,
     Refresh,
     CreatePermission,
     ChannelBind,
+}
+
+/// A request that is answered.
+#[derive(Clone, Copy, Debug, PartialEq, Eq)]
+pub enum Request {
+    /// Binding (RFC 8489, section 12).
+    Binding,
+    /// One of TURN.
+    Turn(TurnRequest),
 }
 
 impl Request {
@@ -27,10 +35,10 @@ impl Request {
     {
         match self {
             Request::Binding => Method::Binding,
-            Request::Allocate => Method::Allocate,
-            Request::Refresh => Method::Refresh,
-            Request::CreatePermission => Method::CreatePermission,
-            Request::ChannelBind => Method::ChannelBind,
+            Request::Turn(TurnRequest::Allocate) => Method::Allocate,
+            Request::Turn(TurnRequest::Refresh) => Method::Refresh,
+            Request::Turn(TurnRequest::CreatePermission) => Method::CreatePermission,
+            Request::Turn(TurnRequest::ChannelBind) => Method::ChannelBind,
         }
     }
 
@@ -61,10 +69,12 @@ impl Request {
     {
         match (found.method, found.class) {
             (Method::Binding, Class::Request) => Some(Request::Binding),
-            (Method::Allocate, Class::Request) => Some(Request::Allocate),
-            (Method::Refresh, Class::Request) => Some(Request::Refresh),
-            (Method::CreatePermission, Class::Request) => Some(Request::CreatePermission),
-            (Method::ChannelBind, Class::Request) => Some(Request::ChannelBind),
+            (Method::Allocate, Class::Request) => Some(Request::Turn(TurnRequest::Allocate)),
+            (Method::Refresh, Class::Request) => Some(Request::Turn(TurnRequest::Refresh)),
+            (Method::CreatePermission, Class::Request) => Some(Request::Turn(
+                TurnRequest::CreatePermission,
+            )),
+            (Method::ChannelBind, Class::Request) => Some(Request::Turn(TurnRequest::ChannelBind)),
             _ => None,
         }
     }

@@ -1,11 +1,14 @@
 //! The answers to messages.
 
-ghost use Rattle.std.specs.Prelude.{◌≡◌, ◌≤◌, ◌+◌, None, Ok, Err, length, take, IfOk, IfErr, string_bytes};
+ghost use Rattle.std.specs.Prelude.{◌≡◌, ◌≤◌, ◌+◌, None, Ok, Err, length, take, IfOk, IfErr, IsTrue, drop, string_bytes};
 ghost use Rattle.credentials.specs.Checks.{IsChecked, accounts_of, user_key};
 ghost use Rattle.credentials.specs.Keys.{key_bytes};
+ghost use Rattle.tables.specs.Moments.{moment_of};
 ghost use Rattle.tables.specs.Rows.{rows_at};
 ghost use Rattle.control.specs.Configs.{fault};
-ghost use Rattle.control.specs.Control.{Gives, IsInside, understood_and_served, refused_credentials};
+ghost use Rattle.control.specs.Control.{understood_and_served, refused_credentials};
+ghost use Rattle.control.specs.Serving.{Gives, IsInside};
+ghost use Rattle.tables.specs.Addresses.{is_ipv4};
 ghost use Rattle.control.specs.Responding.{IsCheckedAnswer, Responds};
 
 use crate::allocate::allocate;
@@ -15,14 +18,13 @@ use crate::config::Config;
 use crate::create_permission::create_permission;
 use crate::refresh::refresh;
 use crate::reply::{Grant, write_reply};
-use crate::request::Request;
-use crate::unknown::all_understood;
-use crate::values::is_ipv4;
+use crate::request::{Request, TurnRequest};
+use crate::unknown::check_understood;
 use attributes::Addr;
 use credentials::{AuthError, Authenticated, authenticate};
 use stun::Message;
 use stun::registry::ErrorCode;
-use tables::Tables;
+use tables::{Tables, is_ipv4};
 
 /// Returns the error of credentials that are refused.
 fn refused_credentials(error: AuthError) -> ErrorCode
@@ -37,30 +39,32 @@ fn refused_credentials(error: AuthError) -> ErrorCode
     }
 }
 
-/// Answers a request of a user whose credentials were accepted.
+/// Answers a request of TURN of a user whose credentials were accepted.
 ///
 /// # Errors
 /// The error of the first test that fails.
 fn serve(
     tables: &mut Tables,
-    request: Request,
+    request: TurnRequest,
     client: Addr,
     user: usize,
     message: &Message<'_>,
     now: u64,
 ) -> Result<Grant, ErrorCode>
-    ensures gives { Gives (understood_and_served request client user message.now tables.old (rows_at now tables.old))
+    requires ipv4 { IsTrue (is_ipv4 client) }
+    ensures gives { Gives (understood_and_served request client user message.now (rows_at now tables.old))
         tables.old result tables.new }
     ensures inside { IfOk result (IsInside (length tables.old.slots)) }
+    ensures moment { (tables.old.moment ≤ tables.new.moment)
+        × (tables.new.moment ≤ moment_of tables.old.moment now) }
     ensures slots { length tables.new.slots ≡ length tables.old.slots }
 {
-    all_understood(message)?;
+    check_understood(message)?;
     match request {
-        Request::Binding => Ok(Grant::Mapped),
-        Request::Allocate => allocate(tables, client, user, message, now),
-        Request::Refresh => refresh(tables, client, user, message, now),
-        Request::CreatePermission => create_permission(tables, client, user, message, now),
-        Request::ChannelBind => channel_bind(tables, client, user, message, now),
+        TurnRequest::Allocate => allocate(tables, client, user, message, now),
+        TurnRequest::Refresh => refresh(tables, client, user, message, now),
+        TurnRequest::CreatePermission => create_permission(tables, client, user, message, now),
+        TurnRequest::ChannelBind => channel_bind(tables, client, user, message, now),
     }
 }
 
@@ -79,35 +83,40 @@ fn check_credentials(config: &Config, message: &Message<'_>) -> Result<Authentic
     authenticate(message, &config.realm, &config.users, config.nonce.as_str())
 }
 
-/// Answers a request whose credentials are asked for, and returns the length of the reply.
+/// Answers a request of TURN, and returns the length of the reply.
 fn answer_user(
     tables: &mut Tables,
     config: &Config,
     now: u64,
     client: Addr,
-    request: Request,
+    request: TurnRequest,
     message: &Message<'_>,
     out: &mut [u8],
 ) -> usize
     requires room { 1500 ≤ length out.old }
+    requires ipv4 { IsTrue (is_ipv4 client) }
     requires realm { length (string_bytes config.now.realm) ≤ 128 }
     requires ports { config.now.first_port + config.now.slots ≤ 0x10000 }
     requires slots { length tables.old.slots ≡ config.now.slots }
     ensures inside { result ≤ length out.new }
+    ensures rest { drop result out.new ≡ drop result out.old }
     ensures answer { IsCheckedAnswer config.now now request client message.now tables.old tables.new
         (take result out.new) }
+    ensures moment { (tables.old.moment ≤ tables.new.moment)
+        × (tables.new.moment ≤ moment_of tables.old.moment now) }
     ensures slots { length tables.new.slots ≡ length tables.old.slots }
 {
+    let reply = Request::Turn(request);
     match check_credentials(config, message) {
         Ok(authenticated) => {
             let user = authenticated.user;
             let decision = serve(tables, request, client, user, message, now);
             let key = Some(authenticated.key);
-            write_reply(out, config, request, &client, message, decision, key)
+            write_reply(out, config, reply, &client, message, decision, key)
         }
         Err(error) => {
             let decision = Err(refused_credentials(error));
-            write_reply(out, config, request, &client, message, decision, None)
+            write_reply(out, config, reply, &client, message, decision, None)
         }
     }
 }
@@ -131,7 +140,10 @@ pub fn respond(
     requires config { fault config.now ≡ None }
     requires slots { length tables.old.slots ≡ config.now.slots }
     ensures inside { result ≤ length out.new }
+    ensures rest { drop result out.new ≡ drop result out.old }
     ensures responds { Responds config.now now client message.now tables.old tables.new (take result out.new) }
+    ensures moment { (tables.old.moment ≤ tables.new.moment)
+        × (tables.new.moment ≤ moment_of tables.old.moment now) }
     ensures slots { length tables.new.slots ≡ length tables.old.slots }
 {
     let Some(request) = Request::of(message) else {
@@ -145,6 +157,6 @@ pub fn respond(
             let decision = binding(message);
             write_reply(out, config, request, &client, message, decision, None)
         }
-        _ => answer_user(tables, config, now, client, request, message, out),
+        Request::Turn(turn) => answer_user(tables, config, now, client, turn, message, out),
     }
 }

@@ -1,7 +1,7 @@
 //! The types of attributes that are not understood (RFC 8489, section 6.3.1).
 
 ghost use Rattle.std.specs.Prelude.{◌≡◌, ◌≤◌, length, take};
-ghost use Rattle.control.specs.Control.{all_understood};
+ghost use Rattle.control.specs.Control.{all_understood, understood};
 ghost use Rattle.control.specs.Unknown.{unknown_types, with_type};
 ghost use Rattle.control.specs.declared.unknown.TheConstants.{MAX_UNKNOWN};
 
@@ -37,14 +37,21 @@ pub(crate) fn unknown_types(message: &Message<'_>) -> ArrayVec<u16, MAX_UNKNOWN>
     kinds
 }
 
+/// Returns whether all attributes of a message are understood.
+pub fn all_understood(message: &Message<'_>) -> bool
+    ensures { result ≡ all_understood message.now }
+{
+    unknown_types(message).is_empty()
+}
+
 /// Requires all attributes of a request to be understood.
 ///
 /// # Errors
 /// 420 where one isn't.
-pub(crate) fn all_understood(message: &Message<'_>) -> Result<(), ErrorCode>
-    ensures { result ≡ all_understood message.now }
+pub(crate) fn check_understood(message: &Message<'_>) -> Result<(), ErrorCode>
+    ensures { result ≡ understood message.now }
 {
-    if unknown_types(message).is_empty() {
+    if all_understood(message) {
         Ok(())
     } else {
         Err(ErrorCode::UnknownAttribute)

@@ -5,7 +5,7 @@ ghost use Rattle.credentials.specs.Checks.{first_value};
 ghost use Rattle.stun.specs.declared.registry.attribute.TheConstants.{CHANNEL_NUMBER as CHANNEL_TYPE, LIFETIME as LIFETIME_TYPE, XOR_PEER_ADDRESS as PEER_TYPE, REQUESTED_ADDRESS_FAMILY as FAMILY_TYPE, REQUESTED_TRANSPORT as TRANSPORT_TYPE};
 ghost use Rattle.attributes.specs.Addresses.{address_in};
 ghost use Rattle.attributes.specs.Values.{number_of_value};
-ghost use Rattle.control.specs.Values.{is_ipv4, optional, required};
+ghost use Rattle.control.specs.Values.{optional, required};
 
 use attributes::{
     Addr, channel_number, lifetime, read_xor_addr, requested_family, requested_transport,
@@ -73,14 +73,4 @@ pub(crate) fn peer_of(message: &Message<'_>) -> Result<Addr, ErrorCode>
         .value_of(XOR_PEER_ADDRESS)
         .ok_or(ErrorCode::BadRequest)?;
     address_in(value, &message.tx()).ok_or(ErrorCode::BadRequest)
-}
-
-/// Returns whether an address is one of IPv4.
-pub(crate) fn is_ipv4(address: &Addr) -> bool
-    ensures { result ≡ is_ipv4 address.now }
-{
-    match address {
-        Addr::V4 { .. } => true,
-        Addr::V6 { .. } => false,
-    }
 }

@@ -1,5 +1,6 @@
 use Rattle.std.proofs.Common.{◌≡◌}
-use Rattle.control.specs.Control.{addresses_in, are_ipv4}
+use Rattle.control.specs.Control.{addresses_in}
+use Rattle.control.specs.Serving.{are_ipv4}
 use Rattle.control.proofs.Peers.{combined}
 use Rattle.control.proofs.create_permission.are_ipv4.Given as goal
 

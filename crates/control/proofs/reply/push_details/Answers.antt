@@ -1,4 +1,5 @@
 use Rattle.std.proofs.Common.{rules}
+use Rattle.control.proofs.Kept.{appended_longer, appended_kept}
 use Rattle.control.proofs.reply.push_details.Goals as goal
 
 pub returns-in-Unauthenticated : goal.returns-in-Unauthenticated
@@ -13,4 +14,6 @@ returns-in-UnknownAttribute c = record {
   used = search rules;
   room = search rules;
   same_buffer = search rules;
+  longer = appended_longer c.push_unknown.ensures.appends;
+  kept = appended_kept c.push_unknown.ensures.appends;
 }
