@@ -4,7 +4,8 @@ use Rattle.std.specs.List.{list_all}
 use Rattle.std.proofs.lemmas.Bool.{both_ways, leb-true}
 use Rattle.std.proofs.lemmas.Option.{none-some}
 use Rattle.std.proofs.Common.{sym}
-use Rattle.control.specs.Configs.{is_between, is_text, is_user, are_distinct, is_valid, fault}
+use Rattle.stun.specs.Ranges.{is_between}
+use Rattle.control.specs.Configs.{is_text, is_user, are_distinct, is_valid, fault}
 use Rattle.control.specs.declared.config.Config.{Config}
 use Rattle.control.specs.declared.config.Field.TheVariants.{FirstPort, Slots, Realm, Nonce, Users}
 
