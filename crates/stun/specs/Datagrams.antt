@@ -12,7 +12,9 @@ use Rattle.stun.specs.declared.registry.TheConstants.{FIRST_CHANNEL, LAST_CHANNE
 
 -- type and length have 16 bits, and the padding has its length
 abbrev pub is_padded : Padded → Bool
-is_padded a = nat_lt a.kind 0x10000 && nat_lt (length a.value) 0x10000 && (length a.padding == padding_count (length a.value))
+is_padded a =
+    nat_lt a.kind 0x10000 && nat_lt (length a.value) 0x10000
+    && (length a.padding == padding_count (length a.value))
 
 -- a type of 14 bits, an id of 96, and attributes whose length has 16 bits
 abbrev pub are_parts : Parts → Bool
@@ -39,5 +41,8 @@ is_channel_data bytes =
 -- that channel message, if there is one
 abbrev pub channel_in : List ℕ → Option ChannelMessage
 channel_in bytes =
-    if is_channel_data bytes then Some (record { number = number_at 2 0 bytes; bytes = take (number_at 2 2 bytes) (drop 4 bytes) })
+    if is_channel_data bytes then Some (record {
+      number = number_at 2 0 bytes;
+      bytes = take (number_at 2 2 bytes) (drop 4 bytes);
+    })
     else None
