@@ -5,6 +5,7 @@ mod allocate;
 mod binding;
 mod channel_bind;
 mod config;
+mod config_clone;
 mod create_permission;
 mod lifetime;
 mod numbers;

@@ -1,7 +1,7 @@
 //! Configurations: a relay's, and the first field that lies outside its limits.
 
 use arrayvec::ArrayString;
-use control::{Config, Field};
+use control::{Config, Field, is_nonce};
 use credentials::User;
 use std::alloc::{AllocError, Global};
 use std::process::Abort;
@@ -32,9 +32,9 @@ pub fn config(rt: &impl Abort, alloc: Global) -> Result<Config, AllocError> {
     })
 }
 
-#[test]
-fn a_field_outside_its_limits_is_named(rt: HostRuntime) -> Result<(), Fail> {
-    let mut config = config(&rt, rt.alloc())?;
+/// Checks the limits of the port and of the slots.
+fn check_numbers(rt: &impl Abort, alloc: Global) -> Result<(), Fail> {
+    let mut config = config(rt, alloc)?;
     assert_eq!(rt; config.fault(), None);
     config.first_port = 65_535;
     assert_eq!(rt; config.fault(), Some(Field::Slots));
@@ -61,9 +61,8 @@ fn letters(alloc: Global, n: usize) -> Result<String, AllocError> {
     Ok(text)
 }
 
-#[test]
-fn texts_have_their_limits(rt: HostRuntime) -> Result<(), Fail> {
-    let alloc = rt.alloc();
+/// Checks the limits of texts.
+fn check_texts(rt: &impl Abort, alloc: Global) -> Result<(), Fail> {
     let rows = [
         ("", "pass"),
         ("a b", "pass"),
@@ -74,11 +73,11 @@ fn texts_have_their_limits(rt: HostRuntime) -> Result<(), Fail> {
         ("user", "pass"),
     ];
     for (name, password) in rows {
-        let mut config = config(&rt, alloc)?;
+        let mut config = config(rt, alloc)?;
         config.users.push(user(alloc, name, password)?)?;
         assert_eq!(rt; config.fault(), Some(Field::Users), "{name} {password}");
     }
-    let mut config = config(&rt, alloc)?;
+    let mut config = config(rt, alloc)?;
     config.users.push(user(alloc, "a", "with a blank:~")?)?;
     assert_eq!(rt; config.fault(), None);
     config.realm = letters(alloc, 128)?;
@@ -93,4 +92,45 @@ fn texts_have_their_limits(rt: HostRuntime) -> Result<(), Fail> {
     config.nonce = ArrayString::new();
     assert_eq!(rt; config.fault(), Some(Field::Nonce));
     Ok(())
+}
+
+/// Checks which texts can be a nonce.
+fn check_nonces(rt: &impl Abort, alloc: Global) -> Result<(), Fail> {
+    let rows = [
+        ("", false),
+        ("n1", true),
+        ("!~", true),
+        ("a b", false),
+        ("\u{7f}", false),
+    ];
+    for (text, is_one) in rows {
+        assert_eq!(rt; is_nonce(text), is_one, "{text}");
+    }
+    assert!(rt; is_nonce(&letters(alloc, 64)?));
+    assert!(rt; !is_nonce(&letters(alloc, 65)?));
+    Ok(())
+}
+
+/// Checks that a copy has the values of its source.
+fn check_copy(rt: &impl Abort, alloc: Global) -> Result<(), Fail> {
+    let config = config(rt, alloc)?;
+    let copy = config.clone()?;
+    assert_eq!(rt; copy.ip, config.ip);
+    assert_eq!(rt; copy.first_port, config.first_port);
+    assert_eq!(rt; copy.slots, config.slots);
+    assert!(rt; copy.realm == config.realm);
+    assert!(rt; copy.nonce.as_str() == config.nonce.as_str());
+    assert_eq!(rt; copy.users.len(), config.users.len());
+    for (new, old) in copy.users.iter().zip(&config.users) {
+        assert!(rt; new.name == old.name && new.password == old.password);
+    }
+    Ok(())
+}
+
+#[test]
+fn configurations_have_their_limits(rt: HostRuntime) -> Result<(), Fail> {
+    check_numbers(&rt, rt.alloc())?;
+    check_texts(&rt, rt.alloc())?;
+    check_nonces(&rt, rt.alloc())?;
+    check_copy(&rt, rt.alloc())
 }

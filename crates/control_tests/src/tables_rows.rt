@@ -1,14 +1,15 @@
 //! Rows that end by themselves: stories whose look-ups were worked out by hand.
 
-ghost use Rattle.std.specs.Prelude.{◌≡◌, ◌<◌};
+ghost use Rattle.std.specs.Prelude.{◌≡◌, IsTrue};
+ghost use Rattle.std.specs.List.{list_all};
+ghost use Rattle.tables.specs.Addresses.{is_ipv4};
 
 use attributes::Addr;
 use std::alloc::{AllocError, Global};
 use std::fmt::Debug;
-use std::marker::Brand;
 use std::process::Abort;
-use std::sync::ledger::{Blank, Ledger};
-use tables::{Refused, Steps, Tables};
+use tables::uncounted::{allocation_at, allocation_of, channel_of, peer_of, permitted};
+use tables::{Binding, Channel, FIRST_CHANNEL, LAST_CHANNEL, Refused, Tables, is_ipv4};
 
 /// The first client, which gets slot 0.
 const CLIENT: Addr = Addr::V4 {
@@ -31,8 +32,10 @@ const NUMBER: u16 = 0x4001;
 
 const TX: [u8; 12] = [7; 12];
 
-/// Returns the peer 192.0.2.`last` at a port.
-fn peer(last: u8, port: u16) -> Addr {
+/// Returns the address 192.0.2.`last` at a port.
+fn peer(last: u8, port: u16) -> Addr
+    ensures { IsTrue (is_ipv4 result) }
+{
     Addr::V4 {
         ip: [192, 0, 2, last],
         port,
@@ -59,45 +62,22 @@ const NOTHING: Found = Found {
     is_permitted: false,
 };
 
-fn look_up_by<L: Ledger>(tables: &Tables, now: u64, blank: Blank) -> Found
-    requires name { blank.name ≡ L.name }
-    requires parts { blank.parts ≡ L.parts }
-    requires some { 0 < L.parts }
-{
-    let mut steps = Steps::<L>::new(blank);
-    let client = match tables.allocation_of(CLIENT, now, &mut steps) {
+fn look_up(tables: &Tables, now: u64) -> Found {
+    let client = match allocation_of(tables, CLIENT, now) {
         Some(allocation) => Some((allocation.slot, allocation.end)),
         None => None,
     };
-    let slot = match tables.allocation_at(0, now, &mut steps) {
+    let slot = match allocation_at(tables, 0, now) {
         Some(allocation) => Some((allocation.user, allocation.lifetime)),
         None => None,
     };
     Found {
         client,
         slot,
-        peer: tables.peer_of(0, NUMBER, now, &mut steps),
-        channel: tables.channel_of(0, peer(7, 5000), now, &mut steps),
-        is_permitted: tables.permitted(0, peer(7, 9), now, &mut steps),
+        peer: peer_of(tables, 0, NUMBER, now),
+        channel: channel_of(tables, 0, peer(7, 5000), now),
+        is_permitted: permitted(tables, 0, peer(7, 9), now),
     }
-}
-
-fn look_up(tables: &Tables, now: u64) -> Found {
-    look_up_by::<Brand>(tables, now, Blank::new(1))
-}
-
-/// Returns whether an address has a permission at slot 0.
-fn is_permitted_by<L: Ledger>(tables: &Tables, last: u8, now: u64, blank: Blank) -> bool
-    requires name { blank.name ≡ L.name }
-    requires parts { blank.parts ≡ L.parts }
-    requires some { 0 < L.parts }
-{
-    let mut steps = Steps::<L>::new(blank);
-    tables.permitted(0, peer(last, 0), now, &mut steps)
-}
-
-fn is_permitted(tables: &Tables, last: u8, now: u64) -> bool {
-    is_permitted_by::<Brand>(tables, last, now, Blank::new(1))
 }
 
 /// A change, or a look-up, with its result.
@@ -115,6 +95,10 @@ enum Step<'a> {
     Find(u64, Found),
     /// Whether 192.0.2.x has a permission.
     IsPermitted(u64, u8, bool),
+    /// The permissions of slot 0: the last byte of each address, and its end.
+    Permissions(u64, &'a [(u8, u64)]),
+    /// The channels of slot 0: each number with its peer and its end.
+    Channels(u64, &'a [(u16, Addr, u64)]),
 }
 
 /// Makes some steps on new tables, and checks their results.
@@ -138,24 +122,79 @@ fn expect<T: Copy + PartialEq + Debug>(rt: &impl Abort, index: usize, found: T, 
     assert_eq!(rt; found, expected, "step {index}");
 }
 
+/// Compares the permissions of slot 0.
+fn check_permissions(
+    rt: &impl Abort,
+    tables: &Tables,
+    index: usize,
+    now: u64,
+    expected: &[(u8, u64)],
+) {
+    let rows = tables.permissions(0, now);
+    assert_eq!(rt; rows.len(), expected.len(), "step {index}");
+    for (row, (last, end)) in rows.iter().zip(expected) {
+        assert!(rt;
+            row.ip.ip() == peer(*last, 0).ip() && row.end == *end,
+            "step {index}"
+        );
+    }
+}
+
+/// Compares the channels of slot 0.
+fn check_channels(
+    rt: &impl Abort,
+    tables: &Tables,
+    index: usize,
+    now: u64,
+    expected: &[(u16, Addr, u64)],
+) {
+    let rows = tables.channels(0, now);
+    assert_eq!(rt; rows.len(), expected.len(), "step {index}");
+    for (row, (number, peer, end)) in rows.iter().zip(expected) {
+        let binding = Binding {
+            peer: *peer,
+            end: *end,
+        };
+        let channel = Channel {
+            number: *number,
+            binding,
+        };
+        assert_eq!(rt; *row, channel, "step {index}");
+    }
+}
+
+/// Returns whether all addresses are of IPv4.
+fn are_ipv4(ips: &[Addr]) -> bool
+    ensures { result ≡ list_all is_ipv4 ips.now }
+{
+    ips.iter().all(|ip| is_ipv4(ip))
+}
+
 fn check_step(rt: &impl Abort, tables: &mut Tables, index: usize, step: Step<'_>) {
     match step {
         Step::Allocate(now, client, user, lifetime, result) => {
+            assert!(rt; is_ipv4(&client));
             let slot = tables.allocate(now, client, user, TX, lifetime);
             expect(rt, index, slot, result);
         }
         Step::Refresh(now, slot, lifetime, result) => {
             expect(rt, index, tables.refresh(now, slot, lifetime), result);
         }
-        Step::Permit(now, ips, result) => expect(rt, index, tables.permit(now, 0, ips), result),
+        Step::Permit(now, ips, result) => {
+            assert!(rt; are_ipv4(ips));
+            expect(rt, index, tables.permit(now, 0, ips), result);
+        }
         Step::Bind(now, number, peer, result) => {
-            assert!(rt; (0x4000..=0x4fff).contains(&number));
+            assert!(rt; (FIRST_CHANNEL..=LAST_CHANNEL).contains(&number) && is_ipv4(&peer));
             expect(rt, index, tables.bind(now, 0, number, peer), result);
         }
         Step::Find(now, found) => expect(rt, index, look_up(tables, now), found),
         Step::IsPermitted(now, last, result) => {
-            expect(rt, index, is_permitted(tables, last, now), result);
+            let found = permitted(tables, 0, peer(last, 0), now);
+            expect(rt, index, found, result);
         }
+        Step::Permissions(now, expected) => check_permissions(rt, tables, index, now, expected),
+        Step::Channels(now, expected) => check_channels(rt, tables, index, now, expected),
     }
 }
 
@@ -165,8 +204,7 @@ const PEER: Addr = Addr::V4 {
     port: 5000,
 };
 
-#[test]
-fn an_allocation_ends_with_its_rows(rt: HostRuntime) -> Result<(), AllocError> {
+fn an_allocation_ends_with_its_rows(rt: &impl Abort, alloc: Global) -> Result<(), AllocError> {
     let allocated = Found {
         client: Some((0, 1600)),
         slot: Some((3, 600)),
@@ -189,18 +227,20 @@ fn an_allocation_ends_with_its_rows(rt: HostRuntime) -> Result<(), AllocError> {
         Step::Bind(1000, NUMBER, PEER, Ok(())),
         // the permission ends at 1300, and both the channel and the allocation at 1600
         Step::Find(1299, bound),
+        Step::Permissions(1299, &[(7, 1300)]),
         Step::Find(1300, lapsed),
+        Step::Permissions(1300, &[]),
         Step::Find(1599, lapsed),
+        Step::Channels(1599, &[(NUMBER, PEER, 1600)]),
         Step::Find(1600, NOTHING),
         // a look-up changes nothing, and a moment before the greatest of the changes counts as that
         Step::Find(1000, bound),
         Step::Find(0, bound),
     ];
-    check_steps(&rt, rt.alloc(), 2, &steps)
+    check_steps(rt, alloc, 2, &steps)
 }
 
-#[test]
-fn a_refreshed_allocation_keeps_its_rows(rt: HostRuntime) -> Result<(), AllocError> {
+fn a_refreshed_allocation_keeps_its_rows(rt: &impl Abort, alloc: Global) -> Result<(), AllocError> {
     let kept = Found {
         client: Some((0, 4700)),
         slot: Some((0, 600)),
@@ -234,11 +274,13 @@ fn a_refreshed_allocation_keeps_its_rows(rt: HostRuntime) -> Result<(), AllocErr
         Step::Refresh(1100, 0, 600, Ok(())),
         Step::Find(1100, moved),
     ];
-    check_steps(&rt, rt.alloc(), 1, &steps)
+    check_steps(rt, alloc, 1, &steps)
 }
 
-#[test]
-fn a_deleted_allocation_takes_its_rows_along(rt: HostRuntime) -> Result<(), AllocError> {
+fn a_deleted_allocation_takes_its_rows_along(
+    rt: &impl Abort,
+    alloc: Global,
+) -> Result<(), AllocError> {
     let fresh = Found {
         client: Some((0, 1700)),
         slot: Some((1, 700)),
@@ -253,11 +295,10 @@ fn a_deleted_allocation_takes_its_rows_along(rt: HostRuntime) -> Result<(), Allo
         Step::Allocate(1000, CLIENT, 1, 700, Ok(0)),
         Step::Find(1000, fresh),
     ];
-    check_steps(&rt, rt.alloc(), 1, &steps)
+    check_steps(rt, alloc, 1, &steps)
 }
 
-#[test]
-fn the_lowest_free_slot_is_taken(rt: HostRuntime) -> Result<(), AllocError> {
+fn the_lowest_free_slot_is_taken(rt: &impl Abort, alloc: Global) -> Result<(), AllocError> {
     let steps = [
         Step::Allocate(1000, OTHER_CLIENT, 0, 600, Ok(0)),
         Step::Allocate(1000, CLIENT, 0, 700, Ok(1)),
@@ -267,11 +308,10 @@ fn the_lowest_free_slot_is_taken(rt: HostRuntime) -> Result<(), AllocError> {
         Step::Allocate(1600, THIRD_CLIENT, 0, 600, Ok(0)),
         Step::Refresh(1600, 2, 600, Err(Refused::NoAllocation)),
     ];
-    check_steps(&rt, rt.alloc(), 2, &steps)
+    check_steps(rt, alloc, 2, &steps)
 }
 
-#[test]
-fn a_channel_and_a_peer_belong_together(rt: HostRuntime) -> Result<(), AllocError> {
+fn a_channel_and_a_peer_belong_together(rt: &impl Abort, alloc: Global) -> Result<(), AllocError> {
     let held = Found {
         client: Some((0, 4600)),
         slot: Some((0, 3600)),
@@ -301,8 +341,13 @@ fn a_channel_and_a_peer_belong_together(rt: HostRuntime) -> Result<(), AllocErro
         Step::Find(1599, bound),
         Step::Bind(1600, NUMBER, peer(8, 5000), Ok(())),
         Step::Find(1600, moved),
+        Step::Permissions(1600, &[(7, 1899), (8, 1900)]),
+        Step::Channels(
+            1600,
+            &[(0x4002, peer(7, 5001), 2199), (NUMBER, peer(8, 5000), 2200)],
+        ),
     ];
-    check_steps(&rt, rt.alloc(), 1, &steps)
+    check_steps(rt, alloc, 1, &steps)
 }
 
 /// Returns the addresses 192.0.2.0 to 192.0.2.64.
@@ -314,11 +359,25 @@ fn addresses() -> [Addr; 65] {
     addresses
 }
 
-#[test]
-fn only_distinct_addresses_that_count_fill_capacity(rt: HostRuntime) -> Result<(), AllocError> {
+/// The address 192.0.2.3 at two ports.
+const TWICE: [Addr; 2] = [
+    Addr::V4 {
+        ip: [192, 0, 2, 3],
+        port: 1,
+    },
+    Addr::V4 {
+        ip: [192, 0, 2, 3],
+        port: 2,
+    },
+];
+
+fn only_distinct_addresses_that_count_fill_capacity(
+    rt: &impl Abort,
+    alloc: Global,
+) -> Result<(), AllocError> {
     let addresses = addresses();
     let (front, last) = addresses.split_at(64);
-    let twice = [peer(3, 1), peer(3, 2)];
+    let (none, _) = addresses.split_at(0);
     let steps = [
         Step::Permit(1000, &addresses, Err(Refused::NoAllocation)),
         Step::Allocate(1000, CLIENT, 0, 3600, Ok(0)),
@@ -329,20 +388,19 @@ fn only_distinct_addresses_that_count_fill_capacity(rt: HostRuntime) -> Result<(
         Step::Permit(1299, front, Ok(())),
         Step::Permit(1299, last, Err(Refused::Capacity)),
         Step::Bind(1299, NUMBER, peer(64, 1), Err(Refused::Capacity)),
-        // ports don't tell addresses apart
-        Step::Permit(1299, &twice, Ok(())),
-        Step::Permit(1299, &[], Ok(())),
+        // of an address, the port doesn't count
+        Step::Permit(1299, &TWICE, Ok(())),
+        Step::Permit(1299, none, Ok(())),
         // they end at 1599
         Step::IsPermitted(1598, 63, true),
         Step::IsPermitted(1599, 63, false),
         Step::Permit(1599, last, Ok(())),
         Step::IsPermitted(1599, 64, true),
     ];
-    check_steps(&rt, rt.alloc(), 1, &steps)
+    check_steps(rt, alloc, 1, &steps)
 }
 
-#[test]
-fn what_is_refused_later_is_there_before(rt: HostRuntime) -> Result<(), AllocError> {
+fn what_is_refused_later_is_there_before(rt: &impl Abort, alloc: Global) -> Result<(), AllocError> {
     let addresses = addresses();
     let (front, _) = addresses.split_at(64);
     let steps = [
@@ -353,11 +411,13 @@ fn what_is_refused_later_is_there_before(rt: HostRuntime) -> Result<(), AllocErr
         Step::IsPermitted(1200, 0, true),
         Step::IsPermitted(1200, 63, true),
     ];
-    check_steps(&rt, rt.alloc(), 1, &steps)
+    check_steps(rt, alloc, 1, &steps)
 }
 
-#[test]
-fn a_moment_after_the_latest_counts_as_that(rt: HostRuntime) -> Result<(), AllocError> {
+fn a_moment_after_the_latest_counts_as_that(
+    rt: &impl Abort,
+    alloc: Global,
+) -> Result<(), AllocError> {
     let allocated = Found {
         client: Some((0, (1 << 62) + 600)),
         slot: Some((0, 600)),
@@ -368,5 +428,60 @@ fn a_moment_after_the_latest_counts_as_that(rt: HostRuntime) -> Result<(), Alloc
         Step::Find(0, allocated),
         Step::Find(u64::MAX, allocated),
     ];
-    check_steps(&rt, rt.alloc(), 1, &steps)
+    check_steps(rt, alloc, 1, &steps)
+}
+
+/// Binds 64 channels, and one more.
+fn channels_fill_capacity(rt: &impl Abort, alloc: Global) -> Result<(), AllocError> {
+    let mut tables = Tables::new(alloc, 1)?;
+    assert_eq!(rt; tables.allocate(1000, CLIENT, 0, TX, 3600), Ok(0));
+    for i in 0..64 {
+        let bound = tables.bind(1000, 0, 0x4000 + i, peer(7, 5000 + i));
+        assert_eq!(rt; bound, Ok(()), "channel {i}");
+    }
+    let full = tables.bind(1000, 0, 0x4040, peer(7, 5064));
+    assert_eq!(rt; full, Err(Refused::Capacity));
+    // one that is bound is renewed, and at 1600 the others have ended
+    assert_eq!(rt; tables.bind(1100, 0, 0x4000, peer(7, 5000)), Ok(()));
+    assert_eq!(rt; tables.channels(0, 1599).len(), 64);
+    assert_eq!(rt; tables.channels(0, 1600).len(), 1);
+    assert_eq!(rt; tables.bind(1600, 0, 0x4040, peer(7, 5064)), Ok(()));
+    Ok(())
+}
+
+/// Makes an allocation in each of 256 slots, and one more.
+fn slots_fill_capacity(rt: &impl Abort, alloc: Global) -> Result<(), AllocError> {
+    let mut tables = Tables::new(alloc, 256)?;
+    assert_eq!(rt; tables.slots(), 256);
+    for i in 0..256 {
+        let slot = tables.allocate(1000, peer(2, 4000 + i), 0, TX, 600);
+        assert_eq!(rt; slot, Ok(usize::from(i)), "client {i}");
+    }
+    let full = tables.allocate(1000, peer(2, 4256), 0, TX, 600);
+    assert_eq!(rt; full, Err(Refused::Capacity));
+    // the slot that is freed is taken
+    assert_eq!(rt; tables.refresh(1000, 200, 0), Ok(()));
+    assert_eq!(rt; tables.allocate(1000, peer(2, 4256), 0, TX, 600), Ok(200));
+    let last = allocation_at(&tables, 255, 1599);
+    assert!(rt; last.is_some_and(|allocation| allocation.client == peer(2, 4255)));
+    Ok(())
+}
+
+#[test]
+fn rows_end_as_the_stories_say(rt: HostRuntime) -> Result<(), AllocError> {
+    let alloc = rt.alloc();
+    an_allocation_ends_with_its_rows(&rt, alloc)?;
+    a_refreshed_allocation_keeps_its_rows(&rt, alloc)?;
+    a_deleted_allocation_takes_its_rows_along(&rt, alloc)?;
+    the_lowest_free_slot_is_taken(&rt, alloc)?;
+    a_channel_and_a_peer_belong_together(&rt, alloc)?;
+    only_distinct_addresses_that_count_fill_capacity(&rt, alloc)?;
+    what_is_refused_later_is_there_before(&rt, alloc)?;
+    a_moment_after_the_latest_counts_as_that(&rt, alloc)
+}
+
+#[test]
+fn capacities_are_64_and_256(rt: HostRuntime) -> Result<(), AllocError> {
+    channels_fill_capacity(&rt, rt.alloc())?;
+    slots_fill_capacity(&rt, rt.alloc())
 }

@@ -2,7 +2,9 @@
 
 use super::{CHANNEL, CLIENT, Credentials, FIRST, PEER, Request, USER, answer};
 use crate::control_configurations::config;
-use control::respond;
+use control::{Config, all_understood, respond};
+use std::alloc::Global;
+use std::process::Abort;
 use std::test::Fail;
 use stun::read;
 use stun::registry::Method;
@@ -52,10 +54,9 @@ const INDICATION: [u8; 20] = [
     0x00, 0x11, 0x00, 0x00, 0x21, 0x12, 0xa4, 0x42, 0, 0, 0, 0, 0, 0, 0, 0, 0, 0, 0, 0,
 ];
 
-#[test]
-fn replies_are_these_bytes(rt: HostRuntime) -> Result<(), Fail> {
-    let config = config(&rt, rt.alloc())?;
-    let mut tables = Tables::new(rt.alloc(), 2)?;
+/// Compares the replies that are not signed, and whether all attributes of a request are understood.
+fn check_bare(rt: &impl Abort, alloc: Global, config: &Config) -> Result<(), Fail> {
+    let mut tables = Tables::new(alloc, 2)?;
     let rows: [(&[u8], &[u8]); 4] = [
         (&BINDING, &BINDING_SUCCESS),
         (&BARE_ALLOCATE, &ALLOCATE_ERROR),
@@ -67,9 +68,13 @@ fn replies_are_these_bytes(rt: HostRuntime) -> Result<(), Fail> {
         assert!(rt; config.fault().is_none());
         assert_eq!(rt; tables.slots(), config.slots);
         let message = read(request)?;
-        let n = respond(&mut tables, &config, 1000, CLIENT, &message, &mut out);
+        let n = respond(&mut tables, config, 1000, CLIENT, &message, &mut out);
         assert_eq!(rt; n, reply.len());
         assert!(rt; out.starts_with(reply));
+        assert_eq!(rt;
+            all_understood(&message),
+            request != STRANGE_BINDING.as_slice()
+        );
     }
     Ok(())
 }
@@ -115,10 +120,9 @@ const STALE: [u8; 60] = [
     0x79, 0x00, 0x00, 0x00, 0x00, 0x15, 0x00, 0x02, 0x6e, 0x31, 0x00, 0x00,
 ];
 
-#[test]
-fn signed_replies_are_these_bytes(rt: HostRuntime) -> Result<(), Fail> {
-    let config = config(&rt, rt.alloc())?;
-    let mut tables = Tables::new(rt.alloc(), 2)?;
+/// Compares the replies to requests of a user.
+fn check_signed(rt: &impl Abort, alloc: Global, config: &Config) -> Result<(), Fail> {
+    let mut tables = Tables::new(alloc, 2)?;
     let other = Request { tx: 2, ..FIRST };
     let bind = Request {
         method: Method::ChannelBind,
@@ -149,9 +153,16 @@ fn signed_replies_are_these_bytes(rt: HostRuntime) -> Result<(), Fail> {
     ];
     for (request, reply) in rows {
         let mut out = [0; 1500];
-        let n = answer(&rt, &mut tables, &config, &request, &mut out)?;
+        let n = answer(rt, &mut tables, config, &request, &mut out)?;
         assert_eq!(rt; n, reply.len());
         assert!(rt; out.starts_with(reply));
     }
     Ok(())
+}
+
+#[test]
+fn replies_are_these_bytes(rt: HostRuntime) -> Result<(), Fail> {
+    let config = config(&rt, rt.alloc())?;
+    check_bare(&rt, rt.alloc(), &config)?;
+    check_signed(&rt, rt.alloc(), &config)
 }

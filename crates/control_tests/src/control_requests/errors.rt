@@ -88,13 +88,6 @@ static ALLOCATIONS: [Exchange; 10] = [
     },
 ];
 
-#[test]
-fn each_test_of_allocate_has_its_error(rt: HostRuntime) -> Result<(), Fail> {
-    let config = config(&rt, rt.alloc())?;
-    let mut tables = Tables::new(rt.alloc(), 2)?;
-    check(&rt, &mut tables, &config, &ALLOCATIONS)
-}
-
 /// A Refresh request that deletes the allocation.
 const DELETE: Request<'static> = Request {
     method: Method::Refresh,
@@ -159,13 +152,6 @@ static LIFETIMES: [Exchange; 12] = [
     DELETED,
     NONE_LEFT,
 ];
-
-#[test]
-fn lifetimes_lie_between_600_and_3600(rt: HostRuntime) -> Result<(), Fail> {
-    let config = config(&rt, rt.alloc())?;
-    let mut tables = Tables::new(rt.alloc(), 2)?;
-    check(&rt, &mut tables, &config, &LIFETIMES)
-}
 
 const REFRESH: Request<'static> = Request {
     method: Method::Refresh,
@@ -402,8 +388,12 @@ static OTHERS: [Exchange; 28] = [
 ];
 
 #[test]
-fn each_test_of_the_other_methods_has_its_error(rt: HostRuntime) -> Result<(), Fail> {
+fn each_test_of_each_method_has_its_error(rt: HostRuntime) -> Result<(), Fail> {
     let config = config(&rt, rt.alloc())?;
-    let mut tables = Tables::new(rt.alloc(), 2)?;
-    check(&rt, &mut tables, &config, &OTHERS)
+    let lists: [&[Exchange]; 3] = [&ALLOCATIONS, &LIFETIMES, &OTHERS];
+    for exchanges in lists {
+        let mut tables = Tables::new(rt.alloc(), 2)?;
+        check(&rt, &mut tables, &config, exchanges)?;
+    }
+    Ok(())
 }

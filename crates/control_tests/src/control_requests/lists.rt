@@ -3,6 +3,9 @@
 use super::{Attribute, Exchange, FIRST, GRANTED, NO_CREDENTIALS, Request, answer, check};
 use crate::control_configurations::config;
 use attributes::Addr;
+use control::Config;
+use std::alloc::Global;
+use std::process::Abort;
 use std::test::Fail;
 use stun::read;
 use stun::registry::Method;
@@ -29,10 +32,9 @@ fn unknown_attributes<'a>() -> [Attribute<'a>; 35] {
     attributes
 }
 
-#[test]
-fn the_first_16_types_are_listed_once_each(rt: HostRuntime) -> Result<(), Fail> {
-    let config = config(&rt, rt.alloc())?;
-    let mut tables = Tables::new(rt.alloc(), 2)?;
+/// Checks that the first 16 types are listed, once each.
+fn check_types(rt: &impl Abort, alloc: Global, config: &Config) -> Result<(), Fail> {
+    let mut tables = Tables::new(alloc, 2)?;
     let request = Request {
         method: Method::Binding,
         attributes: &unknown_attributes(),
@@ -40,7 +42,7 @@ fn the_first_16_types_are_listed_once_each(rt: HostRuntime) -> Result<(), Fail> 
         ..FIRST
     };
     let mut out = [0; 1500];
-    let n = answer(&rt, &mut tables, &config, &request, &mut out)?;
+    let n = answer(rt, &mut tables, config, &request, &mut out)?;
     assert!(rt; n <= 1500);
     let (reply, _) = out.split_at(n);
     let reply = read(reply)?;
@@ -103,13 +105,6 @@ static PERMISSIONS: [Exchange; 6] = [
     },
 ];
 
-#[test]
-fn all_addresses_are_permitted_or_none(rt: HostRuntime) -> Result<(), Fail> {
-    let config = config(&rt, rt.alloc())?;
-    let mut tables = Tables::new(rt.alloc(), 2)?;
-    check(&rt, &mut tables, &config, &PERMISSIONS)
-}
-
 /// Requests of a client over IPv6, and one of a method that has no responses.
 static UNANSWERED: [Request<'static>; 3] = [
     Request {
@@ -127,13 +122,21 @@ static UNANSWERED: [Request<'static>; 3] = [
     },
 ];
 
-#[test]
-fn a_client_over_ipv6_is_not_answered(rt: HostRuntime) -> Result<(), Fail> {
-    let config = config(&rt, rt.alloc())?;
-    let mut tables = Tables::new(rt.alloc(), 2)?;
+/// Checks that some requests get no reply.
+fn check_silence(rt: &impl Abort, alloc: Global, config: &Config) -> Result<(), Fail> {
+    let mut tables = Tables::new(alloc, 2)?;
     let mut out = [0; 1500];
     for request in &UNANSWERED {
-        assert_eq!(rt; answer(&rt, &mut tables, &config, request, &mut out)?, 0);
+        assert_eq!(rt; answer(rt, &mut tables, config, request, &mut out)?, 0);
     }
     Ok(())
+}
+
+#[test]
+fn lists_have_their_limits(rt: HostRuntime) -> Result<(), Fail> {
+    let config = config(&rt, rt.alloc())?;
+    check_types(&rt, rt.alloc(), &config)?;
+    let mut tables = Tables::new(rt.alloc(), 2)?;
+    check(&rt, &mut tables, &config, &PERMISSIONS)?;
+    check_silence(&rt, rt.alloc(), &config)
 }

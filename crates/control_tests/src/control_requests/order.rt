@@ -1,5 +1,6 @@
 //! Requests with two faults at once: the error is that of the earlier test. Each method has its faults in the order of
-//! their tests (RFC 8489, section 9.2.4; RFC 8656, sections 7, 8, 10 and 12).
+//! their tests, which is this relay's own; the tests are those of RFC 8489, section 9.2.4, and RFC 8656, sections 7, 8, 10
+//! and 12.
 
 mod allocate;
 mod binding;
@@ -32,9 +33,9 @@ struct Tests {
     case: Case,
     /// Whether the credentials are tested, before all else.
     has_credentials: bool,
-    /// The faults in the order in which they are tested, behind those of the credentials.
+    /// The faults in the order in which they are tested, after those of the credentials.
     rows: &'static [Row],
-    /// Lists of faults of which no two can stand in one request.
+    /// Lists of faults of which no two can be in one request.
     exclusive: &'static [&'static [Fault]],
 }
 
@@ -77,7 +78,7 @@ const EXCLUSIVE_CREDENTIALS: [&[Fault]; 3] = [
     &[Fault::NoNonce, Fault::OtherNonce],
 ];
 
-/// An attribute that is not understood is tested behind the credentials, in every method.
+/// An attribute that is not understood is tested after the credentials, in every method.
 const UNKNOWN_ATTRIBUTE: Row = Row {
     fault: Fault::UnknownAttribute,
     code: 420,
@@ -165,4 +166,19 @@ fn check_order(rt: &impl Abort, alloc: Global, tests: &Tests) -> Result<(), Fail
         }
     }
     Ok(())
+}
+
+#[test]
+fn the_earlier_test_gives_the_error(rt: HostRuntime) -> Result<(), Fail> {
+    let methods = [
+        binding::tests(),
+        allocate::tests(),
+        refresh::tests(),
+        create_permission::tests(),
+        channel_bind::tests(),
+    ];
+    for tests in methods {
+        check_order(&rt, rt.alloc(), &tests)?;
+    }
+    binding::check_credentials(&rt, rt.alloc())
 }

@@ -1,11 +1,10 @@
 //! The faults of Allocate requests (RFC 8656, section 7.2).
 
 use super::super::UDP;
-use super::{Case, FIRST_CASE, Fault, Row, Tests, UNKNOWN_ATTRIBUTE, check_order};
-use std::test::Fail;
+use super::{Case, FIRST_CASE, Fault, Row, Tests, UNKNOWN_ATTRIBUTE};
 use stun::registry::Method;
 
-/// The faults of Allocate requests behind those of the credentials.
+/// The faults of Allocate requests after those of the credentials.
 const ROWS: [Row; 10] = [
     UNKNOWN_ATTRIBUTE,
     Row {
@@ -58,9 +57,9 @@ const EXCLUSIVE: [&[Fault]; 2] = [
     &[Fault::MalformedFamily, Fault::OtherFamily],
 ];
 
-#[test]
-fn the_earlier_test_gives_the_error(rt: HostRuntime) -> Result<(), Fail> {
-    let tests = Tests {
+/// Returns the tests of this method.
+pub(super) fn tests() -> Tests {
+    Tests {
         case: Case {
             method: Method::Allocate,
             transport: UDP,
@@ -70,6 +69,5 @@ fn the_earlier_test_gives_the_error(rt: HostRuntime) -> Result<(), Fail> {
         has_credentials: true,
         rows: &ROWS,
         exclusive: &EXCLUSIVE,
-    };
-    check_order(&rt, rt.alloc(), &tests)
+    }
 }

@@ -1,11 +1,10 @@
 //! The faults of CreatePermission requests (RFC 8656, section 10.2).
 
 use super::super::PEER;
-use super::{Case, FIRST_CASE, Fault, Row, Tests, UNKNOWN_ATTRIBUTE, check_order};
-use std::test::Fail;
+use super::{Case, FIRST_CASE, Fault, Row, Tests, UNKNOWN_ATTRIBUTE};
 use stun::registry::Method;
 
-/// The faults of CreatePermission requests behind those of the credentials.
+/// The faults of CreatePermission requests after those of the credentials.
 const ROWS: [Row; 7] = [
     UNKNOWN_ATTRIBUTE,
     Row {
@@ -44,9 +43,9 @@ const EXCLUSIVE: [&[Fault]; 4] = [
     &[Fault::NoPeer, Fault::TooManyPeers],
 ];
 
-#[test]
-fn the_earlier_test_gives_the_error(rt: HostRuntime) -> Result<(), Fail> {
-    let tests = Tests {
+/// Returns the tests of this method.
+pub(super) fn tests() -> Tests {
+    Tests {
         case: Case {
             method: Method::CreatePermission,
             peer: PEER,
@@ -55,6 +54,5 @@ fn the_earlier_test_gives_the_error(rt: HostRuntime) -> Result<(), Fail> {
         has_credentials: true,
         rows: &ROWS,
         exclusive: &EXCLUSIVE,
-    };
-    check_order(&rt, rt.alloc(), &tests)
+    }
 }

@@ -1,10 +1,9 @@
 //! The faults of Refresh requests (RFC 8656, section 8.2).
 
-use super::{Case, FIRST_CASE, Fault, Row, Tests, UNKNOWN_ATTRIBUTE, check_order};
-use std::test::Fail;
+use super::{Case, FIRST_CASE, Fault, Row, Tests, UNKNOWN_ATTRIBUTE};
 use stun::registry::Method;
 
-/// The faults of Refresh requests behind those of the credentials.
+/// The faults of Refresh requests after those of the credentials.
 const ROWS: [Row; 6] = [
     UNKNOWN_ATTRIBUTE,
     Row {
@@ -37,9 +36,9 @@ const EXCLUSIVE: [&[Fault]; 2] = [
     &[Fault::MalformedFamily, Fault::OtherFamily],
 ];
 
-#[test]
-fn the_earlier_test_gives_the_error(rt: HostRuntime) -> Result<(), Fail> {
-    let tests = Tests {
+/// Returns the tests of this method.
+pub(super) fn tests() -> Tests {
+    Tests {
         case: Case {
             method: Method::Refresh,
             ..FIRST_CASE
@@ -47,6 +46,5 @@ fn the_earlier_test_gives_the_error(rt: HostRuntime) -> Result<(), Fail> {
         has_credentials: true,
         rows: &ROWS,
         exclusive: &EXCLUSIVE,
-    };
-    check_order(&rt, rt.alloc(), &tests)
+    }
 }
