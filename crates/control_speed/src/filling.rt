@@ -1,11 +1,14 @@
 //! A configuration, and tables that are full.
 
+ghost use Rattle.std.specs.Prelude.{IsTrue};
+ghost use Rattle.tables.specs.Addresses.{is_ipv4};
+
 use arrayvec::ArrayString;
 use attributes::Addr;
 use control::Config;
 use credentials::User;
 use std::alloc::{AllocError, Global};
-use tables::{MAX_ALLOCATIONS, MAX_CHANNELS, Refused, Tables};
+use tables::{FIRST_CHANNEL, MAX_ALLOCATIONS, MAX_CHANNELS, Refused, Tables};
 
 /// The moment of all requests, in seconds.
 pub const NOW: u64 = 1000;
@@ -13,14 +16,13 @@ pub const NOW: u64 = 1000;
 /// The lifetime of each allocation, in seconds.
 const LIFETIME: u32 = 3600;
 
-/// The number of the first channel.
-const FIRST_NUMBER: u16 = 0x4000;
-
 /// The transaction id of the requests that made the allocations.
 pub const TX: [u8; 12] = [1; 12];
 
 /// Returns the client whose address ends in a byte.
-pub fn client(last: u8) -> Addr {
+pub fn client(last: u8) -> Addr
+    ensures { IsTrue (is_ipv4 result) }
+{
     Addr::V4 {
         ip: [198, 51, 100, last],
         port: 4000,
@@ -28,7 +30,9 @@ pub fn client(last: u8) -> Addr {
 }
 
 /// Returns the peer whose address ends in a byte.
-pub fn peer(last: u8) -> Addr {
+pub fn peer(last: u8) -> Addr
+    ensures { IsTrue (is_ipv4 result) }
+{
     Addr::V4 {
         ip: [192, 0, 2, last],
         port: 5000,
@@ -70,7 +74,7 @@ pub fn fill(tables: &mut Tables) -> Result<(), Refused> {
     for last in 0..=u8::MAX {
         let slot = tables.allocate(NOW, client(last), 0, TX, LIFETIME)?;
         for index in 0..MAX_CHANNELS {
-            let number = FIRST_NUMBER + index as u16;
+            let number = FIRST_CHANNEL + index as u16;
             tables.bind(NOW, slot, number, peer(index as u8))?;
         }
     }
