@@ -4,5 +4,5 @@
 mod loaded;
 mod refusal;
 
-pub use loaded::{BUDGET, Loaded, load};
+pub use loaded::{BUDGET, Loaded, limits, load};
 pub use refusal::LoadError;

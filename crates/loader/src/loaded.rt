@@ -23,6 +23,11 @@ use verifier::{Refusal, Steps, Verified, verify};
 /// The number of abstract steps that the verification of a program may take.
 pub const BUDGET: usize = 100_000;
 
+/// States the budget.
+pub fn limits()
+    ensures budget { BUDGET ≡ 100000 }
+{}
+
 /// A loaded program: its bytes encode it, and every run of it exits. Only [`load`] makes one.
 #[derive(Drop)]
 pub struct Loaded {
