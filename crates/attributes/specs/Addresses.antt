@@ -30,6 +30,10 @@ abbrev pub IsAddress : Addr → Type 0
 IsAddress (V4 ip port) = HasWidth 4 ip port
 IsAddress (V6 ip port) = HasWidth 16 ip port
 
+abbrev pub IsIpv4Address : Addr → Type 0
+IsIpv4Address (V4 ip port) = HasWidth 4 ip port
+IsIpv4Address (V6 ip port) = ⊥
+
 -- the bytes of the IP address, and the port
 abbrev pub ip_of : Addr → List ℕ
 ip_of (V4 ip port) = ip

@@ -1,5 +1,6 @@
 -- Internal. The modules of this folder.
 pub mod Addresses
+pub mod AddressLaws
 pub mod AddressTexts
 pub mod Values
 pub mod Errors

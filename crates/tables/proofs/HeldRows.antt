@@ -1,7 +1,7 @@
 -- What a slot holds after a change, as the code makes it.
 use Rattle.std.proofs.Common.{◌≡◌, ℕ, ◌≤◌, sym, ap, ◌∙◌, subst}
 use Rattle.std.specs.FinMap.{empty, insert, len}
-use Rattle.attributes.specs.Addresses.{IsAddress}
+use Rattle.attributes.specs.Addresses.{IsIpv4Address}
 use Rattle.tables.specs.Channels.{ChannelMap, channels_at}
 use Rattle.tables.specs.Permissions.{PermissionMap, permissions_at}
 use Rattle.tables.specs.WellFormed.{IsChannel, IsHeldAt}
@@ -16,7 +16,7 @@ use Rattle.tables.specs.declared.permissions.TheConstants.{MAX_PERMISSIONS}
 abbrev pub held_of : Allocation → PermissionMap → ChannelMap → Held
 held_of allocation permissions channels = record { allocation = allocation; permissions = permissions; channels = channels }
 
-pub allocated : (slot : ℕ) (a : Allocation) (permissions : PermissionMap) (channels : ChannelMap) → permissions ≡ empty → channels ≡ empty → a.slot ≡ slot → IsAddress a.client
+pub allocated : (slot : ℕ) (a : Allocation) (permissions : PermissionMap) (channels : ChannelMap) → permissions ≡ empty → channels ≡ empty → a.slot ≡ slot → IsIpv4Address a.client
     → IsHeldAt slot (held_of a permissions channels)
 allocated slot a permissions channels no_permissions no_channels at client =
     subst (IsHeldAt slot) (λ i. held_of a (sym no_permissions i) (sym no_channels i)) (fresh-held_at slot a at client)

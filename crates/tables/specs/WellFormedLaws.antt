@@ -1,5 +1,5 @@
 -- Interface. Laws of rows that are well formed: changes leave them so, and what is looked up in them.
-use Rattle.std.specs.Prelude.{◌≡◌, ◌≢◌, ℕ, zero, suc, ◌+◌, ◌<◌, ◌≤◌, Bool, true, false, List, [], ◌∷◌, length, find, slice_get, slice_set, replicate, nat_le, nat_lt, Option, None, Some, is_none, ok_or, Result, Ok, Err, IfOk, refl}
+use Rattle.std.specs.Prelude.{IsTrue, ◌≡◌, ◌≢◌, ℕ, zero, suc, ◌+◌, ◌<◌, ◌≤◌, Bool, true, false, List, [], ◌∷◌, length, find, slice_get, slice_set, replicate, nat_le, nat_lt, Option, None, Some, is_none, ok_or, Result, Ok, Err, IfOk, refl}
 use Rattle.std.specs.Option.{option_map, option_and_then, option_flatten}
 use Rattle.std.specs.Ordering.{eq_by_cmp, nat_cmp}
 use Rattle.std.specs.Cmp.{Equal-is, nat_cmp_total}
@@ -8,9 +8,10 @@ use Rattle.std.proofs.Common.{sym, ap, subst, ◌∙◌, inl, inr, arith}
 use Rattle.std.proofs.lemmas.Bool.{cases_Bool, cases_eq, cond-true, cond-false, leb-true}
 use Rattle.std.proofs.lemmas.List.{length-map, length-replicate, length-set}
 use Rattle.std.proofs.lemmas.Option.{none-some, same_Some}
-use Rattle.attributes.specs.Addresses.{IsAddress}
+use Rattle.attributes.specs.Addresses.{IsAddress, IsIpv4Address}
 use Rattle.attributes.specs.declared.address.Addr.{Addr}
-use Rattle.tables.specs.Addresses.{ip_cmp, is_same_address}
+use Rattle.attributes.specs.declared.address.Addr.TheVariants.{V4, V6}
+use Rattle.tables.specs.Addresses.{ip_cmp, is_ipv4, is_same_address}
 use Rattle.tables.specs.Changes.{◌>>=◌, Change, Follows, check, with_held, fresh, first_free, allocate, refresh, permit, bind, permission_end, with_peer}
 use Rattle.tables.specs.Channels.{ChannelMap, IsChannelNumber, may_bind, number_to}
 use Rattle.tables.specs.LookUps.{held_in, is_of, allocation_of, allocation_at, peer_of, channel_of}
@@ -32,6 +33,12 @@ use Rattle.tables.specs.declared.refusal.Refused.{Refused}
 use Rattle.tables.specs.declared.refusal.Refused.TheVariants.{Mismatch, Capacity, Conflict, NoAllocation}
 use Rattle.tables.specs.declared.storage.TheConstants.{MAX_ALLOCATIONS}
 
+-- ---- addresses
+
+pub of_ipv4 : (address : Addr) → IsAddress address → IsTrue (is_ipv4 address) → IsIpv4Address address
+of_ipv4 (V4 ip port) is ipv4 = is
+of_ipv4 (V6 ip port) is ipv4 = absurd cc
+
 -- ---- what a slot holds
 
 -- what counts at a moment
@@ -52,7 +59,7 @@ left-held_at t slot held left is there = elim (cases_Bool (nat_lt t held.allocat
   | inr ended ↦ absurd (none-some left (sym (held_at-ended t held ended) ∙ there))
 ]
 
-pub fresh-held_at : (slot : ℕ) (allocation : Allocation) → allocation.slot ≡ slot → IsAddress allocation.client → IsHeldAt slot (fresh allocation)
+pub fresh-held_at : (slot : ℕ) (allocation : Allocation) → allocation.slot ≡ slot → IsIpv4Address allocation.client → IsHeldAt slot (fresh allocation)
 fresh-held_at slot allocation at client = record {
   at_slot = at;
   client = client;
@@ -172,7 +179,7 @@ some_ok : {A : Type 0} (o : Option A) (refused : Refused) (x : A) → ok_or o re
 some_ok None refused x e = cc
 some_ok (Some y) refused x e = cc
 
-pub allocate-well_formed : (client : Addr) (user : ℕ) (tx : List ℕ) (lifetime : ℕ) (rows : Rows) → AreWellFormed rows → IsAddress client
+pub allocate-well_formed : (client : Addr) (user : ℕ) (tx : List ℕ) (lifetime : ℕ) (rows : Rows) → AreWellFormed rows → IsIpv4Address client
     → IfOk (allocate client user tx lifetime rows) (λ made. AreWellFormed made.1)
 allocate-well_formed client user tx lifetime rows are address =
     checked (λ made. AreWellFormed made.1) (is_none (allocation_of client rows)) Mismatch _ (λ _.
@@ -194,7 +201,7 @@ permit-well_formed slot ips rows are =
     checked (λ made. AreWellFormed made.1) (nat_le (len permissions) MAX_PERMISSIONS) Capacity _ (λ few.
     with_held-well_formed slot (record held { permissions = permissions }) rows are (permitted-held_at slot permissions held (leb-true _ _ few) is)))
 
-pub bind-well_formed : (slot number : ℕ) (peer : Addr) (rows : Rows) → AreWellFormed rows → IsChannelNumber number → IsAddress peer
+pub bind-well_formed : (slot number : ℕ) (peer : Addr) (rows : Rows) → AreWellFormed rows → IsChannelNumber number → IsIpv4Address peer
     → IfOk (bind slot number peer rows) (λ made. AreWellFormed made.1)
 bind-well_formed slot number peer rows are range address =
     on_ok (λ made. AreWellFormed made.1) (ok_or (held_in rows slot) NoAllocation) _ (λ held there.
@@ -215,14 +222,15 @@ follows-well_formed (Err refused) old new result follows are made_are = subst Ar
 
 -- ---- look-ups
 
-pub allocation_at-held : (slot : ℕ) (rows : Rows) (a : Allocation) → AreWellFormed rows → allocation_at slot rows ≡ Some a → (a.slot ≡ slot) × IsAddress a.client
+-- the allocation at a slot names the slot, and its client has an IPv4 address
+pub allocation_at-held : (slot : ℕ) (rows : Rows) (a : Allocation) → AreWellFormed rows → allocation_at slot rows ≡ Some a → (a.slot ≡ slot) × IsIpv4Address a.client
 allocation_at-held slot rows a are =
-    elim (held_in rows slot) as (λ o. held_in rows slot ≡ o → option_map (λ held. held.allocation) o ≡ Some a → (a.slot ≡ slot) × IsAddress a.client) [
+    elim (held_in rows slot) as (λ o. held_in rows slot ≡ o → option_map (λ held. held.allocation) o ≡ Some a → (a.slot ≡ slot) × IsIpv4Address a.client) [
       | None ↦ λ is there. absurd (none-some a there)
       | Some held ↦ λ is there.
           let one : held.allocation ≡ a = same_Some _ _ there in
           let at = are.held slot held is in
-          (subst (λ (a : Allocation). a.slot ≡ slot) one at.at_slot, subst (λ (a : Allocation). IsAddress a.client) one at.client)
+          (subst (λ (a : Allocation). a.slot ≡ slot) one at.at_slot, subst (λ (a : Allocation). IsIpv4Address a.client) one at.client)
     ] refl
 
 slot_found : (p : Option Held → Bool) (slots : List (Option Held)) (o : Option Held) → find p slots ≡ Some o → (i : ℕ) × (slice_get slots i ≡ Some o)
@@ -246,14 +254,14 @@ allocation_of-at_slot client rows a are =
           ap (λ n. allocation_at n rows) at ∙ ap (λ o. option_map (λ held. held.allocation) o) holds ∙ there
     ] refl
 
-peer_bound : (slot number : ℕ) (held : Held) (peer : Addr) (o : Option Binding) → IsHeldAt slot held → get held.channels number ≡ o → option_map (λ b. b.peer) o ≡ Some peer → IsAddress peer
+peer_bound : (slot number : ℕ) (held : Held) (peer : Addr) (o : Option Binding) → IsHeldAt slot held → get held.channels number ≡ o → option_map (λ b. b.peer) o ≡ Some peer → IsIpv4Address peer
 peer_bound slot number held peer None is at there = absurd (none-some peer there)
-peer_bound slot number held peer (Some binding) is at there = subst IsAddress (same_Some _ _ there) (is.channels number binding at).peer
+peer_bound slot number held peer (Some binding) is at there = subst IsIpv4Address (same_Some _ _ there) (is.channels number binding at).peer
 
--- the peer of a channel is an address
-pub peer_of-address : (slot number : ℕ) (rows : Rows) (peer : Addr) → AreWellFormed rows → peer_of slot number rows ≡ Some peer → IsAddress peer
+-- the peer of a channel is an IPv4 address
+pub peer_of-address : (slot number : ℕ) (rows : Rows) (peer : Addr) → AreWellFormed rows → peer_of slot number rows ≡ Some peer → IsIpv4Address peer
 peer_of-address slot number rows peer are =
-    elim (held_in rows slot) as (λ o. held_in rows slot ≡ o → option_and_then (λ held. option_map (λ b. b.peer) (get held.channels number)) o ≡ Some peer → IsAddress peer) [
+    elim (held_in rows slot) as (λ o. held_in rows slot ≡ o → option_and_then (λ held. option_map (λ b. b.peer) (get held.channels number)) o ≡ Some peer → IsIpv4Address peer) [
       | None ↦ λ is there. absurd (none-some peer there)
       | Some held ↦ λ is there. peer_bound slot number held peer (get held.channels number) (are.held slot held is) refl there
     ] refl

@@ -1,4 +1,5 @@
 use Rattle.std.proofs.Common.{refl, rules}
+use Rattle.tables.specs.WellFormedLaws.{of_ipv4}
 use Rattle.tables.proofs.HeldRows.{allocated}
 use Rattle.tables.proofs.storage.Tables.allocate.Goals as goal
 
@@ -9,4 +10,4 @@ pub returns-clause-follows : goal.returns-clause-follows
 returns-clause-follows c = search rules
 
 pub hold-requires-clause-held_at : goal.hold-requires-clause-held_at
-hold-requires-clause-held_at c = allocated c.in_ok-slot.slot _ c.new.result c.new-2.result c.new.ensures c.new-2.ensures refl c.is_address.ensures
+hold-requires-clause-held_at c = allocated c.in_ok-slot.slot _ c.new.result c.new-2.result c.new.ensures c.new-2.ensures refl (of_ipv4 c.args.client c.is_address.ensures c.requires.ipv4)
