@@ -1,0 +1,11 @@
+-- Meaning. Tests in an order, the first failure of which gives nothing.
+use Rattle.std.specs.Prelude.{Bool, Option, None, Some, if◌then◌else◌}
+
+infixl 10 ◌>>=◌
+abbrev pub ◌>>=◌ : {A B : Type 0} → Option A → (A → Option B) → Option B
+None >>= f = None
+(Some x) >>= f = f x
+
+-- goes on where the test passes
+abbrev pub guard : Bool → Option (Unit {0})
+guard passed = if passed then Some tt else None

@@ -1,0 +1,110 @@
+-- A datagram of a source that is served: what its run decides is the outcome of the system with programs.
+use Rattle.std.proofs.Common.{◌≡◌, ◌≢◌, ℕ, List, length, Bool, true, false, refl, sym, ap, subst, ◌∙◌}
+use Rattle.std.specs.Prelude.{◌==◌, ◌&&◌, Option, None, Some, if◌then◌else◌}
+use Rattle.std.proofs.lemmas.Bool.{cond-true, cond-false, and_parts}
+use Rattle.semantics.specs.Runs.{Run, Ending, Exited}
+use Rattle.attributes.specs.declared.address.Addr.{Addr}
+use Rattle.control.specs.declared.config.Config.{Config}
+use Rattle.machine.specs.declared.outcome.Outcome.{Outcome}
+use Rattle.tables.specs.Addresses.{is_ipv4}
+use Rattle.tables.specs.Moments.{moment_of}
+use Rattle.tables.specs.Rows.{Rows, rows_at}
+use Rattle.events.specs.Events.{Sending}
+use Rattle.events.specs.declared.meta.Meta.{Meta}
+use Rattle.events.specs.declared.meta.Source.{Source}
+use Rattle.events.specs.declared.meta.Source.TheVariants.{Client, Peer}
+use Rattle.programs.specs.Runs.{planned, sent_by, datagram_in, destination_in, window_in}
+use Rattle.programs.specs.declared.verdict.TheConstants.{PASSES, SENDS}
+use Rattle.relay.specs.ByPrograms.{by_programs, by_run, by_ending, by_verdict, is_there}
+use Rattle.relay.specs.ByRules.{from_client}
+use Rattle.relay.specs.Found.{HasRun, run_at, passed_on, window_shown, lent}
+use Rattle.relay.specs.Relays.{Contents, state_of, datagram_at}
+use Rattle.relay.specs.Steps.{HasStepped, outcome_of}
+use Rattle.relay.specs.Systems.{Reply, silent, relayed, stepped_at, if_ipv4, with_nonce, address_of_source}
+use Rattle.relay.specs.Systems as systems
+use Rattle.relay.proofs.SameNonce.{from_client_same}
+
+module _ (old : Contents) (given : Meta) (n moment : ℕ) where
+  -- the reply at a moment
+  abbrev pub reply_at : Reply
+  reply_at = if_ipv4 (by_programs old.programs) (with_nonce old.config old.config.nonce.bytes) moment given.tx given.from old.rows (datagram_at old n)
+
+  -- the relay at the moment
+  abbrev pub at_moment : Contents
+  at_moment = record old { greatest = moment }
+
+  -- the reply by the run
+  abbrev run_reply : Reply
+  run_reply = by_run (with_nonce old.config old.config.nonce.bytes) moment given.from old.rows (length (datagram_at old n)) (run_at at_moment given n)
+
+  -- a reply of a system makes a step
+  pub steps : (new : Contents) → moment ≡ moment_of old.greatest given.now → new.rows ≡ reply_at.rows → new.greatest ≡ moment → new.config ≡ old.config → new.programs ≡ old.programs → HasStepped old new (outcome_of old given n)
+  steps new is rows greatest config programs =
+      let P : ℕ → Type 0 = λ m. HasStepped old new (stepped_at m (state_of old) (if_ipv4 (by_programs old.programs) (with_nonce old.config old.config.nonce.bytes) m given.tx given.from old.rows (datagram_at old n))) in
+      subst P is (record {
+        state = λ i. record { rows = rows i; greatest = greatest i; nonce = (config i).nonce.bytes };
+        config = config;
+        programs = programs;
+      })
+
+  -- where all but the frame is as it was, and the rows are
+  pub stays : (new : Contents) → moment ≡ moment_of old.greatest given.now → new ≡ record at_moment { frame = new.frame } → reply_at.rows ≡ old.rows → HasStepped old new (outcome_of old given n)
+  stays new is kept rows = steps new is
+      (ap (λ (r : Contents). r.rows) kept ∙ sym rows) (ap (λ (r : Contents). r.greatest) kept) (ap (λ (r : Contents). r.config) kept) (ap (λ (r : Contents). r.programs) kept)
+
+  pub answers : moment ≡ moment_of old.greatest given.now → reply_at.answer ≡ (outcome_of old given n).answer
+  answers is = ap (λ (m : ℕ). (if_ipv4 (by_programs old.programs) (with_nonce old.config old.config.nonce.bytes) m given.tx given.from old.rows (datagram_at old n)).answer) is
+
+  -- a source that is not served
+  pub not_served : (is_ipv4 (address_of_source given.from) && is_there given.from old.rows) ≡ false → reply_at ≡ silent old.rows
+  not_served other = of (is_ipv4 (address_of_source given.from)) (is_there given.from old.rows) other where
+    of : (a b : Bool) → (a && b) ≡ false → (if a then (if b then run_reply else silent old.rows) else silent old.rows) ≡ silent old.rows
+    of false b e = refl
+    of true false e = refl
+    of true true e = absurd cc
+
+  module _ (o : Outcome) (shown : Contents) (served : (is_ipv4 (address_of_source given.from) && is_there given.from old.rows) ≡ true)
+      (ran : HasRun (length (datagram_at old n)) o shown.frame (run_at at_moment given n)) where
+    abbrev config : Config
+    config = with_nonce old.config old.config.nonce.bytes
+
+    abbrev r : Run
+    r = run_at at_moment given n
+
+    -- the reply is that of the verdict
+    by_its_verdict : reply_at ≡ by_verdict config moment given.from old.rows (length (datagram_at old n)) r o.verdict
+    by_its_verdict =
+        let both = and_parts (is_ipv4 (address_of_source given.from)) (is_there given.from old.rows) served in
+        cond-true (is_ipv4 (address_of_source given.from)) _ (silent old.rows) both.0
+        ∙ cond-true (is_there given.from old.rows) _ (silent old.rows) both.1
+        ∙ ap (λ (e : Ending). by_ending config moment given.from old.rows (length (datagram_at old n)) r e) ran.outcome.verdict
+
+    -- a client's datagram is passed on
+    pub passes_client : (client : Addr) → given.from ≡ Client client → o.verdict ≡ PASSES → shown.config ≡ old.config → shown.rows ≡ old.rows → shown.greatest ≡ moment → reply_at ≡ passed_on shown client
+    passes_client client from verdict same rows greatest =
+        by_its_verdict
+        ∙ ap (λ (v : ℕ). by_verdict config moment given.from old.rows (length (datagram_at old n)) r v) verdict
+        ∙ ap (λ (s : Source). by_verdict config moment s old.rows (length (datagram_at old n)) r PASSES) from
+        ∙ from_client_same old.config moment client old.rows (datagram_in (length (datagram_at old n)) r.state)
+        ∙ (λ i. from_client (sym same i) (sym greatest i) client (sym rows i) (sym ran.datagram i))
+
+    -- a peer's is not
+    pub passes_peer : (slot : ℕ) (peer : Addr) → given.from ≡ Peer slot peer → o.verdict ≡ PASSES → reply_at ≡ silent old.rows
+    passes_peer slot peer from verdict =
+        by_its_verdict
+        ∙ ap (λ (v : ℕ). by_verdict config moment given.from old.rows (length (datagram_at old n)) r v) verdict
+        ∙ ap (λ (s : Source). by_verdict config moment s old.rows (length (datagram_at old n)) r PASSES) from
+
+    -- the plan is sent
+    pub sends : o.verdict ≡ SENDS → reply_at ≡ relayed old.rows (planned given.from (rows_at moment old.rows) o.destination (window_shown shown.frame))
+    sends verdict =
+        by_its_verdict
+        ∙ ap (λ (v : ℕ). by_verdict config moment given.from old.rows (length (datagram_at old n)) r v) verdict
+        ∙ (λ i. relayed old.rows (planned given.from (rows_at moment old.rows) (sym ran.outcome.destination i) (sym ran.window i)))
+
+    -- every other verdict discards
+    pub discards : (o.verdict == PASSES) ≡ false → (o.verdict == SENDS) ≡ false → reply_at ≡ silent old.rows
+    discards no_pass no_send =
+        by_its_verdict
+        ∙ cond-false (o.verdict == PASSES) _ _ no_pass
+        ∙ ap (λ (b : Bool). relayed old.rows (if b then planned given.from (rows_at moment old.rows) (destination_in r.state) (window_in r.state) else None)) no_send

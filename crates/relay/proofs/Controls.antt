@@ -1,0 +1,129 @@
+-- What `respond` promises is the answer of the rules.
+use Rattle.std.proofs.Common.{◌≡◌, ◌≢◌, ℕ, ◌<◌, ◌≤◌, length, take, arith, length-take-le, ◌⊎◌, Bool, true, false, List, [], ◌∷◌, refl, sym, ap, subst, ◌∙◌, inl, inr, eqb-true, eq-eqb}
+use Rattle.std.specs.Prelude.{◌==◌, Option, None, Some, Result, string_bytes}
+use Rattle.std.proofs.lemmas.Bool.{cases_Bool, cond-true, cond-false, both_ways}
+use Rattle.std.proofs.lemmas.Option.{same_Some}
+use Rattle.stun.specs.Datagrams.{message_in}
+use Rattle.stun.specs.Messages.{Parts, parts_bytes}
+use Rattle.stun.specs.declared.registry.Class.TheVariants as class
+use Rattle.attributes.specs.declared.address.Addr.{Addr}
+use Rattle.credentials.specs.Checks.{Accounts, accounts_of, IsChecked}
+use Rattle.credentials.specs.Results.{checked}
+use Rattle.credentials.specs.declared.checking.AuthError.{AuthError}
+use Rattle.control.specs.Control.{Decision, decision, binding}
+use Rattle.control.specs.Replies.{kind_of, reply_to}
+use Rattle.control.specs.Responding.{Responds, Answers, IsSilent, IsAnswer, IsCheckedAnswer, key_for}
+use Rattle.tables.specs.Addresses.{is_ipv4}
+use Rattle.control.specs.declared.config.Config.{Config}
+use Rattle.control.specs.declared.request.Request.{Request}
+use Rattle.control.specs.declared.request.Request.TheVariants as request
+use Rattle.control.specs.declared.request.TurnRequest.{TurnRequest}
+use Rattle.control.specs.declared.request.TurnRequest.TheVariants as turn
+use Rattle.tables.specs.Rows.{Rows, rows_at}
+use Rattle.programs.specs.FastPart.{begins_as_stun}
+use Rattle.programs.specs.Rules.{send_indication, send_from, channel_data_from}
+use Rattle.events.specs.Events.{Sending, ToClient}
+use Rattle.relay.specs.ByRules.{requests, request_among, request_of, check_of, decided, reply_with, answered, control, message, from_client}
+use Rattle.relay.specs.Found.{reply_sent}
+use Rattle.relay.specs.Systems.{Reply, silent, relayed}
+
+-- ---- the request of a type
+
+-- a request that is found has the type
+found_among : (kind : ℕ) (list : List Request) (r : Request) → request_among kind list ≡ Some r → kind_of r class.Request ≡ kind
+found_among kind [] r e = absurd cc
+found_among kind (q ∷ list) r e = elim (cases_Bool (kind_of q class.Request == kind)) [
+  | inl t ↦
+      let same : q ≡ r = same_Some q r (sym (cond-true (kind_of q class.Request == kind) (Some q) (request_among kind list) t) ∙ e) in
+      ap (λ x. kind_of x class.Request) (sym same) ∙ eqb-true (kind_of q class.Request) kind t
+  | inr f ↦ found_among kind list r (sym (cond-false (kind_of q class.Request == kind) (Some q) (request_among kind list) f) ∙ e)
+]
+
+abbrev IsAmong : Request → List Request → Type 0
+IsAmong r [] = ⊥
+IsAmong r (q ∷ list) = (r ≡ q) ⊎ IsAmong r list
+
+some_is : (q : Request) → ◌≡◌ {A = Option Request} (Some q) None → ⊥
+some_is q e = absurd cc
+
+-- where none is found none of the list has it
+none_among : (kind : ℕ) (list : List Request) (r : Request) → IsAmong r list → kind_of r class.Request ≡ kind → request_among kind list ≡ None → ⊥
+none_among kind [] r among same e = among
+none_among kind (q ∷ list) r among same e = elim (cases_Bool (kind_of q class.Request == kind)) [
+  | inl t ↦ some_is q (sym (cond-true (kind_of q class.Request == kind) (Some q) (request_among kind list) t) ∙ e)
+  | inr f ↦ elim among [
+    | inl is ↦ both_ways (kind_of q class.Request == kind) f (eq-eqb (kind_of q class.Request) kind (ap (λ x. kind_of x class.Request) (sym is) ∙ same))
+    | inr more ↦ none_among kind list r more same (sym (cond-false (kind_of q class.Request == kind) (Some q) (request_among kind list) f) ∙ e)
+  ]
+]
+
+all_requests : (r : Request) → IsAmong r requests
+all_requests request.Binding = inl refl
+all_requests (request.Turn turn.Allocate) = inr (inl refl)
+all_requests (request.Turn turn.Refresh) = inr (inr (inl refl))
+all_requests (request.Turn turn.CreatePermission) = inr (inr (inr (inl refl)))
+all_requests (request.Turn turn.ChannelBind) = inr (inr (inr (inr (inl refl))))
+
+-- ---- answers
+
+-- a result of the check is the one that the function of a message gives
+abbrev pub AreChecked : Type 0
+AreChecked = (p : Parts) (realm : List ℕ) (users : Accounts) (nonce : List ℕ) (r : Result ℕ AuthError)
+    → IsChecked p realm users nonce r → r ≡ checked p realm users nonce
+
+module _ (are_checked : AreChecked) (config : Config) (now : ℕ) (client : Addr) (p : Parts) (old new : Rows) (written : List ℕ) where
+  abbrev reply_of : Reply
+  reply_of = record { answer = reply_sent client written; rows = new }
+
+  with_decision : (r : Request) (key : Option (List ℕ)) (d : Decision) → IsAnswer config r client p key d old new written → reply_with config r client p old (d, key) ≡ reply_of
+  with_decision r key d is = λ i. record { answer = reply_sent client (sym is.bytes i); rows = sym is.rows i }
+
+  with_request : (r : Request) → Answers config now r client p old new written → reply_with config r client p old (decided config now r client p old) ≡ reply_of
+  with_request request.Binding is = with_decision request.Binding None (binding p) is
+  with_request (request.Turn r) is =
+      subst (λ c. reply_with config (request.Turn r) client p old (decision r c client p (rows_at now old), key_for config c) ≡ reply_of)
+      (are_checked p (string_bytes config.realm) (accounts_of config.users.items) config.nonce.bytes is.checked is.is_checked)
+      (with_decision (request.Turn r) _ _ is.answer)
+
+  silent_is : IsSilent old new written → silent old ≡ reply_of
+  silent_is is = λ i. record { answer = reply_sent client (sym is.bytes i); rows = sym is.rows i }
+
+  by_request : is_ipv4 client ≡ true → Responds config now client p old new written → (o : Option Request) → request_of p.kind ≡ o → answered config now client p old o ≡ reply_of
+  by_request ipv4 responds None e = silent_is (responds.other (λ r same. none_among p.kind requests r (all_requests r) same e))
+  by_request ipv4 responds (Some r) e = with_request r (responds.answered r (found_among p.kind requests r e) ipv4)
+
+  pub control_is : is_ipv4 client ≡ true → Responds config now client p old new written → control config now client p old ≡ reply_of
+  control_is ipv4 responds = by_request ipv4 responds (request_of p.kind) refl
+
+-- ---- a datagram of a client
+
+-- a reply of some bytes is sent
+pub reply_is_sent : (client : Addr) (n : ℕ) (out : List ℕ) → n ≤ length out → n ≢ 0 → reply_sent client (take n out) ≡ Some (ToClient client (take n out))
+reply_is_sent client n out fits some = of (take n out) (omega (arith, length-take-le n out fits, some)) where
+  of : (bytes : List ℕ) → 0 < length bytes → reply_sent client bytes ≡ Some (ToClient client bytes)
+  of [] h = absurd (omega (arith, h))
+  of (b ∷ bytes) h = refl
+
+module _ (config : Config) (now : ℕ) (client : Addr) (rows : Rows) (datagram : List ℕ) where
+  abbrev by_message : Option Parts → Reply
+  by_message m = message config now client rows m
+
+  -- ChannelData
+  pub is_relayed : begins_as_stun datagram ≡ false → from_client config now client rows datagram ≡ relayed rows (channel_data_from client (rows_at now rows) datagram)
+  is_relayed other = cond-false (begins_as_stun datagram) (by_message (message_in datagram)) _ other
+
+  is_message : (m : Option Parts) → begins_as_stun datagram ≡ true → message_in datagram ≡ m → from_client config now client rows datagram ≡ by_message m
+  is_message m stun is = cond-true (begins_as_stun datagram) (by_message (message_in datagram)) _ stun ∙ ap by_message is
+
+  -- what is no message
+  pub is_silent : begins_as_stun datagram ≡ true → message_in datagram ≡ None → from_client config now client rows datagram ≡ silent rows
+  is_silent stun is = is_message None stun is
+
+  module _ (p : Parts) (stun : begins_as_stun datagram ≡ true) (is : message_in datagram ≡ Some p) where
+    -- a Send indication
+    pub is_sent : (p.kind == send_indication) ≡ true → from_client config now client rows datagram ≡ relayed rows (send_from client (rows_at now rows) p)
+    is_sent same = is_message (Some p) stun is ∙ cond-true (p.kind == send_indication) (relayed rows (send_from client (rows_at now rows) p)) (control config now client p rows) same
+
+    -- any other message
+    pub is_handled : (p.kind == send_indication) ≡ false → from_client config now client rows datagram ≡ control config now client p rows
+    is_handled other = is_message (Some p) stun is ∙ cond-false (p.kind == send_indication) (relayed rows (send_from client (rows_at now rows) p)) (control config now client p rows) other

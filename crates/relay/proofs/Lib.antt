@@ -1,0 +1,5 @@
+mod Advances
+mod Controls
+mod Frames
+mod PassedOn
+mod SameNonce

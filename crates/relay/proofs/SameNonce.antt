@@ -1,0 +1,68 @@
+-- Of a nonce, what is answered depends on its bytes alone.
+use Rattle.std.proofs.Common.{◌≡◌, ℕ, List, refl, ap, ◌∙◌}
+use Rattle.std.specs.Prelude.{◌==◌, Option, None, Some, Result, Ok, Err, if◌then◌else◌}
+use Rattle.stun.specs.Datagrams.{message_in}
+use Rattle.stun.specs.Messages.{Parts, parts_bytes}
+use Rattle.stun.specs.declared.registry.Class.TheVariants as class
+use Rattle.stun.specs.declared.registry.ErrorCode.{ErrorCode}
+use Rattle.stun.specs.declared.registry.ErrorCode.TheVariants as error
+use Rattle.attributes.specs.declared.address.Addr.{Addr}
+use Rattle.credentials.specs.declared.checking.AuthError.{AuthError}
+use Rattle.control.specs.Control.{Decision, granted, rows_of, decision, binding}
+use Rattle.control.specs.Replies.{reply_to}
+use Rattle.control.specs.Responding.{key_for}
+use Rattle.control.specs.declared.config.Config.{Config}
+use Rattle.control.specs.declared.reply.Grant.{Grant}
+use Rattle.control.specs.declared.reply.Grant.TheVariants as grant
+use Rattle.control.specs.declared.request.Request.{Request}
+use Rattle.control.specs.declared.request.Request.TheVariants as request
+use Rattle.control.specs.declared.request.TurnRequest.{TurnRequest}
+use Rattle.tables.specs.Rows.{Rows, rows_at}
+use Rattle.events.specs.Events.{ToClient}
+use Rattle.programs.specs.FastPart.{begins_as_stun}
+use Rattle.programs.specs.Rules.{send_indication, send_from, channel_data_from}
+use Rattle.relay.specs.ByRules.{check_of, decided, reply_with, answered, control, message, from_client, request_of}
+use Rattle.relay.specs.Systems.{Reply, relayed, with_nonce}
+
+module _ (c : Config) where
+  abbrev d : Config
+  d = with_nonce c c.nonce.bytes
+
+  reply_same : (r : Request) (client : Addr) (p : Parts) (key : Option (List ℕ)) (result : Result Grant ErrorCode) → reply_to d r client p key result ≡ reply_to c r client p key result
+  reply_same r client p key (Ok grant.Mapped) = refl
+  reply_same r client p key (Ok (grant.Allocated slot lifetime)) = refl
+  reply_same r client p key (Ok (grant.Refreshed lifetime)) = refl
+  reply_same r client p key (Ok grant.Done) = refl
+  reply_same r client p key (Err error.BadRequest) = refl
+  reply_same r client p key (Err error.Unauthenticated) = refl
+  reply_same r client p key (Err error.UnknownAttribute) = refl
+  reply_same r client p key (Err error.AllocationMismatch) = refl
+  reply_same r client p key (Err error.StaleNonce) = refl
+  reply_same r client p key (Err error.AddressFamilyNotSupported) = refl
+  reply_same r client p key (Err error.WrongCredentials) = refl
+  reply_same r client p key (Err error.UnsupportedTransport) = refl
+  reply_same r client p key (Err error.PeerAddressFamilyMismatch) = refl
+  reply_same r client p key (Err error.InsufficientCapacity) = refl
+
+  key_same : (result : Result ℕ AuthError) → key_for d result ≡ key_for c result
+  key_same (Ok user) = refl
+  key_same (Err e) = refl
+
+  module _ (now : ℕ) (client : Addr) (rows : Rows) where
+    with_same : (r : Request) (p : Parts) (x : Decision) (key : Option (List ℕ)) → reply_with d r client p rows (x, key) ≡ reply_with c r client p rows (x, key)
+    with_same r p x key = λ i. record { answer = Some (ToClient client (parts_bytes (reply_same r client p key (granted x) i))); rows = rows_of rows x }
+
+    answered_same : (p : Parts) (r : Option Request) → answered d now client p rows r ≡ answered c now client p rows r
+    answered_same p None = refl
+    answered_same p (Some request.Binding) = with_same request.Binding p (binding p) None
+    answered_same p (Some (request.Turn t)) =
+        let made : Decision = decision t (check_of c p) client p (rows_at now rows) in
+        with_same (request.Turn t) p made (key_for d (check_of c p))
+        ∙ ap (λ key. reply_with c (request.Turn t) client p rows (made, key)) (key_same (check_of c p))
+
+    message_same : (m : Option Parts) → message d now client rows m ≡ message c now client rows m
+    message_same None = refl
+    message_same (Some p) = ap (λ (reply : Reply). if p.kind == send_indication then relayed rows (send_from client (rows_at now rows) p) else reply) (answered_same p (request_of p.kind))
+
+    pub from_client_same : (bytes : List ℕ) → from_client d now client rows bytes ≡ from_client c now client rows bytes
+    from_client_same bytes = ap (λ (reply : Reply). if begins_as_stun bytes then reply else relayed rows (channel_data_from client (rows_at now rows) bytes)) (message_same (message_in bytes))

@@ -1,0 +1,50 @@
+use Rattle.std.proofs.Common.{◌≡◌, ◌≤◌, List, ℕ, length, sym, ap, subst, ◌∙◌, arith, length-take-le, take}
+use Rattle.std.specs.Prelude.{Option, Some}
+use Rattle.stun.specs.Datagrams.{message_in}
+use Rattle.tables.specs.Rows.{rows_at}
+use Rattle.events.specs.Events.{ToClient}
+use Rattle.programs.specs.Rules.{channel_data_from}
+use Rattle.programs.specs.Runs.{planned}
+use Rattle.relay.specs.Found.{lent, send_in, reply_sent, HasRoomFor}
+use Rattle.relay.specs.Relays.{Contents}
+use Rattle.relay.specs.declared.found.Found.{Found}
+use Rattle.relay.specs.declared.found.Found.TheVariants as found
+use Rattle.relay.proofs.Controls.{reply_is_sent}
+use Rattle.relay.proofs.relay.Relay.lend.Goals as goal
+
+has_room : (c : goal.After-deref) → HasRoomFor (found.Reply c.in-Reply.client c.in-Reply.count) c.self.inside.reply.items
+has_room c =
+    let P : Found → Type 0 = λ f. HasRoomFor f c.args.self.now.reply in
+    let Q : Contents → Type 0 = λ r. HasRoomFor (found.Reply c.in-Reply.client c.in-Reply.count) r.reply in
+    subst Q (sym c.self.view_is) (subst P c.in-Reply.is c.requires)
+
+fits : (c : goal.After-deref) → c.in-Reply.count ≤ length c.deref.result.now
+fits c = omega (arith, (has_room c).1, ap length c.deref.ensures.value)
+
+pub slice_bounds-result-end : goal.slice_bounds-result-end
+slice_bounds-result-end c = sym (length-take-le c.in-Reply.count c.deref.result.now (fits c))
+
+pub returns-in-Window : goal.returns-in-Window
+returns-in-Window c =
+    c.planned.ensures
+    ∙ ap (λ window. planned c.in-Window.from (rows_at c.self.inside.greatest c.self.inside.tables) c.in-Window.destination window) c.window.ensures
+    ∙ (λ i. lent (c.self.view_is i) (sym c.in-Window.is i))
+
+pub returns-in-ChannelData : goal.returns-in-ChannelData
+returns-in-ChannelData c =
+    c.channel_data.ensures
+    ∙ ap (λ bytes. channel_data_from c.in-ChannelData.client (rows_at c.self.inside.greatest c.self.inside.tables) bytes) c.datagram.ensures.bytes
+    ∙ (λ i. lent (c.self.view_is i) (sym c.in-ChannelData.is i))
+
+pub returns-in-Send : goal.returns-in-Send
+returns-in-Send c =
+    c.send.ensures
+    ∙ ap (λ bytes. send_in c.in-Send.client (rows_at c.self.inside.greatest c.self.inside.tables) (message_in bytes)) c.datagram-in-Send.ensures.bytes
+    ∙ (λ i. lent (c.self.view_is i) (sym c.in-Send.is i))
+
+pub returns-in-Reply : goal.returns-in-Reply
+returns-in-Reply c =
+    let some : c.in-Reply.count ≡ 0 → ⊥ = λ none. absurd (omega (arith, (has_room c).0, none)) in
+    sym (reply_is_sent c.in-Reply.client c.in-Reply.count c.deref.result.now (fits c) some)
+    ∙ ap (λ bytes. reply_sent c.in-Reply.client (take c.in-Reply.count bytes)) c.deref.ensures.value
+    ∙ (λ i. lent (c.self.view_is i) (sym c.in-Reply.is i))

@@ -1,0 +1,71 @@
+-- Internal. What is to be sent for what was found.
+use Rattle.std.specs.Prelude.{◌≡◌, ℕ, List, [], ◌∷◌, take, length, ◌<◌, ◌≤◌, Option, None, Some, option_map}
+use Rattle.stun.specs.Datagrams.{message_in}
+use Rattle.stun.specs.Messages.{Parts}
+use Rattle.attributes.specs.declared.address.Addr.{Addr}
+use Rattle.machine.specs.Contents as machine
+use Rattle.machine.specs.Contents.{datagram_of, window_of}
+use Rattle.machine.specs.Tracing.{IsOutcome}
+use Rattle.machine.specs.declared.outcome.Outcome.{Outcome}
+use Rattle.helpers.specs.LookUps.{look_up}
+use Rattle.helpers.specs.declared.lookup.Lookup.{Lookup}
+use Rattle.machine.specs.Contexts.{Answers}
+use Rattle.tables.specs.Rows.{Rows, rows_at}
+use Rattle.events.specs.Events.{Sending, ToClient}
+use Rattle.programs.specs.Rules.{channel_data_from, send_from}
+use Rattle.programs.specs.Runs.{planned, run_for, datagram_in, window_in}
+use Rattle.events.specs.declared.meta.Meta.{Meta}
+use Rattle.semantics.specs.Runs.{Run}
+use Rattle.relay.specs.ByPrograms.{program_for}
+use Rattle.relay.specs.ByRules.{from_client}
+use Rattle.relay.specs.Systems.{Reply}
+use Rattle.relay.specs.Relays.{Contents, datagram_at}
+use Rattle.relay.specs.declared.found.Found.{Found}
+use Rattle.relay.specs.declared.found.Found.TheVariants as found
+
+-- the answers of look-ups
+abbrev pub answers_of : Lookup → Answers
+answers_of l = look_up l.slot (rows_at l.moment l.tables.now)
+
+-- what a frame shows of its window
+abbrev pub window_shown : machine.Contents → Option (List ℕ)
+window_shown f = option_map (λ w. window_of f w) f.window
+
+-- the outcome, and what the frame shows, of a run over a datagram of a length
+pub record HasRun (size : ℕ) (o : Outcome) (f : machine.Contents) (r : Run) : Type 0 where
+  pub outcome : IsOutcome o r
+  pub datagram : datagram_of f ≡ datagram_in size r.state
+  pub window : window_shown f ≡ window_in r.state
+
+-- the run of a step
+abbrev pub run_at : Contents → Meta → ℕ → Run
+run_at r given n = run_for (program_for r.programs given.from) given.tx given.from (rows_at r.greatest r.rows) (datagram_at r n)
+
+-- the reply to a client's datagram that is passed on
+abbrev pub passed_on : Contents → Addr → Reply
+passed_on r client = from_client r.config r.greatest client r.rows (datagram_of r.frame)
+
+-- the reply to a client, if there is one
+abbrev pub reply_sent : Addr → List ℕ → Option Sending
+reply_sent client [] = None
+reply_sent client (b ∷ bytes) = Some (ToClient client (b ∷ bytes))
+
+-- the Send indication of a datagram, if it is one
+abbrev pub send_in : Addr → Rows → Option Parts → Option Sending
+send_in client rows None = None
+send_in client rows (Some p) = send_from client rows p
+
+abbrev pub lent : Contents → Found → Option Sending
+lent r found.Nothing = None
+lent r (found.Window from destination) = planned from (rows_at r.greatest r.rows) destination (window_shown r.frame)
+lent r (found.ChannelData client) = channel_data_from client (rows_at r.greatest r.rows) (datagram_of r.frame)
+lent r (found.Send client) = send_in client (rows_at r.greatest r.rows) (message_in (datagram_of r.frame))
+lent r (found.Reply client count) = reply_sent client (take count r.reply)
+
+-- a reply lies in the room for replies, and has some bytes
+abbrev pub HasRoomFor : Found → List ℕ → Type 0
+HasRoomFor found.Nothing reply = Unit {0}
+HasRoomFor (found.Window from destination) reply = Unit {0}
+HasRoomFor (found.ChannelData client) reply = Unit {0}
+HasRoomFor (found.Send client) reply = Unit {0}
+HasRoomFor (found.Reply client count) reply = (0 < count) × (count ≤ length reply)

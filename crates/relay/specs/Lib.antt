@@ -1,0 +1,8 @@
+-- Internal. The modules of this folder.
+pub mod ByPrograms
+pub mod ByRules
+pub mod Errors
+pub mod Found
+pub mod Relays
+pub mod Steps
+pub mod Systems

@@ -1,0 +1,53 @@
+-- Meaning. What contracts see of a relay, and the datagram of a step.
+use Rattle.std.specs.Prelude.{◌≡◌, ℕ, ◌≤◌, List, length, take, None, refl}
+use Rattle.std.specs.Coded.{Coded, code_by, coded×, coded_ℕ, coded_list}
+use Rattle.insn.specs.declared.instruction.Insn.{Insn}
+use Rattle.control.specs.Configs.{fault}
+use Rattle.control.specs.declared.config.Config.{Config}
+use Rattle.tables.specs.Rows.{Rows}
+use Rattle.tables.specs.declared.moment.TheConstants.{LATEST}
+use Rattle.machine.specs.Contents as machine
+use Rattle.machine.specs.Contents.{room_of}
+use Rattle.relay.specs.ByPrograms.{Programs}
+use Rattle.relay.specs.Systems.{State}
+use Rattle.relay.specs.declared.handling.TheConstants.{REPLY_BYTES}
+
+-- the configuration with the current nonce, the programs, the rows, the greatest moment that was seen, the frame of runs,
+-- and the room for replies
+pub record Contents : Type 0 where
+  pub config : Config
+  pub programs : Programs
+  pub rows : Rows
+  pub greatest : ℕ
+  pub frame : machine.Contents
+  pub reply : List ℕ
+
+abbrev pub state_of : Contents → State
+state_of r = record { rows = r.rows; greatest = r.greatest; nonce = r.config.nonce.bytes }
+
+-- the datagram of a step: the first n bytes of the room
+abbrev pub datagram_at : Contents → ℕ → List ℕ
+datagram_at r n = take n (room_of r.frame)
+
+-- the configuration has no fault, the tables have its slots, no greater moment than the latest was seen, and there is room
+-- for every reply
+pub record IsRelay (config : Config) (rows : Rows) (greatest : ℕ) (reply : List ℕ) : Type 0 where
+  pub valid : fault config ≡ None
+  pub slots : length rows.slots ≡ config.slots
+  pub latest : greatest ≤ LATEST
+  pub room : length reply ≡ REPLY_BYTES
+
+abbrev pub coded_contents : Coded Config → Coded (List Insn) → Coded Rows → Coded machine.Contents → Coded Contents
+coded_contents config code rows frame =
+    code_by (Config × (List Insn × (List Insn × (Rows × (ℕ × (machine.Contents × List ℕ))))))
+    (coded× config (coded× code (coded× code (coded× rows (coded× coded_ℕ (coded× frame (coded_list coded_ℕ)))))))
+    (λ r. (r.config, (r.programs.client, (r.programs.peer, (r.rows, (r.greatest, (r.frame, r.reply)))))))
+    (λ p. record {
+      config = p.0;
+      programs = record { client = p.1.0; peer = p.1.1.0 };
+      rows = p.1.1.1.0;
+      greatest = p.1.1.1.1.0;
+      frame = p.1.1.1.1.1.0;
+      reply = p.1.1.1.1.1.1;
+    })
+    (λ _. refl)

@@ -1,0 +1,37 @@
+-- Interface. A relay after a step, once the borrow of what it sends has ended, and what an action sends.
+use Rattle.std.specs.Prelude.{◌≡◌, ℕ, ⊤, List, Option, None, Some}
+use Rattle.std.specs.Borrow.{Fml, MutBor, follows_so, Lends, Array, u8}
+use mathlib.Core.Option.{none}
+use Rattle.machine.specs.Contents.{with_room}
+use Rattle.events.specs.Events.{Datagram, Sending}
+use Rattle.events.specs.Events as sending
+use Rattle.events.specs.declared.meta.Meta.{Meta}
+use Rattle.relay.specs.ByPrograms.{by_programs}
+use Rattle.relay.specs.Relays.{Contents, state_of, datagram_at}
+use Rattle.relay.specs.Systems.{Outcome, step}
+use Rattle.relay.specs.contracts.relay.Relay.{the_row}
+use Rattle.relay.specs.declared.action.Action.{Action}
+use Rattle.relay.specs.declared.action.Action.TheVariants as action
+
+-- what an action sends, with the bytes that it lends
+abbrev pub sending_of : Action → Option Sending
+sending_of action.Nothing = None
+sending_of (action.ToPeer slot peer bytes) = Some (sending.ToPeer slot peer bytes.now)
+sending_of (action.ToClient client bytes) = Some (sending.ToClient client bytes.now)
+
+-- the outcome of a datagram by the relay's programs
+abbrev pub outcome_of : Contents → Meta → ℕ → Outcome
+outcome_of r given n = step (by_programs r.programs) r.config (state_of r) (Datagram given (datagram_at r n))
+
+-- the state is the system's, and configuration and programs are as before
+pub record HasStepped (old new : Contents) (outcome : Outcome) : Type 0 where
+  pub state : state_of new ≡ outcome.state
+  pub config : new.config ≡ old.config
+  pub programs : new.programs ≡ old.programs
+
+abbrev pub after_step : MutBor Contents → Meta → ℕ → Fml
+after_step r given n = follows_so the_row the_row r.ghost_name none (λ _ _. ⊤) (λ new. HasStepped r.now new (outcome_of r.now given n))
+
+-- the relay with the bytes that were written over its room
+abbrev pub lends_room : MutBor Contents → MutBor (List ℕ) → Fml
+lends_room r bytes = Lends the_row (Array u8 0) r bytes (λ w. record r.now { frame = with_room r.now.frame w })

@@ -1,0 +1,77 @@
+-- Meaning. Systems: a state, the events that come, and the answers to a list of them.
+use Rattle.std.specs.Prelude.{ℕ, List, [], ◌∷◌, Option, None, if◌then◌else◌}
+use Rattle.attributes.specs.declared.address.Addr.{Addr}
+use Rattle.control.specs.declared.config.Config.{Config}
+use Rattle.events.specs.Events.{Event, Datagram, Nonce, Sending}
+use Rattle.events.specs.declared.meta.Source.{Source}
+use Rattle.events.specs.declared.meta.Source.TheVariants.{Client, Peer}
+use Rattle.tables.specs.Addresses.{is_ipv4}
+use Rattle.tables.specs.Moments.{moment_of}
+use Rattle.tables.specs.Rows.{Rows, no_rows}
+
+-- the rows of the tables, the greatest moment that was seen, and the nonce
+pub record State : Type 0 where
+  pub rows : Rows
+  pub greatest : ℕ
+  pub nonce : List ℕ
+
+-- no rows, no moment seen, and the configuration's nonce
+abbrev pub first : Config → State
+first config = record { rows = no_rows config.slots; greatest = 0; nonce = config.nonce.bytes }
+
+-- ---- one event
+
+-- what is sent, if anything, and the rows afterwards
+pub record Reply : Type 0 where
+  pub answer : Option Sending
+  pub rows : Rows
+
+-- nothing is sent, and nothing changes
+abbrev pub silent : Rows → Reply
+silent rows = record { answer = None; rows = rows }
+
+-- relaying changes no rows
+abbrev pub relayed : Rows → Option Sending → Reply
+relayed rows answer = record { answer = answer; rows = rows }
+
+-- A system: the reply to a datagram of a source over IPv4, under a configuration, at a moment, with a transaction id.
+abbrev pub System : Type 0
+System = Config → ℕ → List ℕ → Source → Rows → List ℕ → Reply
+
+abbrev pub address_of_source : Source → Addr
+address_of_source (Client client) = client
+address_of_source (Peer slot peer) = peer
+
+-- until IPv6 comes, a source over IPv6 gets no answer
+abbrev pub if_ipv4 : System → System
+if_ipv4 system config now tx from rows bytes =
+    if is_ipv4 (address_of_source from) then system config now tx from rows bytes else silent rows
+
+-- the configuration with the current nonce
+abbrev pub with_nonce : Config → List ℕ → Config
+with_nonce config nonce = record config { nonce = record { bytes = nonce; spare = [] } }
+
+-- an answer, and the state afterwards
+pub record Outcome : Type 0 where
+  pub answer : Option Sending
+  pub state : State
+
+-- every datagram's moment counts as seen, whatever is answered
+abbrev pub stepped_at : ℕ → State → Reply → Outcome
+stepped_at moment s reply = record { answer = reply.answer; state = record s { rows = reply.rows; greatest = moment } }
+
+abbrev pub step : System → Config → State → Event → Outcome
+step system config s (Datagram given bytes) = stepped_at (moment_of s.greatest given.now) s
+    (if_ipv4 system (with_nonce config s.nonce) (moment_of s.greatest given.now) given.tx given.from s.rows bytes)
+step system config s (Nonce text) = record { answer = None; state = record s { nonce = text } }
+
+-- ---- lists of events
+
+abbrev pub answers : System → Config → State → List Event → List (Option Sending)
+answers system config s [] = []
+answers system config s (e ∷ events) =
+    (step system config s e).answer ∷ answers system config (step system config s e).state events
+
+abbrev pub after : System → Config → State → List Event → State
+after system config s [] = s
+after system config s (e ∷ events) = after system config (step system config s e).state events

@@ -1,0 +1,274 @@
+//! The relay.
+
+ghost use Rattle.std.specs.Prelude.{◌≡◌, ◌&&◌};
+ghost use Rattle.tables.specs.Addresses.{is_ipv4};
+ghost use Rattle.relay.specs.Systems.{address_of_source};
+ghost use Rattle.relay.specs.ByPrograms.{is_there};
+
+use crate::action::Action;
+use crate::error::RelayError;
+use crate::found::{Found, reply_found};
+use crate::handling::{REPLY_BYTES, control};
+use crate::rules::{begins_as_stun, channel_data, planned, send};
+use crate::running::{context_for, program_for, run_over, slot_for};
+use arrayvec::ArrayString;
+use attributes::Addr;
+use control::{Config, Field, is_nonce};
+use events::{Meta, Source};
+use helpers::Lookup;
+use loader::Loaded;
+use machine::{Frame, Outcome};
+use programs::{PASSES, SENDS};
+use std::alloc::Global;
+use std::marker::Model;
+use stun::read;
+use stun::registry::{Class, MessageType, Method};
+use tables::{Tables, is_ipv4, moment_of};
+
+/// A relay: its configuration, the programs of both sides, and its tables.
+#[derive(Drop)]
+pub struct Relay {
+    config: Config,
+    client: Loaded,
+    peer: Loaded,
+    tables: Tables,
+    greatest: u64,
+    frame: Frame,
+    reply: Vec<u8>,
+}
+
+impl Model for Relay {
+    ghost use Rattle.relay.specs.Relays.{Contents, IsRelay, coded_contents};
+    ghost use Rattle.control.specs.contracts.config.Config as configs;
+    ghost use Rattle.loader.specs.contracts.loaded.Loaded as programs;
+    ghost use Rattle.tables.specs.contracts.storage.Tables as rows;
+    ghost use Rattle.machine.specs.contracts.frame.Frame as frames;
+
+    ghost Value = { Contents };
+
+    ghost coded = { coded_contents configs.the_row.coded programs.the_row.coded rows.the_row.coded frames.the_row.coded };
+
+    ghost view = { λ r. record {
+      config = r.config;
+      programs = record { client = r.client; peer = r.peer };
+      rows = r.tables;
+      greatest = r.greatest;
+      frame = r.frame;
+      reply = r.reply.items;
+    } };
+
+    ghost invariant = { λ r. IsRelay r.config r.tables r.greatest r.reply.items };
+}
+
+/// The type of a Send indication.
+const SEND: MessageType = MessageType {
+    method: Method::Send,
+    class: Class::Indication,
+};
+
+/// Returns whether a source is over IPv4, and its slot there.
+fn is_served(from: Source, tables: &Tables) -> bool
+    ensures { result ≡ is_ipv4 (address_of_source from) && is_there from tables.now }
+{
+    match from {
+        Source::Client(client) => is_ipv4(&client),
+        Source::Peer { slot, addr } => is_ipv4(&addr) && slot < tables.slots(),
+    }
+}
+
+impl Relay {
+    ghost use Rattle.std.specs.Prelude.{◌≡◌, ◌≤◌, ◌↔◌, IsOk, IsTrue, IfOk, IfErr, OnOk, OnErr, length, true};
+    ghost use Rattle.std.specs.Borrow.{sem};
+    ghost use Rattle.control.specs.Configs.{fault, is_nonce};
+    ghost use Rattle.control.specs.declared.config.Field.TheVariants.{Nonce};
+    ghost use Rattle.machine.specs.Contents.{room_of};
+    ghost use Rattle.tables.specs.Addresses.{is_ipv4};
+    ghost use Rattle.semantics.specs.declared.limits.TheConstants.{MAX_DATAGRAM};
+    ghost use Rattle.relay.specs.Errors.{IsFault};
+    ghost use Rattle.relay.specs.Found.{lent, run_at, passed_on, HasRun, HasRoomFor};
+    ghost use Rattle.relay.specs.Relays.{state_of, datagram_at};
+    ghost use Rattle.relay.specs.Steps.{sending_of, outcome_of, after_step, lends_room, HasStepped};
+    ghost use Rattle.relay.specs.Systems.{first};
+    ghost use Rattle.relay.specs.declared.error.RelayError.TheVariants.{BadConfig};
+
+    /// Makes a relay of two loaded programs, with no allocation.
+    ///
+    /// # Errors
+    /// The first field of the configuration that lies outside its limits; or `Memory`.
+    pub fn new(
+        alloc: Global,
+        config: Config,
+        client: Loaded,
+        peer: Loaded,
+    ) -> Result<Relay, RelayError>
+        ensures state { IfOk result (λ r. state_of r ≡ first config) }
+        ensures config { IfOk result (λ r. r.config ≡ config) }
+        ensures programs { IfOk result (λ r. r.programs ≡ record { client = client; peer = peer }) }
+        ensures valid { OnOk result (fault config ≡ None) }
+        ensures refused { IfErr result (IsFault (fault config)) }
+    {
+        if let Some(field) = config.fault() {
+            return Err(RelayError::BadConfig(field));
+        }
+        let Ok(tables) = Tables::new(alloc, config.slots) else {
+            return Err(RelayError::Memory);
+        };
+        let Ok(frame) = Frame::new(alloc) else {
+            return Err(RelayError::Memory);
+        };
+        let Ok(reply) = vec![in alloc; 0u8; REPLY_BYTES] else {
+            return Err(RelayError::Memory);
+        };
+        Ok(Relay {
+            config,
+            client,
+            peer,
+            tables,
+            greatest: 0,
+            frame,
+            reply,
+        })
+    }
+
+    /// Returns the tables.
+    pub fn tables(&self) -> &Tables
+        ensures { result.now ≡ self.now.rows }
+    {
+        &self.tables
+    }
+
+    /// Returns the room for a datagram, 65,507 bytes, to be written.
+    pub fn area(&mut self) -> &mut [u8]
+        ensures value { result.now ≡ room_of self.old.frame }
+        ensures len { length result.now ≡ MAX_DATAGRAM }
+        ensures* writes_back { sem 𝓛 (lends_room self.entry result) }
+    {
+        self.frame.area()
+    }
+
+    /// Sets the nonce.
+    ///
+    /// # Errors
+    /// Where the text doesn't have 1 to 64 bytes of 0x21 to 0x7E. Then nothing is changed.
+    pub fn set_nonce(&mut self, text: &str) -> Result<(), RelayError>
+        ensures ok { OnOk result (state_of self.new ≡ record (state_of self.old) { nonce = text.now }) }
+        ensures config { OnOk result (self.new.config ≡ record self.old.config { nonce = self.new.config.nonce }) }
+        ensures rest { (self.new.programs ≡ self.old.programs) × (self.new.frame ≡ self.old.frame) }
+        ensures valid { IsOk result ↔ IsTrue (is_nonce text.now) }
+        ensures refused { IfErr result (λ e. e ≡ BadConfig Nonce) }
+        ensures unchanged { OnErr result (self.new ≡ self.old) }
+    {
+        let Ok(nonce) = ArrayString::from(text) else {
+            return Err(RelayError::BadConfig(Field::Nonce));
+        };
+        if !is_nonce(text) {
+            return Err(RelayError::BadConfig(Field::Nonce));
+        }
+        self.config.nonce = nonce;
+        Ok(())
+    }
+
+    /// Decides a datagram, the first `n` bytes of [`area`](Relay::area), and returns what is to be sent: the program of its
+    /// side runs over it, and what the client's program passes on is handled by the rules for requests.
+    pub fn step(&mut self, meta: Meta, n: usize) -> Action<'_>
+        requires { n ≤ MAX_DATAGRAM }
+        ensures answer { sending_of result ≡ (outcome_of self.old meta n).answer }
+        ensures* after { sem 𝓛 (after_step self.entry meta n) }
+    {
+        let found = self.advance(&meta, n);
+        let relay = &*self;
+        relay.lend(found)
+    }
+
+    /// Lends the bytes of what was found.
+    fn lend(&self, found: Found) -> Action<'_>
+        requires { HasRoomFor found self.now.reply }
+        ensures { sending_of result ≡ lent self.now found }
+    {
+        match found {
+            Found::Nothing => Action::Nothing,
+            Found::Window { from, destination } => planned(
+                &self.tables,
+                self.greatest,
+                from,
+                destination,
+                self.frame.window(),
+            ),
+            Found::ChannelData(client) => {
+                channel_data(&self.tables, self.greatest, client, self.frame.datagram())
+            }
+            Found::Send(client) => {
+                send(&self.tables, self.greatest, client, self.frame.datagram())
+            }
+            Found::Reply { client, count } => Action::ToClient {
+                client,
+                bytes: &self.reply[..count],
+            },
+        }
+    }
+
+    /// Changes all that a datagram changes, and finds what is to be sent.
+    fn advance(&mut self, meta: &Meta, n: usize) -> Found
+        requires { n ≤ MAX_DATAGRAM }
+        ensures stepped { HasStepped self.old self.new (outcome_of self.old meta.entry.now n) }
+        ensures found { lent self.new result ≡ (outcome_of self.old meta.entry.now n).answer }
+        ensures room { HasRoomFor result self.new.reply }
+    {
+        self.greatest = moment_of(self.greatest, meta.now);
+        if !is_served(meta.from, &self.tables) {
+            return Found::Nothing;
+        }
+        let outcome = self.run(meta, n);
+        match outcome.verdict {
+            PASSES => match meta.from {
+                Source::Client(client) => self.pass_on(client),
+                Source::Peer { .. } => Found::Nothing,
+            },
+            SENDS => Found::Window {
+                from: meta.from,
+                destination: outcome.destination,
+            },
+            _ => Found::Nothing,
+        }
+    }
+
+    /// Runs the program of a datagram's side over the first `n` bytes of the room.
+    fn run(&mut self, meta: &Meta, n: usize) -> Outcome
+        requires { n ≤ MAX_DATAGRAM }
+        ensures run { HasRun (length (datagram_at self.old n)) result self.new.frame (run_at self.old meta.entry.now n) }
+        ensures rest { self.new ≡ record self.old { frame = self.new.frame } }
+    {
+        let slot = slot_for(&self.tables, self.greatest, meta.from);
+        let helpers = Lookup::new(&self.tables, self.greatest, slot);
+        let program = program_for(&self.client, &self.peer, meta.from);
+        run_over(
+            program,
+            &mut self.frame,
+            &helpers,
+            &context_for(meta.tx, meta.from),
+            n,
+        )
+    }
+
+    /// Handles a client's datagram that its program passed on, as it is in the frame.
+    fn pass_on(&mut self, client: Addr) -> Found
+        requires { is_ipv4 client ≡ true }
+        ensures found { lent self.new result ≡ (passed_on self.old client).answer }
+        ensures room { HasRoomFor result self.new.reply }
+        ensures rest { self.new ≡ record self.old { rows = (passed_on self.old client).rows; reply = self.new.reply } }
+    {
+        let datagram = self.frame.datagram();
+        if !begins_as_stun(datagram) {
+            return Found::ChannelData(client);
+        }
+        let Ok(message) = read(datagram) else {
+            return Found::Nothing;
+        };
+        if message.kind() == SEND.kind() {
+            return Found::Send(client);
+        }
+        let (tables, out) = (&mut self.tables, &mut self.reply);
+        let count = control(tables, &self.config, self.greatest, client, &message, out);
+        reply_found(client, count)
+    }
+}

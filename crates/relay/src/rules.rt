@@ -1,0 +1,134 @@
+//! Relaying by the rules, and what a run's plan sends.
+
+ghost use Rattle.std.specs.Prelude.{◌≡◌, option_copied};
+ghost use Rattle.stun.specs.Datagrams.{message_in};
+ghost use Rattle.tables.specs.Rows.{rows_at};
+ghost use Rattle.programs.specs.FastPart.{begins_as_stun};
+ghost use Rattle.programs.specs.Rules.{client_slot, client_at, channel_data_from, send_from};
+ghost use Rattle.programs.specs.Runs.{planned};
+ghost use Rattle.relay.specs.Found.{send_in};
+ghost use Rattle.relay.specs.Steps.{sending_of};
+
+use crate::action::Action;
+use attributes::{Addr, read_xor_addr};
+use control::all_understood;
+use events::Source;
+use stun::registry::attribute::{DATA, XOR_PEER_ADDRESS};
+use stun::{Message, read, read_channel};
+use tables::{Tables, uncounted};
+
+/// Returns whether a datagram begins with the bits 00, as STUN messages do.
+pub(crate) fn begins_as_stun(datagram: &[u8]) -> bool
+    ensures { result ≡ begins_as_stun datagram.now }
+{
+    match datagram {
+        [] => false,
+        [first, ..] => *first < 0x40,
+    }
+}
+
+/// Returns the slot of a client's allocation.
+pub(crate) fn client_slot(tables: &Tables, moment: u64, client: Addr) -> Option<usize>
+    ensures { result ≡ client_slot client (rows_at moment tables.now) }
+{
+    let allocation = uncounted::allocation_of(tables, client, moment)?;
+    Some(allocation.slot)
+}
+
+/// Returns the client of the allocation at a slot.
+fn client_at(tables: &Tables, moment: u64, slot: usize) -> Option<Addr>
+    ensures { result ≡ client_at slot (rows_at moment tables.now) }
+{
+    let allocation = uncounted::allocation_at(tables, slot, moment)?;
+    Some(allocation.client)
+}
+
+/// Relays ChannelData: its data goes to the peer that its number is bound to (RFC 8656, section 12.6).
+pub(crate) fn channel_data<'a>(
+    tables: &Tables,
+    moment: u64,
+    client: Addr,
+    datagram: &'a [u8],
+) -> Action<'a>
+    ensures { sending_of result ≡ channel_data_from client (rows_at moment tables.now) datagram.now }
+{
+    let Some(slot) = client_slot(tables, moment, client) else {
+        return Action::Nothing;
+    };
+    let Some(message) = read_channel(datagram) else {
+        return Action::Nothing;
+    };
+    match uncounted::peer_of(tables, slot, message.number, moment) {
+        Some(peer) => Action::ToPeer {
+            slot,
+            peer,
+            bytes: message.bytes,
+        },
+        None => Action::Nothing,
+    }
+}
+
+/// Relays a Send indication: its data goes to its address, if that has a permission (RFC 8656, section 11.2).
+fn send_message<'a>(tables: &Tables, moment: u64, client: Addr, message: &Message<'a>) -> Action<'a>
+    ensures { sending_of result ≡ send_from client (rows_at moment tables.now) message.now }
+{
+    let Some(slot) = client_slot(tables, moment, client) else {
+        return Action::Nothing;
+    };
+    if !all_understood(message) {
+        return Action::Nothing;
+    }
+    let Some(value) = message.value_of(XOR_PEER_ADDRESS) else {
+        return Action::Nothing;
+    };
+    let Some(bytes) = message.value_of(DATA) else {
+        return Action::Nothing;
+    };
+    let Ok(peer) = read_xor_addr(value, &message.tx()) else {
+        return Action::Nothing;
+    };
+    if !uncounted::permitted(tables, slot, peer, moment) {
+        return Action::Nothing;
+    }
+    Action::ToPeer { slot, peer, bytes }
+}
+
+/// Relays a datagram that is a Send indication.
+pub(crate) fn send<'a>(tables: &Tables, moment: u64, client: Addr, datagram: &'a [u8]) -> Action<'a>
+    ensures { sending_of result ≡ send_in client (rows_at moment tables.now) (message_in datagram.now) }
+{
+    match read(datagram) {
+        Ok(message) => send_message(tables, moment, client, &message),
+        Err(_) => Action::Nothing,
+    }
+}
+
+/// Returns what verdict 2 sends.
+pub(crate) fn planned<'a>(
+    tables: &Tables,
+    moment: u64,
+    from: Source,
+    destination: Option<Addr>,
+    window: Option<&'a [u8]>,
+) -> Action<'a>
+    ensures { sending_of result ≡ planned from (rows_at moment tables.now) destination (option_copied window.entry) }
+{
+    let Some(bytes) = window else {
+        return Action::Nothing;
+    };
+    match from {
+        Source::Client(client) => {
+            let Some(slot) = client_slot(tables, moment, client) else {
+                return Action::Nothing;
+            };
+            match destination {
+                Some(peer) => Action::ToPeer { slot, peer, bytes },
+                None => Action::Nothing,
+            }
+        }
+        Source::Peer { slot, .. } => match client_at(tables, moment, slot) {
+            Some(client) => Action::ToClient { client, bytes },
+            None => Action::Nothing,
+        },
+    }
+}

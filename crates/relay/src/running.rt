@@ -1,0 +1,74 @@
+//! The run of a side's program over the datagram of a step.
+
+ghost use Rattle.std.specs.Prelude.{◌≡◌, ◌≤◌, length, take};
+ghost use Rattle.semantics.specs.declared.limits.TheConstants.{MAX_DATAGRAM};
+ghost use Rattle.machine.specs.Contents.{room_of};
+ghost use Rattle.machine.specs.Contexts.{around, context_of};
+ghost use Rattle.machine.specs.Tracing.{run_over};
+ghost use Rattle.tables.specs.Rows.{rows_at};
+ghost use Rattle.programs.specs.Runs.{context_for, slot_for};
+ghost use Rattle.relay.specs.ByPrograms.{program_for};
+ghost use Rattle.relay.specs.Found.{HasRun, answers_of};
+
+use crate::rules::client_slot;
+use events::{Meta, Source};
+use helpers::Lookup;
+use loader::Loaded;
+use machine::{Context, Frame, Outcome, Side, run};
+use tables::Tables;
+use verifier::Verified;
+
+/// Returns the context of a datagram.
+pub(crate) fn context_for(tx: [u8; 12], from: Source) -> Context
+    ensures { result ≡ context_for tx from }
+{
+    match from {
+        Source::Client(source) => Context {
+            side: Side::Client,
+            source,
+            tx,
+        },
+        Source::Peer { addr, .. } => Context {
+            side: Side::Peer,
+            source: addr,
+            tx,
+        },
+    }
+}
+
+/// Returns the slot in which helpers look up.
+pub(crate) fn slot_for(tables: &Tables, moment: u64, from: Source) -> Option<usize>
+    ensures { result ≡ slot_for from (rows_at moment tables.now) }
+{
+    match from {
+        Source::Client(client) => client_slot(tables, moment, client),
+        Source::Peer { slot, .. } => Some(slot),
+    }
+}
+
+/// Returns the program of a side.
+pub(crate) fn program_for<'a>(client: &'a Loaded, peer: &'a Loaded, from: Source) -> &'a Verified
+    ensures { result.now ≡ program_for (record { client = client.now; peer = peer.now }) from }
+{
+    match from {
+        Source::Client(_) => client.program(),
+        Source::Peer { .. } => peer.program(),
+    }
+}
+
+/// Runs a program over the first `n` bytes of a frame's room.
+pub(crate) fn run_over(
+    program: &Verified,
+    frame: &mut Frame,
+    helpers: &Lookup<'_>,
+    context: &Context,
+    n: usize,
+) -> Outcome
+    requires { n ≤ MAX_DATAGRAM }
+    ensures { HasRun (length (take n (room_of frame.old))) result frame.new
+        (run_over (around (context_of context.now) (answers_of helpers.now)) program.now (take n (room_of frame.old))) }
+{
+    let _ = frame.room();
+    frame.start(context, n);
+    run(program, frame, helpers)
+}
