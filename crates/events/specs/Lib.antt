@@ -1,2 +1,8 @@
 -- Internal. The modules of this folder.
+pub mod Actions
 pub mod Events
+pub mod Lines
+pub mod Options
+pub mod Parsing
+pub mod Reading
+pub mod ReadingLaws

@@ -1,6 +1,12 @@
-//! What comes to a relay and what it sends.
+//! What comes to a relay and what it sends, and both as lines of text.
 #![tactic(auto)]
 
+mod action;
 mod meta;
+mod parsing;
+mod writing;
 
+pub use action::Action;
 pub use meta::{Meta, Source};
+pub use parsing::{Parsed, parse};
+pub use writing::push_answer;

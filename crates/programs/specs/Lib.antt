@@ -1,5 +1,7 @@
 -- Internal. The modules of this folder.
-pub mod FastPart
-pub mod Options
 pub mod Rules
+pub mod FastPart
 pub mod Runs
+pub mod Relaying
+pub mod Client
+pub mod Peer

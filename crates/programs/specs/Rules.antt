@@ -16,7 +16,7 @@ use Rattle.tables.specs.Rows.{Rows}
 use Rattle.tables.specs.LookUps.{allocation_of, allocation_at, peer_of, channel_of, permitted}
 use Rattle.semantics.specs.declared.limits.TheConstants.{MAX_DATAGRAM}
 use Rattle.events.specs.Events.{Sending, ToPeer, ToClient}
-use Rattle.programs.specs.Options.{◌>>=◌, guard}
+use Rattle.events.specs.Options.{◌>>=◌, guard}
 
 -- the type of a Send indication, and of a Data indication
 abbrev pub send_indication : ℕ

@@ -16,7 +16,7 @@ use Rattle.tables.specs.Rows.{Rows}
 use Rattle.events.specs.Events.{Sending, ToPeer, ToClient}
 use Rattle.events.specs.declared.meta.Source.{Source}
 use Rattle.events.specs.declared.meta.Source.TheVariants.{Client, Peer}
-use Rattle.programs.specs.Options.{◌>>=◌}
+use Rattle.events.specs.Options.{◌>>=◌}
 use Rattle.programs.specs.declared.verdict.TheConstants.{SENDS}
 use Rattle.programs.specs.Rules.{client_slot, client_at}
 

@@ -1,6 +1,10 @@
-//! What verdicts of programs decide, and the rules that relaying follows.
+//! The shipped programs of the two sides, and what they promise.
 #![tactic(auto)]
 
+mod client;
+mod peer;
 mod verdict;
 
+pub use client::{CLIENT, client_serves, client_text};
+pub use peer::{PEER, peer_serves, peer_text};
 pub use verdict::{DISCARDS, PASSES, SENDS, verdicts};

@@ -1,23 +1,14 @@
--- Interface. A relay after a step, once the borrow of what it sends has ended, and what an action sends.
-use Rattle.std.specs.Prelude.{◌≡◌, ℕ, ⊤, List, Option, None, Some}
+-- Interface. A relay after a step, once the borrow of what it sends has ended.
+use Rattle.std.specs.Prelude.{◌≡◌, ℕ, ⊤, List}
 use Rattle.std.specs.Borrow.{Fml, MutBor, follows_so, Lends, Array, u8}
 use mathlib.Core.Option.{none}
 use Rattle.machine.specs.Contents.{with_room}
-use Rattle.events.specs.Events.{Datagram, Sending}
-use Rattle.events.specs.Events as sending
+use Rattle.events.specs.Events.{Datagram}
 use Rattle.events.specs.declared.meta.Meta.{Meta}
 use Rattle.relay.specs.ByPrograms.{by_programs}
 use Rattle.relay.specs.Relays.{Contents, state_of, datagram_at}
 use Rattle.relay.specs.Systems.{Outcome, step}
 use Rattle.relay.specs.contracts.relay.Relay.{the_row}
-use Rattle.relay.specs.declared.action.Action.{Action}
-use Rattle.relay.specs.declared.action.Action.TheVariants as action
-
--- what an action sends, with the bytes that it lends
-abbrev pub sending_of : Action → Option Sending
-sending_of action.Nothing = None
-sending_of (action.ToPeer slot peer bytes) = Some (sending.ToPeer slot peer bytes.now)
-sending_of (action.ToClient client bytes) = Some (sending.ToClient client bytes.now)
 
 -- the outcome of a datagram by the relay's programs
 abbrev pub outcome_of : Contents → Meta → ℕ → Outcome

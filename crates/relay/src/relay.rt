@@ -5,7 +5,6 @@ ghost use Rattle.tables.specs.Addresses.{is_ipv4};
 ghost use Rattle.relay.specs.Systems.{address_of_source};
 ghost use Rattle.relay.specs.ByPrograms.{is_there};
 
-use crate::action::Action;
 use crate::error::RelayError;
 use crate::found::{Found, reply_found};
 use crate::handling::{REPLY_BYTES, control};
@@ -14,7 +13,7 @@ use crate::running::{context_for, program_for, run_over, slot_for};
 use arrayvec::ArrayString;
 use attributes::Addr;
 use control::{Config, Field, is_nonce};
-use events::{Meta, Source};
+use events::{Action, Meta, Source};
 use helpers::Lookup;
 use loader::Loaded;
 use machine::{Frame, Outcome};
@@ -84,10 +83,11 @@ impl Relay {
     ghost use Rattle.machine.specs.Contents.{room_of};
     ghost use Rattle.tables.specs.Addresses.{is_ipv4};
     ghost use Rattle.semantics.specs.declared.limits.TheConstants.{MAX_DATAGRAM};
+    ghost use Rattle.events.specs.Actions.{sending_of};
     ghost use Rattle.relay.specs.Errors.{IsFault};
     ghost use Rattle.relay.specs.Found.{lent, run_at, passed_on, HasRun, HasRoomFor};
     ghost use Rattle.relay.specs.Relays.{state_of, datagram_at};
-    ghost use Rattle.relay.specs.Steps.{sending_of, outcome_of, after_step, lends_room, HasStepped};
+    ghost use Rattle.relay.specs.Steps.{outcome_of, after_step, lends_room, HasStepped};
     ghost use Rattle.relay.specs.Systems.{first};
     ghost use Rattle.relay.specs.declared.error.RelayError.TheVariants.{BadConfig};
 

@@ -1,18 +1,17 @@
 //! Relaying by the rules, and what a run's plan sends.
 
 ghost use Rattle.std.specs.Prelude.{◌≡◌, option_copied};
+ghost use Rattle.events.specs.Actions.{sending_of};
 ghost use Rattle.stun.specs.Datagrams.{message_in};
 ghost use Rattle.tables.specs.Rows.{rows_at};
 ghost use Rattle.programs.specs.FastPart.{begins_as_stun};
 ghost use Rattle.programs.specs.Rules.{client_slot, client_at, channel_data_from, send_from};
 ghost use Rattle.programs.specs.Runs.{planned};
 ghost use Rattle.relay.specs.Found.{send_in};
-ghost use Rattle.relay.specs.Steps.{sending_of};
 
-use crate::action::Action;
 use attributes::{Addr, read_xor_addr};
 use control::all_understood;
-use events::Source;
+use events::{Action, Source};
 use stun::registry::attribute::{DATA, XOR_PEER_ADDRESS};
 use stun::{Message, read, read_channel};
 use tables::{Tables, uncounted};

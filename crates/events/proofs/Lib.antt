@@ -1,0 +1,3 @@
+mod Events
+mod Numbers
+mod Splits

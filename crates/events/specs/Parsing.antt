@@ -1,0 +1,27 @@
+-- Interface. The event that was parsed, with the room that its bytes are in.
+use Rattle.std.specs.Prelude.{ℕ, List, take, Option}
+use Rattle.std.specs.Borrow.{Bor}
+use Rattle.events.specs.Events.{Event, Datagram, Nonce}
+use Rattle.events.specs.declared.meta.Source.{Source}
+use Rattle.events.specs.Reading.{client_in, peer_in}
+use Rattle.events.specs.declared.parsing.Side.{Side}
+use Rattle.events.specs.declared.parsing.Side.TheVariants as side
+use Rattle.events.specs.declared.parsing.Parsed.{Parsed}
+use Rattle.events.specs.declared.parsing.Parsed.TheVariants as parsed
+
+abbrev pub event_of : List ℕ → Parsed → Event
+event_of room (parsed.Datagram given n) = Datagram given (take n room)
+event_of room (parsed.Nonce text) = Nonce text.now
+
+-- two texts, as lists
+abbrev pub pair_of : Bor (List ℕ) × Bor (List ℕ) → List ℕ × List ℕ
+pair_of p = (p.0.now, p.1.now)
+
+-- a source, and the text after it
+abbrev pub source_of : Source × Bor (List ℕ) → Source × List ℕ
+source_of p = (p.0, p.1.now)
+
+-- the reader of a side's sources
+abbrev pub source_of_side : Side → ℕ → List ℕ → Option (Source × List ℕ)
+source_of_side side.Client slots = client_in
+source_of_side side.Peer slots = peer_in slots

@@ -1,0 +1,102 @@
+-- Internal. The reader of a line, as functions on its bytes, which the code mirrors.
+use Rattle.std.specs.Prelude.{◌≡◌, ℕ, ◌/◌, ◌^◌, ◌==◌, ◌&&◌, Bool, List, [], ◌∷◌, length, codes, decimal, bytes_eq, nat_le, nat_lt, Option, None, Some, option_map, if◌then◌else◌}
+use Rattle.std.specs.List.{list_any}
+use Rattle.std.specs.Result.{result_ok}
+use Rattle.std.specs.Str.Parse.{digits_value}
+use Rattle.hex.specs.Hex.{decode_sized}
+use Rattle.stun.specs.Ranges.{is_between}
+use Rattle.attributes.specs.declared.address.Addr.{Addr}
+use Rattle.attributes.specs.declared.address.Addr.TheVariants.{V4}
+use Rattle.control.specs.Configs.{is_nonce}
+use Rattle.semantics.specs.declared.limits.TheConstants.{MAX_DATAGRAM}
+use Rattle.events.specs.Events.{Event, Datagram, Nonce}
+use Rattle.events.specs.Options.{◌>>=◌}
+use Rattle.events.specs.declared.meta.Source.{Source}
+use Rattle.events.specs.declared.meta.Source.TheVariants.{Client, Peer}
+
+-- what precedes and what follows the first of a separator
+abbrev pub split_at : ℕ → List ℕ → Option (List ℕ × List ℕ)
+split_at separator [] = None
+split_at separator (b ∷ bytes) =
+    if b == separator then Some ([], bytes) else option_map (λ p. (b ∷ p.0, p.1)) (split_at separator bytes)
+
+-- ---- fields
+
+-- a decimal number below a limit, without needless zeros
+abbrev pub decimal_in : ℕ → List ℕ → Option ℕ
+decimal_in limit text =
+    if nat_lt (digits_value 10 text) limit && bytes_eq (decimal (digits_value 10 text)) text then Some (digits_value 10 text) else None
+
+abbrev pub ipv4_in : List ℕ → Option (List ℕ)
+ipv4_in text = do
+  a ← split_at 0x2e text
+  b ← split_at 0x2e a.1
+  c ← split_at 0x2e b.1
+  first ← decimal_in 256 a.0
+  second ← decimal_in 256 b.0
+  third ← decimal_in 256 c.0
+  fourth ← decimal_in 256 c.1
+  Some (first ∷ second ∷ third ∷ fourth ∷ [])
+
+abbrev pub address_in : List ℕ → Option Addr
+address_in text = do
+  parts ← split_at 0x3a text
+  ip ← ipv4_in parts.0
+  port ← decimal_in 0x10000 parts.1
+  Some (V4 ip port)
+
+-- whether a text has a letter in upper case
+abbrev pub has_upper : List ℕ → Bool
+has_upper text = list_any (is_between 0x41 0x5a) text
+
+-- n bytes, as digits in lower case
+abbrev pub digits_in : ℕ → List ℕ → Option (List ℕ)
+digits_in n text = if has_upper text then None else result_ok (decode_sized text n)
+
+-- the bytes of a datagram
+abbrev pub content_in : List ℕ → Option (List ℕ)
+content_in text =
+    if bytes_eq text (codes "-") then Some []
+    else (if is_between 1 MAX_DATAGRAM (length text / 2) then digits_in (length text / 2) text else None)
+
+-- ---- lines
+
+abbrev pub client_in : List ℕ → Option (Source × List ℕ)
+client_in text = do
+  parts ← split_at 0x20 text
+  client ← address_in parts.0
+  Some (Client client, parts.1)
+
+abbrev pub peer_in : ℕ → List ℕ → Option (Source × List ℕ)
+peer_in slots text = do
+  first ← split_at 0x20 text
+  second ← split_at 0x20 first.1
+  slot ← decimal_in slots first.0
+  peer ← address_in second.0
+  Some (Peer slot peer, second.1)
+
+-- what follows the side: the source as its side has it
+abbrev pub datagram_in : (List ℕ → Option (Source × List ℕ)) → List ℕ → Option Event
+datagram_in source text = do
+  first ← split_at 0x20 text
+  second ← split_at 0x20 first.1
+  now ← decimal_in (2 ^ 64) first.0
+  tx ← digits_in 12 second.0
+  from ← source second.1
+  bytes ← content_in from.1
+  Some (Datagram (record { now = now; tx = tx; from = from.0 }) bytes)
+
+abbrev pub nonce_in : List ℕ → Option Event
+nonce_in text = if is_nonce text then Some (Nonce text) else None
+
+abbrev pub event_by : ℕ → List ℕ → List ℕ → Option Event
+event_by slots kind text =
+    if bytes_eq kind (codes "c") then datagram_in client_in text
+    else (if bytes_eq kind (codes "p") then datagram_in (peer_in slots) text
+    else (if bytes_eq kind (codes "n") then nonce_in text else None))
+
+-- the event of a line, if it has one
+abbrev pub event_in : ℕ → List ℕ → Option Event
+event_in slots line = do
+  parts ← split_at 0x20 line
+  event_by slots parts.0 parts.1

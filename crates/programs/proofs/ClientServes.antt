@@ -1,0 +1,132 @@
+-- The program of the client's side relays as the rules say.
+use Rattle.std.proofs.Common.{◌≡◌, ℕ, ◌≤◌, ◌<◌, ◌⊎◌, inl, inr, List, [], ◌∷◌, length, Bool, true, false, ◌&&◌, Option, Some, None, refl, ap, ◌∙◌, arith}
+use Rattle.std.specs.Prelude.{IfSome, slice_index, nat_le, nat_lt, if◌then◌else◌, ◌==◌}
+use Rattle.std.specs.Option.{option_map}
+use Rattle.std.proofs.lemmas.Bool.Decides.{nat_tests}
+use Rattle.insn.specs.declared.instruction.Insn.{Insn}
+use Rattle.attributes.specs.AddressLaws.{ipv4-is_address}
+use Rattle.attributes.specs.Addresses.{IsIpv4Address}
+use Rattle.attributes.specs.declared.address.Addr.{Addr}
+use Rattle.tables.specs.LookUps.{peer_of}
+use Rattle.tables.specs.Rows.{Rows}
+use Rattle.tables.specs.WellFormed.{AreWellFormed}
+use Rattle.tables.specs.WellFormedLaws.{peer_of-address}
+use Rattle.helpers.specs.LawfulLaws.{record_bytes, look_up_is_lawful}
+use Rattle.helpers.specs.LookUps.{look_up}
+use Rattle.semantics.specs.Machine.{Environment}
+use Rattle.semantics.specs.Runs.{Exited, IsPossible, IsSafe}
+use Rattle.events.specs.Events.{ToPeer}
+use Rattle.events.specs.declared.meta.Source.TheVariants.{Client}
+use Rattle.programs.specs.Client.{client_program}
+use Rattle.programs.specs.FastPart.{begins_as_stun, begins_as_channel_data}
+use Rattle.events.specs.Options.{◌>>=◌}
+use Rattle.programs.specs.Relaying.{IsStart, ServesClient}
+use Rattle.programs.specs.Rules.{client_slot, channel_data, to_peer}
+use Rattle.programs.specs.Runs.{environment_for, run_for, window_in, destination_in}
+use Rattle.programs.proofs.ClientRun.{IsClientEnd, LooksUp, uncut, client_keeps}
+use Rattle.programs.proofs.Preconditions.{safe_run_exits}
+use Rattle.programs.proofs.PeerServes.{if_some}
+
+-- ---- the first two bits
+
+at_least : (low b : ℕ) (rest : Bool) → (nat_le low b && rest) ≡ true → low ≤ b
+at_least low b true e = grind (arith, nat_tests)
+at_least low b false e = grind (arith, nat_tests)
+
+at_most : (high b : ℕ) (first : Bool) → (first && nat_le b high) ≡ true → b ≤ high
+at_most high b true e = grind (arith, nat_tests)
+at_most high b false e = absurd cc
+
+outside : (b : ℕ) → (nat_le 64 b && nat_le b 127) ≡ false → nat_lt b 64 ≡ false → 128 ≤ b
+outside b e f = grind (arith, nat_tests)
+
+less_than : (b n : ℕ) → nat_lt b n ≡ true → b < n
+less_than b n e = grind (arith, nat_tests)
+
+pub record BeginsBetween (d : List ℕ) (low high : ℕ) : Type 0 where
+  pub some : 1 ≤ length d
+  pub low_bound : low ≤ slice_index d 0
+  pub high_bound : slice_index d 0 < high
+
+channel_data_begins : (d : List ℕ) → begins_as_channel_data d ≡ true → BeginsBetween d 64 128
+channel_data_begins [] e = absurd cc
+channel_data_begins (b ∷ d) e = record { some = omega arith; low_bound = at_least 64 b (nat_le b 127) e; high_bound = let high = at_most 127 b (nat_le 64 b) e in omega (arith, high) }
+
+stun_begins : (d : List ℕ) → begins_as_stun d ≡ true → BeginsBetween d 0 64
+stun_begins [] e = absurd cc
+stun_begins (b ∷ d) e = record { some = omega arith; low_bound = omega arith; high_bound = less_than b 64 e }
+
+other_begins : (d : List ℕ) → begins_as_channel_data d ≡ false → begins_as_stun d ≡ false → (length d ≡ 0) ⊎ (128 ≤ slice_index d 0)
+other_begins [] e f = inl refl
+other_begins (b ∷ d) e f = inr (outside b e f)
+
+-- ---- look-ups
+
+-- the peers of the channels of a slot, if there is one
+abbrev peers_of : Option ℕ → Rows → ℕ → Option Addr
+peers_of None rows number = None
+peers_of (Some slot) rows number = peer_of slot number rows
+
+looks_up : (slot : Option ℕ) (rows : Rows) → LooksUp (look_up slot rows) (peers_of slot rows)
+looks_up None rows number = refl
+looks_up (Some slot) rows number = refl
+
+peers_are_ipv4 : (slot : Option ℕ) (rows : Rows) → AreWellFormed rows → (number : ℕ) → IfSome (peers_of slot rows number) IsIpv4Address
+peers_are_ipv4 None rows formed number = tt
+peers_are_ipv4 (Some slot) rows formed number = if_some IsIpv4Address (peer_of slot number rows) (λ peer bound. peer_of-address slot number rows peer formed bound)
+
+-- ---- the start and the end
+
+is_possible : (client : Addr) (tx : List ℕ) (rows : Rows) (datagram : List ℕ) → IsStart client tx rows datagram → IsPossible (environment_for tx (Client client) rows)
+is_possible client tx rows datagram start = record {
+  context = record { side = omega arith; source = record_bytes client (ipv4-is_address client start.is_ipv4); transaction_id = start.transaction_id };
+  helpers = look_up_is_lawful rows start.well_formed (client_slot client rows);
+}
+
+-- the window goes to the destination from the slot's relayed address, if all are there
+from_the_slot : (sends : Bool) (window : Option (List ℕ)) (slot : Option ℕ) (destination : Option Addr) →
+    (if sends then (window >>= λ bytes. slot >>= λ at. destination >>= λ to. Some (ToPeer at to bytes)) else None)
+    ≡ (slot >>= λ at. option_map (to_peer at) (if sends then (window >>= λ bytes. destination >>= λ to. Some (to, bytes)) else None))
+from_the_slot true None None destination = refl
+from_the_slot true None (Some at) destination = refl
+from_the_slot true (Some bytes) None destination = refl
+from_the_slot true (Some bytes) (Some at) None = refl
+from_the_slot true (Some bytes) (Some at) (Some to) = refl
+from_the_slot false window None destination = refl
+from_the_slot false window (Some at) destination = refl
+
+by_the_rules : (slot : Option ℕ) (rows : Rows) (datagram : List ℕ) (sent : Option (Addr × List ℕ)) → sent ≡ channel_data (peers_of slot rows) datagram
+    → (slot >>= λ at. option_map (to_peer at) sent) ≡ (slot >>= λ at. option_map (to_peer at) (channel_data (λ number. peer_of at number rows) datagram))
+by_the_rules None rows datagram sent e = refl
+by_the_rules (Some at) rows datagram sent e = ap (option_map (to_peer at)) e
+
+-- where code is safe, it serves the client's side
+abbrev pub ServesIfSafe : List Insn → Type 0
+ServesIfSafe code = IsSafe code → (client : Addr) (tx : List ℕ) (rows : Rows) (datagram : List ℕ) → IsStart client tx rows datagram → ServesClient code tx client rows datagram
+
+pub client_program_serves : ServesIfSafe client_program
+client_program_serves safe client tx rows datagram start =
+    let w : Environment = environment_for tx (Client client) rows in
+    let slot : Option ℕ = client_slot client rows in
+    let peers : ℕ → Option Addr = peers_of slot rows in
+    let keeps = client_keeps w datagram peers (looks_up slot rows) (peers_are_ipv4 slot rows start.well_formed) refl start.is_datagram in
+    let end = safe_run_exits w client_program uncut (λ v s. IsClientEnd peers datagram v s) datagram safe (is_possible client tx rows datagram start) start.is_datagram keeps in
+    record {
+      channel_data = λ begins.
+          let first = channel_data_begins datagram begins in
+          let is = end.holds.channel first.some first.low_bound first.high_bound in
+          record {
+            verdict = end.verdict;
+            exits = end.exits;
+            alone = is.0;
+            sent = from_the_slot (end.verdict == 2) (window_in (run_for client_program tx (Client client) rows datagram).state) slot (destination_in (run_for client_program tx (Client client) rows datagram).state)
+                ∙ by_the_rules slot rows datagram _ is.1;
+          };
+      stun = λ begins.
+          let first = stun_begins datagram begins in
+          let is = end.holds.stun first.some first.high_bound in
+          record { exits = end.exits ∙ ap Exited is.0; unchanged = is.1 };
+      other = λ no_channel_data no_stun.
+          let none : end.verdict ≡ 0 = end.holds.other (other_begins datagram no_channel_data no_stun) in
+          record { verdict = 0; exits = end.exits ∙ ap Exited none; alone = λ same. omega (arith, same); sent = refl };
+    }
