@@ -1,5 +1,6 @@
 -- Interface. The event that was parsed, with the room that its bytes are in.
-use Rattle.std.specs.Prelude.{ℕ, List, take, Option}
+use Rattle.std.specs.Prelude.{ℕ, ◌≤◌, List, take, Option}
+use Rattle.semantics.specs.declared.limits.TheConstants.{MAX_DATAGRAM}
 use Rattle.std.specs.Borrow.{Bor}
 use Rattle.events.specs.Events.{Event, Datagram, Nonce}
 use Rattle.events.specs.declared.meta.Source.{Source}
@@ -12,6 +13,11 @@ use Rattle.events.specs.declared.parsing.Parsed.TheVariants as parsed
 abbrev pub event_of : List ℕ → Parsed → Event
 event_of room (parsed.Datagram given n) = Datagram given (take n room)
 event_of room (parsed.Nonce text) = Nonce text.now
+
+-- the bytes of a datagram are within the room
+abbrev pub IsShort : Parsed → Type 0
+IsShort (parsed.Datagram given n) = n ≤ MAX_DATAGRAM
+IsShort (parsed.Nonce text) = Unit {0}
 
 -- two texts, as lists
 abbrev pub pair_of : Bor (List ℕ) × Bor (List ℕ) → List ℕ × List ℕ

@@ -4,7 +4,7 @@ ghost use Rattle.std.specs.Prelude.{◌≡◌, ℕ, ◌^◌, ◌≤◌, List, If
 ghost use Rattle.semantics.specs.declared.limits.TheConstants.{MAX_DATAGRAM};
 ghost use Rattle.events.specs.Events.{Event};
 ghost use Rattle.events.specs.Lines.{line_of, IsEvent};
-ghost use Rattle.events.specs.Parsing.{event_of, pair_of, source_of, source_of_side};
+ghost use Rattle.events.specs.Parsing.{event_of, IsShort, pair_of, source_of, source_of_side};
 ghost use Rattle.events.specs.Reading.{split_at, decimal_in, ipv4_in, address_in, has_upper, digits_in, content_in, client_in, peer_in, datagram_in, nonce_in, event_in};
 
 use crate::meta::{Meta, Source};
@@ -111,6 +111,7 @@ fn read_digits(text: &[u8], out: &mut [u8]) -> bool
 fn content(text: &[u8], room: &mut [u8]) -> Option<usize>
     requires { length room.old ≡ MAX_DATAGRAM }
     ensures content { option_map (λ n. take n room.new) result ≡ content_in text.now }
+    ensures few { IfSome result (λ n. n ≤ MAX_DATAGRAM) }
 {
     if text == b"-".as_slice() {
         return Some(0);
@@ -177,7 +178,8 @@ fn source(side: Side, text: &[u8], slots: usize) -> Option<(Source, &[u8])>
 /// Reads what follows the side of a datagram. Its bytes are read over the first bytes of a room.
 fn datagram<'a>(side: Side, text: &[u8], slots: usize, room: &mut [u8]) -> Option<Parsed<'a>>
     requires { length room.old ≡ MAX_DATAGRAM }
-    ensures { option_map (event_of room.new) result ≡ datagram_in (source_of_side side slots) text.now }
+    ensures reads { option_map (event_of room.new) result ≡ datagram_in (source_of_side side slots) text.now }
+    ensures few { IfSome result IsShort }
 {
     let (now, rest) = split_at(text, b' ')?;
     let (tx, rest) = split_at(rest, b' ')?;
@@ -191,7 +193,8 @@ fn datagram<'a>(side: Side, text: &[u8], slots: usize, room: &mut [u8]) -> Optio
 
 /// Reads a nonce.
 fn nonce(text: &[u8]) -> Option<Parsed<'_>>
-    ensures { (room : List ℕ) → option_map (event_of room) result ≡ nonce_in text.now }
+    ensures reads { (room : List ℕ) → option_map (event_of room) result ≡ nonce_in text.now }
+    ensures few { IfSome result IsShort }
 {
     let Ok(text) = std::str::from_utf8(text) else {
         return None;
@@ -206,7 +209,8 @@ fn nonce(text: &[u8]) -> Option<Parsed<'_>>
 /// Reads what follows the side of a line, or its `n`.
 fn read_line<'a>(line: &'a [u8], slots: usize, room: &mut [u8]) -> Option<Parsed<'a>>
     requires { length room.old ≡ MAX_DATAGRAM }
-    ensures { option_map (event_of room.new) result ≡ event_in slots line.now }
+    ensures reads { option_map (event_of room.new) result ≡ event_in slots line.now }
+    ensures few { IfSome result IsShort }
 {
     let (kind, text) = split_at(line, b' ')?;
     if kind == b"c".as_slice() {
@@ -227,10 +231,12 @@ fn read_line<'a>(line: &'a [u8], slots: usize, room: &mut [u8]) -> Option<Parsed
 /// `None` where the line is no event's.
 pub fn parse<'a>(line: &'a [u8], slots: usize, room: &mut [u8]) -> Option<Parsed<'a>>
     requires { length room.old ≡ MAX_DATAGRAM }
+    ensures reads { option_map (event_of room.new) result ≡ event_in slots line.now }
     ensures found { IfSome result (λ p. IsEvent slots (event_of room.new p)
         × (line.now ≡ line_of (event_of room.new p))) }
     ensures only { (e : Event) → IsEvent slots e → line.now ≡ line_of e
         → IsSomeAnd result (λ p. event_of room.new p ≡ e) }
+    ensures few { IfSome result IsShort }
 {
     read_line(line, slots, room)
 }

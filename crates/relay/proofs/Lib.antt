@@ -1,5 +1,9 @@
 mod Advances
 mod Controls
+mod FirstLines
 mod Frames
 mod PassedOn
+mod Played
+mod Plays
 mod SameNonce
+mod WrittenBytes

@@ -4,5 +4,6 @@ pub mod ByRules
 pub mod Errors
 pub mod Found
 pub mod Relays
+pub mod Replays
 pub mod Steps
 pub mod Systems

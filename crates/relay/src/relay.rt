@@ -137,6 +137,13 @@ impl Relay {
         &self.tables
     }
 
+    /// Returns the number of slots.
+    pub(crate) fn slots(&self) -> usize
+        ensures { result ≡ self.now.config.slots }
+    {
+        self.config.slots
+    }
+
     /// Returns the room for a datagram, 65,507 bytes, to be written.
     pub fn area(&mut self) -> &mut [u8]
         ensures value { result.now ≡ room_of self.old.frame }
