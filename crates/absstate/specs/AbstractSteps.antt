@@ -1,7 +1,7 @@
 -- Interface. The abstract step: the abstract states after an instruction, or the reason for which a step from here
 -- could be stuck. The tests come in the order of the tagged machine. Numbers are computed by the operations of a
 -- domain.
-use Rattle.std.specs.Prelude.{ℕ, ◌+◌, ◌-◌, ◌^◌, ◌≤◌, Bool, true, false, ℤ, pos, ◌+ℤ◌, Option, Some, None, Result, Ok, Err, ◌==◌, if◌then◌else◌}
+use Rattle.std.specs.Prelude.{ℕ, ◌+◌, ◌-◌, ◌^◌, ◌≤◌, Bool, true, false, ℤ, pos, ◌+ℤ◌, List, Option, Some, None, Result, Ok, Err, ◌==◌, if◌then◌else◌}
 use Rattle.std.specs.Option.{ok_or, option_map}
 use Rattle.insn.specs.Codes.{byte_count, unsigned_size}
 use Rattle.insn.specs.Register.{number_of}
@@ -25,10 +25,11 @@ use Rattle.insn.specs.declared.instruction.Insn.TheVariants as insn
 use Rattle.semantics.specs.Fallible.{◌>>=◌, check}
 use Rattle.semantics.specs.Access.{is_within, index_within, stack_first, headroom_first}
 use Rattle.semantics.specs.Loading.{field_at}
-use Rattle.semantics.specs.Calls.{helper_of}
+use Rattle.semantics.specs.Calls.{helper_of, signature_of, argument_at}
 use Rattle.semantics.specs.Effects.{writable, moved_place}
+use Rattle.semantics.specs.declared.helper.Argument.{Argument}
+use Rattle.semantics.specs.declared.helper.Argument.TheVariants as argument
 use Rattle.semantics.specs.declared.helper.Helper.{Helper}
-use Rattle.semantics.specs.declared.helper.Helper.TheVariants as helper
 use Rattle.semantics.specs.declared.helper.TheConstants.{RECORD_BYTES}
 use Rattle.semantics.specs.LooseRuns.{Bound, AtMost, Below, data_bound, exchanged}
 use Rattle.semantics.specs.declared.fetching.Branch.{Branch}
@@ -309,12 +310,12 @@ store_step ops a z base o d = do
 
 -- ---- calls
 
-abbrev pub context_value : {D : Type 0} → AbstractValue D → Result (Unit {0}) Reason
-context_value Ctx = Ok tt
-context_value _ = Err (HelperArgument 1)
+abbrev pub context_value : {D : Type 0} → Reg → AbstractValue D → Result (Unit {0}) Reason
+context_value r Ctx = Ok tt
+context_value r _ = Err (HelperArgument (number_of r))
 
-abbrev pub context_argument : {D : Type 0} → AbsState D → Result (Unit {0}) Reason
-context_argument a = read a reg.R1 >>= context_value
+abbrev pub context_argument : {D : Type 0} → AbsState D → Reg → Result (Unit {0}) Reason
+context_argument a r = read a r >>= context_value r
 
 abbrev pub number_value : {D : Type 0} → Reg → AbstractValue D → Result (Unit {0}) Reason
 number_value r (Scalar number) = Ok tt
@@ -345,38 +346,39 @@ record_readable marks i = check (are_marked marks i RECORD_BYTES) UninitStack
 abbrev pub record_argument : {D : Type 0} → AbsState D → Reg → Result (Unit {0}) Reason
 record_argument a r = stack_argument a r >>= record_readable a.marks
 
--- the greatest answer of a helper
-abbrev pub greatest_answer : Helper → ℕ
-greatest_answer helper.ChannelPeer = 1
-greatest_answer helper.ChannelTo = 0x4fff
-greatest_answer helper.Permitted = 1
-greatest_answer helper.Window = 1
-greatest_answer helper.Destination = 1
+-- the index of the record that is written, with the argument in a register
+abbrev pub with_argument : {D : Type 0} → AbsState D → Reg → Argument → Option ℕ → Result (Option ℕ) Reason
+with_argument a r argument.Unused out = Ok out
+with_argument a r argument.Context out = do
+  u ← context_argument a r
+  Ok out
+with_argument a r argument.Number out = do
+  u ← number_argument a r
+  Ok out
+with_argument a r argument.RecordIn out = do
+  u ← record_argument a r
+  Ok out
+with_argument a r argument.RecordOut out = do
+  i ← stack_argument a r
+  Ok (Some i)
+
+-- each argument is tested after those before it
+abbrev pub out_of : {D : Type 0} → AbsState D → List Argument → Result (Option ℕ) Reason
+out_of a arguments = do
+  first ← with_argument a reg.R1 (argument_at arguments 0) None
+  second ← with_argument a reg.R2 (argument_at arguments 1) first
+  third ← with_argument a reg.R3 (argument_at arguments 2) second
+  fourth ← with_argument a reg.R4 (argument_at arguments 3) third
+  with_argument a reg.R5 (argument_at arguments 4) fourth
 
 -- after a call by which the eight bytes at an index are written, if one is given
 abbrev pub answered : {D : Type 0} → Operations D → AbsState D → Helper → Option ℕ → AbsState D
-answered ops a h out = with_out (with_answer a (ops.range 0 (greatest_answer h))) out
-
-abbrev pub address_step : {D : Type 0} → Operations D → AbsState D → Helper → Result (Next D) Reason
-address_step ops a h = do
-  u ← context_argument a
-  v ← record_argument a reg.R2
-  Ok (next.On (answered ops a h None))
+answered ops a h out = with_out (with_answer a (ops.range 0 (signature_of h).greatest)) out
 
 abbrev pub helper_step : {D : Type 0} → Operations D → AbsState D → Helper → Result (Next D) Reason
-helper_step ops a helper.ChannelPeer = do
-  u ← context_argument a
-  v ← number_argument a reg.R2
-  out ← stack_argument a reg.R3
-  Ok (next.On (answered ops a helper.ChannelPeer (Some out)))
-helper_step ops a helper.ChannelTo = address_step ops a helper.ChannelTo
-helper_step ops a helper.Permitted = address_step ops a helper.Permitted
-helper_step ops a helper.Window = do
-  u ← context_argument a
-  v ← number_argument a reg.R2
-  v' ← number_argument a reg.R3
-  Ok (next.On (answered ops a helper.Window None))
-helper_step ops a helper.Destination = address_step ops a helper.Destination
+helper_step ops a h = do
+  out ← out_of a (signature_of h).arguments
+  Ok (next.On (answered ops a h out))
 
 abbrev pub call_step : {D : Type 0} → Operations D → AbsState D → ℤ → Result (Next D) Reason
 call_step ops a n = ok_or (helper_of n) UnknownHelper >>= helper_step ops a

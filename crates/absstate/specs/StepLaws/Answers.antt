@@ -1,6 +1,6 @@
 -- Internal. An accepted step has as many successors as its instruction, and a refused one a reason of the steps.
 use Rattle.std.proofs.Common.{◌≡◌, ℕ, Bool, true, false, Result, Ok, Err, refl}
-use Rattle.std.specs.Prelude.{ℤ, pos, Option, Some, None, ◌+ℤ◌, IfOk, IfErr}
+use Rattle.std.specs.Prelude.{ℤ, pos, List, Option, Some, None, ◌+ℤ◌, IfOk, IfErr}
 use Rattle.std.specs.Option.{ok_or}
 use Rattle.insn.specs.Codes.{byte_count, unsigned_size}
 use Rattle.insn.specs.Words.{target_of}
@@ -20,9 +20,10 @@ use Rattle.insn.specs.declared.instruction.Insn.TheVariants as insn
 use Rattle.semantics.specs.Fallible.{◌>>=◌, check}
 use Rattle.semantics.specs.Access.{is_within, index_within, stack_first, headroom_first}
 use Rattle.semantics.specs.Loading.{field_at}
-use Rattle.semantics.specs.Calls.{helper_of}
+use Rattle.semantics.specs.Calls.{helper_of, signature_of, argument_at}
+use Rattle.semantics.specs.declared.helper.Argument.{Argument}
+use Rattle.semantics.specs.declared.helper.Argument.TheVariants as argument
 use Rattle.semantics.specs.declared.helper.Helper.{Helper}
-use Rattle.semantics.specs.declared.helper.Helper.TheVariants as helper
 use Rattle.insn.specs.Register.{number_of}
 use Rattle.semantics.specs.Effects.{is_writable, writable}
 use Rattle.semantics.specs.LooseRuns.{Bound, data_bound, exchanged}
@@ -81,17 +82,9 @@ module _ {D : Type 0} (ops : Operations D) where
   forks a w c dst o (known.Scalar x) (known.Scalar y) = refl
   forks a w c dst o x y = places_forks a w c x y
 
-  address_straight : (a : AbsState D) (h : Helper) → IfOk (abstract.address_step ops a h) HasOne
-  unfolding HasOne
-  address_straight a h = every HasOne (abstract.context_argument a) _ (λ u. every HasOne (abstract.record_argument a reg.R2) _ (λ v. refl))
-
   helper_straight : (a : AbsState D) (h : Helper) → IfOk (abstract.helper_step ops a h) HasOne
   unfolding HasOne
-  helper_straight a helper.ChannelPeer = every HasOne (abstract.context_argument a) _ (λ u. every HasOne (abstract.number_argument a reg.R2) _ (λ v. every HasOne (abstract.stack_argument a reg.R3) _ (λ out. refl)))
-  helper_straight a helper.ChannelTo = address_straight a helper.ChannelTo
-  helper_straight a helper.Permitted = address_straight a helper.Permitted
-  helper_straight a helper.Window = every HasOne (abstract.context_argument a) _ (λ u. every HasOne (abstract.number_argument a reg.R2) _ (λ v. every HasOne (abstract.number_argument a reg.R3) _ (λ v'. refl)))
-  helper_straight a helper.Destination = address_straight a helper.Destination
+  helper_straight a h = every HasOne (abstract.out_of a (signature_of h).arguments) _ (λ out. refl)
 
   exits : (k : AbstractValue D) → IfOk (abstract.exit_with k) (λ (answer : Next D). successors_in answer ≡ successors_of insn.Exit)
   exits (known.Scalar n) = refl
@@ -219,12 +212,12 @@ module _ {D : Type 0} (ops : Operations D) where
       (λ known. faults IsStepReason (abstract.pointer to) _ (pointer_reasons to) (λ u. faults IsStepReason (abstract.storable known) _ (storable_reasons known)
       (λ v. faults IsStepReason (abstract.located a to d (byte_count z)) _ (region_reasons a to d (byte_count z)) (λ r. tt)))))
 
-  context_value_reasons : (x : AbstractValue D) → IfErr (abstract.context_value x) IsStepReason
-  context_value_reasons known.Ctx = tt
-  context_value_reasons x = tt
+  context_value_reasons : (r : Reg) (x : AbstractValue D) → IfErr (abstract.context_value r x) IsStepReason
+  context_value_reasons r known.Ctx = tt
+  context_value_reasons r x = tt
 
-  context_reasons : (a : AbsState D) → IfErr (abstract.context_argument a) IsStepReason
-  context_reasons a = faults IsStepReason (abstract.read a reg.R1) _ (held_reasons (abstract_at a.registers reg.R1)) context_value_reasons
+  context_reasons : (a : AbsState D) (r : Reg) → IfErr (abstract.context_argument a r) IsStepReason
+  context_reasons a r = faults IsStepReason (abstract.read a r) _ (held_reasons (abstract_at a.registers r)) (context_value_reasons r)
 
   number_value_reasons : (r : Reg) (x : AbstractValue D) → IfErr (abstract.number_value r x) IsStepReason
   number_value_reasons r (known.Scalar n) = tt
@@ -239,17 +232,23 @@ module _ {D : Type 0} (ops : Operations D) where
   record_argument_reasons : (a : AbsState D) (r : Reg) → IfErr (abstract.record_argument a r) IsStepReason
   record_argument_reasons a r = faults IsStepReason (abstract.stack_argument a r) _ (pointer_argument_reasons a r) (λ i. checked (are_marked a.marks i 8) reasons.UninitStack tt)
 
-  address_reasons : (a : AbsState D) (h : Helper) → IfErr (abstract.address_step ops a h) IsStepReason
-  address_reasons a h = faults IsStepReason (abstract.context_argument a) _ (context_reasons a) (λ u. faults IsStepReason (abstract.record_argument a reg.R2) _ (record_argument_reasons a reg.R2) (λ v. tt))
+  kind_reasons : (a : AbsState D) (r : Reg) (x : Argument) (out : Option ℕ) → IfErr (abstract.with_argument a r x out) IsStepReason
+  kind_reasons a r argument.Unused out = tt
+  kind_reasons a r argument.Context out = faults IsStepReason (abstract.context_argument a r) _ (context_reasons a r) (λ u. tt)
+  kind_reasons a r argument.Number out = faults IsStepReason (abstract.number_argument a r) _ (argument_reasons a r) (λ u. tt)
+  kind_reasons a r argument.RecordIn out = faults IsStepReason (abstract.record_argument a r) _ (record_argument_reasons a r) (λ u. tt)
+  kind_reasons a r argument.RecordOut out = faults IsStepReason (abstract.stack_argument a r) _ (pointer_argument_reasons a r) (λ i. tt)
+
+  out_reasons : (a : AbsState D) (xs : List Argument) → IfErr (abstract.out_of a xs) IsStepReason
+  out_reasons a xs =
+      faults IsStepReason (abstract.with_argument a reg.R1 (argument_at xs 0) None) _ (kind_reasons a reg.R1 (argument_at xs 0) None)
+      (λ b. faults IsStepReason (abstract.with_argument a reg.R2 (argument_at xs 1) b) _ (kind_reasons a reg.R2 (argument_at xs 1) b)
+      (λ c. faults IsStepReason (abstract.with_argument a reg.R3 (argument_at xs 2) c) _ (kind_reasons a reg.R3 (argument_at xs 2) c)
+      (λ d. faults IsStepReason (abstract.with_argument a reg.R4 (argument_at xs 3) d) _ (kind_reasons a reg.R4 (argument_at xs 3) d)
+      (λ e. kind_reasons a reg.R5 (argument_at xs 4) e))))
 
   helper_reasons : (a : AbsState D) (h : Helper) → IfErr (abstract.helper_step ops a h) IsStepReason
-  helper_reasons a helper.ChannelPeer =
-      faults IsStepReason (abstract.context_argument a) _ (context_reasons a) (λ u. faults IsStepReason (abstract.number_argument a reg.R2) _ (argument_reasons a reg.R2) (λ v. faults IsStepReason (abstract.stack_argument a reg.R3) _ (pointer_argument_reasons a reg.R3) (λ out. tt)))
-  helper_reasons a helper.ChannelTo = address_reasons a helper.ChannelTo
-  helper_reasons a helper.Permitted = address_reasons a helper.Permitted
-  helper_reasons a helper.Window =
-      faults IsStepReason (abstract.context_argument a) _ (context_reasons a) (λ u. faults IsStepReason (abstract.number_argument a reg.R2) _ (argument_reasons a reg.R2) (λ v. faults IsStepReason (abstract.number_argument a reg.R3) _ (argument_reasons a reg.R3) (λ v'. tt)))
-  helper_reasons a helper.Destination = address_reasons a helper.Destination
+  helper_reasons a h = faults IsStepReason (abstract.out_of a (signature_of h).arguments) _ (out_reasons a (signature_of h).arguments) (λ out. tt)
 
   exit_reasons : (k : AbstractValue D) → IfErr (abstract.exit_with k) IsStepReason
   exit_reasons (known.Scalar n) = tt

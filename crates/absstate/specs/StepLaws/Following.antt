@@ -7,6 +7,7 @@ use Rattle.insn.specs.Endian.{little_bytes}
 use Rattle.insn.specs.declared.instruction.Insn.{Insn}
 use Rattle.semantics.specs.Access.{written_at}
 use Rattle.semantics.specs.ContextLaws.{little_bytes_fit, length-little_bytes}
+use Rattle.semantics.specs.Calls.{signature_of}
 use Rattle.semantics.specs.Machine.{AreBytes, Context, IsContext, Memory, State, Environment}
 use Rattle.semantics.specs.declared.plan.Plan.{Plan}
 use Rattle.semantics.specs.declared.helper.Helper.{Helper}
@@ -111,7 +112,7 @@ module _ {D : Type 0} (ops : Operations D) (Member : D → ℕ → Type 0) (soun
   in_range : (n hi : ℕ) → hi ≤ 0x4fff → n ≤ hi → Member (ops.range 0 hi) n
   in_range n hi small le = sound.range 0 hi n (omega (arith, small)) (omega arith) le
 
-  bounded : (h : Helper) → abstract.greatest_answer h ≤ 0x4fff
+  bounded : (h : Helper) → (signature_of h).greatest ≤ 0x4fff
   bounded helper.ChannelPeer = omega arith
   bounded helper.ChannelTo = omega arith
   bounded helper.Permitted = omega arith
@@ -128,14 +129,14 @@ module _ {D : Type 0} (ops : Operations D) (Member : D → ℕ → Type 0) (soun
       let answer = w.answer q.helper q.number q.address in
       let lawful = is.lawful w.answer real.helpers in
       subst (λ (x : AbsState D). IsMember Member mode places x (answered s (s.slot + slots_of i) out answer)) (sym is.behind)
-      (member_answered Member sound.words mode places a s (ops.range 0 (abstract.greatest_answer is.asked)) (s.slot + slots_of i) out answer member (in_range answer.0 (abstract.greatest_answer is.asked) (bounded is.asked) lawful.0) (both_of out answer.1 is.room lawful.1))
+      (member_answered Member sound.words mode places a s (ops.range 0 (signature_of is.asked).greatest) (s.slot + slots_of i) out answer member (in_range answer.0 (signature_of is.asked).greatest (bounded is.asked) lawful.0) (both_of out answer.1 is.room lawful.1))
 
-  pub planned_member : (mode : Mode) (places : Places) (a : AbsState D) (s : State) → IsMember Member mode places a s → (i : Insn) (b : AbsState D) (h : Helper) (n : ℕ) (plan : Plan) → b ≡ abstract.answered ops a h None → n ≤ 1 → abstract.greatest_answer h ≡ 1
+  pub planned_member : (mode : Mode) (places : Places) (a : AbsState D) (s : State) → IsMember Member mode places a s → (i : Insn) (b : AbsState D) (h : Helper) (n : ℕ) (plan : Plan) → b ≡ abstract.answered ops a h None → n ≤ 1 → (signature_of h).greatest ≡ 1
       → IsMember Member mode places b (planned s (s.slot + slots_of i) n plan)
   planned_member mode places a s member i b h n plan is small one =
       subst (λ (x : AbsState D). IsMember Member mode places x (planned s (s.slot + slots_of i) n plan)) (sym is)
-      (member_planned Member mode places (with_answer a (ops.range 0 (abstract.greatest_answer h))) (record s { slot = s.slot + slots_of i; registers = called s.registers n })
-      (member_called Member sound.words mode places a s (ops.range 0 (abstract.greatest_answer h)) n (s.slot + slots_of i) member (in_range n (abstract.greatest_answer h) (bounded h) (omega (arith, small, one)))) plan)
+      (member_planned Member mode places (with_answer a (ops.range 0 (signature_of h).greatest)) (record s { slot = s.slot + slots_of i; registers = called s.registers n })
+      (member_called Member sound.words mode places a s (ops.range 0 (signature_of h).greatest) n (s.slot + slots_of i) member (in_range n (signature_of h).greatest (bounded h) (omega (arith, small, one)))) plan)
 
   module _ (w : Environment) (code : List Insn) (mode : Mode) (places : Places) (a : AbsState D) (s : State) (member : IsMember Member mode places a s) (i : Insn) (fit : Fits i) (real : IsPossible w) (here : fetch code s.slot ≡ Begins i) (good : (branch : Branch) → IsOk (branch_slot code s.slot i branch)) where
     behind : (branch : Branch) (b : AbsState D) → ((to : ℕ) → IsMember Member mode places b (record s { slot = to })) → (n : ℕ) → branch_slot code s.slot i branch ≡ Ok n → IsBehind Member code mode places s i branch b (record s { slot = n })

@@ -11,6 +11,7 @@ use Rattle.insn.specs.declared.instruction.Insn.{Insn}
 use Rattle.semantics.specs.Access.{written_at}
 use Rattle.semantics.specs.ContextLaws.{little_bytes_fit, length-little_bytes}
 use Rattle.semantics.specs.Kept.{IsProper}
+use Rattle.semantics.specs.Calls.{signature_of}
 use Rattle.semantics.specs.Machine.{Memory, State, Environment}
 use Rattle.semantics.specs.Effects as effects
 use Rattle.semantics.specs.Slots.{fetch}
@@ -76,7 +77,7 @@ module _ {D : Type 0} (ops : Operations D) (Member : D → ℕ → Type 0) (soun
   effect_rises (next.On c) (effect.Write r v) is NotTaken b e = at_most a.proved b.proved (sym (ap (λ (x : AbsState D). x.proved) is.1) ∙ ap (λ (x : AbsState D). x.proved) (same_state c b e))
   effect_rises (next.On c) (effect.Jump offset) is NotTaken b e = at_most a.proved b.proved (sym (ap (λ (x : AbsState D). x.proved) is.0) ∙ ap (λ (x : AbsState D). x.proved) (same_state c b e))
   effect_rises (next.On c) (effect.Store at z n) is NotTaken b e = at_most a.proved b.proved (region_proved a (byte_count z) is.0 ∙ sym (ap (λ (x : AbsState D). x.proved) is.1) ∙ ap (λ (x : AbsState D). x.proved) (same_state c b e))
-  effect_rises (next.On c) (effect.Ask q out) is NotTaken b e = at_most a.proved b.proved (out_proved a (ops.range 0 (abstract.greatest_answer is.asked)) out ∙ sym (ap (λ (x : AbsState D). x.proved) is.behind) ∙ ap (λ (x : AbsState D). x.proved) (same_state c b e))
+  effect_rises (next.On c) (effect.Ask q out) is NotTaken b e = at_most a.proved b.proved (out_proved a (ops.range 0 (signature_of is.asked).greatest) out ∙ sym (ap (λ (x : AbsState D). x.proved) is.behind) ∙ ap (λ (x : AbsState D). x.proved) (same_state c b e))
   effect_rises (next.On c) (effect.SetWindow window) is NotTaken b e = at_most a.proved b.proved (sym (ap (λ (x : AbsState D). x.proved) is.0) ∙ ap (λ (x : AbsState D). x.proved) (same_state c b e))
   effect_rises (next.On c) (effect.SetDestination destination) is NotTaken b e = at_most a.proved b.proved (sym (ap (λ (x : AbsState D). x.proved) is.0) ∙ ap (λ (x : AbsState D). x.proved) (same_state c b e))
   effect_rises (next.On c) effect.Pass is NotTaken b e = absurd is

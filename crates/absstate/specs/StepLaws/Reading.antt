@@ -1,6 +1,6 @@
 -- Internal. What members hold at places of memory and in the arguments of calls agrees with what is known of it.
 use Rattle.std.proofs.Common.{◌≡◌, ℕ, ◌-◌, ◌<◌, ◌^◌, ℤ, pos, ◌+ℤ◌, ◌≤ℤ◌, Option, Some, None, Ok, refl, sym, ap, subst, arith}
-use Rattle.std.specs.Prelude.{◌+◌, ◌≤◌}
+use Rattle.std.specs.Prelude.{◌+◌, ◌≤◌, List, IfSome}
 use Rattle.std.specs.Option.{ok_or}
 use Rattle.insn.specs.Register.{number_of}
 use Rattle.std.proofs.lemmas.Int.{ints}
@@ -16,7 +16,11 @@ use Rattle.insn.specs.declared.instruction.Insn.{Insn}
 use Rattle.semantics.specs.Fallible.{◌>>=◌}
 use Rattle.semantics.specs.Access.{index_within, stack_first, location}
 use Rattle.semantics.specs.AccessLaws.{index_short}
-use Rattle.semantics.specs.Calls.{context_value, number_value, stack_value, record_at}
+use Rattle.semantics.specs.Calls.{argument_at, context_value, number_value, stack_value, record_at, no_inputs}
+use Rattle.semantics.specs.NumberLaws.{no_address_bytes}
+use Rattle.semantics.specs.declared.helper.Argument.{Argument}
+use Rattle.semantics.specs.declared.helper.Argument.TheVariants as argument
+use Rattle.semantics.specs.declared.helper.Inputs.{Inputs}
 use Rattle.semantics.specs.Machine.{AddressRecord, AreBytes, Context, IsContext, State}
 use Rattle.semantics.specs.Effects as effects
 use Rattle.semantics.specs.Loading as loading
@@ -53,13 +57,17 @@ size_fits size.Double = omega arith
 
 -- ---- what the arguments of a call are: a word, an index of the stack with room for a record there, and a record
 
-abbrev pub IsWord : Unit {0} → ℕ → Type 0
+-- the inputs of a helper: a word, a record, and the index that is known, with room for a record there
+abbrev pub IsGiven : Option ℕ → Inputs → Type 0
+IsGiven out given = (given.number < 2 ^ 64) × AreBytes 8 given.address × (out ≡ given.out) × IfSome out (λ j. j + 8 ≤ 512)
+
+abbrev IsWord : Unit {0} → ℕ → Type 0
 IsWord u n = n < 2 ^ 64
 
-abbrev pub IsSameIndex : ℕ → ℕ → Type 0
+abbrev IsSameIndex : ℕ → ℕ → Type 0
 IsSameIndex m n = (m ≡ n) × (m + 8 ≤ 512)
 
-abbrev pub IsRecord : Unit {0} → AddressRecord → Type 0
+abbrev IsRecord : Unit {0} → AddressRecord → Type 0
 IsRecord u address = AreBytes 8 address
 
 module _ {D : Type 0} (ops : Operations D) (Member : D → ℕ → Type 0) (sound : AreSound ops Member) (claimed : Reason → Type 0) (mode : Mode) (places : Places) (a : AbsState D) (s : State) (member : IsMember Member mode places a s) (i : Insn) (claims : AreClaims ops Member sound claimed mode a s i) where
@@ -120,19 +128,19 @@ module _ {D : Type 0} (ops : Operations D) (Member : D → ℕ → Type 0) (soun
 
   -- ---- calls
 
-  pub context_agrees : Agree claimed (λ (u v : Unit {0}). Unit {0}) (abstract.context_argument a) (effects.context_argument s.registers)
-  context_agrees =
-      and_then claimed (IsHeld Member places) (λ (u v : Unit {0}). Unit {0}) (abstract.read a reg.R1) (effects.read s.registers reg.R1) _ _ (read_agrees ops Member sound claimed mode places claims.registers a s member reg.R1)
-      (λ x u p q held. subst (λ (v : Value). Agree claimed (λ (u v : Unit {0}). Unit {0}) (abstract.context_value x) (context_value v)) (sym held.2) (contexts x held.0 held.1)) where
-        contexts : (x : AbstractValue D) (m : ℕ) → IsNumberOf Member x m → Agree claimed (λ (u v : Unit {0}). Unit {0}) (abstract.context_value x) (context_value (value_of places x m))
-        contexts known.Ctx m h = tt
-        contexts known.Nothing m h = λ c. refl
-        contexts (known.Scalar n) m h = λ c. refl
-        contexts (known.Stack k) m h = λ c. refl
-        contexts (known.Data anchor k) m h = λ c. refl
-        contexts known.End m h = λ c. refl
+  context_agrees_at : (r : Reg) → Agree claimed (λ (u v : Unit {0}). Unit {0}) (abstract.context_argument a r) (effects.context_argument s.registers r)
+  context_agrees_at r =
+      and_then claimed (IsHeld Member places) (λ (u v : Unit {0}). Unit {0}) (abstract.read a r) (effects.read s.registers r) _ _ (read_agrees ops Member sound claimed mode places claims.registers a s member r)
+      (λ x u p q held. subst (λ (v : Value). Agree claimed (λ (u v : Unit {0}). Unit {0}) (abstract.context_value r x) (context_value r v)) (sym held.2) (contexts r x held.0 held.1)) where
+        contexts : (r : Reg) (x : AbstractValue D) (m : ℕ) → IsNumberOf Member x m → Agree claimed (λ (u v : Unit {0}). Unit {0}) (abstract.context_value r x) (context_value r (value_of places x m))
+        contexts r known.Ctx m h = tt
+        contexts r known.Nothing m h = λ c. refl
+        contexts r (known.Scalar n) m h = λ c. refl
+        contexts r (known.Stack k) m h = λ c. refl
+        contexts r (known.Data anchor k) m h = λ c. refl
+        contexts r known.End m h = λ c. refl
 
-  pub number_agrees_at : (r : Reg) → Agree claimed IsWord (abstract.number_argument a r) (effects.number_argument s.registers r)
+  number_agrees_at : (r : Reg) → Agree claimed IsWord (abstract.number_argument a r) (effects.number_argument s.registers r)
   number_agrees_at r =
       and_then claimed (IsHeld Member places) IsWord (abstract.read a r) (effects.read s.registers r) _ _ (read_agrees ops Member sound claimed mode places claims.registers a s member r)
       (λ x u p q held. subst (λ (v : Value). Agree claimed IsWord (abstract.number_value r x) (number_value r v)) (sym held.2) (numbers r x held.0 held.1)) where
@@ -148,7 +156,7 @@ module _ {D : Type 0} (ops : Operations D) (Member : D → ℕ → Type 0) (soun
   found_index r None short = λ c. refl
   found_index r (Some m) short = (refl, short m refl)
 
-  pub stack_agrees_at : (r : Reg) → Agree claimed IsSameIndex (abstract.stack_argument a r) (effects.stack_argument s.registers r)
+  stack_agrees_at : (r : Reg) → Agree claimed IsSameIndex (abstract.stack_argument a r) (effects.stack_argument s.registers r)
   stack_agrees_at r =
       and_then claimed (IsHeld Member places) IsSameIndex (abstract.read a r) (effects.read s.registers r) _ _ (read_agrees ops Member sound claimed mode places claims.registers a s member r)
       (λ x u p q held. subst (λ (v : Value). Agree claimed IsSameIndex (abstract.stack_value r x) (stack_value r v)) (sym held.2) (indices r x held.0 held.1)) where
@@ -160,9 +168,27 @@ module _ {D : Type 0} (ops : Operations D) (Member : D → ℕ → Type 0) (soun
         indices r (known.Data anchor k) m h = λ c. refl
         indices r known.End m h = λ c. refl
 
-  pub record_agrees_at : (r : Reg) → Agree claimed IsRecord (abstract.record_argument a r) (effects.record_argument s.memory s.registers r)
+  record_agrees_at : (r : Reg) → Agree claimed IsRecord (abstract.record_argument a r) (effects.record_argument s.memory s.registers r)
   record_agrees_at r =
       and_then claimed IsSameIndex IsRecord (abstract.stack_argument a r) (effects.stack_argument s.registers r) _ _ (stack_agrees_at r)
       (λ m n p q same. subst (λ (k : ℕ). Agree claimed IsRecord (abstract.record_readable a.marks m) (record_at s.memory k)) same.0 (region_record m same.1)) where
         region_record : (m : ℕ) → m + 8 ≤ 512 → Agree claimed IsRecord (abstract.record_readable a.marks m) (record_at s.memory m)
         region_record m short = record_read claimed mode claims.cells a.marks s.memory member.tagged.memory member.cells m short
+
+  argument_agrees : (r : Reg) (x : Argument) (out : Option ℕ) (given : Inputs) → IsGiven out given → Agree claimed IsGiven (abstract.with_argument a r x out) (effects.with_argument s.memory s.registers r x given)
+  argument_agrees r argument.Unused out given is = is
+  argument_agrees r argument.Context out given is = and_then claimed (λ (u v : Unit {0}). Unit {0}) IsGiven (abstract.context_argument a r) (effects.context_argument s.registers r) _ _ (context_agrees_at r) (λ u v p q t. is)
+  argument_agrees r argument.Number out given is = and_then claimed IsWord IsGiven (abstract.number_argument a r) (effects.number_argument s.registers r) _ _ (number_agrees_at r) (λ u n p q word. (word, is.1, is.2, is.3))
+  argument_agrees r argument.RecordIn out given is =
+      and_then claimed IsRecord IsGiven (abstract.record_argument a r) (effects.record_argument s.memory s.registers r) _ _ (record_agrees_at r) (λ u address p q are. (is.0, are, is.2, is.3))
+  argument_agrees r argument.RecordOut out given is =
+      and_then claimed IsSameIndex IsGiven (abstract.stack_argument a r) (effects.stack_argument s.registers r) _ _ (stack_agrees_at r) (λ m n p q same. (is.0, is.1, ap (λ (k : ℕ). Some k) same.0, same.1))
+
+  pub inputs_agree : (xs : List Argument) → Agree claimed IsGiven (abstract.out_of a xs) (effects.inputs s.memory s.registers xs)
+  inputs_agree xs =
+      and_then claimed IsGiven IsGiven (abstract.with_argument a reg.R1 (argument_at xs 0) None) (effects.with_argument s.memory s.registers reg.R1 (argument_at xs 0) no_inputs) _ _
+      (argument_agrees reg.R1 (argument_at xs 0) None no_inputs (omega arith, no_address_bytes, refl, tt))
+      (λ o given p q is. and_then claimed IsGiven IsGiven (abstract.with_argument a reg.R2 (argument_at xs 1) o) (effects.with_argument s.memory s.registers reg.R2 (argument_at xs 1) given) _ _ (argument_agrees reg.R2 (argument_at xs 1) o given is)
+      (λ o given p q is. and_then claimed IsGiven IsGiven (abstract.with_argument a reg.R3 (argument_at xs 2) o) (effects.with_argument s.memory s.registers reg.R3 (argument_at xs 2) given) _ _ (argument_agrees reg.R3 (argument_at xs 2) o given is)
+      (λ o given p q is. and_then claimed IsGiven IsGiven (abstract.with_argument a reg.R4 (argument_at xs 3) o) (effects.with_argument s.memory s.registers reg.R4 (argument_at xs 3) given) _ _ (argument_agrees reg.R4 (argument_at xs 3) o given is)
+      (λ o given p q is. argument_agrees reg.R5 (argument_at xs 4) o given is))))

@@ -1,5 +1,5 @@
 -- Internal. The abstract step of an instruction agrees with the machine's step at each member, over any sound domain.
-use Rattle.std.proofs.Common.{◌≡◌, ℕ, ℤ, pos, ◌+ℤ◌, Option, Some, None, Result, Ok, refl, sym, ap, ◌∙◌, subst, arith}
+use Rattle.std.proofs.Common.{◌≡◌, ℕ, ℤ, pos, ◌+ℤ◌, Option, Some, None, Result, Ok, Err, refl, sym, ap, ◌∙◌, subst}
 use Rattle.std.specs.Prelude.{◌+◌, ◌≤◌, IfSome, if◌then◌else◌}
 use Rattle.std.specs.Option.{ok_or}
 use Rattle.insn.specs.Codes.{byte_count}
@@ -20,11 +20,12 @@ use Rattle.insn.specs.declared.instruction.Insn.{Insn}
 use Rattle.insn.specs.declared.instruction.Insn.TheVariants as insn
 use Rattle.semantics.specs.Fallible.{◌>>=◌}
 use Rattle.semantics.specs.Access.{location}
-use Rattle.semantics.specs.Calls.{helper_of, helper_number, question, no_address}
-use Rattle.semantics.specs.NumberLaws.{imm_below, no_address_bytes}
+use Rattle.semantics.specs.Calls.{helper_of, helper_number, signature_of, question}
+use Rattle.semantics.specs.NumberLaws.{imm_below}
 use Rattle.semantics.specs.Machine.{AddressRecord, AreBytes, Context, IsContext, State}
 use Rattle.semantics.specs.declared.helper.Helper.{Helper}
 use Rattle.semantics.specs.declared.helper.Helper.TheVariants as helper
+use Rattle.semantics.specs.declared.helper.Inputs.{Inputs}
 use Rattle.semantics.specs.declared.helper.Question.{Question}
 use Rattle.semantics.specs.Effects as effects
 use Rattle.semantics.specs.Loading as loading
@@ -55,7 +56,7 @@ use Rattle.absstate.specs.StepLaws.Bounds.{Implies, first_agree, second_agree}
 use Rattle.absstate.specs.StepLaws.MemoryValues.{IsRegionOf}
 use Rattle.absstate.specs.StepLaws.Arithmetic.{from_first, held_is, held_known, ok_is, read_agrees, operand_agrees, single_strays, strays_same, StraysBy, result_held, unary_held, AreClaims}
 use Rattle.absstate.specs.StepLaws.Forking.{Forks, fork_by, forked}
-use Rattle.absstate.specs.StepLaws.Reading.{IsWord, IsSameIndex, IsRecord, locations_agree, load_agrees, signed_agrees, context_agrees, number_agrees_at, stack_agrees_at, record_agrees_at}
+use Rattle.absstate.specs.StepLaws.Reading.{IsGiven, locations_agree, load_agrees, signed_agrees, inputs_agree}
 use Rattle.absstate.specs.StepLaws.Results.{IsResult, held_results}
 
 -- its one branch leads to the next instruction
@@ -71,7 +72,7 @@ module _ {D : Type 0} (ops : Operations D) (Member : D → ℕ → Type 0) (soun
     pub behind : b ≡ abstract.answered ops a asked out
     pub past : GoesPast i
     pub room : IfSome out (λ j. j + 8 ≤ 512)
-    pub lawful : (answer : ℕ → ℕ → AddressRecord → ℕ × AddressRecord) → IsLawful answer → ((answer q.helper q.number q.address).0 ≤ abstract.greatest_answer asked) × IfSome out (λ j. AreBytes 8 (answer q.helper q.number q.address).1)
+    pub lawful : (answer : ℕ → ℕ → AddressRecord → ℕ × AddressRecord) → IsLawful answer → ((answer q.helper q.number q.address).0 ≤ (signature_of asked).greatest) × IfSome out (λ j. AreBytes 8 (answer q.helper q.number q.address).1)
 
   -- the effect of an instruction, and the abstract state after it
   abbrev pub IsEffectOf : Mode → Places → AbsState D → State → Insn → Next D → Effect → Type 0
@@ -234,36 +235,51 @@ module _ {D : Type 0} (ops : Operations D) (Member : D → ℕ → Type 0) (soun
               (effects.pointer (value_of places x hx.0) >>= λ t. effects.stored_number v' >>= λ k. location s.memory.length (value_of places x hx.0) d (byte_count z) >>= λ at. Ok (effect.Store at z k))) (sym hy.2)
               (store_numbers z base o d claims x y hx.0 hy.0 hx.1 hy.1))
 
-    asks : (i : Insn) (h : Helper) (q : Question) (out : Option ℕ) → GoesPast i → IfSome out (λ j. j + 8 ≤ 512) → ((answer : ℕ → ℕ → AddressRecord → ℕ × AddressRecord) → IsLawful answer → ((answer q.helper q.number q.address).0 ≤ abstract.greatest_answer h) × IfSome out (λ j. AreBytes 8 (answer q.helper q.number q.address).1))
+    asks : (i : Insn) (h : Helper) (q : Question) (out : Option ℕ) → GoesPast i → IfSome out (λ j. j + 8 ≤ 512) → ((answer : ℕ → ℕ → AddressRecord → ℕ × AddressRecord) → IsLawful answer → ((answer q.helper q.number q.address).0 ≤ (signature_of h).greatest) × IfSome out (λ j. AreBytes 8 (answer q.helper q.number q.address).1))
         → IsAsked a i (abstract.answered ops a h out) q out
     asks i h q out past room lawful = record { asked = h; behind = refl; past = past; room = room; lawful = lawful }
 
-    -- a look-up by an address
-    looks_up : (i : Insn) (h : Helper) → GoesPast i → Claims i → ((address : AddressRecord) → AreBytes 8 address → (answer : ℕ → ℕ → AddressRecord → ℕ × AddressRecord) → IsLawful answer → (answer (helper_number h) 0 address).0 ≤ abstract.greatest_answer h)
-        → Agree claimed (IsEffectOf mode places a s i) (abstract.address_step ops a h) (effects.address_effect s.memory s.registers h)
-    looks_up i h past claims lawful =
-        and_then claimed (λ (u v : Unit {0}). Unit {0}) (IsEffectOf mode places a s i) (abstract.context_argument a) (effects.context_argument s.registers) _ _ (context_agrees ops Member sound claimed mode places a s member i claims)
-        (λ u v p q t. and_then claimed IsRecord (IsEffectOf mode places a s i) (abstract.record_argument a reg.R2) (effects.record_argument s.memory s.registers reg.R2) _ _ (record_agrees_at ops Member sound claimed mode places a s member i claims reg.R2)
-        (λ x address p' q' are. asks i h (question h 0 address) None past tt (λ answer is. (lawful address are answer is, tt))))
+    -- helpers that write no record
+    two_read : (x y : Result (Unit {0}) Reason) (out : Option ℕ) → ((x >>= λ u. Ok None) >>= λ first. (y >>= λ u. Ok first) >>= λ second. Ok second) ≡ Ok out → out ≡ None
+    two_read (Ok u) (Ok v) out e = cc
+    two_read (Ok u) (Err f) out e = absurd cc
+    two_read (Err e') y out e = absurd cc
+
+    three_read : (x y z : Result (Unit {0}) Reason) (out : Option ℕ) → ((x >>= λ u. Ok None) >>= λ first. (y >>= λ u. Ok first) >>= λ second. (z >>= λ u. Ok second) >>= λ third. Ok third) ≡ Ok out → out ≡ None
+    three_read (Ok u) (Ok v) (Ok t) out e = cc
+    three_read (Ok u) (Ok v) (Err f) out e = absurd cc
+    three_read (Ok u) (Err f) z out e = absurd cc
+    three_read (Err e') y z out e = absurd cc
+
+    by_address : (out : Option ℕ) → ((abstract.context_argument a reg.R1 >>= λ u. Ok None) >>= λ first. (abstract.record_argument a reg.R2 >>= λ u. Ok first) >>= λ second. Ok second) ≡ Ok out → out ≡ None
+    by_address out e = two_read (abstract.context_argument a reg.R1) (abstract.record_argument a reg.R2) out e
+
+    -- the answer to a question without a record to write
+    looks_up : (i : Insn) (h : Helper) (out : Option ℕ) (given : Inputs) → GoesPast i → out ≡ None → IsGiven out given
+        → ((answer : ℕ → ℕ → AddressRecord → ℕ × AddressRecord) → IsLawful answer → (answer (helper_number h) given.number given.address).0 ≤ (signature_of h).greatest)
+        → IsAsked a i (abstract.answered ops a h out) (question h given.number given.address) given.out
+    looks_up i h None given past e is lawful =
+        subst (λ (o : Option ℕ). IsAsked a i (abstract.answered ops a h None) (question h given.number given.address) o) is.2 (asks i h (question h given.number given.address) None past tt (λ answer lawful_answer. (lawful answer lawful_answer, tt)))
+    looks_up i h (Some j) given past e is lawful = absurd cc
+
+    helped : (c : Context) (n : ℤ) (h : Helper) (out : Option ℕ) (given : Inputs) → abstract.out_of a (signature_of h).arguments ≡ Ok out → IsGiven out given
+        → IsEffectOf mode places a s (insn.Call n) (next.On (abstract.answered ops a h out)) (effects.effect_with c s.memory h given)
+    helped c n helper.ChannelPeer out given e is =
+        subst (λ (o : Option ℕ). IsAsked a (insn.Call n) (abstract.answered ops a helper.ChannelPeer out) (question helper.ChannelPeer given.number given.address) o) is.2
+        (asks (insn.Call n) helper.ChannelPeer (question helper.ChannelPeer given.number given.address) out refl is.3 (λ answer lawful. let peer = lawful.channel_peer given.number given.address is.0 is.1 in (peer.0, of_out out (answer 1 given.number given.address).1 peer.1))) where
+          of_out : (out : Option ℕ) (bytes : AddressRecord) → AreBytes 8 bytes → IfSome out (λ j. AreBytes 8 bytes)
+          of_out None bytes are = tt
+          of_out (Some j) bytes are = are
+    helped c n helper.ChannelTo out given e is = looks_up (insn.Call n) helper.ChannelTo out given refl (by_address out e) is (λ answer lawful. lawful.channel_to given.number given.address is.0 is.1)
+    helped c n helper.Permitted out given e is = looks_up (insn.Call n) helper.Permitted out given refl (by_address out e) is (λ answer lawful. lawful.permitted given.number given.address is.0 is.1)
+    helped c n helper.Window out given e is =
+        (ap (λ (o : Option ℕ). abstract.answered ops a helper.Window o) (three_read (abstract.context_argument a reg.R1) (abstract.number_argument a reg.R2) (abstract.number_argument a reg.R3) out e), refl)
+    helped c n helper.Destination out given e is = (ap (λ (o : Option ℕ). abstract.answered ops a helper.Destination o) (by_address out e), refl)
 
     helpers_agree : (c : Context) (n : ℤ) (h : Helper) → Claims (insn.Call n) → Agree claimed (IsEffectOf mode places a s (insn.Call n)) (abstract.helper_step ops a h) (effects.helper_effect c s.memory s.registers h)
-    helpers_agree c n helper.ChannelPeer claims =
-        and_then claimed (λ (u v : Unit {0}). Unit {0}) (IsEffectOf mode places a s (insn.Call n)) (abstract.context_argument a) (effects.context_argument s.registers) _ _ (context_agrees ops Member sound claimed mode places a s member (insn.Call n) claims)
-        (λ u v p q t. and_then claimed IsWord (IsEffectOf mode places a s (insn.Call n)) (abstract.number_argument a reg.R2) (effects.number_argument s.registers reg.R2) _ _ (number_agrees_at ops Member sound claimed mode places a s member (insn.Call n) claims reg.R2)
-        (λ x number p' q' word. and_then claimed IsSameIndex (IsEffectOf mode places a s (insn.Call n)) (abstract.stack_argument a reg.R3) (effects.stack_argument s.registers reg.R3) _ _ (stack_agrees_at ops Member sound claimed mode places a s member (insn.Call n) claims reg.R3)
-        (λ j k e f same. subst (λ (out : ℕ). IsAsked a (insn.Call n) (abstract.answered ops a helper.ChannelPeer (Some j)) (question helper.ChannelPeer number no_address) (Some out)) same.0
-        (asks (insn.Call n) helper.ChannelPeer (question helper.ChannelPeer number no_address) (Some j) refl same.1 (λ answer is. is.channel_peer number no_address word no_address_bytes)))))
-    helpers_agree c n helper.ChannelTo claims = looks_up (insn.Call n) helper.ChannelTo refl claims (λ address are answer is. is.channel_to 0 address (omega arith) are)
-    helpers_agree c n helper.Permitted claims = looks_up (insn.Call n) helper.Permitted refl claims (λ address are answer is. is.permitted 0 address (omega arith) are)
-    helpers_agree c n helper.Window claims =
-        and_then claimed (λ (u v : Unit {0}). Unit {0}) (IsEffectOf mode places a s (insn.Call n)) (abstract.context_argument a) (effects.context_argument s.registers) _ _ (context_agrees ops Member sound claimed mode places a s member (insn.Call n) claims)
-        (λ u v p q t. and_then claimed IsWord (IsEffectOf mode places a s (insn.Call n)) (abstract.number_argument a reg.R2) (effects.number_argument s.registers reg.R2) _ _ (number_agrees_at ops Member sound claimed mode places a s member (insn.Call n) claims reg.R2)
-        (λ x front p' q' word. and_then claimed IsWord (IsEffectOf mode places a s (insn.Call n)) (abstract.number_argument a reg.R3) (effects.number_argument s.registers reg.R3) _ _ (number_agrees_at ops Member sound claimed mode places a s member (insn.Call n) claims reg.R3)
-        (λ y size e f word'. (refl, refl))))
-    helpers_agree c n helper.Destination claims =
-        and_then claimed (λ (u v : Unit {0}). Unit {0}) (IsEffectOf mode places a s (insn.Call n)) (abstract.context_argument a) (effects.context_argument s.registers) _ _ (context_agrees ops Member sound claimed mode places a s member (insn.Call n) claims)
-        (λ u v p q t. and_then claimed IsRecord (IsEffectOf mode places a s (insn.Call n)) (abstract.record_argument a reg.R2) (effects.record_argument s.memory s.registers reg.R2) _ _ (record_agrees_at ops Member sound claimed mode places a s member (insn.Call n) claims reg.R2)
-        (λ x address p' q' are. (refl, refl)))
+    helpers_agree c n h claims =
+        and_then claimed IsGiven (IsEffectOf mode places a s (insn.Call n)) (abstract.out_of a (signature_of h).arguments) (effects.inputs s.memory s.registers (signature_of h).arguments) _ _
+        (inputs_agree ops Member sound claimed mode places a s member (insn.Call n) claims (signature_of h).arguments) (λ out given p q is. helped c n h out given p is)
 
     calls_agree : (c : Context) (n : ℤ) → Claims (insn.Call n) → Agree claimed (IsEffectOf mode places a s (insn.Call n)) (abstract.call_step ops a n) (effects.call_effect c s.memory s.registers n)
     calls_agree c n claims = of_helper (helper_of n) where
