@@ -1,6 +1,6 @@
 -- Internal. An accepted step has as many successors as its instruction, and a refused one a reason of the steps.
 use Rattle.std.proofs.Common.{◌≡◌, ℕ, Bool, true, false, Result, Ok, Err, refl}
-use Rattle.std.specs.Prelude.{ℤ, pos, List, Option, Some, None, ◌+ℤ◌, IfOk, IfErr}
+use Rattle.std.specs.Prelude.{ℤ, pos, List, Option, Some, None, ◌+ℤ◌, ◌-ℤ◌, IfOk, IfErr}
 use Rattle.std.specs.Option.{ok_or}
 use Rattle.insn.specs.Codes.{byte_count, unsigned_size}
 use Rattle.insn.specs.Words.{target_of}
@@ -32,14 +32,13 @@ use Rattle.semantics.specs.declared.limits.TheConstants.{TAILROOM}
 use Rattle.semantics.specs.declared.reason.Reason.{Reason}
 use Rattle.semantics.specs.declared.reason.Reason.TheVariants as reasons
 use Rattle.interval.specs.Domains.{Operations}
-use Rattle.absstate.specs.AbstractStates.{abstract_at, are_marked, proved_of}
+use Rattle.absstate.specs.AbstractStates.{abstract_at, are_marked, low_of, proved_of}
 use Rattle.absstate.specs.AbstractSteps as abstract
 use Rattle.absstate.specs.AbstractSteps.{located, readable}
 use Rattle.absstate.specs.StepReasons.{IsStepReason}
 use Rattle.absstate.specs.Successors.{One, Two, successors_of, successors_in}
 use Rattle.absstate.specs.declared.abstract_state.AbsState.{AbsState}
 use Rattle.absstate.specs.declared.abstract_state.Marks.{Marks}
-use Rattle.absstate.specs.declared.abstract_state.Anchor.TheVariants.{First}
 use Rattle.absstate.specs.declared.abstract_state.AbstractValue.{AbstractValue}
 use Rattle.absstate.specs.declared.abstract_state.AbstractValue.TheVariants as known
 use Rattle.absstate.specs.declared.abstract_step.Next.{Next}
@@ -93,7 +92,7 @@ module _ {D : Type 0} (ops : Operations D) where
   -- an accepted step has the successors of its instruction
   pub step_successors : (a : AbsState D) (i : Insn) → IfOk (abstract.step ops a i) (λ answer. successors_in answer ≡ successors_of i)
   unfolding HasOne HasTwo
-  step_successors a (insn.Alu w op dst o) = every HasOne (abstract.read a dst) _ (λ x. every HasOne (abstract.operand_abstract ops w a o) _ (λ y. goes_straight a dst (abstract.alu_result ops op w x y)))
+  step_successors a (insn.Alu w op dst o) = every HasOne (abstract.read a dst) _ (λ x. every HasOne (abstract.operand_abstract ops w a o) _ (λ y. goes_straight a dst (abstract.alu_result ops a op w x y)))
   step_successors a (insn.Mov w dst o) = unary_straight a w (Mov w) dst o
   step_successors a (insn.Neg w dst) = unary_straight a w (Neg w) dst (operand.Reg dst)
   step_successors a (insn.SignExtend e dst src) = unary_straight a (target_of e) (SignExtend e) dst (operand.Reg src)
@@ -131,11 +130,11 @@ module _ {D : Type 0} (ops : Operations D) where
   moved_reasons kind None = tt
   moved_reasons kind (Some place) = tt
 
-  alu_reasons : (op : AluOp) (w : Width) (x y : AbstractValue D) → IfErr (abstract.alu_result ops op w x y) IsStepReason
-  alu_reasons op w (known.Scalar m) (known.Scalar n) = tt
-  alu_reasons op w (known.Data anchor k) (known.Scalar n) = moved_reasons (known.Data anchor) (abstract.moved_by op w k (abstract.single_of ops n))
-  alu_reasons op w (known.Stack k) (known.Scalar n) = moved_reasons known.Stack (abstract.moved_by op w k (abstract.single_of ops n))
-  alu_reasons op w x y = tt
+  alu_reasons : (a : AbsState D) (op : AluOp) (w : Width) (x y : AbstractValue D) → IfErr (abstract.alu_result ops a op w x y) IsStepReason
+  alu_reasons a op w (known.Scalar m) (known.Scalar n) = tt
+  alu_reasons a op w (known.Data anchor k) (known.Scalar n) = found (abstract.data_sum a anchor op w k (ops.bounds n)) reasons.PointerArithmetic tt
+  alu_reasons a op w (known.Stack k) (known.Scalar n) = moved_reasons known.Stack (abstract.moved_by op w k (abstract.single_of ops n))
+  alu_reasons a op w x y = tt
 
   one_reasons : (op : UnaryOp) (x : AbstractValue D) → IfErr (abstract.number_of_one ops op x) IsStepReason
   one_reasons op (known.Scalar m) = tt
@@ -153,8 +152,8 @@ module _ {D : Type 0} (ops : Operations D) where
 
   compared_reasons : (w : Width) (c : Condition) (x y : AbstractValue D) → IfErr (abstract.places_compared w c x y) IsStepReason
   compared_reasons w c (known.Scalar x) y = tt
-  compared_reasons W64 c (known.Data First k) known.End = order_reasons c (data_bound c k)
-  compared_reasons W64 c known.End (known.Data First k) = order_reasons c (data_bound (exchanged c) k)
+  compared_reasons W64 c (known.Data anchor k) known.End = faults IsStepReason (abstract.order_implies c (data_bound c k)) _ (order_reasons c (data_bound c k)) (λ i. tt)
+  compared_reasons W64 c known.End (known.Data anchor k) = faults IsStepReason (abstract.order_implies c (data_bound (exchanged c) k)) _ (order_reasons c (data_bound (exchanged c) k)) (λ i. tt)
   compared_reasons w c x y = tt
 
   places_reasons : (a : AbsState D) (w : Width) (c : Condition) (x y : AbstractValue D) → IfErr (abstract.places_fork a w c x y) IsStepReason
@@ -175,7 +174,7 @@ module _ {D : Type 0} (ops : Operations D) where
   region_reasons a (known.Stack k) d n =
       faults IsStepReason (ok_or (index_within (k +ℤ d) n stack_first stack_first (pos 0)) reasons.StackBounds) _ (found (index_within (k +ℤ d) n stack_first stack_first (pos 0)) reasons.StackBounds tt) (λ i. tt)
   region_reasons a (known.Data anchor k) d n =
-      faults IsStepReason (check (is_within (k +ℤ d) n headroom_first (proved_of a anchor)) reasons.DatagramBounds) _ (checked (is_within (k +ℤ d) n headroom_first (proved_of a anchor)) reasons.DatagramBounds tt) (λ u. tt)
+      faults IsStepReason (check (is_within (k +ℤ d) n (headroom_first -ℤ low_of anchor) (proved_of a anchor)) reasons.DatagramBounds) _ (checked (is_within (k +ℤ d) n (headroom_first -ℤ low_of anchor) (proved_of a anchor)) reasons.DatagramBounds tt) (λ u. tt)
   region_reasons a known.End d n =
       faults IsStepReason (check (is_within (pos 0 +ℤ d) n (pos 0) (pos TAILROOM)) reasons.DatagramBounds) _ (checked (is_within (pos 0 +ℤ d) n (pos 0) (pos TAILROOM)) reasons.DatagramBounds tt) (λ u. tt)
 
@@ -270,7 +269,7 @@ module _ {D : Type 0} (ops : Operations D) where
   pub step_reasons : (a : AbsState D) (i : Insn) → IfErr (abstract.step ops a i) IsStepReason
   step_reasons a (insn.Alu w op dst o) =
       faults IsStepReason (abstract.read a dst) _ (held_reasons (abstract_at a.registers dst)) (λ x. faults IsStepReason (abstract.operand_abstract ops w a o) _ (operand_reasons w a o)
-      (λ y. written_reasons a dst (abstract.alu_result ops op w x y) (alu_reasons op w x y)))
+      (λ y. written_reasons a dst (abstract.alu_result ops a op w x y) (alu_reasons a op w x y)))
   step_reasons a (insn.Mov w dst o) = one_step_reasons a w (Mov w) dst o
   step_reasons a (insn.Neg w dst) = one_step_reasons a w (Neg w) dst (operand.Reg dst)
   step_reasons a (insn.SignExtend e dst src) = one_step_reasons a (target_of e) (SignExtend e) dst (operand.Reg src)

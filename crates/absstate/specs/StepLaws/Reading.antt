@@ -27,26 +27,25 @@ use Rattle.semantics.specs.Loading as loading
 use Rattle.semantics.specs.Loading.{read_number}
 use Rattle.semantics.specs.declared.limits.TheConstants.{TAILROOM}
 use Rattle.semantics.specs.declared.reason.Reason.{Reason}
-use Rattle.semantics.specs.declared.reason.Reason.TheVariants.{HelperArgument}
+use Rattle.semantics.specs.declared.reason.Reason.TheVariants.{DatagramBounds, HelperArgument}
 use Rattle.semantics.specs.declared.value.Value.{Value}
 use Rattle.semantics.specs.declared.value.Value.TheVariants as value
 use Rattle.interval.specs.Domains.{Operations, AreSound}
 use Rattle.absstate.specs.AbstractSteps as abstract
 use Rattle.absstate.specs.AbstractSteps.{located, readable}
-use Rattle.absstate.specs.Membership.{Mode, Places, IsNumberOf, IsHeld, IsMember, value_of}
-use Rattle.absstate.specs.declared.abstract_state.Anchor.TheVariants.{First}
+use Rattle.absstate.specs.Membership.{Mode, Places, IsNumberOf, IsHeld, IsMemberAt, value_of}
+use Rattle.absstate.specs.declared.abstract_state.Anchor.TheVariants.{First, Made}
 use Rattle.absstate.specs.declared.abstract_state.AbstractValue.{AbstractValue}
 use Rattle.absstate.specs.declared.abstract_state.AbstractValue.TheVariants as known
 use Rattle.absstate.specs.declared.abstract_state.AbsState.{AbsState}
 use Rattle.absstate.specs.StepLaws.Agreement.{Agree, and_then}
 use Rattle.absstate.specs.StepLaws.MemoryValues.{IsRegionOf, IsRead, stack_located, datagram_located, tailroom_located, region_read, record_read}
-use Rattle.absstate.specs.StepLaws.Arithmetic.{from_first, read_agrees, AreClaims}
+use Rattle.absstate.specs.StepLaws.Sums.{place_is}
+use Rattle.absstate.specs.StepLaws.Anchors.{IsMade}
+use Rattle.absstate.specs.StepLaws.Arithmetic.{read_agrees, AreClaims}
 use Rattle.absstate.specs.StepLaws.Results.{IsResult, held_results, fields_agree}
 
-reach_is : (p proved size : ℤ) → p ≡ pos 0 → (p +ℤ proved) ≤ℤ size → proved ≤ℤ size
-reach_is p proved size e h = omega (arith, ints)
-
-zero_more : (d : ℤ) → d ≡ (pos 0 +ℤ d)
+pub zero_more : (d : ℤ) → d ≡ (pos 0 +ℤ d)
 zero_more d = omega (arith, ints)
 
 size_fits : (z : Size) → 256 ^ byte_count z - 1 < 2 ^ 64
@@ -70,69 +69,67 @@ IsSameIndex m n = (m ≡ n) × (m + 8 ≤ 512)
 abbrev IsRecord : Unit {0} → AddressRecord → Type 0
 IsRecord u address = AreBytes 8 address
 
-module _ {D : Type 0} (ops : Operations D) (Member : D → ℕ → Type 0) (sound : AreSound ops Member) (claimed : Reason → Type 0) (mode : Mode) (places : Places) (a : AbsState D) (s : State) (member : IsMember Member mode places a s) (i : Insn) (claims : AreClaims ops Member sound claimed mode a s i) where
-  first : places First ≡ pos 0
-  first = member.anchored First
-
+module _ {D : Type 0} (ops : Operations D) (Member : D → ℕ → Type 0) (sound : AreSound ops Member) (claimed : Reason → Type 0) (mode : Mode) (places : Places) (a : AbsState D) (s : State) (member : IsMemberAt Member mode places a s) (i : Insn) (claims : AreClaims ops Member sound claimed mode a s i) where
   -- ---- memory
 
-  pub locations_agree : (x : AbstractValue D) (m : ℕ) (d : ℤ) (n : ℕ) → IsNumberOf Member x m
+  pub locations_agree : (x : AbstractValue D) → (claimed DatagramBounds → IsMade x → ⊥) → (m : ℕ) (d : ℤ) (n : ℕ) → IsNumberOf Member places s.memory.length x m
       → Agree claimed (IsRegionOf n) (abstract.located a x d n) (location s.memory.length (value_of places x m) d n)
   unfolding located
-  locations_agree known.Nothing m d n h = λ c. refl
-  locations_agree (known.Scalar k) m d n h = λ c. refl
-  locations_agree known.Ctx m d n h = λ c. refl
-  locations_agree (known.Stack k) m d n h = stack_located claimed (k +ℤ d) n
-  locations_agree (known.Data First k) m d n h =
-      datagram_located claimed s.memory.length a.proved (reach_is (places First) a.proved (pos s.memory.length) first (member.reaches First)) claims.bounds (k +ℤ d) ((places First +ℤ k) +ℤ d) n
-      (ap (λ (p : ℤ). p +ℤ d) (from_first (places First) k first))
-  locations_agree known.End m d n h = subst (λ (z : ℤ). Agree claimed (IsRegionOf n) (abstract.in_bytes z n (pos 0) (pos TAILROOM)) (location s.memory.length value.End d n)) (zero_more d) (tailroom_located claimed s.memory.length d n)
+  locations_agree known.Nothing plain m d n h = λ c. refl
+  locations_agree (known.Scalar k) plain m d n h = λ c. refl
+  locations_agree known.Ctx plain m d n h = λ c. refl
+  locations_agree (known.Stack k) plain m d n h = stack_located claimed (k +ℤ d) n
+  locations_agree (known.Data First k) plain m d n h =
+      datagram_located claimed s.memory.length (pos 0) (pos 0) a.proved (pos 0) k d n (place_is places s.memory.length a First member.reaches h) (λ c. (refl, refl, claims.bounds c))
+  locations_agree (known.Data (Made id low high proved) k) plain m d n h =
+      datagram_located claimed s.memory.length low high proved (places id) k d n h (λ c. absurd (plain c tt))
+  locations_agree known.End plain m d n h = subst (λ (z : ℤ). Agree claimed (IsRegionOf n) (abstract.in_bytes z n (pos 0) (pos TAILROOM)) (location s.memory.length value.End d n)) (zero_more d) (tailroom_located claimed s.memory.length d n)
 
-  reads_agree : (x : AbstractValue D) (m : ℕ) (d : ℤ) (n : ℕ) → IsNumberOf Member x m
+  reads_agree : (x : AbstractValue D) → (claimed DatagramBounds → IsMade x → ⊥) → (m : ℕ) (d : ℤ) (n : ℕ) → IsNumberOf Member places s.memory.length x m
       → Agree claimed (IsRead n) (abstract.readable a x d n) (loading.read_number s.memory (value_of places x m) d n)
   unfolding readable read_number
-  reads_agree x m d n h =
-      and_then claimed (IsRegionOf n) (IsRead n) (abstract.located a x d n) (location s.memory.length (value_of places x m) d n) _ _ (locations_agree x m d n h)
+  reads_agree x plain m d n h =
+      and_then claimed (IsRegionOf n) (IsRead n) (abstract.located a x d n) (location s.memory.length (value_of places x m) d n) _ _ (locations_agree x plain m d n h)
       (λ r at p q is. region_read claimed mode claims.cells a.marks s.memory member.tagged.memory member.cells n r at is)
 
   -- what is known of the number that is read has it as a member, extended or not
-  numbers_agree : (extend : ℕ → ℕ) (number : D) (x : AbstractValue D) (m : ℕ) (d : ℤ) (n : ℕ) → ((k : ℕ) → k < 256 ^ n → Member number (extend k)) → IsNumberOf Member x m
-      → Agree claimed (IsHeld Member places) (abstract.load_number a x d n number) (loading.read_number s.memory (value_of places x m) d n >>= λ k. Ok (value.Scalar (extend k)))
-  numbers_agree extend number x m d n is h =
-      and_then claimed (IsRead n) (IsHeld Member places) (abstract.readable a x d n) (loading.read_number s.memory (value_of places x m) d n) _ _
-      (reads_agree x m d n h) (λ u k p q small. (extend k, is k small, refl))
+  numbers_agree : (extend : ℕ → ℕ) (number : D) (x : AbstractValue D) → (claimed DatagramBounds → IsMade x → ⊥) → (m : ℕ) (d : ℤ) (n : ℕ) → ((k : ℕ) → k < 256 ^ n → Member number (extend k)) → IsNumberOf Member places s.memory.length x m
+      → Agree claimed (IsHeld Member places s.memory.length) (abstract.load_number a x d n number) (loading.read_number s.memory (value_of places x m) d n >>= λ k. Ok (value.Scalar (extend k)))
+  numbers_agree extend number x plain m d n is h =
+      and_then claimed (IsRead n) (IsHeld Member places s.memory.length) (abstract.readable a x d n) (loading.read_number s.memory (value_of places x m) d n) _ _
+      (reads_agree x plain m d n h) (λ u k p q small. (extend k, is k small, refl))
 
   of_size : (z : Size) (k : ℕ) → k < 256 ^ byte_count z → Member (abstract.number_of_size ops z) k
   of_size z k small = sound.range 0 (256 ^ byte_count z - 1) k (size_fits z) (omega arith) (omega (arith, small))
 
-  number_agrees : (x : AbstractValue D) (m : ℕ) (d : ℤ) (z : Size) → IsNumberOf Member x m
+  number_agrees : (x : AbstractValue D) → (claimed DatagramBounds → IsMade x → ⊥) → (m : ℕ) (d : ℤ) (z : Size) → IsNumberOf Member places s.memory.length x m
       → Agree claimed (IsResult Member places s.memory.length) (abstract.load_number a x d (byte_count z) (abstract.number_of_size ops z)) (loading.read_number s.memory (value_of places x m) d (byte_count z) >>= λ k. Ok (value.Scalar k))
-  number_agrees x m d z h =
+  number_agrees x plain m d z h =
       held_results claimed Member places s.memory.length (abstract.load_number a x d (byte_count z) (abstract.number_of_size ops z)) _
-      (numbers_agree (λ k. k) (abstract.number_of_size ops z) x m d (byte_count z) (of_size z) h)
+      (numbers_agree (λ k. k) (abstract.number_of_size ops z) x plain m d (byte_count z) (of_size z) h)
 
-  pub load_agrees : (c : Context) → IsContext c → (x : AbstractValue D) (m : ℕ) (d : ℤ) (z : Size) → IsNumberOf Member x m
+  pub load_agrees : (c : Context) → IsContext c → (x : AbstractValue D) → (claimed DatagramBounds → IsMade x → ⊥) → (m : ℕ) (d : ℤ) (z : Size) → IsNumberOf Member places s.memory.length x m
       → Agree claimed (IsResult Member places s.memory.length) (abstract.load ops a x d z) (loading.load c s.memory (value_of places x m) d z)
-  load_agrees c real known.Ctx m d z h = fields_agree ops Member sound claimed places first c real s.memory.length d z
-  load_agrees c real known.Nothing m d z h = number_agrees known.Nothing m d z h
-  load_agrees c real (known.Scalar n) m d z h = number_agrees (known.Scalar n) m d z h
-  load_agrees c real (known.Stack k) m d z h = number_agrees (known.Stack k) m d z h
-  load_agrees c real (known.Data anchor k) m d z h = number_agrees (known.Data anchor k) m d z h
-  load_agrees c real known.End m d z h = number_agrees known.End m d z h
+  load_agrees c real known.Ctx plain m d z h = fields_agree ops Member sound claimed places c real s.memory.length d z
+  load_agrees c real known.Nothing plain m d z h = number_agrees known.Nothing plain m d z h
+  load_agrees c real (known.Scalar n) plain m d z h = number_agrees (known.Scalar n) plain m d z h
+  load_agrees c real (known.Stack k) plain m d z h = number_agrees (known.Stack k) plain m d z h
+  load_agrees c real (known.Data anchor k) plain m d z h = number_agrees (known.Data anchor k) plain m d z h
+  load_agrees c real known.End plain m d z h = number_agrees known.End plain m d z h
 
-  pub signed_agrees : (x : AbstractValue D) (m : ℕ) (d : ℤ) (z : SignedSize) → IsNumberOf Member x m
+  pub signed_agrees : (x : AbstractValue D) → (claimed DatagramBounds → IsMade x → ⊥) → (m : ℕ) (d : ℤ) (z : SignedSize) → IsNumberOf Member places s.memory.length x m
       → Agree claimed (IsResult Member places s.memory.length) (abstract.load_signed ops a x d z) (loading.load_signed s.memory (value_of places x m) d z)
-  signed_agrees x m d z h =
+  signed_agrees x plain m d z h =
       held_results claimed Member places s.memory.length (abstract.load_signed ops a x d z) (loading.load_signed s.memory (value_of places x m) d z)
-      (numbers_agree (sign_extended z) ops.top x m d (byte_count (unsigned_size z)) (λ k small. sound.top (sign_extended z k) (sign_extended_word z k)) h)
+      (numbers_agree (sign_extended z) ops.top x plain m d (byte_count (unsigned_size z)) (λ k small. sound.top (sign_extended z k) (sign_extended_word z k)) h)
 
   -- ---- calls
 
   context_agrees_at : (r : Reg) → Agree claimed (λ (u v : Unit {0}). Unit {0}) (abstract.context_argument a r) (effects.context_argument s.registers r)
   context_agrees_at r =
-      and_then claimed (IsHeld Member places) (λ (u v : Unit {0}). Unit {0}) (abstract.read a r) (effects.read s.registers r) _ _ (read_agrees ops Member sound claimed mode places claims.registers a s member r)
+      and_then claimed (IsHeld Member places s.memory.length) (λ (u v : Unit {0}). Unit {0}) (abstract.read a r) (effects.read s.registers r) _ _ (read_agrees ops Member sound claimed mode places claims.registers a s member r)
       (λ x u p q held. subst (λ (v : Value). Agree claimed (λ (u v : Unit {0}). Unit {0}) (abstract.context_value r x) (context_value r v)) (sym held.2) (contexts r x held.0 held.1)) where
-        contexts : (r : Reg) (x : AbstractValue D) (m : ℕ) → IsNumberOf Member x m → Agree claimed (λ (u v : Unit {0}). Unit {0}) (abstract.context_value r x) (context_value r (value_of places x m))
+        contexts : (r : Reg) (x : AbstractValue D) (m : ℕ) → IsNumberOf Member places s.memory.length x m → Agree claimed (λ (u v : Unit {0}). Unit {0}) (abstract.context_value r x) (context_value r (value_of places x m))
         contexts r known.Ctx m h = tt
         contexts r known.Nothing m h = λ c. refl
         contexts r (known.Scalar n) m h = λ c. refl
@@ -142,9 +139,9 @@ module _ {D : Type 0} (ops : Operations D) (Member : D → ℕ → Type 0) (soun
 
   number_agrees_at : (r : Reg) → Agree claimed IsWord (abstract.number_argument a r) (effects.number_argument s.registers r)
   number_agrees_at r =
-      and_then claimed (IsHeld Member places) IsWord (abstract.read a r) (effects.read s.registers r) _ _ (read_agrees ops Member sound claimed mode places claims.registers a s member r)
+      and_then claimed (IsHeld Member places s.memory.length) IsWord (abstract.read a r) (effects.read s.registers r) _ _ (read_agrees ops Member sound claimed mode places claims.registers a s member r)
       (λ x u p q held. subst (λ (v : Value). Agree claimed IsWord (abstract.number_value r x) (number_value r v)) (sym held.2) (numbers r x held.0 held.1)) where
-        numbers : (r : Reg) (x : AbstractValue D) (m : ℕ) → IsNumberOf Member x m → Agree claimed IsWord (abstract.number_value r x) (number_value r (value_of places x m))
+        numbers : (r : Reg) (x : AbstractValue D) (m : ℕ) → IsNumberOf Member places s.memory.length x m → Agree claimed IsWord (abstract.number_value r x) (number_value r (value_of places x m))
         numbers r (known.Scalar n) m h = sound.words n m h
         numbers r known.Nothing m h = λ c. refl
         numbers r known.Ctx m h = λ c. refl
@@ -158,9 +155,9 @@ module _ {D : Type 0} (ops : Operations D) (Member : D → ℕ → Type 0) (soun
 
   stack_agrees_at : (r : Reg) → Agree claimed IsSameIndex (abstract.stack_argument a r) (effects.stack_argument s.registers r)
   stack_agrees_at r =
-      and_then claimed (IsHeld Member places) IsSameIndex (abstract.read a r) (effects.read s.registers r) _ _ (read_agrees ops Member sound claimed mode places claims.registers a s member r)
+      and_then claimed (IsHeld Member places s.memory.length) IsSameIndex (abstract.read a r) (effects.read s.registers r) _ _ (read_agrees ops Member sound claimed mode places claims.registers a s member r)
       (λ x u p q held. subst (λ (v : Value). Agree claimed IsSameIndex (abstract.stack_value r x) (stack_value r v)) (sym held.2) (indices r x held.0 held.1)) where
-        indices : (r : Reg) (x : AbstractValue D) (m : ℕ) → IsNumberOf Member x m → Agree claimed IsSameIndex (abstract.stack_value r x) (stack_value r (value_of places x m))
+        indices : (r : Reg) (x : AbstractValue D) (m : ℕ) → IsNumberOf Member places s.memory.length x m → Agree claimed IsSameIndex (abstract.stack_value r x) (stack_value r (value_of places x m))
         indices r (known.Stack k) m h = found_index r (index_within (k +ℤ pos 0) 8 stack_first stack_first (pos 0)) (λ n e. index_short (k +ℤ pos 0) 8 n e)
         indices r known.Nothing m h = λ c. refl
         indices r (known.Scalar n) m h = λ c. refl
