@@ -1,15 +1,15 @@
 -- Interface. The abstract state at a slot of a path: what the verifier knows of each machine state that can be there.
 -- Its numbers are those of a domain D.
-use Rattle.std.specs.Prelude.{ℕ, zero, suc, Bool, true, false, ◌&&◌, ℤ, pos, int_lt, List, [], ◌∷◌, replicate, Option, Some, None, slice_index_or, slice_set, if◌then◌else◌}
+use Rattle.std.specs.Prelude.{ℕ, zero, suc, ◌==◌, max, Bool, true, false, ◌&&◌, ℤ, pos, int_lt, int_le, map, List, [], ◌∷◌, replicate, Option, Some, None, slice_index_or, slice_set, if◌then◌else◌}
 use Rattle.insn.specs.Register.{number_of}
 use Rattle.insn.specs.declared.register.Reg.{Reg}
 use Rattle.insn.specs.declared.register.Reg.TheVariants.{R0, R1, R2, R3, R4, R5}
 use Rattle.semantics.specs.declared.helper.TheConstants.{RECORD_BYTES}
 use Rattle.semantics.specs.declared.limits.TheConstants.{STACK_BYTES}
 use Rattle.absstate.specs.declared.abstract_state.AbstractValue.{AbstractValue}
-use Rattle.absstate.specs.declared.abstract_state.AbstractValue.TheVariants.{Nothing, Scalar, Ctx, Stack}
+use Rattle.absstate.specs.declared.abstract_state.AbstractValue.TheVariants.{Nothing, Scalar, Ctx, Stack, Data, End}
 use Rattle.absstate.specs.declared.abstract_state.Anchor.{Anchor}
-use Rattle.absstate.specs.declared.abstract_state.Anchor.TheVariants.{First}
+use Rattle.absstate.specs.declared.abstract_state.Anchor.TheVariants.{First, Made}
 use Rattle.absstate.specs.declared.abstract_state.Marks.{Marks}
 use Rattle.absstate.specs.declared.abstract_state.AbsState.{AbsState}
 
@@ -46,9 +46,54 @@ first_state = record {
   proved = pos 0;
 }
 
+-- ---- anchors
+
+-- the least and the greatest place of an anchor
+abbrev pub low_of : Anchor → ℤ
+low_of First = pos 0
+low_of (Made id low high proved) = low
+
+abbrev pub high_of : Anchor → ℤ
+high_of First = pos 0
+high_of (Made id low high proved) = high
+
 -- how far from an anchor on the datagram is proved to reach
 abbrev pub proved_of : {D : Type 0} → AbsState D → Anchor → ℤ
 proved_of a First = a.proved
+proved_of a (Made id low high proved) = proved
+
+-- the number of the anchor that a value names; 0 where it names none that was made
+abbrev pub id_of : {D : Type 0} → AbstractValue D → ℕ
+id_of Nothing = 0
+id_of (Scalar number) = 0
+id_of Ctx = 0
+id_of (Stack k) = 0
+id_of (Data First k) = 0
+id_of (Data (Made id low high proved) k) = id
+id_of End = 0
+
+-- the greatest number of an anchor that a register names
+abbrev pub greatest_id : {D : Type 0} → List (AbstractValue D) → ℕ
+greatest_id [] = 0
+greatest_id (v ∷ vs) = max (id_of v) (greatest_id vs)
+
+-- what is proved of an anchor, raised to n
+abbrev pub raised : ℤ → ℤ → ℤ
+raised proved n = if (int_lt proved n && int_le n (pos 2147483647)) then n else proved
+
+-- more is proved of the anchor with a number
+abbrev pub raised_anchor : ℕ → ℤ → Anchor → Anchor
+raised_anchor id n First = First
+raised_anchor id n (Made other low high proved) = Made other low high (if other == id then raised proved n else proved)
+
+-- more is proved of it in a value that names it
+abbrev pub raised_value : {D : Type 0} → ℕ → ℤ → AbstractValue D → AbstractValue D
+raised_value id n Nothing = Nothing
+raised_value id n (Scalar number) = Scalar number
+raised_value id n Ctx = Ctx
+raised_value id n (Stack k) = Stack k
+raised_value id n (Data anchor k) = Data (raised_anchor id n anchor) k
+raised_value id n End = End
 
 -- the state with a register written
 abbrev pub with_value : {D : Type 0} → AbsState D → Reg → AbstractValue D → AbsState D
@@ -58,10 +103,15 @@ with_value a r k = record a { registers = slice_set a.registers (number_of r) k 
 abbrev pub with_length : {D : Type 0} → AbsState D → ℤ → AbsState D
 with_length a n = record a { proved = if int_lt a.proved n then n else a.proved }
 
--- a least length, where a branch implies one
-abbrev pub with_least : {D : Type 0} → AbsState D → Option ℤ → AbsState D
-with_least a None = a
-with_least a (Some n) = with_length a n
+-- the state in which the datagram reaches n bytes from an anchor on: every register with that anchor gains by it
+abbrev pub with_reach : {D : Type 0} → AbsState D → Anchor → ℤ → AbsState D
+with_reach a First n = with_length a n
+with_reach a (Made id low high proved) n = record a { registers = map (raised_value id n) a.registers }
+
+-- a least reach, where a branch implies one
+abbrev pub with_least : {D : Type 0} → AbsState D → Anchor → Option ℤ → AbsState D
+with_least a anchor None = a
+with_least a anchor (Some n) = with_reach a anchor n
 
 -- the state in which n stack bytes from an index on are set
 abbrev pub with_marks : {D : Type 0} → AbsState D → ℕ → ℕ → AbsState D

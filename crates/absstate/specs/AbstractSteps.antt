@@ -1,8 +1,9 @@
 -- Interface. The abstract step: the abstract states after an instruction, or the reason for which a step from here
 -- could be stuck. The tests come in the order of the tagged machine. Numbers are computed by the operations of a
 -- domain.
-use Rattle.std.specs.Prelude.{ℕ, ◌+◌, ◌-◌, ◌^◌, ◌≤◌, Bool, true, false, ℤ, pos, ◌+ℤ◌, Option, Some, None, Result, Ok, Err, ◌==◌, if◌then◌else◌}
+use Rattle.std.specs.Prelude.{ℕ, suc, ◌+◌, ◌-◌, ◌^◌, ◌≤◌, Bool, true, false, ◌&&◌, ℤ, pos, negsuc, ◌+ℤ◌, ◌-ℤ◌, int_le, int_lt, List, Option, Some, None, Result, Ok, Err, ◌==◌, if◌then◌else◌}
 use Rattle.std.specs.Option.{ok_or, option_map}
+use Rattle.std.specs.Int.{w64, cast_signed}
 use Rattle.insn.specs.Codes.{byte_count, unsigned_size}
 use Rattle.insn.specs.Register.{number_of}
 use Rattle.insn.specs.Words.{imm_word, target_of}
@@ -25,10 +26,11 @@ use Rattle.insn.specs.declared.instruction.Insn.TheVariants as insn
 use Rattle.semantics.specs.Fallible.{◌>>=◌, check}
 use Rattle.semantics.specs.Access.{is_within, index_within, stack_first, headroom_first}
 use Rattle.semantics.specs.Loading.{field_at}
-use Rattle.semantics.specs.Calls.{helper_of}
+use Rattle.semantics.specs.Calls.{helper_of, signature_of, argument_at}
 use Rattle.semantics.specs.Effects.{writable, moved_place}
+use Rattle.semantics.specs.declared.helper.Argument.{Argument}
+use Rattle.semantics.specs.declared.helper.Argument.TheVariants as argument
 use Rattle.semantics.specs.declared.helper.Helper.{Helper}
-use Rattle.semantics.specs.declared.helper.Helper.TheVariants as helper
 use Rattle.semantics.specs.declared.helper.TheConstants.{RECORD_BYTES}
 use Rattle.semantics.specs.LooseRuns.{Bound, AtMost, Below, data_bound, exchanged}
 use Rattle.semantics.specs.declared.fetching.Branch.{Branch}
@@ -41,8 +43,11 @@ use Rattle.semantics.specs.declared.reason.Reason.TheVariants.{UninitRegister, U
 use Rattle.interval.specs.Domains.{Operations}
 use Rattle.interval.specs.declared.domain.Test.{Test}
 use Rattle.interval.specs.declared.domain.Test.TheVariants.{Holds, Fails}
-use Rattle.absstate.specs.AbstractStates.{abstract_at, are_marked, proved_of, with_value, with_least, with_marks, with_answer, with_out}
-use Rattle.absstate.specs.declared.abstract_state.Anchor.TheVariants.{First}
+use Rattle.absstate.specs.AbstractStates.{abstract_at, are_marked, low_of, high_of, proved_of, greatest_id, with_value, with_least, with_marks, with_answer, with_out}
+use Rattle.absstate.specs.declared.abstract_state.Anchor.{Anchor}
+use Rattle.absstate.specs.declared.abstract_state.Anchor.TheVariants.{First, Made}
+use Rattle.interval.specs.declared.domain.Bounds.{Bounds}
+use Rattle.insn.specs.declared.operator.AluOp.TheVariants.{Add, Sub}
 use Rattle.absstate.specs.declared.abstract_state.AbstractValue.{AbstractValue}
 use Rattle.absstate.specs.declared.abstract_state.AbstractValue.TheVariants.{Nothing, Scalar, Ctx, Stack, Data, End}
 use Rattle.absstate.specs.declared.abstract_state.AbsState.{AbsState}
@@ -77,22 +82,72 @@ operand_abstract ops w a (operand.Imm n) = Ok (Scalar (ops.exact (imm_word w n))
 abbrev pub single_of : {D : Type 0} → Operations D → D → Option ℕ
 single_of ops x = if (ops.bounds x).lo == (ops.bounds x).hi then Some (ops.bounds x).lo else None
 
--- a pointer moves by a single number only
+-- a pointer into the stack moves by a single number only
 abbrev pub moved_by : AluOp → Width → ℤ → Option ℕ → Option ℤ
 moved_by op w k None = None
 moved_by op w k (Some n) = moved_place op w k n
+
+abbrev pub with_both : {A : Type 0} → Option ℤ → Option ℤ → (ℤ → ℤ → Option A) → Option A
+with_both (Some x) (Some y) f = f x y
+with_both (Some x) None f = None
+with_both None y f = None
+
+-- an offset of 32 bits
+abbrev pub short_offset : ℤ → Option ℤ
+short_offset z = if (int_le (negsuc 2147483647) z && int_le z (pos 2147483647)) then Some z else None
+
+-- an offset from an anchor with places from low to high, moved by a single number: both ends stay near
+abbrev pub moved_offset : AluOp → Width → ℤ → ℤ → ℤ → ℕ → Option ℤ
+moved_offset op w low high k n = with_both (moved_place op w (low +ℤ k) n) (moved_place op w (high +ℤ k) n) (λ least greatest. short_offset (least -ℤ low))
+
+-- the least and the greatest place after a sum with a number within bounds
+abbrev pub lowest : AluOp → Width → ℤ → Bounds → Option ℤ
+lowest Add w low b = moved_place Add w low b.lo
+lowest Sub w low b = moved_place Sub w low b.hi
+lowest op w low b = None
+
+abbrev pub highest : AluOp → Width → ℤ → Bounds → Option ℤ
+highest Add w high b = moved_place Add w high b.hi
+highest Sub w high b = moved_place Sub w high b.lo
+highest op w high b = None
+
+-- bounds on one side of 2^63: their numbers lie, read with their sign, between the ends
+abbrev pub is_one_sided : Bounds → Bool
+is_one_sided b = int_le (cast_signed w64 b.lo) (cast_signed w64 b.hi)
+
+-- what is proved of an anchor, between -2^21 and what 32 bits hold
+abbrev pub proved_within : ℤ → ℤ
+proved_within p = if int_lt p (negsuc 2097151) then negsuc 2097151 else if int_lt (pos 2147483647) p then pos 2147483647 else p
+
+-- an anchor of its own, with the next number that no register has
+abbrev pub made_anchor : {D : Type 0} → AbsState D → Anchor → ℤ → ℤ → Anchor
+made_anchor a anchor least greatest = Made (suc (greatest_id a.registers)) least greatest (proved_within (proved_of a anchor -ℤ (greatest -ℤ high_of anchor)))
+
+abbrev pub made_between : {D : Type 0} → AbsState D → Anchor → Bounds → ℤ → ℤ → Option (AbstractValue D)
+made_between a anchor b least greatest = if (is_one_sided b && int_le (pos (suc (greatest_id a.registers))) (pos 4294967295)) then Some (Data (made_anchor a anchor least greatest) (pos 0)) else None
+
+abbrev pub made_sum : {D : Type 0} → AbsState D → Anchor → AluOp → Width → ℤ → Bounds → Option (AbstractValue D)
+made_sum a anchor op w k b = with_both (lowest op w (low_of anchor +ℤ k) b) (highest op w (high_of anchor +ℤ k) b) (made_between a anchor b)
+
+-- a single number moves the offset, any other one makes an anchor
+abbrev pub single_sum : Anchor → AluOp → Width → ℤ → ℕ → Option ℤ
+single_sum First op w k n = moved_place op w k n
+single_sum (Made id low high proved) op w k n = moved_offset op w low high k n
+
+abbrev pub data_sum : {D : Type 0} → AbsState D → Anchor → AluOp → Width → ℤ → Bounds → Option (AbstractValue D)
+data_sum a anchor op w k b = if b.lo == b.hi then option_map (Data anchor) (single_sum anchor op w k b.lo) else made_sum a anchor op w k b
 
 abbrev pub moved : {D : Type 0} → (ℤ → AbstractValue D) → Option ℤ → Result (AbstractValue D) Reason
 moved kind place = do
   k ← ok_or place PointerArithmetic
   Ok (kind k)
 
--- two numbers give a number, and a pointer is moved by a single number
-abbrev pub alu_result : {D : Type 0} → Operations D → AluOp → Width → AbstractValue D → AbstractValue D → Result (AbstractValue D) Reason
-alu_result ops op w (Scalar a) (Scalar b) = Ok (Scalar (ops.alu op w a b))
-alu_result ops op w (Data anchor k) (Scalar b) = moved (Data anchor) (moved_by op w k (single_of ops b))
-alu_result ops op w (Stack k) (Scalar b) = moved Stack (moved_by op w k (single_of ops b))
-alu_result ops op w _ _ = Err PointerArithmetic
+-- two numbers give a number, and a pointer is moved by a number
+abbrev pub alu_result : {D : Type 0} → Operations D → AbsState D → AluOp → Width → AbstractValue D → AbstractValue D → Result (AbstractValue D) Reason
+alu_result ops state op w (Scalar a) (Scalar b) = Ok (Scalar (ops.alu op w a b))
+alu_result ops state op w (Data anchor k) (Scalar b) = ok_or (data_sum state anchor op w k (ops.bounds b)) PointerArithmetic
+alu_result ops state op w (Stack k) (Scalar b) = moved Stack (moved_by op w k (single_of ops b))
+alu_result ops state op w _ _ = Err PointerArithmetic
 
 -- a number gives a number
 abbrev pub number_of_one : {D : Type 0} → Operations D → UnaryOp → AbstractValue D → Result (AbstractValue D) Reason
@@ -118,7 +173,7 @@ abbrev pub alu_step : {D : Type 0} → Operations D → AbsState D → Width →
 alu_step ops a w op dst o = do
   x ← read a dst
   y ← operand_abstract ops w a o
-  written a dst (alu_result ops op w x y)
+  written a dst (alu_result ops a op w x y)
 
 abbrev pub unary_step : {D : Type 0} → Operations D → AbsState D → Width → UnaryOp → Reg → Operand → Result (Next D) Reason
 unary_step ops a w op dst o = do
@@ -174,17 +229,22 @@ order_implies c bound = do
   allowed ← check (is_order c) PointerCompare
   Ok (implied_by bound)
 
--- what the branches of a comparison imply of the datagram's length; the anchor First stands at the place 0
-abbrev pub places_compared : {D : Type 0} → Width → Condition → AbstractValue D → AbstractValue D → Result Implied Reason
+-- what the branches of a comparison imply of how far the datagram reaches from an anchor on
+abbrev pub at_anchor : Anchor → Result Implied Reason → Result (Anchor × Implied) Reason
+at_anchor anchor implied = do
+  i ← implied
+  Ok (anchor, i)
+
+abbrev pub places_compared : {D : Type 0} → Width → Condition → AbstractValue D → AbstractValue D → Result (Anchor × Implied) Reason
 places_compared w c (Scalar x) y = Err PointerCompare
-places_compared W64 c (Data First k) End = order_implies c (data_bound c k)
-places_compared W64 c End (Data First k) = order_implies c (data_bound (exchanged c) k)
+places_compared W64 c (Data anchor k) End = at_anchor anchor (order_implies c (data_bound c k))
+places_compared W64 c End (Data anchor k) = at_anchor anchor (order_implies c (data_bound (exchanged c) k))
 places_compared w c _ _ = Err PointerCompare
 
 abbrev pub places_fork : {D : Type 0} → AbsState D → Width → Condition → AbstractValue D → AbstractValue D → Result (Next D) Reason
 places_fork a w c x y = do
   implied ← places_compared w c x y
-  Ok (next.Fork (Some (with_least a implied.not_taken)) (Some (with_least a implied.taken)))
+  Ok (next.Fork (Some (with_least a implied.0 implied.1.not_taken)) (Some (with_least a implied.0 implied.1.taken)))
 
 -- ---- conditional jumps
 
@@ -217,7 +277,7 @@ located a Nothing d n = Err UninitRegister
 located a (Scalar number) d n = Err NotAPointer
 located a Ctx d n = Err ContextAccess
 located a (Stack k) d n = in_stack (k +ℤ d) n
-located a (Data anchor k) d n = in_bytes (k +ℤ d) n headroom_first (proved_of a anchor)
+located a (Data anchor k) d n = in_bytes (k +ℤ d) n (headroom_first -ℤ low_of anchor) (proved_of a anchor)
 located a End d n = in_bytes (pos 0 +ℤ d) n (pos 0) (pos TAILROOM)
 
 -- n bytes of a region of the stack lie inside
@@ -309,12 +369,12 @@ store_step ops a z base o d = do
 
 -- ---- calls
 
-abbrev pub context_value : {D : Type 0} → AbstractValue D → Result (Unit {0}) Reason
-context_value Ctx = Ok tt
-context_value _ = Err (HelperArgument 1)
+abbrev pub context_value : {D : Type 0} → Reg → AbstractValue D → Result (Unit {0}) Reason
+context_value r Ctx = Ok tt
+context_value r _ = Err (HelperArgument (number_of r))
 
-abbrev pub context_argument : {D : Type 0} → AbsState D → Result (Unit {0}) Reason
-context_argument a = read a reg.R1 >>= context_value
+abbrev pub context_argument : {D : Type 0} → AbsState D → Reg → Result (Unit {0}) Reason
+context_argument a r = read a r >>= context_value r
 
 abbrev pub number_value : {D : Type 0} → Reg → AbstractValue D → Result (Unit {0}) Reason
 number_value r (Scalar number) = Ok tt
@@ -345,38 +405,39 @@ record_readable marks i = check (are_marked marks i RECORD_BYTES) UninitStack
 abbrev pub record_argument : {D : Type 0} → AbsState D → Reg → Result (Unit {0}) Reason
 record_argument a r = stack_argument a r >>= record_readable a.marks
 
--- the greatest answer of a helper
-abbrev pub greatest_answer : Helper → ℕ
-greatest_answer helper.ChannelPeer = 1
-greatest_answer helper.ChannelTo = 0x4fff
-greatest_answer helper.Permitted = 1
-greatest_answer helper.Window = 1
-greatest_answer helper.Destination = 1
+-- the index of the record that is written, with the argument in a register
+abbrev pub with_argument : {D : Type 0} → AbsState D → Reg → Argument → Option ℕ → Result (Option ℕ) Reason
+with_argument a r argument.Unused out = Ok out
+with_argument a r argument.Context out = do
+  u ← context_argument a r
+  Ok out
+with_argument a r argument.Number out = do
+  u ← number_argument a r
+  Ok out
+with_argument a r argument.RecordIn out = do
+  u ← record_argument a r
+  Ok out
+with_argument a r argument.RecordOut out = do
+  i ← stack_argument a r
+  Ok (Some i)
+
+-- each argument is tested after those before it
+abbrev pub out_of : {D : Type 0} → AbsState D → List Argument → Result (Option ℕ) Reason
+out_of a arguments = do
+  first ← with_argument a reg.R1 (argument_at arguments 0) None
+  second ← with_argument a reg.R2 (argument_at arguments 1) first
+  third ← with_argument a reg.R3 (argument_at arguments 2) second
+  fourth ← with_argument a reg.R4 (argument_at arguments 3) third
+  with_argument a reg.R5 (argument_at arguments 4) fourth
 
 -- after a call by which the eight bytes at an index are written, if one is given
 abbrev pub answered : {D : Type 0} → Operations D → AbsState D → Helper → Option ℕ → AbsState D
-answered ops a h out = with_out (with_answer a (ops.range 0 (greatest_answer h))) out
-
-abbrev pub address_step : {D : Type 0} → Operations D → AbsState D → Helper → Result (Next D) Reason
-address_step ops a h = do
-  u ← context_argument a
-  v ← record_argument a reg.R2
-  Ok (next.On (answered ops a h None))
+answered ops a h out = with_out (with_answer a (ops.range 0 (signature_of h).greatest)) out
 
 abbrev pub helper_step : {D : Type 0} → Operations D → AbsState D → Helper → Result (Next D) Reason
-helper_step ops a helper.ChannelPeer = do
-  u ← context_argument a
-  v ← number_argument a reg.R2
-  out ← stack_argument a reg.R3
-  Ok (next.On (answered ops a helper.ChannelPeer (Some out)))
-helper_step ops a helper.ChannelTo = address_step ops a helper.ChannelTo
-helper_step ops a helper.Permitted = address_step ops a helper.Permitted
-helper_step ops a helper.Window = do
-  u ← context_argument a
-  v ← number_argument a reg.R2
-  v' ← number_argument a reg.R3
-  Ok (next.On (answered ops a helper.Window None))
-helper_step ops a helper.Destination = address_step ops a helper.Destination
+helper_step ops a h = do
+  out ← out_of a (signature_of h).arguments
+  Ok (next.On (answered ops a h out))
 
 abbrev pub call_step : {D : Type 0} → Operations D → AbsState D → ℤ → Result (Next D) Reason
 call_step ops a n = ok_or (helper_of n) UnknownHelper >>= helper_step ops a

@@ -1,11 +1,13 @@
 -- Interface. Laws of the abstract step.
 pub mod Agreement
+pub mod Anchors
 pub mod Bounds
 pub mod MemoryValues
 pub mod Marking
 pub mod Results
 pub mod Tagged
 pub mod Members
+pub mod Sums
 pub mod Arithmetic
 pub mod Forking
 pub mod Reading
@@ -14,3 +16,4 @@ pub mod Following
 pub mod Answers
 pub mod Refusing
 pub mod Opening
+pub mod Plainness

@@ -1,9 +1,9 @@
 //! The abstract state at a slot of a path: what the verifier knows of the machine there.
 
-ghost use Rattle.std.specs.Prelude.{◌≡◌, ◌+◌, ◌≤◌};
+ghost use Rattle.std.specs.Prelude.{◌≡◌, ◌+◌, ◌≤◌, map};
 ghost use Rattle.insn.specs.Codes.{byte_count};
 ghost use Rattle.semantics.specs.declared.limits.TheConstants.{STACK_BYTES};
-ghost use Rattle.absstate.specs.AbstractStates.{no_marks, is_marked, are_marked, mark, marked, first_state, proved_of, with_value, with_least, with_answer, with_out};
+ghost use Rattle.absstate.specs.AbstractStates.{no_marks, is_marked, are_marked, mark, marked, first_state, low_of, high_of, id_of, greatest_id, raised, raised_anchor, raised_value, proved_of, with_value, with_length, with_least, with_answer, with_out};
 
 use insn::{Reg, Size};
 use semantics::STACK_BYTES;
@@ -15,6 +15,13 @@ use std::alloc::AllocError;
 pub enum Anchor {
     /// The datagram's first byte.
     First,
+    /// A place between two places, by a number of its own. The datagram is proved to reach `proved` bytes from there on.
+    Made {
+        id: u32,
+        low: i32,
+        high: i32,
+        proved: i32,
+    },
 }
 
 /// The abstract value of a register. A number is one of a numeric domain `D`.
@@ -45,6 +52,113 @@ impl<D: Copy> Clone for AbstractValue<D> {
 }
 
 impl<D: Copy> Copy for AbstractValue<D> {}
+
+impl Anchor {
+    /// Returns the least place.
+    pub(crate) fn low(self) -> i32
+        ensures { result ≡ low_of self }
+    {
+        match self {
+            Anchor::First => 0,
+            Anchor::Made { low, .. } => low,
+        }
+    }
+
+    /// Returns the greatest place.
+    pub(crate) fn high(self) -> i32
+        ensures { result ≡ high_of self }
+    {
+        match self {
+            Anchor::First => 0,
+            Anchor::Made { high, .. } => high,
+        }
+    }
+
+    /// Returns the anchor with what is proved of it raised, if it was made with a number.
+    fn raised(self, raised: u32, least: i64) -> Anchor
+        ensures { result ≡ raised_anchor raised least self }
+    {
+        match self {
+            Anchor::First => Anchor::First,
+            Anchor::Made {
+                id,
+                low,
+                high,
+                proved,
+            } => {
+                let proved = if id == raised {
+                    raise_proved(proved, least)
+                } else {
+                    proved
+                };
+                Anchor::Made {
+                    id,
+                    low,
+                    high,
+                    proved,
+                }
+            }
+        }
+    }
+}
+
+/// Returns what is proved of an anchor, raised to another number, where that fits in 32 bits.
+fn raise_proved(proved: i32, least: i64) -> i32
+    ensures { result ≡ raised proved least }
+{
+    if i64::from(proved) < least && least <= 2_147_483_647 {
+        least as i32
+    } else {
+        proved
+    }
+}
+
+impl<D: Copy> AbstractValue<D> {
+    /// Returns the number of the anchor that it names; 0 where it names none that was made.
+    fn id(self) -> u32
+        ensures { result ≡ id_of self }
+    {
+        match self {
+            AbstractValue::Data {
+                anchor: Anchor::Made { id, .. },
+                ..
+            } => id,
+            _ => 0,
+        }
+    }
+
+    /// Returns the value with what is proved of an anchor raised.
+    fn raised(self, raised: u32, least: i64) -> AbstractValue<D>
+        ensures { result ≡ raised_value raised least self }
+    {
+        match self {
+            AbstractValue::Data { anchor, offset } => AbstractValue::Data {
+                anchor: anchor.raised(raised, least),
+                offset,
+            },
+            known => known,
+        }
+    }
+}
+
+/// Returns the greatest number of an anchor that values name; 0 where they name none that was made.
+fn greatest_id<D: Copy>(values: &[AbstractValue<D>]) -> u32
+    ensures { result ≡ greatest_id values.now }
+{
+    match values {
+        [] => 0,
+        [first, rest @ ..] => first.id().max(greatest_id(rest)),
+    }
+}
+
+/// Raises what is proved of an anchor in each value that names it.
+fn raise<D: Copy>(values: &mut [AbstractValue<D>], id: u32, least: i64)
+    ensures { values.new ≡ map (raised_value id least) values.old }
+{
+    for i in 0..values.len() {
+        values[i] = values[i].raised(id, least);
+    }
+}
 
 /// The stack bytes that are set: a mark for each, from the first byte on.
 #[derive(Clone, Copy, Debug, PartialEq, Eq)]
@@ -147,6 +261,7 @@ impl<D: Copy> AbsState<D> {
     {
         match anchor {
             Anchor::First => self.proved,
+            Anchor::Made { proved, .. } => i64::from(proved),
         }
     }
 
@@ -178,13 +293,32 @@ impl<D: Copy> AbsState<D> {
         }
     }
 
-    /// Raises the proved length of the datagram to another one; `None` leaves it.
-    pub(crate) fn set_least(&mut self, least: Option<i64>)
-        ensures { self.new ≡ with_least self.old least }
+    /// Raises the proved length of the datagram.
+    fn set_length(&mut self, least: i64)
+        ensures { self.new ≡ with_length self.old least }
     {
-        match least {
-            Some(least) if self.proved < least => self.proved = least,
-            _ => {}
+        if self.proved < least {
+            self.proved = least;
         }
+    }
+
+    /// Raises what is proved of an anchor; `None` leaves it.
+    pub(crate) fn set_least(&mut self, anchor: Anchor, least: Option<i64>)
+        ensures { self.new ≡ with_least self.old anchor least }
+    {
+        let Some(least) = least else {
+            return;
+        };
+        match anchor {
+            Anchor::First => self.set_length(least),
+            Anchor::Made { id, .. } => raise(&mut self.registers, id, least),
+        }
+    }
+
+    /// Returns the greatest number of an anchor that a register names.
+    pub(crate) fn greatest_id(&self) -> u32
+        ensures { result ≡ greatest_id self.now.registers }
+    {
+        greatest_id(&self.registers)
     }
 }

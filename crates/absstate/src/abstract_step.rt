@@ -8,12 +8,13 @@ ghost use Rattle.absstate.specs.Changes.{answer_of};
 ghost use Rattle.absstate.specs.declared.abstract_state.AbsState.{AbsState};
 ghost use Rattle.semantics.specs.declared.reason.Reason.TheVariants.{PointerArithmetic};
 
-use crate::abstract_state::{AbsState, AbstractValue};
+use crate::abstract_state::{AbsState, AbstractValue, Anchor};
 use crate::branching::branch_step;
 use crate::calling::call_step;
 use crate::change::{Change, Transition};
 use crate::loading::{load_signed_step, load_step};
 use crate::storing::store_step;
+use crate::sums::data_sum;
 use insn::{AluOp, Insn, Operand, Reg, UnaryOp, Width, imm_word};
 use interval::{Bounds, Domain};
 use semantics::{Reason, moved_place, writable};
@@ -93,20 +94,20 @@ fn moved(op: AluOp, width: Width, offset: i32, by: Option<u64>) -> Result<i32, R
 
 /// See docs/DECISIONS.md, "Refusals are stuck runs".
 fn alu_result<D: Domain>(
+    state: &AbsState<D>,
     op: AluOp,
     width: Width,
     a: AbstractValue<D>,
     b: AbstractValue<D>,
 ) -> Result<AbstractValue<D>, Reason>
-    ensures { result ≡ alu_result D.ops op width a b }
+    ensures { result ≡ alu_result D.ops state.now op width a b }
 {
     match (a, b) {
         (AbstractValue::Scalar(a), AbstractValue::Scalar(b)) => Ok(AbstractValue::Scalar(D::alu(
             op, width, a, b,
         ))),
         (AbstractValue::Data { anchor, offset }, AbstractValue::Scalar(b)) => {
-            let offset = moved(op, width, offset, single_of(b))?;
-            Ok(AbstractValue::Data { anchor, offset })
+            data_sum(state, anchor, op, width, offset, b.bounds()).ok_or(Reason::PointerArithmetic)
         }
         (AbstractValue::Stack(offset), AbstractValue::Scalar(b)) => {
             let offset = moved(op, width, offset, single_of(b))?;
@@ -151,7 +152,7 @@ fn alu_step<D: Domain>(
 {
     let a = read(state, dst)?;
     let b = operand_abstract(state, width, operand)?;
-    written(dst, alu_result(op, width, a, b))
+    written(dst, alu_result(state, op, width, a, b))
 }
 
 fn unary_step<D: Domain>(

@@ -93,7 +93,7 @@ fn end_implies(condition: Condition, offset: i32) -> Result<Implied, Reason>
     }
 }
 
-/// Returns what the branches of a comparison of pointers imply.
+/// Returns what the branches of a comparison of pointers imply of an anchor.
 ///
 /// # Errors
 /// `PointerCompare` unless a place of the datagram is compared with its end, on 64 bits and by an unsigned order.
@@ -102,26 +102,16 @@ fn places_compared<D: Copy>(
     condition: Condition,
     a: AbstractValue<D>,
     b: AbstractValue<D>,
-) -> Result<Implied, Reason>
+) -> Result<(Anchor, Implied), Reason>
     ensures { result ≡ places_compared width condition a b }
 {
     match (width, a, b) {
-        (
-            Width::W64,
-            AbstractValue::Data {
-                anchor: Anchor::First,
-                offset,
-            },
-            AbstractValue::End,
-        ) => { data_implies(condition, offset) }
-        (
-            Width::W64,
-            AbstractValue::End,
-            AbstractValue::Data {
-                anchor: Anchor::First,
-                offset,
-            },
-        ) => { end_implies(condition, offset) }
+        (Width::W64, AbstractValue::Data { anchor, offset }, AbstractValue::End) => {
+            Ok((anchor, data_implies(condition, offset)?))
+        }
+        (Width::W64, AbstractValue::End, AbstractValue::Data { anchor, offset }) => {
+            Ok((anchor, end_implies(condition, offset)?))
+        }
         _ => Err(Reason::PointerCompare),
     }
 }
@@ -135,10 +125,16 @@ fn places_fork<D: Copy>(
 ) -> Result<Transition<D>, Reason>
     ensures { (state : AbsState D) → answer_of state result ≡ places_fork state width condition a b }
 {
-    let implied = places_compared(width, condition, a, b)?;
+    let (anchor, implied) = places_compared(width, condition, a, b)?;
     Ok(Transition::Fork {
-        not_taken: Some(Change::Least(implied.not_taken)),
-        taken: Some(Change::Least(implied.taken)),
+        not_taken: Some(Change::Least {
+            anchor,
+            least: implied.not_taken,
+        }),
+        taken: Some(Change::Least {
+            anchor,
+            least: implied.taken,
+        }),
     })
 }
 

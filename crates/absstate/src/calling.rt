@@ -1,11 +1,8 @@
 //! The abstract step of a call.
 
 ghost use Rattle.std.specs.Prelude.{◌≡◌, ◌+◌, ◌≤◌, IfOk, IfSome};
-ghost use Rattle.absstate.specs.Changes.{next_of, answer_of};
-ghost use Rattle.absstate.specs.AbstractSteps.{context_argument, number_argument, stack_index, stack_argument, record_readable, record_argument, greatest_answer, answered, address_step, helper_step, call_step};
-ghost use Rattle.absstate.specs.declared.abstract_state.AbsState.{AbsState};
-ghost use Rattle.absstate.specs.declared.abstract_step.Next.TheVariants.{On};
-ghost use Rattle.semantics.specs.declared.helper.Helper.TheVariants.{ChannelPeer, Window};
+ghost use Rattle.absstate.specs.Changes.{answer_of};
+ghost use Rattle.absstate.specs.AbstractSteps.{context_argument, number_argument, stack_index, stack_argument, record_readable, record_argument, with_argument, out_of, call_step};
 ghost use Rattle.semantics.specs.declared.helper.TheConstants.{RECORD_BYTES};
 ghost use Rattle.semantics.specs.declared.limits.TheConstants.{STACK_BYTES};
 
@@ -14,15 +11,15 @@ use crate::abstract_step::read;
 use crate::change::{Change, Transition};
 use insn::Reg;
 use interval::Domain;
-use semantics::{Helper, RECORD_BYTES, Reason, index_in_stack};
+use semantics::{Argument, Helper, RECORD_BYTES, Reason, Signature, index_in_stack};
 
-/// Tests whether the first argument is the context.
-fn context_argument<D: Copy>(state: &AbsState<D>) -> Result<(), Reason>
-    ensures { result ≡ context_argument state.now }
+/// Tests whether an argument is the context.
+fn context_argument<D: Copy>(state: &AbsState<D>, reg: Reg) -> Result<(), Reason>
+    ensures { result ≡ context_argument state.now reg }
 {
-    match read(state, Reg::R1)? {
+    match read(state, reg)? {
         AbstractValue::Ctx => Ok(()),
-        _ => Err(Reason::HelperArgument(1)),
+        _ => Err(Reason::HelperArgument(reg.number())),
     }
 }
 
@@ -78,48 +75,40 @@ fn record_argument<D: Copy>(state: &AbsState<D>, reg: Reg) -> Result<(), Reason>
     record_readable(&state.marks, index)
 }
 
-/// Returns the greatest answer of a helper.
-fn greatest_answer(helper: Helper) -> u64
-    ensures { result ≡ greatest_answer helper }
+/// Tests the argument in a register. Returns the index of the record that is written, by this argument or one before it.
+fn with_argument<D: Copy>(
+    state: &AbsState<D>,
+    reg: Reg,
+    argument: Argument,
+    out: Option<usize>,
+) -> Result<Option<usize>, Reason>
+    requires { IfSome out (λ i. i + RECORD_BYTES ≤ STACK_BYTES) }
+    ensures out { result ≡ with_argument state.now reg argument out }
+    ensures inside { IfOk result (λ written. IfSome written (λ i. i + RECORD_BYTES ≤ STACK_BYTES)) }
 {
-    match helper {
-        Helper::ChannelTo => 0x4fff,
-        _ => 1,
+    match argument {
+        Argument::Unused => {}
+        Argument::Context => context_argument(state, reg)?,
+        Argument::Number => number_argument(state, reg)?,
+        Argument::RecordIn => record_argument(state, reg)?,
+        Argument::RecordOut => {
+            let index = stack_argument(state, reg)?;
+            return Ok(Some(index));
+        }
     }
+    Ok(out)
 }
 
-/// Returns the change of a call.
-fn answer<D: Domain>(helper: Helper, out: Option<u16>) -> Transition<D>
-    ensures { (state : AbsState D) → next_of state result ≡ On (answered D.ops state helper out) }
+/// Tests the arguments of a call, each after those before it. Returns the index of the record that is written.
+fn out_of<D: Copy>(state: &AbsState<D>, arguments: &[Argument; 5]) -> Result<Option<usize>, Reason>
+    ensures out { result ≡ out_of state.now arguments.now }
+    ensures inside { IfOk result (λ out. IfSome out (λ i. i + RECORD_BYTES ≤ STACK_BYTES)) }
 {
-    let answer = D::range(0, greatest_answer(helper));
-    Transition::On(Change::Answer { answer, out })
-}
-
-fn channel_peer_step<D: Domain>(state: &AbsState<D>) -> Result<Transition<D>, Reason>
-    ensures { answer_of state.now result ≡ helper_step D.ops state.now ChannelPeer }
-{
-    context_argument(state)?;
-    number_argument(state, Reg::R2)?;
-    let out = stack_argument(state, Reg::R3)?;
-    Ok(answer(Helper::ChannelPeer, Some(out as u16)))
-}
-
-fn address_step<D: Domain>(state: &AbsState<D>, helper: Helper) -> Result<Transition<D>, Reason>
-    ensures { answer_of state.now result ≡ address_step D.ops state.now helper }
-{
-    context_argument(state)?;
-    record_argument(state, Reg::R2)?;
-    Ok(answer(helper, None))
-}
-
-fn window_step<D: Domain>(state: &AbsState<D>) -> Result<Transition<D>, Reason>
-    ensures { answer_of state.now result ≡ helper_step D.ops state.now Window }
-{
-    context_argument(state)?;
-    number_argument(state, Reg::R2)?;
-    number_argument(state, Reg::R3)?;
-    Ok(answer(Helper::Window, None))
+    let first = with_argument(state, Reg::R1, arguments[0], None)?;
+    let second = with_argument(state, Reg::R2, arguments[1], first)?;
+    let third = with_argument(state, Reg::R3, arguments[2], second)?;
+    let fourth = with_argument(state, Reg::R4, arguments[3], third)?;
+    with_argument(state, Reg::R5, arguments[4], fourth)
 }
 
 /// Makes the abstract step of a call.
@@ -129,11 +118,15 @@ pub(crate) fn call_step<D: Domain>(
 ) -> Result<Transition<D>, Reason>
     ensures { answer_of state.now result ≡ call_step D.ops state.now number }
 {
-    match Helper::from_number(number).ok_or(Reason::UnknownHelper)? {
-        Helper::ChannelPeer => channel_peer_step(state),
-        Helper::ChannelTo => address_step(state, Helper::ChannelTo),
-        Helper::Permitted => address_step(state, Helper::Permitted),
-        Helper::Window => window_step(state),
-        Helper::Destination => address_step(state, Helper::Destination),
-    }
+    let helper = Helper::from_number(number).ok_or(Reason::UnknownHelper)?;
+    let Signature {
+        arguments,
+        greatest,
+    } = helper.signature();
+    let out = match out_of(state, &arguments)? {
+        Some(index) => Some(index as u16),
+        None => None,
+    };
+    let answer = D::range(0, greatest);
+    Ok(Transition::On(Change::Answer { answer, out }))
 }

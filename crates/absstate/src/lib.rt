@@ -9,6 +9,7 @@ mod change;
 mod loading;
 mod memory;
 mod storing;
+mod sums;
 
 pub use abstract_state::{AbsState, AbstractValue, Anchor, Marks};
 pub use abstract_step::Next;

@@ -1,17 +1,15 @@
 //! Calls of helpers (RFC 9669, section 4.3.1): argument k is in register k.
 
 ghost use Rattle.std.specs.Prelude.{◌≡◌, ◌+◌, ◌≤◌, IfOk};
-ghost use Rattle.semantics.specs.Calls.{context_value, number_value, stack_value, record_at};
-ghost use Rattle.semantics.specs.Effects.{context_argument, number_argument, stack_argument, record_argument, address_effect, helper_effect, call_effect};
-ghost use Rattle.semantics.specs.Machine as machine;
+ghost use Rattle.semantics.specs.Effects.{context_argument, number_argument, stack_argument, record_argument, with_argument, inputs, effect_with, call_effect};
 ghost use Rattle.semantics.specs.Machine.{Context, IsContext, context_bytes};
 ghost use Rattle.semantics.specs.Views.{memory_of};
-ghost use Rattle.semantics.specs.declared.helper.Helper.TheVariants.{ChannelPeer, Window, Destination};
 ghost use Rattle.semantics.specs.declared.limits.TheConstants.{STACK_BYTES};
 
 use crate::effect::{Effect, Registers, read};
 use crate::helper::{
-    Helper, Question, RECORD_BYTES, bytes_of_cells, destination_at, stack_index, window_within,
+    Argument, Helper, Inputs, Question, RECORD_BYTES, bytes_of_cells, destination_at, stack_index,
+    window_within,
 };
 use crate::loading::{CONTEXT_BYTES, part_of, side};
 use crate::memory::Memory;
@@ -19,18 +17,18 @@ use crate::reason::Reason;
 use crate::value::Value;
 use insn::Reg;
 
-/// Tests whether the first argument is the context.
-pub(crate) fn context_argument(registers: &Registers) -> Result<(), Reason>
-    ensures { result ≡ context_argument registers.now }
+/// Tests whether an argument is the context.
+fn context_argument(registers: &Registers, reg: Reg) -> Result<(), Reason>
+    ensures { result ≡ context_argument registers.now reg }
 {
-    match read(registers, Reg::R1)? {
+    match read(registers, reg)? {
         Value::Ctx => Ok(()),
-        _ => Err(Reason::HelperArgument(1)),
+        _ => Err(Reason::HelperArgument(reg.number())),
     }
 }
 
 /// Returns the number in an argument.
-pub(crate) fn number_argument(registers: &Registers, reg: Reg) -> Result<u64, Reason>
+fn number_argument(registers: &Registers, reg: Reg) -> Result<u64, Reason>
     ensures { result ≡ number_argument registers.now reg }
 {
     match read(registers, reg)? {
@@ -40,7 +38,7 @@ pub(crate) fn number_argument(registers: &Registers, reg: Reg) -> Result<u64, Re
 }
 
 /// Returns the index, among the stack cells, of the eight bytes that an argument points to.
-pub(crate) fn stack_argument(registers: &Registers, reg: Reg) -> Result<usize, Reason>
+fn stack_argument(registers: &Registers, reg: Reg) -> Result<usize, Reason>
     ensures index { result ≡ stack_argument registers.now reg }
     ensures inside { IfOk result (λ i. i + RECORD_BYTES ≤ STACK_BYTES) }
 {
@@ -49,7 +47,7 @@ pub(crate) fn stack_argument(registers: &Registers, reg: Reg) -> Result<usize, R
 }
 
 /// Returns the address record that an argument points to.
-pub(crate) fn record_argument(
+fn record_argument(
     memory: &Memory<'_>,
     registers: &Registers,
     reg: Reg,
@@ -60,69 +58,91 @@ pub(crate) fn record_argument(
     bytes_of_cells(part_of(memory.stack, index, RECORD_BYTES)).ok_or(Reason::UninitStack)
 }
 
-/// Returns the effect of helper 1, which asks for the peer of a channel.
-fn channel_peer_effect(registers: &Registers) -> Result<Effect, Reason>
-    ensures { (c : Context) (m : machine.Memory) → result ≡ helper_effect c m registers.now ChannelPeer }
-{
-    context_argument(registers)?;
-    let number = number_argument(registers, Reg::R2)?;
-    let out = stack_argument(registers, Reg::R3)?;
-    let helper = Helper::ChannelPeer.number();
-    let address = [0; RECORD_BYTES];
-    Ok(Effect::Ask {
-        question: Question {
-            helper,
-            number,
-            address,
-        },
-        out: Some(out),
-    })
-}
-
-/// Returns the effect of helper 2 or 3, which ask about an address: the channel that is bound to it, or whether it has a
-/// permission.
-fn address_effect(
+/// Adds what the argument in a register gives to what those before it gave.
+fn with_argument(
     memory: &Memory<'_>,
     registers: &Registers,
-    helper: Helper,
-) -> Result<Effect, Reason>
-    ensures { result ≡ address_effect (memory_of memory.now) registers.now helper }
+    reg: Reg,
+    argument: Argument,
+    given: Inputs,
+) -> Result<Inputs, Reason>
+    ensures { result ≡ with_argument (memory_of memory.now) registers.now reg argument given }
 {
-    context_argument(registers)?;
-    let address = record_argument(memory, registers, Reg::R2)?;
-    let helper = helper.number();
-    Ok(Effect::Ask {
-        question: Question {
-            helper,
-            number: 0,
-            address,
-        },
+    match argument {
+        Argument::Unused => Ok(given),
+        Argument::Context => {
+            context_argument(registers, reg)?;
+            Ok(given)
+        }
+        Argument::Number => {
+            let number = number_argument(registers, reg)?;
+            Ok(Inputs {
+                former: given.number,
+                number,
+                ..given
+            })
+        }
+        Argument::RecordIn => {
+            let address = record_argument(memory, registers, reg)?;
+            Ok(Inputs { address, ..given })
+        }
+        Argument::RecordOut => {
+            let index = stack_argument(registers, reg)?;
+            Ok(Inputs {
+                out: Some(index),
+                ..given
+            })
+        }
+    }
+}
+
+/// Returns what the arguments of a call give to its helper. Each is tested after those before it.
+fn inputs(
+    memory: &Memory<'_>,
+    registers: &Registers,
+    arguments: &[Argument; 5],
+) -> Result<Inputs, Reason>
+    ensures { result ≡ inputs (memory_of memory.now) registers.now arguments.now }
+{
+    let none = Inputs {
+        former: 0,
+        number: 0,
+        address: [0; RECORD_BYTES],
         out: None,
-    })
+    };
+    let first = with_argument(memory, registers, Reg::R1, arguments[0], none)?;
+    let second = with_argument(memory, registers, Reg::R2, arguments[1], first)?;
+    let third = with_argument(memory, registers, Reg::R3, arguments[2], second)?;
+    let fourth = with_argument(memory, registers, Reg::R4, arguments[3], third)?;
+    with_argument(memory, registers, Reg::R5, arguments[4], fourth)
 }
 
-/// Returns the effect of helper 4, which sets the window.
-fn window_effect(memory: &Memory<'_>, registers: &Registers) -> Result<Effect, Reason>
-    ensures { (c : Context) → result ≡ helper_effect c (memory_of memory.now) registers.now Window }
-{
-    context_argument(registers)?;
-    let front = number_argument(registers, Reg::R2)?;
-    let length = number_argument(registers, Reg::R3)?;
-    Ok(Effect::SetWindow(window_within(memory.length, front, length)))
-}
-
-/// Returns the effect of helper 5, which sets the destination.
-fn destination_effect(
+/// Returns the effect of a helper on what it is given.
+fn effect_with(
     context: &[u8; CONTEXT_BYTES],
     memory: &Memory<'_>,
-    registers: &Registers,
-) -> Result<Effect, Reason>
+    helper: Helper,
+    given: &Inputs,
+) -> Effect
     ensures { (c : Context) → IsContext c → context.now ≡ context_bytes c (memory.now).length
-        → result ≡ helper_effect c (memory_of memory.now) registers.now Destination }
+        → result ≡ effect_with c (memory_of memory.now) helper given.now }
 {
-    context_argument(registers)?;
-    let address = record_argument(memory, registers, Reg::R2)?;
-    Ok(Effect::SetDestination(destination_at(side(context), address)))
+    match helper {
+        Helper::ChannelPeer | Helper::ChannelTo | Helper::Permitted => Effect::Ask {
+            question: Question {
+                helper: helper.number(),
+                number: given.number,
+                address: given.address,
+            },
+            out: given.out,
+        },
+        Helper::Window => {
+            Effect::SetWindow(window_within(memory.length, given.former, given.number))
+        }
+        Helper::Destination => {
+            Effect::SetDestination(destination_at(side(context), given.address))
+        }
+    }
 }
 
 /// Returns the effect of a call.
@@ -135,11 +155,7 @@ pub(crate) fn call_effect(
     ensures { (c : Context) → IsContext c → context.now ≡ context_bytes c (memory.now).length
         → result ≡ call_effect c (memory_of memory.now) registers.now number }
 {
-    match Helper::from_number(number).ok_or(Reason::UnknownHelper)? {
-        Helper::ChannelPeer => channel_peer_effect(registers),
-        Helper::ChannelTo => address_effect(memory, registers, Helper::ChannelTo),
-        Helper::Permitted => address_effect(memory, registers, Helper::Permitted),
-        Helper::Window => window_effect(memory, registers),
-        Helper::Destination => destination_effect(context, memory, registers),
-    }
+    let helper = Helper::from_number(number).ok_or(Reason::UnknownHelper)?;
+    let given = inputs(memory, registers, &helper.signature().arguments)?;
+    Ok(effect_with(context, memory, helper, &given))
 }

@@ -2,7 +2,7 @@
 
 ghost use Rattle.std.specs.Prelude.{◌≡◌, ◌≤◌, ◌+◌, IfSome, length};
 ghost use Rattle.semantics.specs.Access.{cells_bytes};
-ghost use Rattle.semantics.specs.Calls.{helper_number, helper_of, stack_index, window_within, destination_at};
+ghost use Rattle.semantics.specs.Calls.{helper_number, helper_of, signature_of, stack_index, window_within, destination_at};
 ghost use Rattle.semantics.specs.declared.limits.TheConstants.{STACK_BYTES, MAX_DATAGRAM};
 
 use crate::access::index_in_stack;
@@ -27,7 +27,81 @@ pub enum Helper {
     Destination,
 }
 
+/// What a helper takes in an argument.
+#[derive(Clone, Copy, Debug, PartialEq, Eq)]
+pub enum Argument {
+    /// The helper has no such argument.
+    Unused,
+    /// The context record.
+    Context,
+    /// A number.
+    Number,
+    /// A pointer to an address record in the stack, which the helper reads.
+    RecordIn,
+    /// A pointer to room for an address record in the stack, which the helper writes.
+    RecordOut,
+}
+
+/// The arguments of a helper, of which the first is in `r1`, and its greatest answer.
+#[derive(Clone, Copy, Debug, PartialEq, Eq)]
+pub struct Signature {
+    pub arguments: [Argument; 5],
+    pub greatest: u64,
+}
+
 impl Helper {
+    /// Returns the arguments and the greatest answer of the helper.
+    pub fn signature(self) -> Signature
+        ensures { result ≡ signature_of self }
+    {
+        let (arguments, greatest) = match self {
+            Helper::ChannelPeer => (
+                [
+                    Argument::Context,
+                    Argument::Number,
+                    Argument::RecordOut,
+                    Argument::Unused,
+                    Argument::Unused,
+                ],
+                1,
+            ),
+            Helper::ChannelTo => (
+                [
+                    Argument::Context,
+                    Argument::RecordIn,
+                    Argument::Unused,
+                    Argument::Unused,
+                    Argument::Unused,
+                ],
+                0x4fff,
+            ),
+            Helper::Permitted | Helper::Destination => (
+                [
+                    Argument::Context,
+                    Argument::RecordIn,
+                    Argument::Unused,
+                    Argument::Unused,
+                    Argument::Unused,
+                ],
+                1,
+            ),
+            Helper::Window => (
+                [
+                    Argument::Context,
+                    Argument::Number,
+                    Argument::Number,
+                    Argument::Unused,
+                    Argument::Unused,
+                ],
+                1,
+            ),
+        };
+        Signature {
+            arguments,
+            greatest,
+        }
+    }
+
     /// Returns the number of the helper.
     pub fn number(self) -> u8
         ensures { result ≡ helper_number self }
@@ -62,6 +136,19 @@ pub struct Question {
     pub helper: u8,
     pub number: u64,
     pub address: [u8; RECORD_BYTES],
+}
+
+/// What the arguments of a call give to its helper.
+#[derive(Clone, Copy, Debug, PartialEq, Eq)]
+pub struct Inputs {
+    /// The number before the last one.
+    pub former: u64,
+    /// The last number.
+    pub number: u64,
+    /// The address record that is read.
+    pub address: [u8; RECORD_BYTES],
+    /// The index, among the stack cells, of the record that is written.
+    pub out: Option<usize>,
 }
 
 /// Returns the index, among the stack cells, of the eight bytes that a pointer points to, or `None` where they don't lie

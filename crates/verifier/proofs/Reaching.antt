@@ -10,8 +10,9 @@ use Rattle.semantics.specs.Machine.{State, AreBytes, Environment, start}
 use Rattle.semantics.specs.Slots.{fetch}
 use Rattle.semantics.specs.Flow.{branch_slot}
 use Rattle.semantics.specs.Runs.{Sticks, IsPossible}
-use Rattle.semantics.specs.LooseRuns.{LooseStep, LooselyReaches, IsLooselyStuck}
+use Rattle.semantics.specs.LooseRuns.{LooseStep, LooselyReaches}
 use Rattle.semantics.specs.declared.reason.Reason.{Reason}
+use Rattle.semantics.specs.declared.reason.Reason.TheVariants.{DatagramBounds}
 use Rattle.semantics.specs.declared.fetching.Fetched.TheVariants.{Begins}
 use Rattle.semantics.specs.declared.fetching.Branch.{Branch}
 use Rattle.semantics.specs.declared.fetching.Branch.TheVariants.{NotTaken, Taken}
@@ -22,12 +23,16 @@ use Rattle.absstate.specs.Membership.{Strict, IsMember}
 use Rattle.absstate.specs.MemberSteps.{state_after}
 use Rattle.absstate.specs.StepLaws.MemoryValues.{abs_is}
 use Rattle.absstate.specs.StepLaws.Members.{at_first, first_member, loosens_itself, loosens_then}
+use Rattle.absstate.specs.StepReasons.{IsAboutPlaces}
+use Rattle.absstate.specs.StepLaws.Anchors.{ArePlain, greater, greater_left, greater_right, greater_least, reach_of, reach_of_plain}
 use Rattle.absstate.specs.StepLaws.Following.{step_is}
 use Rattle.absstate.specs.StepLaws.Opening.{Opens, step_rises, step_opens}
+use Rattle.absstate.specs.StepLaws.Plainness.{step_plain}
 use Rattle.absstate.specs.StepLaws.Refusing as refusing
 use Rattle.absstate.specs.declared.abstract_state.AbsState.{AbsState}
 use Rattle.absstate.specs.declared.abstract_step.Next.{Next}
 use Rattle.verifier.specs.Layout.{HasGoodJumps}
+use Rattle.verifier.specs.Refusing.{HasNoSums, IsReal}
 use Rattle.verifier.specs.PendingStates.{some_environment, IsReachedOver, IsReached}
 use Rattle.verifier.specs.Walk.{LeadsTo, IsNext, IsLeft, GoesOn, IsRefusedAt}
 use Rattle.verifier.specs.declared.walk.Pending.{Pending}
@@ -54,7 +59,24 @@ pub all_one : {D : Type 0} (P : Pending D → Type 0) (p : Pending D) → P p �
 all_one P p h zero d lt = h
 all_one P p h (suc k) d lt = absurd (omega (arith, lt))
 
+equal_of : (a b : ℤ) → a ≤ℤ b → b ≤ℤ a → a ≡ b
+equal_of a b p q = omega (arith, ints)
+
 -- ---- the first pending state
+
+first_plain : (D : Type 0) → ArePlain (first_state {D = D}).registers
+first_plain D zero h = h
+first_plain D (suc zero) h = h
+first_plain D (suc (suc zero)) h = h
+first_plain D (suc (suc (suc zero))) h = h
+first_plain D (suc (suc (suc (suc zero)))) h = h
+first_plain D (suc (suc (suc (suc (suc zero))))) h = h
+first_plain D (suc (suc (suc (suc (suc (suc zero)))))) h = h
+first_plain D (suc (suc (suc (suc (suc (suc (suc zero))))))) h = h
+first_plain D (suc (suc (suc (suc (suc (suc (suc (suc zero)))))))) h = h
+first_plain D (suc (suc (suc (suc (suc (suc (suc (suc (suc zero))))))))) h = h
+first_plain D (suc (suc (suc (suc (suc (suc (suc (suc (suc (suc zero)))))))))) h = h
+first_plain D (suc (suc (suc (suc (suc (suc (suc (suc (suc (suc (suc n))))))))))) h = h
 
 zeros_fit : (n : ℕ) → All (λ b. b < 256) (replicate n 0)
 zeros_fit n = All-replicate (λ (b : ℕ). b < 256) n 0 (omega arith)
@@ -76,6 +98,9 @@ module _ {D : Type 0} (ops : Operations D) (Member : D → ℕ → Type 0) (soun
   pub first_reached : (code : List Insn) → IsReached Member code (record { slot = 0; state = first_state })
   first_reached code = record {
     not_negative = omega (arith, ints);
+    floor = pos 0;
+    proved = omega (arith, ints);
+    reach = equal_at_most (reach_of (first_state {D = D}).registers) (pos 0) refl;
     over = λ n le.
         let member = first_member Member Strict (replicate n 0) (zeros_fit n) in
         record {
@@ -84,28 +109,27 @@ module _ {D : Type 0} (ops : Operations D) (Member : D → ℕ → Type 0) (soun
           steps = 0;
           last = start (replicate n 0);
           loosened = start (replicate n 0);
-          places = at_first;
           reaches = refl;
           loosens = loosens_itself Member sound.words at_first first_state (start (replicate n 0)) member;
           slot = refl;
           size = let zero_byte : ℕ = 0 in length-replicate n zero_byte;
-          member = member;
+          member = record { places = at_first; at = member };
         };
+    plain = λ sums. (first_plain D, omega (arith, ints));
   }
 
-  reached_by : (code : List Insn) (here p : Pending D) (b : AbsState D) (n : ℕ) → (r : IsReachedOver Member code here n) → p.state ≡ b → Opens Member some_environment code r.places r.loosened p.slot b → IsReachedOver Member code p n
+  reached_by : (code : List Insn) (here p : Pending D) (b : AbsState D) (n : ℕ) → (r : IsReachedOver Member code here n) → p.state ≡ b → Opens Member some_environment code r.loosened p.slot b → IsReachedOver Member code p n
   reached_by code here p b n r state_is opens = record {
     datagram = r.datagram;
     bytes_fit = r.bytes_fit;
     steps = suc r.steps;
     last = opens.state;
     loosened = opens.loosened;
-    places = r.places;
     reaches = one_more some_environment code r.steps (start r.datagram) r.last opens.state r.reaches (r.loosened, r.loosens, opens.goes);
     loosens = opens.loosens;
     slot = opens.slot_is;
     size = opens.size ∙ r.size;
-    member = subst (λ (c : AbsState D). IsMember Member Strict r.places c opens.loosened) (sym state_is) opens.member;
+    member = subst (λ (c : AbsState D). IsMember Member Strict c opens.loosened) (sym state_is) opens.member;
   }
 
   -- ---- the pending states after an accepted step
@@ -113,21 +137,41 @@ module _ {D : Type 0} (ops : Operations D) (Member : D → ℕ → Type 0) (soun
   module _ (precise : ArePrecise ops Member) (code : List Insn) (jumps : HasGoodJumps code) (here : Pending D) (i : Insn) (begins : fetch code here.slot ≡ Begins i) (fit : Fits i) (answer : Next D) (is : abstract.step ops here.state i ≡ Ok answer) (reached : IsReached Member code here) where
     branch_reached : (branch : Branch) (b : AbsState D) (p : Pending D) → state_after answer branch ≡ Some b → LeadsTo code here.slot i branch b p → IsReached Member code p
     branch_reached branch b p behind point =
-        let n : ℕ = unsigned_abs here.state.proved in
-        let same : pos n ≡ here.state.proved = abs_is here.state.proved reached.not_negative in
-        let r = reached.over n (equal_at_most here.state.proved (pos n) (sym same)) in
-        let rises = step_rises ops Member sound some_environment code r.places here.state r.loosened r.member i fit environment_is_possible answer is branch b behind in
+        let n : ℕ = unsigned_abs reached.floor in
+        let positive : pos 0 ≤ℤ reached.floor = at_most (pos 0) here.state.proved reached.floor reached.not_negative reached.proved in
+        let same : pos n ≡ reached.floor = abs_is reached.floor positive in
+        let r = reached.over n (equal_at_most reached.floor (pos n) (sym same)) in
+        let rises = step_rises ops Member sound some_environment code r.member.places here.state r.loosened r.member.at i fit environment_is_possible answer is branch b behind in
         let proved_is : b.proved ≡ p.state.proved = ap (λ (c : AbsState D). c.proved) (sym point.state_is) in
         let more : here.state.proved ≤ℤ p.state.proved = at_most here.state.proved b.proved p.state.proved rises (equal_at_most b.proved p.state.proved proved_is) in
+        let higher : ℤ = greater reached.floor p.state.proved in
+        let floor : ℤ = greater higher (reach_of p.state.registers) in
+        let over_higher : higher ≤ℤ floor = greater_left higher (reach_of p.state.registers) in
+        let over_floor : reached.floor ≤ℤ floor = at_most reached.floor higher floor (greater_left reached.floor p.state.proved) over_higher in
+        let over_proved : p.state.proved ≤ℤ floor = at_most p.state.proved higher floor (greater_right reached.floor p.state.proved) over_higher in
         record {
           not_negative = at_most (pos 0) here.state.proved p.state.proved reached.not_negative more;
+          floor = floor;
+          proved = over_proved;
+          reach = greater_right higher (reach_of p.state.registers);
           over = λ m le.
-              let over = reached.over m (at_most here.state.proved p.state.proved (pos m) more le) in
+              let enough : reached.floor ≤ℤ pos m = at_most reached.floor floor (pos m) over_floor le in
+              let over = reached.over m enough in
               let begins_at : fetch code over.loosened.slot ≡ Begins i = ap (fetch code) over.slot ∙ begins in
-              let long : b.proved ≤ℤ pos over.loosened.memory.length = at_most b.proved p.state.proved (pos over.loosened.memory.length) (equal_at_most b.proved p.state.proved proved_is) (subst (λ (k : ℕ). p.state.proved ≤ℤ pos k) (sym over.size) le) in
+              let long : b.proved ≤ℤ pos over.loosened.memory.length =
+              at_most b.proved p.state.proved (pos over.loosened.memory.length) (equal_at_most b.proved p.state.proved proved_is) (subst (λ (k : ℕ). p.state.proved ≤ℤ pos k) (sym over.size) (at_most p.state.proved floor (pos m) over_proved le)) in
+              let reaches : reach_of here.state.registers ≤ℤ pos over.loosened.memory.length = subst (λ (k : ℕ). reach_of here.state.registers ≤ℤ pos k) (sym over.size) (at_most (reach_of here.state.registers) reached.floor (pos m) reached.reach enough) in
               reached_by code here p b m over point.state_is
-              (step_opens ops Member sound some_environment code over.places here.state over.loosened over.member i fit precise environment_is_possible begins_at answer is branch b p.slot behind
-              (ap (λ (k : ℕ). branch_slot code k i branch) over.slot ∙ point.leads) long);
+              (step_opens ops Member sound some_environment code over.member.places here.state over.loosened over.member.at i fit precise environment_is_possible begins_at answer is branch b p.slot behind
+              (ap (λ (k : ℕ). branch_slot code k i branch) over.slot ∙ point.leads) long reaches);
+          plain = λ sums.
+              let before = reached.plain sums in
+              let plain_b : ArePlain b.registers = step_plain ops Member sound precise here.state before.0 i fit (sums here.slot i begins) answer is branch b behind in
+              let plain : ArePlain p.state.registers = subst (λ (c : AbsState D). ArePlain c.registers) (sym point.state_is) plain_b in
+              let none : reach_of p.state.registers ≡ pos 0 = reach_of_plain p.state.registers plain in
+              let low : reached.floor ≤ℤ p.state.proved = at_most reached.floor here.state.proved p.state.proved before.1 more in
+              let higher_is : higher ≤ℤ p.state.proved = greater_least reached.floor p.state.proved p.state.proved low (equal_at_most p.state.proved p.state.proved refl) in
+              (plain, greater_least higher (reach_of p.state.registers) p.state.proved higher_is (at_most (reach_of p.state.registers) (pos 0) p.state.proved (equal_at_most (reach_of p.state.registers) (pos 0) none) (at_most (pos 0) here.state.proved p.state.proved reached.not_negative more)));
         }
 
     next_reached : (state : Option (AbsState D)) → state_after answer NotTaken ≡ state → (on : Option (Pending D)) → IsNext code here.slot i NotTaken state on → IfSome on (IsReached Member code)
@@ -147,12 +191,17 @@ module _ {D : Type 0} (ops : Operations D) (Member : D → ℕ → Type 0) (soun
   -- ---- refusals
 
   -- a refused step is one at which a loose run is stuck
-  pub refusal_is_real : ArePrecise ops Member → (code : List Insn) (here : Pending D) (reason : Reason) → IsReached Member code here → IsRefusedAt ops code here reason → IsLooselyStuck code reason here.slot
-  refusal_is_real precise code here reason reached refusal =
-      let n : ℕ = unsigned_abs here.state.proved in
-      let same : pos n ≡ here.state.proved = abs_is here.state.proved reached.not_negative in
-      let r = reached.over n (equal_at_most here.state.proved (pos n) (sym same)) in
-      let f = refusing.refusal_is_real ops Member sound precise r.places here.state r.loosened r.member refusal.insn refusal.fits reason refusal.step_is (ap (λ (k : ℕ). pos k) r.size ∙ same) in
+  pub refusal_is_real : ArePrecise ops Member → (code : List Insn) (here : Pending D) (reason : Reason) → IsReached Member code here → IsRefusedAt ops code here reason → IsReal code reason here.slot
+  refusal_is_real precise code here reason reached refusal claimed =
+      let n : ℕ = unsigned_abs reached.floor in
+      let positive : pos 0 ≤ℤ reached.floor = at_most (pos 0) here.state.proved reached.floor reached.not_negative reached.proved in
+      let same : pos n ≡ reached.floor = abs_is reached.floor positive in
+      let r = reached.over n (equal_at_most reached.floor (pos n) (sym same)) in
+      let sums : IsAboutPlaces reason refusal.insn → HasNoSums code = claimed refusal.insn refusal.begins in
+      let plain : IsAboutPlaces reason refusal.insn → ArePlain here.state.registers = λ about. (reached.plain (sums about)).0 in
+      let size : reason ≡ DatagramBounds → pos r.loosened.memory.length ≡ here.state.proved =
+      λ e. ap (λ (k : ℕ). pos k) r.size ∙ same ∙ equal_of reached.floor here.state.proved (reached.plain (sums (subst (λ (x : Reason). IsAboutPlaces x refusal.insn) (sym e) tt))).1 reached.proved in
+      let f = refusing.refusal_is_real ops Member sound precise r.member.places here.state r.loosened r.member.at refusal.insn refusal.fits reason refusal.step_is plain size in
       let slot : f.state.slot ≡ here.slot = f.loosens.slot ∙ r.slot in
       record {
         environment = some_environment;

@@ -25,7 +25,7 @@ abbrev pub value_align : ℕ → ℕ
 value_align a = max 1 (max (max a 1) 4)
 
 abbrev pub value_size : ℕ → ℕ → ℕ
-value_size a s = up (value_align a) (max 1 (max (up a 1 + s) 8))
+value_size a s = up (value_align a) (max 1 (max (up a 1 + s) 28))
 
 abbrev pub state_align : ℕ → ℕ
 state_align a = max (value_align a) 8
@@ -38,7 +38,7 @@ pending_size a s = up (max 8 (max (state_align a) 1)) (up (state_align a) 8 + st
 
 module _ (a s : ℕ) (aligned : a ≤ 16) (small : s ≤ 65536) where
   value_small : value_size a s ≤ 70000
-  value_small = omega (arith, up_le (value_align a) (max 1 (max (up a 1 + s) 8)), up_le a 1, aligned, small)
+  value_small = omega (arith, up_le (value_align a) (max 1 (max (up a 1 + s) 28)), up_le a 1, aligned, small)
 
   state_small : state_size a s ≤ 1000000
   state_small =

@@ -10,7 +10,7 @@ use Rattle.semantics.specs.Slots.{fetch, ahead}
 use Rattle.semantics.specs.SlotLaws.{ahead_start}
 use Rattle.semantics.specs.Machine.{start}
 use Rattle.semantics.specs.Runs.{IsSafe, run}
-use Rattle.semantics.specs.LooseRuns.{IsLooselyStuck, beginnings, beginnings_from}
+use Rattle.semantics.specs.LooseRuns.{beginnings, beginnings_from}
 use Rattle.semantics.specs.declared.reason.Reason.{Reason}
 use Rattle.semantics.specs.declared.fetching.Fetched.TheVariants.{Begins}
 use Rattle.semantics.specs.declared.fetching.Branch.TheVariants.{NotTaken, Taken}
@@ -27,7 +27,7 @@ use Rattle.absstate.specs.declared.abstract_state.AbsState.{AbsState}
 use Rattle.absstate.specs.declared.abstract_step.Next.{Next}
 use Rattle.verifier.specs.Layout.{IsLaidOut}
 use Rattle.verifier.specs.PendingStates.{AllRunsExit, IsReached, count_from, counts_from}
-use Rattle.verifier.specs.Refusing.{MayRefuseOver}
+use Rattle.verifier.specs.Refusing.{IsReal, MayRefuseOver}
 use Rattle.verifier.specs.Walk.{IsInside, IsNext, IsLeft, GoesOn, Advances, IsStepRefusal, Picks}
 use Rattle.verifier.specs.declared.refusal.Refusal.{Refusal}
 use Rattle.verifier.specs.declared.refusal.Refusal.TheVariants as refusal
@@ -182,7 +182,7 @@ module _ {D : Type 0} (ops : Operations D) (Member : D → ℕ → Type 0) (soun
   -- where every run from the first pending state exits, the code is safe
   pub safe : (code : List Insn) → AllRunsExit Member code first_pending → IsSafe code
   safe code good w datagram real fits =
-      let exits = good w at_first (start datagram) real refl fits.short (first_member Member Loose datagram fits.bytes_fit) in
+      let exits = good w (start datagram) real refl fits.short (record { places = at_first; at = first_member Member Loose datagram fits.bytes_fit }) in
       (exits.0, ap (λ (k : ℕ). (run w code k (start datagram)).ending) (sym (ahead_start code)) ∙ exits.1)
 
   -- a refused step may be refused
@@ -191,7 +191,7 @@ module _ {D : Type 0} (ops : Operations D) (Member : D → ℕ → Type 0) (soun
       inr (
         laid_out,
         fault_reason (abstract.step ops here.state refused.1.insn) reason (step_reasons ops here.state refused.1.insn) refused.1.step_is,
-        λ precise. subst (IsLooselyStuck code reason) (sym refused.0) (refusal_is_real ops Member sound precise code here reason (walking.reached precise) refused.1),
+        λ precise. subst (IsReal code reason) (sym refused.0) (refusal_is_real ops Member sound precise code here reason (walking.reached precise) refused.1),
       )
   real code budget made here pending (refusal.Budget slot) laid_out walking refused = absurd refused
   real code budget made here pending (refusal.Memory slot) laid_out walking refused = laid_out

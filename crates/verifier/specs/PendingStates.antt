@@ -1,5 +1,5 @@
 -- Internal. What the walk keeps of each pending state.
-use Rattle.std.specs.Prelude.{◌≡◌, ℕ, ◌≤◌, ◌<◌, pos, ◌≤ℤ◌, List, length, replicate, sum_by, All}
+use Rattle.std.specs.Prelude.{◌≡◌, ℕ, ◌≤◌, ◌<◌, pos, ◌≤ℤ◌, ℤ, List, length, replicate, sum_by, All}
 use Rattle.insn.specs.Encoding.{slot_count}
 use Rattle.insn.specs.declared.decoding.TheConstants.{MAX_SLOTS}
 use Rattle.insn.specs.declared.instruction.Insn.{Insn}
@@ -8,7 +8,9 @@ use Rattle.semantics.specs.Slots.{ahead}
 use Rattle.semantics.specs.Runs.{Exited, run, IsPossible, IsSafe}
 use Rattle.semantics.specs.declared.limits.TheConstants.{MAX_DATAGRAM}
 use Rattle.semantics.specs.LooseRuns.{Loosens, LooselyReaches, beginnings_from}
-use Rattle.absstate.specs.Membership.{Places, Loose, Strict, IsMember}
+use Rattle.absstate.specs.Membership.{Loose, Strict, IsMember}
+use Rattle.absstate.specs.StepLaws.Anchors.{ArePlain, reach_of}
+use Rattle.verifier.specs.Refusing.{HasNoSums}
 use Rattle.verifier.specs.declared.walk.Pending.{Pending}
 
 -- ---- accepted code exits
@@ -20,7 +22,7 @@ ExitsFrom w code s = (verdict : ℕ) × ((run w code (ahead code s.slot) s).endi
 -- every run exits so, in a possible environment, from every member of a pending state with a datagram of at most 65,507
 -- bytes
 abbrev pub AllRunsExit : {D : Type 0} → (D → ℕ → Type 0) → List Insn → Pending D → Type 0
-AllRunsExit Member code p = (w : Environment) (places : Places) (s : State) → IsPossible w → s.slot ≡ p.slot → s.memory.length ≤ MAX_DATAGRAM → IsMember Member Loose places p.state s → ExitsFrom w code s
+AllRunsExit Member code p = (w : Environment) (s : State) → IsPossible w → s.slot ≡ p.slot → s.memory.length ≤ MAX_DATAGRAM → IsMember Member Loose p.state s → ExitsFrom w code s
 
 -- a verified program is safe, and not too long
 pub record IsVerified (code : List Insn) : Type 0 where
@@ -43,17 +45,21 @@ pub record IsReachedOver {D : Type 0} (Member : D → ℕ → Type 0) (code : Li
   pub steps : ℕ
   pub last : State
   pub loosened : State
-  pub places : Places
   pub reaches : LooselyReaches some_environment code steps (start datagram) last
   pub loosens : Loosens last loosened
   pub slot : loosened.slot ≡ p.slot
   pub size : loosened.memory.length ≡ n
-  pub member : IsMember Member Strict places p.state loosened
+  pub member : IsMember Member Strict p.state loosened
 
--- over each datagram that has the bytes that are proved, a loose run reaches the pending state
+-- Over each datagram of some length on, a loose run reaches the pending state: one that reaches behind every pointer of it.
+-- Where no register is added to another one or subtracted from it, that is each datagram that has the bytes that are proved.
 pub record IsReached {D : Type 0} (Member : D → ℕ → Type 0) (code : List Insn) (p : Pending D) : Type 0 where
   pub not_negative : pos 0 ≤ℤ p.state.proved
-  pub over : (n : ℕ) → p.state.proved ≤ℤ pos n → IsReachedOver Member code p n
+  pub floor : ℤ
+  pub proved : p.state.proved ≤ℤ floor
+  pub reach : reach_of p.state.registers ≤ℤ floor
+  pub over : (n : ℕ) → floor ≤ℤ pos n → IsReachedOver Member code p n
+  pub plain : HasNoSums code → ArePlain p.state.registers × (floor ≤ℤ p.state.proved)
 
 -- ---- beginnings of paths
 

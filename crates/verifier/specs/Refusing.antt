@@ -1,29 +1,39 @@
 -- Meaning. The refusals of the verifier.
 use Rattle.std.specs.Prelude.{◌≡◌, ℕ, ◌+◌, ◌<◌, ◌≤◌, ◌⊎◌, List, length, Result, Err, OnOk, IfErr}
 use Rattle.insn.specs.declared.instruction.Insn.{Insn}
+use Rattle.semantics.specs.Slots.{fetch}
 use Rattle.semantics.specs.Runs.{IsSafe}
+use Rattle.semantics.specs.declared.fetching.Fetched.TheVariants.{Begins}
 use Rattle.semantics.specs.LooseRuns.{IsLooselyStuck, beginnings}
 use Rattle.semantics.specs.declared.reason.Reason.{Reason}
 use Rattle.interval.specs.Domains.{Operations, ArePrecise}
-use Rattle.absstate.specs.StepReasons.{IsStepReason}
+use Rattle.absstate.specs.StepReasons.{IsStepReason, IsAboutPlaces, IsRegisterSum}
 use Rattle.verifier.specs.Layout.{IsLaidOut, IsLayoutFault, StartsAt}
 use Rattle.verifier.specs.declared.refusal.Refusal.{Refusal}
 use Rattle.verifier.specs.declared.refusal.Refusal.TheVariants as refusal
 
+-- no instruction adds a register to another one, or subtracts it, on 64 bits
+abbrev pub HasNoSums : List Insn → Type 0
+HasNoSums code = (slot : ℕ) (i : Insn) → fetch code slot ≡ Begins i → IsRegisterSum i → ⊥
+
 -- What may be refused of code: the first fault of its layout; a step, where that refusal is real; the step at an
 -- instruction, where the code has more beginnings of paths than the budget; and a failed allocation.
 abbrev pub MayRefuseWhere : (Reason → ℕ → Type 0) → List Insn → ℕ → Refusal → Type 0
-MayRefuseWhere IsReal code budget (refusal.Stuck reason slot) = IsLayoutFault code reason slot ⊎ (IsLaidOut code × IsStepReason reason × IsReal reason slot)
-MayRefuseWhere IsReal code budget (refusal.Budget slot) = IsLaidOut code × StartsAt code slot × (budget < length (beginnings code))
-MayRefuseWhere IsReal code budget (refusal.Memory slot) = IsLaidOut code
+MayRefuseWhere Real code budget (refusal.Stuck reason slot) = IsLayoutFault code reason slot ⊎ (IsLaidOut code × IsStepReason reason × Real reason slot)
+MayRefuseWhere Real code budget (refusal.Budget slot) = IsLaidOut code × StartsAt code slot × (budget < length (beginnings code))
+MayRefuseWhere Real code budget (refusal.Memory slot) = IsLaidOut code
 
--- a refusal of a step is real where a loose run is stuck there for that reason
+-- A refusal of a step is real where a loose run is stuck there for that reason. A refusal that speaks of the places of
+-- pointers, by the reason and the instruction at that slot, is real in code without sums of registers.
+abbrev pub IsReal : List Insn → Reason → ℕ → Type 0
+IsReal code reason slot = ((i : Insn) → fetch code slot ≡ Begins i → IsAboutPlaces reason i → HasNoSums code) → IsLooselyStuck code reason slot
+
 abbrev pub MayRefuse : List Insn → ℕ → Refusal → Type 0
-MayRefuse code budget e = MayRefuseWhere (IsLooselyStuck code) code budget e
+MayRefuse code budget e = MayRefuseWhere (IsReal code) code budget e
 
 -- over a domain, where that is precise
 abbrev pub MayRefuseOver : {D : Type 0} → Operations D → (D → ℕ → Type 0) → List Insn → ℕ → Refusal → Type 0
-MayRefuseOver ops Member code budget e = MayRefuseWhere (λ reason slot. ArePrecise ops Member → IsLooselyStuck code reason slot) code budget e
+MayRefuseOver ops Member code budget e = MayRefuseWhere (λ reason slot. ArePrecise ops Member → IsReal code reason slot) code budget e
 
 -- a fact that holds where the budget is the refusal
 abbrev pub IfBudget : Refusal → Type 0 → Type 0

@@ -1,6 +1,6 @@
 -- Internal. An accepted step has as many successors as its instruction, and a refused one a reason of the steps.
 use Rattle.std.proofs.Common.{◌≡◌, ℕ, Bool, true, false, Result, Ok, Err, refl}
-use Rattle.std.specs.Prelude.{ℤ, pos, Option, Some, None, ◌+ℤ◌, IfOk, IfErr}
+use Rattle.std.specs.Prelude.{ℤ, pos, List, Option, Some, None, ◌+ℤ◌, ◌-ℤ◌, IfOk, IfErr}
 use Rattle.std.specs.Option.{ok_or}
 use Rattle.insn.specs.Codes.{byte_count, unsigned_size}
 use Rattle.insn.specs.Words.{target_of}
@@ -20,9 +20,10 @@ use Rattle.insn.specs.declared.instruction.Insn.TheVariants as insn
 use Rattle.semantics.specs.Fallible.{◌>>=◌, check}
 use Rattle.semantics.specs.Access.{is_within, index_within, stack_first, headroom_first}
 use Rattle.semantics.specs.Loading.{field_at}
-use Rattle.semantics.specs.Calls.{helper_of}
+use Rattle.semantics.specs.Calls.{helper_of, signature_of, argument_at}
+use Rattle.semantics.specs.declared.helper.Argument.{Argument}
+use Rattle.semantics.specs.declared.helper.Argument.TheVariants as argument
 use Rattle.semantics.specs.declared.helper.Helper.{Helper}
-use Rattle.semantics.specs.declared.helper.Helper.TheVariants as helper
 use Rattle.insn.specs.Register.{number_of}
 use Rattle.semantics.specs.Effects.{is_writable, writable}
 use Rattle.semantics.specs.LooseRuns.{Bound, data_bound, exchanged}
@@ -31,14 +32,13 @@ use Rattle.semantics.specs.declared.limits.TheConstants.{TAILROOM}
 use Rattle.semantics.specs.declared.reason.Reason.{Reason}
 use Rattle.semantics.specs.declared.reason.Reason.TheVariants as reasons
 use Rattle.interval.specs.Domains.{Operations}
-use Rattle.absstate.specs.AbstractStates.{abstract_at, are_marked, proved_of}
+use Rattle.absstate.specs.AbstractStates.{abstract_at, are_marked, low_of, proved_of}
 use Rattle.absstate.specs.AbstractSteps as abstract
 use Rattle.absstate.specs.AbstractSteps.{located, readable}
 use Rattle.absstate.specs.StepReasons.{IsStepReason}
 use Rattle.absstate.specs.Successors.{One, Two, successors_of, successors_in}
 use Rattle.absstate.specs.declared.abstract_state.AbsState.{AbsState}
 use Rattle.absstate.specs.declared.abstract_state.Marks.{Marks}
-use Rattle.absstate.specs.declared.abstract_state.Anchor.TheVariants.{First}
 use Rattle.absstate.specs.declared.abstract_state.AbstractValue.{AbstractValue}
 use Rattle.absstate.specs.declared.abstract_state.AbstractValue.TheVariants as known
 use Rattle.absstate.specs.declared.abstract_step.Next.{Next}
@@ -81,17 +81,9 @@ module _ {D : Type 0} (ops : Operations D) where
   forks a w c dst o (known.Scalar x) (known.Scalar y) = refl
   forks a w c dst o x y = places_forks a w c x y
 
-  address_straight : (a : AbsState D) (h : Helper) → IfOk (abstract.address_step ops a h) HasOne
-  unfolding HasOne
-  address_straight a h = every HasOne (abstract.context_argument a) _ (λ u. every HasOne (abstract.record_argument a reg.R2) _ (λ v. refl))
-
   helper_straight : (a : AbsState D) (h : Helper) → IfOk (abstract.helper_step ops a h) HasOne
   unfolding HasOne
-  helper_straight a helper.ChannelPeer = every HasOne (abstract.context_argument a) _ (λ u. every HasOne (abstract.number_argument a reg.R2) _ (λ v. every HasOne (abstract.stack_argument a reg.R3) _ (λ out. refl)))
-  helper_straight a helper.ChannelTo = address_straight a helper.ChannelTo
-  helper_straight a helper.Permitted = address_straight a helper.Permitted
-  helper_straight a helper.Window = every HasOne (abstract.context_argument a) _ (λ u. every HasOne (abstract.number_argument a reg.R2) _ (λ v. every HasOne (abstract.number_argument a reg.R3) _ (λ v'. refl)))
-  helper_straight a helper.Destination = address_straight a helper.Destination
+  helper_straight a h = every HasOne (abstract.out_of a (signature_of h).arguments) _ (λ out. refl)
 
   exits : (k : AbstractValue D) → IfOk (abstract.exit_with k) (λ (answer : Next D). successors_in answer ≡ successors_of insn.Exit)
   exits (known.Scalar n) = refl
@@ -100,7 +92,7 @@ module _ {D : Type 0} (ops : Operations D) where
   -- an accepted step has the successors of its instruction
   pub step_successors : (a : AbsState D) (i : Insn) → IfOk (abstract.step ops a i) (λ answer. successors_in answer ≡ successors_of i)
   unfolding HasOne HasTwo
-  step_successors a (insn.Alu w op dst o) = every HasOne (abstract.read a dst) _ (λ x. every HasOne (abstract.operand_abstract ops w a o) _ (λ y. goes_straight a dst (abstract.alu_result ops op w x y)))
+  step_successors a (insn.Alu w op dst o) = every HasOne (abstract.read a dst) _ (λ x. every HasOne (abstract.operand_abstract ops w a o) _ (λ y. goes_straight a dst (abstract.alu_result ops a op w x y)))
   step_successors a (insn.Mov w dst o) = unary_straight a w (Mov w) dst o
   step_successors a (insn.Neg w dst) = unary_straight a w (Neg w) dst (operand.Reg dst)
   step_successors a (insn.SignExtend e dst src) = unary_straight a (target_of e) (SignExtend e) dst (operand.Reg src)
@@ -138,11 +130,11 @@ module _ {D : Type 0} (ops : Operations D) where
   moved_reasons kind None = tt
   moved_reasons kind (Some place) = tt
 
-  alu_reasons : (op : AluOp) (w : Width) (x y : AbstractValue D) → IfErr (abstract.alu_result ops op w x y) IsStepReason
-  alu_reasons op w (known.Scalar m) (known.Scalar n) = tt
-  alu_reasons op w (known.Data anchor k) (known.Scalar n) = moved_reasons (known.Data anchor) (abstract.moved_by op w k (abstract.single_of ops n))
-  alu_reasons op w (known.Stack k) (known.Scalar n) = moved_reasons known.Stack (abstract.moved_by op w k (abstract.single_of ops n))
-  alu_reasons op w x y = tt
+  alu_reasons : (a : AbsState D) (op : AluOp) (w : Width) (x y : AbstractValue D) → IfErr (abstract.alu_result ops a op w x y) IsStepReason
+  alu_reasons a op w (known.Scalar m) (known.Scalar n) = tt
+  alu_reasons a op w (known.Data anchor k) (known.Scalar n) = found (abstract.data_sum a anchor op w k (ops.bounds n)) reasons.PointerArithmetic tt
+  alu_reasons a op w (known.Stack k) (known.Scalar n) = moved_reasons known.Stack (abstract.moved_by op w k (abstract.single_of ops n))
+  alu_reasons a op w x y = tt
 
   one_reasons : (op : UnaryOp) (x : AbstractValue D) → IfErr (abstract.number_of_one ops op x) IsStepReason
   one_reasons op (known.Scalar m) = tt
@@ -160,8 +152,8 @@ module _ {D : Type 0} (ops : Operations D) where
 
   compared_reasons : (w : Width) (c : Condition) (x y : AbstractValue D) → IfErr (abstract.places_compared w c x y) IsStepReason
   compared_reasons w c (known.Scalar x) y = tt
-  compared_reasons W64 c (known.Data First k) known.End = order_reasons c (data_bound c k)
-  compared_reasons W64 c known.End (known.Data First k) = order_reasons c (data_bound (exchanged c) k)
+  compared_reasons W64 c (known.Data anchor k) known.End = faults IsStepReason (abstract.order_implies c (data_bound c k)) _ (order_reasons c (data_bound c k)) (λ i. tt)
+  compared_reasons W64 c known.End (known.Data anchor k) = faults IsStepReason (abstract.order_implies c (data_bound (exchanged c) k)) _ (order_reasons c (data_bound (exchanged c) k)) (λ i. tt)
   compared_reasons w c x y = tt
 
   places_reasons : (a : AbsState D) (w : Width) (c : Condition) (x y : AbstractValue D) → IfErr (abstract.places_fork a w c x y) IsStepReason
@@ -182,7 +174,7 @@ module _ {D : Type 0} (ops : Operations D) where
   region_reasons a (known.Stack k) d n =
       faults IsStepReason (ok_or (index_within (k +ℤ d) n stack_first stack_first (pos 0)) reasons.StackBounds) _ (found (index_within (k +ℤ d) n stack_first stack_first (pos 0)) reasons.StackBounds tt) (λ i. tt)
   region_reasons a (known.Data anchor k) d n =
-      faults IsStepReason (check (is_within (k +ℤ d) n headroom_first (proved_of a anchor)) reasons.DatagramBounds) _ (checked (is_within (k +ℤ d) n headroom_first (proved_of a anchor)) reasons.DatagramBounds tt) (λ u. tt)
+      faults IsStepReason (check (is_within (k +ℤ d) n (headroom_first -ℤ low_of anchor) (proved_of a anchor)) reasons.DatagramBounds) _ (checked (is_within (k +ℤ d) n (headroom_first -ℤ low_of anchor) (proved_of a anchor)) reasons.DatagramBounds tt) (λ u. tt)
   region_reasons a known.End d n =
       faults IsStepReason (check (is_within (pos 0 +ℤ d) n (pos 0) (pos TAILROOM)) reasons.DatagramBounds) _ (checked (is_within (pos 0 +ℤ d) n (pos 0) (pos TAILROOM)) reasons.DatagramBounds tt) (λ u. tt)
 
@@ -219,12 +211,12 @@ module _ {D : Type 0} (ops : Operations D) where
       (λ known. faults IsStepReason (abstract.pointer to) _ (pointer_reasons to) (λ u. faults IsStepReason (abstract.storable known) _ (storable_reasons known)
       (λ v. faults IsStepReason (abstract.located a to d (byte_count z)) _ (region_reasons a to d (byte_count z)) (λ r. tt)))))
 
-  context_value_reasons : (x : AbstractValue D) → IfErr (abstract.context_value x) IsStepReason
-  context_value_reasons known.Ctx = tt
-  context_value_reasons x = tt
+  context_value_reasons : (r : Reg) (x : AbstractValue D) → IfErr (abstract.context_value r x) IsStepReason
+  context_value_reasons r known.Ctx = tt
+  context_value_reasons r x = tt
 
-  context_reasons : (a : AbsState D) → IfErr (abstract.context_argument a) IsStepReason
-  context_reasons a = faults IsStepReason (abstract.read a reg.R1) _ (held_reasons (abstract_at a.registers reg.R1)) context_value_reasons
+  context_reasons : (a : AbsState D) (r : Reg) → IfErr (abstract.context_argument a r) IsStepReason
+  context_reasons a r = faults IsStepReason (abstract.read a r) _ (held_reasons (abstract_at a.registers r)) (context_value_reasons r)
 
   number_value_reasons : (r : Reg) (x : AbstractValue D) → IfErr (abstract.number_value r x) IsStepReason
   number_value_reasons r (known.Scalar n) = tt
@@ -239,17 +231,23 @@ module _ {D : Type 0} (ops : Operations D) where
   record_argument_reasons : (a : AbsState D) (r : Reg) → IfErr (abstract.record_argument a r) IsStepReason
   record_argument_reasons a r = faults IsStepReason (abstract.stack_argument a r) _ (pointer_argument_reasons a r) (λ i. checked (are_marked a.marks i 8) reasons.UninitStack tt)
 
-  address_reasons : (a : AbsState D) (h : Helper) → IfErr (abstract.address_step ops a h) IsStepReason
-  address_reasons a h = faults IsStepReason (abstract.context_argument a) _ (context_reasons a) (λ u. faults IsStepReason (abstract.record_argument a reg.R2) _ (record_argument_reasons a reg.R2) (λ v. tt))
+  kind_reasons : (a : AbsState D) (r : Reg) (x : Argument) (out : Option ℕ) → IfErr (abstract.with_argument a r x out) IsStepReason
+  kind_reasons a r argument.Unused out = tt
+  kind_reasons a r argument.Context out = faults IsStepReason (abstract.context_argument a r) _ (context_reasons a r) (λ u. tt)
+  kind_reasons a r argument.Number out = faults IsStepReason (abstract.number_argument a r) _ (argument_reasons a r) (λ u. tt)
+  kind_reasons a r argument.RecordIn out = faults IsStepReason (abstract.record_argument a r) _ (record_argument_reasons a r) (λ u. tt)
+  kind_reasons a r argument.RecordOut out = faults IsStepReason (abstract.stack_argument a r) _ (pointer_argument_reasons a r) (λ i. tt)
+
+  out_reasons : (a : AbsState D) (xs : List Argument) → IfErr (abstract.out_of a xs) IsStepReason
+  out_reasons a xs =
+      faults IsStepReason (abstract.with_argument a reg.R1 (argument_at xs 0) None) _ (kind_reasons a reg.R1 (argument_at xs 0) None)
+      (λ b. faults IsStepReason (abstract.with_argument a reg.R2 (argument_at xs 1) b) _ (kind_reasons a reg.R2 (argument_at xs 1) b)
+      (λ c. faults IsStepReason (abstract.with_argument a reg.R3 (argument_at xs 2) c) _ (kind_reasons a reg.R3 (argument_at xs 2) c)
+      (λ d. faults IsStepReason (abstract.with_argument a reg.R4 (argument_at xs 3) d) _ (kind_reasons a reg.R4 (argument_at xs 3) d)
+      (λ e. kind_reasons a reg.R5 (argument_at xs 4) e))))
 
   helper_reasons : (a : AbsState D) (h : Helper) → IfErr (abstract.helper_step ops a h) IsStepReason
-  helper_reasons a helper.ChannelPeer =
-      faults IsStepReason (abstract.context_argument a) _ (context_reasons a) (λ u. faults IsStepReason (abstract.number_argument a reg.R2) _ (argument_reasons a reg.R2) (λ v. faults IsStepReason (abstract.stack_argument a reg.R3) _ (pointer_argument_reasons a reg.R3) (λ out. tt)))
-  helper_reasons a helper.ChannelTo = address_reasons a helper.ChannelTo
-  helper_reasons a helper.Permitted = address_reasons a helper.Permitted
-  helper_reasons a helper.Window =
-      faults IsStepReason (abstract.context_argument a) _ (context_reasons a) (λ u. faults IsStepReason (abstract.number_argument a reg.R2) _ (argument_reasons a reg.R2) (λ v. faults IsStepReason (abstract.number_argument a reg.R3) _ (argument_reasons a reg.R3) (λ v'. tt)))
-  helper_reasons a helper.Destination = address_reasons a helper.Destination
+  helper_reasons a h = faults IsStepReason (abstract.out_of a (signature_of h).arguments) _ (out_reasons a (signature_of h).arguments) (λ out. tt)
 
   exit_reasons : (k : AbstractValue D) → IfErr (abstract.exit_with k) IsStepReason
   exit_reasons (known.Scalar n) = tt
@@ -271,7 +269,7 @@ module _ {D : Type 0} (ops : Operations D) where
   pub step_reasons : (a : AbsState D) (i : Insn) → IfErr (abstract.step ops a i) IsStepReason
   step_reasons a (insn.Alu w op dst o) =
       faults IsStepReason (abstract.read a dst) _ (held_reasons (abstract_at a.registers dst)) (λ x. faults IsStepReason (abstract.operand_abstract ops w a o) _ (operand_reasons w a o)
-      (λ y. written_reasons a dst (abstract.alu_result ops op w x y) (alu_reasons op w x y)))
+      (λ y. written_reasons a dst (abstract.alu_result ops a op w x y) (alu_reasons a op w x y)))
   step_reasons a (insn.Mov w dst o) = one_step_reasons a w (Mov w) dst o
   step_reasons a (insn.Neg w dst) = one_step_reasons a w (Neg w) dst (operand.Reg dst)
   step_reasons a (insn.SignExtend e dst src) = one_step_reasons a (target_of e) (SignExtend e) dst (operand.Reg src)

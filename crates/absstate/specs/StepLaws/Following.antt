@@ -7,6 +7,7 @@ use Rattle.insn.specs.Endian.{little_bytes}
 use Rattle.insn.specs.declared.instruction.Insn.{Insn}
 use Rattle.semantics.specs.Access.{written_at}
 use Rattle.semantics.specs.ContextLaws.{little_bytes_fit, length-little_bytes}
+use Rattle.semantics.specs.Calls.{signature_of}
 use Rattle.semantics.specs.Machine.{AreBytes, Context, IsContext, Memory, State, Environment}
 use Rattle.semantics.specs.declared.plan.Plan.{Plan}
 use Rattle.semantics.specs.declared.helper.Helper.{Helper}
@@ -30,14 +31,14 @@ use Rattle.semantics.specs.declared.fetching.Branch.TheVariants.{NotTaken, Taken
 use Rattle.interval.specs.Domains.{Operations, AreSound}
 use Rattle.absstate.specs.AbstractStates.{with_answer}
 use Rattle.absstate.specs.AbstractSteps as abstract
-use Rattle.absstate.specs.Membership.{Mode, Places, IsMember}
+use Rattle.absstate.specs.Membership.{Mode, Places, IsMemberAt, IsMember}
 use Rattle.absstate.specs.MemberSteps.{IsBehind, IsBehindSome, IsTakenBy, IsTaken, Follows, StepsFollow}
 use Rattle.absstate.specs.declared.abstract_state.AbsState.{AbsState}
 use Rattle.absstate.specs.declared.abstract_step.Next.{Next}
 use Rattle.absstate.specs.declared.abstract_step.Next.TheVariants as next
 use Rattle.absstate.specs.StepLaws.Agreement.{Agree}
 use Rattle.absstate.specs.StepLaws.Arithmetic.{AreClaims}
-use Rattle.absstate.specs.StepLaws.Members.{member_written, member_moved, member_stored, member_planned, member_called, member_answered}
+use Rattle.absstate.specs.StepLaws.Members.{member_extends, member_written, member_moved, member_stored, member_planned, member_called, member_answered}
 use Rattle.absstate.specs.StepLaws.Tagged.{written_proper}
 use Rattle.absstate.specs.StepLaws.Simulation.{IsAsked, IsEffectOf, steps_agree}
 
@@ -98,11 +99,11 @@ module _ {D : Type 0} (ops : Operations D) (Member : D → ℕ → Type 0) (soun
     registers = λ c. absurd c;
     cells = λ c. absurd c;
     bounds = λ c. absurd c;
-    exact = λ c. absurd c;
+    plain = λ c. absurd c;
     arithmetic = λ c. absurd c;
   }
 
-  pub accepted_agree : (mode : Mode) (places : Places) (a : AbsState D) (s : State) → IsMember Member mode places a s → (c : Context) → IsContext c → (i : Insn) → Fits i → (answer : Next D) → abstract.step ops a i ≡ Ok answer
+  pub accepted_agree : (mode : Mode) (places : Places) (a : AbsState D) (s : State) → IsMemberAt Member mode places a s → (c : Context) → IsContext c → (i : Insn) → Fits i → (answer : Next D) → abstract.step ops a i ≡ Ok answer
       → (e : Effect) × (effects.effect c s.memory s.registers i ≡ Ok e) × IsEffectOf ops Member sound mode places a s i answer e
   accepted_agree mode places a s member c real i fit answer is =
       agreed (IsEffectOf ops Member sound mode places a s i) (abstract.step ops a i) (effects.effect c s.memory s.registers i) answer (steps_agree ops Member sound none_claimed mode places a s member c real i fit (no_claims mode a s i)) is
@@ -111,7 +112,7 @@ module _ {D : Type 0} (ops : Operations D) (Member : D → ℕ → Type 0) (soun
   in_range : (n hi : ℕ) → hi ≤ 0x4fff → n ≤ hi → Member (ops.range 0 hi) n
   in_range n hi small le = sound.range 0 hi n (omega (arith, small)) (omega arith) le
 
-  bounded : (h : Helper) → abstract.greatest_answer h ≤ 0x4fff
+  bounded : (h : Helper) → (signature_of h).greatest ≤ 0x4fff
   bounded helper.ChannelPeer = omega arith
   bounded helper.ChannelTo = omega arith
   bounded helper.Permitted = omega arith
@@ -122,39 +123,45 @@ module _ {D : Type 0} (ops : Operations D) (Member : D → ℕ → Type 0) (soun
   both_of None record_is room are = tt
   both_of (Some j) record_is room are = (room, are)
 
-  pub asked_member : (w : Environment) (code : List Insn) (mode : Mode) (places : Places) (a : AbsState D) (s : State) → IsMember Member mode places a s → (i : Insn) → IsPossible w → (b : AbsState D) (q : Question) (out : Option ℕ) → IsAsked ops Member sound a i b q out
-      → IsMember Member mode places b (answered s (s.slot + slots_of i) out (w.answer q.helper q.number q.address))
+  pub asked_member : (w : Environment) (code : List Insn) (mode : Mode) (places : Places) (a : AbsState D) (s : State) → IsMemberAt Member mode places a s → (i : Insn) → IsPossible w → (b : AbsState D) (q : Question) (out : Option ℕ) → IsAsked ops Member sound a i b q out
+      → IsMemberAt Member mode places b (answered s (s.slot + slots_of i) out (w.answer q.helper q.number q.address))
   asked_member w code mode places a s member i real b q out is =
       let answer = w.answer q.helper q.number q.address in
       let lawful = is.lawful w.answer real.helpers in
-      subst (λ (x : AbsState D). IsMember Member mode places x (answered s (s.slot + slots_of i) out answer)) (sym is.behind)
-      (member_answered Member sound.words mode places a s (ops.range 0 (abstract.greatest_answer is.asked)) (s.slot + slots_of i) out answer member (in_range answer.0 (abstract.greatest_answer is.asked) (bounded is.asked) lawful.0) (both_of out answer.1 is.room lawful.1))
+      subst (λ (x : AbsState D). IsMemberAt Member mode places x (answered s (s.slot + slots_of i) out answer)) (sym is.behind)
+      (member_answered Member sound.words mode places a s (ops.range 0 (signature_of is.asked).greatest) (s.slot + slots_of i) out answer member (in_range answer.0 (signature_of is.asked).greatest (bounded is.asked) lawful.0) (both_of out answer.1 is.room lawful.1))
 
-  pub planned_member : (mode : Mode) (places : Places) (a : AbsState D) (s : State) → IsMember Member mode places a s → (i : Insn) (b : AbsState D) (h : Helper) (n : ℕ) (plan : Plan) → b ≡ abstract.answered ops a h None → n ≤ 1 → abstract.greatest_answer h ≡ 1
-      → IsMember Member mode places b (planned s (s.slot + slots_of i) n plan)
+  pub planned_member : (mode : Mode) (places : Places) (a : AbsState D) (s : State) → IsMemberAt Member mode places a s → (i : Insn) (b : AbsState D) (h : Helper) (n : ℕ) (plan : Plan) → b ≡ abstract.answered ops a h None → n ≤ 1 → (signature_of h).greatest ≡ 1
+      → IsMemberAt Member mode places b (planned s (s.slot + slots_of i) n plan)
   planned_member mode places a s member i b h n plan is small one =
-      subst (λ (x : AbsState D). IsMember Member mode places x (planned s (s.slot + slots_of i) n plan)) (sym is)
-      (member_planned Member mode places (with_answer a (ops.range 0 (abstract.greatest_answer h))) (record s { slot = s.slot + slots_of i; registers = called s.registers n })
-      (member_called Member sound.words mode places a s (ops.range 0 (abstract.greatest_answer h)) n (s.slot + slots_of i) member (in_range n (abstract.greatest_answer h) (bounded h) (omega (arith, small, one)))) plan)
+      subst (λ (x : AbsState D). IsMemberAt Member mode places x (planned s (s.slot + slots_of i) n plan)) (sym is)
+      (member_planned Member mode places (with_answer a (ops.range 0 (signature_of h).greatest)) (record s { slot = s.slot + slots_of i; registers = called s.registers n })
+      (member_called Member sound.words mode places a s (ops.range 0 (signature_of h).greatest) n (s.slot + slots_of i) member (in_range n (signature_of h).greatest (bounded h) (omega (arith, small, one)))) plan)
 
-  module _ (w : Environment) (code : List Insn) (mode : Mode) (places : Places) (a : AbsState D) (s : State) (member : IsMember Member mode places a s) (i : Insn) (fit : Fits i) (real : IsPossible w) (here : fetch code s.slot ≡ Begins i) (good : (branch : Branch) → IsOk (branch_slot code s.slot i branch)) where
-    behind : (branch : Branch) (b : AbsState D) → ((to : ℕ) → IsMember Member mode places b (record s { slot = to })) → (n : ℕ) → branch_slot code s.slot i branch ≡ Ok n → IsBehind Member code mode places s i branch b (record s { slot = n })
-    behind branch b h n leads = record { leads = leads; size = refl; member = h n }
+  module _ (w : Environment) (code : List Insn) (mode : Mode) (places : Places) (a : AbsState D) (s : State) (member : IsMemberAt Member mode places a s) (i : Insn) (fit : Fits i) (real : IsPossible w) (here : fetch code s.slot ≡ Begins i) (good : (branch : Branch) → IsOk (branch_slot code s.slot i branch)) where
+    exists : {b : AbsState D} {t : State} → IsMemberAt Member mode places b t → IsMember Member mode b t
+    exists at = record { places = places; at = at }
+
+    behind : (branch : Branch) (b : AbsState D) → ((to : ℕ) → IsMemberAt Member mode places b (record s { slot = to })) → (n : ℕ) → branch_slot code s.slot i branch ≡ Ok n → IsBehind Member code mode s i branch b (record s { slot = n })
+    behind branch b h n leads = record { leads = leads; size = refl; member = exists (h n) }
 
     -- that branch is taken, by the effect of the instruction
     taken_by : (r : Result Effect Reason) (f : Flow) (branch : Branch) → effects.effect w.context s.memory s.registers i ≡ r → flow_of i ≡ f → IsTakenBy f r branch → IsTaken w s i branch
     taken_by r f branch is flows h = subst (λ (x : Flow). IsTakenBy x (effects.effect w.context s.memory s.registers i) branch) (sym flows) (subst (λ (x : Result Effect Reason). IsTakenBy f x branch) (sym is) h)
 
-    effect_follows : s.memory.length ≤ MAX_DATAGRAM → (answer : Next D) (e : Effect) → effects.effect w.context s.memory s.registers i ≡ Ok e → IsEffectOf ops Member sound mode places a s i answer e → Follows Member w code mode places s i answer (applied w code s i (Ok e))
+    effect_follows : s.memory.length ≤ MAX_DATAGRAM → (answer : Next D) (e : Effect) → effects.effect w.context s.memory s.registers i ≡ Ok e → IsEffectOf ops Member sound mode places a s i answer e → Follows Member w code mode s i answer (applied w code s i (Ok e))
     effect_follows short (next.On b) (effect.Write r v) has is = (
       NotTaken,
       taken_by (Ok (effect.Write r v)) flow.Straight NotTaken has is.3 tt,
       record {
         leads = straight_leads code s.slot i NotTaken is.3;
         size = refl;
-        member = subst (λ (c : AbsState D). IsMember Member mode places c (record s { slot = s.slot + slots_of i; registers = write_register s r v })) (sym is.1)
-            (member_written Member mode places a s member r is.0 v (s.slot + slots_of i) (is.2.held short)
-            (written_proper w code s i r v (s.slot + slots_of i) real here fit member.tagged (step_is w code s i (Ok (effect.Write r v)) here has)));
+        member = record {
+          places = is.2.more;
+          at = subst (λ (c : AbsState D). IsMemberAt Member mode is.2.more c (record s { slot = s.slot + slots_of i; registers = write_register s r v })) (sym is.1)
+              (member_written Member mode is.2.more a s (member_extends Member mode places a s member is.2.more is.2.extends) r is.0 v (s.slot + slots_of i) (is.2.result.held short)
+              (written_proper w code s i r v (s.slot + slots_of i) real here fit member.tagged (step_is w code s i (Ok (effect.Write r v)) here has)));
+        };
       },
     )
     effect_follows short (next.On b) (effect.Store at z n) has is = (
@@ -163,8 +170,8 @@ module _ {D : Type 0} (ops : Operations D) (Member : D → ℕ → Type 0) (soun
       record {
         leads = straight_leads code s.slot i NotTaken is.3;
         size = size_written s.memory at (little_bytes (byte_count z) n);
-        member = subst (λ (c : AbsState D). IsMember Member mode places c (record s { slot = s.slot + slots_of i; memory = written_at s.memory at (little_bytes (byte_count z) n) })) (sym is.1)
-            (member_stored Member mode places a s member (byte_count z) is.0 at (little_bytes (byte_count z) n) (s.slot + slots_of i) is.2 (length-little_bytes (byte_count z) n) (little_bytes_fit (byte_count z) n));
+        member = exists (subst (λ (c : AbsState D). IsMemberAt Member mode places c (record s { slot = s.slot + slots_of i; memory = written_at s.memory at (little_bytes (byte_count z) n) })) (sym is.1)
+            (member_stored Member mode places a s member (byte_count z) is.0 at (little_bytes (byte_count z) n) (s.slot + slots_of i) is.2 (length-little_bytes (byte_count z) n) (little_bytes_fit (byte_count z) n)));
       },
     )
     effect_follows short (next.On b) (effect.Ask q out) has is = (
@@ -173,7 +180,7 @@ module _ {D : Type 0} (ops : Operations D) (Member : D → ℕ → Type 0) (soun
       record {
         leads = straight_leads code s.slot i NotTaken is.past;
         size = size_answered s.memory out (w.answer q.helper q.number q.address).1;
-        member = asked_member w code mode places a s member i real b q out is;
+        member = exists (asked_member w code mode places a s member i real b q out is);
       },
     )
     effect_follows short (next.On b) (effect.SetWindow window) has is = (
@@ -182,7 +189,7 @@ module _ {D : Type 0} (ops : Operations D) (Member : D → ℕ → Type 0) (soun
       record {
         leads = straight_leads code s.slot i NotTaken is.1;
         size = refl;
-        member = planned_member mode places a s member i b helper.Window (plan_answer window) (with_window s.plan window) is.0 (small_answer window) refl;
+        member = exists (planned_member mode places a s member i b helper.Window (plan_answer window) (with_window s.plan window) is.0 (small_answer window) refl);
       },
     )
     effect_follows short (next.On b) (effect.SetDestination destination) has is = (
@@ -191,19 +198,19 @@ module _ {D : Type 0} (ops : Operations D) (Member : D → ℕ → Type 0) (soun
       record {
         leads = straight_leads code s.slot i NotTaken is.1;
         size = refl;
-        member = planned_member mode places a s member i b helper.Destination (plan_answer destination) (with_destination s.plan destination) is.0 (small_answer destination) refl;
+        member = exists (planned_member mode places a s member i b helper.Destination (plan_answer destination) (with_destination s.plan destination) is.0 (small_answer destination) refl);
       },
     )
     effect_follows short (next.On b) (effect.Jump offset) has is =
         let to = ok_of (branch_slot code s.slot i NotTaken) (good NotTaken) in
-        subst (Follows Member w code mode places s i (next.On b)) (sym (jump_goes w code s i offset NotTaken to.0 is.1 to.1))
-        (NotTaken, taken_by (Ok (effect.Jump offset)) (flow.Jumps offset) NotTaken has is.1 tt, behind NotTaken b (λ n. subst (λ (c : AbsState D). IsMember Member mode places c (record s { slot = n })) (sym is.0) (member_moved Member mode places a s member n)) to.0 to.1)
+        subst (Follows Member w code mode s i (next.On b)) (sym (jump_goes w code s i offset NotTaken to.0 is.1 to.1))
+        (NotTaken, taken_by (Ok (effect.Jump offset)) (flow.Jumps offset) NotTaken has is.1 tt, behind NotTaken b (λ n. subst (λ (c : AbsState D). IsMemberAt Member mode places c (record s { slot = n })) (sym is.0) (member_moved Member mode places a s member n)) to.0 to.1)
     effect_follows short (next.On b) effect.Pass has is = absurd is
     effect_follows short (next.On b) (effect.Exit verdict) has is = absurd is
     effect_follows short (next.Fork not_taken taken) e has f =
         let to = ok_of (branch_slot code s.slot i f.branch) (good f.branch) in
-        subst (Follows Member w code mode places s i (next.Fork not_taken taken)) (sym (ap (λ (x : Effect). applied w code s i (Ok x)) f.effect_is ∙ branch_goes w code s i f.offset f.branch to.0 (ap flow_of f.jump) to.1))
-        (f.branch, taken_by (Ok e) (flow.Forks f.offset) f.branch has (ap flow_of f.jump) (ap Ok f.effect_is), subst (λ (o : Option (AbsState D)). IsBehindSome Member code mode places s i f.branch o (record s { slot = to.0 })) (sym f.behind_is) (behind f.branch f.behind f.member to.0 to.1))
+        subst (Follows Member w code mode s i (next.Fork not_taken taken)) (sym (ap (λ (x : Effect). applied w code s i (Ok x)) f.effect_is ∙ branch_goes w code s i f.offset f.branch to.0 (ap flow_of f.jump) to.1))
+        (f.branch, taken_by (Ok e) (flow.Forks f.offset) f.branch has (ap flow_of f.jump) (ap Ok f.effect_is), subst (λ (o : Option (AbsState D)). IsBehindSome Member code mode s i f.branch o (record s { slot = to.0 })) (sym f.behind_is) (behind f.branch f.behind f.member to.0 to.1))
     effect_follows short next.Exit (effect.Exit verdict) has is = tt
     effect_follows short next.Exit (effect.Write r v) has is = absurd is
     effect_follows short next.Exit (effect.Store at z n) has is = absurd is
@@ -215,9 +222,9 @@ module _ {D : Type 0} (ops : Operations D) (Member : D → ℕ → Type 0) (soun
 
   -- an accepted step is followed from every member
   pub steps_follow : (a : AbsState D) (i : Insn) → Fits i → (answer : Next D) → abstract.step ops a i ≡ Ok answer → StepsFollow Member a i answer
-  steps_follow a i fit answer is w code mode places s real here good short member =
-      let agree = accepted_agree mode places a s member w.context real.context i fit answer is in
-      subst (Follows Member w code mode places s i answer) (sym (step_is w code s i (Ok agree.0) here agree.1)) (effect_follows w code mode places a s member i fit real here good short answer agree.0 agree.1 agree.2)
+  steps_follow a i fit answer is w code mode s real here good short member =
+      let agree = accepted_agree mode member.places a s member.at w.context real.context i fit answer is in
+      subst (Follows Member w code mode s i answer) (sym (step_is w code s i (Ok agree.0) here agree.1)) (effect_follows w code mode member.places a s member.at i fit real here good short answer agree.0 agree.1 agree.2)
 
   pub followed : (a : AbsState D) (i : Insn) → Fits i → (answer : Result (Next D) Reason) → answer ≡ abstract.step ops a i → IfOk answer (λ next. StepsFollow Member a i next)
   followed a i fit (Ok answer) is = steps_follow a i fit answer (sym is)

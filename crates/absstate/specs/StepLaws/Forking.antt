@@ -30,13 +30,16 @@ use Rattle.interval.specs.declared.domain.Test.TheVariants.{Holds, Fails}
 use Rattle.absstate.specs.AbstractStates.{with_value, with_least}
 use Rattle.absstate.specs.MemberSteps.{state_after}
 use Rattle.absstate.specs.AbstractSteps as abstract
-use Rattle.absstate.specs.Membership.{Mode, Strict, Places, IsHeld, IsMember}
+use Rattle.absstate.specs.Membership.{place_of, Mode, Strict, Places, IsHeld, IsMemberAt}
 use Rattle.absstate.specs.declared.abstract_state.AbstractValue.TheVariants as known
 use Rattle.absstate.specs.declared.abstract_state.AbsState.{AbsState}
 use Rattle.absstate.specs.declared.branching.Implied.{Implied}
 use Rattle.absstate.specs.declared.abstract_step.Next.TheVariants as next
-use Rattle.absstate.specs.StepLaws.Bounds.{lt_of, not_lt, IsLeast, Implies, branch_if, least_from_bound, bound_from_least}
+use Rattle.absstate.specs.declared.abstract_state.Anchor.{Anchor}
+use Rattle.absstate.specs.declared.abstract_state.Anchor.TheVariants.{First, Made}
+use Rattle.absstate.specs.StepLaws.Bounds.{shifted, lt_of, not_lt, IsLeast, Implies, branch_if, least_from_bound, bound_from_least}
 use Rattle.absstate.specs.StepLaws.Members.{member_written, member_known, member_moved, member_least, members_loosen, loosens_itself}
+use Rattle.absstate.specs.StepLaws.Anchors.{reach_of, reach_positive}
 use Rattle.absstate.specs.StepLaws.Arithmetic.{held_is}
 
 effect_taken : (offset : ℤ) (taken : Bool) → (if taken then effect.Jump offset else effect.Pass) ≡ effect_of_branch offset (branch_if taken)
@@ -47,7 +50,7 @@ proved_within : (proved n size : ℤ) (b : Bool) → int_lt proved n ≡ b → (
 proved_within proved n size true e le = le
 proved_within proved n size false e le = let above : n ≤ℤ proved = not_lt proved n e in omega (arith, ints)
 
-proved_rises : (proved n : ℤ) (b : Bool) → int_lt proved n ≡ b → proved ≤ℤ (if b then n else proved)
+pub proved_rises : (proved n : ℤ) (b : Bool) → int_lt proved n ≡ b → proved ≤ℤ (if b then n else proved)
 proved_rises proved n true e = let below : proved <ℤ n = lt_of proved n e in omega (arith, ints)
 proved_rises proved n false e = omega (arith, ints)
 
@@ -56,27 +59,27 @@ pub record IsOpened {D : Type 0} (Member : D → ℕ → Type 0) (places : Place
   pub state : State
   pub loosens : Loosens (record s { slot = to }) state
   pub memory : state.memory ≡ s.memory
-  pub member : IsMember Member Strict places b state
+  pub member : IsMemberAt Member Strict places b state
 
 module _ {D : Type 0} (ops : Operations D) (Member : D → ℕ → Type 0) (sound : AreSound ops Member) where
   -- ---- what is left of the operands of a test
 
-  module _ (mode : Mode) (places : Places) (a : AbsState D) (s : State) (member : IsMember Member mode places a s) (dst : Reg) where
+  module _ (mode : Mode) (places : Places) (a : AbsState D) (s : State) (member : IsMemberAt Member mode places a s) (dst : Reg) where
     -- the operands are members of what is left of them
     operands_known : (w : Width) (o : Operand) (left : D × D) (m n to : ℕ) → value_at s.registers dst ≡ value.Scalar m → effects.operand_value w s.registers o ≡ Ok (value.Scalar n) → Member left.0 m → Member left.1 n
-        → IsMember Member mode places (abstract.with_operands a dst o left) (record s { slot = to })
+        → IsMemberAt Member mode places (abstract.with_operands a dst o left) (record s { slot = to })
     operands_known w (operand.Imm k) left m n to dst_is o_is h g = member_known Member mode places a s member dst (known.Scalar left.0) to (m, h, dst_is)
     operands_known w (operand.Reg src) left m n to dst_is o_is h g =
-        cond_both (number_of dst == number_of src) a (with_value (with_value a dst (known.Scalar left.0)) src (known.Scalar left.1)) (λ b. IsMember Member mode places b (record s { slot = to }))
+        cond_both (number_of dst == number_of src) a (with_value (with_value a dst (known.Scalar left.0)) src (known.Scalar left.1)) (λ b. IsMemberAt Member mode places b (record s { slot = to }))
         (λ e. member_moved Member mode places a s member to)
         (λ e. member_known Member mode places (with_value a dst (known.Scalar left.0)) (record s { slot = to }) (member_known Member mode places a s member dst (known.Scalar left.0) to (m, h, dst_is)) src (known.Scalar left.1) to (n, g, held_is (value_at s.registers src) (value.Scalar n) o_is))
 
   -- where what is left has members, a loosening of the state is a member
-  module _ (places : Places) (a : AbsState D) (s : State) (member : IsMember Member Strict places a s) (dst : Reg) where
-    pub word_held : (m : ℕ) → m < 2 ^ 64 → IsHeld Member places (known.Scalar ops.top) (value.Scalar m)
+  module _ (places : Places) (a : AbsState D) (s : State) (member : IsMemberAt Member Strict places a s) (dst : Reg) where
+    pub word_held : (m : ℕ) → m < 2 ^ 64 → IsHeld Member places s.memory.length (known.Scalar ops.top) (value.Scalar m)
     word_held m lt = (m, sound.top m lt, refl)
 
-    pub register_held : (r : Reg) (x : D) (m : ℕ) → Member x m → value_at s.registers r ≡ value.Scalar m → IsHeld Member places (known.Scalar ops.top) (value_at s.registers r)
+    pub register_held : (r : Reg) (x : D) (m : ℕ) → Member x m → value_at s.registers r ≡ value.Scalar m → IsHeld Member places s.memory.length (known.Scalar ops.top) (value_at s.registers r)
     register_held r x m h e = (m, sound.top m (sound.words x m h), e)
 
     abbrev pub replaced : (r : Reg) (x y : D) (m n to : ℕ) → Member x m → value_at s.registers r ≡ value.Scalar m → Member y n → IsOpened Member places (with_value a r (known.Scalar y)) s to
@@ -130,13 +133,14 @@ module _ {D : Type 0} (ops : Operations D) (Member : D → ℕ → Type 0) (soun
 
   -- ---- conditional jumps
 
-  least_within : (a : AbsState D) (least : Option ℤ) (size : ℕ) → (with_least a least).proved ≤ℤ pos size → IsLeast least size
-  least_within a None size le = tt
-  least_within a (Some n) size le = proved_within a.proved n (pos size) (int_lt a.proved n) refl le
+  pub length_within : (a : AbsState D) (least : Option ℤ) (size : ℕ) → (with_least a First least).proved ≤ℤ pos size → IsLeast (pos 0) least size
+  length_within a None size le = tt
+  length_within a (Some n) size le = let more = proved_within a.proved n (pos size) (int_lt a.proved n) refl le in omega (arith, ints, more)
 
-  least_rises : (a : AbsState D) (least : Option ℤ) → a.proved ≤ℤ (with_least a least).proved
-  least_rises a None = omega (arith, ints)
-  least_rises a (Some n) = proved_rises a.proved n (int_lt a.proved n) refl
+  least_rises : (a : AbsState D) (anchor : Anchor) (least : Option ℤ) → a.proved ≤ℤ (with_least a anchor least).proved
+  least_rises a anchor None = omega (arith, ints)
+  least_rises a First (Some n) = proved_rises a.proved n (int_lt a.proved n) refl
+  least_rises a (Made id low high proved) (Some n) = omega (arith, ints)
 
   operands_proved : (a : AbsState D) (dst : Reg) (o : Operand) (left : D × D) → a.proved ≤ℤ (abstract.with_operands a dst o left).proved
   operands_proved a dst (operand.Imm n) left = omega (arith, ints)
@@ -158,18 +162,20 @@ module _ {D : Type 0} (ops : Operations D) (Member : D → ℕ → Type 0) (soun
     pub effect_is : e ≡ effect_of_branch offset branch
     pub behind : AbsState D
     pub behind_is : state_after (next.Fork not_taken taken) branch ≡ Some behind
-    pub member : (to : ℕ) → IsMember Member mode places behind (record s { slot = to })
+    pub member : (to : ℕ) → IsMemberAt Member mode places behind (record s { slot = to })
+    pub extra : ℤ
+    pub within : extra ≤ℤ reach_of a.registers
     pub rises : (way : Branch) (b : AbsState D) → state_after (next.Fork not_taken taken) way ≡ Some b → a.proved ≤ℤ b.proved
-    pub holds_of : (way : Branch) (b : AbsState D) → state_after (next.Fork not_taken taken) way ≡ Some b → b.proved ≤ℤ pos s.memory.length → HoldsOf (bound_of condition (value_at s.registers dst) second way) s.memory.length
-    pub opens : ArePrecise ops Member → mode ≡ Strict → (way : Branch) (b : AbsState D) → state_after (next.Fork not_taken taken) way ≡ Some b → b.proved ≤ℤ pos s.memory.length → (to : ℕ) → IsOpened Member places b s to
+    pub holds_of : (way : Branch) (b : AbsState D) → state_after (next.Fork not_taken taken) way ≡ Some b → b.proved ≤ℤ pos s.memory.length → extra ≤ℤ pos s.memory.length → HoldsOf (bound_of condition (value_at s.registers dst) second way) s.memory.length
+    pub opens : ArePrecise ops Member → mode ≡ Strict → (way : Branch) (b : AbsState D) → state_after (next.Fork not_taken taken) way ≡ Some b → b.proved ≤ℤ pos s.memory.length → extra ≤ℤ pos s.memory.length → (to : ℕ) → IsOpened Member places b s to
 
   some_is : (x y : AbsState D) → ◌≡◌ {A = Option (AbsState D)} (Some x) (Some y) → x ≡ y
   some_is x y e = cc
 
-  module _ (mode : Mode) (places : Places) (a : AbsState D) (s : State) (member : IsMember Member mode places a s) (w : Width) (c : Condition) (dst : Reg) (o : Operand) (offset : ℤ) where
+  module _ (mode : Mode) (places : Places) (a : AbsState D) (s : State) (member : IsMemberAt Member mode places a s) (w : Width) (c : Condition) (dst : Reg) (o : Operand) (offset : ℤ) where
     -- two numbers
     module _ (x y : D) (m n : ℕ) (h : Member x m) (g : Member y n) (dst_is : value_at s.registers dst ≡ value.Scalar m) (o_is : effects.operand_value w s.registers o ≡ Ok (value.Scalar n)) where
-      passed_by : (r : Option (D × D)) → Keeps Member r m n → (behind : AbsState D) × (abstract.refined a dst o r ≡ Some behind) × ((to : ℕ) → IsMember Member mode places behind (record s { slot = to }))
+      passed_by : (r : Option (D × D)) → Keeps Member r m n → (behind : AbsState D) × (abstract.refined a dst o r ≡ Some behind) × ((to : ℕ) → IsMemberAt Member mode places behind (record s { slot = to }))
       passed_by None kept = absurd kept
       passed_by (Some left) kept = (abstract.with_operands a dst o left, refl, λ to. operands_known mode places a s member dst w o left m n to dst_is o_is kept.0 kept.1)
 
@@ -177,7 +183,7 @@ module _ {D : Type 0} (ops : Operations D) (Member : D → ℕ → Type 0) (soun
       refined_rises None b e = absurd cc
       refined_rises (Some left) b e = subst (λ (z : AbsState D). a.proved ≤ℤ z.proved) (some_is (abstract.with_operands a dst o left) b e) (operands_proved a dst o left)
 
-      refined_opens : (strict : IsMember Member Strict places a s) (r : Option (D × D)) → ((left : D × D) → r ≡ Some left → HasMembers Member left) → (b : AbsState D) → abstract.refined a dst o r ≡ Some b → (to : ℕ) → IsOpened Member places b s to
+      refined_opens : (strict : IsMemberAt Member Strict places a s) (r : Option (D × D)) → ((left : D × D) → r ≡ Some left → HasMembers Member left) → (b : AbsState D) → abstract.refined a dst o r ≡ Some b → (to : ℕ) → IsOpened Member places b s to
       refined_opens strict None has b e to = absurd cc
       refined_opens strict (Some left) has b e to = subst (λ (z : AbsState D). IsOpened Member places z s to) (some_is (abstract.with_operands a dst o left) b e) (operands_opened places a s strict dst w o x y left m n to h g dst_is o_is (has left refl))
 
@@ -200,47 +206,51 @@ module _ {D : Type 0} (ops : Operations D) (Member : D → ℕ → Type 0) (soun
             behind = behind.0;
             behind_is = way_is ∙ behind.1;
             member = behind.2;
+            extra = pos 0;
+            within = reach_positive a.registers;
             rises = rises;
-            holds_of = λ way b f le. subst (λ (v : Value). HoldsOf (bound_of c v (value.Scalar n) way) s.memory.length) (sym dst_is) tt;
+            holds_of = λ way b f le le'. subst (λ (v : Value). HoldsOf (bound_of c v (value.Scalar n) way) s.memory.length) (sym dst_is) tt;
             opens = opens;
           } where
             rises : (way : Branch) (b : AbsState D) → state_after (next.Fork (abstract.passed ops a (Fails c) w dst o x y) (abstract.passed ops a (Holds c) w dst o x y)) way ≡ Some b → a.proved ≤ℤ b.proved
             rises NotTaken b f = refined_rises (ops.refine (Fails c) w x y) b f
             rises Taken b f = refined_rises (ops.refine (Holds c) w x y) b f
 
-            opens : ArePrecise ops Member → mode ≡ Strict → (way : Branch) (b : AbsState D) → state_after (next.Fork (abstract.passed ops a (Fails c) w dst o x y) (abstract.passed ops a (Holds c) w dst o x y)) way ≡ Some b → b.proved ≤ℤ pos s.memory.length → (to : ℕ) → IsOpened Member places b s to
-            opens precise strict NotTaken b f le to = refined_opens (subst (λ (k : Mode). IsMember Member k places a s) strict member) (ops.refine (Fails c) w x y) (λ left. precise.refine (Fails c) w x y m n left h g) b f to
-            opens precise strict Taken b f le to = refined_opens (subst (λ (k : Mode). IsMember Member k places a s) strict member) (ops.refine (Holds c) w x y) (λ left. precise.refine (Holds c) w x y m n left h g) b f to
+            opens : ArePrecise ops Member → mode ≡ Strict → (way : Branch) (b : AbsState D) → state_after (next.Fork (abstract.passed ops a (Fails c) w dst o x y) (abstract.passed ops a (Holds c) w dst o x y)) way ≡ Some b → b.proved ≤ℤ pos s.memory.length → pos 0 ≤ℤ pos s.memory.length → (to : ℕ) → IsOpened Member places b s to
+            opens precise strict NotTaken b f le le' to = refined_opens (subst (λ (k : Mode). IsMemberAt Member k places a s) strict member) (ops.refine (Fails c) w x y) (λ left. precise.refine (Fails c) w x y m n left h g) b f to
+            opens precise strict Taken b f le le' to = refined_opens (subst (λ (k : Mode). IsMemberAt Member k places a s) strict member) (ops.refine (Holds c) w x y) (λ left. precise.refine (Holds c) w x y m n left h g) b f to
 
       pub fork_by : (t : Bool) → holds c w m n ≡ t → Forks mode places a s (insn.JumpIf w c dst o offset) (abstract.passed ops a (Fails c) w dst o x y) (abstract.passed ops a (Holds c) w dst o x y) (if t then effect.Jump offset else effect.Pass)
       fork_by true e = numbers_fork (Holds c) Taken (effect.Jump offset) refl e refl
       fork_by false e = numbers_fork (Fails c) NotTaken effect.Pass refl (ap not e) refl
 
     -- a place and the end
-    module _ (bound : Branch → Option Bound) (second : Value) (o_is : effects.operand_value w s.registers o ≡ Ok second) (bound_is : (way : Branch) → bound_of c (value_at s.registers dst) second way ≡ bound way) where
-      way_is : (way : Branch) → state_after (next.Fork (Some (with_least a (abstract.implied_by bound).not_taken)) (Some (with_least a (abstract.implied_by bound).taken))) way ≡ Some (with_least a (abstract.least_of (bound way)))
+    module _ (anchor : Anchor) (bound : Branch → Option Bound) (extra : ℤ) (within : extra ≤ℤ reach_of a.registers)
+        (enough : (way : Branch) → (with_least a anchor (abstract.least_of (bound way))).proved ≤ℤ pos s.memory.length → extra ≤ℤ pos s.memory.length → IsLeast (place_of places anchor) (abstract.least_of (bound way)) s.memory.length)
+        (second : Value) (o_is : effects.operand_value w s.registers o ≡ Ok second) (bound_is : (way : Branch) → bound_of c (value_at s.registers dst) second way ≡ shifted (place_of places anchor) (bound way)) where
+      way_is : (way : Branch) → state_after (next.Fork (Some (with_least a anchor (abstract.implied_by bound).not_taken)) (Some (with_least a anchor (abstract.implied_by bound).taken))) way ≡ Some (with_least a anchor (abstract.least_of (bound way)))
       way_is NotTaken = refl
       way_is Taken = refl
 
-      least_is : (way : Branch) (b : AbsState D) → state_after (next.Fork (Some (with_least a (abstract.implied_by bound).not_taken)) (Some (with_least a (abstract.implied_by bound).taken))) way ≡ Some b → with_least a (abstract.least_of (bound way)) ≡ b
-      least_is way b e = some_is (with_least a (abstract.least_of (bound way))) b (sym (way_is way) ∙ e)
+      least_is : (way : Branch) (b : AbsState D) → state_after (next.Fork (Some (with_least a anchor (abstract.implied_by bound).not_taken)) (Some (with_least a anchor (abstract.implied_by bound).taken))) way ≡ Some b → with_least a anchor (abstract.least_of (bound way)) ≡ b
+      least_is way b e = some_is (with_least a anchor (abstract.least_of (bound way))) b (sym (way_is way) ∙ e)
 
-      least_holds : (way : Branch) (b : AbsState D) → state_after (next.Fork (Some (with_least a (abstract.implied_by bound).not_taken)) (Some (with_least a (abstract.implied_by bound).taken))) way ≡ Some b → b.proved ≤ℤ pos s.memory.length → IsLeast (abstract.least_of (bound way)) s.memory.length
-      least_holds way b e le = least_within a (abstract.least_of (bound way)) s.memory.length (subst (λ (z : AbsState D). z.proved ≤ℤ pos s.memory.length) (sym (least_is way b e)) le)
+      least_holds : (way : Branch) (b : AbsState D) → state_after (next.Fork (Some (with_least a anchor (abstract.implied_by bound).not_taken)) (Some (with_least a anchor (abstract.implied_by bound).taken))) way ≡ Some b → b.proved ≤ℤ pos s.memory.length → extra ≤ℤ pos s.memory.length → IsLeast (place_of places anchor) (abstract.least_of (bound way)) s.memory.length
+      least_holds way b e le le' = enough way (subst (λ (z : AbsState D). z.proved ≤ℤ pos s.memory.length) (sym (least_is way b e)) le) le'
 
-      least_opens : (strict : IsMember Member Strict places a s) (least : Option ℤ) → IsLeast least s.memory.length → (b : AbsState D) → with_least a least ≡ b → (to : ℕ) → IsOpened Member places b s to
+      least_opens : (strict : IsMemberAt Member Strict places a s) (least : Option ℤ) → IsLeast (place_of places anchor) least s.memory.length → (b : AbsState D) → with_least a anchor least ≡ b → (to : ℕ) → IsOpened Member places b s to
       least_opens strict least le b e to =
           subst (λ (z : AbsState D). IsOpened Member places z s to) e
-          (let known_more = member_least Member Strict places a s strict least to le in
+          (let known_more = member_least Member Strict places a s strict anchor least to le in
           record {
             state = record s { slot = to };
-            loosens = loosens_itself Member sound.words places (with_least a least) (record s { slot = to }) known_more;
+            loosens = loosens_itself Member sound.words places (with_least a anchor least) (record s { slot = to }) known_more;
             memory = refl;
             member = known_more;
           })
 
-      places_forked : (taken : Bool) → HoldsOf (bound (branch_if taken)) s.memory.length
-          → Forks mode places a s (insn.JumpIf w c dst o offset) (Some (with_least a (abstract.implied_by bound).not_taken)) (Some (with_least a (abstract.implied_by bound).taken)) (if taken then effect.Jump offset else effect.Pass)
+      places_forked : (taken : Bool) → HoldsOf (shifted (place_of places anchor) (bound (branch_if taken))) s.memory.length
+          → Forks mode places a s (insn.JumpIf w c dst o offset) (Some (with_least a anchor (abstract.implied_by bound).not_taken)) (Some (with_least a anchor (abstract.implied_by bound).taken)) (if taken then effect.Jump offset else effect.Pass)
       places_forked taken true_of = record {
         width = w;
         condition = c;
@@ -252,16 +262,18 @@ module _ {D : Type 0} (ops : Operations D) (Member : D → ℕ → Type 0) (soun
         operand_is = o_is;
         branch = branch_if taken;
         effect_is = effect_taken offset taken;
-        behind = with_least a (abstract.least_of (bound (branch_if taken)));
+        behind = with_least a anchor (abstract.least_of (bound (branch_if taken)));
         behind_is = way_is (branch_if taken);
-        member = λ to. member_least Member mode places a s member (abstract.least_of (bound (branch_if taken))) to (least_from_bound (bound (branch_if taken)) s.memory.length true_of);
-        rises = λ way b e. subst (λ (z : AbsState D). a.proved ≤ℤ z.proved) (least_is way b e) (least_rises a (abstract.least_of (bound way)));
-        holds_of = λ way b e le. subst (λ (z : Option Bound). HoldsOf z s.memory.length) (sym (bound_is way)) (bound_from_least (bound way) s.memory.length (least_holds way b e le));
-        opens = λ precise strict way b e le to. least_opens (subst (λ (k : Mode). IsMember Member k places a s) strict member) (abstract.least_of (bound way)) (least_holds way b e le) b (least_is way b e) to;
+        member = λ to. member_least Member mode places a s member anchor (abstract.least_of (bound (branch_if taken))) to (least_from_bound (place_of places anchor) (bound (branch_if taken)) s.memory.length true_of);
+        extra = extra;
+        within = within;
+        rises = λ way b e. subst (λ (z : AbsState D). a.proved ≤ℤ z.proved) (least_is way b e) (least_rises a anchor (abstract.least_of (bound way)));
+        holds_of = λ way b e le le'. subst (λ (z : Option Bound). HoldsOf z s.memory.length) (sym (bound_is way)) (bound_from_least (place_of places anchor) (bound way) s.memory.length (least_holds way b e le le'));
+        opens = λ precise strict way b e le le' to. least_opens (subst (λ (k : Mode). IsMemberAt Member k places a s) strict member) (abstract.least_of (bound way)) (least_holds way b e le le') b (least_is way b e) to;
       }
 
-      pub forked : (t : Implied) (taken : Bool) → Implies bound s.memory.length t taken
-          → Forks mode places a s (insn.JumpIf w c dst o offset) (Some (with_least a t.not_taken)) (Some (with_least a t.taken)) (if taken then effect.Jump offset else effect.Pass)
+      pub forked : (t : Implied) (taken : Bool) → Implies bound (λ way. shifted (place_of places anchor) (bound way)) s.memory.length t taken
+          → Forks mode places a s (insn.JumpIf w c dst o offset) (Some (with_least a anchor t.not_taken)) (Some (with_least a anchor t.taken)) (if taken then effect.Jump offset else effect.Pass)
       forked t taken implies =
-          subst (λ (z : Implied). Forks mode places a s (insn.JumpIf w c dst o offset) (Some (with_least a z.not_taken)) (Some (with_least a z.taken)) (if taken then effect.Jump offset else effect.Pass)) (sym implies.0)
+          subst (λ (z : Implied). Forks mode places a s (insn.JumpIf w c dst o offset) (Some (with_least a anchor z.not_taken)) (Some (with_least a anchor z.taken)) (if taken then effect.Jump offset else effect.Pass)) (sym implies.0)
           (places_forked taken implies.1)

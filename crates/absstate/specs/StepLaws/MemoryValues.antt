@@ -20,11 +20,12 @@ use Rattle.semantics.specs.declared.reason.Reason.{Reason}
 use Rattle.semantics.specs.declared.reason.Reason.TheVariants.{UninitStack, DatagramBounds, StackBounds}
 use Rattle.absstate.specs.AbstractStates.{is_marked, are_marked}
 use Rattle.absstate.specs.AbstractSteps as abstract
-use Rattle.absstate.specs.Membership.{Mode, Strict, IsCell}
+use Rattle.absstate.specs.Membership.{Mode, Strict, IsPlace, IsCell}
 use Rattle.absstate.specs.declared.memory.Region.{Region}
 use Rattle.absstate.specs.declared.memory.Region.TheVariants as regions
 use Rattle.absstate.specs.declared.abstract_state.Marks.{Marks}
 use Rattle.absstate.specs.StepLaws.Agreement.{Agree}
+use Rattle.absstate.specs.StepLaws.Anchors.{access_inside}
 use Rattle.absstate.specs.StepLaws.Bounds.{le_of, le_is_true, same_order}
 
 -- ---- stack cells
@@ -45,7 +46,7 @@ pub rest_of_and : (a b : Bool) → (a && b) ≡ true → b ≡ true
 rest_of_and true b e = e
 rest_of_and false b e = absurd cc
 
-both : (a b : Bool) → a ≡ true → b ≡ true → (a && b) ≡ true
+pub both : (a b : Bool) → a ≡ true → b ≡ true → (a && b) ≡ true
 both a b p q = ap (λ (x : Bool). x && b) p ∙ q
 
 cons_at : (stack : List (Option ℕ)) (i n : ℕ) → i < length stack → take (suc n) (drop i stack) ≡ get_or stack i None ∷ take n (drop (suc i) stack)
@@ -98,18 +99,25 @@ module _ (claimed : Reason → Type 0) where
   bytes_located n false true i reach exact = λ c. let bad : false ≡ true = exact c in absurd cc
   bytes_located n false false i reach exact = λ c. refl
 
-  -- the datagram is reached as far as its known length, which is at most its length
-  within_reach : (p low a b : ℤ) (n : ℕ) → a ≤ℤ b → is_within p n low a ≡ true → is_within p n low b ≡ true
-  within_reach p low a b n le e =
-      let high : (p +ℤ pos n) ≤ℤ a = le_of (p +ℤ pos n) a (rest_of_and (int_le low p) (int_le (p +ℤ pos n) a) e) in
-      both (int_le low p) (int_le (p +ℤ pos n) b) (first_of_and (int_le low p) (int_le (p +ℤ pos n) a) e) (le_is_true (p +ℤ pos n) b (omega (arith, ints)))
+  -- a place is reached from its anchor's interval on, as far as is proved of the anchor
+  within_reach : (low high proved place k d first : ℤ) (n size : ℕ) → IsPlace size low high proved place → is_within (k +ℤ d) n (first -ℤ low) proved ≡ true → is_within ((place +ℤ k) +ℤ d) n first (pos size) ≡ true
+  within_reach low high proved place k d first n size is e =
+      let inside = access_inside low high proved place k d first n size is
+      (le_of (first -ℤ low) (k +ℤ d) (first_of_and (int_le (first -ℤ low) (k +ℤ d)) (int_le ((k +ℤ d) +ℤ pos n) proved) e))
+      (le_of ((k +ℤ d) +ℤ pos n) proved (rest_of_and (int_le (first -ℤ low) (k +ℤ d)) (int_le ((k +ℤ d) +ℤ pos n) proved) e)) in
+      both (int_le first ((place +ℤ k) +ℤ d)) (int_le (((place +ℤ k) +ℤ d) +ℤ pos n) (pos size)) (le_is_true first ((place +ℤ k) +ℤ d) inside.0) (le_is_true (((place +ℤ k) +ℤ d) +ℤ pos n) (pos size) inside.1)
 
-  pub datagram_located : (size : ℕ) (proved : ℤ) → proved ≤ℤ pos size → (claimed DatagramBounds → pos size ≡ proved) → (p q : ℤ) (n : ℕ) → q ≡ p
-      → Agree claimed (IsRegionOf n) (abstract.in_bytes p n headroom_first proved) (access.in_bytes q n headroom_first (pos size))
-  datagram_located size proved reach exact p q n same =
-      subst (λ (r : ℤ). Agree claimed (IsRegionOf n) (abstract.in_bytes p n headroom_first proved) (access.in_bytes r n headroom_first (pos size))) (sym same)
-      (bytes_located n (is_within p n headroom_first proved) (is_within p n headroom_first (pos size)) (unsigned_abs (p -ℤ headroom_first))
-      (within_reach p headroom_first proved (pos size) n reach) (λ c. ap (is_within p n headroom_first) (sym (exact c))))
+  pub datagram_located : (size : ℕ) (low high proved place k d : ℤ) (n : ℕ) → IsPlace size low high proved place → (claimed DatagramBounds → (place ≡ pos 0) × (low ≡ pos 0) × (pos size ≡ proved))
+      → Agree claimed (IsRegionOf n) (abstract.in_bytes (k +ℤ d) n (headroom_first -ℤ low) proved) (access.in_bytes ((place +ℤ k) +ℤ d) n headroom_first (pos size))
+  datagram_located size low high proved place k d n is exact =
+      bytes_located n (is_within (k +ℤ d) n (headroom_first -ℤ low) proved) (is_within ((place +ℤ k) +ℤ d) n headroom_first (pos size)) (unsigned_abs (((place +ℤ k) +ℤ d) -ℤ headroom_first))
+      (within_reach low high proved place k d headroom_first n size is)
+      (λ c. let e = exact c in (λ i. is_within (offset_is (e.0) i) n (first_is (e.1) i) (sym e.2 i))) where
+        offset_is : place ≡ pos 0 → (k +ℤ d) ≡ ((place +ℤ k) +ℤ d)
+        offset_is e = omega (arith, ints)
+
+        first_is : low ≡ pos 0 → (headroom_first -ℤ low) ≡ headroom_first
+        first_is e = ap (λ (z : ℤ). headroom_first -ℤ z) e
 
   end_is : (d : ℤ) (n size : ℕ) → is_within d n (pos 0) (pos TAILROOM) ≡ is_within (pos size +ℤ d) n (pos size) (pos (size + TAILROOM))
   end_is d n size =

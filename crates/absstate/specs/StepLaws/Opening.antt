@@ -11,6 +11,7 @@ use Rattle.insn.specs.declared.instruction.Insn.{Insn}
 use Rattle.semantics.specs.Access.{written_at}
 use Rattle.semantics.specs.ContextLaws.{little_bytes_fit, length-little_bytes}
 use Rattle.semantics.specs.Kept.{IsProper}
+use Rattle.semantics.specs.Calls.{signature_of}
 use Rattle.semantics.specs.Machine.{Memory, State, Environment}
 use Rattle.semantics.specs.Effects as effects
 use Rattle.semantics.specs.Slots.{fetch}
@@ -28,7 +29,7 @@ use Rattle.semantics.specs.declared.fetching.Branch.{Branch}
 use Rattle.semantics.specs.declared.fetching.Branch.TheVariants.{NotTaken, Taken}
 use Rattle.interval.specs.Domains.{Operations, AreSound, ArePrecise}
 use Rattle.absstate.specs.AbstractSteps as abstract
-use Rattle.absstate.specs.Membership.{Strict, Places, IsMember}
+use Rattle.absstate.specs.Membership.{Strict, Places, IsMemberAt, IsMember}
 use Rattle.absstate.specs.AbstractStates.{with_value, with_answer, with_out}
 use Rattle.absstate.specs.MemberSteps.{state_after}
 use Rattle.absstate.specs.declared.abstract_state.AbstractValue.{AbstractValue}
@@ -37,22 +38,22 @@ use Rattle.absstate.specs.declared.memory.Region.TheVariants as regions
 use Rattle.absstate.specs.declared.abstract_state.AbsState.{AbsState}
 use Rattle.absstate.specs.declared.abstract_step.Next.{Next}
 use Rattle.absstate.specs.declared.abstract_step.Next.TheVariants as next
-use Rattle.absstate.specs.StepLaws.Members.{member_written, member_moved, member_stored, held_kind, members_loosen, loosens_itself}
+use Rattle.absstate.specs.StepLaws.Members.{member_extends, member_written, member_moved, member_stored, held_kind, members_loosen, loosens_itself}
 use Rattle.absstate.specs.StepLaws.Tagged.{written_proper, same_kind_proper}
-use Rattle.absstate.specs.StepLaws.Results.{IsResult}
+use Rattle.absstate.specs.StepLaws.Anchors.{reach_of}
 use Rattle.absstate.specs.StepLaws.Forking.{Forks}
-use Rattle.absstate.specs.StepLaws.Simulation.{IsEffectOf}
+use Rattle.absstate.specs.StepLaws.Simulation.{IsResultAnew, IsEffectOf}
 use Rattle.absstate.specs.StepLaws.Following.{accepted_agree, step_is, straight_leads, jump_goes, branch_goes, size_written, size_answered, small_answer, asked_member, planned_member}
 
 -- the state that a step or a branch leads to, and its loosening, a strict member
-pub record Opens {D : Type 0} (Member : D → ℕ → Type 0) (w : Environment) (code : List Insn) (places : Places) (s : State) (slot : ℕ) (b : AbsState D) : Type 0 where
+pub record Opens {D : Type 0} (Member : D → ℕ → Type 0) (w : Environment) (code : List Insn) (s : State) (slot : ℕ) (b : AbsState D) : Type 0 where
   pub state : State
   pub goes : (step w code s ≡ Goes state) ⊎ ((branch : Branch) × TakesBranch w code s branch state)
   pub loosened : State
   pub loosens : Loosens state loosened
   pub slot_is : loosened.slot ≡ slot
   pub size : loosened.memory.length ≡ s.memory.length
-  pub member : IsMember Member Strict places b loosened
+  pub member : IsMember Member Strict b loosened
 
 same_state : {D : Type 0} (x y : AbsState D) → ◌≡◌ {A = Option (AbsState D)} (Some x) (Some y) → x ≡ y
 same_state x y e = cc
@@ -68,15 +69,18 @@ out_proved : {D : Type 0} (a : AbsState D) (x : D) (out : Option ℕ) → a.prov
 out_proved a x None = refl
 out_proved a x (Some i) = refl
 
+within_both : (x y z : ℤ) → x ≤ℤ y → y ≤ℤ z → x ≤ℤ z
+within_both x y z p q = omega (arith, ints)
+
 at_most : (x y : ℤ) → x ≡ y → x ≤ℤ y
 at_most x y e = omega (arith, ints)
 
-module _ {D : Type 0} (ops : Operations D) (Member : D → ℕ → Type 0) (sound : AreSound ops Member) (w : Environment) (code : List Insn) (places : Places) (a : AbsState D) (s : State) (member : IsMember Member Strict places a s) (i : Insn) (fit : Fits i) where
+module _ {D : Type 0} (ops : Operations D) (Member : D → ℕ → Type 0) (sound : AreSound ops Member) (w : Environment) (code : List Insn) (places : Places) (a : AbsState D) (s : State) (member : IsMemberAt Member Strict places a s) (i : Insn) (fit : Fits i) where
   effect_rises : (answer : Next D) (e : Effect) → IsEffectOf ops Member sound Strict places a s i answer e → (branch : Branch) (b : AbsState D) → state_after answer branch ≡ Some b → a.proved ≤ℤ b.proved
   effect_rises (next.On c) (effect.Write r v) is NotTaken b e = at_most a.proved b.proved (sym (ap (λ (x : AbsState D). x.proved) is.1) ∙ ap (λ (x : AbsState D). x.proved) (same_state c b e))
   effect_rises (next.On c) (effect.Jump offset) is NotTaken b e = at_most a.proved b.proved (sym (ap (λ (x : AbsState D). x.proved) is.0) ∙ ap (λ (x : AbsState D). x.proved) (same_state c b e))
   effect_rises (next.On c) (effect.Store at z n) is NotTaken b e = at_most a.proved b.proved (region_proved a (byte_count z) is.0 ∙ sym (ap (λ (x : AbsState D). x.proved) is.1) ∙ ap (λ (x : AbsState D). x.proved) (same_state c b e))
-  effect_rises (next.On c) (effect.Ask q out) is NotTaken b e = at_most a.proved b.proved (out_proved a (ops.range 0 (abstract.greatest_answer is.asked)) out ∙ sym (ap (λ (x : AbsState D). x.proved) is.behind) ∙ ap (λ (x : AbsState D). x.proved) (same_state c b e))
+  effect_rises (next.On c) (effect.Ask q out) is NotTaken b e = at_most a.proved b.proved (out_proved a (ops.range 0 (signature_of is.asked).greatest) out ∙ sym (ap (λ (x : AbsState D). x.proved) is.behind) ∙ ap (λ (x : AbsState D). x.proved) (same_state c b e))
   effect_rises (next.On c) (effect.SetWindow window) is NotTaken b e = at_most a.proved b.proved (sym (ap (λ (x : AbsState D). x.proved) is.0) ∙ ap (λ (x : AbsState D). x.proved) (same_state c b e))
   effect_rises (next.On c) (effect.SetDestination destination) is NotTaken b e = at_most a.proved b.proved (sym (ap (λ (x : AbsState D). x.proved) is.0) ∙ ap (λ (x : AbsState D). x.proved) (same_state c b e))
   effect_rises (next.On c) effect.Pass is NotTaken b e = absurd is
@@ -96,34 +100,37 @@ module _ {D : Type 0} (ops : Operations D) (Member : D → ℕ → Type 0) (soun
     straight_slot n past leads = same_slot (s.slot + slots_of i) n (sym (straight_leads code s.slot i NotTaken past) ∙ leads)
 
     module _ (b : AbsState D) (n : ℕ) (leads : branch_slot code s.slot i NotTaken ≡ Ok n) where
-      opens_to : (t loosened : State) → step w code s ≡ Goes t → Loosens t loosened → loosened.slot ≡ n → loosened.memory.length ≡ s.memory.length → IsMember Member Strict places b loosened → Opens Member w code places s n b
-      opens_to t loosened goes loosens slot_is size now = record { state = t; goes = inl goes; loosened = loosened; loosens = loosens; slot_is = slot_is; size = size; member = now }
+      opens_to : (t loosened : State) → step w code s ≡ Goes t → Loosens t loosened → loosened.slot ≡ n → loosened.memory.length ≡ s.memory.length → (more : Places) → IsMemberAt Member Strict more b loosened → Opens Member w code s n b
+      opens_to t loosened goes loosens slot_is size more now = record { state = t; goes = inl goes; loosened = loosened; loosens = loosens; slot_is = slot_is; size = size; member = record { places = more; at = now } }
 
       -- a register is written: where the datagram is too long for what is known, its number is replaced
-      write_opens : (r : Reg) (v : Value) (k : AbstractValue D) → b ≡ with_value a r k → IsResult Member places s.memory.length k v → flow_of i ≡ flow.Straight
-          → step w code s ≡ Goes (record s { slot = s.slot + slots_of i; registers = write_register s r v }) → Opens Member w code places s n b
-      write_opens r v k is result past goes =
+      write_opens : (r : Reg) (v : Value) (k : AbstractValue D) → b ≡ with_value a r k → IsResultAnew ops Member sound places s.memory.length a k v → flow_of i ≡ flow.Straight
+          → step w code s ≡ Goes (record s { slot = s.slot + slots_of i; registers = write_register s r v }) → Opens Member w code s n b
+      write_opens r v k is anew past goes =
+          let more : Places = anew.more in
+          let at = member_extends Member Strict places a s member more anew.extends in
+          let result = anew.result in
           let to : ℕ = s.slot + slots_of i in
           let written : State = record s { slot = to; registers = write_register s r v } in
           let like : State = record s { slot = to; registers = write_register s r result.like } in
           let proper : IsProper v = written_proper w code s i r v to real here fit member.tagged goes in
-          let like_proper : IsProper result.like = same_kind_proper v result.like (held_kind Member sound.words places result.wide v result.like result.wide_held result.wide_like) proper in
+          let like_proper : IsProper result.like = same_kind_proper v result.like (held_kind Member sound.words more s.memory.length s.memory.length result.wide v result.like result.wide_held result.wide_like) proper in
           opens_to written like goes
-          (members_loosen Member sound.words places (with_value a r result.wide) written like
-          (member_written Member Strict places a s member r result.wide v to result.wide_held proper)
-          (member_written Member Strict places a s member r result.wide result.like to result.wide_like like_proper) refl refl refl)
-          (straight_slot n past leads) refl
-          (subst (λ (x : AbsState D). IsMember Member Strict places x like) (sym is) (member_written Member Strict places a s member r k result.like to result.like_held like_proper))
+          (members_loosen Member sound.words more (with_value a r result.wide) written like
+          (member_written Member Strict more a s at r result.wide v to result.wide_held proper)
+          (member_written Member Strict more a s at r result.wide result.like to result.wide_like like_proper) refl refl refl)
+          (straight_slot n past leads) refl more
+          (subst (λ (x : AbsState D). IsMemberAt Member Strict more x like) (sym is) (member_written Member Strict more a s at r k result.like to result.like_held like_proper))
 
-      itself : (t : State) → step w code s ≡ Goes t → t.slot ≡ n → t.memory.length ≡ s.memory.length → IsMember Member Strict places b t → Opens Member w code places s n b
-      itself t goes slot_is size now = opens_to t t goes (loosens_itself Member sound.words places b t now) slot_is size now
+      itself : (t : State) → step w code s ≡ Goes t → t.slot ≡ n → t.memory.length ≡ s.memory.length → IsMemberAt Member Strict places b t → Opens Member w code s n b
+      itself t goes slot_is size now = opens_to t t goes (loosens_itself Member sound.words places b t now) slot_is size places now
 
-      effect_opens : (e : Effect) → IsEffectOf ops Member sound Strict places a s i (next.On b) e → step w code s ≡ applied w code s i (Ok e) → Opens Member w code places s n b
+      effect_opens : (e : Effect) → IsEffectOf ops Member sound Strict places a s i (next.On b) e → step w code s ≡ applied w code s i (Ok e) → Opens Member w code s n b
       effect_opens (effect.Write r v) is goes = write_opens r v is.0 is.1 is.2 is.3 goes
       effect_opens (effect.Store at z k) is goes =
           let bytes = little_bytes (byte_count z) k in
           itself (record s { slot = s.slot + slots_of i; memory = written_at s.memory at bytes }) goes (straight_slot n is.3 leads) (size_written s.memory at bytes)
-          (subst (λ (x : AbsState D). IsMember Member Strict places x (record s { slot = s.slot + slots_of i; memory = written_at s.memory at bytes })) (sym is.1)
+          (subst (λ (x : AbsState D). IsMemberAt Member Strict places x (record s { slot = s.slot + slots_of i; memory = written_at s.memory at bytes })) (sym is.1)
           (member_stored Member Strict places a s member (byte_count z) is.0 at bytes (s.slot + slots_of i) is.2 (length-little_bytes (byte_count z) k) (little_bytes_fit (byte_count z) k)))
       effect_opens (effect.Ask q out) is goes =
           let answer = w.answer q.helper q.number q.address in
@@ -136,14 +143,15 @@ module _ {D : Type 0} (ops : Operations D) (Member : D → ℕ → Type 0) (soun
           (planned_member ops Member sound Strict places a s member i b helper.Destination (plan_answer destination) (with_destination s.plan destination) is.0 (small_answer destination) refl)
       effect_opens (effect.Jump offset) is goes =
           itself (record s { slot = n }) (goes ∙ jump_goes w code s i offset NotTaken n is.1 leads) refl refl
-          (subst (λ (x : AbsState D). IsMember Member Strict places x (record s { slot = n })) (sym is.0) (member_moved Member Strict places a s member n))
+          (subst (λ (x : AbsState D). IsMemberAt Member Strict places x (record s { slot = n })) (sym is.0) (member_moved Member Strict places a s member n))
       effect_opens effect.Pass is goes = absurd is
       effect_opens (effect.Exit verdict) is goes = absurd is
 
     fork_opens : (not_taken taken : Option (AbsState D)) (e : Effect) → effects.effect w.context s.memory s.registers i ≡ Ok e → Forks ops Member sound Strict places a s i not_taken taken e
-        → (branch : Branch) (b : AbsState D) (n : ℕ) → state_after (next.Fork not_taken taken) branch ≡ Some b → branch_slot code s.slot i branch ≡ Ok n → b.proved ≤ℤ pos s.memory.length → Opens Member w code places s n b
-    fork_opens not_taken taken e effect_is f branch b n behind leads le =
-        let opened = f.opens precise refl branch b behind le n in
+        → (branch : Branch) (b : AbsState D) (n : ℕ) → state_after (next.Fork not_taken taken) branch ≡ Some b → branch_slot code s.slot i branch ≡ Ok n → b.proved ≤ℤ pos s.memory.length → reach_of a.registers ≤ℤ pos s.memory.length → Opens Member w code s n b
+    fork_opens not_taken taken e effect_is f branch b n behind leads le reach =
+        let extra : f.extra ≤ℤ pos s.memory.length = within_both f.extra (reach_of a.registers) (pos s.memory.length) f.within reach in
+        let opened = f.opens precise refl branch b behind le extra n in
         record {
           state = record s { slot = n };
           goes = inr (
@@ -159,7 +167,7 @@ module _ {D : Type 0} (ops : Operations D) (Member : D → ℕ → Type 0) (soun
               decided = e;
               not_stuck = ap (effects.effect w.context s.memory s.registers) (sym f.jump) ∙ effect_is;
               operand_is = f.operand_is;
-              is_open = f.holds_of branch b behind le;
+              is_open = f.holds_of branch b behind le extra;
               goes = ap (λ (j : Insn). applied w code s j (Ok (effect_of_branch f.offset branch))) (sym f.jump) ∙ branch_goes w code s i f.offset branch n (ap flow_of f.jump) leads;
             },
           );
@@ -167,15 +175,15 @@ module _ {D : Type 0} (ops : Operations D) (Member : D → ℕ → Type 0) (soun
           loosens = opened.loosens;
           slot_is = opened.loosens.slot;
           size = ap (λ (m : Memory). m.length) opened.memory;
-          member = opened.member;
+          member = record { places = places; at = opened.member };
         }
 
-    pub step_opens : (answer : Next D) → abstract.step ops a i ≡ Ok answer → (branch : Branch) (b : AbsState D) (n : ℕ) → state_after answer branch ≡ Some b → branch_slot code s.slot i branch ≡ Ok n → b.proved ≤ℤ pos s.memory.length → Opens Member w code places s n b
-    step_opens (next.On c) is NotTaken b n e leads le =
+    pub step_opens : (answer : Next D) → abstract.step ops a i ≡ Ok answer → (branch : Branch) (b : AbsState D) (n : ℕ) → state_after answer branch ≡ Some b → branch_slot code s.slot i branch ≡ Ok n → b.proved ≤ℤ pos s.memory.length → reach_of a.registers ≤ℤ pos s.memory.length → Opens Member w code s n b
+    step_opens (next.On c) is NotTaken b n e leads le reach =
         let agree = accepted_agree ops Member sound Strict places a s member w.context real.context i fit (next.On c) is in
         effect_opens b n leads agree.0 (subst (λ (x : AbsState D). IsEffectOf ops Member sound Strict places a s i (next.On x) agree.0) (same_state c b e) agree.2) (step_is w code s i (Ok agree.0) here agree.1)
-    step_opens (next.On c) is Taken b n e leads le = absurd cc
-    step_opens (next.Fork not_taken taken) is branch b n e leads le =
+    step_opens (next.On c) is Taken b n e leads le reach = absurd cc
+    step_opens (next.Fork not_taken taken) is branch b n e leads le reach =
         let agree = accepted_agree ops Member sound Strict places a s member w.context real.context i fit (next.Fork not_taken taken) is in
-        fork_opens not_taken taken agree.0 agree.1 agree.2 branch b n e leads le
-    step_opens next.Exit is branch b n e leads le = absurd cc
+        fork_opens not_taken taken agree.0 agree.1 agree.2 branch b n e leads le reach
+    step_opens next.Exit is branch b n e leads le reach = absurd cc

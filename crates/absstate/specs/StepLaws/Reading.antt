@@ -1,6 +1,6 @@
 -- Internal. What members hold at places of memory and in the arguments of calls agrees with what is known of it.
 use Rattle.std.proofs.Common.{◌≡◌, ℕ, ◌-◌, ◌<◌, ◌^◌, ℤ, pos, ◌+ℤ◌, ◌≤ℤ◌, Option, Some, None, Ok, refl, sym, ap, subst, arith}
-use Rattle.std.specs.Prelude.{◌+◌, ◌≤◌}
+use Rattle.std.specs.Prelude.{◌+◌, ◌≤◌, List, IfSome}
 use Rattle.std.specs.Option.{ok_or}
 use Rattle.insn.specs.Register.{number_of}
 use Rattle.std.proofs.lemmas.Int.{ints}
@@ -16,33 +16,36 @@ use Rattle.insn.specs.declared.instruction.Insn.{Insn}
 use Rattle.semantics.specs.Fallible.{◌>>=◌}
 use Rattle.semantics.specs.Access.{index_within, stack_first, location}
 use Rattle.semantics.specs.AccessLaws.{index_short}
-use Rattle.semantics.specs.Calls.{context_value, number_value, stack_value, record_at}
+use Rattle.semantics.specs.Calls.{argument_at, context_value, number_value, stack_value, record_at, no_inputs}
+use Rattle.semantics.specs.NumberLaws.{no_address_bytes}
+use Rattle.semantics.specs.declared.helper.Argument.{Argument}
+use Rattle.semantics.specs.declared.helper.Argument.TheVariants as argument
+use Rattle.semantics.specs.declared.helper.Inputs.{Inputs}
 use Rattle.semantics.specs.Machine.{AddressRecord, AreBytes, Context, IsContext, State}
 use Rattle.semantics.specs.Effects as effects
 use Rattle.semantics.specs.Loading as loading
 use Rattle.semantics.specs.Loading.{read_number}
 use Rattle.semantics.specs.declared.limits.TheConstants.{TAILROOM}
 use Rattle.semantics.specs.declared.reason.Reason.{Reason}
-use Rattle.semantics.specs.declared.reason.Reason.TheVariants.{HelperArgument}
+use Rattle.semantics.specs.declared.reason.Reason.TheVariants.{DatagramBounds, HelperArgument}
 use Rattle.semantics.specs.declared.value.Value.{Value}
 use Rattle.semantics.specs.declared.value.Value.TheVariants as value
 use Rattle.interval.specs.Domains.{Operations, AreSound}
 use Rattle.absstate.specs.AbstractSteps as abstract
 use Rattle.absstate.specs.AbstractSteps.{located, readable}
-use Rattle.absstate.specs.Membership.{Mode, Places, IsNumberOf, IsHeld, IsMember, value_of}
-use Rattle.absstate.specs.declared.abstract_state.Anchor.TheVariants.{First}
+use Rattle.absstate.specs.Membership.{Mode, Places, IsNumberOf, IsHeld, IsMemberAt, value_of}
+use Rattle.absstate.specs.declared.abstract_state.Anchor.TheVariants.{First, Made}
 use Rattle.absstate.specs.declared.abstract_state.AbstractValue.{AbstractValue}
 use Rattle.absstate.specs.declared.abstract_state.AbstractValue.TheVariants as known
 use Rattle.absstate.specs.declared.abstract_state.AbsState.{AbsState}
 use Rattle.absstate.specs.StepLaws.Agreement.{Agree, and_then}
 use Rattle.absstate.specs.StepLaws.MemoryValues.{IsRegionOf, IsRead, stack_located, datagram_located, tailroom_located, region_read, record_read}
-use Rattle.absstate.specs.StepLaws.Arithmetic.{from_first, read_agrees, AreClaims}
+use Rattle.absstate.specs.StepLaws.Sums.{place_is}
+use Rattle.absstate.specs.StepLaws.Anchors.{IsMade}
+use Rattle.absstate.specs.StepLaws.Arithmetic.{read_agrees, AreClaims}
 use Rattle.absstate.specs.StepLaws.Results.{IsResult, held_results, fields_agree}
 
-reach_is : (p proved size : ℤ) → p ≡ pos 0 → (p +ℤ proved) ≤ℤ size → proved ≤ℤ size
-reach_is p proved size e h = omega (arith, ints)
-
-zero_more : (d : ℤ) → d ≡ (pos 0 +ℤ d)
+pub zero_more : (d : ℤ) → d ≡ (pos 0 +ℤ d)
 zero_more d = omega (arith, ints)
 
 size_fits : (z : Size) → 256 ^ byte_count z - 1 < 2 ^ 64
@@ -53,90 +56,92 @@ size_fits size.Double = omega arith
 
 -- ---- what the arguments of a call are: a word, an index of the stack with room for a record there, and a record
 
-abbrev pub IsWord : Unit {0} → ℕ → Type 0
+-- the inputs of a helper: a word, a record, and the index that is known, with room for a record there
+abbrev pub IsGiven : Option ℕ → Inputs → Type 0
+IsGiven out given = (given.number < 2 ^ 64) × AreBytes 8 given.address × (out ≡ given.out) × IfSome out (λ j. j + 8 ≤ 512)
+
+abbrev IsWord : Unit {0} → ℕ → Type 0
 IsWord u n = n < 2 ^ 64
 
-abbrev pub IsSameIndex : ℕ → ℕ → Type 0
+abbrev IsSameIndex : ℕ → ℕ → Type 0
 IsSameIndex m n = (m ≡ n) × (m + 8 ≤ 512)
 
-abbrev pub IsRecord : Unit {0} → AddressRecord → Type 0
+abbrev IsRecord : Unit {0} → AddressRecord → Type 0
 IsRecord u address = AreBytes 8 address
 
-module _ {D : Type 0} (ops : Operations D) (Member : D → ℕ → Type 0) (sound : AreSound ops Member) (claimed : Reason → Type 0) (mode : Mode) (places : Places) (a : AbsState D) (s : State) (member : IsMember Member mode places a s) (i : Insn) (claims : AreClaims ops Member sound claimed mode a s i) where
-  first : places First ≡ pos 0
-  first = member.anchored First
-
+module _ {D : Type 0} (ops : Operations D) (Member : D → ℕ → Type 0) (sound : AreSound ops Member) (claimed : Reason → Type 0) (mode : Mode) (places : Places) (a : AbsState D) (s : State) (member : IsMemberAt Member mode places a s) (i : Insn) (claims : AreClaims ops Member sound claimed mode a s i) where
   -- ---- memory
 
-  pub locations_agree : (x : AbstractValue D) (m : ℕ) (d : ℤ) (n : ℕ) → IsNumberOf Member x m
+  pub locations_agree : (x : AbstractValue D) → (claimed DatagramBounds → IsMade x → ⊥) → (m : ℕ) (d : ℤ) (n : ℕ) → IsNumberOf Member places s.memory.length x m
       → Agree claimed (IsRegionOf n) (abstract.located a x d n) (location s.memory.length (value_of places x m) d n)
   unfolding located
-  locations_agree known.Nothing m d n h = λ c. refl
-  locations_agree (known.Scalar k) m d n h = λ c. refl
-  locations_agree known.Ctx m d n h = λ c. refl
-  locations_agree (known.Stack k) m d n h = stack_located claimed (k +ℤ d) n
-  locations_agree (known.Data First k) m d n h =
-      datagram_located claimed s.memory.length a.proved (reach_is (places First) a.proved (pos s.memory.length) first (member.reaches First)) claims.bounds (k +ℤ d) ((places First +ℤ k) +ℤ d) n
-      (ap (λ (p : ℤ). p +ℤ d) (from_first (places First) k first))
-  locations_agree known.End m d n h = subst (λ (z : ℤ). Agree claimed (IsRegionOf n) (abstract.in_bytes z n (pos 0) (pos TAILROOM)) (location s.memory.length value.End d n)) (zero_more d) (tailroom_located claimed s.memory.length d n)
+  locations_agree known.Nothing plain m d n h = λ c. refl
+  locations_agree (known.Scalar k) plain m d n h = λ c. refl
+  locations_agree known.Ctx plain m d n h = λ c. refl
+  locations_agree (known.Stack k) plain m d n h = stack_located claimed (k +ℤ d) n
+  locations_agree (known.Data First k) plain m d n h =
+      datagram_located claimed s.memory.length (pos 0) (pos 0) a.proved (pos 0) k d n (place_is places s.memory.length a First member.reaches h) (λ c. (refl, refl, claims.bounds c))
+  locations_agree (known.Data (Made id low high proved) k) plain m d n h =
+      datagram_located claimed s.memory.length low high proved (places id) k d n h (λ c. absurd (plain c tt))
+  locations_agree known.End plain m d n h = subst (λ (z : ℤ). Agree claimed (IsRegionOf n) (abstract.in_bytes z n (pos 0) (pos TAILROOM)) (location s.memory.length value.End d n)) (zero_more d) (tailroom_located claimed s.memory.length d n)
 
-  reads_agree : (x : AbstractValue D) (m : ℕ) (d : ℤ) (n : ℕ) → IsNumberOf Member x m
+  reads_agree : (x : AbstractValue D) → (claimed DatagramBounds → IsMade x → ⊥) → (m : ℕ) (d : ℤ) (n : ℕ) → IsNumberOf Member places s.memory.length x m
       → Agree claimed (IsRead n) (abstract.readable a x d n) (loading.read_number s.memory (value_of places x m) d n)
   unfolding readable read_number
-  reads_agree x m d n h =
-      and_then claimed (IsRegionOf n) (IsRead n) (abstract.located a x d n) (location s.memory.length (value_of places x m) d n) _ _ (locations_agree x m d n h)
+  reads_agree x plain m d n h =
+      and_then claimed (IsRegionOf n) (IsRead n) (abstract.located a x d n) (location s.memory.length (value_of places x m) d n) _ _ (locations_agree x plain m d n h)
       (λ r at p q is. region_read claimed mode claims.cells a.marks s.memory member.tagged.memory member.cells n r at is)
 
   -- what is known of the number that is read has it as a member, extended or not
-  numbers_agree : (extend : ℕ → ℕ) (number : D) (x : AbstractValue D) (m : ℕ) (d : ℤ) (n : ℕ) → ((k : ℕ) → k < 256 ^ n → Member number (extend k)) → IsNumberOf Member x m
-      → Agree claimed (IsHeld Member places) (abstract.load_number a x d n number) (loading.read_number s.memory (value_of places x m) d n >>= λ k. Ok (value.Scalar (extend k)))
-  numbers_agree extend number x m d n is h =
-      and_then claimed (IsRead n) (IsHeld Member places) (abstract.readable a x d n) (loading.read_number s.memory (value_of places x m) d n) _ _
-      (reads_agree x m d n h) (λ u k p q small. (extend k, is k small, refl))
+  numbers_agree : (extend : ℕ → ℕ) (number : D) (x : AbstractValue D) → (claimed DatagramBounds → IsMade x → ⊥) → (m : ℕ) (d : ℤ) (n : ℕ) → ((k : ℕ) → k < 256 ^ n → Member number (extend k)) → IsNumberOf Member places s.memory.length x m
+      → Agree claimed (IsHeld Member places s.memory.length) (abstract.load_number a x d n number) (loading.read_number s.memory (value_of places x m) d n >>= λ k. Ok (value.Scalar (extend k)))
+  numbers_agree extend number x plain m d n is h =
+      and_then claimed (IsRead n) (IsHeld Member places s.memory.length) (abstract.readable a x d n) (loading.read_number s.memory (value_of places x m) d n) _ _
+      (reads_agree x plain m d n h) (λ u k p q small. (extend k, is k small, refl))
 
   of_size : (z : Size) (k : ℕ) → k < 256 ^ byte_count z → Member (abstract.number_of_size ops z) k
   of_size z k small = sound.range 0 (256 ^ byte_count z - 1) k (size_fits z) (omega arith) (omega (arith, small))
 
-  number_agrees : (x : AbstractValue D) (m : ℕ) (d : ℤ) (z : Size) → IsNumberOf Member x m
+  number_agrees : (x : AbstractValue D) → (claimed DatagramBounds → IsMade x → ⊥) → (m : ℕ) (d : ℤ) (z : Size) → IsNumberOf Member places s.memory.length x m
       → Agree claimed (IsResult Member places s.memory.length) (abstract.load_number a x d (byte_count z) (abstract.number_of_size ops z)) (loading.read_number s.memory (value_of places x m) d (byte_count z) >>= λ k. Ok (value.Scalar k))
-  number_agrees x m d z h =
+  number_agrees x plain m d z h =
       held_results claimed Member places s.memory.length (abstract.load_number a x d (byte_count z) (abstract.number_of_size ops z)) _
-      (numbers_agree (λ k. k) (abstract.number_of_size ops z) x m d (byte_count z) (of_size z) h)
+      (numbers_agree (λ k. k) (abstract.number_of_size ops z) x plain m d (byte_count z) (of_size z) h)
 
-  pub load_agrees : (c : Context) → IsContext c → (x : AbstractValue D) (m : ℕ) (d : ℤ) (z : Size) → IsNumberOf Member x m
+  pub load_agrees : (c : Context) → IsContext c → (x : AbstractValue D) → (claimed DatagramBounds → IsMade x → ⊥) → (m : ℕ) (d : ℤ) (z : Size) → IsNumberOf Member places s.memory.length x m
       → Agree claimed (IsResult Member places s.memory.length) (abstract.load ops a x d z) (loading.load c s.memory (value_of places x m) d z)
-  load_agrees c real known.Ctx m d z h = fields_agree ops Member sound claimed places first c real s.memory.length d z
-  load_agrees c real known.Nothing m d z h = number_agrees known.Nothing m d z h
-  load_agrees c real (known.Scalar n) m d z h = number_agrees (known.Scalar n) m d z h
-  load_agrees c real (known.Stack k) m d z h = number_agrees (known.Stack k) m d z h
-  load_agrees c real (known.Data anchor k) m d z h = number_agrees (known.Data anchor k) m d z h
-  load_agrees c real known.End m d z h = number_agrees known.End m d z h
+  load_agrees c real known.Ctx plain m d z h = fields_agree ops Member sound claimed places c real s.memory.length d z
+  load_agrees c real known.Nothing plain m d z h = number_agrees known.Nothing plain m d z h
+  load_agrees c real (known.Scalar n) plain m d z h = number_agrees (known.Scalar n) plain m d z h
+  load_agrees c real (known.Stack k) plain m d z h = number_agrees (known.Stack k) plain m d z h
+  load_agrees c real (known.Data anchor k) plain m d z h = number_agrees (known.Data anchor k) plain m d z h
+  load_agrees c real known.End plain m d z h = number_agrees known.End plain m d z h
 
-  pub signed_agrees : (x : AbstractValue D) (m : ℕ) (d : ℤ) (z : SignedSize) → IsNumberOf Member x m
+  pub signed_agrees : (x : AbstractValue D) → (claimed DatagramBounds → IsMade x → ⊥) → (m : ℕ) (d : ℤ) (z : SignedSize) → IsNumberOf Member places s.memory.length x m
       → Agree claimed (IsResult Member places s.memory.length) (abstract.load_signed ops a x d z) (loading.load_signed s.memory (value_of places x m) d z)
-  signed_agrees x m d z h =
+  signed_agrees x plain m d z h =
       held_results claimed Member places s.memory.length (abstract.load_signed ops a x d z) (loading.load_signed s.memory (value_of places x m) d z)
-      (numbers_agree (sign_extended z) ops.top x m d (byte_count (unsigned_size z)) (λ k small. sound.top (sign_extended z k) (sign_extended_word z k)) h)
+      (numbers_agree (sign_extended z) ops.top x plain m d (byte_count (unsigned_size z)) (λ k small. sound.top (sign_extended z k) (sign_extended_word z k)) h)
 
   -- ---- calls
 
-  pub context_agrees : Agree claimed (λ (u v : Unit {0}). Unit {0}) (abstract.context_argument a) (effects.context_argument s.registers)
-  context_agrees =
-      and_then claimed (IsHeld Member places) (λ (u v : Unit {0}). Unit {0}) (abstract.read a reg.R1) (effects.read s.registers reg.R1) _ _ (read_agrees ops Member sound claimed mode places claims.registers a s member reg.R1)
-      (λ x u p q held. subst (λ (v : Value). Agree claimed (λ (u v : Unit {0}). Unit {0}) (abstract.context_value x) (context_value v)) (sym held.2) (contexts x held.0 held.1)) where
-        contexts : (x : AbstractValue D) (m : ℕ) → IsNumberOf Member x m → Agree claimed (λ (u v : Unit {0}). Unit {0}) (abstract.context_value x) (context_value (value_of places x m))
-        contexts known.Ctx m h = tt
-        contexts known.Nothing m h = λ c. refl
-        contexts (known.Scalar n) m h = λ c. refl
-        contexts (known.Stack k) m h = λ c. refl
-        contexts (known.Data anchor k) m h = λ c. refl
-        contexts known.End m h = λ c. refl
+  context_agrees_at : (r : Reg) → Agree claimed (λ (u v : Unit {0}). Unit {0}) (abstract.context_argument a r) (effects.context_argument s.registers r)
+  context_agrees_at r =
+      and_then claimed (IsHeld Member places s.memory.length) (λ (u v : Unit {0}). Unit {0}) (abstract.read a r) (effects.read s.registers r) _ _ (read_agrees ops Member sound claimed mode places claims.registers a s member r)
+      (λ x u p q held. subst (λ (v : Value). Agree claimed (λ (u v : Unit {0}). Unit {0}) (abstract.context_value r x) (context_value r v)) (sym held.2) (contexts r x held.0 held.1)) where
+        contexts : (r : Reg) (x : AbstractValue D) (m : ℕ) → IsNumberOf Member places s.memory.length x m → Agree claimed (λ (u v : Unit {0}). Unit {0}) (abstract.context_value r x) (context_value r (value_of places x m))
+        contexts r known.Ctx m h = tt
+        contexts r known.Nothing m h = λ c. refl
+        contexts r (known.Scalar n) m h = λ c. refl
+        contexts r (known.Stack k) m h = λ c. refl
+        contexts r (known.Data anchor k) m h = λ c. refl
+        contexts r known.End m h = λ c. refl
 
-  pub number_agrees_at : (r : Reg) → Agree claimed IsWord (abstract.number_argument a r) (effects.number_argument s.registers r)
+  number_agrees_at : (r : Reg) → Agree claimed IsWord (abstract.number_argument a r) (effects.number_argument s.registers r)
   number_agrees_at r =
-      and_then claimed (IsHeld Member places) IsWord (abstract.read a r) (effects.read s.registers r) _ _ (read_agrees ops Member sound claimed mode places claims.registers a s member r)
+      and_then claimed (IsHeld Member places s.memory.length) IsWord (abstract.read a r) (effects.read s.registers r) _ _ (read_agrees ops Member sound claimed mode places claims.registers a s member r)
       (λ x u p q held. subst (λ (v : Value). Agree claimed IsWord (abstract.number_value r x) (number_value r v)) (sym held.2) (numbers r x held.0 held.1)) where
-        numbers : (r : Reg) (x : AbstractValue D) (m : ℕ) → IsNumberOf Member x m → Agree claimed IsWord (abstract.number_value r x) (number_value r (value_of places x m))
+        numbers : (r : Reg) (x : AbstractValue D) (m : ℕ) → IsNumberOf Member places s.memory.length x m → Agree claimed IsWord (abstract.number_value r x) (number_value r (value_of places x m))
         numbers r (known.Scalar n) m h = sound.words n m h
         numbers r known.Nothing m h = λ c. refl
         numbers r known.Ctx m h = λ c. refl
@@ -148,11 +153,11 @@ module _ {D : Type 0} (ops : Operations D) (Member : D → ℕ → Type 0) (soun
   found_index r None short = λ c. refl
   found_index r (Some m) short = (refl, short m refl)
 
-  pub stack_agrees_at : (r : Reg) → Agree claimed IsSameIndex (abstract.stack_argument a r) (effects.stack_argument s.registers r)
+  stack_agrees_at : (r : Reg) → Agree claimed IsSameIndex (abstract.stack_argument a r) (effects.stack_argument s.registers r)
   stack_agrees_at r =
-      and_then claimed (IsHeld Member places) IsSameIndex (abstract.read a r) (effects.read s.registers r) _ _ (read_agrees ops Member sound claimed mode places claims.registers a s member r)
+      and_then claimed (IsHeld Member places s.memory.length) IsSameIndex (abstract.read a r) (effects.read s.registers r) _ _ (read_agrees ops Member sound claimed mode places claims.registers a s member r)
       (λ x u p q held. subst (λ (v : Value). Agree claimed IsSameIndex (abstract.stack_value r x) (stack_value r v)) (sym held.2) (indices r x held.0 held.1)) where
-        indices : (r : Reg) (x : AbstractValue D) (m : ℕ) → IsNumberOf Member x m → Agree claimed IsSameIndex (abstract.stack_value r x) (stack_value r (value_of places x m))
+        indices : (r : Reg) (x : AbstractValue D) (m : ℕ) → IsNumberOf Member places s.memory.length x m → Agree claimed IsSameIndex (abstract.stack_value r x) (stack_value r (value_of places x m))
         indices r (known.Stack k) m h = found_index r (index_within (k +ℤ pos 0) 8 stack_first stack_first (pos 0)) (λ n e. index_short (k +ℤ pos 0) 8 n e)
         indices r known.Nothing m h = λ c. refl
         indices r (known.Scalar n) m h = λ c. refl
@@ -160,9 +165,27 @@ module _ {D : Type 0} (ops : Operations D) (Member : D → ℕ → Type 0) (soun
         indices r (known.Data anchor k) m h = λ c. refl
         indices r known.End m h = λ c. refl
 
-  pub record_agrees_at : (r : Reg) → Agree claimed IsRecord (abstract.record_argument a r) (effects.record_argument s.memory s.registers r)
+  record_agrees_at : (r : Reg) → Agree claimed IsRecord (abstract.record_argument a r) (effects.record_argument s.memory s.registers r)
   record_agrees_at r =
       and_then claimed IsSameIndex IsRecord (abstract.stack_argument a r) (effects.stack_argument s.registers r) _ _ (stack_agrees_at r)
       (λ m n p q same. subst (λ (k : ℕ). Agree claimed IsRecord (abstract.record_readable a.marks m) (record_at s.memory k)) same.0 (region_record m same.1)) where
         region_record : (m : ℕ) → m + 8 ≤ 512 → Agree claimed IsRecord (abstract.record_readable a.marks m) (record_at s.memory m)
         region_record m short = record_read claimed mode claims.cells a.marks s.memory member.tagged.memory member.cells m short
+
+  argument_agrees : (r : Reg) (x : Argument) (out : Option ℕ) (given : Inputs) → IsGiven out given → Agree claimed IsGiven (abstract.with_argument a r x out) (effects.with_argument s.memory s.registers r x given)
+  argument_agrees r argument.Unused out given is = is
+  argument_agrees r argument.Context out given is = and_then claimed (λ (u v : Unit {0}). Unit {0}) IsGiven (abstract.context_argument a r) (effects.context_argument s.registers r) _ _ (context_agrees_at r) (λ u v p q t. is)
+  argument_agrees r argument.Number out given is = and_then claimed IsWord IsGiven (abstract.number_argument a r) (effects.number_argument s.registers r) _ _ (number_agrees_at r) (λ u n p q word. (word, is.1, is.2, is.3))
+  argument_agrees r argument.RecordIn out given is =
+      and_then claimed IsRecord IsGiven (abstract.record_argument a r) (effects.record_argument s.memory s.registers r) _ _ (record_agrees_at r) (λ u address p q are. (is.0, are, is.2, is.3))
+  argument_agrees r argument.RecordOut out given is =
+      and_then claimed IsSameIndex IsGiven (abstract.stack_argument a r) (effects.stack_argument s.registers r) _ _ (stack_agrees_at r) (λ m n p q same. (is.0, is.1, ap (λ (k : ℕ). Some k) same.0, same.1))
+
+  pub inputs_agree : (xs : List Argument) → Agree claimed IsGiven (abstract.out_of a xs) (effects.inputs s.memory s.registers xs)
+  inputs_agree xs =
+      and_then claimed IsGiven IsGiven (abstract.with_argument a reg.R1 (argument_at xs 0) None) (effects.with_argument s.memory s.registers reg.R1 (argument_at xs 0) no_inputs) _ _
+      (argument_agrees reg.R1 (argument_at xs 0) None no_inputs (omega arith, no_address_bytes, refl, tt))
+      (λ o given p q is. and_then claimed IsGiven IsGiven (abstract.with_argument a reg.R2 (argument_at xs 1) o) (effects.with_argument s.memory s.registers reg.R2 (argument_at xs 1) given) _ _ (argument_agrees reg.R2 (argument_at xs 1) o given is)
+      (λ o given p q is. and_then claimed IsGiven IsGiven (abstract.with_argument a reg.R3 (argument_at xs 2) o) (effects.with_argument s.memory s.registers reg.R3 (argument_at xs 2) given) _ _ (argument_agrees reg.R3 (argument_at xs 2) o given is)
+      (λ o given p q is. and_then claimed IsGiven IsGiven (abstract.with_argument a reg.R4 (argument_at xs 3) o) (effects.with_argument s.memory s.registers reg.R4 (argument_at xs 3) given) _ _ (argument_agrees reg.R4 (argument_at xs 3) o given is)
+      (λ o given p q is. argument_agrees reg.R5 (argument_at xs 4) o given is))))

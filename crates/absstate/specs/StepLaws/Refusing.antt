@@ -3,11 +3,14 @@
 use Rattle.std.proofs.Common.{◌≡◌, ℕ, ◌<◌, ◌^◌, Bool, true, false, ◌&&◌, ℤ, pos, negsuc, ◌+ℤ◌, ◌-ℤ◌, ◌≤ℤ◌, ◌<ℤ◌, ◌≤◌, Option, Some, None, Result, Ok, Err, refl, sym, ap, ◌∙◌, subst, arith, rules}
 use Rattle.std.specs.Prelude.{int_le, slice_index_or, ◌==◌, if◌then◌else◌}
 use Rattle.std.specs.Int.{w64, cast_signed}
-use Rattle.std.proofs.lemmas.Bool.{eqb-true}
 use Rattle.std.proofs.lemmas.Int.{ints}
 use Rattle.std.proofs.lemmas.List.{get_or-set_other}
 use Rattle.std.proofs.lemmas.Grind.{get_or-set_at}
-use Rattle.insn.specs.Encoding.{Fits}
+use Rattle.insn.specs.Encoding.{OperandFits, Fits}
+use Rattle.insn.specs.Words.{imm_word}
+use Rattle.semantics.specs.NumberLaws.{imm_below}
+use Rattle.std.specs.Option.{ok_or, option_map}
+use Rattle.semantics.specs.declared.effect.Effect.{Effect}
 use Rattle.insn.specs.Register.{number_of}
 use Rattle.insn.specs.declared.register.Reg.{Reg}
 use Rattle.insn.specs.declared.width.Width.{Width}
@@ -19,20 +22,22 @@ use Rattle.insn.specs.declared.instruction.Insn.{Insn}
 use Rattle.insn.specs.declared.instruction.Insn.TheVariants as insn
 use Rattle.semantics.specs.Fallible.{◌>>=◌}
 use Rattle.semantics.specs.KeptLaws.{in_eleven}
-use Rattle.semantics.specs.Machine.{Context, IsContext, Memory, State}
+use Rattle.semantics.specs.Machine.{Context, IsContext, State}
 use Rattle.semantics.specs.Effects as effects
 use Rattle.semantics.specs.Effects.{is_near, near_place, moved_place, writable}
 use Rattle.semantics.specs.LooseRuns.{Loosens}
 use Rattle.semantics.specs.declared.reason.Reason.{Reason}
-use Rattle.semantics.specs.declared.reason.Reason.TheVariants.{PointerArithmetic}
+use Rattle.semantics.specs.declared.reason.Reason.TheVariants.{DatagramBounds, PointerArithmetic}
 use Rattle.semantics.specs.declared.value.Value.{Value}
 use Rattle.semantics.specs.declared.value.Value.TheVariants as value
 use Rattle.interval.specs.Domains.{Operations, AreSound, ArePrecise}
 use Rattle.interval.specs.declared.domain.Bounds.{Bounds}
-use Rattle.absstate.specs.AbstractStates.{abstract_at, with_value}
+use Rattle.absstate.specs.AbstractStates.{abstract_at}
 use Rattle.absstate.specs.AbstractSteps as abstract
-use Rattle.absstate.specs.Membership.{Strict, Places, IsHeld, IsValue, IsMember}
+use Rattle.absstate.specs.Membership.{Strict, Places, place_of, IsHeld, IsValue, IsMemberAt}
+use Rattle.absstate.specs.StepReasons.{IsAboutPlaces}
 use Rattle.absstate.specs.declared.abstract_state.Anchor.{Anchor}
+use Rattle.absstate.specs.declared.abstract_state.Anchor.TheVariants.{First, Made}
 use Rattle.absstate.specs.declared.abstract_state.AbstractValue.{AbstractValue}
 use Rattle.absstate.specs.declared.abstract_state.AbstractValue.TheVariants as known
 use Rattle.absstate.specs.declared.abstract_state.AbsState.{AbsState}
@@ -41,7 +46,8 @@ use Rattle.absstate.specs.StepLaws.Agreement.{Agree}
 use Rattle.absstate.specs.StepLaws.Bounds.{le_of}
 use Rattle.absstate.specs.StepLaws.MemoryValues.{first_of_and, rest_of_and}
 use Rattle.absstate.specs.StepLaws.Members.{loosens_itself}
-use Rattle.absstate.specs.StepLaws.Arithmetic.{StraysBy, Strays, strays_same, single_strays, AreClaims}
+use Rattle.absstate.specs.StepLaws.Anchors.{IsMade, ArePlain}
+use Rattle.absstate.specs.StepLaws.Arithmetic.{StraysBy, Strays, strays_same, held_is, held_known, ok_is, AreClaims}
 use Rattle.absstate.specs.StepLaws.Forking.{replaced}
 use Rattle.absstate.specs.StepLaws.Simulation.{IsEffectOf, steps_agree}
 
@@ -102,163 +108,160 @@ refused claimed F (Err f) (Err g) e agree is c =
     let other : f ≡ g = agree (subst claimed same c) in
     ap Err (sym other ∙ sym same)
 
-zero_word : 0 < 2 ^ 64
-zero_word = omega arith
-
-one_word : 1 < 2 ^ 64
-one_word = omega arith
+same_number : (n : ℕ) → (n == n) ≡ true
+same_number n = search rules
 
 module _ {D : Type 0} (ops : Operations D) (Member : D → ℕ → Type 0) (sound : AreSound ops Member) (precise : ArePrecise ops Member) where
   -- ---- single numbers
 
   single_if : (bounds : Bounds) (n : ℕ) → bounds ≡ record { lo = n; hi = n } → (if bounds.lo == bounds.hi then Some bounds.lo else None) ≡ Some n
-  single_if bounds n e = ap (λ (b : Bounds). if b.lo == b.hi then Some b.lo else None) e ∙ ap (λ (t : Bool). if t then Some n else None) (same n) where
-    same : (n : ℕ) → (n == n) ≡ true
-    same n = search rules
+  single_if bounds n e = ap (λ (b : Bounds). if b.lo == b.hi then Some b.lo else None) e ∙ ap (λ (t : Bool). if t then Some n else None) (same_number n)
 
   exact_single : (n : ℕ) → n < 2 ^ 64 → abstract.single_of ops (ops.exact n) ≡ Some n
   exact_single n fits = single_if (ops.bounds (ops.exact n)) n (precise.exact n fits)
 
-  none_if : (b : Bool) (n : ℕ) → b ≡ false → (if b then Some n else None) ≡ None
-  none_if true n e = absurd cc
-  none_if false n e = refl
+  -- a single number moves the offset
+  pub exact_sum : (a : AbsState D) (anchor : Anchor) (op : AluOp) (w : Width) (k : ℤ) (n : ℕ) → n < 2 ^ 64 → abstract.data_sum a anchor op w k (ops.bounds (ops.exact n)) ≡ option_map (λ (z : ℤ). known.Data anchor z) (abstract.single_sum anchor op w k n)
+  exact_sum a anchor op w k n fits =
+      ap (abstract.data_sum a anchor op w k) (precise.exact n fits)
+      ∙ ap (λ (t : Bool). if t then option_map (λ (z : ℤ). known.Data anchor z) (abstract.single_sum anchor op w k n) else abstract.made_sum a anchor op w k (record { lo = n; hi = n })) (same_number n)
 
-  apart : (m n : ℕ) (b : Bool) → (m == n) ≡ b → m ≤ 0 → 1 ≤ n → b ≡ false
-  apart m n true e p q = let same : m ≡ n = eqb-true m n e in absurd (omega arith)
-  apart m n false e p q = refl
+  none_mapped : (o : Option ℤ) (anchor : Anchor) → ◌≡◌ {A = Option (AbstractValue D)} (option_map (λ (z : ℤ). known.Data anchor z) o) None → o ≡ None
+  none_mapped None anchor e = refl
+  none_mapped (Some z) anchor e = absurd cc
 
-  -- the number of which every word is a member isn't single
-  top_is_not_single : abstract.single_of ops ops.top ≡ None
-  top_is_not_single =
-      let least = sound.bounds ops.top 0 (sound.top 0 zero_word) in
-      let greatest = sound.bounds ops.top 1 (sound.top 1 one_word) in
-      let bounds = ops.bounds ops.top in
-      none_if (bounds.lo == bounds.hi) bounds.lo (apart bounds.lo bounds.hi (bounds.lo == bounds.hi) refl least.0 greatest.1)
+  no_value : (v : AbstractValue D) → ◌≡◌ {A = Option (AbstractValue D)} (Some v) None → ⊥
+  no_value v e = absurd cc
 
-  -- ---- the state at which the machine is stuck
-
-  -- a loosening at which the machine is stuck, a member of an abstract state at which the step is refused alike
-  record StraysFrom (places : Places) (a : AbsState D) (s : State) (i : Insn) (reason : Reason) : Type 0 where
-    state : State
-    loosens : Loosens s state
-    memory : state.memory ≡ s.memory
-    around : AbsState D
-    member : IsMember Member Strict places around state
-    proved : around.proved ≡ a.proved
-    refused : abstract.step ops around i ≡ Err reason
-    strays : Strays ops Member sound around state i
-
-  module _ (places : Places) (a : AbsState D) (s : State) (member : IsMember Member Strict places a s) (reason : Reason) where
-    stays : (i : Insn) → abstract.step ops a i ≡ Err reason → Strays ops Member sound a s i → StraysFrom places a s i reason
-    stays i refused strays = record {
-      state = s;
-      loosens = loosens_itself Member sound.words places a s member;
-      memory = refl;
-      around = a;
-      member = member;
-      proved = refl;
-      refused = refused;
-      strays = strays;
-    }
-
-    module _ (op : AluOp) (w : Width) (dst r : Reg) where
-      alu : Insn
-      alu = insn.Alu w op dst (operand.Reg r)
-
-      -- a refusal of the arithmetic, where the register may be written
-      refusal : Result (Next D) Reason
-      refusal = writable dst >>= λ u. Err PointerArithmetic
-
-      step_at : (b : AbsState D) (x y : AbstractValue D) → abstract_at b.registers dst ≡ x → abstract_at b.registers r ≡ y → abstract.held x ≡ Ok x → abstract.held y ≡ Ok y → abstract.step ops b alu ≡ abstract.written b dst (abstract.alu_result ops op w x y)
-      unfolding alu
-      step_at b x y p q e f =
-          (λ i. abstract.held (p i) >>= λ x'. abstract.held (q i) >>= λ y'. abstract.written b dst (abstract.alu_result ops op w x' y'))
-          ∙ (λ i. e i >>= λ x'. f i >>= λ y'. abstract.written b dst (abstract.alu_result ops op w x' y'))
-
-      data_refusal : (b : AbsState D) (anchor : Anchor) (k : ℤ) (y : D) → abstract_at b.registers dst ≡ known.Data anchor k → abstract_at b.registers r ≡ known.Scalar y → abstract.single_of ops y ≡ None → abstract.step ops b alu ≡ refusal
-      unfolding refusal
-      data_refusal b anchor k y p q none = step_at b (known.Data anchor k) (known.Scalar y) p q refl refl ∙ ap (λ (o : Option ℕ). abstract.written b dst (abstract.moved (known.Data anchor) (abstract.moved_by op w k o))) none
-
-      stack_refusal : (b : AbsState D) (k : ℤ) (y : D) → abstract_at b.registers dst ≡ known.Stack k → abstract_at b.registers r ≡ known.Scalar y → abstract.single_of ops y ≡ None → abstract.step ops b alu ≡ refusal
-      unfolding refusal
-      stack_refusal b k y p q none = step_at b (known.Stack k) (known.Scalar y) p q refl refl ∙ ap (λ (o : Option ℕ). abstract.written b dst (abstract.moved known.Stack (abstract.moved_by op w k o))) none
-
-      -- the number of the second register is replaced by one that leads out of range
-      strays_with : (x : AbstractValue D) (y : D) (u : Value) (n : ℕ) → abstract_at a.registers dst ≡ x → abstract_at a.registers r ≡ known.Scalar y → (x ≡ known.Scalar y → ⊥) → effects.value_at s.registers dst ≡ u → n < 2 ^ 64
-          → ((b : AbsState D) (z : D) → abstract_at b.registers dst ≡ x → abstract_at b.registers r ≡ known.Scalar z → abstract.single_of ops z ≡ None → abstract.step ops b alu ≡ refusal)
-          → StraysBy ops Member sound op w x (known.Scalar ops.top) u (value.Scalar n) → abstract.single_of ops y ≡ None → abstract.step ops a alu ≡ Err reason → StraysFrom places a s alu reason
-      unfolding alu
-      strays_with x y u n p q other u_is fits refusals strays none is =
-          let apart : number_of dst ≡ number_of r → ⊥ = λ same. other (sym p ∙ ap (λ (k : ℕ). slice_index_or a.registers k known.Nothing) same ∙ q) in
-          let held : IsHeld Member places (known.Scalar y) (effects.value_at s.registers r) = subst (λ (k : AbstractValue D). IsValue Member Strict places k (effects.value_at s.registers r)) q (member.registers r) in
-          let opened = replaced ops Member sound places a s member dst r y ops.top held.0 n s.slot held.1 held.2 (sound.top n fits) in
-          let around : AbsState D = with_value a r (known.Scalar ops.top) in
-          let new : State = opened.state in
-          let dst_known : abstract_at around.registers dst ≡ x = get_or-set_other a.registers (number_of r) (number_of dst) (known.Scalar ops.top) known.Nothing apart ∙ p in
-          let r_known : abstract_at around.registers r ≡ known.Scalar ops.top = get_or-set_at a.registers (number_of r) (number_of r) (known.Scalar ops.top) known.Nothing refl (omega (arith, in_eleven r, member.known_count)) in
-          let dst_is : effects.value_at new.registers dst ≡ u = get_or-set_other s.registers (number_of r) (number_of dst) (value.Scalar n) value.Nothing apart ∙ u_is in
-          let r_is : effects.value_at new.registers r ≡ value.Scalar n = get_or-set_at s.registers (number_of r) (number_of r) (value.Scalar n) value.Nothing refl (omega (arith, in_eleven r, member.tagged.count)) in
-          record {
-            state = opened.state;
-            loosens = opened.loosens;
-            memory = opened.memory;
-            around = around;
-            member = opened.member;
-            proved = refl;
-            refused = refusals around ops.top dst_known r_known top_is_not_single ∙ sym (refusals a y p q none) ∙ is;
-            strays = strays_same ops Member sound op w x (abstract_at around.registers dst) (known.Scalar ops.top) (abstract_at around.registers r) u (effects.value_at new.registers dst) (value.Scalar n) (effects.value_at new.registers r) (sym dst_known) (sym r_known) (sym dst_is) (sym r_is) strays;
-          }
-
-      no_stray : (x y : AbstractValue D) → abstract_at a.registers dst ≡ x → abstract_at a.registers r ≡ y → StraysBy ops Member sound op w x y (effects.value_at s.registers dst) (effects.value_at s.registers r) → abstract.step ops a alu ≡ Err reason → StraysFrom places a s alu reason
-      unfolding alu
-      no_stray x y p q h is =
-          stays alu is (strays_same ops Member sound op w x (abstract_at a.registers dst) y (abstract_at a.registers r) (effects.value_at s.registers dst) (effects.value_at s.registers dst) (effects.value_at s.registers r) (effects.value_at s.registers r) (sym p) (sym q) refl refl h)
-
-      held_as : (x : AbstractValue D) → abstract_at a.registers dst ≡ x → IsValue Member Strict places x (effects.value_at s.registers dst)
-      held_as x p = subst (λ (k : AbstractValue D). IsValue Member Strict places k (effects.value_at s.registers dst)) p (member.registers dst)
-
-      data_strays_from : (anchor : Anchor) (k : ℤ) (y : D) (o : Option ℕ) → abstract.single_of ops y ≡ o → abstract_at a.registers dst ≡ known.Data anchor k → abstract_at a.registers r ≡ known.Scalar y → abstract.step ops a alu ≡ Err reason → StraysFrom places a s alu reason
-      data_strays_from anchor k y None e p q is =
-          let place : ℤ = places anchor +ℤ k in
-          strays_with (known.Data anchor k) y (value.Data place) (stray_if (is_near place)) p q (λ f. absurd cc) (held_as (known.Data anchor k) p).2 (stray_fits (is_near place)) (λ b z. data_refusal b anchor k z) (λ none. data_strays op w place) e is
-      data_strays_from anchor k y (Some n) e p q is = no_stray (known.Data anchor k) (known.Scalar y) p q (single_strays ops Member sound op w (known.Data anchor k) y n e (effects.value_at s.registers dst) (effects.value_at s.registers r)) is
-
-      stack_strays_from : (k : ℤ) (y : D) (o : Option ℕ) → abstract.single_of ops y ≡ o → abstract_at a.registers dst ≡ known.Stack k → abstract_at a.registers r ≡ known.Scalar y → abstract.step ops a alu ≡ Err reason → StraysFrom places a s alu reason
-      stack_strays_from k y None e p q is =
-          strays_with (known.Stack k) y (value.Stack k) (stray_if (is_near k)) p q (λ f. absurd cc) (held_as (known.Stack k) p).2 (stray_fits (is_near k)) (λ b z. stack_refusal b k z) (λ none. stack_strays op w k) e is
-      stack_strays_from k y (Some n) e p q is = no_stray (known.Stack k) (known.Scalar y) p q (single_strays ops Member sound op w (known.Stack k) y n e (effects.value_at s.registers dst) (effects.value_at s.registers r)) is
-
-      alu_strays : (x y : AbstractValue D) → abstract_at a.registers dst ≡ x → abstract_at a.registers r ≡ y → abstract.step ops a alu ≡ Err reason → StraysFrom places a s alu reason
-      alu_strays (known.Data anchor k) (known.Scalar y) p q is = data_strays_from anchor k y (abstract.single_of ops y) refl p q is
-      alu_strays (known.Stack k) (known.Scalar y) p q is = stack_strays_from k y (abstract.single_of ops y) refl p q is
-      alu_strays x y p q is = no_stray x y p q tt is
-
-    strays_from : (i : Insn) → abstract.step ops a i ≡ Err reason → StraysFrom places a s i reason
-    unfolding alu
-    strays_from (insn.Alu w op dst (operand.Reg r)) is = alu_strays op w dst r (abstract_at a.registers dst) (abstract_at a.registers r) refl refl is
-    strays_from i is = stays i is tt
-
-  -- The machine is stuck for that reason at a loosening of a strict member, where the datagram reaches no farther than is
-  -- proved.
+  -- The machine is stuck for that reason at a loosening of a strict member.
   pub record IsStuckFrom (s : State) (i : Insn) (reason : Reason) : Type 0 where
     pub state : State
     pub loosens : Loosens s state
     pub stuck : (c : Context) → IsContext c → effects.effect c state.memory state.registers i ≡ Err reason
 
-  pub refusal_is_real : (places : Places) (a : AbsState D) (s : State) → IsMember Member Strict places a s → (i : Insn) → Fits i → (reason : Reason) → abstract.step ops a i ≡ Err reason → pos s.memory.length ≡ a.proved → IsStuckFrom s i reason
-  refusal_is_real places a s member i fit reason is size =
-      let f = strays_from places a s member reason i is in
-      let claims : AreClaims ops Member sound (λ e. e ≡ reason) Strict f.around f.state i = record {
-        registers = λ c. refl;
-        cells = λ c. refl;
-        bounds = λ c. ap (λ (m : Memory). pos m.length) f.memory ∙ size ∙ sym f.proved;
-        exact = λ c. exact_single;
-        arithmetic = λ c. f.strays;
-      } in
-      record {
-        state = f.state;
-        loosens = f.loosens;
-        stuck = λ c real.
-            refused (λ e. e ≡ reason) (IsEffectOf ops Member sound Strict places f.around f.state i) (abstract.step ops f.around i) (effects.effect c f.state.memory f.state.registers i) reason
-            (steps_agree ops Member sound (λ e. e ≡ reason) Strict places f.around f.state f.member c real i fit claims) f.refused refl;
-      }
+  -- a refusal of the arithmetic, where the register may be written
+  refused_alike : (allowed : Result (Unit {0}) Reason) (reason : Reason) → ◌≡◌ {A = Result (Next D) Reason} (allowed >>= λ u. Err PointerArithmetic) (Err reason) → ◌≡◌ {A = Result Effect Reason} (allowed >>= λ u. Err PointerArithmetic) (Err reason)
+  refused_alike (Ok u) reason e = cc
+  refused_alike (Err f) reason e = cc
+
+  module _ (places : Places) (a : AbsState D) (s : State) (member : IsMemberAt Member Strict places a s) (reason : Reason)
+      (bounds : reason ≡ DatagramBounds → (pos s.memory.length ≡ a.proved) × ArePlain a.registers) where
+    -- the member itself
+    stuck_itself : (i : Insn) → Fits i → abstract.step ops a i ≡ Err reason → (reason ≡ PointerArithmetic → Strays ops Member sound a s i) → IsStuckFrom s i reason
+    stuck_itself i fit is strays =
+        let claims : AreClaims ops Member sound (λ e. e ≡ reason) Strict a s i = record {
+          registers = λ c. refl;
+          cells = λ c. refl;
+          bounds = λ c. (bounds (sym c)).0;
+          plain = λ c r made. (bounds (sym c)).1 (number_of r) made;
+          arithmetic = λ c. strays (sym c);
+        } in
+        record {
+          state = s;
+          loosens = loosens_itself Member sound.words places a s member;
+          stuck = λ c real.
+              refused (λ e. e ≡ reason) (IsEffectOf ops Member sound Strict places a s i) (abstract.step ops a i) (effects.effect c s.memory s.registers i) reason
+              (steps_agree ops Member sound (λ e. e ≡ reason) Strict places a s member c real i fit claims) is refl;
+        }
+
+    module _ (w : Width) (op : AluOp) (dst : Reg) where
+      -- ---- a sum with an imm
+
+      module _ (n : ℕ) (fits : n < 2 ^ 64) where
+        imm_first : (k : ℤ) (u : Value) → u ≡ value.Data (pos 0 +ℤ k) → abstract.data_sum a First op w k (ops.bounds (ops.exact n)) ≡ None → effects.alu_result op w u (value.Scalar n) ≡ Err PointerArithmetic
+        imm_first k u is none =
+            let stays : moved_place op w k n ≡ None = none_mapped (moved_place op w k n) First (sym (exact_sum a First op w k n fits) ∙ none) in
+            let place : (pos 0 +ℤ k) ≡ k = omega (arith, ints) in
+            ap (λ (v : Value). effects.alu_result op w v (value.Scalar n)) is ∙ ap (effects.moved value.Data) (ap (λ (z : ℤ). moved_place op w z n) place ∙ stays)
+
+        imm_stack : (k : ℤ) (u : Value) → abstract.single_of ops (ops.exact n) ≡ None → effects.alu_result op w u (value.Scalar n) ≡ Err PointerArithmetic
+        imm_stack k u none = let bad : Some n ≡ None = sym (exact_single n fits) ∙ none in absurd cc
+
+        imm_by : (x : AbstractValue D) (u : Value) → (IsMade x → ⊥) → IsValue Member Strict places s.memory.length x u → StraysBy ops Member sound a op w x (known.Scalar (ops.exact n)) u (value.Scalar n)
+        imm_by (known.Data First k) u plain h = imm_first k u h.2
+        imm_by (known.Data (Made id low high proved) k) u plain h = absurd (plain tt)
+        imm_by (known.Stack k) u plain h = imm_stack k u
+        imm_by x u plain h = tt
+
+      scalar_is : (m : ℕ) (v : Value) → ◌≡◌ {A = Result Value Reason} (Ok (value.Scalar m)) (Ok v) → value.Scalar m ≡ v
+      scalar_is m v e = cc
+
+      imm_strays : (n : ℤ) → OperandFits (operand.Imm n) → ArePlain a.registers → Strays ops Member sound a s (insn.Alu w op dst (operand.Imm n))
+      imm_strays n fit plain x y u v p p' q q' =
+          strays_same ops Member sound a op w (abstract_at a.registers dst) x (known.Scalar (ops.exact (imm_word w n))) y (effects.value_at s.registers dst) u (value.Scalar (imm_word w n)) v
+          (held_known ops Member sound (abstract_at a.registers dst) x p) (ok_is ops Member sound (known.Scalar (ops.exact (imm_word w n))) y p') (held_is (effects.value_at s.registers dst) u q) (scalar_is (imm_word w n) v q')
+          (imm_by (imm_word w n) (imm_below w n fit) (abstract_at a.registers dst) (effects.value_at s.registers dst) (plain (number_of dst)) (member.registers dst))
+
+      -- ---- a sum with a register
+
+      module _ (r : Reg) where
+        sum : Insn
+        sum = insn.Alu w op dst (operand.Reg r)
+
+        -- the step, where both registers are known
+        step_at : (x y : AbstractValue D) → abstract_at a.registers dst ≡ x → abstract_at a.registers r ≡ y → abstract.held x ≡ Ok x → abstract.held y ≡ Ok y → abstract.step ops a sum ≡ abstract.written a dst (abstract.alu_result ops a op w x y)
+        unfolding sum
+        step_at x y p q e f =
+            (λ i. abstract.held (p i) >>= λ x'. abstract.held (q i) >>= λ y'. abstract.written a dst (abstract.alu_result ops a op w x' y'))
+            ∙ (λ i. e i >>= λ x'. f i >>= λ y'. abstract.written a dst (abstract.alu_result ops a op w x' y'))
+
+        effect_at : (t : State) (u v : Value) → effects.value_at t.registers dst ≡ u → effects.value_at t.registers r ≡ v → effects.held u ≡ Ok u → effects.held v ≡ Ok v → (c : Context) → effects.effect c t.memory t.registers sum ≡ effects.written dst (effects.alu_result op w u v)
+        unfolding sum
+        effect_at t u v p q e f c =
+            (λ i. effects.held (p i) >>= λ u'. effects.held (q i) >>= λ v'. effects.written dst (effects.alu_result op w u' v'))
+            ∙ (λ i. e i >>= λ u'. f i >>= λ v'. effects.written dst (effects.alu_result op w u' v'))
+
+        -- the number of the second register is replaced by one that leads out of range
+        stuck_off : (x : AbstractValue D) (y : D) (u : Value) (n : ℕ) → abstract_at a.registers dst ≡ x → abstract_at a.registers r ≡ known.Scalar y → (x ≡ known.Scalar y → ⊥) → effects.value_at s.registers dst ≡ u → n < 2 ^ 64
+            → abstract.held x ≡ Ok x → effects.held u ≡ Ok u → abstract.alu_result ops a op w x (known.Scalar y) ≡ Err PointerArithmetic → effects.alu_result op w u (value.Scalar n) ≡ Err PointerArithmetic → abstract.step ops a sum ≡ Err reason → IsStuckFrom s sum reason
+        stuck_off x y u n p q other u_is fits held held_u none strays is =
+            let apart : number_of dst ≡ number_of r → ⊥ = λ same. other (sym p ∙ ap (λ (k : ℕ). slice_index_or a.registers k known.Nothing) same ∙ q) in
+            let number : IsHeld Member places s.memory.length (known.Scalar y) (effects.value_at s.registers r) = subst (λ (k : AbstractValue D). IsValue Member Strict places s.memory.length k (effects.value_at s.registers r)) q (member.registers r) in
+            let opened = replaced ops Member sound places a s member dst r y ops.top number.0 n s.slot number.1 number.2 (sound.top n fits) in
+            let new : State = opened.state in
+            let dst_is : effects.value_at new.registers dst ≡ u = get_or-set_other s.registers (number_of r) (number_of dst) (value.Scalar n) value.Nothing apart ∙ u_is in
+            let r_is : effects.value_at new.registers r ≡ value.Scalar n = get_or-set_at s.registers (number_of r) (number_of r) (value.Scalar n) value.Nothing refl (omega (arith, in_eleven r, member.tagged.count)) in
+            let abstract_is : ◌≡◌ {A = Result (Next D) Reason} (writable dst >>= λ t. Err PointerArithmetic) (Err reason) =
+            sym (step_at x (known.Scalar y) p q held refl ∙ ap (abstract.written a dst) none) ∙ is in
+            record {
+              state = new;
+              loosens = opened.loosens;
+              stuck = λ c real. effect_at new u (value.Scalar n) dst_is r_is held_u refl c ∙ ap (effects.written dst) strays ∙ refused_alike (writable dst) reason abstract_is;
+            }
+
+        -- no sum, or one that is accepted
+        no_stray : (x y : AbstractValue D) → abstract_at a.registers dst ≡ x → abstract_at a.registers r ≡ y → Fits sum → ((u v : Value) → StraysBy ops Member sound a op w x y u v) → abstract.step ops a sum ≡ Err reason → IsStuckFrom s sum reason
+        unfolding sum
+        no_stray x y p q fit h is =
+            stuck_itself sum fit is (λ e x' y' u v p' q' f f'. strays_same ops Member sound a op w x x' y y' u u v v (sym p ∙ held_known ops Member sound (abstract_at a.registers dst) x' p') (sym q ∙ held_known ops Member sound (abstract_at a.registers r) y' q') refl refl (h u v))
+
+        data_stuck : (anchor : Anchor) (k : ℤ) (y : D) (o : Option (AbstractValue D)) → abstract.data_sum a anchor op w k (ops.bounds y) ≡ o → abstract_at a.registers dst ≡ known.Data anchor k → abstract_at a.registers r ≡ known.Scalar y → Fits sum → abstract.step ops a sum ≡ Err reason → IsStuckFrom s sum reason
+        data_stuck anchor k y None e p q fit is =
+            let place : ℤ = place_of places anchor +ℤ k in
+            let held : IsHeld Member places s.memory.length (known.Data anchor k) (effects.value_at s.registers dst) = subst (λ (x : AbstractValue D). IsValue Member Strict places s.memory.length x (effects.value_at s.registers dst)) p (member.registers dst) in
+            stuck_off (known.Data anchor k) y (value.Data place) (stray_if (is_near place)) p q (λ f. absurd cc) held.2 (stray_fits (is_near place)) refl refl (ap (λ (o : Option (AbstractValue D)). ok_or o PointerArithmetic) e) (data_strays op w place) is
+        data_stuck anchor k y (Some v) e p q fit is = no_stray (known.Data anchor k) (known.Scalar y) p q fit (λ u u' none. absurd (no_value v (sym e ∙ none))) is
+
+        stack_stuck : (k : ℤ) (y : D) (o : Option ℕ) → abstract.single_of ops y ≡ o → abstract_at a.registers dst ≡ known.Stack k → abstract_at a.registers r ≡ known.Scalar y → Fits sum → abstract.step ops a sum ≡ Err reason → IsStuckFrom s sum reason
+        stack_stuck k y None e p q fit is =
+            let held : IsHeld Member places s.memory.length (known.Stack k) (effects.value_at s.registers dst) = subst (λ (x : AbstractValue D). IsValue Member Strict places s.memory.length x (effects.value_at s.registers dst)) p (member.registers dst) in
+            stuck_off (known.Stack k) y (value.Stack k) (stray_if (is_near k)) p q (λ f. absurd cc) held.2 (stray_fits (is_near k)) refl refl (ap (λ (o : Option ℕ). abstract.moved known.Stack (abstract.moved_by op w k o)) e) (stack_strays op w k) is
+        stack_stuck k y (Some n) e p q fit is = no_stray (known.Stack k) (known.Scalar y) p q fit (λ u v none. absurd (let bad : Some n ≡ None = sym e ∙ none in cc)) is
+
+        sum_stuck : (x y : AbstractValue D) → abstract_at a.registers dst ≡ x → abstract_at a.registers r ≡ y → Fits sum → abstract.step ops a sum ≡ Err reason → IsStuckFrom s sum reason
+        sum_stuck (known.Data anchor k) (known.Scalar y) p q fit is = data_stuck anchor k y (abstract.data_sum a anchor op w k (ops.bounds y)) refl p q fit is
+        sum_stuck (known.Stack k) (known.Scalar y) p q fit is = stack_stuck k y (abstract.single_of ops y) refl p q fit is
+        sum_stuck x y p q fit is = no_stray x y p q fit (λ u v. tt) is
+
+    stuck_from : (i : Insn) → Fits i → abstract.step ops a i ≡ Err reason → (IsAboutPlaces reason i → ArePlain a.registers) → IsStuckFrom s i reason
+    unfolding sum
+    stuck_from (insn.Alu w op dst (operand.Reg r)) fit is plain = sum_stuck w op dst r (abstract_at a.registers dst) (abstract_at a.registers r) refl refl fit is
+    stuck_from (insn.Alu w op dst (operand.Imm n)) fit is plain = stuck_itself (insn.Alu w op dst (operand.Imm n)) fit is (λ e. imm_strays w op dst n fit (plain (subst (λ (r : Reason). IsAboutPlaces r (insn.Alu w op dst (operand.Imm n))) (sym e) tt)))
+    stuck_from i fit is plain = stuck_itself i fit is (λ e. tt)
+
+  -- The machine is stuck at a loosening of a strict member. Where a bound of the datagram is the reason, the datagram has no
+  -- more bytes than are proved, and no register names an anchor that was made; where a constant is added to a pointer, no
+  -- register does either.
+  pub refusal_is_real : (places : Places) (a : AbsState D) (s : State) → IsMemberAt Member Strict places a s → (i : Insn) → Fits i → (reason : Reason) → abstract.step ops a i ≡ Err reason
+      → (IsAboutPlaces reason i → ArePlain a.registers) → (reason ≡ DatagramBounds → pos s.memory.length ≡ a.proved) → IsStuckFrom s i reason
+  refusal_is_real places a s member i fit reason is plain size = stuck_from places a s member reason (λ e. (size e, plain (subst (λ (r : Reason). IsAboutPlaces r i) (sym e) tt))) i fit is plain

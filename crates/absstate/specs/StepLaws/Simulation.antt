@@ -1,8 +1,9 @@
 -- Internal. The abstract step of an instruction agrees with the machine's step at each member, over any sound domain.
-use Rattle.std.proofs.Common.{◌≡◌, ℕ, ℤ, pos, ◌+ℤ◌, Option, Some, None, Result, Ok, refl, sym, ap, ◌∙◌, subst, arith}
+use Rattle.std.proofs.Common.{◌≡◌, ℕ, ℤ, pos, Bool, true, false, ◌+ℤ◌, ◌≤ℤ◌, Option, Some, None, Result, Ok, Err, refl, sym, ap, ◌∙◌, subst, arith}
 use Rattle.std.specs.Prelude.{◌+◌, ◌≤◌, IfSome, if◌then◌else◌}
 use Rattle.std.specs.Option.{ok_or}
 use Rattle.insn.specs.Codes.{byte_count}
+use Rattle.insn.specs.Register.{number_of}
 use Rattle.insn.specs.Encoding.{OperandFits, Fits}
 use Rattle.insn.specs.Words.{holds, imm_word, target_of}
 use Rattle.insn.specs.declared.width.Width.{Width}
@@ -20,30 +21,36 @@ use Rattle.insn.specs.declared.instruction.Insn.{Insn}
 use Rattle.insn.specs.declared.instruction.Insn.TheVariants as insn
 use Rattle.semantics.specs.Fallible.{◌>>=◌}
 use Rattle.semantics.specs.Access.{location}
-use Rattle.semantics.specs.Calls.{helper_of, helper_number, question, no_address}
-use Rattle.semantics.specs.NumberLaws.{imm_below, no_address_bytes}
+use Rattle.semantics.specs.Calls.{helper_of, helper_number, signature_of, question}
+use Rattle.semantics.specs.NumberLaws.{imm_below}
 use Rattle.semantics.specs.Machine.{AddressRecord, AreBytes, Context, IsContext, State}
 use Rattle.semantics.specs.declared.helper.Helper.{Helper}
 use Rattle.semantics.specs.declared.helper.Helper.TheVariants as helper
+use Rattle.semantics.specs.declared.helper.Inputs.{Inputs}
 use Rattle.semantics.specs.declared.helper.Question.{Question}
 use Rattle.semantics.specs.Effects as effects
 use Rattle.semantics.specs.Loading as loading
 use Rattle.semantics.specs.Effects.{value_at, writable}
 use Rattle.semantics.specs.Runs.{IsLawful}
 use Rattle.semantics.specs.Flow.{Straight, Jumps, flow_of}
-use Rattle.semantics.specs.LooseRuns.{data_bound, exchanged, bound_of}
+use Rattle.semantics.specs.LooseRuns.{Bound, AtMost, Below, HoldsOf, data_bound, exchanged, bound_of}
 use Rattle.semantics.specs.declared.reason.Reason.{Reason}
-use Rattle.semantics.specs.declared.reason.Reason.TheVariants.{PointerArithmetic, UnknownHelper}
+use Rattle.semantics.specs.declared.reason.Reason.TheVariants.{DatagramBounds, PointerArithmetic, UnknownHelper}
 use Rattle.semantics.specs.declared.value.Value.{Value}
 use Rattle.semantics.specs.declared.value.Value.TheVariants as value
 use Rattle.semantics.specs.declared.effect.Effect.{Effect}
 use Rattle.semantics.specs.declared.effect.Effect.TheVariants as effect
 use Rattle.interval.specs.Domains.{Operations, AreSound}
-use Rattle.absstate.specs.AbstractStates.{abstract_at, with_value}
+use Rattle.semantics.specs.declared.fetching.Branch.{Branch}
+use Rattle.std.proofs.lemmas.Int.{ints}
+use Rattle.absstate.specs.declared.branching.Implied.{Implied}
+use Rattle.absstate.specs.AbstractStates.{abstract_at, greatest_id, with_value, with_least}
 use Rattle.absstate.specs.AbstractSteps as abstract
 use Rattle.absstate.specs.AbstractSteps.{located}
-use Rattle.absstate.specs.Membership.{Mode, Places, IsNumberOf, IsHeld, IsMember, value_of}
-use Rattle.absstate.specs.declared.abstract_state.Anchor.TheVariants.{First}
+use Rattle.absstate.specs.Membership.{Mode, Places, IsNumberOf, IsHeld, IsMemberAt, IsPlace, IsAnchored, place_of, value_of}
+use Rattle.absstate.specs.declared.abstract_state.Anchor.{Anchor}
+use Rattle.absstate.specs.declared.abstract_state.Anchor.TheVariants.{First, Made}
+use Rattle.absstate.specs.StepLaws.Anchors.{Extends, extends_itself}
 use Rattle.absstate.specs.declared.abstract_state.AbstractValue.{AbstractValue}
 use Rattle.absstate.specs.declared.abstract_state.AbstractValue.TheVariants as known
 use Rattle.absstate.specs.declared.abstract_state.AbsState.{AbsState}
@@ -51,12 +58,13 @@ use Rattle.absstate.specs.declared.memory.Region.{Region}
 use Rattle.absstate.specs.declared.abstract_step.Next.{Next}
 use Rattle.absstate.specs.declared.abstract_step.Next.TheVariants as next
 use Rattle.absstate.specs.StepLaws.Agreement.{Agree, and_then, same_test}
-use Rattle.absstate.specs.StepLaws.Bounds.{Implies, first_agree, second_agree}
+use Rattle.absstate.specs.StepLaws.Bounds.{Implies, IsLeast, IsNearBound, near_bound, shifted, data_shifts, branch_if, first_agree, second_agree}
 use Rattle.absstate.specs.StepLaws.MemoryValues.{IsRegionOf}
-use Rattle.absstate.specs.StepLaws.Arithmetic.{from_first, held_is, held_known, ok_is, read_agrees, operand_agrees, single_strays, strays_same, StraysBy, result_held, unary_held, AreClaims}
-use Rattle.absstate.specs.StepLaws.Forking.{Forks, fork_by, forked}
-use Rattle.absstate.specs.StepLaws.Reading.{IsWord, IsSameIndex, IsRecord, locations_agree, load_agrees, signed_agrees, context_agrees, number_agrees_at, stack_agrees_at, record_agrees_at}
-use Rattle.absstate.specs.StepLaws.Results.{IsResult, held_results}
+use Rattle.absstate.specs.StepLaws.Anchors.{IsMade, reach_at, reach_of, reach_positive, reach_at_most}
+use Rattle.absstate.specs.StepLaws.Arithmetic.{IsHeldAnew, held_is, held_known, ok_is, read_agrees, operand_agrees, StraysBy, result_held, unary_held, AreClaims}
+use Rattle.absstate.specs.StepLaws.Forking.{Forks, fork_by, forked, length_within}
+use Rattle.absstate.specs.StepLaws.Reading.{IsGiven, locations_agree, load_agrees, signed_agrees, inputs_agree}
+use Rattle.absstate.specs.StepLaws.Results.{IsResult, of_member, held_results}
 
 -- its one branch leads to the next instruction
 abbrev pub GoesPast : Insn → Type 0
@@ -71,11 +79,17 @@ module _ {D : Type 0} (ops : Operations D) (Member : D → ℕ → Type 0) (soun
     pub behind : b ≡ abstract.answered ops a asked out
     pub past : GoesPast i
     pub room : IfSome out (λ j. j + 8 ≤ 512)
-    pub lawful : (answer : ℕ → ℕ → AddressRecord → ℕ × AddressRecord) → IsLawful answer → ((answer q.helper q.number q.address).0 ≤ abstract.greatest_answer asked) × IfSome out (λ j. AreBytes 8 (answer q.helper q.number q.address).1)
+    pub lawful : (answer : ℕ → ℕ → AddressRecord → ℕ × AddressRecord) → IsLawful answer → ((answer q.helper q.number q.address).0 ≤ (signature_of asked).greatest) × IfSome out (λ j. AreBytes 8 (answer q.helper q.number q.address).1)
+
+  -- a result, with the anchors at places at which those that registers name stay
+  pub record IsResultAnew (places : Places) (size : ℕ) (a : AbsState D) (k : AbstractValue D) (v : Value) : Type 0 where
+    pub more : Places
+    pub extends : Extends (greatest_id a.registers) places more
+    pub result : IsResult Member more size k v
 
   -- the effect of an instruction, and the abstract state after it
   abbrev pub IsEffectOf : Mode → Places → AbsState D → State → Insn → Next D → Effect → Type 0
-  IsEffectOf mode places a s i (next.On b) (effect.Write r v) = (known : AbstractValue D) × (b ≡ with_value a r known) × IsResult Member places s.memory.length known v × GoesPast i
+  IsEffectOf mode places a s i (next.On b) (effect.Write r v) = (known : AbstractValue D) × (b ≡ with_value a r known) × IsResultAnew places s.memory.length a known v × GoesPast i
   IsEffectOf mode places a s i (next.On b) (effect.Store at z n) = (r : Region) × (b ≡ abstract.with_region a (byte_count z) r) × IsRegionOf (byte_count z) r at × GoesPast i
   IsEffectOf mode places a s i (next.On b) (effect.Ask q out) = IsAsked a i b q out
   IsEffectOf mode places a s i (next.On b) (effect.SetWindow window) = (b ≡ abstract.answered ops a helper.Window None) × GoesPast i
@@ -93,108 +107,152 @@ module _ {D : Type 0} (ops : Operations D) (Member : D → ℕ → Type 0) (soun
   IsEffectOf mode places a s i next.Exit (effect.Jump offset) = ⊥
   IsEffectOf mode places a s i next.Exit effect.Pass = ⊥
 
-  module _ (claimed : Reason → Type 0) (mode : Mode) (places : Places) (a : AbsState D) (s : State) (member : IsMember Member mode places a s) where
-    first : places First ≡ pos 0
-    first = member.anchored First
-
+  module _ (claimed : Reason → Type 0) (mode : Mode) (places : Places) (a : AbsState D) (s : State) (member : IsMemberAt Member mode places a s) where
     -- the refusals of an instruction that are claimed
     abbrev Claims : Insn → Type 0
     Claims i = AreClaims ops Member sound claimed mode a s i
 
     strays_if : (w : Width) (op : AluOp) (o : Operand) (dst : Reg) → OperandFits o → Claims (insn.Alu w op dst o) → (x y : AbstractValue D) (u v : Value) → abstract.read a dst ≡ Ok x → abstract.operand_abstract ops w a o ≡ Ok y
-        → effects.read s.registers dst ≡ Ok u → effects.operand_value w s.registers o ≡ Ok v → claimed PointerArithmetic → StraysBy ops Member sound op w x y u v
-    strays_if w op (operand.Reg r) dst fit claims x y u v p p' q q' c =
-        strays_same ops Member sound op w (abstract_at a.registers dst) x (abstract_at a.registers r) y (value_at s.registers dst) u (value_at s.registers r) v
-        (held_known ops Member sound (abstract_at a.registers dst) x p) (held_known ops Member sound (abstract_at a.registers r) y p') (held_is (value_at s.registers dst) u q) (held_is (value_at s.registers r) v q') (claims.arithmetic c)
-    strays_if w op (operand.Imm n) dst fit claims x y u v p p' q q' c =
-        subst (λ (z : AbstractValue D). StraysBy ops Member sound op w x z u v) (ok_is ops Member sound (known.Scalar (ops.exact (imm_word w n))) y p')
-        (single_strays ops Member sound op w x (ops.exact (imm_word w n)) (imm_word w n) (claims.exact c (imm_word w n) (imm_below w n fit)) u v)
+        → effects.read s.registers dst ≡ Ok u → effects.operand_value w s.registers o ≡ Ok v → claimed PointerArithmetic → StraysBy ops Member sound a op w x y u v
+    strays_if w op o dst fit claims x y u v p p' q q' c = claims.arithmetic c x y u v p p' q q'
 
     -- a result is written
-    result_written : (i : Insn) (dst : Reg) (r : Result (AbstractValue D) Reason) (r' : Result Value Reason) → GoesPast i → Agree claimed (IsResult Member places s.memory.length) r r' → Agree claimed (IsEffectOf mode places a s i) (abstract.written a dst r) (effects.written dst r')
-    result_written i dst r r' past agree =
+    anew_written : (i : Insn) (dst : Reg) (r : Result (AbstractValue D) Reason) (r' : Result Value Reason) → GoesPast i → Agree claimed (IsResultAnew places s.memory.length a) r r' → Agree claimed (IsEffectOf mode places a s i) (abstract.written a dst r) (effects.written dst r')
+    anew_written i dst r r' past agree =
         same_test claimed (IsEffectOf mode places a s i) (writable dst) _ _
-        (and_then claimed (IsResult Member places s.memory.length) (IsEffectOf mode places a s i) r r' _ _ agree (λ k v p q result. (k, refl, result, past)))
+        (and_then claimed (IsResultAnew places s.memory.length a) (IsEffectOf mode places a s i) r r' _ _ agree (λ k v p q result. (k, refl, result, past)))
 
-    written_agrees : (i : Insn) (dst : Reg) (r : Result (AbstractValue D) Reason) (r' : Result Value Reason) → GoesPast i → Agree claimed (IsHeld Member places) r r' → Agree claimed (IsEffectOf mode places a s i) (abstract.written a dst r) (effects.written dst r')
+    anew : (r : Result (AbstractValue D) Reason) (r' : Result Value Reason) → Agree claimed (IsResult Member places s.memory.length) r r' → Agree claimed (IsResultAnew places s.memory.length a) r r'
+    anew (Ok k) (Ok v) h = record { more = places; extends = extends_itself (greatest_id a.registers) places; result = h }
+    anew (Ok k) (Err e) h = absurd h
+    anew (Err e) (Ok v) h = h
+    anew (Err e) (Err f) h = h
+
+    held_anew : (r : Result (AbstractValue D) Reason) (r' : Result Value Reason) → Agree claimed (IsHeldAnew ops Member sound places s.memory.length a) r r' → Agree claimed (IsResultAnew places s.memory.length a) r r'
+    held_anew (Ok k) (Ok v) h = record { more = h.more; extends = h.extends; result = of_member Member h.more s.memory.length k v h.held }
+    held_anew (Ok k) (Err e) h = absurd h
+    held_anew (Err e) (Ok v) h = h
+    held_anew (Err e) (Err f) h = h
+
+    result_written : (i : Insn) (dst : Reg) (r : Result (AbstractValue D) Reason) (r' : Result Value Reason) → GoesPast i → Agree claimed (IsResult Member places s.memory.length) r r' → Agree claimed (IsEffectOf mode places a s i) (abstract.written a dst r) (effects.written dst r')
+    result_written i dst r r' past agree = anew_written i dst r r' past (anew r r' agree)
+
+    written_agrees : (i : Insn) (dst : Reg) (r : Result (AbstractValue D) Reason) (r' : Result Value Reason) → GoesPast i → Agree claimed (IsHeld Member places s.memory.length) r r' → Agree claimed (IsEffectOf mode places a s i) (abstract.written a dst r) (effects.written dst r')
     written_agrees i dst r r' past agree = result_written i dst r r' past (held_results claimed Member places s.memory.length r r' agree)
 
     alu_agrees : (w : Width) (op : AluOp) (dst : Reg) (o : Operand) → OperandFits o → Claims (insn.Alu w op dst o)
         → Agree claimed (IsEffectOf mode places a s (insn.Alu w op dst o)) (abstract.alu_step ops a w op dst o) (effects.alu_effect s.registers w op dst o)
     alu_agrees w op dst o fit claims =
-        and_then claimed (IsHeld Member places) (IsEffectOf mode places a s (insn.Alu w op dst o)) (abstract.read a dst) (effects.read s.registers dst) _ _
+        and_then claimed (IsHeld Member places s.memory.length) (IsEffectOf mode places a s (insn.Alu w op dst o)) (abstract.read a dst) (effects.read s.registers dst) _ _
         (read_agrees ops Member sound claimed mode places claims.registers a s member dst)
-        (λ x u p q held_x. and_then claimed (IsHeld Member places) (IsEffectOf mode places a s (insn.Alu w op dst o)) (abstract.operand_abstract ops w a o) (effects.operand_value w s.registers o) _ _
+        (λ x u p q held_x. and_then claimed (IsHeld Member places s.memory.length) (IsEffectOf mode places a s (insn.Alu w op dst o)) (abstract.operand_abstract ops w a o) (effects.operand_value w s.registers o) _ _
         (operand_agrees ops Member sound claimed mode places claims.registers a s member w o fit)
-        (λ y v p' q' held_y. written_agrees (insn.Alu w op dst o) dst (abstract.alu_result ops op w x y) (effects.alu_result op w u v) refl
-        (result_held ops Member sound claimed places first op w x y u v held_x held_y (strays_if w op o dst fit claims x y u v p p' q q'))))
+        (λ y v p' q' held_y. anew_written (insn.Alu w op dst o) dst (abstract.alu_result ops a op w x y) (effects.alu_result op w u v) refl
+        (held_anew (abstract.alu_result ops a op w x y) (effects.alu_result op w u v) (result_held ops Member sound claimed places s.memory.length a member.reaches op w x y u v held_x held_y (strays_if w op o dst fit claims x y u v p p' q q')))))
 
     unary_agrees : (i : Insn) (w : Width) (op : UnaryOp) (dst : Reg) (o : Operand) → GoesPast i → OperandFits o → Claims i
         → Agree claimed (IsEffectOf mode places a s i) (abstract.unary_step ops a w op dst o) (effects.unary_effect s.registers w op dst o)
     unary_agrees i w op dst o past fit claims =
-        and_then claimed (IsHeld Member places) (IsEffectOf mode places a s i) (abstract.operand_abstract ops w a o) (effects.operand_value w s.registers o) _ _
+        and_then claimed (IsHeld Member places s.memory.length) (IsEffectOf mode places a s i) (abstract.operand_abstract ops w a o) (effects.operand_value w s.registers o) _ _
         (operand_agrees ops Member sound claimed mode places claims.registers a s member w o fit)
-        (λ x u p q held. written_agrees i dst (abstract.unary_result ops op x) (effects.unary_result op u) past (unary_held ops Member sound claimed places first op x u held))
+        (λ x u p q held. written_agrees i dst (abstract.unary_result ops op x) (effects.unary_result op u) past (unary_held ops Member sound claimed places s.memory.length a member.reaches op x u held))
 
     module _ (w : Width) (c : Condition) (dst : Reg) (o : Operand) (offset : ℤ) where
       abbrev ForksAgree : AbstractValue D → AbstractValue D → Value → Value → Type 0
       ForksAgree x y u v = Agree claimed (IsEffectOf mode places a s (insn.JumpIf w c dst o offset)) (abstract.fork ops a w c dst o x y) (effects.compared s.memory.length w c u v >>= λ taken. Ok (if taken then effect.Jump offset else effect.Pass))
 
-    data_fork : (c : Condition) (dst : Reg) (o : Operand) (offset : ℤ) (k p : ℤ) → p ≡ k → value_at s.registers dst ≡ value.Data p → effects.operand_value W64 s.registers o ≡ Ok value.End → ForksAgree W64 c dst o offset (known.Data First k) known.End (value.Data p) value.End
-    data_fork c dst o offset k p e dst_is o_is =
-        subst (λ (z : ℤ). value_at s.registers dst ≡ value.Data z → ForksAgree W64 c dst o offset (known.Data First k) known.End (value.Data z) value.End) (sym e)
-        (λ is. and_then claimed (Implies (data_bound c k) s.memory.length) (IsEffectOf mode places a s (insn.JumpIf W64 c dst o offset)) (abstract.order_implies c (data_bound c k)) (effects.ordered c k (pos s.memory.length)) _ _ (first_agree claimed k s.memory.length c)
-        (λ t taken q q' implies. forked ops Member sound mode places a s member W64 c dst o offset (data_bound c k) value.End o_is (λ way. ap (λ (v : Value). bound_of c v value.End way) is) t taken implies))
-        dst_is
+    at_agrees : (anchor : Anchor) (bound real : Branch → Option Bound) (w : Width) (c : Condition) (dst : Reg) (o : Operand) (offset : ℤ) (r : Result Implied Reason) (r' : Result Bool Reason) → Agree claimed (Implies bound real s.memory.length) r r'
+        → ((t : Implied) (taken : Bool) → Implies bound real s.memory.length t taken → IsEffectOf mode places a s (insn.JumpIf w c dst o offset) (next.Fork (Some (with_least a anchor t.not_taken)) (Some (with_least a anchor t.taken))) (if taken then effect.Jump offset else effect.Pass))
+        → Agree claimed (IsEffectOf mode places a s (insn.JumpIf w c dst o offset)) (abstract.at_anchor anchor r >>= λ t. Ok (next.Fork (Some (with_least a t.0 t.1.not_taken)) (Some (with_least a t.0 t.1.taken)))) (r' >>= λ taken. Ok (if taken then effect.Jump offset else effect.Pass))
+    at_agrees anchor bound real w c dst o offset (Ok t) (Ok taken) agree on = on t taken agree
+    at_agrees anchor bound real w c dst o offset (Ok t) (Err e) agree on = absurd agree
+    at_agrees anchor bound real w c dst o offset (Err e) (Ok taken) agree on = agree
+    at_agrees anchor bound real w c dst o offset (Err e) (Err f) agree on = agree
 
-    end_fork : (c : Condition) (dst : Reg) (o : Operand) (offset : ℤ) (k p : ℤ) → p ≡ k → value_at s.registers dst ≡ value.End → effects.operand_value W64 s.registers o ≡ Ok (value.Data p) → ForksAgree W64 c dst o offset known.End (known.Data First k) value.End (value.Data p)
-    end_fork c dst o offset k p e dst_is o_is =
-        subst (λ (z : ℤ). effects.operand_value W64 s.registers o ≡ Ok (value.Data z) → ForksAgree W64 c dst o offset known.End (known.Data First k) value.End (value.Data z)) (sym e)
-        (λ is. and_then claimed (Implies (data_bound (exchanged c) k) s.memory.length) (IsEffectOf mode places a s (insn.JumpIf W64 c dst o offset)) (abstract.order_implies c (data_bound (exchanged c) k)) (effects.ordered c (pos s.memory.length) k) _ _ (second_agree claimed k s.memory.length c)
-        (λ t taken q q' implies. forked ops Member sound mode places a s member W64 c dst o offset (data_bound (exchanged c) k) (value.Data k) is (λ way. ap (λ (v : Value). bound_of c v (value.Data k) way) dst_is) t taken implies))
-        o_is
+    abbrev extra_of : Anchor → ℤ → ℤ
+    extra_of anchor k = reach_at {D = D} (known.Data anchor k)
 
-    forks_agree : (w : Width) (c : Condition) (dst : Reg) (o : Operand) (offset : ℤ) (x y : AbstractValue D) (m n : ℕ) → IsNumberOf Member x m → IsNumberOf Member y n → value_at s.registers dst ≡ value_of places x m → effects.operand_value w s.registers o ≡ Ok (value_of places y n)
+    -- a pointer that a register holds reaches no farther than the registers do
+    abbrev IsWithin : AbstractValue D → Type 0
+    IsWithin x = reach_at x ≤ℤ reach_of a.registers
+
+    read_within : (r : Reg) (x : AbstractValue D) → abstract.read a r ≡ Ok x → IsWithin x
+    read_within r x p = subst IsWithin (held_known ops Member sound (abstract_at a.registers r) x p) (reach_at_most a.registers (number_of r))
+
+    operand_within : (w : Width) (o : Operand) (y : AbstractValue D) → abstract.operand_abstract ops w a o ≡ Ok y → IsWithin y
+    operand_within w (operand.Reg r) y p = read_within r y p
+    operand_within w (operand.Imm n) y p = subst IsWithin (ok_is ops Member sound (known.Scalar (ops.exact (imm_word w n))) y p) (reach_positive a.registers)
+
+    made_enough : (id : ℕ) (low high proved : ℤ) (k : ℤ) (b : Option Bound) → IsNearBound k b → IsPlace s.memory.length low high proved (places id) → ((high +ℤ k) +ℤ pos 1) ≤ℤ pos s.memory.length → IsLeast (places id) (abstract.least_of b) s.memory.length
+    made_enough id low high proved k None near is le = tt
+    made_enough id low high proved k (Some (AtMost j)) near is le = omega (arith, ints, near, le, is.greatest)
+    made_enough id low high proved k (Some (Below j)) near is le = omega (arith, ints, near, le, is.greatest)
+
+    bound_enough : (anchor : Anchor) (k : ℤ) (b : Option Bound) → IsNearBound k b → IsAnchored places s.memory.length anchor → (with_least a anchor (abstract.least_of b)).proved ≤ℤ pos s.memory.length → extra_of anchor k ≤ℤ pos s.memory.length → IsLeast (place_of places anchor) (abstract.least_of b) s.memory.length
+    bound_enough First k b near is le le' = length_within ops Member sound a (abstract.least_of b) s.memory.length le
+    bound_enough (Made id low high proved) k b near is le le' = made_enough id low high proved k b near is le'
+
+    implies_shifted : (bound real : Branch → Option Bound) (place : ℤ) (t : Implied) (taken : Bool) → ((way : Branch) → real way ≡ shifted place (bound way)) → Implies bound real s.memory.length t taken → Implies bound (λ way. shifted place (bound way)) s.memory.length t taken
+    implies_shifted bound real place t taken is h = (h.0, subst (λ (b : Option Bound). HoldsOf b s.memory.length) (is (branch_if taken)) h.1)
+
+    data_fork : (c : Condition) (dst : Reg) (o : Operand) (offset : ℤ) (anchor : Anchor) (k : ℤ) → IsWithin (known.Data anchor k) → IsAnchored places s.memory.length anchor → value_at s.registers dst ≡ value.Data (place_of places anchor +ℤ k) → effects.operand_value W64 s.registers o ≡ Ok value.End → ForksAgree W64 c dst o offset (known.Data anchor k) known.End (value.Data (place_of places anchor +ℤ k)) value.End
+    data_fork c dst o offset anchor k within h dst_is o_is =
+        at_agrees anchor (data_bound c k) (data_bound c (place_of places anchor +ℤ k)) W64 c dst o offset (abstract.order_implies c (data_bound c k)) (effects.ordered c (place_of places anchor +ℤ k) (pos s.memory.length)) (first_agree claimed k (place_of places anchor +ℤ k) s.memory.length c)
+        (λ t taken implies. forked ops Member sound mode places a s member W64 c dst o offset anchor (data_bound c k) (extra_of anchor k) within (λ way. bound_enough anchor k (data_bound c k way) (near_bound k c way) h) value.End o_is
+        (λ way. ap (λ (v : Value). bound_of c v value.End way) dst_is ∙ data_shifts (place_of places anchor) k c way) t taken
+        (implies_shifted (data_bound c k) (data_bound c (place_of places anchor +ℤ k)) (place_of places anchor) t taken (data_shifts (place_of places anchor) k c) implies))
+
+    end_fork : (c : Condition) (dst : Reg) (o : Operand) (offset : ℤ) (anchor : Anchor) (k : ℤ) → IsWithin (known.Data anchor k) → IsAnchored places s.memory.length anchor → value_at s.registers dst ≡ value.End → effects.operand_value W64 s.registers o ≡ Ok (value.Data (place_of places anchor +ℤ k)) → ForksAgree W64 c dst o offset known.End (known.Data anchor k) value.End (value.Data (place_of places anchor +ℤ k))
+    end_fork c dst o offset anchor k within h dst_is o_is =
+        at_agrees anchor (data_bound (exchanged c) k) (data_bound (exchanged c) (place_of places anchor +ℤ k)) W64 c dst o offset (abstract.order_implies c (data_bound (exchanged c) k)) (effects.ordered c (pos s.memory.length) (place_of places anchor +ℤ k)) (second_agree claimed k (place_of places anchor +ℤ k) s.memory.length c)
+        (λ t taken implies. forked ops Member sound mode places a s member W64 c dst o offset anchor (data_bound (exchanged c) k) (extra_of anchor k) within (λ way. bound_enough anchor k (data_bound (exchanged c) k way) (near_bound k (exchanged c) way) h) (value.Data (place_of places anchor +ℤ k)) o_is
+        (λ way. ap (λ (v : Value). bound_of c v (value.Data (place_of places anchor +ℤ k)) way) dst_is ∙ data_shifts (place_of places anchor) k (exchanged c) way) t taken
+        (implies_shifted (data_bound (exchanged c) k) (data_bound (exchanged c) (place_of places anchor +ℤ k)) (place_of places anchor) t taken (data_shifts (place_of places anchor) k (exchanged c)) implies))
+
+    forks_agree : (w : Width) (c : Condition) (dst : Reg) (o : Operand) (offset : ℤ) (x y : AbstractValue D) (m n : ℕ) → IsWithin x → IsWithin y → IsNumberOf Member places s.memory.length x m → IsNumberOf Member places s.memory.length y n → value_at s.registers dst ≡ value_of places x m → effects.operand_value w s.registers o ≡ Ok (value_of places y n)
         → ForksAgree w c dst o offset x y (value_of places x m) (value_of places y n)
-    forks_agree w c dst o offset (known.Scalar x) (known.Scalar y) m n h g dst_is o_is = fork_by ops Member sound mode places a s member w c dst o offset x y m n h g dst_is o_is (holds c w m n) refl
-    forks_agree W64 c dst o offset (known.Data First k) known.End m n h g dst_is o_is = data_fork c dst o offset k (places First +ℤ k) (from_first (places First) k first) dst_is o_is
-    forks_agree W64 c dst o offset known.End (known.Data First k) m n h g dst_is o_is = end_fork c dst o offset k (places First +ℤ k) (from_first (places First) k first) dst_is o_is
-    forks_agree w c dst o offset x y m n h g dst_is o_is = λ claim. refl
+    forks_agree w c dst o offset (known.Scalar x) (known.Scalar y) m n wx wy h g dst_is o_is = fork_by ops Member sound mode places a s member w c dst o offset x y m n h g dst_is o_is (holds c w m n) refl
+    forks_agree W64 c dst o offset (known.Data anchor k) known.End m n wx wy h g dst_is o_is = data_fork c dst o offset anchor k wx h dst_is o_is
+    forks_agree W64 c dst o offset known.End (known.Data anchor k) m n wx wy h g dst_is o_is = end_fork c dst o offset anchor k wy g dst_is o_is
+    forks_agree w c dst o offset x y m n wx wy h g dst_is o_is = λ claim. refl
 
-    fork_held : (w : Width) (c : Condition) (dst : Reg) (o : Operand) (offset : ℤ) (x y : AbstractValue D) (u v : Value) → IsHeld Member places x u → IsHeld Member places y v → effects.read s.registers dst ≡ Ok u → effects.operand_value w s.registers o ≡ Ok v → ForksAgree w c dst o offset x y u v
-    fork_held w c dst o offset x y u v hx hy p q =
+    fork_held : (w : Width) (c : Condition) (dst : Reg) (o : Operand) (offset : ℤ) (x y : AbstractValue D) (u v : Value) → IsWithin x → IsWithin y → IsHeld Member places s.memory.length x u → IsHeld Member places s.memory.length y v → effects.read s.registers dst ≡ Ok u → effects.operand_value w s.registers o ≡ Ok v → ForksAgree w c dst o offset x y u v
+    fork_held w c dst o offset x y u v wx wy hx hy p q =
         subst (λ (u' : Value). ForksAgree w c dst o offset x y u' v) (sym hx.2) (subst (λ (v' : Value). ForksAgree w c dst o offset x y (value_of places x hx.0) v') (sym hy.2)
-        (forks_agree w c dst o offset x y hx.0 hy.0 hx.1 hy.1 (held_is (value_at s.registers dst) u p ∙ hx.2) (q ∙ ap Ok hy.2)))
+        (forks_agree w c dst o offset x y hx.0 hy.0 wx wy hx.1 hy.1 (held_is (value_at s.registers dst) u p ∙ hx.2) (q ∙ ap Ok hy.2)))
 
     jumps_agree : (w : Width) (c : Condition) (dst : Reg) (o : Operand) (offset : ℤ) → OperandFits o → Claims (insn.JumpIf w c dst o offset)
         → Agree claimed (IsEffectOf mode places a s (insn.JumpIf w c dst o offset)) (abstract.branch_step ops a w c dst o) (effects.jump_if_effect s.registers s.memory.length w c dst o offset)
     jumps_agree w c dst o offset fit claims =
-        and_then claimed (IsHeld Member places) (IsEffectOf mode places a s (insn.JumpIf w c dst o offset)) (abstract.read a dst) (effects.read s.registers dst) _ _
+        and_then claimed (IsHeld Member places s.memory.length) (IsEffectOf mode places a s (insn.JumpIf w c dst o offset)) (abstract.read a dst) (effects.read s.registers dst) _ _
         (read_agrees ops Member sound claimed mode places claims.registers a s member dst)
-        (λ x u p q held_x. and_then claimed (IsHeld Member places) (IsEffectOf mode places a s (insn.JumpIf w c dst o offset)) (abstract.operand_abstract ops w a o) (effects.operand_value w s.registers o) _ _
+        (λ x u p q held_x. and_then claimed (IsHeld Member places s.memory.length) (IsEffectOf mode places a s (insn.JumpIf w c dst o offset)) (abstract.operand_abstract ops w a o) (effects.operand_value w s.registers o) _ _
         (operand_agrees ops Member sound claimed mode places claims.registers a s member w o fit)
-        (λ y v p' q' held_y. fork_held w c dst o offset x y u v held_x held_y q q'))
+        (λ y v p' q' held_y. fork_held w c dst o offset x y u v (read_within dst x p) (operand_within w o y p') held_x held_y q q'))
+
+    plain_at : (i : Insn) → Claims i → (r : Reg) (x : AbstractValue D) → abstract.read a r ≡ Ok x → claimed DatagramBounds → IsMade x → ⊥
+    plain_at i claims r x p c is = claims.plain c r (subst IsMade (sym (held_known ops Member sound (abstract_at a.registers r) x p)) is)
 
     loads_agree : (i : Insn) (known_of : AbstractValue D → Result (AbstractValue D) Reason) (loaded : Value → Result Value Reason) (dst base : Reg) → GoesPast i → Claims i
-        → ((x : AbstractValue D) (m : ℕ) → IsNumberOf Member x m → Agree claimed (IsResult Member places s.memory.length) (known_of x) (loaded (value_of places x m)))
+        → ((x : AbstractValue D) → (claimed DatagramBounds → IsMade x → ⊥) → (m : ℕ) → IsNumberOf Member places s.memory.length x m → Agree claimed (IsResult Member places s.memory.length) (known_of x) (loaded (value_of places x m)))
         → Agree claimed (IsEffectOf mode places a s i) (abstract.loaded_step a known_of dst base) (effects.loaded_effect s.registers loaded dst base)
     loads_agree i known_of loaded dst base past claims agree =
-        and_then claimed (IsHeld Member places) (IsEffectOf mode places a s i) (abstract.read a base) (effects.read s.registers base) _ _
+        and_then claimed (IsHeld Member places s.memory.length) (IsEffectOf mode places a s i) (abstract.read a base) (effects.read s.registers base) _ _
         (read_agrees ops Member sound claimed mode places claims.registers a s member base)
         (λ x u p q held. result_written i dst (known_of x) (loaded u) past
-        (subst (λ (u' : Value). Agree claimed (IsResult Member places s.memory.length) (known_of x) (loaded u')) (sym held.2) (agree x held.0 held.1)))
+        (subst (λ (u' : Value). Agree claimed (IsResult Member places s.memory.length) (known_of x) (loaded u')) (sym held.2) (agree x (plain_at i claims base x p) held.0 held.1)))
 
     -- ---- stores
 
     stores_agree : (z : Size) (base : Reg) (o : Operand) (d : ℤ) → OperandFits o → Claims (insn.Store z base o d)
         → Agree claimed (IsEffectOf mode places a s (insn.Store z base o d)) (abstract.store_step ops a z base o d) (effects.store_effect s.registers s.memory.length z base o d)
     stores_agree z base o d fit claims =
-        and_then claimed (IsHeld Member places) (IsEffectOf mode places a s (insn.Store z base o d)) (abstract.read a base) (effects.read s.registers base) _ _
+        and_then claimed (IsHeld Member places s.memory.length) (IsEffectOf mode places a s (insn.Store z base o d)) (abstract.read a base) (effects.read s.registers base) _ _
         (read_agrees ops Member sound claimed mode places claims.registers a s member base)
-        (λ x u p q held_x. and_then claimed (IsHeld Member places) (IsEffectOf mode places a s (insn.Store z base o d)) (abstract.operand_abstract ops W64 a o) (effects.operand_value W64 s.registers o) _ _
+        (λ x u p q held_x. and_then claimed (IsHeld Member places s.memory.length) (IsEffectOf mode places a s (insn.Store z base o d)) (abstract.operand_abstract ops W64 a o) (effects.operand_value W64 s.registers o) _ _
         (operand_agrees ops Member sound claimed mode places claims.registers a s member W64 o fit)
-        (λ y v p' q' held_y. store_held z base o d claims x y u v held_x held_y)) where
-          pointers_agree : (x : AbstractValue D) (m : ℕ) → IsNumberOf Member x m → Agree claimed (λ u v. Unit {0}) (abstract.pointer x) (effects.pointer (value_of places x m))
+        (λ y v p' q' held_y. store_held z base o d claims x (plain_at (insn.Store z base o d) claims base x p) y u v held_x held_y)) where
+          pointers_agree : (x : AbstractValue D) (m : ℕ) → IsNumberOf Member places s.memory.length x m → Agree claimed (λ u v. Unit {0}) (abstract.pointer x) (effects.pointer (value_of places x m))
           pointers_agree (known.Scalar n) m h = λ c. refl
           pointers_agree known.Nothing m h = tt
           pointers_agree known.Ctx m h = tt
@@ -202,7 +260,7 @@ module _ {D : Type 0} (ops : Operations D) (Member : D → ℕ → Type 0) (soun
           pointers_agree (known.Data anchor k) m h = tt
           pointers_agree known.End m h = tt
 
-          storables_agree : (y : AbstractValue D) (n : ℕ) → IsNumberOf Member y n → Agree claimed (λ u k. Unit {0}) (abstract.storable y) (effects.stored_number (value_of places y n))
+          storables_agree : (y : AbstractValue D) (n : ℕ) → IsNumberOf Member places s.memory.length y n → Agree claimed (λ u k. Unit {0}) (abstract.storable y) (effects.stored_number (value_of places y n))
           storables_agree (known.Scalar number) n h = tt
           storables_agree known.Nothing n h = λ c. refl
           storables_agree known.Ctx n h = λ c. refl
@@ -210,60 +268,75 @@ module _ {D : Type 0} (ops : Operations D) (Member : D → ℕ → Type 0) (soun
           storables_agree (known.Data anchor k) n h = λ c. refl
           storables_agree known.End n h = λ c. refl
 
-          store_numbers : (z : Size) (base : Reg) (o : Operand) (d : ℤ) → Claims (insn.Store z base o d) → (x y : AbstractValue D) (m n : ℕ) → IsNumberOf Member x m → IsNumberOf Member y n
+          store_numbers : (z : Size) (base : Reg) (o : Operand) (d : ℤ) → Claims (insn.Store z base o d) → (x : AbstractValue D) → (claimed DatagramBounds → IsMade x → ⊥) → (y : AbstractValue D) (m n : ℕ) → IsNumberOf Member places s.memory.length x m → IsNumberOf Member places s.memory.length y n
               → Agree claimed (IsEffectOf mode places a s (insn.Store z base o d))
               (abstract.pointer x >>= λ u. abstract.storable y >>= λ v. abstract.located a x d (byte_count z) >>= λ r. Ok (next.On (abstract.with_region a (byte_count z) r)))
               (effects.pointer (value_of places x m) >>= λ u. effects.stored_number (value_of places y n) >>= λ k. location s.memory.length (value_of places x m) d (byte_count z) >>= λ at. Ok (effect.Store at z k))
-          store_numbers z base o d claims x y m n h g =
+          store_numbers z base o d claims x plain y m n h g =
               and_then claimed (λ u v. Unit {0}) (IsEffectOf mode places a s (insn.Store z base o d)) (abstract.pointer x) (effects.pointer (value_of places x m)) _ _ (pointers_agree x m h)
               (λ u u' p q t. and_then claimed (λ v k. Unit {0}) (IsEffectOf mode places a s (insn.Store z base o d)) (abstract.storable y) (effects.stored_number (value_of places y n)) _ _ (storables_agree y n g)
               (λ v k p' q' t'. and_then claimed (IsRegionOf (byte_count z)) (IsEffectOf mode places a s (insn.Store z base o d)) (abstract.located a x d (byte_count z)) (location s.memory.length (value_of places x m) d (byte_count z)) _ _
-              (locations_agree ops Member sound claimed mode places a s member (insn.Store z base o d) claims x m d (byte_count z) h)
+              (locations_agree ops Member sound claimed mode places a s member (insn.Store z base o d) claims x plain m d (byte_count z) h)
               (λ r at e f is. (r, refl, is, refl))))
 
-          store_held : (z : Size) (base : Reg) (o : Operand) (d : ℤ) → Claims (insn.Store z base o d) → (x y : AbstractValue D) (u v : Value) → IsHeld Member places x u → IsHeld Member places y v
+          store_held : (z : Size) (base : Reg) (o : Operand) (d : ℤ) → Claims (insn.Store z base o d) → (x : AbstractValue D) → (claimed DatagramBounds → IsMade x → ⊥) → (y : AbstractValue D) (u v : Value) → IsHeld Member places s.memory.length x u → IsHeld Member places s.memory.length y v
               → Agree claimed (IsEffectOf mode places a s (insn.Store z base o d))
               (abstract.pointer x >>= λ t. abstract.storable y >>= λ t'. abstract.located a x d (byte_count z) >>= λ r. Ok (next.On (abstract.with_region a (byte_count z) r)))
               (effects.pointer u >>= λ t. effects.stored_number v >>= λ k. location s.memory.length u d (byte_count z) >>= λ at. Ok (effect.Store at z k))
-          store_held z base o d claims x y u v hx hy =
+          store_held z base o d claims x plain y u v hx hy =
               subst (λ (u' : Value). Agree claimed (IsEffectOf mode places a s (insn.Store z base o d))
               (abstract.pointer x >>= λ t. abstract.storable y >>= λ t'. abstract.located a x d (byte_count z) >>= λ r. Ok (next.On (abstract.with_region a (byte_count z) r)))
               (effects.pointer u' >>= λ t. effects.stored_number v >>= λ k. location s.memory.length u' d (byte_count z) >>= λ at. Ok (effect.Store at z k))) (sym hx.2)
               (subst (λ (v' : Value). Agree claimed (IsEffectOf mode places a s (insn.Store z base o d))
               (abstract.pointer x >>= λ t. abstract.storable y >>= λ t'. abstract.located a x d (byte_count z) >>= λ r. Ok (next.On (abstract.with_region a (byte_count z) r)))
               (effects.pointer (value_of places x hx.0) >>= λ t. effects.stored_number v' >>= λ k. location s.memory.length (value_of places x hx.0) d (byte_count z) >>= λ at. Ok (effect.Store at z k))) (sym hy.2)
-              (store_numbers z base o d claims x y hx.0 hy.0 hx.1 hy.1))
+              (store_numbers z base o d claims x plain y hx.0 hy.0 hx.1 hy.1))
 
-    asks : (i : Insn) (h : Helper) (q : Question) (out : Option ℕ) → GoesPast i → IfSome out (λ j. j + 8 ≤ 512) → ((answer : ℕ → ℕ → AddressRecord → ℕ × AddressRecord) → IsLawful answer → ((answer q.helper q.number q.address).0 ≤ abstract.greatest_answer h) × IfSome out (λ j. AreBytes 8 (answer q.helper q.number q.address).1))
+    asks : (i : Insn) (h : Helper) (q : Question) (out : Option ℕ) → GoesPast i → IfSome out (λ j. j + 8 ≤ 512) → ((answer : ℕ → ℕ → AddressRecord → ℕ × AddressRecord) → IsLawful answer → ((answer q.helper q.number q.address).0 ≤ (signature_of h).greatest) × IfSome out (λ j. AreBytes 8 (answer q.helper q.number q.address).1))
         → IsAsked a i (abstract.answered ops a h out) q out
     asks i h q out past room lawful = record { asked = h; behind = refl; past = past; room = room; lawful = lawful }
 
-    -- a look-up by an address
-    looks_up : (i : Insn) (h : Helper) → GoesPast i → Claims i → ((address : AddressRecord) → AreBytes 8 address → (answer : ℕ → ℕ → AddressRecord → ℕ × AddressRecord) → IsLawful answer → (answer (helper_number h) 0 address).0 ≤ abstract.greatest_answer h)
-        → Agree claimed (IsEffectOf mode places a s i) (abstract.address_step ops a h) (effects.address_effect s.memory s.registers h)
-    looks_up i h past claims lawful =
-        and_then claimed (λ (u v : Unit {0}). Unit {0}) (IsEffectOf mode places a s i) (abstract.context_argument a) (effects.context_argument s.registers) _ _ (context_agrees ops Member sound claimed mode places a s member i claims)
-        (λ u v p q t. and_then claimed IsRecord (IsEffectOf mode places a s i) (abstract.record_argument a reg.R2) (effects.record_argument s.memory s.registers reg.R2) _ _ (record_agrees_at ops Member sound claimed mode places a s member i claims reg.R2)
-        (λ x address p' q' are. asks i h (question h 0 address) None past tt (λ answer is. (lawful address are answer is, tt))))
+    -- helpers that write no record
+    two_read : (x y : Result (Unit {0}) Reason) (out : Option ℕ) → ((x >>= λ u. Ok None) >>= λ first. (y >>= λ u. Ok first) >>= λ second. Ok second) ≡ Ok out → out ≡ None
+    two_read (Ok u) (Ok v) out e = cc
+    two_read (Ok u) (Err f) out e = absurd cc
+    two_read (Err e') y out e = absurd cc
+
+    three_read : (x y z : Result (Unit {0}) Reason) (out : Option ℕ) → ((x >>= λ u. Ok None) >>= λ first. (y >>= λ u. Ok first) >>= λ second. (z >>= λ u. Ok second) >>= λ third. Ok third) ≡ Ok out → out ≡ None
+    three_read (Ok u) (Ok v) (Ok t) out e = cc
+    three_read (Ok u) (Ok v) (Err f) out e = absurd cc
+    three_read (Ok u) (Err f) z out e = absurd cc
+    three_read (Err e') y z out e = absurd cc
+
+    by_address : (out : Option ℕ) → ((abstract.context_argument a reg.R1 >>= λ u. Ok None) >>= λ first. (abstract.record_argument a reg.R2 >>= λ u. Ok first) >>= λ second. Ok second) ≡ Ok out → out ≡ None
+    by_address out e = two_read (abstract.context_argument a reg.R1) (abstract.record_argument a reg.R2) out e
+
+    -- the answer to a question without a record to write
+    looks_up : (i : Insn) (h : Helper) (out : Option ℕ) (given : Inputs) → GoesPast i → out ≡ None → IsGiven out given
+        → ((answer : ℕ → ℕ → AddressRecord → ℕ × AddressRecord) → IsLawful answer → (answer (helper_number h) given.number given.address).0 ≤ (signature_of h).greatest)
+        → IsAsked a i (abstract.answered ops a h out) (question h given.number given.address) given.out
+    looks_up i h None given past e is lawful =
+        subst (λ (o : Option ℕ). IsAsked a i (abstract.answered ops a h None) (question h given.number given.address) o) is.2 (asks i h (question h given.number given.address) None past tt (λ answer lawful_answer. (lawful answer lawful_answer, tt)))
+    looks_up i h (Some j) given past e is lawful = absurd cc
+
+    helped : (c : Context) (n : ℤ) (h : Helper) (out : Option ℕ) (given : Inputs) → abstract.out_of a (signature_of h).arguments ≡ Ok out → IsGiven out given
+        → IsEffectOf mode places a s (insn.Call n) (next.On (abstract.answered ops a h out)) (effects.effect_with c s.memory h given)
+    helped c n helper.ChannelPeer out given e is =
+        subst (λ (o : Option ℕ). IsAsked a (insn.Call n) (abstract.answered ops a helper.ChannelPeer out) (question helper.ChannelPeer given.number given.address) o) is.2
+        (asks (insn.Call n) helper.ChannelPeer (question helper.ChannelPeer given.number given.address) out refl is.3 (λ answer lawful. let peer = lawful.channel_peer given.number given.address is.0 is.1 in (peer.0, of_out out (answer 1 given.number given.address).1 peer.1))) where
+          of_out : (out : Option ℕ) (bytes : AddressRecord) → AreBytes 8 bytes → IfSome out (λ j. AreBytes 8 bytes)
+          of_out None bytes are = tt
+          of_out (Some j) bytes are = are
+    helped c n helper.ChannelTo out given e is = looks_up (insn.Call n) helper.ChannelTo out given refl (by_address out e) is (λ answer lawful. lawful.channel_to given.number given.address is.0 is.1)
+    helped c n helper.Permitted out given e is = looks_up (insn.Call n) helper.Permitted out given refl (by_address out e) is (λ answer lawful. lawful.permitted given.number given.address is.0 is.1)
+    helped c n helper.Window out given e is =
+        (ap (λ (o : Option ℕ). abstract.answered ops a helper.Window o) (three_read (abstract.context_argument a reg.R1) (abstract.number_argument a reg.R2) (abstract.number_argument a reg.R3) out e), refl)
+    helped c n helper.Destination out given e is = (ap (λ (o : Option ℕ). abstract.answered ops a helper.Destination o) (by_address out e), refl)
 
     helpers_agree : (c : Context) (n : ℤ) (h : Helper) → Claims (insn.Call n) → Agree claimed (IsEffectOf mode places a s (insn.Call n)) (abstract.helper_step ops a h) (effects.helper_effect c s.memory s.registers h)
-    helpers_agree c n helper.ChannelPeer claims =
-        and_then claimed (λ (u v : Unit {0}). Unit {0}) (IsEffectOf mode places a s (insn.Call n)) (abstract.context_argument a) (effects.context_argument s.registers) _ _ (context_agrees ops Member sound claimed mode places a s member (insn.Call n) claims)
-        (λ u v p q t. and_then claimed IsWord (IsEffectOf mode places a s (insn.Call n)) (abstract.number_argument a reg.R2) (effects.number_argument s.registers reg.R2) _ _ (number_agrees_at ops Member sound claimed mode places a s member (insn.Call n) claims reg.R2)
-        (λ x number p' q' word. and_then claimed IsSameIndex (IsEffectOf mode places a s (insn.Call n)) (abstract.stack_argument a reg.R3) (effects.stack_argument s.registers reg.R3) _ _ (stack_agrees_at ops Member sound claimed mode places a s member (insn.Call n) claims reg.R3)
-        (λ j k e f same. subst (λ (out : ℕ). IsAsked a (insn.Call n) (abstract.answered ops a helper.ChannelPeer (Some j)) (question helper.ChannelPeer number no_address) (Some out)) same.0
-        (asks (insn.Call n) helper.ChannelPeer (question helper.ChannelPeer number no_address) (Some j) refl same.1 (λ answer is. is.channel_peer number no_address word no_address_bytes)))))
-    helpers_agree c n helper.ChannelTo claims = looks_up (insn.Call n) helper.ChannelTo refl claims (λ address are answer is. is.channel_to 0 address (omega arith) are)
-    helpers_agree c n helper.Permitted claims = looks_up (insn.Call n) helper.Permitted refl claims (λ address are answer is. is.permitted 0 address (omega arith) are)
-    helpers_agree c n helper.Window claims =
-        and_then claimed (λ (u v : Unit {0}). Unit {0}) (IsEffectOf mode places a s (insn.Call n)) (abstract.context_argument a) (effects.context_argument s.registers) _ _ (context_agrees ops Member sound claimed mode places a s member (insn.Call n) claims)
-        (λ u v p q t. and_then claimed IsWord (IsEffectOf mode places a s (insn.Call n)) (abstract.number_argument a reg.R2) (effects.number_argument s.registers reg.R2) _ _ (number_agrees_at ops Member sound claimed mode places a s member (insn.Call n) claims reg.R2)
-        (λ x front p' q' word. and_then claimed IsWord (IsEffectOf mode places a s (insn.Call n)) (abstract.number_argument a reg.R3) (effects.number_argument s.registers reg.R3) _ _ (number_agrees_at ops Member sound claimed mode places a s member (insn.Call n) claims reg.R3)
-        (λ y size e f word'. (refl, refl))))
-    helpers_agree c n helper.Destination claims =
-        and_then claimed (λ (u v : Unit {0}). Unit {0}) (IsEffectOf mode places a s (insn.Call n)) (abstract.context_argument a) (effects.context_argument s.registers) _ _ (context_agrees ops Member sound claimed mode places a s member (insn.Call n) claims)
-        (λ u v p q t. and_then claimed IsRecord (IsEffectOf mode places a s (insn.Call n)) (abstract.record_argument a reg.R2) (effects.record_argument s.memory s.registers reg.R2) _ _ (record_agrees_at ops Member sound claimed mode places a s member (insn.Call n) claims reg.R2)
-        (λ x address p' q' are. (refl, refl)))
+    helpers_agree c n h claims =
+        and_then claimed IsGiven (IsEffectOf mode places a s (insn.Call n)) (abstract.out_of a (signature_of h).arguments) (effects.inputs s.memory s.registers (signature_of h).arguments) _ _
+        (inputs_agree ops Member sound claimed mode places a s member (insn.Call n) claims (signature_of h).arguments) (λ out given p q is. helped c n h out given p is)
 
     calls_agree : (c : Context) (n : ℤ) → Claims (insn.Call n) → Agree claimed (IsEffectOf mode places a s (insn.Call n)) (abstract.call_step ops a n) (effects.call_effect c s.memory s.registers n)
     calls_agree c n claims = of_helper (helper_of n) where
@@ -273,11 +346,11 @@ module _ {D : Type 0} (ops : Operations D) (Member : D → ℕ → Type 0) (soun
 
     -- ---- the end
 
-    exits_agree : (x : AbstractValue D) (m : ℕ) → IsNumberOf Member x m → Agree claimed (IsEffectOf mode places a s insn.Exit) (abstract.exit_with x) (effects.verdict_of (value_of places x m) >>= λ verdict. Ok (effect.Exit verdict))
+    exits_agree : (x : AbstractValue D) (m : ℕ) → IsNumberOf Member places s.memory.length x m → Agree claimed (IsEffectOf mode places a s insn.Exit) (abstract.exit_with x) (effects.verdict_of (value_of places x m) >>= λ verdict. Ok (effect.Exit verdict))
     exits_agree (known.Scalar n) m h = tt
     exits_agree x m h = λ c. refl
 
-    exit_held : (x : AbstractValue D) (u : Value) → IsHeld Member places x u → Agree claimed (IsEffectOf mode places a s insn.Exit) (abstract.exit_with x) (effects.verdict_of u >>= λ verdict. Ok (effect.Exit verdict))
+    exit_held : (x : AbstractValue D) (u : Value) → IsHeld Member places s.memory.length x u → Agree claimed (IsEffectOf mode places a s insn.Exit) (abstract.exit_with x) (effects.verdict_of u >>= λ verdict. Ok (effect.Exit verdict))
     exit_held x u h = subst (λ (u' : Value). Agree claimed (IsEffectOf mode places a s insn.Exit) (abstract.exit_with x) (effects.verdict_of u' >>= λ verdict. Ok (effect.Exit verdict))) (sym h.2) (exits_agree x h.0 h.1)
 
     -- the abstract step of each form agrees with the machine's
@@ -290,13 +363,13 @@ module _ {D : Type 0} (ops : Operations D) (Member : D → ℕ → Type 0) (soun
     steps_agree c real (insn.Jump offset) fit claims = (refl, refl)
     steps_agree c real (insn.LongJump offset) fit claims = (refl, refl)
     steps_agree c real (insn.JumpIf w condition dst o offset) fit claims = jumps_agree w condition dst o offset fit.0 claims
-    steps_agree c real (insn.Load z dst base d) fit claims = loads_agree (insn.Load z dst base d) (λ x. abstract.load ops a x d z) (λ v. loading.load c s.memory v d z) dst base refl claims (λ x m h. load_agrees ops Member sound claimed mode places a s member (insn.Load z dst base d) claims c real x m d z h)
+    steps_agree c real (insn.Load z dst base d) fit claims = loads_agree (insn.Load z dst base d) (λ x. abstract.load ops a x d z) (λ v. loading.load c s.memory v d z) dst base refl claims (λ x plain m h. load_agrees ops Member sound claimed mode places a s member (insn.Load z dst base d) claims c real x plain m d z h)
     steps_agree c real (insn.LoadSigned z dst base d) fit claims =
-        loads_agree (insn.LoadSigned z dst base d) (λ x. abstract.load_signed ops a x d z) (λ v. loading.load_signed s.memory v d z) dst base refl claims (λ x m h. signed_agrees ops Member sound claimed mode places a s member (insn.LoadSigned z dst base d) claims x m d z h)
+        loads_agree (insn.LoadSigned z dst base d) (λ x. abstract.load_signed ops a x d z) (λ v. loading.load_signed s.memory v d z) dst base refl claims (λ x plain m h. signed_agrees ops Member sound claimed mode places a s member (insn.LoadSigned z dst base d) claims x plain m d z h)
     steps_agree c real (insn.Store z base o d) fit claims = stores_agree z base o d fit.0 claims
     steps_agree c real (insn.LoadImm dst n) fit claims = written_agrees (insn.LoadImm dst n) dst (Ok (known.Scalar (ops.exact n))) (Ok (value.Scalar n)) refl (n, sound.exact n fit, refl)
     steps_agree c real (insn.Call n) fit claims = calls_agree c n claims
     steps_agree c real insn.Exit fit claims =
-        and_then claimed (IsHeld Member places) (IsEffectOf mode places a s insn.Exit) (abstract.read a reg.R0) (effects.read s.registers reg.R0) _ _
+        and_then claimed (IsHeld Member places s.memory.length) (IsEffectOf mode places a s insn.Exit) (abstract.read a reg.R0) (effects.read s.registers reg.R0) _ _
         (read_agrees ops Member sound claimed mode places claims.registers a s member reg.R0)
         (λ x u p q held. exit_held x u held)

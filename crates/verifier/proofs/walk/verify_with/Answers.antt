@@ -4,7 +4,7 @@ use Rattle.insn.specs.Encoding.{slot_count}
 use Rattle.insn.specs.declared.instruction.Insn.{Insn}
 use Rattle.insn.specs.declared.decoding.TheConstants.{MAX_SLOTS}
 use Rattle.semantics.specs.Runs.{IsSafe}
-use Rattle.semantics.specs.LooseRuns.{IsLooselyStuck}
+use Rattle.verifier.specs.Refusing.{IsReal}
 use Rattle.interval.specs.Domains.{ArePrecise}
 use Rattle.semantics.specs.declared.reason.Reason.{Reason}
 use Rattle.verifier.specs.Layout.{IsLaidOut, IsLayoutFault}
@@ -14,7 +14,7 @@ use Rattle.verifier.proofs.walk.verify_with.Goals as goal
 pub returns-in_err-check_layout-clause-verdict : goal.returns-in_err-check_layout-clause-verdict
 returns-in_err-check_layout-clause-verdict g c =
     let p = err_from_is_err_and c.from_residual.result c.from_residual.ensures.1 in
-    rw (p.1, p.2) (layout_verdict (λ reason slot. ArePrecise g.D.Domain.ops g.D.Domain.Member → IsLooselyStuck c.args.code.now reason slot) c.args.code.now c.args.budget c.in_err-check_layout.field-0.0 c.in_err-check_layout.ensures.err)
+    rw (p.1, p.2) (layout_verdict (λ reason slot. ArePrecise g.D.Domain.ops g.D.Domain.Member → IsReal c.args.code.now reason slot) c.args.code.now c.args.budget c.in_err-check_layout.field-0.0 c.in_err-check_layout.ensures.err)
 
 -- what is laid out has no fault of its layout
 no_fault : (code : List Insn) (reason : Reason) (slot : ℕ) → IsLaidOut code → IsLayoutFault code reason slot → ⊥
