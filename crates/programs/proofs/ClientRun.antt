@@ -24,10 +24,10 @@ use Rattle.programs.specs.Rules.{channel_data}
 use Rattle.programs.specs.Runs.{datagram_in, window_in, destination_in}
 use Rattle.programs.specs.declared.verdict.TheConstants.{PASSES, SENDS}
 use Rattle.programs.proofs.LoadedValues.{byte_in, half_in, half_small, record_is, port_back}
-use Rattle.programs.proofs.Preconditions.{follows, Keeps, follows_keeps}
+use Rattle.programs.proofs.Preconditions.{precondition, ExitsMeet, precondition_is_sound}
 
-abbrev pub uncut : ℕ → Bool
-uncut slot = false
+abbrev pub no_cuts : ℕ → Bool
+no_cuts slot = false
 
 -- ---- the channel message of a datagram
 
@@ -129,17 +129,17 @@ pub record IsClientEnd (peer : ℕ → Option Addr) (d : List ℕ) (verdict : �
 -- ---- the run
 
 module _ (w : Environment) (d : List ℕ) (peer : ℕ → Option Addr) (lookup : LooksUp w.answer peer) (peers : (n : ℕ) → IfSome (peer n) IsIpv4Address) (side : w.context.side ≡ 0) (fit : IsDatagram d) where
-  abbrev pub Rule : ℕ → State → Type 0
-  Rule v s = IsClientEnd peer d v s
+  abbrev pub IsEnd : ℕ → State → Type 0
+  IsEnd v s = IsClientEnd peer d v s
 
-  empty : (s : State) → length d < 1 → Rule 0 s
+  empty : (s : State) → length d < 1 → IsEnd 0 s
   empty s lt = record {
     channel = λ some low high. absurd (omega (arith, lt, some));
     stun = λ some low. absurd (omega (arith, lt, some));
     other = λ e. refl;
   }
 
-  passed : (s : State) → slice_index d 0 < 64 → 1 ≤ length d → part (length d) 64 s.memory.bytes ≡ d → Rule 1 s
+  passed : (s : State) → slice_index d 0 < 64 → 1 ≤ length d → part (length d) 64 s.memory.bytes ≡ d → IsEnd 1 s
   passed s low some same = record {
     channel = λ p from to. absurd (omega (arith, low, from));
     stun = λ p to. (refl, same);
@@ -150,21 +150,21 @@ module _ (w : Environment) (d : List ℕ) (peer : ℕ → Option Addr) (lookup :
       neither (inl e) = omega (arith, e, some)
       neither (inr le) = omega (arith, le, low)
 
-  unknown : (s : State) → 128 ≤ slice_index d 0 → Rule 0 s
+  unknown : (s : State) → 128 ≤ slice_index d 0 → IsEnd 0 s
   unknown s high = record {
     channel = λ some from to. absurd (omega (arith, high, to));
     stun = λ some to. absurd (omega (arith, high, to));
     other = λ e. refl;
   }
 
-  discarded : (v : ℕ) (s : State) → v ≡ 0 → 64 ≤ slice_index d 0 → channel_data peer d ≡ None → Rule v s
+  discarded : (v : ℕ) (s : State) → v ≡ 0 → 64 ≤ slice_index d 0 → channel_data peer d ≡ None → IsEnd v s
   discarded v s e low none = record {
     channel = λ p q r. (λ one. omega (arith, e, one), rw e (sym none));
     stun = λ p q. absurd (omega (arith, q, low));
     other = λ o. e;
   }
 
-  relayed : (s : State) → 1 ≤ length d → 64 ≤ slice_index d 0 → slice_index d 0 < 128 → window_sent 2 s ≡ channel_data peer d → Rule 2 s
+  relayed : (s : State) → 1 ≤ length d → 64 ≤ slice_index d 0 → slice_index d 0 < 128 → window_sent 2 s ≡ channel_data peer d → IsEnd 2 s
   relayed s some low high same = record {
     channel = λ p q r. (λ one. omega (arith, one), same);
     stun = λ p q. absurd (omega (arith, q, low));
@@ -194,11 +194,11 @@ module _ (w : Environment) (d : List ℕ) (peer : ℕ → Option Addr) (lookup :
   no_less m p (inl r) = omega (arith, p, r)
   no_less m p (inr r) = omega (arith, p, r, fit.short)
 
-  wrong : (v : ℕ) (s : State) → ⊥ → Rule v s
+  wrong : (v : ℕ) (s : State) → ⊥ → IsEnd v s
   wrong v s bad = absurd bad
 
-  client_follows : follows w client_program uncut Rule 38 (start d)
-  client_follows = (
+  client_precondition : precondition w client_program no_cuts IsEnd 38 (start d)
+  client_precondition = (
     λ none. empty _ none,
     λ some. λ in0 b is_b. let first : b ≡ slice_index d 0 = byte_in 0 b d in0 is_b in
         let small : slice_index d 0 < 256 = fit.bytes_fit 0 0 (omega arith) in (
@@ -244,5 +244,5 @@ module _ (w : Environment) (d : List ℕ) (peer : ℕ → Option Addr) (lookup :
       channel_high : 4 ≤ length d → slice_index d 0 < 128 → big_number 2 d ≤ 0x7fff
       channel_high header high = let second : slice_index d 1 < 256 = fit.bytes_fit 1 0 (omega arith) in omega (arith, high, second)
 
-  pub client_keeps : Keeps w client_program uncut Rule (start d)
-  client_keeps = follows_keeps w client_program uncut Rule 38 (start d) client_follows
+  pub client_exits_meet : ExitsMeet w client_program no_cuts IsEnd (start d)
+  client_exits_meet = precondition_is_sound w client_program no_cuts IsEnd 38 (start d) client_precondition

@@ -23,7 +23,7 @@ use Rattle.events.specs.Options.{◌>>=◌}
 use Rattle.programs.specs.Relaying.{IsStart, ServesClient}
 use Rattle.programs.specs.Rules.{client_slot, channel_data, to_peer}
 use Rattle.programs.specs.Runs.{environment_for, run_for, window_in, destination_in}
-use Rattle.programs.proofs.ClientRun.{IsClientEnd, LooksUp, uncut, client_keeps}
+use Rattle.programs.proofs.ClientRun.{IsClientEnd, LooksUp, no_cuts, client_exits_meet}
 use Rattle.programs.proofs.Preconditions.{safe_run_exits}
 use Rattle.programs.proofs.PeerServes.{if_some}
 
@@ -109,8 +109,8 @@ client_program_serves safe client tx rows datagram start =
     let w : Environment = environment_for tx (Client client) rows in
     let slot : Option ℕ = client_slot client rows in
     let peers : ℕ → Option Addr = peers_of slot rows in
-    let keeps = client_keeps w datagram peers (looks_up slot rows) (peers_are_ipv4 slot rows start.well_formed) refl start.is_datagram in
-    let end = safe_run_exits w client_program uncut (λ v s. IsClientEnd peers datagram v s) datagram safe (is_possible client tx rows datagram start) start.is_datagram keeps in
+    let keeps = client_exits_meet w datagram peers (looks_up slot rows) (peers_are_ipv4 slot rows start.well_formed) refl start.is_datagram in
+    let end = safe_run_exits w client_program no_cuts (λ v s. IsClientEnd peers datagram v s) datagram safe (is_possible client tx rows datagram start) start.is_datagram keeps in
     record {
       channel_data = λ begins.
           let first = channel_data_begins datagram begins in

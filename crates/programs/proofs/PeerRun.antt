@@ -25,13 +25,13 @@ use Rattle.programs.specs.Peer.{peer_program}
 use Rattle.programs.specs.Rules.{peer_data}
 use Rattle.programs.specs.Runs.{window_in}
 use Rattle.programs.specs.declared.verdict.TheConstants.{PASSES, SENDS}
-use Rattle.programs.proofs.Preconditions.{follows, Keeps, follows_keeps}
+use Rattle.programs.proofs.Preconditions.{precondition, ExitsMeet, precondition_is_sound}
 use Rattle.programs.proofs.PeerWindows.{indication, channel_window, attributes_are, after_header, length-after_header, AreHeader, indication_window, padded_is, rest_is, port_in_record, port_bytes, ip_in_record, ip_bytes_are}
 use Rattle.programs.proofs.LoadedValues.{record_is, stack_number, all_below}
 
 -- cut where the part that makes an indication begins
-abbrev pub starts : ℕ → Bool
-starts slot = nat_eq slot 24
+abbrev pub is_cut : ℕ → Bool
+is_cut slot = nat_eq slot 24
 
 -- ---- the answers of helpers, and the end
 
@@ -85,16 +85,16 @@ module _ (w : Environment) (d ip : List ℕ) (port : ℕ) (fits : HasWidth 4 ip 
   abbrev tx : List ℕ
   tx = w.context.transaction_id
 
-  abbrev pub Rule : ℕ → State → Type 0
-  Rule v s = IsPeerEnd allowed number (V4 ip port) tx d v s
+  abbrev pub IsEnd : ℕ → State → Type 0
+  IsEnd v s = IsPeerEnd allowed number (V4 ip port) tx d v s
 
-  wrong : (v : ℕ) (s : State) → ⊥ → Rule v s
+  wrong : (v : ℕ) (s : State) → ⊥ → IsEnd v s
   wrong v s bad = absurd bad
 
-  refused : (v : ℕ) (s : State) → v ≡ 0 → peer_data allowed number (V4 ip port) tx d ≡ None → Rule v s
+  refused : (v : ℕ) (s : State) → v ≡ 0 → peer_data allowed number (V4 ip port) tx d ≡ None → IsEnd v s
   refused v s e none = record { alone = λ one. omega (arith, e, one); sends = rw e (sym none) }
 
-  sends : (s : State) (bytes : List ℕ) → window_sent 2 s ≡ Some bytes → peer_data allowed number (V4 ip port) tx d ≡ Some bytes → Rule 2 s
+  sends : (s : State) (bytes : List ℕ) → window_sent 2 s ≡ Some bytes → peer_data allowed number (V4 ip port) tx d ≡ Some bytes → IsEnd 2 s
   sends s bytes e f = record { alone = λ one. omega (arith, one); sends = e ∙ sym f }
 
   without : allowed ≡ false → peer_data allowed number (V4 ip port) tx d ≡ None
@@ -143,8 +143,8 @@ module _ (w : Environment) (d ip : List ℕ) (port : ℕ) (fits : HasWidth 4 ip 
     memory = record { stack = put 504 (map Some b0) empty_stack; bytes = surrounded d; length = length d };
   }
 
-  indication_follows : (num src n : ℕ) (b0 : List ℕ) → allowed ≡ true → number ≡ None → n ≡ length d → b0 ≡ address_record (V4 ip port) → follows w peer_program starts Rule 40 (at_indication num src n b0)
-  indication_follows num src n b0 allows unbound n_is held = (
+  indication_precondition : (num src n : ℕ) (b0 : List ℕ) → allowed ≡ true → number ≡ None → n ≡ length d → b0 ≡ address_record (V4 ip port) → precondition w peer_program is_cut IsEnd 40 (at_indication num src n b0)
+  indication_precondition num src n b0 allows unbound n_is held = (
     λ long. refused 0 _ refl (no_indication allows unbound (omega (arith, long, n_is, fit.short))),
     λ short.
         let short_d : length d ≤ 65468 = omega (arith, short, n_is, fit.short) in
@@ -186,8 +186,8 @@ module _ (w : Environment) (d ip : List ℕ) (port : ℕ) (fits : HasWidth 4 ip 
 
   -- ---- the whole
 
-  peer_follows : follows w peer_program starts Rule 63 (start d)
-  peer_follows = λ src is_src. λ b0 is_b0.
+  peer_precondition : precondition w peer_program is_cut IsEnd 63 (start d)
+  peer_precondition = λ src is_src. λ b0 is_b0.
       let held : b0 ≡ address_record (V4 ip port) = is_b0 ∙ stored_again_8 w.context.source src is.source (is_src ∙ ap (little_number 8) (source_part w.context (length d) is)) ∙ is_source in
       let size : length b0 ≡ 8 = ap length (held ∙ sym is_source) ∙ is.source.count in
       λ rec is_rec. λ ok bytes is_ok is_bytes.
@@ -199,7 +199,7 @@ module _ (w : Environment) (d ip : List ℕ) (port : ℕ) (fits : HasWidth 4 ip 
             let rec2_is : rec2 ≡ address_record (V4 ip port) = record_is b0 rec2 size is_rec2 ∙ held in
             let num_is : num ≡ (number_answer number).0 = is_num ∙ ap (λ (r : List ℕ). (w.answer 2 0 r).0) rec2_is ∙ answers.numbers in
             λ n is_n. let n_is : n ≡ length d = is_n ∙ length_field w.context (length d) (omega (arith, fit.short)) in (
-              λ none. follows_keeps w peer_program starts Rule 40 (at_indication num src n b0) (indication_follows num src n b0 allows (no_number number num answers.range num_is none) n_is held),
+              λ none. precondition_is_sound w peer_program is_cut IsEnd 40 (at_indication num src n b0) (indication_precondition num src n b0 allows (no_number number num answers.range num_is none) n_is held),
               λ some_number. let bound : IsNumber number num = is_number number num answers.range num_is some_number in (
                 λ long. refused 0 _ refl (no_channel num allows bound.is (omega (arith, long, n_is, fit.short))),
                 λ short. λ x is_x. λ b1 is_b1. λ y is_y. λ b2 is_b2. λ t is_t.
@@ -218,5 +218,5 @@ module _ (w : Environment) (d ip : List ℕ) (port : ℕ) (fits : HasWidth 4 ip 
       too_wide t e le (inl lt) = omega (arith, e, lt)
       too_wide t e le (inr lt) = omega (arith, e, lt, le)
 
-  pub peer_keeps : Keeps w peer_program starts Rule (start d)
-  peer_keeps = follows_keeps w peer_program starts Rule 63 (start d) peer_follows
+  pub peer_exits_meet : ExitsMeet w peer_program is_cut IsEnd (start d)
+  peer_exits_meet = precondition_is_sound w peer_program is_cut IsEnd 63 (start d) peer_precondition

@@ -23,7 +23,7 @@ use Rattle.programs.specs.Relaying.{IsStart, ServesPeer}
 use Rattle.programs.specs.Rules.{client_at}
 use Rattle.programs.specs.Runs.{environment_for}
 use Rattle.programs.proofs.LoadedValues.{port_back}
-use Rattle.programs.proofs.PeerRun.{AnswersPeer, IsPeerEnd, starts, peer_keeps}
+use Rattle.programs.proofs.PeerRun.{AnswersPeer, IsPeerEnd, is_cut, peer_exits_meet}
 use Rattle.programs.proofs.Preconditions.{safe_run_exits}
 
 -- ---- look-ups
@@ -69,8 +69,8 @@ peer_program_serves safe slot (V4 ip port) tx rows datagram start =
     let allowed : Bool = permitted slot (V4 ip port) rows in
     let number : Option ℕ = channel_of slot (V4 ip port) rows in
     let possible : IsPossible w = is_possible slot (V4 ip port) tx rows datagram start in
-    let keeps = peer_keeps w datagram ip port start.is_ipv4 allowed number refl (answers_peer slot ip port rows start.is_ipv4 start.well_formed) possible.context start.is_datagram in
-    let end = safe_run_exits w peer_program starts (λ v s. IsPeerEnd allowed number (V4 ip port) tx datagram v s) datagram safe possible start.is_datagram keeps in
+    let keeps = peer_exits_meet w datagram ip port start.is_ipv4 allowed number refl (answers_peer slot ip port rows start.is_ipv4 start.well_formed) possible.context start.is_datagram in
+    let end = safe_run_exits w peer_program is_cut (λ v s. IsPeerEnd allowed number (V4 ip port) tx datagram v s) datagram safe possible start.is_datagram keeps in
     record {
       verdict = end.verdict;
       exits = end.exits;
