@@ -26,7 +26,7 @@ use Rattle.semantics.specs.Access.{location, number_in, cells_number, cells_byte
 use Rattle.semantics.specs.Calls.{helper_of, no_address, is_valid, record_at}
 use Rattle.semantics.specs.Loading.{load, load_field, load_signed, read_number}
 use Rattle.semantics.specs.Machine.{State, AddressRecord, Environment, context_bytes, start}
-use Rattle.semantics.specs.Effects.{unary_effect, load_effect, jump_if_effect, read, operand_value, writable, written, moved, alu_result, unary_result, compared, ordered, pointer, stored_number, store_effect, context_argument, number_argument, stack_argument, helper_effect, verdict_of, effect}
+use Rattle.semantics.specs.Effects.{unary_effect, load_effect, jump_if_effect, read, operand_value, writable, written, moved, alu_result, unary_result, compared, ordered, pointer, stored_number, store_effect, context_argument, number_argument, stack_argument, record_argument, helper_effect, verdict_of, effect}
 use Rattle.semantics.specs.Slots.{fetch, target}
 use Rattle.semantics.specs.Runs.{StepResult, Goes, Exits, Sticks, Ending, Exited, Stuck, Running, applied, Run, landed, stepped, step, onwards, run, write_register, IsSafe, IsPossible, IsDatagram, answered, planned, with_window, with_destination}
 use Rattle.semantics.specs.RunLaws.{exits_the_same}
@@ -250,7 +250,7 @@ module _ (w : Environment) (code : List Insn) (cuts : ℕ → Bool) (Post : ℕ 
   of_helper s i helper.Destination k = reads_record s reg.R2 (λ address. sets_destination s i address k)
 
   abbrev of_call : State → Insn → ℤ → (State → Type 0) → Type 0
-  of_call s i n k = IfOk (ok_or (helper_of n) UnknownHelper) (λ h. IfOk (context_argument s.registers) (λ u. of_helper s i h k))
+  of_call s i n k = IfOk (ok_or (helper_of n) UnknownHelper) (λ h. IfOk (context_argument s.registers reg.R1) (λ u. of_helper s i h k))
 
   -- ---- every form
 
@@ -439,16 +439,23 @@ module _ (w : Environment) (code : List Insn) (cuts : ℕ → Bool) (Post : ℕ 
 
     -- ---- calls
 
-    taken : {A : Type 0} (o : Option A) (f : A → Result Effect Reason) → ((x : A) → o ≡ Some x → EffectMeets s i k (f x)) → EffectMeets s i k (ok_or o UninitStack >>= f)
-    taken None f h = tt
-    taken (Some x) f h = h x refl
+    -- an argument, of which the others are read after it
+    after_argument : {A B C : Type 0} (r : Result A Reason) (P : A → Type 0) (f : A → Result B Reason) (g : B → Result C Reason) (h : C → Result Effect Reason) → ((x : A) → P x → EffectMeets s i k ((f x >>= g) >>= h)) → IfOk r P
+        → EffectMeets s i k (((r >>= f) >>= g) >>= h)
+    after_argument (Ok x) P f g h goes is = goes x is
+    after_argument (Err reason) P f g h goes is = tt
 
-    reads_record_meets : (r : Reg) (P : AddressRecord → Type 0) (f : AddressRecord → Result Effect Reason) → ((bytes : AddressRecord) → P bytes → EffectMeets s i k (f bytes))
-        → reads_record s r P → EffectMeets s i k ((stack_argument s.registers r >>= record_at s.memory) >>= f)
-    reads_record_meets r P f goes h = found (stack_argument s.registers r) h where
-      found : (j : Result ℕ Reason) → IfOk j (λ j. (bytes : AddressRecord) → cells_bytes (part RECORD_BYTES j s.memory.stack) ≡ Some bytes → P bytes) → EffectMeets s i k ((j >>= record_at s.memory) >>= f)
-      found (Ok j) h = taken (cells_bytes (part RECORD_BYTES j s.memory.stack)) f (λ bytes e. goes bytes (h bytes e))
-      found (Err reason) h = tt
+    bytes_if : {A : Type 0} (P : A → Type 0) (o : Option A) → ((x : A) → o ≡ Some x → P x) → IfOk (ok_or o UninitStack) P
+    bytes_if P None h = tt
+    bytes_if P (Some x) h = h x refl
+
+    record_if : (P : AddressRecord → Type 0) (j : Result ℕ Reason) → IfOk j (λ j. (bytes : AddressRecord) → cells_bytes (part RECORD_BYTES j s.memory.stack) ≡ Some bytes → P bytes) → IfOk (j >>= record_at s.memory) P
+    record_if P (Ok j) h = bytes_if P (cells_bytes (part RECORD_BYTES j s.memory.stack)) h
+    record_if P (Err reason) h = tt
+
+    reads_record_meets : (r : Reg) (P : AddressRecord → Type 0) {B C : Type 0} (f : AddressRecord → Result B Reason) (g : B → Result C Reason) (h : C → Result Effect Reason)
+        → ((bytes : AddressRecord) → P bytes → EffectMeets s i k ((f bytes >>= g) >>= h)) → reads_record s r P → EffectMeets s i k (((record_argument s.memory s.registers r >>= f) >>= g) >>= h)
+    reads_record_meets r P f g h goes is = after_argument (record_argument s.memory s.registers r) P f g h goes (record_if P (stack_argument s.registers r) is)
 
     sets_window_meets : (front n : ℕ) (a b : Bool) → nat_le (front + n) (HEADROOM + s.memory.length + TAILROOM) ≡ a → nat_le n MAX_DATAGRAM ≡ b → sets_window s i front n k
         → EffectMeets s i k (Ok (effects.SetWindow (if a && b then Some (front, n) else None)))
@@ -462,16 +469,18 @@ module _ (w : Environment) (code : List Insn) (cuts : ℕ → Bool) (Post : ℕ 
     sets_destination_meets address true false p q h = h.1 (inr q)
     sets_destination_meets address false b p q h = h.1 (inl (other _ _ p))
 
-    of_helper_meets : (h : Helper) → of_helper s i h k → (u : Unit {0}) → context_argument s.registers ≡ Ok u → EffectMeets s i k (helper_effect w.context s.memory s.registers h)
-    of_helper_meets helper.ChannelPeer h u e = rw e (after_result (number_argument s.registers reg.R2) _ _ (λ n x. after_result (stack_argument s.registers reg.R3) _ _ (λ out y. y _ _ refl refl) x) h)
-    of_helper_meets helper.ChannelTo h u e = rw e (reads_record_meets reg.R2 _ _ (λ address x. x _ _ refl refl) h)
-    of_helper_meets helper.Permitted h u e = rw e (reads_record_meets reg.R2 _ _ (λ address x. x _ _ refl refl) h)
-    of_helper_meets helper.Window h u e = rw e (after_result (number_argument s.registers reg.R2) _ _ (λ front x. after_result (number_argument s.registers reg.R3) _ _ (λ n y. sets_window_meets front n _ _ refl refl y) x) h)
-    of_helper_meets helper.Destination h u e = rw e (reads_record_meets reg.R2 _ _ (λ address x. sets_destination_meets address _ _ refl refl x) h)
+    of_helper_meets : (h : Helper) → of_helper s i h k → (u : Unit {0}) → context_argument s.registers reg.R1 ≡ Ok u → EffectMeets s i k (helper_effect w.context s.memory s.registers h)
+    of_helper_meets helper.ChannelPeer h u e =
+        rw e (after_argument (number_argument s.registers reg.R2) _ _ _ _ (λ n x. after_argument (stack_argument s.registers reg.R3) _ _ _ _ (λ out y. y _ _ refl refl) x) h)
+    of_helper_meets helper.ChannelTo h u e = rw e (reads_record_meets reg.R2 _ _ _ _ (λ address x. x _ _ refl refl) h)
+    of_helper_meets helper.Permitted h u e = rw e (reads_record_meets reg.R2 _ _ _ _ (λ address x. x _ _ refl refl) h)
+    of_helper_meets helper.Window h u e =
+        rw e (after_argument (number_argument s.registers reg.R2) _ _ _ _ (λ front x. after_argument (number_argument s.registers reg.R3) _ _ _ _ (λ n y. sets_window_meets front n _ _ refl refl y) x) h)
+    of_helper_meets helper.Destination h u e = rw e (reads_record_meets reg.R2 _ _ _ _ (λ address x. sets_destination_meets address _ _ refl refl x) h)
 
     of_call_meets : (n : ℤ) → of_call s i n k → EffectMeets s i k (ok_or (helper_of n) UnknownHelper >>= helper_effect w.context s.memory s.registers)
-    of_call_meets n h = after_result (ok_or (helper_of n) UnknownHelper) _ _ (λ help x. asked help (context_argument s.registers) refl x) h where
-      asked : (help : Helper) (r : Result (Unit {0}) Reason) → context_argument s.registers ≡ r → IfOk r (λ u. of_helper s i help k) → EffectMeets s i k (helper_effect w.context s.memory s.registers help)
+    of_call_meets n h = after_result (ok_or (helper_of n) UnknownHelper) _ _ (λ help x. asked help (context_argument s.registers reg.R1) refl x) h where
+      asked : (help : Helper) (r : Result (Unit {0}) Reason) → context_argument s.registers reg.R1 ≡ r → IfOk r (λ u. of_helper s i help k) → EffectMeets s i k (helper_effect w.context s.memory s.registers help)
       asked help (Ok u) e x = of_helper_meets help x u e
       asked helper.ChannelPeer (Err reason) e x = rw e tt
       asked helper.ChannelTo (Err reason) e x = rw e tt
