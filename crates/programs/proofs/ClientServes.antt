@@ -1,30 +1,37 @@
 -- The program of the client's side relays as the rules say.
-use Rattle.std.proofs.Common.{◌≡◌, ℕ, ◌≤◌, ◌<◌, ◌⊎◌, inl, inr, List, [], ◌∷◌, length, Bool, true, false, ◌&&◌, Option, Some, None, refl, ap, ◌∙◌, arith}
+use Rattle.std.proofs.Common.{◌≡◌, ◌≢◌, ℕ, ◌+◌, ◌≤◌, ◌<◌, ◌⊎◌, inl, inr, List, [], ◌∷◌, length, drop, Bool, true, false, true≢false, ◌&&◌, Option, Some, None, refl, ap, sym, ◌∙◌, arith}
 use Rattle.std.specs.Prelude.{IfSome, slice_index, nat_le, nat_lt, if◌then◌else◌, ◌==◌}
 use Rattle.std.specs.Option.{option_map}
 use Rattle.std.proofs.lemmas.Bool.Decides.{nat_tests}
 use Rattle.insn.specs.declared.instruction.Insn.{Insn}
+use Rattle.insn.specs.Endian.{big_number}
+use Rattle.stun.specs.Datagrams.{message_in}
+use Rattle.stun.specs.Messages.{Parts, AreParts, parts_bytes, padding_count}
+use Rattle.semantics.specs.Access.{part}
 use Rattle.attributes.specs.AddressLaws.{ipv4-is_address}
 use Rattle.attributes.specs.Addresses.{IsIpv4Address}
 use Rattle.attributes.specs.declared.address.Addr.{Addr}
-use Rattle.tables.specs.LookUps.{peer_of}
+use Rattle.tables.specs.LookUps.{peer_of, permitted}
 use Rattle.tables.specs.Rows.{Rows}
 use Rattle.tables.specs.WellFormed.{AreWellFormed}
 use Rattle.tables.specs.WellFormedLaws.{peer_of-address}
 use Rattle.helpers.specs.LawfulLaws.{record_bytes, look_up_is_lawful}
 use Rattle.helpers.specs.LookUps.{look_up}
-use Rattle.semantics.specs.Machine.{Environment}
+use Rattle.semantics.specs.Machine.{Environment, State}
 use Rattle.semantics.specs.Runs.{Exited, IsPossible, IsSafe}
 use Rattle.events.specs.Events.{ToPeer}
 use Rattle.events.specs.declared.meta.Source.TheVariants.{Client}
 use Rattle.programs.specs.Client.{client_program}
-use Rattle.programs.specs.FastPart.{begins_as_stun, begins_as_channel_data}
+use Rattle.programs.specs.FastPart.{begins_as_stun, begins_as_channel_data, is_plain_send}
 use Rattle.events.specs.Options.{◌>>=◌}
-use Rattle.programs.specs.Relaying.{IsStart, ServesClient}
-use Rattle.programs.specs.Rules.{client_slot, channel_data, to_peer}
+use Rattle.programs.specs.PlainSends.{padded, PassesTests}
+use Rattle.programs.specs.Relaying.{IsStart, Relays, ServesClient}
+use Rattle.programs.specs.Rules.{client_slot, channel_data, send, send_from, to_peer}
+use Rattle.programs.specs.declared.verdict.TheConstants.{PASSES}
 use Rattle.programs.specs.Runs.{environment_for, run_for, window_in, destination_in}
-use Rattle.programs.proofs.ClientRun.{IsClientEnd, LooksUp, no_cuts, client_exits_meet}
-use Rattle.programs.proofs.Preconditions.{safe_run_exits}
+use Rattle.programs.proofs.ClientRun.{IsClientEnd, LooksUp, LooksUpPermissions, of_send, window_sent, is_cut, client_exits_meet}
+use Rattle.programs.proofs.PlainSendLaws.{passes_tests, is_plain, address_first_sends, data_first_sends}
+use Rattle.programs.proofs.Preconditions.{ExitsWith, safe_run_exits}
 use Rattle.programs.proofs.PeerServes.{if_some}
 
 -- ---- the first two bits
@@ -75,6 +82,15 @@ peers_are_ipv4 : (slot : Option ℕ) (rows : Rows) → AreWellFormed rows → (n
 peers_are_ipv4 None rows formed number = tt
 peers_are_ipv4 (Some slot) rows formed number = if_some IsIpv4Address (peer_of slot number rows) (λ peer bound. peer_of-address slot number rows peer formed bound)
 
+-- the permissions of a slot, if there is one
+abbrev permitted_in : Option ℕ → Rows → Addr → Bool
+permitted_in None rows address = false
+permitted_in (Some slot) rows address = permitted slot address rows
+
+looks_up_permissions : (slot : Option ℕ) (rows : Rows) → LooksUpPermissions (look_up slot rows) (permitted_in slot rows)
+looks_up_permissions None rows ip port fits = refl
+looks_up_permissions (Some slot) rows ip port fits = refl
+
 -- ---- the start and the end
 
 is_possible : (client : Addr) (tx : List ℕ) (rows : Rows) (datagram : List ℕ) → IsStart client tx rows datagram → IsPossible (environment_for tx (Client client) rows)
@@ -100,33 +116,79 @@ by_the_rules : (slot : Option ℕ) (rows : Rows) (datagram : List ℕ) (sent : O
 by_the_rules None rows datagram sent e = refl
 by_the_rules (Some at) rows datagram sent e = ap (option_map (to_peer at)) e
 
+by_the_rules_of_send : (slot : Option ℕ) (rows : Rows) (p : Parts) (sent : Option (Addr × List ℕ)) → sent ≡ send (permitted_in slot rows) p
+    → (slot >>= λ at. option_map (to_peer at) sent) ≡ (slot >>= λ at. option_map (to_peer at) (send (λ to. permitted at to rows) p))
+by_the_rules_of_send None rows p sent e = refl
+by_the_rules_of_send (Some at) rows p sent e = ap (option_map (to_peer at)) e
+
 -- where code is safe, it serves the client's side
 abbrev pub ServesIfSafe : List Insn → Type 0
 ServesIfSafe code = IsSafe code → (client : Addr) (tx : List ℕ) (rows : Rows) (datagram : List ℕ) → IsStart client tx rows datagram → ServesClient code tx client rows datagram
 
-pub client_program_serves : ServesIfSafe client_program
-client_program_serves safe client tx rows datagram start =
-    let w : Environment = environment_for tx (Client client) rows in
-    let slot : Option ℕ = client_slot client rows in
-    let peers : ℕ → Option Addr = peers_of slot rows in
-    let keeps = client_exits_meet w datagram peers (looks_up slot rows) (peers_are_ipv4 slot rows start.well_formed) refl start.is_datagram in
-    let end = safe_run_exits w client_program no_cuts (λ v s. IsClientEnd peers datagram v s) datagram safe (is_possible client tx rows datagram start) start.is_datagram keeps in
-    record {
-      channel_data = λ begins.
-          let first = channel_data_begins datagram begins in
-          let is = end.holds.channel first.some first.low_bound first.high_bound in
-          record {
-            verdict = end.verdict;
-            exits = end.exits;
-            alone = is.0;
-            sent = from_the_slot (end.verdict == 2) (window_in (run_for client_program tx (Client client) rows datagram).state) slot (destination_in (run_for client_program tx (Client client) rows datagram).state)
-                ∙ by_the_rules slot rows datagram _ is.1;
-          };
-      stun = λ begins.
-          let first = stun_begins datagram begins in
-          let is = end.holds.stun first.some first.high_bound in
-          record { exits = end.exits ∙ ap Exited is.0; unchanged = is.1 };
-      other = λ no_channel_data no_stun.
-          let none : end.verdict ≡ 0 = end.holds.other (other_begins datagram no_channel_data no_stun) in
-          record { verdict = 0; exits = end.exits ∙ ap Exited none; alone = λ same. omega (arith, same); sent = refl };
-    }
+module _ (found : (p : Parts) (bytes : List ℕ) → message_in bytes ≡ Some p → AreParts p × (bytes ≡ parts_bytes p)) (every : (p : Parts) (bytes : List ℕ) → AreParts p → bytes ≡ parts_bytes p → message_in bytes ≡ Some p)
+    (safe : IsSafe client_program) (client : Addr) (tx : List ℕ) (rows : Rows) (datagram : List ℕ) (start : IsStart client tx rows datagram) where
+  abbrev w : Environment
+  w = environment_for tx (Client client) rows
+
+  abbrev slot : Option ℕ
+  slot = client_slot client rows
+
+  abbrev final : State
+  final = (run_for client_program tx (Client client) rows datagram).state
+
+  -- the end of the run, where a value of XOR-PEER-ADDRESS is read under a transaction id
+  ends : (id : List ℕ) → ExitsWith w client_program datagram (λ v s. IsClientEnd (peers_of slot rows) (permitted_in slot rows) id datagram v s)
+  ends id =
+      let keeps = client_exits_meet w datagram (peers_of slot rows) (permitted_in slot rows) (looks_up slot rows) (peers_are_ipv4 slot rows start.well_formed) (looks_up_permissions slot rows) id refl start.is_datagram in
+      safe_run_exits w client_program is_cut (λ v s. IsClientEnd (peers_of slot rows) (permitted_in slot rows) id datagram v s) datagram safe (is_possible client tx rows datagram start) start.is_datagram keeps
+
+  -- what the run sends for a Send indication is what the rules send
+  relays_send : (p : Parts) (verdict : ℕ) → (run_for client_program tx (Client client) rows datagram).ending ≡ Exited verdict → verdict ≢ PASSES → window_sent verdict final ≡ send (permitted_in slot rows) p
+      → Relays client_program tx (Client client) rows datagram (send_from client rows p)
+  relays_send p verdict exits alone same = record {
+    verdict = verdict;
+    exits = exits;
+    alone = alone;
+    sent = from_the_slot (verdict == 2) (window_in final) slot (destination_in final) ∙ by_the_rules_of_send slot rows p _ same;
+  }
+
+  by_its_order : (p : Parts) → message_in datagram ≡ Some p → PassesTests datagram → Relays client_program tx (Client client) rows datagram (send_from client rows p)
+  by_its_order p message (inl is) =
+      let end = ends p.transaction_id in
+      let owed = end.holds.address_first is in
+      relays_send p end.verdict end.exits owed.0 (owed.1 ∙ sym (address_first_sends found every datagram start.is_datagram is (permitted_in slot rows) p message))
+  by_its_order p message (inr is) =
+      let end = ends p.transaction_id in
+      let owed = end.holds.data_first is in
+      let n : ℕ = big_number 2 (drop 22 datagram) in
+      let place : padded n + 28 ≡ 28 + n + padding_count n = omega arith in
+      relays_send p end.verdict end.exits owed.0
+      (owed.1 ∙ ap (λ (k : ℕ). of_send (permitted_in slot rows) p.transaction_id (part 8 k datagram) (part n 24 datagram)) place ∙ sym (data_first_sends found every datagram start.is_datagram is (permitted_in slot rows) p message))
+
+  no_plain_send : ((p : Parts) → message_in datagram ≡ Some p → is_plain_send p ≡ false) → PassesTests datagram → ⊥
+  no_plain_send none tests =
+      let plain = is_plain found every datagram start.is_datagram tests in
+      true≢false (sym plain.2 ∙ none plain.0 plain.1)
+
+  pub serves_client : ServesClient client_program tx client rows datagram
+  serves_client =
+      let end = ends tx in
+      record {
+        channel_data = λ begins.
+            let first = channel_data_begins datagram begins in
+            let is = end.holds.channel first.some first.low_bound first.high_bound in
+            record {
+              verdict = end.verdict;
+              exits = end.exits;
+              alone = is.0;
+              sent = from_the_slot (end.verdict == 2) (window_in final) slot (destination_in final) ∙ by_the_rules slot rows datagram _ is.1;
+            };
+        send = λ p message plain. by_its_order p message (passes_tests found every datagram start.is_datagram p message plain);
+        stun = λ begins none.
+            let first = stun_begins datagram begins in
+            let is = end.holds.passed first.some first.high_bound (λ tests. no_plain_send none (inl tests)) (λ tests. no_plain_send none (inr tests)) in
+            record { exits = end.exits ∙ ap Exited is.0; unchanged = is.1 };
+        other = λ no_channel_data no_stun.
+            let none : end.verdict ≡ 0 = end.holds.other (other_begins datagram no_channel_data no_stun) in
+            record { verdict = 0; exits = end.exits ∙ ap Exited none; alone = λ same. omega (arith, same); sent = refl };
+      }

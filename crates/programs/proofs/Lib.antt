@@ -3,5 +3,8 @@ pub mod LoadedValues
 pub mod PeerWindows
 pub mod PeerRun
 pub mod PeerServes
+pub mod ChannelMessages
 pub mod ClientRun
+pub mod SendGrammar
+pub mod PlainSendLaws
 pub mod ClientServes

@@ -1,5 +1,5 @@
 -- What is read of the datagram, and of an address record at the end of the stack.
-use Rattle.std.proofs.Common.{◌≡◌, ℕ, suc, ◌+◌, ◌*◌, ◌<◌, ◌≤◌, List, [], ◌∷◌, length, drop, map, get_or, Some, sym, ap, ◌∙◌, arith, All, inl, inr}
+use Rattle.std.proofs.Common.{◌≡◌, ℕ, zero, suc, ◌++◌, ◌+◌, ◌*◌, ◌<◌, ◌≤◌, List, [], ◌∷◌, length, take, drop, map, get_or, Option, Some, refl, sym, ap, ◌∙◌, arith, All, inl, inr}
 use Rattle.std.specs.Prelude.{slice_index}
 use Rattle.std.proofs.lemmas.Bool.{cases_lt}
 use Rattle.std.proofs.lemmas.List.{get_or-drop, get_or-take, get_or_past}
@@ -10,7 +10,9 @@ use Rattle.insn.specs.declared.operator.UnaryOp.TheVariants.{Swap}
 use Rattle.insn.specs.declared.operator.SwapOp.TheVariants.{ToBig}
 use Rattle.insn.specs.declared.size.SwapSize.TheVariants as swap
 use Rattle.semantics.specs.Access.{part, put, cells_bytes, cells_number}
-use Rattle.semantics.specs.CallLaws.{cells_read_back, cells_number_inside}
+use Rattle.std.proofs.lemmas.List.{length-append}
+use Rattle.semantics.specs.AccessLaws.{put_after_put}
+use Rattle.semantics.specs.CallLaws.{length-cells, cells_read_back, cells_number_inside}
 use Rattle.semantics.specs.Machine.{surrounded, empty_stack}
 use Rattle.semantics.specs.Runs.{IsDatagram}
 use Rattle.semantics.specs.StartLaws.{length-empty_stack, part_datagram}
@@ -43,7 +45,7 @@ byte_in k v d le e =
     let first : slice_index (part 1 k d) 0 ≡ slice_index d k = part_at 1 k 0 d (omega arith) ∙ ap (slice_index d) here in
     omega (arith, e, same, first)
 
-byte_from : (d : List ℕ) → IsDatagram d → (k i : ℕ) → slice_index (drop k d) i < 256
+pub byte_from : (d : List ℕ) → IsDatagram d → (k i : ℕ) → slice_index (drop k d) i < 256
 byte_from d fit k i = let below = byte_below d fit.bytes_fit (k + i) in omega (arith, below, get_or-drop k d i 0)
 
 -- two bytes, swapped: a number in network byte order
@@ -77,3 +79,101 @@ record_is bytes found size e = some_is found bytes (sym e ∙ cells_read_back 8 
 pub stack_number : (k j v : ℕ) (bytes : List ℕ) → length bytes ≡ 8 → j + k ≤ 8 → cells_number (part k (504 + j) (put 504 (map Some bytes) empty_stack)) ≡ Some v → v ≡ little_number k (part k j bytes)
 stack_number k j v bytes size le e =
     some_is v (little_number k (part k j bytes)) (sym e ∙ cells_number_inside 504 j k bytes empty_stack (omega (arith, size, le)) (omega (arith, size, length-empty_stack)))
+
+-- ---- numbers of the datagram as they are in memory
+
+-- a part of the datagram, at an index of memory
+pub part_place : (n j k : ℕ) (d : List ℕ) → j ≡ 64 + k → k + n ≤ length d → part n j (surrounded d) ≡ part n k d
+part_place n j k d e le = ap (λ (i : ℕ). part n i (surrounded d)) e ∙ part_datagram n k d le
+
+pub record IsHalf (k v : ℕ) (d : List ℕ) : Type 0 where
+  pub low : slice_index (drop k d) 0 < 256
+  pub high : slice_index (drop k d) 1 < 256
+  pub is : v ≡ slice_index (drop k d) 0 + 256 * slice_index (drop k d) 1
+
+pub half_at : (j k v : ℕ) (d : List ℕ) → IsDatagram d → j ≡ 64 + k → k + 2 ≤ length d → v ≡ little_number 2 (part 2 j (surrounded d)) → IsHalf k v d
+half_at j k v d fit at le e =
+    let number : v ≡ little_number 2 (take 2 (drop k d)) = e ∙ ap (little_number 2) (part_place 2 j k d at le) in
+    let first = get_or-take 2 (drop k d) 0 0 (omega arith) in
+    let second = get_or-take 2 (drop k d) 1 0 (omega arith) in
+    record { low = byte_from d fit k 0; high = byte_from d fit k 1; is = omega (arith, number, first, second) }
+
+pub record IsWord (k v : ℕ) (d : List ℕ) : Type 0 where
+  pub b0 : slice_index (drop k d) 0 < 256
+  pub b1 : slice_index (drop k d) 1 < 256
+  pub b2 : slice_index (drop k d) 2 < 256
+  pub b3 : slice_index (drop k d) 3 < 256
+  pub is : v ≡ slice_index (drop k d) 0 + 256 * slice_index (drop k d) 1 + 65536 * slice_index (drop k d) 2 + 16777216 * slice_index (drop k d) 3
+
+pub word_at : (j k v : ℕ) (d : List ℕ) → IsDatagram d → j ≡ 64 + k → k + 4 ≤ length d → v ≡ little_number 4 (part 4 j (surrounded d)) → IsWord k v d
+word_at j k v d fit at le e =
+    let number : v ≡ little_number 4 (take 4 (drop k d)) = e ∙ ap (little_number 4) (part_place 4 j k d at le) in
+    let at0 = get_or-take 4 (drop k d) 0 0 (omega arith) in
+    let at1 = get_or-take 4 (drop k d) 1 0 (omega arith) in
+    let at2 = get_or-take 4 (drop k d) 2 0 (omega arith) in
+    let at3 = get_or-take 4 (drop k d) 3 0 (omega arith) in
+    record {
+      b0 = byte_from d fit k 0;
+      b1 = byte_from d fit k 1;
+      b2 = byte_from d fit k 2;
+      b3 = byte_from d fit k 3;
+      is = omega (arith, number, at0, at1, at2, at3);
+    }
+
+-- a number has one list of digits
+digits_2 : (a b x y : ℕ) → a < 256 → x < 256 → a + 256 * b ≡ x + 256 * y → (a ≡ x) × (b ≡ y)
+digits_2 a b x y p q e = (omega (arith, p, q, e), omega (arith, p, q, e))
+
+digits_4 : (a b c f x y z t : ℕ) → a < 256 → b < 256 → c < 256 → x < 256 → y < 256 → z < 256 → a + 256 * b + 65536 * c + 16777216 * f ≡ x + 256 * y + 65536 * z + 16777216 * t → (a ≡ x) × (b ≡ y) × (c ≡ z) × (f ≡ t)
+digits_4 a b c f x y z t p q r p' q' r' e =
+    let one = digits_2 a (b + 256 * c + 65536 * f) x (y + 256 * z + 65536 * t) p p' (omega (arith, e)) in
+    let two = digits_2 b (c + 256 * f) y (z + 256 * t) q q' (omega (arith, one.1)) in
+    let three = digits_2 c f z t r r' (omega (arith, two.1)) in
+    (one.0, two.0, three.0, three.1)
+
+-- a number of two or four bytes as it is read, and in network byte order
+pub half_is_big : (k v : ℕ) (d : List ℕ) (x y : ℕ) → IsHalf k v d → x < 256 → y < 256 → v ≡ x + 256 * y → big_number 2 (drop k d) ≡ x * 256 + y
+half_is_big k v d x y h p q e =
+    let same = digits_2 (slice_index (drop k d) 0) (slice_index (drop k d) 1) x y h.low p (sym h.is ∙ e) in
+    omega (arith, same.0, same.1)
+
+pub big_is_half : (k v : ℕ) (d : List ℕ) (x y : ℕ) → IsHalf k v d → x < 256 → y < 256 → big_number 2 (drop k d) ≡ x * 256 + y → v ≡ x + 256 * y
+big_is_half k v d x y h p q e =
+    let same = digits_2 (slice_index (drop k d) 1) (slice_index (drop k d) 0) y x h.high q (omega (arith, e)) in
+    omega (arith, same.0, same.1, h.is)
+
+pub word_is_big : (k v : ℕ) (d : List ℕ) (x y z t : ℕ) → IsWord k v d → x < 256 → y < 256 → z < 256 → v ≡ x + 256 * y + 65536 * z + 16777216 * t → big_number 4 (drop k d) ≡ x * 16777216 + y * 65536 + z * 256 + t
+word_is_big k v d x y z t h p q r e =
+    let same = digits_4 (slice_index (drop k d) 0) (slice_index (drop k d) 1) (slice_index (drop k d) 2) (slice_index (drop k d) 3) x y z t h.b0 h.b1 h.b2 p q r (sym h.is ∙ e) in
+    omega (arith, same.0, same.1, same.2, same.3)
+
+pub big_is_word : (k v : ℕ) (d : List ℕ) (x y z t : ℕ) → IsWord k v d → y < 256 → z < 256 → t < 256 → big_number 4 (drop k d) ≡ x * 16777216 + y * 65536 + z * 256 + t → v ≡ x + 256 * y + 65536 * z + 16777216 * t
+big_is_word k v d x y z t h p q r e =
+    let same = digits_4 (slice_index (drop k d) 3) (slice_index (drop k d) 2) (slice_index (drop k d) 1) (slice_index (drop k d) 0) t z y x h.b3 h.b2 h.b1 r q p (omega (arith, e)) in
+    omega (arith, same.0, same.1, same.2, same.3, h.is)
+
+-- ---- pieces of a record in stack cells
+
+some_append : (a b : List ℕ) → map Some a ++ map Some b ≡ map Some (a ++ b)
+some_append [] b = refl
+some_append (x ∷ a) b = ap (λ (cells : List (Option ℕ)). Some x ∷ cells) (some_append a b)
+
+-- a record that was written in three pieces
+pub pieces_are : (b1 b2 b3 found : List ℕ) → length b1 ≡ 2 → length b2 ≡ 2 → length b3 ≡ 4 → cells_bytes (part 8 504 (put 508 (map Some b3) (put 506 (map Some b2) (put 504 (map Some b1) empty_stack)))) ≡ Some found → found ≡ b1 ++ b2 ++ b3
+pieces_are b1 b2 b3 found l1 l2 l3 e =
+    let m1 : length (map Some b1) ≡ 2 = length-cells b1 ∙ l1 in
+    let l12 : length (b1 ++ b2) ≡ 4 = omega (arith, length-append b1 b2, l1, l2) in
+    let m12 : length (map Some (b1 ++ b2)) ≡ 4 = length-cells (b1 ++ b2) ∙ l12 in
+    let stack : put 508 (map Some b3) (put 506 (map Some b2) (put 504 (map Some b1) empty_stack)) ≡ put 504 (map Some (b1 ++ b2 ++ b3)) empty_stack =
+    ap (put 508 (map Some b3)) (put_after_put 504 506 (map Some b1) (map Some b2) empty_stack (omega (arith, m1)) ∙ ap (λ (cells : List (Option ℕ)). put 504 cells empty_stack) (some_append b1 b2))
+    ∙ put_after_put 504 508 (map Some (b1 ++ b2)) (map Some b3) empty_stack (omega (arith, m12)) ∙ ap (λ (cells : List (Option ℕ)). put 504 cells empty_stack) (some_append (b1 ++ b2) b3) in
+    record_is (b1 ++ b2 ++ b3) found (omega (arith, length-append (b1 ++ b2) b3, l12, l3)) (sym (ap (λ (cells : List (Option ℕ)). cells_bytes (part 8 504 cells)) stack) ∙ e)
+
+-- ---- numbers that are written
+
+pub big_below : (x i : ℕ) → get_or (big_bytes 4 x) i 0 < 256
+big_below x zero = omega arith
+big_below x (suc zero) = omega arith
+big_below x (suc (suc zero)) = omega arith
+big_below x (suc (suc (suc zero))) = omega arith
+big_below x (suc (suc (suc (suc i)))) = omega arith

@@ -3,5 +3,6 @@ pub mod Rules
 pub mod FastPart
 pub mod Runs
 pub mod Relaying
+pub mod PlainSends
 pub mod Client
 pub mod Peer

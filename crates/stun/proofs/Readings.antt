@@ -1,13 +1,14 @@
 -- A datagram is a message where the parts in it spell it.
-use Rattle.std.proofs.Common.{◌≡◌, ℕ, true, List, [], ◌∷◌, drop, length, refl, sym, ap, ◌∙◌, inl, inr, eqb-true, eq-eqb}
+use Rattle.std.proofs.Common.{◌≡◌, ℕ, true, List, [], ◌∷◌, drop, length, refl, sym, ap, subst, ◌∙◌, inl, inr, eqb-true, eq-eqb}
 use Rattle.std.specs.Prelude.{◌&&◌, ◌==◌, nat_lt, bytes_eq, None, Some}
 use Rattle.std.specs.List.{AllByRecursion, list_all}
 use Rattle.std.proofs.lemmas.Bool.{cases_Bool, cond-true, cond-false, and_parts, and_from, lt-ltb, ltb-true}
+use Rattle.std.proofs.lemmas.Option.{none-some, same_Some}
 use Rattle.std.proofs.lemmas.Slice.Eq.{bytes_eq-Decides}
 use Rattle.stun.specs.Messages.{Padded, IsPadded, Parts, AreParts, attributes_bytes, parts_bytes, padding_count}
 use Rattle.stun.specs.Reading.{parts_in, EncodesParts}
 use Rattle.stun.specs.Datagrams.{is_padded, are_parts, is_message, message_in}
-use Rattle.stun.proofs.Datagrams.{body_is}
+use Rattle.stun.proofs.Datagrams.{body_is, parts_are}
 
 is_padded_from : (a : Padded) → IsPadded a → is_padded a ≡ true
 is_padded_from a h = and_from _ _ (and_from _ _ (lt-ltb a.kind 0x10000 h.kind) (lt-ltb (length a.value) 0x10000 h.value)) (eq-eqb _ _ h.padding)
@@ -56,3 +57,19 @@ reads_nothing bytes none = elim (cases_Bool (is_message bytes)) [
 pub attributes_after : (bytes rest : List ℕ) (p : Parts) → EncodesParts bytes → parts_in bytes ≡ p → rest ≡ drop 20 bytes → rest ≡ attributes_bytes p.attributes
 attributes_after bytes rest p is same split =
     split ∙ ap (drop 20) is.spelled ∙ body_is (parts_in bytes) is.are_parts ∙ ap (λ (q : Parts). attributes_bytes q.attributes) same
+
+-- what is read as parts is spelled by them
+pub spelled_if : (p : Parts) (bytes : List ℕ) → message_in bytes ≡ Some p → AreParts p × (bytes ≡ parts_bytes p)
+spelled_if p bytes is = elim (cases_Bool (is_message bytes)) [
+  | inl t ↦
+      let two = and_parts (are_parts (parts_in bytes)) (bytes_eq bytes (parts_bytes (parts_in bytes))) t in
+      let same : parts_in bytes ≡ p = same_Some _ _ (sym (cond-true (is_message bytes) (Some (parts_in bytes)) None t) ∙ is) in
+      subst (λ (q : Parts). AreParts q × (bytes ≡ parts_bytes q)) same (are_parts_if (parts_in bytes) two.0, (bytes_eq-Decides bytes (parts_bytes (parts_in bytes))).0 two.1)
+  | inr f ↦ absurd (none-some p (sym (cond-false (is_message bytes) (Some (parts_in bytes)) None f) ∙ is))
+]
+
+-- and what spells parts is read as them
+pub reads_if : (p : Parts) (bytes : List ℕ) → AreParts p → bytes ≡ parts_bytes p → message_in bytes ≡ Some p
+reads_if p bytes are spelled =
+    let same : parts_in bytes ≡ p = parts_are bytes p are spelled in
+    sym (reads_parts bytes (record { are_parts = subst AreParts (sym same) are; spelled = spelled ∙ ap parts_bytes (sym same) })) ∙ ap Some same

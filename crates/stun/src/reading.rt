@@ -166,6 +166,12 @@ pub fn parts_are_unique()
     ensures { (p q : Parts) → AreParts p → AreParts q → parts_bytes p ≡ parts_bytes q → p ≡ q }
 {}
 
+/// States that `message_in` has the parts that a datagram encodes, if it encodes some.
+pub fn message_in_has_the_parts()
+    ensures found { (p : Parts) (bytes : List ℕ) → message_in bytes ≡ Some p → AreParts p × (bytes ≡ parts_bytes p) }
+    ensures every { (p : Parts) (bytes : List ℕ) → AreParts p → bytes ≡ parts_bytes p → message_in bytes ≡ Some p }
+{}
+
 /// States that a datagram encodes at most one message.
 pub fn messages_are_unique()
     ensures { (m n : SpecMessage) (bytes : List ℕ) → IsMessage m bytes → IsMessage n bytes → m ≡ n }
