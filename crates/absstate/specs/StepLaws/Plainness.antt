@@ -1,5 +1,4 @@
--- Interface. Where bar register is added to another one or subtracted from it, bar register comes to name an anchor that was
--- made.
+-- Interface. In code without sums of registers, on 64 bits, no register comes to name an anchor that was made.
 use Rattle.std.proofs.Common.{◌≡◌, ℕ, zero, suc, ◌<◌, ◌^◌, Bool, true, false, ℤ, pos, ◌+ℤ◌, ◌-ℤ◌, List, [], ◌∷◌, Option, Some, None, Result, Ok, Err, refl, sym, ap, ◌∙◌, subst, arith, rules}
 use Rattle.std.specs.Prelude.{◌==◌, IfOk, IfSome, slice_set, slice_index_or, if◌then◌else◌}
 use Rattle.std.specs.Option.{ok_or, option_map}
