@@ -17,3 +17,4 @@ pub mod Answers
 pub mod Refusing
 pub mod Opening
 pub mod Plainness
+pub mod Covering

@@ -1,16 +1,18 @@
 //! The abstract state at a slot of a path: what the verifier knows of the machine there.
 
-ghost use Rattle.std.specs.Prelude.{◌≡◌, ◌+◌, ◌≤◌, map};
+ghost use Rattle.std.specs.Prelude.{◌≡◌, ◌+◌, ◌≤◌, map, length};
 ghost use Rattle.insn.specs.Codes.{byte_count};
+ghost use Rattle.absstate.specs.Covers.{covers_marks};
 ghost use Rattle.semantics.specs.declared.limits.TheConstants.{STACK_BYTES};
 ghost use Rattle.absstate.specs.AbstractStates.{no_marks, is_marked, are_marked, mark, marked, first_state, low_of, high_of, id_of, greatest_id, raised, raised_anchor, raised_value, proved_of, with_value, with_length, with_least, with_answer, with_out};
 
+use crate::covering::covers_marks;
 use insn::{Reg, Size};
 use semantics::STACK_BYTES;
 use std::alloc::AllocError;
 
 /// A place of the datagram from which pointers count their offsets.
-/// See docs/DECISIONS.md, "One anchor".
+/// See docs/DECISIONS.md, "Anchors inside pointers".
 #[derive(Clone, Copy, Debug, PartialEq, Eq)]
 pub enum Anchor {
     /// The datagram's first byte.
@@ -203,6 +205,21 @@ impl Marks {
         for i in index..index + size.bytes() {
             self.set(i);
         }
+    }
+
+    /// Returns the marks, from the first byte on.
+    pub(crate) fn cells(&self) -> &[bool]
+        ensures cells { result.now ≡ self.now.cells }
+        ensures count { length self.now.cells ≡ STACK_BYTES }
+    {
+        &self.cells
+    }
+
+    /// Returns whether each byte that is set is also set in other marks.
+    pub(crate) fn covers(&self, other: &Marks) -> bool
+        ensures { result ≡ covers_marks self.now.cells other.now.cells }
+    {
+        covers_marks(&self.cells, &other.cells)
     }
 
     /// Returns whether the `n` bytes from an index on are set.

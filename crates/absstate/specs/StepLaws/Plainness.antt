@@ -1,6 +1,6 @@
 -- Interface. In code without sums of registers, on 64 bits, no register comes to name an anchor that was made.
-use Rattle.std.proofs.Common.{◌≡◌, ℕ, zero, suc, ◌<◌, ◌^◌, Bool, true, false, ℤ, pos, ◌+ℤ◌, ◌-ℤ◌, List, [], ◌∷◌, Option, Some, None, Result, Ok, Err, refl, sym, ap, ◌∙◌, subst, arith, rules}
-use Rattle.std.specs.Prelude.{◌==◌, IfOk, IfSome, slice_set, slice_index_or, if◌then◌else◌}
+use Rattle.std.proofs.Common.{◌≡◌, ℕ, zero, suc, ◌<◌, ◌^◌, Bool, true, false, ℤ, ◌+ℤ◌, ◌-ℤ◌, List, [], ◌∷◌, Option, Some, None, Result, Ok, Err, refl, sym, ap, subst}
+use Rattle.std.specs.Prelude.{◌==◌, IfOk, slice_set, if◌then◌else◌}
 use Rattle.std.specs.Option.{ok_or, option_map}
 use Rattle.std.proofs.lemmas.Bool.{cond_both}
 use Rattle.insn.specs.Codes.{byte_count, unsigned_size}
@@ -36,7 +36,6 @@ use Rattle.semantics.specs.declared.fetching.Branch.{Branch}
 use Rattle.semantics.specs.declared.fetching.Branch.TheVariants.{NotTaken, Taken}
 use Rattle.interval.specs.Domains.{Operations, AreSound, ArePrecise}
 use Rattle.interval.specs.declared.domain.Bounds.{Bounds}
-use Rattle.interval.specs.declared.domain.Test.{Test}
 use Rattle.interval.specs.declared.domain.Test.TheVariants.{Holds, Fails}
 use Rattle.absstate.specs.AbstractStates.{abstract_at, low_of, high_of, with_value, with_least, with_answer, with_out}
 use Rattle.absstate.specs.AbstractSteps as abstract

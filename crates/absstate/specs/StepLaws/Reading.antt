@@ -1,5 +1,5 @@
 -- Internal. What members hold at places of memory and in the arguments of calls agrees with what is known of it.
-use Rattle.std.proofs.Common.{◌≡◌, ℕ, ◌-◌, ◌<◌, ◌^◌, ℤ, pos, ◌+ℤ◌, ◌≤ℤ◌, Option, Some, None, Ok, refl, sym, ap, subst, arith}
+use Rattle.std.proofs.Common.{◌≡◌, ℕ, ◌-◌, ◌<◌, ◌^◌, ℤ, pos, ◌+ℤ◌, Option, Some, None, Ok, refl, sym, ap, subst, arith}
 use Rattle.std.specs.Prelude.{◌+◌, ◌≤◌, List, IfSome}
 use Rattle.std.specs.Option.{ok_or}
 use Rattle.insn.specs.Register.{number_of}

@@ -8,7 +8,7 @@ use Rattle.std.specs.Int.{w64, cast_signed}
 use Rattle.std.proofs.lemmas.Bool.{eqb-true}
 use Rattle.std.proofs.lemmas.Int.{ints}
 use Rattle.insn.specs.declared.width.Width.{Width}
-use Rattle.insn.specs.declared.width.Width.TheVariants.{W32, W64}
+use Rattle.insn.specs.declared.width.Width.TheVariants.{W64}
 use Rattle.insn.specs.declared.operator.AluOp.{AluOp}
 use Rattle.insn.specs.declared.operator.AluOp.TheVariants.{Add, Sub}
 use Rattle.semantics.specs.Effects.{near_place, moved_place}

@@ -105,11 +105,11 @@ pub static PROGRAMS: [(&str, &str); 70] = [
              9500000000000000",
         "refused V10 at 4",
     ),
-    // an unknown number, read from the headroom, is added to a pointer into the datagram, to the stack's, to the
+    // a byte of unknown value, read from the headroom, is added to a pointer into the datagram; to the stack's, to the
     // end's and to the context's; and a pointer to a number
     (
         "7912000000000000 7123ffff00000000 0f32000000000000 b700000000000000 9500000000000000",
-        "refused V11 at 2",
+        "accepted 5 instructions",
     ),
     (
         "7912000000000000 7123ffff00000000 bfa4000000000000 0f34000000000000 b700000000000000 \

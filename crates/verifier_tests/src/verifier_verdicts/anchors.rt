@@ -200,7 +200,31 @@ fn a_place_at_a_variable_offset_is_checked(rt: HostRuntime) {
             interval: stuck(Reason::DatagramBounds, 10),
         },
     ];
-    check_sums(&rt, rt.alloc(), &sums);
+    let alloc = rt.alloc();
+    check_sums(&rt, alloc, &sums);
+    let rows = [Row {
+        name: "two places by the same number are two places",
+        code: &[
+            FIRST,
+            END,
+            mov(Reg::R4, Operand::Reg(Reg::R2)),
+            alu(AluOp::Add, Reg::R4, Operand::Imm(1)),
+            ZERO,
+            jump_if(Condition::Gt, Reg::R4, Operand::Reg(Reg::R3), 8),
+            load(Size::Byte, Reg::R5, Reg::R2, 0),
+            mov(Reg::R7, Operand::Reg(Reg::R2)),
+            alu(AluOp::Add, Reg::R7, Operand::Reg(Reg::R5)),
+            add,
+            copy,
+            one_more,
+            check,
+            load(Size::Byte, Reg::R0, Reg::R7, 0),
+            Insn::Exit,
+        ],
+        known: stuck(Reason::PointerArithmetic, 8),
+        interval: stuck(Reason::DatagramBounds, 13),
+    }];
+    check_rows(&rt, alloc, &rows);
 }
 
 /// A number that is at most `most`, or the negative numbers down to it, and an operator that moves a place by it.

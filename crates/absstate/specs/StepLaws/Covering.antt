@@ -1,0 +1,180 @@
+-- Interface. Members of a covered state are members of the one that covers it.
+use Rattle.std.proofs.Common.{◌≡◌, ℕ, zero, suc, ◌<◌, Bool, true, false, not, ◌&&◌, ◌||◌, ℤ, pos, ◌+ℤ◌, ◌≤ℤ◌, List, [], ◌∷◌, length, None, refl, sym, ap, ◌∙◌, subst, arith, rules}
+use Rattle.std.specs.Prelude.{◌==◌, int_le, slice_index_or, if◌then◌else◌, is_some}
+use Rattle.std.proofs.lemmas.Bool.{eqb-true}
+use Rattle.std.proofs.lemmas.Int.{ints}
+use Rattle.insn.specs.Register.{number_of}
+use Rattle.semantics.specs.KeptLaws.{in_eleven}
+use Rattle.semantics.specs.Machine.{State}
+use Rattle.semantics.specs.Effects.{value_at}
+use Rattle.semantics.specs.declared.value.Value.{Value}
+use Rattle.semantics.specs.declared.value.Value.TheVariants as value
+use Rattle.interval.specs.Domains.{Operations, AreSound}
+use Rattle.absstate.specs.AbstractStates.{low_of, high_of, proved_of, abstract_at, is_marked}
+use Rattle.absstate.specs.Covers.{same_int, covers_anchor, covers_value, covers_values, shared, stands_for, share_alike, covers_marks, covers}
+use Rattle.absstate.specs.Membership.{Loose, Strict, Places, place_of, IsPlace, IsAnchored, IsHeld, IsValue, IsMember}
+use Rattle.absstate.specs.declared.abstract_state.Anchor.{Anchor}
+use Rattle.absstate.specs.declared.abstract_state.Anchor.TheVariants.{First, Made}
+use Rattle.absstate.specs.declared.abstract_state.AbstractValue.{AbstractValue}
+use Rattle.absstate.specs.declared.abstract_state.AbstractValue.TheVariants as known
+use Rattle.absstate.specs.declared.abstract_state.AbsState.{AbsState}
+use Rattle.absstate.specs.StepLaws.Bounds.{le_of}
+use Rattle.absstate.specs.StepLaws.MemoryValues.{first_of_and, rest_of_and}
+use Rattle.absstate.specs.StepLaws.Sums.{place_is}
+
+-- ---- the places of the anchors
+
+-- whether a value names the anchor with a number
+abbrev names : {D : Type 0} → AbstractValue D → ℕ → Bool
+names (known.Data (Made other low high proved) k) id = other == id
+names (known.Data First k) id = false
+names known.Nothing id = false
+names (known.Scalar n) id = false
+names known.Ctx id = false
+names (known.Stack k) id = false
+names known.End id = false
+
+-- the place of the anchor that a value names
+abbrev place_in : {D : Type 0} → Places → AbstractValue D → ℤ
+place_in places (known.Data anchor k) = place_of places anchor
+place_in places known.Nothing = pos 0
+place_in places (known.Scalar n) = pos 0
+place_in places known.Ctx = pos 0
+place_in places (known.Stack k) = pos 0
+place_in places known.End = pos 0
+
+-- an anchor has the place of the anchor for which it stands
+abbrev places_for : {D : Type 0} → Places → List (AbstractValue D) → List (AbstractValue D) → Places
+places_for places (v ∷ vs) (u ∷ us) id = if names v id then place_in places u else places_for places vs us id
+places_for places (v ∷ vs) [] id = pos 0
+places_for places [] us id = pos 0
+
+same_places : {D : Type 0} (places : Places) (u x : AbstractValue D) → shared u x ≡ true → place_in places u ≡ place_in places x
+same_places places (known.Data First k) (known.Data First l) e = refl
+same_places places (known.Data (Made id low high proved) k) (known.Data (Made other low' high' proved') l) e = ap places (eqb-true id other e)
+same_places places u x e = absurd cc
+
+named_shared : {D : Type 0} (id : ℕ) (v w : AbstractValue D) → names v id ≡ true → names w id ≡ true → shared v w ≡ true
+named_shared id (known.Data (Made i low high proved) k) (known.Data (Made j low' high' proved') l) e f =
+    let p : i ≡ id = eqb-true i id e in
+    let q : j ≡ id = eqb-true j id f in
+    let r : i ≡ j = p ∙ sym q in
+    ap (λ (m : ℕ). m == j) r ∙ itself j where
+      itself : (n : ℕ) → (n == n) ≡ true
+      itself n = search rules
+named_shared id v w e f = absurd cc
+
+implied : (x y : Bool) → (not x || y) ≡ true → x ≡ true → y ≡ true
+implied true y e f = e
+implied false y e f = absurd cc
+
+stands_at : {D : Type 0} (v u : AbstractValue D) (vs us : List (AbstractValue D)) (n : ℕ) → stands_for v u vs us ≡ true → n < length vs → n < length us → shared v (slice_index_or vs n known.Nothing) ≡ true → shared u (slice_index_or us n known.Nothing) ≡ true
+stands_at v u [] us n e lt lt' f = absurd (omega (arith, lt))
+stands_at v u (w ∷ ws) [] n e lt lt' f = absurd (omega (arith, lt'))
+stands_at v u (w ∷ ws) (x ∷ xs) zero e lt lt' f = implied (shared v w) (shared u x) (first_of_and (not (shared v w) || shared u x) (stands_for v u ws xs) e) f
+stands_at v u (w ∷ ws) (x ∷ xs) (suc n) e lt lt' f = stands_at v u ws xs n (rest_of_and (not (shared v w) || shared u x) (stands_for v u ws xs) e) (omega (arith, lt)) (omega (arith, lt')) f
+
+place_stands : {D : Type 0} (places : Places) (id : ℕ) (vs us : List (AbstractValue D)) (n : ℕ) → share_alike vs us ≡ true → n < length vs → n < length us → names (slice_index_or vs n known.Nothing) id ≡ true → places_for places vs us id ≡ place_in places (slice_index_or us n known.Nothing)
+place_stands places id [] us n e lt lt' f = absurd (omega (arith, lt))
+place_stands places id (v ∷ vs) [] n e lt lt' f = absurd (omega (arith, lt'))
+place_stands places id (v ∷ vs) (u ∷ us) zero e lt lt' f = ap (λ (b : Bool). if b then place_in places u else places_for places vs us id) f
+place_stands places id (v ∷ vs) (u ∷ us) (suc n) e lt lt' f =
+    by (names v id) refl (place_stands places id vs us n (rest_of_and (stands_for v u vs us) (share_alike vs us) e) (omega (arith, lt)) (omega (arith, lt')) f) where
+      by : (b : Bool) → names v id ≡ b → places_for places vs us id ≡ place_in places (slice_index_or us n known.Nothing) → (if b then place_in places u else places_for places vs us id) ≡ place_in places (slice_index_or us n known.Nothing)
+      by true g rest = same_places places u (slice_index_or us n known.Nothing) (stands_at v u vs us n (first_of_and (stands_for v u vs us) (share_alike vs us) e) (omega (arith, lt)) (omega (arith, lt')) (named_shared id v (slice_index_or vs n known.Nothing) g f))
+      by false g rest = rest
+
+-- ---- values
+
+values_at : {D : Type 0} (ops : Operations D) (a b : AbsState D) (vs us : List (AbstractValue D)) (n : ℕ) → covers_values ops a b vs us ≡ true → n < length vs → n < length us → covers_value ops a b (slice_index_or vs n known.Nothing) (slice_index_or us n known.Nothing) ≡ true
+values_at ops a b [] us n e lt lt' = absurd (omega (arith, lt))
+values_at ops a b (v ∷ vs) [] n e lt lt' = absurd (omega (arith, lt'))
+values_at ops a b (v ∷ vs) (u ∷ us) zero e lt lt' = first_of_and (covers_value ops a b v u) (covers_values ops a b vs us) e
+values_at ops a b (v ∷ vs) (u ∷ us) (suc n) e lt lt' = values_at ops a b vs us n (rest_of_and (covers_value ops a b v u) (covers_values ops a b vs us) e) (omega (arith, lt)) (omega (arith, lt'))
+
+int_same : (x y : ℤ) → same_int x y ≡ true → x ≡ y
+int_same x y e = let p = le_of x y (first_of_and (int_le x y) (int_le y x) e) in let q = le_of y x (rest_of_and (int_le x y) (int_le y x) e) in omega (arith, ints, p, q)
+
+between_zero : (p : ℤ) → pos 0 ≤ℤ p → p ≤ℤ pos 0 → p ≡ pos 0
+between_zero p e f = omega (arith, ints)
+
+module _ {D : Type 0} (ops : Operations D) (Member : D → ℕ → Type 0) (sound : AreSound ops Member) (places more : Places) (size : ℕ) (a b : AbsState D) (reaches : b.proved ≤ℤ pos size) where
+  -- the place of the covered anchor is one of the anchor that covers it
+  anchor_covered : (x y : Anchor) → covers_anchor a b x y ≡ true → IsAnchored places size y → IsPlace size (low_of x) (high_of x) (proved_of a x) (place_of places y)
+  anchor_covered x y e is =
+      let at = place_is places size b y reaches is in
+      let ends = first_of_and (int_le (low_of x) (low_of y) && int_le (high_of y) (high_of x)) (int_le (proved_of a x) (proved_of b y)) e in
+      let low = le_of (low_of x) (low_of y) (first_of_and (int_le (low_of x) (low_of y)) (int_le (high_of y) (high_of x)) ends) in
+      let high = le_of (high_of y) (high_of x) (rest_of_and (int_le (low_of x) (low_of y)) (int_le (high_of y) (high_of x)) ends) in
+      let proved = le_of (proved_of a x) (proved_of b y) (rest_of_and (int_le (low_of x) (low_of y) && int_le (high_of y) (high_of x)) (int_le (proved_of a x) (proved_of b y)) e) in
+      record { least = omega (arith, ints, low, at.least); greatest = omega (arith, ints, high, at.greatest); reaches = omega (arith, ints, proved, at.reaches) }
+
+  data_covered : (x y : Anchor) (k l : ℤ) (v : Value) → k ≡ l → covers_anchor a b x y ≡ true → ((id : ℕ) → names {D = D} (known.Data x k) id ≡ true → more id ≡ place_of places y) → IsHeld Member places size (known.Data y l) v → IsHeld Member more size (known.Data x k) v
+  data_covered First y k l v same e stands h =
+      let at = anchor_covered First y e h.1 in
+      let zero_place : place_of places y ≡ pos 0 = between_zero (place_of places y) at.least at.greatest in
+      (0, tt, h.2 ∙ ap value.Data ((λ i. zero_place i +ℤ sym same i)))
+  data_covered (Made id low high proved) y k l v same e stands h =
+      let at = anchor_covered (Made id low high proved) y e h.1 in
+      let to : more id ≡ place_of places y = stands id (itself id) in
+      (0, subst (IsPlace size low high proved) (sym to) at, h.2 ∙ ap value.Data ((λ i. sym to i +ℤ sym same i))) where
+        itself : (n : ℕ) → (n == n) ≡ true
+        itself n = search rules
+
+  value_covered : (k o : AbstractValue D) (v : Value) → covers_value ops a b k o ≡ true → ((id : ℕ) → names k id ≡ true → more id ≡ place_in places o) → IsValue Member Loose places size o v → IsValue Member Loose more size k v
+  value_covered known.Nothing o v e stands h = λ f. absurd cc
+  value_covered (known.Scalar x) (known.Scalar y) v e stands h = (h.0, sound.covers x y h.0 e h.1, h.2)
+  value_covered known.Ctx known.Ctx v e stands h = h
+  value_covered (known.Stack k) (known.Stack l) v e stands h = (h.0, tt, h.2 ∙ ap value.Stack (sym (int_same k l e)))
+  value_covered (known.Data x k) (known.Data y l) v e stands h = data_covered x y k l v (int_same k l (first_of_and (same_int k l) (covers_anchor a b x y) e)) (rest_of_and (same_int k l) (covers_anchor a b x y) e) stands h
+  value_covered known.End known.End v e stands h = h
+  value_covered k o v e stands h = absurd cc
+
+-- ---- marks
+
+covered_mark : (m o : Bool) → (not m || o) ≡ true → m ≡ true → o ≡ true
+covered_mark true o e f = e
+covered_mark false o e f = absurd cc
+
+marks_at : (ms os : List Bool) (n : ℕ) → covers_marks ms os ≡ true → slice_index_or ms n false ≡ true → slice_index_or os n false ≡ true
+marks_at [] os n e f = absurd cc
+marks_at (m ∷ ms) [] zero e f = let no = first_of_and (not m) (covers_marks ms []) e in absurd (unset m no f) where
+  unset : (m : Bool) → not m ≡ true → m ≡ true → ⊥
+  unset true p q = absurd cc
+  unset false p q = absurd cc
+marks_at (m ∷ ms) [] (suc n) e f = let bad = marks_at ms [] n (rest_of_and (not m) (covers_marks ms []) e) f in absurd cc
+marks_at (m ∷ ms) (o ∷ os) zero e f = covered_mark m o (first_of_and (not m || o) (covers_marks ms os) e) f
+marks_at (m ∷ ms) (o ∷ os) (suc n) e f = marks_at ms os n (rest_of_and (not m || o) (covers_marks ms os) e) f
+
+loose_only : (x y : Bool) → Loose ≡ Strict → x ≡ y
+loose_only x y e = absurd cc
+
+-- ---- states
+
+-- members of the covered state are members of the one that covers it
+pub member_covered : {D : Type 0} (ops : Operations D) (Member : D → ℕ → Type 0) → AreSound ops Member → (a b : AbsState D) (s : State) → length a.registers ≡ 11 → length a.marks.cells ≡ 512 → covers ops a b ≡ true → IsMember Member Loose b s → IsMember Member Loose a s
+member_covered ops Member sound a b s count marks_count e member =
+    let values = first_of_and (covers_values ops a b a.registers b.registers && share_alike a.registers b.registers) (int_le a.proved b.proved && covers_marks a.marks.cells b.marks.cells) e in
+    let others = rest_of_and (covers_values ops a b a.registers b.registers && share_alike a.registers b.registers) (int_le a.proved b.proved && covers_marks a.marks.cells b.marks.cells) e in
+    let less = le_of a.proved b.proved (first_of_and (int_le a.proved b.proved) (covers_marks a.marks.cells b.marks.cells) others) in
+    let marks = rest_of_and (int_le a.proved b.proved) (covers_marks a.marks.cells b.marks.cells) others in
+    let m = member.at in
+    let more : Places = places_for member.places a.registers b.registers in
+    record {
+      places = more;
+      at = record {
+        reaches = omega (arith, ints, less, m.reaches);
+        known_count = count;
+        marks_count = marks_count;
+        registers = λ r.
+            let n : ℕ = number_of r in
+            let lt : n < length a.registers = omega (arith, count, in_eleven r) in
+            let lt' : n < length b.registers = omega (arith, m.known_count, in_eleven r) in
+            value_covered ops Member sound member.places more s.memory.length a b m.reaches (abstract_at a.registers r) (abstract_at b.registers r) (value_at s.registers r)
+            (values_at ops a b a.registers b.registers n (first_of_and (covers_values ops a b a.registers b.registers) (share_alike a.registers b.registers) values) lt lt')
+            (λ id f. place_stands member.places id a.registers b.registers n (rest_of_and (covers_values ops a b a.registers b.registers) (share_alike a.registers b.registers) values) lt lt' f)
+            (m.registers r);
+        cells = λ i lt. record { held = λ f. (m.cells i lt).held (marks_at a.marks.cells b.marks.cells i marks f); no_other = λ f. loose_only (is_some (slice_index_or s.memory.stack i None)) (is_marked a.marks i) f };
+        tagged = m.tagged;
+      };
+    }

@@ -1,0 +1,190 @@
+//! Whether one abstract state covers another: then each machine state that the other one describes it describes too.
+
+ghost use Rattle.std.specs.Prelude.{◌≡◌, length};
+ghost use Rattle.absstate.specs.Covers.{same_int, same_anchor, covers_places, proves_less, covers_anchor, covers_value, covers_values, shared, stands_for, share_alike, covers_marks, covers};
+
+use crate::abstract_state::{AbsState, AbstractValue, Anchor};
+use interval::Domain;
+
+fn same_offset(a: i32, b: i32) -> bool
+    ensures { result ≡ same_int a b }
+{
+    a <= b && b <= a
+}
+
+/// Returns whether two anchors of a state are one.
+fn same_anchor(a: Anchor, b: Anchor) -> bool
+    ensures { result ≡ same_anchor a b }
+{
+    match (a, b) {
+        (Anchor::First, Anchor::First) => true,
+        (Anchor::Made { id, .. }, Anchor::Made { id: other, .. }) => id == other,
+        _ => false,
+    }
+}
+
+/// Returns whether an anchor has each place of another one.
+fn covers_places(a: Anchor, b: Anchor) -> bool
+    ensures { result ≡ covers_places a b }
+{
+    let (a_low, b_low) = (a.low(), b.low());
+    let (a_high, b_high) = (a.high(), b.high());
+    a_low <= b_low && b_high <= a_high
+}
+
+/// Returns whether no more is proved of an anchor of a state than of one of the other state.
+fn proves_less<D: Copy>(state: &AbsState<D>, other: &AbsState<D>, a: Anchor, b: Anchor) -> bool
+    ensures { result ≡ proves_less state.now other.now a b }
+{
+    state.proved_of(a) <= other.proved_of(b)
+}
+
+/// Returns whether an anchor of a state has each place of one of the other state, and no more is proved of it.
+fn covers_anchor<D: Copy>(state: &AbsState<D>, other: &AbsState<D>, a: Anchor, b: Anchor) -> bool
+    ensures { result ≡ covers_anchor state.now other.now a b }
+{
+    covers_places(a, b) && proves_less(state, other, a, b)
+}
+
+/// Returns whether no more is known of a value of a state than of one of the other state.
+fn covers_value<D: Domain>(
+    state: &AbsState<D>,
+    other: &AbsState<D>,
+    a: AbstractValue<D>,
+    b: AbstractValue<D>,
+) -> bool
+    ensures { result ≡ covers_value D.ops state.now other.now a b }
+{
+    match (a, b) {
+        (AbstractValue::Nothing, _) => true,
+        (AbstractValue::Scalar(a), AbstractValue::Scalar(b)) => a.covers(b),
+        (AbstractValue::Ctx, AbstractValue::Ctx) => true,
+        (AbstractValue::Stack(a), AbstractValue::Stack(b)) => same_offset(a, b),
+        (
+            AbstractValue::Data { anchor, offset },
+            AbstractValue::Data {
+                anchor: b,
+                offset: k,
+            },
+        ) => same_offset(offset, k) && covers_anchor(state, other, anchor, b),
+        (AbstractValue::End, AbstractValue::End) => true,
+        _ => false,
+    }
+}
+
+/// Returns whether no more is known of the values of a state than of those of the other state.
+fn covers_values<D: Domain>(
+    state: &AbsState<D>,
+    other: &AbsState<D>,
+    values: &[AbstractValue<D>],
+    others: &[AbstractValue<D>],
+) -> bool
+    ensures { result ≡ covers_values D.ops state.now other.now values.now others.now }
+{
+    match values {
+        [] => true,
+        [a, values @ ..] => match others {
+            [] => false,
+            [b, others @ ..] => {
+                covers_value(state, other, *a, *b) && covers_values(state, other, values, others)
+            }
+        },
+    }
+}
+
+/// Returns whether two values of a state are places at one anchor.
+fn shared<D: Copy>(a: AbstractValue<D>, b: AbstractValue<D>) -> bool
+    ensures { result ≡ shared a b }
+{
+    match (a, b) {
+        (AbstractValue::Data { anchor, .. }, AbstractValue::Data { anchor: other, .. }) => {
+            same_anchor(anchor, other)
+        }
+        _ => false,
+    }
+}
+
+/// Returns whether each of `values` that shares its anchor with `a` stands for one of `others` that shares its anchor with
+/// `b`.
+fn stands_for<D: Copy>(
+    a: AbstractValue<D>,
+    b: AbstractValue<D>,
+    values: &[AbstractValue<D>],
+    others: &[AbstractValue<D>],
+) -> bool
+    ensures { result ≡ stands_for a b values.now others.now }
+{
+    match values {
+        [] => true,
+        [first, values @ ..] => match others {
+            [] => true,
+            [second, others @ ..] => {
+                (!shared(a, *first) || shared(b, *second)) && stands_for(a, b, values, others)
+            }
+        },
+    }
+}
+
+/// Returns whether values at one anchor stand for values at one anchor.
+fn share_alike<D: Copy>(values: &[AbstractValue<D>], others: &[AbstractValue<D>]) -> bool
+    ensures { result ≡ share_alike values.now others.now }
+{
+    match values {
+        [] => true,
+        [a, values @ ..] => match others {
+            [] => true,
+            [b, others @ ..] => {
+                stands_for(*a, *b, values, others) && share_alike(values, others)
+            }
+        },
+    }
+}
+
+/// Returns whether each mark of the first list is one of the second.
+pub(crate) fn covers_marks(marks: &[bool], others: &[bool]) -> bool
+    ensures { result ≡ covers_marks marks.now others.now }
+{
+    match marks {
+        [] => true,
+        [a, marks @ ..] => match others {
+            [] => !*a && covers_marks(marks, others),
+            [b, others @ ..] => (!*a || *b) && covers_marks(marks, others),
+        },
+    }
+}
+
+/// Returns whether no more is known in a state than in the other state.
+fn covers_state<D: Domain>(state: &AbsState<D>, other: &AbsState<D>) -> bool
+    ensures { result ≡ covers D.ops state.now other.now }
+{
+    let values = covers_values(state, other, &state.registers, &other.registers)
+        && share_alike(&state.registers, &other.registers);
+    let rest = state.proved <= other.proved && state.marks.covers(&other.marks);
+    values && rest
+}
+
+/// Returns the values of the eleven registers.
+fn registers_of<D: Copy>(state: &AbsState<D>) -> &[AbstractValue<D>]
+    ensures values { result.now ≡ state.now.registers }
+    ensures count { length state.now.registers ≡ 11 }
+{
+    &state.registers
+}
+
+impl<D: Domain> AbsState<D> {
+    ghost use Rattle.std.specs.Prelude.{◌≡◌, true};
+    ghost use Rattle.semantics.specs.Machine.{State};
+    ghost use Rattle.absstate.specs.Covers.{covers};
+    ghost use Rattle.absstate.specs.Membership.{Loose, IsMember};
+
+    /// Returns whether this state covers another: each member of the other one is a member of it.
+    pub fn covers(&self, other: &AbsState<D>) -> bool
+        ensures value { result ≡ covers D.ops self.now other.now }
+        ensures members { result ≡ true → (s : State) → IsMember D.Member Loose other.now s
+            → IsMember D.Member Loose self.now s }
+    {
+        let _registers = registers_of(self);
+        let _marks = self.marks.cells();
+        covers_state(self, other)
+    }
+}
