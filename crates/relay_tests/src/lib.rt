@@ -1,0 +1,7 @@
+//! The tests of the relay, of the events that it reads, and of the shipped programs.
+#![tactic(auto)]
+
+#[cfg(test)]
+mod story;
+#[cfg(test)]
+mod texts;
