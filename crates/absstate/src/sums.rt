@@ -102,7 +102,7 @@ fn is_one_sided(bounds: Bounds) -> bool
     bounds.lo.cast_signed() <= bounds.hi.cast_signed()
 }
 
-/// Returns what is left of a proved reach behind an anchor that is moved on by at most `by`, within 32 bits.
+/// Returns how many bytes are proved after an anchor that moves forward by at most `by`, within 32 bits.
 fn proved_within(proved: i64, by: i64) -> i32
     requires low { negsuc 4294967295 ≤ℤ by }
     requires high { by ≤ℤ pos 4294967295 }

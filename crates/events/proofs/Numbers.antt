@@ -22,6 +22,6 @@ is_none limit text never = none_is (decimal_in limit text) (λ n e. let is = dec
 pub not_utf8 : (text : List ℕ) → (IsUtf8 text → ⊥) → None ≡ decimal_in (2 ^ 64) text
 not_utf8 text bad = is_none (2 ^ 64) text (λ n small e. bad (subst IsUtf8 (sym e) (IsUtf8-from_ascii (decimal n) (IsAscii-decimal n small))))
 
--- what parsing gives is the number, if the text is one's
+-- parsing the text of a number gives that number
 pub parsed : {E : Type 0} (text : List ℕ) (r : Result ℕ E) → ParsesUnsigned 64 10 text r → (n : ℕ) → n < 2 ^ 64 → text ≡ decimal n → r ≡ Ok n
 parsed text r parses n small e = parse-decimal 64 n text r small small e parses

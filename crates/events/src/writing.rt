@@ -7,7 +7,7 @@ ghost use Rattle.events.specs.Lines.{bytes_text, answer_line};
 use crate::action::Action;
 use std::alloc::{AllocError, Global};
 
-/// Appends bytes as hexadecimal digits, or a hyphen where there are none.
+/// Appends bytes as hexadecimal digits; no bytes as a hyphen.
 fn push_bytes(alloc: Global, out: &mut Vec<u8>, bytes: &[u8]) -> Result<(), AllocError>
     ensures { OnOk result (out.new.items ≡ out.old.items ++ bytes_text bytes.now) }
 {

@@ -31,7 +31,7 @@ abbrev pub IsMade : {D : Type 0} → AbstractValue D → Type 0
 IsMade (Data (Made id low high proved) k) = Unit {0}
 IsMade _ = ⊥
 
--- a datagram of that length reaches behind every place of the pointer, where its anchor was made
+-- a datagram of that length extends past every place of the pointer, where its anchor was made
 abbrev pub reach_at : {D : Type 0} → AbstractValue D → ℤ
 reach_at (Data (Made id low high proved) k) = (high +ℤ k) +ℤ pos 1
 reach_at _ = pos 0
