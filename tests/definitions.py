@@ -1,8 +1,9 @@
 """Compares the pages with the files that they name.
 
 Each file of definitions says in its first line whether it is meaning, interface or internal, what is meaning names
-nothing internal, and docs/DEFINITIONS.md names every file. Each file that a page links or names is there, with as many
-lines as the page says, and so is each decision that the code names.
+nothing internal, and docs/DEFINITIONS.md names every file. Each file that a page links or names is there, unless it is
+one that a build makes (in a folder `out`), with as many lines as the page says, and so is each decision that the code
+names.
 """
 
 import re
@@ -13,7 +14,7 @@ from program import TOP, finish
 CRATES = TOP / "crates"
 KINDS = ("-- Meaning. ", "-- Interface. ", "-- Internal. ")
 LINK = re.compile(r"\]\(([^)#:]*)(?:#([^)]*))?\)")
-NAMED = re.compile(r"`((?:crates|docs|tests|examples)/[\w./-]+)`")
+NAMED = re.compile(r"`((?:crates|docs|tests|examples)/(?![\w./-]*\bout/)[\w./-]+)`")
 USED = re.compile(r"^use Rattle\.(\w+)\.specs\.([\w.]+?)(?:\.\{|$| as )", re.MULTILINE)
 LINES = re.compile(r"`([\w./]+\.(?:antt|rt))`(?:\]\([^)]*\))? \((\d+) lines\)")
 DECISION = re.compile(r'docs/DECISIONS\.md, "([^"]*)"')
@@ -74,6 +75,8 @@ def failures_of_pages():
         text = page.read_text(encoding="utf-8")
         missing = [f"{name}#{anchor}" for name, anchor in LINK.findall(text) if leads_nowhere(page, name, anchor)]
         missing += [name for name in NAMED.findall(text) if not (TOP / name).exists()]
+        if re.search(r"^(<<<<<<<|>>>>>>>) ", text, re.MULTILINE):
+            yield f"{page.relative_to(TOP)}: a merge is unresolved"
         for name, count in LINES.findall(text):
             if len((CRATES / name).read_text(encoding="utf-8").splitlines()) != int(count):
                 yield f"{page.relative_to(TOP)}: {name} has another number of lines"

@@ -41,6 +41,16 @@ CASES = [
     (["trace", "missing", "--data", "0"], 3, "", "cannot read missing\n"),
     (["trace", "empty", "--data", "0"], 1, "", "refused data\n"),
 ]
+# the words, the file that is standard input, the status, standard output, standard error
+READ = [
+    (["verify", "-"], "good", 0, ACCEPTED, ""),
+    (["verify", "-"], "empty", 1, "refused E1\n", ""),
+    (["verify", "-"], "folder", 3, "", "cannot read -\n"),
+    (["trace", "-", "--data", "00"], "good", 0, TRACED, ""),
+    (["disassemble", "-"], "good", 0, "mov r0, 2\nexit\n", ""),
+    (["assemble", "-", "out"], "text", 0, "wrote 16 bytes\n", ""),
+    (["assemble", "-", "out"], "good", 3, "", "cannot read -\n"),
+]
 # wrong command lines: the status is 2, and a text goes to standard error alone
 WRONG = [
     [],
@@ -59,6 +69,7 @@ def write_files(folder):
     (folder / "cut").write_bytes(GOOD[:12])
     (folder / "long").write_bytes(bytes(40_000))
     (folder / "folder").mkdir()
+    (folder / "text").write_text("mov r0, 2\nexit\n")
 
 
 def shown(words):
@@ -72,6 +83,18 @@ def failures_of_cases(folder):
         got = run(words, cwd=folder)
         if got != tuple(wanted):
             yield f"{shown(words)}: {got}"
+
+
+def failures_of_standard_input(folder):
+    """Yields the cases that do not end as they have to where standard input is the file."""
+    for words, name, *wanted in READ:
+        source = os.open(folder / name, os.O_RDONLY)
+        got = run(words, cwd=folder, stdin=source)
+        os.close(source)
+        if got != tuple(wanted):
+            yield f"{shown(words)} < {name}: {got}"
+    if (folder / "out").read_bytes() != GOOD:
+        yield "assemble - out: other bytes"
 
 
 def failures_of_wrong_lines(folder):
@@ -118,7 +141,7 @@ def main():
     with tempfile.TemporaryDirectory() as name:
         folder = pathlib.Path(name)
         write_files(folder)
-        cases = (failures_of_cases, failures_of_wrong_lines, failures_of_output)
+        cases = (failures_of_cases, failures_of_standard_input, failures_of_wrong_lines, failures_of_output)
         failures = [found for case in cases for found in case(folder)]
     return finish(failures, f"files, data and outputs: {len(failures)} failures")
 

@@ -1,8 +1,8 @@
 """Runs the programs and commands of README.md and docs/, and compares what is printed of them.
 
 Each page has a folder of its own, in which examples/ stands. A block `asm` is assembled to program.bpf. A block
-`console` has lines `$ relayd WORD..` or `$ ./relayd WORD..`, each with what that command prints. A block `sh` has
-commands, of which those of relayd are run and have to succeed.
+`console` has lines `$ relayd WORD..` or `$ ./relayd WORD..`, each with what that command prints, and lines
+`$ cat FILE.. > FILE`. A block `sh` has commands, of which those of relayd are run and have to succeed.
 """
 
 import pathlib
@@ -16,6 +16,7 @@ from program import TOP, finish, run
 PAGES = [TOP / "README.md", *sorted((TOP / "docs").glob("*.md")), *sorted((TOP / "crates").glob("*/README.md"))]
 BLOCK = re.compile(r"^```(asm|console|sh)\n(.*?)^```$", re.MULTILINE | re.DOTALL)
 PROMPT = re.compile(r"^\$ (?:\./)?relayd(.*)$", re.MULTILINE)
+JOIN = re.compile(r"^\$ cat (.*) > (\S+)\n", re.MULTILINE)
 
 
 def commands(block):
@@ -33,7 +34,9 @@ def failures_of_block(kind, text, folder):
         if status:
             yield err
     elif kind == "console":
-        for words, wanted in commands(text):
+        for sources, target in JOIN.findall(text):
+            (folder / target).write_text("".join((folder / source).read_text() for source in sources.split()))
+        for words, wanted in commands(JOIN.sub("", text)):
             _, out, err = run(words, cwd=folder)
             if out + err != wanted:
                 yield f"{shlex.join(words)}: {out}{err}"

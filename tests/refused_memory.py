@@ -12,6 +12,7 @@ import sys
 import tempfile
 
 from program import PROGRAM, TOP, build, finish, run
+from serve import free_ports
 
 EXAMPLES = TOP / "examples"
 FOURTH_BYTE = str(EXAMPLES / "fourth_byte.bpf")
@@ -19,9 +20,11 @@ BRANCHES = str(EXAMPLES / "first_byte_class.bpf")
 HEADER = str(EXAMPLES / "channel_data_header.bpf")
 BRANCHES_TEXT = str(EXAMPLES / "first_byte_class.s")
 UNCHECKED_TEXT = str(EXAMPLES / "unchecked_byte.s")
+USERS = str(EXAMPLES / "users.txt")
 OUT_OF_MEMORY = (4, "", "out of memory\n")
 # more than the number of any allocation
 EVER = 10**9
+SERVER = ["--port", str(free_ports(1)), "--first-port", str(free_ports(4))]
 # command lines, each with its status where no allocation is refused
 CASES = [
     (["verify", FOURTH_BYTE], 0),
@@ -38,6 +41,9 @@ CASES = [
     (["assemble", str(TOP / "README.md"), "/dev/null"], 1),
     (["disassemble", HEADER], 0),
     (["disassemble", BRANCHES_TEXT], 1),
+    (["replay", "--user", "u:p", "--users", USERS, "--client", FOURTH_BYTE, "--peer", HEADER, "/dev/null"], 0),
+    (["replay", "--user", "u:p", "--nonce", "a b", "/dev/null"], 1),
+    (["serve", *SERVER, "--user", "u:p", "--slots", "4", "--rounds", "1"], 0),
     (["verify", "no such file"], 3),
     (["verify"], 2),
     (["load"], 2),

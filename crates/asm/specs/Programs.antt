@@ -1,5 +1,5 @@
--- Meaning. The instructions that a text names, and why a text names none.
-use Rattle.std.specs.Prelude.{◌≡◌, ℕ, ◌+◌, ◌≤◌, ◌<◌, true, ◌⊎◌, ℤ, pos, ◌-ℤ◌, List, [], ◌∷◌, ◌++◌, length, bytes_eq, Option, Some, None, is_some, option_map, option_and_then, if◌then◌else◌}
+-- Meaning. The instructions that a text names, and why a text names none, with the texts of these refusals.
+use Rattle.std.specs.Prelude.{◌≡◌, ℕ, ◌+◌, ◌≤◌, ◌<◌, true, ◌⊎◌, ℤ, pos, ◌-ℤ◌, List, [], ◌∷◌, ◌++◌, length, codes, decimal, bytes_eq, Option, Some, None, is_some, option_map, option_and_then, if◌then◌else◌}
 use Rattle.std.specs.List.{AllZip, AllByRecursion}
 use Rattle.insn.specs.Encoding.{slots_of, Fits, slot_count, encodings}
 use Rattle.insn.specs.declared.decoding.TheConstants.{MAX_SLOTS}
@@ -143,3 +143,12 @@ IsRefused text error.TooLong = (said : List (Option Statement)) × AreRead (line
 IsRefused text (error.UnknownLabel n) = (said : List (Option Statement)) × AreRead (lines_of text) said × (slots_in said ≤ MAX_SLOTS)
     × LacksLabel said n
 IsRefused text error.Memory = ⊥
+
+-- the text of a refusal: its code, and the line where it has one
+abbrev pub asm_error_text : AsmError → List ℕ
+asm_error_text (error.Syntax line) = codes "L1 at line " ++ decimal line
+asm_error_text (error.Range line) = codes "L2 at line " ++ decimal line
+asm_error_text (error.UnknownLabel line) = codes "L3 at line " ++ decimal line
+asm_error_text (error.DoubleLabel line) = codes "L4 at line " ++ decimal line
+asm_error_text error.TooLong = codes "L5"
+asm_error_text error.Memory = codes "L6"

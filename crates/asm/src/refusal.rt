@@ -1,34 +1,47 @@
 //! Why a text is refused.
 
-ghost use Rattle.std.specs.Prelude.{◌≡◌};
+ghost use Rattle.std.specs.Prelude.{◌≡◌, Some};
 ghost use Rattle.asm.specs.Faults.{fault_at};
+ghost use Rattle.asm.specs.Programs.{asm_error_text};
 ghost use Rattle.asm.specs.declared.refusal.AsmError.TheVariants.{Memory};
 
 use std::alloc::{AllocError, AllocFailed};
-use thiserror::Error;
+use std::error::Error;
+use std::fmt;
 
 /// Why a text is refused. Lines count from 1. Displays as its code, with the line.
-#[derive(Clone, Copy, Debug, PartialEq, Eq, Error)]
+#[derive(Clone, Copy, Debug, PartialEq, Eq)]
 pub enum AsmError {
     /// The line is neither empty nor a label nor an instruction.
-    #[error("L1 at line {0}")]
     Syntax(usize),
     /// A number of the line does not fit its field.
-    #[error("L2 at line {0}")]
     Range(usize),
     /// A jump of the line names a label that the text lacks.
-    #[error("L3 at line {0}")]
     UnknownLabel(usize),
     /// The label of the line stands on an earlier line already.
-    #[error("L4 at line {0}")]
     DoubleLabel(usize),
     /// The program has more than 4,096 slots.
-    #[error("L5")]
     TooLong,
     /// Memory ran out.
-    #[error("L6")]
     Memory,
 }
+
+impl fmt::Display for AsmError {
+    ghost output = { λ e. Some (asm_error_text e) };
+
+    fn fmt<W: fmt::Write>(&self, f: &mut fmt::Formatter<W>) -> fmt::Result {
+        match self {
+            AsmError::Syntax(line) => write!(f, "L1 at line {line}"),
+            AsmError::Range(line) => write!(f, "L2 at line {line}"),
+            AsmError::UnknownLabel(line) => write!(f, "L3 at line {line}"),
+            AsmError::DoubleLabel(line) => write!(f, "L4 at line {line}"),
+            AsmError::TooLong => f.write_str("L5"),
+            AsmError::Memory => f.write_str("L6"),
+        }
+    }
+}
+
+impl Error for AsmError {}
 
 impl From<AllocError> for AsmError {
     ghost from_gives = { λ _ e. e ≡ Memory };

@@ -1,2 +1,4 @@
 pub mod Lines
+pub mod Operands
 mod Subcommands
+pub mod Added

@@ -1,18 +1,21 @@
 -- What clap's definitions make of the lines that are spelled out.
-use Rattle.std.proofs.Common.{◌≡◌, ◌++◌, List, [], ◌∷◌, Option, Some, None, refl, codes, inl, inr, sym, subst, IsSomeAnd, IfOk, Result, Ok, Err, Bor}
+use Rattle.std.proofs.Common.{◌≡◌, ◌∙◌, ap, ◌++◌, true, List, [], ◌∷◌, Option, Some, None, refl, codes, inl, inr, sym, subst, IsSomeAnd, IfOk, Result, Ok, Err, Bor}
 use Rattle.std.specs.Prelude.{option_map}
 use Rattle.std.proofs.lemmas.Option.{none-some, same_Some}
 use Rattle.clap.specs.Kinds.{Kinds}
-use Rattle.clap.specs.Words.{FailsBy, HasKind, Text, Row, kind_of, subcommand_rows_of}
+use Rattle.clap.specs.Words.{FailsBy, HasKind, App, HasMatchesOf, Text, Row, fault_of, first_of, is_simple_and_free, kind_of, subcommand_rows_of}
+use Rattle.clap.specs.Walk.{Held}
 use Rattle.clap.specs.declared.error.Error.{Error}
 use Rattle.clap.specs.declared.error.kind.ErrorKind.TheVariants.{OutOfMemory}
 use Rattle.clap.specs.declared.parser.matches.ArgMatches.{ArgMatches}
 use Rattle.clap.proofs.OnLiterals.{clap_on_literals}
-use Rattle.command_line.specs.Commands.{faults_of, subcommand_in}
-use Rattle.command_line.specs.Lines.{IsOperand, IsLineOf, IsParsedAs, IsTraceLine}
-use Rattle.command_line.specs.Subcommands.{IsSubcommand, value_of}
+use Rattle.command_line.proofs.Operands.{HasTexts, IsOptions, IsServing, all_held, all_options, all_serve, all_words, every_held, every_options, every_texts, every_words, last_operand, last_rows, options_rows, port_held, port_serves, port_words, replay_faults, replay_rows, replay_shape, serve_faults, serve_rows, serve_shape, user_held, user_options, user_texts}
+use Rattle.command_line.specs.Commands.{faults_of, relayd_command, subcommand_in}
+use Rattle.command_line.specs.Lines.{Given, GivenServer, IsOperand, IsLineOf, IsParsedAs, IsReplayLine, IsServeLine, IsTraceLine, before, every_option, every_server_option, only_port, only_user, only_users_file, server_before}
+use Rattle.command_line.specs.Subcommands.{IsSubcommand, ServerTexts, Texts, server_texts_in, server_texts_of, text_of, texts_in, texts_of, value_of}
+use Rattle.command_line.specs.declared.Options.{Options}
 use Rattle.command_line.specs.declared.Subcommand.{Subcommand}
-use Rattle.command_line.specs.declared.Subcommand.TheVariants.{Verify, Trace, Assemble, Disassemble}
+use Rattle.command_line.specs.declared.Subcommand.TheVariants.{Verify, Trace, Assemble, Disassemble, Replay, Serve}
 
 -- the line has no fault, and its subcommand has this name and these values
 pub record Reads (words : List Text) (name file : Text) (hex : Option Text) : Type 0 where
@@ -74,12 +77,80 @@ data_first name (x ∷ xs) [] e h = record { good = simp e refl; name_is = refl;
 data_first name [] (y ∷ ys) e h = record { good = simp h refl; name_is = refl; file_is = simp h refl; data_is = simp h refl }
 data_first name (x ∷ xs) (y ∷ ys) e h = record { good = simp (e, h) refl; name_is = refl; file_is = simp (e, h) refl; data_is = simp (e, h) refl }
 
+-- the line has no fault, and its subcommand is replay with these events, nonce and options
+pub record ReadsEvents (words : List Text) (events : Text) (nonce : Option Text) (texts : Texts) : Type 0 where
+  pub good : faults_of words ≡ []
+  pub name_is : option_map (λ p. p.0) (subcommand_in words) ≡ Some (codes "replay")
+  pub events_is : option_map (λ p. value_of p (codes "events")) (subcommand_in words) ≡ Some (Some events)
+  pub nonce_is : option_map (λ p. value_of p (codes "nonce")) (subcommand_in words) ≡ Some nonce
+  pub texts_is : option_map (λ p. texts_in p.1) (subcommand_in words) ≡ Some texts
+
+-- what clap makes of options, and of EVENTS after them
+replay_made_of : (name events : Text) (given : Option Text) (options : List Text) (texts : Texts) (h : Held) → IsOperand events → IsOptions options h
+    → HasTexts h events given texts → ReadsEvents (name ∷ codes "replay" ∷ (options ++ events ∷ [])) events given texts
+replay_made_of name events given options texts h e o t = record {
+  good = replay_faults name (options ++ events ∷ []) ∙ (last_operand replay_shape options h events e o.walks o.passes ∙ t.good);
+  name_is = ap (option_map (λ p. p.0)) (replay_rows name (options ++ events ∷ []));
+  events_is = ap (option_map (λ p. value_of p (codes "events"))) (replay_rows name (options ++ events ∷ []))
+      ∙ ap (λ rows. Some (first_of (codes "events") rows)) (last_rows replay_shape options h events e o.walks) ∙ ap Some t.events_is;
+  nonce_is = ap (option_map (λ p. value_of p (codes "nonce"))) (replay_rows name (options ++ events ∷ []))
+      ∙ ap (λ rows. Some (first_of (codes "nonce") rows)) (last_rows replay_shape options h events e o.walks) ∙ ap Some t.nonce_is;
+  texts_is = ap (option_map (λ p. texts_in p.1)) (replay_rows name (options ++ events ∷ []))
+      ∙ ap (λ rows. Some (texts_in rows)) (last_rows replay_shape options h events e o.walks) ∙ ap Some t.texts_is;
+}
+
+user_read : (name events user : Text) → IsOperand events → IsOperand user
+    → ReadsEvents (name ∷ codes "replay" ∷ codes "--user" ∷ user ∷ events ∷ []) events None (only_user user)
+user_read name events user e h = replay_made_of name events None (codes "--user" ∷ user ∷ []) (only_user user) (user_held user) e (user_options user h) (user_texts events user)
+
+every_read : (name events : Text) (g : Given) (nonce : Text) → IsOperand events
+    → ReadsEvents (name ∷ codes "replay" ∷ before g ((codes "--nonce=" ++ nonce) ∷ events ∷ [])) events (Some nonce) (every_option g)
+every_read name events g nonce e =
+    replay_made_of name events (Some nonce) (every_words g nonce) (every_option g) (every_held g nonce) e (every_options g nonce) (every_texts events g nonce)
+
+-- the line has no fault, and its subcommand is serve with these texts
+pub record ReadsServer (words : List Text) (server : ServerTexts) (texts : Texts) : Type 0 where
+  pub good : faults_of words ≡ []
+  pub name_is : option_map (λ p. p.0) (subcommand_in words) ≡ Some (codes "serve")
+  pub server_is : option_map (λ p. server_texts_in p.1) (subcommand_in words) ≡ Some server
+  pub texts_is : option_map (λ p. texts_in p.1) (subcommand_in words) ≡ Some texts
+
+-- what clap makes of the options of a server
+serve_made_of : (name : Text) (words : List Text) (server : ServerTexts) (texts : Texts) (h : Held) → IsServing words h server texts
+    → ReadsServer (name ∷ codes "serve" ∷ words) server texts
+serve_made_of name words server texts h o = record {
+  good = serve_faults name words ∙ (all_options serve_shape words h o.walks o.passes ∙ o.good);
+  name_is = ap (option_map (λ p. p.0)) (serve_rows name words);
+  server_is = ap (option_map (λ p. server_texts_in p.1)) (serve_rows name words)
+      ∙ ap (λ rows. Some (server_texts_in rows)) (options_rows serve_shape words h o.walks) ∙ ap Some o.server_is;
+  texts_is = ap (option_map (λ p. texts_in p.1)) (serve_rows name words)
+      ∙ ap (λ rows. Some (texts_in rows)) (options_rows serve_shape words h o.walks) ∙ ap Some o.texts_is;
+}
+
 -- the subcommand has this name and these values
 abbrev Has : Text → Text → Option Text → Text × List Row → Type 0
 Has name file hex p = (p.0 ≡ name) × (value_of p (codes "file") ≡ Some file) × (value_of p (codes "data") ≡ hex)
 
 abbrev HasFiles : Text → Text → Text → Text × List Row → Type 0
 HasFiles name input output p = (p.0 ≡ name) × (value_of p (codes "in") ≡ Some input) × (value_of p (codes "out") ≡ Some output)
+
+abbrev HasEvents : Text → Option Text → Texts → Text × List Row → Type 0
+HasEvents events nonce texts p = (p.0 ≡ codes "replay") × (value_of p (codes "events") ≡ Some events) × (value_of p (codes "nonce") ≡ nonce)
+    × (texts_in p.1 ≡ texts)
+
+events_collected : (o : Option (Text × List Row)) (events : Text) (given : Option Text) (texts : Texts) → option_map (λ p. p.0) o ≡ Some (codes "replay")
+    → option_map (λ p. value_of p (codes "events")) o ≡ Some (Some events) → option_map (λ p. value_of p (codes "nonce")) o ≡ Some given
+    → option_map (λ p. texts_in p.1) o ≡ Some texts → IsSomeAnd o (HasEvents events given texts)
+events_collected None events given texts n f g d = absurd (none-some (codes "replay") n)
+events_collected (Some p) events given texts n f g d = (same_Some _ _ n, same_Some _ _ f, same_Some _ _ g, same_Some _ _ d)
+
+abbrev HasServer : ServerTexts → Texts → Text × List Row → Type 0
+HasServer server texts p = (p.0 ≡ codes "serve") × (server_texts_in p.1 ≡ server) × (texts_in p.1 ≡ texts)
+
+server_collected : (o : Option (Text × List Row)) (server : ServerTexts) (texts : Texts) → option_map (λ p. p.0) o ≡ Some (codes "serve")
+    → option_map (λ p. server_texts_in p.1) o ≡ Some server → option_map (λ p. texts_in p.1) o ≡ Some texts → IsSomeAnd o (HasServer server texts)
+server_collected None server texts n f d = absurd (none-some (codes "serve") n)
+server_collected (Some p) server texts n f d = (same_Some _ _ n, same_Some _ _ f, same_Some _ _ d)
 
 files_collected : (o : Option (Text × List Row)) (name input output : Text) → option_map (λ p. p.0) o ≡ Some name
     → option_map (λ p. value_of p (codes "in")) o ≡ Some (Some input) → option_map (λ p. value_of p (codes "out")) o ≡ Some (Some output)
@@ -125,6 +196,45 @@ trace_made words file hex r = record {
   subcommand = collected (subcommand_in words) (codes "trace") file.now (option_map (λ s. s.now) hex) r.name_is r.file_is r.data_is;
 }
 
+replay_made : (words : List Text) (events : Bor Text) (nonce : Option (Bor Text)) (options : Options)
+    → ReadsEvents words events.now (text_of nonce) (texts_of options) → Makes words (Replay events nonce options)
+replay_made words events nonce options r = record {
+  good = r.good;
+  subcommand = events_collected (subcommand_in words) events.now (text_of nonce) (texts_of options) r.name_is r.events_is r.nonce_is r.texts_is;
+}
+
+serve_made : (words : List Text) (port : Bor Text) (rounds listen lifetime stats : Option (Bor Text)) (options : Options)
+    → ReadsServer words (server_texts_of port rounds listen lifetime stats) (texts_of options) → Makes words (Serve port rounds listen lifetime stats options)
+serve_made words port rounds listen lifetime stats options r = record {
+  good = r.good;
+  subcommand = server_collected (subcommand_in words) (server_texts_of port rounds listen lifetime stats) (texts_of options) r.name_is r.server_is r.texts_is;
+}
+
+with_events : (events : Text) (nonce : Option Text) (texts : Texts) (words : List Text) → IsOperand events → IsReplayLine events nonce texts words
+    → ReadsEvents words events nonce texts
+with_events events nonce texts words o (name, inl (user, (u, (n, (t, w))))) =
+    subst (λ w. ReadsEvents w events nonce texts) (sym w)
+    (subst (λ t. ReadsEvents (name ∷ codes "replay" ∷ codes "--user" ∷ user ∷ events ∷ []) events nonce t) (sym t)
+    (subst (λ n. ReadsEvents (name ∷ codes "replay" ∷ codes "--user" ∷ user ∷ events ∷ []) events n (only_user user)) (sym n)
+    (user_read name events user o u)))
+with_events events nonce texts words o (name, inr (g, (given, (n, (t, w))))) =
+    subst (λ w. ReadsEvents w events nonce texts) (sym w)
+    (subst (λ t. ReadsEvents (name ∷ codes "replay" ∷ before g ((codes "--nonce=" ++ given) ∷ events ∷ [])) events nonce t) (sym t)
+    (subst (λ n. ReadsEvents (name ∷ codes "replay" ∷ before g ((codes "--nonce=" ++ given) ∷ events ∷ [])) events n (every_option g)) (sym n)
+    (every_read name events g given o)))
+
+with_server : (server : ServerTexts) (texts : Texts) (words : List Text) → IsServeLine server texts words → ReadsServer words server texts
+with_server server texts words (name, inl (port, (file, (s, (t, w))))) =
+    subst (λ w. ReadsServer w server texts) (sym w)
+    (subst (λ t. ReadsServer (name ∷ codes "serve" ∷ port_words port file) server t) (sym t)
+    (subst (λ s. ReadsServer (name ∷ codes "serve" ∷ port_words port file) s (only_users_file file)) (sym s)
+    (serve_made_of name (port_words port file) (only_port port) (only_users_file file) (port_held port file) (port_serves port file))))
+with_server server texts words (name, inr (given, (g, (s, (t, w))))) =
+    subst (λ w. ReadsServer w server texts) (sym w)
+    (subst (λ t. ReadsServer (name ∷ codes "serve" ∷ all_words given g) server t) (sym t)
+    (subst (λ s. ReadsServer (name ∷ codes "serve" ∷ all_words given g) s (every_option g)) (sym s)
+    (serve_made_of name (all_words given g) (every_server_option given) (every_option g) (all_held given g) (all_serve given g))))
+
 with_data : (file hex : Bor Text) (words : List Text) → IsOperand file.now → IsTraceLine file.now hex.now words → Reads words (codes "trace") file.now (Some hex.now)
 with_data file hex words o (name, inl l) = subst (λ w. Reads w (codes "trace") file.now (Some hex.now)) (sym l.1) (data_last name file.now hex.now o l.0)
 with_data file hex words o (name, inr (inl l)) = subst (λ w. Reads w (codes "trace") file.now (Some hex.now)) (sym l.1) (data_first name file.now hex.now o l.0)
@@ -137,6 +247,9 @@ made (Assemble input output) words (o, (name, l)) = assemble_made words input ou
 made (Disassemble file) words (o, (name, l)) = disassemble_made words file (subst (λ w. Reads w (codes "disassemble") file.now None) (sym l) (disassemble_read name file.now o))
 made (Trace file None) words (o, (name, l)) = trace_made words file None (subst (λ w. Reads w (codes "trace") file.now None) (sym l) (trace_read name file.now o))
 made (Trace file (Some hex)) words (o, l) = trace_made words file (Some hex) (with_data file hex words o l)
+made (Replay events nonce options) words (o, l) = replay_made words events nonce options (with_events events.now (text_of nonce) (texts_of options) words o l)
+made (Serve port rounds listen lifetime stats options) words l =
+    serve_made words port rounds listen lifetime stats options (with_server (server_texts_of port rounds listen lifetime stats) (texts_of options) words l)
 
 no_kind : (kinds : Kinds) (e : Error) → kinds ≡ [] → HasKind kinds e → kind_of e ≡ OutOfMemory
 no_kind kinds e none h = elim (subst (λ ks. HasKind ks e) none h) [ inl memory ↦ memory | inr among ↦ absurd among ]
@@ -145,3 +258,14 @@ pub parsed : (words : List Text) (result : Result ArgMatches Error) → IfOk res
     → (r : Subcommand) → IsLineOf r words → IsParsedAs r result
 parsed words (Ok m) found refused r line = subst (λ o. IsSomeAnd o (λ p. IsSubcommand p r)) (sym found) (made r words line).subcommand
 parsed words (Err e) found refused r line = no_kind (faults_of words) e (made r words line).good refused
+
+-- what clap promises of a command, at relayd's
+
+pub found_by : (app : App) (words : List Text) (result : Result ArgMatches Error) → app ≡ relayd_command → IfOk result (HasMatchesOf app words)
+    → IfOk result (λ m. subcommand_rows_of m ≡ subcommand_in words)
+found_by app words (Ok m) same has = (subst (λ a. HasMatchesOf a words m) same has refl).1
+found_by app words (Err e) same has = tt
+
+pub refused_by : (app : App) (words : List Text) (result : Result ArgMatches Error) → app ≡ relayd_command
+    → (is_simple_and_free app ≡ true → FailsBy (fault_of app words) result) → FailsBy (faults_of words) result
+refused_by app words result same kinds = subst (λ a. is_simple_and_free a ≡ true → FailsBy (fault_of a words) result) same kinds refl

@@ -1,6 +1,7 @@
 -- What the name and the entries of a subcommand that was met say of it.
-use Rattle.std.proofs.Common.{◌≡◌, ◌∙◌, ◌⊎◌, sym, ap, refl, arith, inl, inr, codes, ℕ, List, [], ◌∷◌, Option, Some, None, IfSome, IsSomeAnd, Bor}
-use Rattle.command_line.specs.Subcommands.{TakesFile, IsNoSubcommand}
+use Rattle.std.proofs.Common.{◌≡◌, ◌∙◌, ◌⊎◌, sym, ap, refl, arith, inl, inr, codes, ℕ, List, [], ◌∷◌, Option, Some, None, IfNone, IfSome, IsSomeAnd, Bor, subst}
+use Rattle.command_line.specs.Subcommands.{TakesFile, IsNoSubcommand, IsSubcommand}
+use Rattle.command_line.specs.declared.Subcommand.{Subcommand}
 use Rattle.std.specs.Prelude.{option_map, Box}
 use Rattle.std.specs.Box.{box_value}
 use Rattle.std.proofs.lemmas.Option.{none-some, same_Some}
@@ -45,31 +46,66 @@ pub read_as : (found : Found) (id : Text) (value other : Option (Bor Text)) → 
     → first_of id (rows_of found) ≡ option_map (λ s. s.now) other
 read_as found id value other e same = read found id value e ∙ ap (option_map (λ s. s.now)) same
 
--- ---- no subcommand takes FILE and IN
+-- ---- no subcommand takes the arguments of another
 
 abbrev head : Text → ℕ
 head [] = 0
 head (c ∷ rest) = c
 
-verify_is_not_assemble : codes "verify" ≡ codes "assemble" → ⊥
-verify_is_not_assemble e = let heads : 118 ≡ 97 = ap head e in absurd (omega (arith, heads))
-
-trace_is_not_assemble : codes "trace" ≡ codes "assemble" → ⊥
-trace_is_not_assemble e = let heads : 116 ≡ 97 = ap head e in absurd (omega (arith, heads))
-
-disassemble_is_not_assemble : codes "disassemble" ≡ codes "assemble" → ⊥
-disassemble_is_not_assemble e = let heads : 100 ≡ 97 = ap head e in absurd (omega (arith, heads))
-
-takes_no_file : (name : Text) → TakesFile name → name ≡ codes "assemble" → ⊥
-takes_no_file name (inl is) e = disassemble_is_not_assemble (sym is ∙ e)
-takes_no_file name (inr (inl is)) e = verify_is_not_assemble (sym is ∙ e)
-takes_no_file name (inr (inr is)) e = trace_is_not_assemble (sym is ∙ e)
+-- the first letter of a subcommand that takes FILE
+file_letter : (name : Text) → TakesFile name → (head name ≡ 100) ⊎ ((head name ≡ 118) ⊎ (head name ≡ 116))
+file_letter name (inl is) = inl (ap head is)
+file_letter name (inr (inl is)) = inr (inl (ap head is))
+file_letter name (inr (inr is)) = inr (inr (ap head is))
 
 -- a subcommand that takes FILE is none without it
 pub lacks_file : (name : Text) (rows : List Row) → TakesFile name → first_of (codes "file") rows ≡ None → IsNoSubcommand (name, rows)
-lacks_file name rows takes none = record { file = λ _. none; files = λ e. absurd (takes_no_file name takes e) }
+lacks_file name rows takes none = record {
+  file = λ _. none;
+  files = λ e. let letter = file_letter name takes in let other : head name ≡ 97 = ap head e in absurd (omega (arith, letter, other));
+  events = λ e. let letter = file_letter name takes in let other : head name ≡ 114 = ap head e in absurd (omega (arith, letter, other));
+  port = λ e. let letter = file_letter name takes in let other : head name ≡ 115 = ap head e in absurd (omega (arith, letter, other));
+}
 
 -- assemble is none without one of its files
 pub lacks_files : (name : Text) (rows : List Row) → name ≡ codes "assemble"
     → (first_of (codes "in") rows ≡ None) ⊎ (first_of (codes "out") rows ≡ None) → IsNoSubcommand (name, rows)
-lacks_files name rows is none = record { file = λ takes. absurd (takes_no_file name takes is); files = λ _. none }
+lacks_files name rows is none = record {
+  file = λ takes. let letter = file_letter name takes in let other : head name ≡ 97 = ap head is in absurd (omega (arith, letter, other));
+  files = λ _. none;
+  events = λ e. let one : head name ≡ 97 = ap head is in let other : head name ≡ 114 = ap head e in absurd (omega (arith, one, other));
+  port = λ e. let one : head name ≡ 97 = ap head is in let other : head name ≡ 115 = ap head e in absurd (omega (arith, one, other));
+}
+
+-- replay is none without its events
+pub lacks_events : (name : Text) (rows : List Row) → name ≡ codes "replay" → first_of (codes "events") rows ≡ None → IsNoSubcommand (name, rows)
+lacks_events name rows is none = record {
+  file = λ takes. let letter = file_letter name takes in let other : head name ≡ 114 = ap head is in absurd (omega (arith, letter, other));
+  files = λ e. let one : head name ≡ 97 = ap head e in let other : head name ≡ 114 = ap head is in absurd (omega (arith, one, other));
+  events = λ _. none;
+  port = λ e. let one : head name ≡ 114 = ap head is in let other : head name ≡ 115 = ap head e in absurd (omega (arith, one, other));
+}
+
+-- serve is none without its port
+pub lacks_port : (name : Text) (rows : List Row) → name ≡ codes "serve" → first_of (codes "port") rows ≡ None → IsNoSubcommand (name, rows)
+lacks_port name rows is none = record {
+  file = λ takes. let letter = file_letter name takes in let other : head name ≡ 115 = ap head is in absurd (omega (arith, letter, other));
+  files = λ e. let one : head name ≡ 97 = ap head e in let other : head name ≡ 115 = ap head is in absurd (omega (arith, one, other));
+  events = λ e. let one : head name ≡ 114 = ap head e in let other : head name ≡ 115 = ap head is in absurd (omega (arith, one, other));
+  port = λ _. none;
+}
+
+-- what is found after `serve`, and that nothing is
+
+pub server_met : (m : ArgMatches) (name : Text) (found : Found) (result : Option Subcommand) → Some name ≡ subcommand_name_of m
+    → Some (rows_of found) ≡ option_map (λ p. p.1) (subcommand_rows_of m) → name ≡ codes "serve" → IfSome result (IsSubcommand (codes "serve", rows_of found))
+    → IfSome result (λ s. IsSomeAnd (subcommand_rows_of m) (λ p. IsSubcommand p s))
+server_met m name found None h k is given = tt
+server_met m name found (Some s) h k is given =
+    one_met m name found (λ p. IsSubcommand p s) h k (subst (λ n. IsSubcommand (n, rows_of found) s) (sym is) given)
+
+pub no_server_met : (m : ArgMatches) (name : Text) (found : Found) (result : Option Subcommand) → Some name ≡ subcommand_name_of m
+    → Some (rows_of found) ≡ option_map (λ p. p.1) (subcommand_rows_of m) → name ≡ codes "serve"
+    → IfNone result (first_of (codes "port") (rows_of found) ≡ None) → IfNone result (IfSome (subcommand_rows_of m) IsNoSubcommand)
+no_server_met m name found None h k is given = any_met m name found IsNoSubcommand h k (lacks_port name (rows_of found) is given)
+no_server_met m name found (Some s) h k is given = tt

@@ -2,7 +2,7 @@
 use Rattle.std.specs.Prelude.{◌≡◌, true, false, List, Option, Some, codes}
 use Rattle.clap.specs.Kinds.{Kinds}
 use Rattle.clap.specs.Words.{App, Row, Rule, Text, app_of, fault_of, new_app, new_rule, subcommand_of, with_rule, with_subcommand}
-use Rattle.clap.specs.declared.builder.action.ArgAction.TheVariants.{Set}
+use Rattle.clap.specs.declared.builder.action.ArgAction.TheVariants.{Set, Append}
 use Rattle.clap.specs.declared.builder.command.Command.{Command}
 use Rattle.clap.specs.declared.builder.command.Command.TheViews.{out-Command}
 
@@ -37,6 +37,48 @@ verify_command = with_rule (new_app (codes "verify")) file_argument
 abbrev pub trace_command : App
 trace_command = with_rule (with_rule (new_app (codes "trace")) file_argument) data_option
 
+-- EVENTS: required, one value
+abbrev pub events_argument : Rule
+events_argument = record (new_rule (codes "events")) { action = Some Set; value_names = 1; required = true }
+
+-- --NAME VALUE: optional, one value, at most once
+abbrev pub option : Text → Rule
+option name = record (new_rule name) { long = Some name; action = Some Set; value_names = 1 }
+
+-- --user NAME:PASSWORD: optional, one value each time
+abbrev pub user_option : Rule
+user_option = record (new_rule (codes "user")) { long = Some (codes "user"); action = Some Append; value_names = 1 }
+
+-- the command with the options of the users, with those of the relayed addresses, and with those of the programs
+abbrev pub with_users : App → App
+with_users app = with_rule (with_rule (with_rule app (option (codes "realm"))) user_option) (option (codes "users"))
+
+abbrev pub with_addresses : App → App
+with_addresses app = with_rule (with_rule (with_rule app (option (codes "slots"))) (option (codes "relay-ip"))) (option (codes "first-port"))
+
+abbrev pub with_programs : App → App
+with_programs app = with_rule (with_rule app (option (codes "client"))) (option (codes "peer"))
+
+-- the command with each option that sets up a relay
+abbrev pub with_options : App → App
+with_options app = with_programs (with_addresses (with_users app))
+
+-- replay EVENTS, with the options that set up a relay, and the nonce
+abbrev pub replay_command : App
+replay_command = with_rule (with_options (with_rule (new_app (codes "replay")) events_argument)) (option (codes "nonce"))
+
+-- --port P: required, one value
+abbrev pub port_option : Rule
+port_option = record (option (codes "port")) { required = true }
+
+-- serve --port P, with the options of a server, and those that set up a relay
+abbrev pub server_command : App
+server_command = with_rule (with_rule (with_rule (with_rule (with_rule (new_app (codes "serve")) port_option)
+    (option (codes "rounds"))) (option (codes "listen"))) (option (codes "nonce-lifetime"))) (option (codes "stats"))
+
+abbrev pub serve_command : App
+serve_command = with_options server_command
+
 -- relayd COMMAND, of which COMMAND is required: with no word behind the name, the answer is the help. It has a version
 abbrev pub bare_command : App
 bare_command = let app = new_app (codes "relayd") in record app {
@@ -46,12 +88,19 @@ bare_command = let app = new_app (codes "relayd") in record app {
 abbrev pub text_command : App
 text_command = with_subcommand (with_subcommand bare_command assemble_command.top) disassemble_command.top
 
+abbrev pub program_command : App
+program_command = with_subcommand (with_subcommand text_command verify_command.top) trace_command.top
+
 abbrev pub relayd_command : App
-relayd_command = with_subcommand (with_subcommand text_command verify_command.top) trace_command.top
+relayd_command = with_subcommand (with_subcommand program_command replay_command.top) serve_command.top
 
 -- the command has these arguments and subcommands, and no global argument
 abbrev pub HasShape : App → Command → Type 0
 HasShape app c = (app_of c ≡ app) × ((out-Command c).has_globals ≡ false)
+
+-- arguments are added to a command, none of them global
+abbrev pub HasAdded : (App → App) → Command → Command → Type 0
+HasAdded change old new = (app_of new ≡ change (app_of old)) × ((out-Command new).has_globals ≡ (out-Command old).has_globals)
 
 -- the subcommand in the words of a command line, with the values of its arguments
 abbrev pub subcommand_in : List Text → Option (Text × List Row)

@@ -1,12 +1,12 @@
 -- Meaning. Good command lines, spelled out word by word.
-use Rattle.std.specs.Prelude.{◌≡◌, ◌⊎◌, ◌==◌, Bool, false, List, [], ◌∷◌, ◌++◌, Some, None, codes, Result, MatchResult, IsSomeAnd}
+use Rattle.std.specs.Prelude.{◌≡◌, ◌⊎◌, ◌==◌, Bool, false, List, [], ◌∷◌, ◌++◌, Option, Some, None, codes, Result, MatchResult, IsSomeAnd}
 use Rattle.clap.specs.Words.{Text, kind_of, subcommand_rows_of}
 use Rattle.clap.specs.declared.error.Error.{Error}
 use Rattle.clap.specs.declared.error.kind.ErrorKind.TheVariants.{OutOfMemory}
 use Rattle.clap.specs.declared.parser.matches.ArgMatches.{ArgMatches}
-use Rattle.command_line.specs.Subcommands.{IsSubcommand}
+use Rattle.command_line.specs.Subcommands.{IsSubcommand, ServerTexts, Texts, server_texts_of, text_of, texts_of}
 use Rattle.command_line.specs.declared.Subcommand.{Subcommand}
-use Rattle.command_line.specs.declared.Subcommand.TheVariants.{Verify, Trace, Assemble, Disassemble}
+use Rattle.command_line.specs.declared.Subcommand.TheVariants.{Verify, Trace, Assemble, Disassemble, Replay, Serve}
 
 abbrev pub begins_with_minus : Text → Bool
 begins_with_minus [] = false
@@ -24,6 +24,106 @@ IsTraceLine file hex words = (name : Text) × (
     ⊎ ((words ≡ name ∷ codes "trace" ∷ file ∷ (codes "--data=" ++ hex) ∷ [])
     ⊎ (words ≡ name ∷ codes "trace" ∷ (codes "--data=" ++ hex) ∷ file ∷ []))))
 
+-- the texts of one user, and of no other option
+abbrev pub only_user : Text → Texts
+only_user user = record {
+  realm = None;
+  users = Some (user ∷ []);
+  users_file = None;
+  slots = None;
+  relay_ip = None;
+  first_port = None;
+  client = None;
+  peer = None;
+}
+
+-- the texts of a file of users, and of no other option
+abbrev pub only_users_file : Text → Texts
+only_users_file file = record {
+  realm = None;
+  users = None;
+  users_file = Some file;
+  slots = None;
+  relay_ip = None;
+  first_port = None;
+  client = None;
+  peer = None;
+}
+
+-- a text for each option, and two for --user
+pub record Given : Type 0 where
+  pub realm : Text
+  pub user : Text
+  pub other : Text
+  pub users_file : Text
+  pub slots : Text
+  pub relay_ip : Text
+  pub first_port : Text
+  pub client : Text
+  pub peer : Text
+
+abbrev pub every_option : Given → Texts
+every_option g = record {
+  realm = Some g.realm;
+  users = Some (g.user ∷ g.other ∷ []);
+  users_file = Some g.users_file;
+  slots = Some g.slots;
+  relay_ip = Some g.relay_ip;
+  first_port = Some g.first_port;
+  client = Some g.client;
+  peer = Some g.peer;
+}
+
+-- the options, each with its text after an equals sign, and the words after them
+abbrev pub before : Given → List Text → List Text
+before g rest =
+    (codes "--realm=" ++ g.realm) ∷ (codes "--user=" ++ g.user) ∷ (codes "--user=" ++ g.other)
+    ∷ (codes "--users=" ++ g.users_file) ∷ (codes "--slots=" ++ g.slots) ∷ (codes "--relay-ip=" ++ g.relay_ip)
+    ∷ (codes "--first-port=" ++ g.first_port) ∷ (codes "--client=" ++ g.client) ∷ (codes "--peer=" ++ g.peer)
+    ∷ rest
+
+-- a program's name, `replay`, and EVENTS after --user NAME:PASSWORD, or after every option
+abbrev pub IsReplayLine : Text → Option Text → Texts → List Text → Type 0
+IsReplayLine events nonce texts words = (name : Text) × (
+    ((user : Text) × (IsOperand user × ((nonce ≡ None) × ((texts ≡ only_user user)
+    × (words ≡ name ∷ codes "replay" ∷ codes "--user" ∷ user ∷ events ∷ [])))))
+    ⊎ ((g : Given) × ((given : Text) × ((nonce ≡ Some given) × ((texts ≡ every_option g)
+    × (words ≡ name ∷ codes "replay" ∷ before g ((codes "--nonce=" ++ given) ∷ events ∷ [])))))))
+
+-- a text for each argument of a server
+pub record GivenServer : Type 0 where
+  pub port : Text
+  pub rounds : Text
+  pub listen : Text
+  pub nonce_lifetime : Text
+  pub stats : Text
+
+abbrev pub only_port : Text → ServerTexts
+only_port port = record { port = Some port; rounds = None; listen = None; nonce_lifetime = None; stats = None }
+
+abbrev pub every_server_option : GivenServer → ServerTexts
+every_server_option s = record {
+  port = Some s.port;
+  rounds = Some s.rounds;
+  listen = Some s.listen;
+  nonce_lifetime = Some s.nonce_lifetime;
+  stats = Some s.stats;
+}
+
+-- the arguments of a server, each with its text after an equals sign, and the words after them
+abbrev pub server_before : GivenServer → List Text → List Text
+server_before s rest =
+    (codes "--port=" ++ s.port) ∷ (codes "--rounds=" ++ s.rounds) ∷ (codes "--listen=" ++ s.listen)
+    ∷ (codes "--nonce-lifetime=" ++ s.nonce_lifetime) ∷ (codes "--stats=" ++ s.stats) ∷ rest
+
+-- a program's name, `serve`, and --port=P with --users=FILE, or with every option
+abbrev pub IsServeLine : ServerTexts → Texts → List Text → Type 0
+IsServeLine server texts words = (name : Text) × (
+    ((port : Text) × ((file : Text) × ((server ≡ only_port port) × ((texts ≡ only_users_file file)
+    × (words ≡ name ∷ codes "serve" ∷ (codes "--port=" ++ port) ∷ (codes "--users=" ++ file) ∷ [])))))
+    ⊎ ((s : GivenServer) × ((g : Given) × ((server ≡ every_server_option s) × ((texts ≡ every_option g)
+    × (words ≡ name ∷ codes "serve" ∷ server_before s (before g [])))))))
+
 -- the words are one of the usual lines of the subcommand, in which the files are operands
 abbrev pub IsLineOf : Subcommand → List Text → Type 0
 IsLineOf (Verify file) words = IsOperand file.now × ((name : Text) × (words ≡ name ∷ codes "verify" ∷ file.now ∷ []))
@@ -32,6 +132,9 @@ IsLineOf (Trace file (Some hex)) words = IsOperand file.now × IsTraceLine file.
 IsLineOf (Assemble input output) words = (IsOperand input.now × IsOperand output.now)
     × ((name : Text) × (words ≡ name ∷ codes "assemble" ∷ input.now ∷ output.now ∷ []))
 IsLineOf (Disassemble file) words = IsOperand file.now × ((name : Text) × (words ≡ name ∷ codes "disassemble" ∷ file.now ∷ []))
+IsLineOf (Replay events nonce options) words = IsOperand events.now × IsReplayLine events.now (text_of nonce) (texts_of options) words
+IsLineOf (Serve port rounds listen lifetime stats options) words =
+    IsServeLine (server_texts_of port rounds listen lifetime stats) (texts_of options) words
 
 -- the matches are those of this subcommand, or memory ran out
 abbrev pub IsParsedAs : Subcommand → Result ArgMatches Error → Type 0

@@ -1,12 +1,82 @@
 -- Meaning. The subcommands of relayd, by their names and the values of their arguments.
-use Rattle.std.specs.Prelude.{◌≡◌, ◌⊎◌, List, Option, Some, None, option_map, codes}
-use Rattle.clap.specs.Words.{Text, Row, first_of}
+use Rattle.std.specs.Prelude.{◌≡◌, ◌⊎◌, List, Option, Some, None, map, option_map, codes}
+use Rattle.std.specs.Borrow.{Bor}
+use Rattle.clap.specs.Words.{Text, Row, all_of, first_of}
+use Rattle.command_line.specs.declared.Options.{Options}
 use Rattle.command_line.specs.declared.Subcommand.{Subcommand}
-use Rattle.command_line.specs.declared.Subcommand.TheVariants.{Verify, Trace, Assemble, Disassemble}
+use Rattle.command_line.specs.declared.Subcommand.TheVariants.{Verify, Trace, Assemble, Disassemble, Replay, Serve}
 
 -- the value of an argument of the subcommand
 abbrev pub value_of : Text × List Row → Text → Option Text
 value_of p id = first_of id p.1
+
+-- the texts of the options that set up a relay
+pub record Texts : Type 0 where
+  pub realm : Option Text
+  pub users : Option (List Text)
+  pub users_file : Option Text
+  pub slots : Option Text
+  pub relay_ip : Option Text
+  pub first_port : Option Text
+  pub client : Option Text
+  pub peer : Option Text
+
+abbrev pub texts_in : List Row → Texts
+texts_in rows = record {
+  realm = first_of (codes "realm") rows;
+  users = all_of (codes "user") rows;
+  users_file = first_of (codes "users") rows;
+  slots = first_of (codes "slots") rows;
+  relay_ip = first_of (codes "relay-ip") rows;
+  first_port = first_of (codes "first-port") rows;
+  client = first_of (codes "client") rows;
+  peer = first_of (codes "peer") rows;
+}
+
+-- the text that a reference has, and a list of them
+abbrev pub text_of : Option (Bor Text) → Option Text
+text_of = option_map (λ s. s.now)
+
+abbrev pub list_of : Option (Bor (List (Bor Text))) → Option (List Text)
+list_of = option_map (λ s. map (λ v. v.now) s.now)
+
+abbrev pub texts_of : Options → Texts
+texts_of o = record {
+  realm = text_of o.realm;
+  users = list_of o.users;
+  users_file = text_of o.users_file;
+  slots = text_of o.slots;
+  relay_ip = text_of o.relay_ip;
+  first_port = text_of o.first_port;
+  client = text_of o.client;
+  peer = text_of o.peer;
+}
+
+-- the texts of the arguments of a server alone
+pub record ServerTexts : Type 0 where
+  pub port : Option Text
+  pub rounds : Option Text
+  pub listen : Option Text
+  pub nonce_lifetime : Option Text
+  pub stats : Option Text
+
+abbrev pub server_texts_in : List Row → ServerTexts
+server_texts_in rows = record {
+  port = first_of (codes "port") rows;
+  rounds = first_of (codes "rounds") rows;
+  listen = first_of (codes "listen") rows;
+  nonce_lifetime = first_of (codes "nonce-lifetime") rows;
+  stats = first_of (codes "stats") rows;
+}
+
+abbrev pub server_texts_of : Bor Text → Option (Bor Text) → Option (Bor Text) → Option (Bor Text) → Option (Bor Text) → ServerTexts
+server_texts_of port rounds listen lifetime stats = record {
+  port = Some port.now;
+  rounds = text_of rounds;
+  listen = text_of listen;
+  nonce_lifetime = text_of lifetime;
+  stats = text_of stats;
+}
 
 -- a name and the values of arguments are those of a subcommand
 abbrev pub IsSubcommand : Text × List Row → Subcommand → Type 0
@@ -16,12 +86,18 @@ IsSubcommand p (Trace file hex) = (p.0 ≡ codes "trace") × (value_of p (codes 
 IsSubcommand p (Assemble input output) = (p.0 ≡ codes "assemble") × (value_of p (codes "in") ≡ Some input.now)
     × (value_of p (codes "out") ≡ Some output.now)
 IsSubcommand p (Disassemble file) = (p.0 ≡ codes "disassemble") × (value_of p (codes "file") ≡ Some file.now)
+IsSubcommand p (Replay events nonce options) = (p.0 ≡ codes "replay") × (value_of p (codes "events") ≡ Some events.now)
+    × (value_of p (codes "nonce") ≡ text_of nonce) × (texts_in p.1 ≡ texts_of options)
+IsSubcommand p (Serve port rounds listen lifetime stats options) = (p.0 ≡ codes "serve")
+    × (server_texts_in p.1 ≡ server_texts_of port rounds listen lifetime stats) × (texts_in p.1 ≡ texts_of options)
 
 -- the subcommand is one that takes FILE
 abbrev pub TakesFile : Text → Type 0
 TakesFile name = (name ≡ codes "disassemble") ⊎ ((name ≡ codes "verify") ⊎ (name ≡ codes "trace"))
 
--- they are those of no subcommand: the name is none of the four, or a file is missing
+-- they are those of no subcommand: the name is none of the six, or a file or the port is missing
 pub record IsNoSubcommand (p : Text × List Row) : Type 0 where
   pub file : TakesFile p.0 → value_of p (codes "file") ≡ None
   pub files : p.0 ≡ codes "assemble" → (value_of p (codes "in") ≡ None) ⊎ (value_of p (codes "out") ≡ None)
+  pub events : p.0 ≡ codes "replay" → value_of p (codes "events") ≡ None
+  pub port : p.0 ≡ codes "serve" → value_of p (codes "port") ≡ None

@@ -1,11 +1,11 @@
 //! Parses the command line of relayd.
 #![tactic(auto)]
 
-ghost use Rattle.std.specs.Prelude.{◌≡◌, true, false, map, IfOk, IfSome, IfNone, IsSomeAnd};
-ghost use Rattle.clap.specs.Words.{FailsBy, has_subcommand, rule_of, subcommand_rows_of};
-ghost use Rattle.command_line.specs.Commands.{HasShape, assemble_command, bare_command, data_option, disassemble_command, faults_of, file_argument, input_argument, output_argument, relayd_command, subcommand_in, text_command, trace_command, verify_command};
+ghost use Rattle.std.specs.Prelude.{◌≡◌, None, true, false, codes, map, IfOk, IfSome, IfNone, IsSomeAnd};
+ghost use Rattle.clap.specs.Words.{FailsBy, first_of, found_of, has_subcommand, rows_of, rule_of, subcommand_rows_of};
+ghost use Rattle.command_line.specs.Commands.{HasAdded, HasShape, assemble_command, bare_command, data_option, disassemble_command, events_argument, faults_of, file_argument, input_argument, option, output_argument, port_option, program_command, relayd_command, replay_command, serve_command, server_command, subcommand_in, text_command, trace_command, user_option, verify_command, with_addresses, with_options, with_programs, with_users};
 ghost use Rattle.command_line.specs.Lines.{IsLineOf, IsParsedAs};
-ghost use Rattle.command_line.specs.Subcommands.{IsSubcommand, IsNoSubcommand};
+ghost use Rattle.command_line.specs.Subcommands.{IsSubcommand, IsNoSubcommand, texts_in, texts_of};
 ghost use Rattle.command_line.specs.declared.Subcommand.{Subcommand};
 
 use clap::{Arg, ArgAction, ArgMatches, Command, Error};
@@ -14,6 +14,27 @@ use std::convert::AsStr;
 
 /// The version that `--version` prints.
 const VERSION: &str = "0.1.0";
+
+/// The options that set up a relay, as they are written; `None` is an option that is not given.
+#[derive(Clone, Copy, Debug)]
+pub struct Options<'a> {
+    /// The realm.
+    pub realm: Option<&'a str>,
+    /// The users, each as `NAME:PASSWORD`, in the order in which they are given.
+    pub users: Option<&'a [&'a str]>,
+    /// The file that has further users.
+    pub users_file: Option<&'a str>,
+    /// The number of slots.
+    pub slots: Option<&'a str>,
+    /// The relayed IP address.
+    pub relay_ip: Option<&'a str>,
+    /// The relayed port of the first slot.
+    pub first_port: Option<&'a str>,
+    /// The file of the program for clients' datagrams.
+    pub client: Option<&'a str>,
+    /// The file of the program for peers' datagrams.
+    pub peer: Option<&'a str>,
+}
 
 /// A subcommand of relayd, with the values of its arguments.
 #[derive(Clone, Copy, Debug)]
@@ -36,6 +57,23 @@ pub enum Subcommand<'a> {
     /// Print the program in a file as text.
     Disassemble {
         file: &'a str,
+    },
+    /// Replay the events in a file through a relay, and print each answer. The file `-` is standard input.
+    Replay {
+        events: &'a str,
+        nonce: Option<&'a str>,
+        options: Options<'a>,
+    },
+    /// Serve clients and peers over UDP sockets: those of clients at `port`. `rounds` is how many rounds are made before the
+    /// end, `listen` the address that the sockets are bound to, and `nonce_lifetime` and `stats` are seconds. Each is as it is
+    /// written, and `None` where it is not given.
+    Serve {
+        port: &'a str,
+        rounds: Option<&'a str>,
+        listen: Option<&'a str>,
+        nonce_lifetime: Option<&'a str>,
+        stats: Option<&'a str>,
+        options: Options<'a>,
     },
 }
 
@@ -125,6 +163,176 @@ fn disassemble<'a>(alloc: Global) -> Result<Command<'a>, AllocError>
         .arg(file(alloc))
 }
 
+/// Returns the argument `EVENTS`.
+fn events<'a>(alloc: Global) -> Arg<'a>
+    ensures rule { rule_of result ≡ events_argument }
+    ensures local { result.global ≡ false }
+{
+    Arg::new(alloc, "events")
+        .value_name("EVENTS")
+        .help("The events, one a line, as docs/EVENTS.md says; - reads standard input")
+        .required(true)
+        .action(ArgAction::Set)
+}
+
+/// Returns an option with one value.
+fn option<'a>(alloc: Global, name: &'a str, value: &'a str, help: &'a str) -> Arg<'a>
+    ensures rule { rule_of result ≡ option name.entry.now }
+    ensures local { result.global ≡ false }
+{
+    Arg::new(alloc, name)
+        .long(name)
+        .value_name(value)
+        .help(help)
+        .action(ArgAction::Set)
+}
+
+/// Returns the option `--user NAME:PASSWORD`, which may be repeated.
+fn user<'a>(alloc: Global) -> Arg<'a>
+    ensures rule { rule_of result ≡ user_option }
+    ensures local { result.global ≡ false }
+{
+    Arg::new(alloc, "user")
+        .long("user")
+        .value_name("NAME:PASSWORD")
+        .help(
+            "A user, whose name ends at the first colon; may be repeated. Other users of the machine can see it: see --users",
+        )
+        .action(ArgAction::Append)
+}
+
+/// Adds the options of the users.
+fn with_users<'a>(alloc: Global, command: Command<'a>) -> Result<Command<'a>, AllocError>
+    ensures { IfOk result (HasAdded with_users command.entry) }
+{
+    command
+        .arg(option(alloc, "realm", "R", "The realm; relay by default"))?
+        .arg(user(alloc))?
+        .arg(option(
+            alloc,
+            "users",
+            "FILE",
+            "A file of users: NAME:PASSWORD a line",
+        ))
+}
+
+/// Adds the options of the relayed addresses.
+fn with_addresses<'a>(alloc: Global, command: Command<'a>) -> Result<Command<'a>, AllocError>
+    ensures { IfOk result (HasAdded with_addresses command.entry) }
+{
+    command
+        .arg(option(
+            alloc,
+            "slots",
+            "N",
+            "How many allocations there may be at once; 16 by default",
+        ))?
+        .arg(option(
+            alloc,
+            "relay-ip",
+            "A",
+            "The relayed IPv4 address; 127.0.0.1 by default",
+        ))?
+        .arg(option(
+            alloc,
+            "first-port",
+            "P",
+            "The relayed port of slot 0; 49152 by default",
+        ))
+}
+
+/// Adds the options of the programs.
+fn with_programs<'a>(alloc: Global, command: Command<'a>) -> Result<Command<'a>, AllocError>
+    ensures { IfOk result (HasAdded with_programs command.entry) }
+{
+    command
+        .arg(option(
+            alloc,
+            "client",
+            "FILE",
+            "The program for clients' datagrams; CLIENT by default",
+        ))?
+        .arg(option(
+            alloc,
+            "peer",
+            "FILE",
+            "The program for peers' datagrams; PEER by default",
+        ))
+}
+
+/// Adds the options that set up a relay.
+fn with_options<'a>(alloc: Global, command: Command<'a>) -> Result<Command<'a>, AllocError>
+    ensures { IfOk result (HasAdded with_options command.entry) }
+{
+    let command = with_users(alloc, command)?;
+    let command = with_addresses(alloc, command)?;
+    with_programs(alloc, command)
+}
+
+/// Returns the subcommand `replay`.
+fn replay<'a>(alloc: Global) -> Result<Command<'a>, AllocError>
+    ensures { IfOk result (HasShape replay_command) }
+{
+    let command = Command::new(alloc, "replay")
+        .about("Replay events through a relay, and print the answer to each")
+        .arg(events(alloc))?;
+    with_options(alloc, command)?.arg(option(alloc, "nonce", "TEXT", "The nonce; n1 by default"))
+}
+
+/// Returns the option `--port P`.
+fn port<'a>(alloc: Global) -> Arg<'a>
+    ensures rule { rule_of result ≡ port_option }
+    ensures local { result.global ≡ false }
+{
+    option(
+        alloc,
+        "port",
+        "P",
+        "The UDP port for clients; TURN's own is 3478",
+    )
+    .required(true)
+}
+
+/// Returns the subcommand `serve` with the options of a server alone.
+fn server<'a>(alloc: Global) -> Result<Command<'a>, AllocError>
+    ensures { IfOk result (HasShape server_command) }
+{
+    Command::new(alloc, "serve")
+        .about("Serve clients and peers over UDP, until it is stopped")
+        .arg(port(alloc))?
+        .arg(option(
+            alloc,
+            "rounds",
+            "N",
+            "End after N rounds, which never wait: each tries one receive at each socket",
+        ))?
+        .arg(option(
+            alloc,
+            "listen",
+            "A",
+            "The IPv4 address that the sockets are bound to; 127.0.0.1 by default",
+        ))?
+        .arg(option(
+            alloc,
+            "nonce-lifetime",
+            "S",
+            "The seconds after which a new nonce is drawn; 3600 by default",
+        ))?
+        .arg(option(
+            alloc,
+            "stats",
+            "S",
+            "Print counters to standard error each S seconds, and at the end",
+        ))
+}
+
+/// Returns the subcommand `serve`.
+fn serve<'a>(alloc: Global) -> Result<Command<'a>, AllocError>
+    ensures { IfOk result (HasShape serve_command) }
+{
+    with_options(alloc, server(alloc)?)
+}
+
 /// Returns the command without its subcommands. With no word behind its name it answers with the help.
 /// See docs/DECISIONS.md, "The help where no command is given".
 fn bare<'a>(alloc: Global) -> Command<'a>
@@ -146,13 +354,22 @@ fn with_texts<'a>(alloc: Global) -> Result<Command<'a>, AllocError>
         .subcommand(disassemble(alloc)?)
 }
 
-/// Returns the whole command.
-fn relayd<'a>(alloc: Global) -> Result<Command<'a>, AllocError>
-    ensures { IfOk result (HasShape relayd_command) }
+/// Returns the command with those that look at programs too.
+fn with_reports<'a>(alloc: Global) -> Result<Command<'a>, AllocError>
+    ensures { IfOk result (HasShape program_command) }
 {
     with_texts(alloc)?
         .subcommand(verify(alloc)?)?
         .subcommand(trace(alloc)?)
+}
+
+/// Returns the whole command.
+fn relayd<'a>(alloc: Global) -> Result<Command<'a>, AllocError>
+    ensures { IfOk result (HasShape relayd_command) }
+{
+    with_reports(alloc)?
+        .subcommand(replay(alloc)?)?
+        .subcommand(serve(alloc)?)
 }
 
 /// Parses the words of a command line, of which the first is the program's name. What it accepts, and
@@ -170,9 +387,40 @@ pub fn line<'a, S: AsStr>(alloc: Global, words: &'a [S]) -> Result<ArgMatches<'a
     relayd(alloc)?.try_get_matches_from(words)
 }
 
+/// Returns the options of a relay among the matches of a subcommand.
+fn options_of<'a>(matches: &'a ArgMatches<'_>) -> Options<'a>
+    ensures { texts_of result ≡ texts_in (rows_of (found_of matches.now)) }
+{
+    Options {
+        realm: matches.get_str("realm"),
+        users: matches.get_strs("user"),
+        users_file: matches.get_str("users"),
+        slots: matches.get_str("slots"),
+        relay_ip: matches.get_str("relay-ip"),
+        first_port: matches.get_str("first-port"),
+        client: matches.get_str("client"),
+        peer: matches.get_str("peer"),
+    }
+}
+
+/// Returns the subcommand `serve` of its matches, or `None` where the port is missing.
+fn serve_of<'a>(matches: &'a ArgMatches<'_>) -> Option<Subcommand<'a>>
+    ensures found { IfSome result (IsSubcommand (codes "serve", rows_of (found_of matches.now))) }
+    ensures none { IfNone result (first_of (codes "port") (rows_of (found_of matches.now)) ≡ None) }
+{
+    Some(Subcommand::Serve {
+        port: matches.get_str("port")?,
+        rounds: matches.get_str("rounds"),
+        listen: matches.get_str("listen"),
+        nonce_lifetime: matches.get_str("nonce-lifetime"),
+        stats: matches.get_str("stats"),
+        options: options_of(matches),
+    })
+}
+
 /// Returns the subcommand of a parsed command line, or `None` where the matches are not those of a
 /// subcommand of relayd.
-pub fn subcommand_of<'a>(matches: &ArgMatches<'a>) -> Option<Subcommand<'a>>
+pub fn subcommand_of<'a>(matches: &'a ArgMatches<'_>) -> Option<Subcommand<'a>>
     ensures found { IfSome result (λ s. IsSomeAnd (subcommand_rows_of matches.now) (λ p. IsSubcommand p s)) }
     ensures none { IfNone result (IfSome (subcommand_rows_of matches.now) IsNoSubcommand) }
 {
@@ -196,6 +444,17 @@ pub fn subcommand_of<'a>(matches: &ArgMatches<'a>) -> Option<Subcommand<'a>>
             let data = matches.get_str("data");
             Some(Subcommand::Trace { file, data })
         }
+        "replay" => {
+            let events = matches.get_str("events")?;
+            let nonce = matches.get_str("nonce");
+            let options = options_of(matches);
+            Some(Subcommand::Replay {
+                events,
+                nonce,
+                options,
+            })
+        }
+        "serve" => serve_of(matches),
         _ => None,
     }
 }

@@ -10,7 +10,7 @@ struct Good {
     subcommand: &'static str,
 }
 
-const GOOD: [Good; 19] = [
+const GOOD: [Good; 24] = [
     Good {
         words: &["relayd", "verify", "a.bpf"],
         subcommand: r#"Verify { file: "a.bpf" }"#,
@@ -85,6 +85,79 @@ const GOOD: [Good; 19] = [
         words: &["relayd", "trace", "--data", "00", "--", "--data"],
         subcommand: r#"Trace { file: "--data", data: Some("00") }"#,
     },
+    // standard input, without an option
+    Good {
+        words: &["relayd", "replay", "-"],
+        subcommand: r#"Replay { events: "-", nonce: None, options: Options { realm: None, users: None, users_file: None, slots: None, relay_ip: None, first_port: None, client: None, peer: None } }"#,
+    },
+    // users in the order in which they are given, and no value is parted at a comma
+    Good {
+        words: &["relayd", "replay", "--user", "v:q,r", "a", "--user=u:p"],
+        subcommand: r#"Replay { events: "a", nonce: None, options: Options { realm: None, users: Some(["v:q,r", "u:p"]), users_file: None, slots: None, relay_ip: None, first_port: None, client: None, peer: None } }"#,
+    },
+    // every option
+    Good {
+        words: &[
+            "relayd",
+            "replay",
+            "--nonce",
+            "n",
+            "--peer",
+            "p",
+            "--client",
+            "c",
+            "--first-port",
+            "1",
+            "--relay-ip",
+            "i",
+            "--slots",
+            "2",
+            "--users",
+            "f",
+            "--user",
+            "u",
+            "--realm",
+            "r",
+            "a",
+        ],
+        subcommand: r#"Replay { events: "a", nonce: Some("n"), options: Options { realm: Some("r"), users: Some(["u"]), users_file: Some("f"), slots: Some("2"), relay_ip: Some("i"), first_port: Some("1"), client: Some("c"), peer: Some("p") } }"#,
+    },
+    // a server with its port alone, and with every option
+    Good {
+        words: &["relayd", "serve", "--port", "3478"],
+        subcommand: r#"Serve { port: "3478", rounds: None, listen: None, nonce_lifetime: None, stats: None, options: Options { realm: None, users: None, users_file: None, slots: None, relay_ip: None, first_port: None, client: None, peer: None } }"#,
+    },
+    Good {
+        words: &[
+            "relayd",
+            "serve",
+            "--peer",
+            "p",
+            "--client=c",
+            "--first-port",
+            "1",
+            "--relay-ip",
+            "i",
+            "--slots=2",
+            "--users",
+            "f",
+            "--user",
+            "u",
+            "--user=v",
+            "--realm",
+            "r",
+            "--stats",
+            "5",
+            "--nonce-lifetime",
+            "60",
+            "--listen=l",
+            "--rounds",
+            "n",
+            "--port",
+            "3478",
+        ],
+        subcommand: r#"Serve { port: "3478", rounds: Some("n"), listen: Some("l"), nonce_lifetime: Some("60"), stats: Some("5"), options: Options { realm: Some("r"), users: Some(["u", "v"]), users_file: Some("f"), slots: Some("2"), relay_ip: Some("i"), first_port: Some("1"), client: Some("c"), peer: Some("p") } }"#,
+    },
     // the program may have any name
     Good {
         words: &["./r", "verify", "a.bpf"],
@@ -115,7 +188,7 @@ struct Refused {
     parts: &'static [&'static str],
 }
 
-const REFUSED: [Refused; 39] = [
+const REFUSED: [Refused; 49] = [
     // no word behind the name: the help
     Refused {
         words: &[],
@@ -167,6 +240,109 @@ const REFUSED: [Refused; 39] = [
         words: &["relayd", "disassemble", "a.bpf", "a.s"],
         status: 2,
         parts: &["a.s", "--help"],
+    },
+    // events: missing, twice, and options without a value, twice, and unknown
+    Refused {
+        words: &["relayd", "replay", "--user", "u:p"],
+        status: 2,
+        parts: &["<EVENTS>", "--help"],
+    },
+    Refused {
+        words: &["relayd", "replay", "a", "b"],
+        status: 2,
+        parts: &["b", "--help"],
+    },
+    Refused {
+        words: &["relayd", "replay", "a", "--user"],
+        status: 2,
+        parts: &["--user <NAME:PASSWORD>", "--help"],
+    },
+    Refused {
+        words: &["relayd", "replay", "a", "--slots", "1", "--slots", "2"],
+        status: 2,
+        parts: &["--slots <N>", "--help"],
+    },
+    Refused {
+        words: &["relayd", "replay", "a", "--port", "1"],
+        status: 2,
+        parts: &["--port", "--help"],
+    },
+    Refused {
+        words: &["relayd", "replay", "--help"],
+        status: 0,
+        parts: &[
+            "Replay events through a relay, and print the answer to each",
+            "<EVENTS>",
+            "The events, one a line, as docs/EVENTS.md says; - reads standard input",
+            "--realm <R>",
+            "The realm; relay by default",
+            "--user <NAME:PASSWORD>",
+            "A user, whose name ends at the first colon; may be repeated",
+            "Other users of the machine can see it: see --users",
+            "--users <FILE>",
+            "A file of users: NAME:PASSWORD a line",
+            "--slots <N>",
+            "How many allocations there may be at once; 16 by default",
+            "--relay-ip <A>",
+            "The relayed IPv4 address; 127.0.0.1 by default",
+            "--first-port <P>",
+            "The relayed port of slot 0; 49152 by default",
+            "--client <FILE>",
+            "The program for clients' datagrams; CLIENT by default",
+            "--peer <FILE>",
+            "The program for peers' datagrams; PEER by default",
+            "--nonce <TEXT>",
+            "The nonce; n1 by default",
+        ],
+    },
+    // a server: no port, a word that it doesn't take, an option of the other, and the help
+    Refused {
+        words: &["relayd", "serve", "--user", "u:p"],
+        status: 2,
+        parts: &["--port <P>", "--help"],
+    },
+    Refused {
+        words: &["relayd", "serve", "--port", "3478", "events"],
+        status: 2,
+        parts: &["events", "--help"],
+    },
+    Refused {
+        words: &["relayd", "serve", "--port", "3478", "--nonce", "n"],
+        status: 2,
+        parts: &["--nonce", "--help"],
+    },
+    Refused {
+        words: &["relayd", "serve", "--help"],
+        status: 0,
+        parts: &[
+            "Serve clients and peers over UDP, until it is stopped",
+            "--port <P>",
+            "The UDP port for clients; TURN's own is 3478",
+            "--rounds <N>",
+            "End after N rounds, which never wait: each tries one receive at each socket",
+            "--listen <A>",
+            "The IPv4 address that the sockets are bound to; 127.0.0.1 by default",
+            "--nonce-lifetime <S>",
+            "The seconds after which a new nonce is drawn; 3600 by default",
+            "--stats <S>",
+            "Print counters to standard error each S seconds, and at the end",
+            "--realm <R>",
+            "The realm; relay by default",
+            "--user <NAME:PASSWORD>",
+            "A user, whose name ends at the first colon; may be repeated",
+            "--users <FILE>",
+            "A file of users: NAME:PASSWORD a line",
+            "--slots <N>",
+            "How many allocations there may be at once; 16 by default",
+            "--relay-ip <A>",
+            "The relayed IPv4 address; 127.0.0.1 by default",
+            "--first-port <P>",
+            "The relayed port of slot 0; 49152 by default",
+            "--client <FILE>",
+            "The program for clients' datagrams; CLIENT by default",
+            "--peer <FILE>",
+            "The program for peers' datagrams; PEER by default",
+        ],
     },
     // the help of the two
     Refused {
@@ -300,6 +476,10 @@ const REFUSED: [Refused; 39] = [
             "TURN relay",
             "BPF",
             "<COMMAND>",
+            "replay",
+            "Replay events through a relay",
+            "serve",
+            "Serve clients and peers over UDP",
             "verify",
             "Verify a program",
             "is refused and why",

@@ -1,5 +1,5 @@
--- Meaning. Why bytes encode no program: the first fault from the left.
-use Rattle.std.specs.Prelude.{◌≡◌, ◌≢◌, ℕ, ◌*◌, ◌/◌, ◌%◌, ◌<◌, ◌≤◌, List, ◌++◌, length, slice_index}
+-- Meaning. Why bytes encode no program: the first fault from the left, and its text.
+use Rattle.std.specs.Prelude.{◌≡◌, ◌≢◌, ℕ, ◌*◌, ◌/◌, ◌%◌, ◌<◌, ◌≤◌, List, ◌++◌, length, slice_index, codes, decimal}
 use Rattle.insn.specs.Opcode.{byte_of, IsOpcode}
 use Rattle.insn.specs.declared.opcode.Opcode.TheVariants.{LoadImm}
 use Rattle.insn.specs.Encoding.{encoding, encodings, slot_count, Fits, AllFit}
@@ -63,3 +63,14 @@ IsRefused bytes (Register n) = IsWhole bytes × FirstFault bytes n fault.Registe
 IsRefused bytes (UnusedField n) = IsWhole bytes × FirstFault bytes n fault.UnusedField
 IsRefused bytes (WideCut n) = IsWhole bytes × FirstFault bytes n fault.WideCut
 IsRefused bytes Memory = ⊥
+
+-- the text of a refusal: its code, and the slot where it has one
+abbrev pub decode_error_text : DecodeError → List ℕ
+decode_error_text Empty = codes "E1"
+decode_error_text NotEights = codes "E2"
+decode_error_text TooLong = codes "E3"
+decode_error_text (Opcode slot) = codes "E4 at " ++ decimal slot
+decode_error_text (Register slot) = codes "E5 at " ++ decimal slot
+decode_error_text (UnusedField slot) = codes "E6 at " ++ decimal slot
+decode_error_text (WideCut slot) = codes "E7 at " ++ decimal slot
+decode_error_text Memory = codes "E8"

@@ -1,14 +1,19 @@
--- Meaning. The results of the loader.
+-- Meaning. The results of the loader, and the texts of its refusals.
 use Rattle.std.specs.Prelude.{◌≡◌, ◌⊎◌, ℕ, List, Result, Ok, Err}
 use Rattle.insn.specs.Encoding.{Encodes}
-use Rattle.insn.specs.Refusal.{IsRefused}
+use Rattle.insn.specs.Refusal.{IsRefused, decode_error_text}
 use Rattle.insn.specs.declared.instruction.Insn.{Insn}
 use Rattle.insn.specs.declared.refusal.DecodeError.TheVariants as error
 use Rattle.semantics.specs.Runs.{IsSafe}
-use Rattle.verifier.specs.Refusing.{MayRefuse}
+use Rattle.verifier.specs.Refusing.{MayRefuse, refusal_text}
 use Rattle.loader.specs.declared.loaded.TheConstants.{BUDGET}
 use Rattle.loader.specs.declared.refusal.LoadError.{LoadError}
 use Rattle.loader.specs.declared.refusal.LoadError.TheVariants.{Decode, Verify}
+
+-- the text of a refusal
+abbrev pub load_error_text : LoadError → List ℕ
+load_error_text (Decode e) = decode_error_text e
+load_error_text (Verify e) = refusal_text e
 
 -- a loaded program is the one that the bytes encode, and safe
 pub record IsLoaded (code : List Insn) (bytes : List ℕ) : Type 0 where

@@ -1,5 +1,5 @@
 -- The loop of a run: what it keeps, and how it ends.
-use Rattle.std.proofs.Common.{◌≡◌, ℕ, suc, ◌+◌, ◌-◌, ◌≤◌, List, [], ◌∷◌, ◌++◌, length, fold, Ok, Err, refl, sym, ap, ◌∙◌, arith, append_assoc}
+use Rattle.std.proofs.Common.{◌≡◌, ℕ, suc, ◌+◌, ◌-◌, ◌≤◌, List, [], ◌∷◌, ◌++◌, length, Ok, Err, refl, sym, ap, ◌∙◌, subst, arith, append_assoc}
 use Rattle.std.proofs.lemmas.List.{length-append, append-nil}
 use Rattle.insn.specs.declared.instruction.Insn.{Insn}
 use Rattle.semantics.specs.Effects.{effect}
@@ -17,6 +17,7 @@ use Rattle.semantics.specs.declared.fetching.Fetched.TheVariants.{Begins, Inside
 use Rattle.semantics.specs.declared.fetching.Position.{Position}
 use Rattle.semantics.specs.declared.fetching.Visit.{Visit}
 use Rattle.machine.specs.Contexts.{Answers, around}
+use Rattle.machine.specs.Tracing.{Reports}
 use Rattle.machine.specs.Execution.{IsRecordOf, state_at, result_of, whole_run, GoesAhead, IsWholeRun}
 use Rattle.machine.specs.declared.execution.StepResult.{StepResult}
 use Rattle.machine.specs.declared.execution.StepResult.TheVariants as code
@@ -38,16 +39,16 @@ less_one n steps = omega arith
 
 -- The loop is at a position behind a path, and what is left of the run goes on from there, in the memory that the steps
 -- so far have made of the first one.
-pub record HasRun {Log : Type 0} (with_step : Log → Visit → Log) (program : List Insn) (answers : Answers) (context : List ℕ) (first memory : Memory) (plan : Plan) (at : Position) (registers : List Value) (steps : ℕ) (old new : Log) : Type 0 where
+pub record HasRun {Log : Type 0} (Logs : Log → Visit → Log → Type 0) (program : List Insn) (answers : Answers) (context : List ℕ) (first memory : Memory) (plan : Plan) (at : Position) (registers : List Value) (steps : ℕ) (old new : Log) : Type 0 where
   pub is_at : IsAt program at
   pub path : List Visit
   pub count : length path ≡ steps
   pub early : steps ≤ at.index
   pub so_far : (c : Context) → IsRecordOf context first.length c → whole_run (around c answers) program first ≡ after path (run (around c answers) program (length program + 1 - steps) (state_at at.slot registers memory plan))
-  pub logged : new ≡ fold with_step old path
+  pub logged : Reports Logs old path new
 
-pub starts : {Log : Type 0} (with_step : Log → Visit → Log) (program : List Insn) (answers : Answers) (context : List ℕ) (memory : Memory) (old : Log) → HasRun with_step program answers context memory memory no_plan (record { slot = 0; index = 0 }) first_registers 0 old old
-starts with_step program answers context memory old = record {
+pub starts : {Log : Type 0} (Logs : Log → Visit → Log → Type 0) (program : List Insn) (answers : Answers) (context : List ℕ) (memory : Memory) (old : Log) → HasRun Logs program answers context memory memory no_plan (record { slot = 0; index = 0 }) first_registers 0 old old
+starts Logs program answers context memory old = record {
   is_at = at_start program;
   path = [];
   count = refl;
@@ -61,9 +62,9 @@ abbrev turned_to : Environment → List Insn → Memory → Plan → ℕ → Lis
 turned_to w program memory plan slot registers steps path more r =
     after (path ++ more) (onwards (state_at slot registers memory plan) r (λ next. run w program (length program - steps) next))
 
-fold-push : {T X : Type 0} (f : T → X → T) (a : T) (xs : List X) (x : X) → fold f a (xs ++ x ∷ []) ≡ f (fold f a xs) x
-fold-push f a [] x = refl
-fold-push f a (y ∷ xs) x = fold-push f (f a y) xs x
+reports-push : {Log : Type 0} (Logs : Log → Visit → Log → Type 0) (old new last : Log) (path : List Visit) (v : Visit) → Reports Logs old path new → Logs new v last → Reports Logs old (path ++ v ∷ []) last
+reports-push Logs old new last [] v same logs = (last, subst (λ t. Logs t v last) (sym same) logs, refl)
+reports-push Logs old new last (u ∷ path) v reports logs = (reports.0, reports.1, reports-push Logs reports.0 new last path v reports.2 logs)
 
 end_count : (path : List Visit) (v : Visit) (steps : ℕ) → length path ≡ steps → length ((path ++ v ∷ []) ++ []) ≡ steps + 1
 end_count path v steps e = omega (arith, length-append (path ++ v ∷ []) [], length-append path (v ∷ []))
@@ -73,7 +74,7 @@ abbrev StepsTo : List Insn → Answers → List ℕ → ℕ → ℕ → List Val
 StepsTo program answers context size slot registers memory plan i registers' memory' plan' result =
     (c : Context) → IsRecordOf context size c → result_of slot registers' memory' plan' result ≡ applied (around c answers) program (state_at slot registers memory plan) i (effect c memory registers i)
 
-module _ {Log : Type 0} (with_step : Log → Visit → Log) (program : List Insn) (answers : Answers) (context : List ℕ) (first memory : Memory) (plan : Plan) (at : Position) (registers : List Value) (steps : ℕ) (old new : Log) (has : HasRun with_step program answers context first memory plan at registers steps old new) where
+module _ {Log : Type 0} (Logs : Log → Visit → Log → Type 0) (program : List Insn) (answers : Answers) (context : List ℕ) (first memory : Memory) (plan : Plan) (at : Position) (registers : List Value) (steps : ℕ) (old new : Log) (has : HasRun Logs program answers context first memory plan at registers steps old new) where
   turned : (f : Fetched) → fetch program at.slot ≡ f → (c : Context) → IsRecordOf context first.length c
       → whole_run (around c answers) program first ≡ turned_to (around c answers) program memory plan at.slot registers steps has.path (visited at.slot f) (stepped (around c answers) program (state_at at.slot registers memory plan) f)
   turned f here c is =
@@ -92,13 +93,17 @@ module _ {Log : Type 0} (with_step : Log → Visit → Log) (program : List Insn
       turned (Begins i) here c is
       ∙ ap (λ (q : runs.StepResult). turned_to (around c answers) program memory plan at.slot registers steps has.path (visit at.slot i ∷ []) q) (sym (result c is))
 
-  logged_more : (last : Log) (v : Visit) → last ≡ with_step new v → last ≡ fold with_step old (has.path ++ v ∷ [])
-  logged_more last v e = e ∙ ap (λ t. with_step t v) has.logged ∙ sym (fold-push with_step old has.path v)
+  logged_more : (last : Log) (v : Visit) → Logs new v last → Reports Logs old (has.path ++ v ∷ []) last
+  logged_more last v logs = reports-push Logs old new last has.path v has.logged logs
+
+  -- the same steps, as the path of the whole run
+  logged_whole : (last : Log) (path : List Visit) (r : Run) → Reports Logs old path last → r.path ≡ path ++ [] → Reports Logs old r.path last
+  logged_whole last path r logs is = subst (λ (p : List Visit). Reports Logs old p last) (sym (append-nil path) ∙ sym is) logs
 
   -- the loop goes on
-  pub goes_on : (to : Position) (registers' : List Value) (memory' : Memory) (plan' : Plan) (last : Log) (i : Insn) → fetch program at.slot ≡ Begins i → last ≡ with_step new (visit at.slot i)
+  pub goes_on : (to : Position) (registers' : List Value) (memory' : Memory) (plan' : Plan) (last : Log) (i : Insn) → fetch program at.slot ≡ Begins i → Logs new (visit at.slot i) last
       → StepsTo program answers context first.length at.slot registers memory plan i registers' memory' plan' (code.Goes to) → GoesAhead program at to
-      → HasRun with_step program answers context first memory' plan' to registers' (steps + 1) old last
+      → HasRun Logs program answers context first memory' plan' to registers' (steps + 1) old last
   goes_on to registers' memory' plan' last i here logs result ahead = record {
     is_at = ahead.is_at;
     path = has.path ++ visit at.slot i ∷ [];
@@ -112,41 +117,41 @@ module _ {Log : Type 0} (with_step : Log → Visit → Log) (program : List Insn
 
   -- ---- the ends
 
-  pub over_at_exit : (registers' : List Value) (left : Memory) (plan' : Plan) (verdict : ℕ) (last : Log) (i : Insn) → fetch program at.slot ≡ Begins i → last ≡ with_step new (visit at.slot i)
+  pub over_at_exit : (registers' : List Value) (left : Memory) (plan' : Plan) (verdict : ℕ) (last : Log) (i : Insn) → fetch program at.slot ≡ Begins i → Logs new (visit at.slot i) last
       → StepsTo program answers context first.length at.slot registers memory plan i registers' left plan' (code.Exits verdict) → left ≡ memory → plan' ≡ plan
-      → IsWholeRun with_step program answers context first left plan' old last (Ok (record { verdict = verdict; steps = steps + 1 }))
+      → IsWholeRun Logs program answers context first left plan' old last (Ok (record { verdict = verdict; steps = steps + 1 }))
   over_at_exit registers' left plan' verdict last i here logs result kept planned =
       let whole = stepped_to i (code.Exits verdict) registers' left plan' here result in
       record {
         ending = λ c is. (ap (λ (r : Run). r.ending) (whole c is), ap (λ (r : Run). length r.path) (whole c is) ∙ end_count has.path (visit at.slot i) steps has.count);
         memory_is = λ c is. ap (λ (r : Run). r.state.memory) (whole c is) ∙ sym kept;
         plan_is = λ c is. ap (λ (r : Run). r.state.plan) (whole c is) ∙ sym planned;
-        logged = λ c is. logged_more last (visit at.slot i) logs ∙ ap (fold with_step old) (sym (append-nil (has.path ++ visit at.slot i ∷ []))) ∙ sym (ap (λ (r : Run). fold with_step old r.path) (whole c is));
+        logged = λ c is. logged_whole last (has.path ++ visit at.slot i ∷ []) (whole_run (around c answers) program first) (logged_more last (visit at.slot i) logs) (ap (λ (r : Run). r.path) (whole c is));
       }
 
   -- a run that is stuck behind a path
-  stuck_behind : (more : List Visit) (left : Memory) (plan' : Plan) (last : Log) (reason : Reason) (slot : ℕ) → left ≡ memory → plan' ≡ plan → last ≡ fold with_step old (has.path ++ more)
+  stuck_behind : (more : List Visit) (left : Memory) (plan' : Plan) (last : Log) (reason : Reason) (slot : ℕ) → left ≡ memory → plan' ≡ plan → Reports Logs old (has.path ++ more) last
       → ((c : Context) → IsRecordOf context first.length c → whole_run (around c answers) program first ≡ turned_to (around c answers) program memory plan at.slot registers steps has.path more (runs.Sticks reason slot))
-      → IsWholeRun with_step program answers context first left plan' old last (Err (record { reason = reason; slot = slot }))
+      → IsWholeRun Logs program answers context first left plan' old last (Err (record { reason = reason; slot = slot }))
   stuck_behind more left plan' last reason slot kept planned logs whole = record {
     ending = λ c is. ap (λ (r : Run). r.ending) (whole c is);
     memory_is = λ c is. ap (λ (r : Run). r.state.memory) (whole c is) ∙ sym kept;
     plan_is = λ c is. ap (λ (r : Run). r.state.plan) (whole c is) ∙ sym planned;
-    logged = λ c is. logs ∙ ap (fold with_step old) (sym (append-nil (has.path ++ more))) ∙ sym (ap (λ (r : Run). fold with_step old r.path) (whole c is));
+    logged = λ c is. logged_whole last (has.path ++ more) (whole_run (around c answers) program first) logs (ap (λ (r : Run). r.path) (whole c is));
   }
 
-  pub over_at_stuck : (registers' : List Value) (left : Memory) (plan' : Plan) (reason : Reason) (last : Log) (i : Insn) → fetch program at.slot ≡ Begins i → last ≡ with_step new (visit at.slot i)
+  pub over_at_stuck : (registers' : List Value) (left : Memory) (plan' : Plan) (reason : Reason) (last : Log) (i : Insn) → fetch program at.slot ≡ Begins i → Logs new (visit at.slot i) last
       → StepsTo program answers context first.length at.slot registers memory plan i registers' left plan' (code.Sticks reason) → left ≡ memory → plan' ≡ plan
-      → IsWholeRun with_step program answers context first left plan' old last (Err (record { reason = reason; slot = at.slot }))
+      → IsWholeRun Logs program answers context first left plan' old last (Err (record { reason = reason; slot = at.slot }))
   over_at_stuck registers' left plan' reason last i here logs result kept planned =
       stuck_behind (visit at.slot i ∷ []) left plan' last reason at.slot kept planned (logged_more last (visit at.slot i) logs) (stepped_to i (code.Sticks reason) registers' left plan' here result)
 
-  logged_here : new ≡ fold with_step old (has.path ++ [])
-  logged_here = has.logged ∙ ap (fold with_step old) (sym (append-nil has.path))
+  logged_here : Reports Logs old (has.path ++ []) new
+  logged_here = subst (λ (p : List Visit). Reports Logs old p new) (sym (append-nil has.path)) has.logged
 
   -- past the last instruction, and inside one, no step is reported
-  pub over_past : fetch program at.slot ≡ Past → IsWholeRun with_step program answers context first memory plan old new (Err (record { reason = FallsOffEnd; slot = last_slot program }))
+  pub over_past : fetch program at.slot ≡ Past → IsWholeRun Logs program answers context first memory plan old new (Err (record { reason = FallsOffEnd; slot = last_slot program }))
   over_past here = stuck_behind [] memory plan new FallsOffEnd (last_slot program) refl refl logged_here (turned Past here)
 
-  pub over_inside : fetch program at.slot ≡ Inside → IsWholeRun with_step program answers context first memory plan old new (Err (record { reason = JumpIntoWide; slot = at.slot }))
+  pub over_inside : fetch program at.slot ≡ Inside → IsWholeRun Logs program answers context first memory plan old new (Err (record { reason = JumpIntoWide; slot = at.slot }))
   over_inside here = stuck_behind [] memory plan new JumpIntoWide at.slot refl refl logged_here (turned Inside here)

@@ -80,15 +80,15 @@ frame_left f area plan r bytes behind planned =
     λ i. record f { area = whole i; is_started = false; window = sym window i }
 
 -- a run in the memory of a started frame is the frame's run
-pub frame_run : {Log : Type 0} (with_step : Log → Visit → Log) (program : List Insn) (answers : Answers) (f : Contents) (context : List ℕ) (stack stack' : List (Option ℕ)) (area : List ℕ) (plan : Plan) (old new : Log) (result : Result Exited Stuck)
+pub frame_run : {Log : Type 0} (Logs : Log → Visit → Log → Type 0) (program : List Insn) (answers : Answers) (f : Contents) (context : List ℕ) (stack stack' : List (Option ℕ)) (area : List ℕ) (plan : Plan) (old new : Log) (result : Result Exited Stuck)
     → HoldsDatagram f.area stack f.length true f.window → IsContext (context_of f.context) → context ≡ context_bytes (context_of f.context) f.length
-    → IsWholeRun with_step program answers context (memory_with stack (take (67 + f.length) f.area) f.length) (memory_with stack' (take (67 + f.length) area) f.length) plan old new result
+    → IsWholeRun Logs program answers context (memory_with stack (take (67 + f.length) f.area) f.length) (memory_with stack' (take (67 + f.length) area) f.length) plan old new result
     → drop (67 + f.length) area ≡ drop (67 + f.length) f.area
-    → RunsOver with_step answers program f (record f { area = area; is_started = false; window = plan.window }) plan old new result
-frame_run with_step program answers f context stack stack' area plan old new result frame real spelled walked behind =
+    → RunsOver Logs answers program f (record f { area = area; is_started = false; window = plan.window }) plan old new result
+frame_run Logs program answers f context stack stack' area plan old new result frame real spelled walked behind =
     let left : Memory = memory_with stack' (take (67 + f.length) area) f.length in
-    let whole : IsWholeRun with_step program answers context (start (datagram_of f)).memory left plan old new result =
-    subst (λ (m : Memory). IsWholeRun with_step program answers context m left plan old new result) (memory_is f.area stack f.length f.window frame) walked in
+    let whole : IsWholeRun Logs program answers context (start (datagram_of f)).memory left plan old new result =
+    subst (λ (m : Memory). IsWholeRun Logs program answers context m left plan old new result) (memory_is f.area stack f.length f.window frame) walked in
     let is : IsRecordOf context (length (datagram_of f)) (context_of f.context) = record {
       is_context = real;
       spelled = spelled ∙ ap (context_bytes (context_of f.context)) (sym (datagram_length f.area f.length frame.long frame.short));
@@ -101,10 +101,10 @@ frame_run with_step program answers f context stack stack' area plan old new res
     }
 
 -- the outcome of a run that exits, with its plan
-pub exits_with : {Log : Type 0} (with_step : Log → Visit → Log) (answers : Answers) (program : List Insn) (before after : Contents) (plan : Plan) (old new : Log) (exited : Exited) (destination : Option Addr)
-    → RunsOver with_step answers program before after plan old new (Ok exited) → destination ≡ option_map address_of plan.destination
-    → IsFrameRun with_step answers program before after old new (Ok (record { verdict = exited.verdict; steps = exited.steps; window = plan.window; destination = destination }))
-exits_with with_step answers program before after plan old new exited destination runs e = record {
+pub exits_with : {Log : Type 0} (Logs : Log → Visit → Log → Type 0) (answers : Answers) (program : List Insn) (before after : Contents) (plan : Plan) (old new : Log) (exited : Exited) (destination : Option Addr)
+    → RunsOver Logs answers program before after plan old new (Ok exited) → destination ≡ option_map address_of plan.destination
+    → IsFrameRun Logs answers program before after old new (Ok (record { verdict = exited.verdict; steps = exited.steps; window = plan.window; destination = destination }))
+exits_with Logs answers program before after plan old new exited destination runs e = record {
   ending = record {
     verdict = runs.ending.0;
     steps = runs.ending.1;
@@ -115,9 +115,9 @@ exits_with with_step answers program before after plan old new exited destinatio
   logged = runs.logged;
 }
 
-pub sticks_with : {Log : Type 0} (with_step : Log → Visit → Log) (answers : Answers) (program : List Insn) (before after : Contents) (plan : Plan) (old new : Log) (stuck : Stuck)
-    → RunsOver with_step answers program before after plan old new (Err stuck) → IsFrameRun with_step answers program before after old new (Err stuck)
-sticks_with with_step answers program before after plan old new stuck runs = record { ending = runs.ending; left = runs.left; logged = runs.logged }
+pub sticks_with : {Log : Type 0} (Logs : Log → Visit → Log → Type 0) (answers : Answers) (program : List Insn) (before after : Contents) (plan : Plan) (old new : Log) (stuck : Stuck)
+    → RunsOver Logs answers program before after plan old new (Err stuck) → IsFrameRun Logs answers program before after old new (Err stuck)
+sticks_with Logs answers program before after plan old new stuck runs = record { ending = runs.ending; left = runs.left; logged = runs.logged }
 
 -- a vector's items behind a slice of all of them
 pub written : {X : Type 0} (new old : List X) (len : ℕ) → length new ≡ len → take len (new ++ drop (length new) old) ≡ new
@@ -159,8 +159,8 @@ shows_left f after r long extent e =
     let window : option_map (window_of (left_by f r)) r.state.plan.window ≡ option_map (λ w. take w.1 (drop w.0 bytes)) r.state.plan.window = window_front size r.state.plan.window bytes rest extent.bytes extent.plan.window in
     subst (λ (g : Contents). Shows g size r) (sym e) (record { extent = extent; datagram = datagram; window = window })
 
-pub shows_run : {Log : Type 0} (with_step : Log → Visit → Log) (answers : Answers) (program : List Insn) (before after : Contents) (plan : Plan) (old new : Log) (result : Result Exited Stuck)
-    → length (datagram_of before) ≡ before.length → RunsOver with_step answers program before after plan old new result → Shows after (length (datagram_of before)) (run_of program before answers)
-shows_run with_step answers program before after plan old new result long runs =
+pub shows_run : {Log : Type 0} (Logs : Log → Visit → Log → Type 0) (answers : Answers) (program : List Insn) (before after : Contents) (plan : Plan) (old new : Log) (result : Result Exited Stuck)
+    → length (datagram_of before) ≡ before.length → RunsOver Logs answers program before after plan old new result → Shows after (length (datagram_of before)) (run_of program before answers)
+shows_run Logs answers program before after plan old new result long runs =
     let extent = run_extent (environment_of before answers) program (length (datagram_of before)) (length program + 1) (start (datagram_of before)) (start_extent (datagram_of before)) in
     shows_left before after (run_of program before answers) long extent runs.left

@@ -1,5 +1,5 @@
 -- Internal. A run from the first registers to its end, and the memory that it leaves.
-use Rattle.std.specs.Prelude.{◌≡◌, ℕ, ◌+◌, ◌<◌, ◌≤◌, List, length, fold, IfSome, Result, Ok, Err}
+use Rattle.std.specs.Prelude.{◌≡◌, ℕ, ◌+◌, ◌<◌, ◌≤◌, List, length, IfSome, Result, Ok, Err}
 use Rattle.insn.specs.declared.instruction.Insn.{Insn}
 use Rattle.semantics.specs.Machine.{Context, IsContext, Memory, State, Environment, context_bytes, first_registers, no_plan}
 use Rattle.semantics.specs.Calls.{IsWindow}
@@ -14,7 +14,7 @@ use Rattle.semantics.specs.declared.fetching.Visit.{Visit}
 use Rattle.semantics.specs.declared.fetching.Position.{Position}
 use Rattle.machine.specs.Contexts.{Answers, around}
 use Rattle.machine.specs.Contents.{Contents}
-use Rattle.machine.specs.Tracing.{run_of, left_by}
+use Rattle.machine.specs.Tracing.{run_of, left_by, Reports}
 use Rattle.machine.specs.declared.execution.StepResult.{StepResult}
 use Rattle.machine.specs.declared.execution.StepResult.TheVariants as code
 use Rattle.machine.specs.declared.execution.Exited.{Exited}
@@ -74,17 +74,17 @@ EndsAs (Ok exited) r = (r.ending ≡ runs.Exited exited.verdict) × (length r.pa
 EndsAs (Err stuck) r = r.ending ≡ runs.Stuck stuck.reason stuck.slot
 
 -- The code's run, where the program reads the context by these bytes and is given these answers: its end, the memory and
--- the plan that it leaves, and the log of a sink before and after it, where with_step adds a step to a log.
-pub record IsWholeRun {Log : Type 0} (with_step : Log → Visit → Log) (program : List Insn) (answers : Answers) (context : List ℕ) (memory left : Memory) (plan : Plan) (old new : Log) (result : Result Exited Stuck) : Type 0 where
+-- the plan that it leaves, and the log of a sink before and after it.
+pub record IsWholeRun {Log : Type 0} (Logs : Log → Visit → Log → Type 0) (program : List Insn) (answers : Answers) (context : List ℕ) (memory left : Memory) (plan : Plan) (old new : Log) (result : Result Exited Stuck) : Type 0 where
   pub ending : (c : Context) → IsRecordOf context memory.length c → EndsAs result (whole_run (around c answers) program memory)
   pub memory_is : (c : Context) → IsRecordOf context memory.length c → (whole_run (around c answers) program memory).state.memory ≡ left
   pub plan_is : (c : Context) → IsRecordOf context memory.length c → (whole_run (around c answers) program memory).state.plan ≡ plan
-  pub logged : (c : Context) → IsRecordOf context memory.length c → new ≡ fold with_step old (whole_run (around c answers) program memory).path
+  pub logged : (c : Context) → IsRecordOf context memory.length c → Reports Logs old (whole_run (around c answers) program memory).path new
 
 -- The code's run over a started frame, with the plan that it leaves: its end, the frame as the run leaves it, and the log of
--- a sink before and after it, where with_step adds a step to a log.
-pub record RunsOver {Log : Type 0} (with_step : Log → Visit → Log) (answers : Answers) (program : List Insn) (before after : Contents) (plan : Plan) (old new : Log) (result : Result Exited Stuck) : Type 0 where
+-- a sink before and after it.
+pub record RunsOver {Log : Type 0} (Logs : Log → Visit → Log → Type 0) (answers : Answers) (program : List Insn) (before after : Contents) (plan : Plan) (old new : Log) (result : Result Exited Stuck) : Type 0 where
   pub ending : EndsAs result (run_of program before answers)
   pub plan_is : (run_of program before answers).state.plan ≡ plan
   pub left : after ≡ left_by before (run_of program before answers)
-  pub logged : new ≡ fold with_step old (run_of program before answers).path
+  pub logged : Reports Logs old (run_of program before answers).path new

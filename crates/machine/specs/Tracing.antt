@@ -1,5 +1,5 @@
 -- Meaning. The runs over a frame, their outcomes, and the frame as they leave it.
-use Rattle.std.specs.Prelude.{◌≡◌, ℕ, ◌+◌, List, ◌++◌, length, drop, option_map, false, Result, Ok, Err, fold}
+use Rattle.std.specs.Prelude.{◌≡◌, ℕ, ◌+◌, List, [], ◌∷◌, ◌++◌, length, drop, option_map, false, Result, Ok, Err}
 use Rattle.insn.specs.declared.instruction.Insn.{Insn}
 use Rattle.semantics.specs.Machine.{Environment, start}
 use Rattle.semantics.specs.Runs as runs
@@ -48,13 +48,18 @@ pub record Shows (f : Contents) (size : ℕ) (r : Run) : Type 0 where
   pub datagram : datagram_of f ≡ part size HEADROOM r.state.memory.bytes
   pub window : option_map (window_of f) f.window ≡ option_map (λ w. part w.1 w.0 r.state.memory.bytes) r.state.plan.window
 
+-- a sink's logs before and after the steps of a path, which are reported to it in order
+abbrev pub Reports : {Log : Type 0} → (Log → Visit → Log → Type 0) → Log → List Visit → Log → Type 0
+Reports Logs old [] new = old ≡ new
+Reports {Log} Logs old (v ∷ path) new = (between : Log) × Logs old v between × Reports Logs between path new
+
 -- the end of the code's run over a frame is that of the definitions' run
 abbrev pub EndsWith : Result Outcome Stuck → Run → Type 0
 EndsWith (Ok o) r = IsOutcome o r
 EndsWith (Err stuck) r = r.ending ≡ runs.Stuck stuck.reason stuck.slot
 
 -- the same run, with the plan in its outcome
-pub record IsFrameRun {Log : Type 0} (with_step : Log → Visit → Log) (answers : Answers) (program : List Insn) (before after : Contents) (old new : Log) (result : Result Outcome Stuck) : Type 0 where
+pub record IsFrameRun {Log : Type 0} (Logs : Log → Visit → Log → Type 0) (answers : Answers) (program : List Insn) (before after : Contents) (old new : Log) (result : Result Outcome Stuck) : Type 0 where
   pub ending : EndsWith result (run_of program before answers)
   pub left : after ≡ left_by before (run_of program before answers)
-  pub logged : new ≡ fold with_step old (run_of program before answers).path
+  pub logged : Reports Logs old (run_of program before answers).path new

@@ -261,7 +261,7 @@ pub fn execute<H: Helpers, S: Sink>(
     requires surrounded { count bytes.old ≡ HEADROOM + given.now.length + TAILROOM }
     requires short { given.now.length ≤ MAX_DATAGRAM }
     requires planless { plan.old ≡ no_plan }
-    ensures run { IsWholeRun S.with_step given.now.code.now (H.answers given.now.helpers.now) given.now.context.now
+    ensures run { IsWholeRun S.Logs given.now.code.now (H.answers given.now.helpers.now) given.now.context.now
         (memory_with stack.old bytes.old given.now.length) (memory_with stack.new bytes.new given.now.length) plan.new
         (S.log sink.old) (S.log sink.new) result }
     ensures inside { IsInside given.now.length plan.new }

@@ -1,8 +1,12 @@
 //! The ends of a run.
 
+ghost use Rattle.std.specs.Prelude.{Some};
+ghost use Rattle.semantics.specs.Reasons.{reason_at};
+
 use attributes::Addr;
 use semantics::Reason;
-use thiserror::Error;
+use std::error::Error;
+use std::fmt;
 
 /// The outcome of a run that exits.
 #[derive(Clone, Copy, Debug, PartialEq, Eq)]
@@ -18,9 +22,19 @@ pub struct Outcome {
 }
 
 /// A stuck step: its reason and its slot. It prints both, as `V10 at 5`.
-#[derive(Clone, Copy, Debug, PartialEq, Eq, Error)]
-#[error("{reason} at {slot}")]
+#[derive(Clone, Copy, Debug, PartialEq, Eq)]
 pub struct Stuck {
     pub reason: Reason,
     pub slot: usize,
 }
+
+impl fmt::Display for Stuck {
+    ghost output = { λ s. Some (reason_at s.reason s.slot) };
+
+    fn fmt<W: fmt::Write>(&self, f: &mut fmt::Formatter<W>) -> fmt::Result {
+        let Stuck { reason, slot } = self;
+        write!(f, "{reason} at {slot}")
+    }
+}
+
+impl Error for Stuck {}

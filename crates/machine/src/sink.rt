@@ -1,6 +1,5 @@
 //! The sinks that the steps of a trace are reported to.
 
-ghost use Rattle.std.specs.Prelude.{◌≡◌};
 ghost use Rattle.semantics.specs.declared.fetching.Visit.{Visit};
 
 use insn::Insn;
@@ -17,12 +16,12 @@ pub trait Sink {
 
     ghost log: { Self → Log };
 
-    /// The log with one more step.
-    ghost with_step: { Log → Visit → Log };
+    /// The logs before and after one more step.
+    ghost Logs: { Log → Visit → Log → Type 0 };
 
     /// Receives one step: its slot, and the instruction that begins there.
     fn step(&mut self, slot: usize, insn: &Insn)
-        ensures { log self.new ≡ with_step (log self.old) (record { slot = slot; insn = insn.now }) };
+        ensures { Logs (log self.old) (record { slot = slot; insn = insn.now }) (log self.new) };
 }
 
 /// A sink that ignores each step.
@@ -34,7 +33,7 @@ impl Sink for Silent {
 
     ghost log = { λ s. tt };
 
-    ghost with_step = { λ t v. tt };
+    ghost Logs = { λ old v new. Unit {0} };
 
     fn step(&mut self, _slot: usize, _insn: &Insn) {}
 }
@@ -84,7 +83,7 @@ impl Kept {
 }
 
 impl Sink for Kept {
-    ghost use Rattle.std.specs.Prelude.{List};
+    ghost use Rattle.std.specs.Prelude.{◌≡◌, List};
     ghost use Rattle.semantics.specs.declared.fetching.Visit.{Visit};
     ghost use Rattle.machine.specs.Keeping.{kept_more};
 
@@ -92,7 +91,7 @@ impl Sink for Kept {
 
     ghost log = { λ k. k };
 
-    ghost with_step = { kept_more };
+    ghost Logs = { λ old v new. new ≡ kept_more old v };
 
     fn step(&mut self, slot: usize, insn: &Insn) {
         if self.visits.len() < KEPT {
@@ -104,25 +103,19 @@ impl Sink for Kept {
 /// A sink that writes each step as a line: the slot and the instruction. It keeps the first fault of its writer, and
 /// writes nothing more after it.
 #[derive(Drop)]
-pub struct Lines<W: Write> {
-    writer: W,
+pub struct Lines<'a, W: Write> {
+    writer: &'a mut W,
     fault: Option<io::Error>,
 }
 
-impl<W: Write> Model for Lines<W> {
-    ghost use Rattle.machine.specs.Lines.{Written};
-
-    ghost Value = { Written };
-
-    ghost view = { λ l. record { contents = W.contents l.writer; fault = l.fault } };
-}
-
-impl<W: Write> Lines<W> {
+impl<'a, W: Write> Lines<'a, W> {
     ghost use Rattle.std.specs.Prelude.{◌≡◌, Some, None, MatchResult};
 
     /// Returns a sink that writes to `writer`, without a fault.
-    pub fn new(writer: W) -> Lines<W>
-        ensures { result ≡ record { contents = W.contents writer; fault = None } }
+    pub fn new(writer: &'a mut W) -> Lines<'a, W>
+        ensures same_writer { result.writer.ghost_name ≡ writer.entry.ghost_name }
+        ensures writer { result.writer.now ≡ writer.old }
+        ensures fault { result.fault ≡ None }
     {
         Lines {
             writer,
@@ -130,40 +123,36 @@ impl<W: Write> Lines<W> {
         }
     }
 
-    /// Returns the writer.
+    /// Ends the writing of lines.
     ///
     /// # Errors
     /// The first fault that the writer had.
-    pub fn finish(self) -> io::Result<W>
-    where
-        W: Drop,
-        ensures { MatchResult result (λ w. self ≡ record { contents = W.contents w; fault = None })
-            (λ e. self.fault ≡ Some e) }
+    pub fn finish(self) -> io::Result<()>
+        ensures fault { MatchResult result (λ _. self.entry.fault ≡ None) (λ e. self.entry.fault ≡ Some e) }
+        ensures left { self.exit.0.now ≡ self.entry.writer.now }
     {
-        let Lines { writer, fault } = self;
+        let Lines { fault, .. } = self;
         match fault {
-            None => Ok(writer),
+            None => Ok(()),
             Some(fault) => Err(fault),
         }
     }
 }
 
-impl<W: Write> Sink for Lines<W> {
-    ghost use Rattle.std.specs.Prelude.{◌≡◌, None, Option, is_some, true};
-    ghost use Rattle.std.specs.Io.KnownBytes.{Appends};
-    ghost use Rattle.machine.specs.Lines.{step_line};
+impl<W: Write> Sink for Lines<'_, W> {
+    ghost use Rattle.machine.specs.Lines.{Written, WritesLine};
 
-    ghost Log = { Unit {0} };
+    ghost Log = { Written };
 
-    ghost log = { λ s. tt };
+    ghost log = { λ l. record {
+      writer = l.writer.ghost_name;
+      contents = W.contents l.writer.now;
+      fault = l.fault;
+    } };
 
-    ghost with_step = { λ t v. tt };
+    ghost Logs = { WritesLine };
 
-    fn step(&mut self, slot: usize, insn: &Insn)
-        ensures written { self.new.fault ≡ None
-            → Appends self.old.contents self.new.contents (step_line slot insn.now) }
-        ensures after_a_fault { is_some self.old.fault ≡ true → self.new ≡ self.old }
-    {
+    fn step(&mut self, slot: usize, insn: &Insn) {
         if self.fault.is_none() {
             self.fault = writeln!(self.writer, "{slot} {insn}").err();
         }

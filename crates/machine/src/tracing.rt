@@ -1,6 +1,6 @@
 //! The tagged runs of programs over a frame.
 
-ghost use Rattle.std.specs.Prelude.{◌≡◌, ◌≤◌, ◌+◌, true, fold, take, drop, option_map, IfOk, IfErr};
+ghost use Rattle.std.specs.Prelude.{◌≡◌, ◌≤◌, ◌+◌, true, take, drop, option_map, IfOk, IfErr};
 ghost use Rattle.std.specs.Prelude.{length as count};
 ghost use Rattle.insn.specs.Encoding.{slot_count};
 ghost use Rattle.insn.specs.declared.decoding.TheConstants.{MAX_SLOTS};
@@ -13,7 +13,7 @@ ghost use Rattle.machine.specs.Contents.{datagram_of};
 ghost use Rattle.helpers.specs.Records.{address_of};
 ghost use Rattle.machine.specs.Contexts.{context_of};
 ghost use Rattle.machine.specs.Execution.{IsInside, IsContextRecord, IsWholeRun, RunsOver};
-ghost use Rattle.machine.specs.Tracing.{run_of, IsOutcome, left_by, IsFrameRun, Shows};
+ghost use Rattle.machine.specs.Tracing.{run_of, IsOutcome, left_by, IsFrameRun, Reports, Shows};
 
 use crate::context::context_record;
 use crate::execution::{Environment, Exited, execute};
@@ -50,7 +50,7 @@ fn execute_in<H: Helpers, S: Sink>(
     requires short { given.now.length ≤ MAX_DATAGRAM }
     requires planless { plan.old ≡ no_plan }
     ensures run { let size = HEADROOM + TAILROOM + given.now.length in
-        IsWholeRun S.with_step given.now.code.now (H.answers given.now.helpers.now) given.now.context.now
+        IsWholeRun S.Logs given.now.code.now (H.answers given.now.helpers.now) given.now.context.now
         (memory_with stack.old (take size area.old) given.now.length)
         (memory_with stack.new (take size area.new) given.now.length)
         plan.new (S.log sink.old) (S.log sink.new) result }
@@ -79,7 +79,7 @@ fn run_frame<H: Helpers, S: Sink>(
     ensures datagram { IsDatagram (datagram_of frame.old) }
     ensures length { count (datagram_of frame.old) ≡ frame.old.length }
     ensures context { IsContext (context_of frame.old.context) }
-    ensures run { RunsOver S.with_step (H.answers helpers.now) code.now frame.old frame.new plan.new
+    ensures run { RunsOver S.Logs (H.answers helpers.now) code.now frame.old frame.new plan.new
         (S.log sink.old) (S.log sink.new) result }
 {
     let length = frame.datagram().len();
@@ -118,7 +118,7 @@ pub(crate) fn execute_frame<H: Helpers, S: Sink>(
     requires started { frame.old.is_started ≡ true }
     ensures datagram { IsDatagram (datagram_of frame.old) }
     ensures context { IsContext (context_of frame.old.context) }
-    ensures run { IsFrameRun S.with_step (H.answers helpers.now) code.now frame.old frame.new
+    ensures run { IsFrameRun S.Logs (H.answers helpers.now) code.now frame.old frame.new
         (S.log sink.old) (S.log sink.new) result }
     ensures shows { Shows frame.new (count (datagram_of frame.old))
         (run_of code.now frame.old (H.answers helpers.now)) }
@@ -155,8 +155,8 @@ pub fn trace<H: Helpers, S: Sink>(
     ensures left { frame.new ≡ left_by frame.old (run_of code.now frame.old (H.answers helpers.now)) }
     ensures shows { Shows frame.new (count (datagram_of frame.old))
         (run_of code.now frame.old (H.answers helpers.now)) }
-    ensures reported { S.log sink.new
-        ≡ fold S.with_step (S.log sink.old) (run_of code.now frame.old (H.answers helpers.now)).path }
+    ensures reported { Reports S.Logs (S.log sink.old) (run_of code.now frame.old (H.answers helpers.now)).path
+        (S.log sink.new) }
 {
     execute_frame(code, frame, helpers, sink)
 }

@@ -43,17 +43,18 @@ pub fn reported<R: AllocGlobal>(rt: &R, ask: Ask<'_>, file: &[u8]) -> Printed {
     Printed { status, out, err }
 }
 
-/// Compares what a report prints to each stream, and its status.
+/// Compares what the report of a row prints to each stream, and its status.
 pub fn expect_printed<R: Abort + AllocGlobal>(
     rt: &R,
+    row: &str,
     report: &Printed,
     out: &str,
     err: &str,
     status: u8,
 ) {
-    assert_eq!(rt; report.out.as_slice(), out.as_bytes(), "{out}{err}");
-    assert_eq!(rt; report.err.as_slice(), err.as_bytes(), "{out}{err}");
-    assert_eq!(rt; report.status, status, "{out}{err}");
+    assert_eq!(rt; report.out.as_slice(), out.as_bytes(), "{row}");
+    assert_eq!(rt; report.err.as_slice(), err.as_bytes(), "{row}");
+    assert_eq!(rt; report.status, status, "{row}");
 }
 
 /// A program file and data, what `trace` prints of them in the end, and the status.
@@ -65,31 +66,55 @@ pub struct Traced {
     pub status: u8,
 }
 
-/// Traces each row, and compares the end of what is printed, and the status.
-pub fn expect_ends<R: Abort + AllocGlobal>(rt: &R, rows: &[Traced]) -> Result<(), Fail> {
-    for row in rows {
+/// Traces each row of a table, and compares the end of what is printed, and the status.
+pub fn expect_ends<R: Abort + AllocGlobal>(
+    rt: &R,
+    table: &str,
+    rows: &[Traced],
+) -> Result<(), Fail> {
+    for (i, row) in rows.iter().enumerate() {
         let file = program(rt, row.slots)?;
         let (slots, end) = (row.slots, row.end);
         let report = reported(rt, Ask::Trace { hex: Some(row.hex) }, &file);
-        assert!(rt; report.out.ends_with(end.as_bytes()), "{slots} {end}");
-        assert_eq!(rt; report.status, row.status, "{slots} {end}");
-        assert_eq!(rt; report.err.len(), 0, "{slots} {end}");
+        let ends = report.out.ends_with(end.as_bytes());
+        assert!(rt; ends, "{table} {i}: {slots} {end}");
+        assert_eq!(rt; report.status, row.status, "{table} {i}: {slots} {end}");
+        assert_eq!(rt; report.err.len(), 0, "{table} {i}: {slots} {end}");
     }
     Ok(())
 }
 
-/// Verifies and traces programs, each of which has a fault: it is refused for it, and its trace over the empty datagram
-/// is stuck there. Compares what is printed of the fault, and the status.
-pub fn expect_faults<R: Abort + AllocGlobal>(rt: &R, rows: &[(&str, &str)]) -> Result<(), Fail> {
-    for &(slots, fault) in rows {
+/// Traces programs, and compares what is printed of their verdicts.
+pub fn expect_exits<R: Abort + AllocGlobal>(rt: &R, rows: &[(&str, &str)]) -> Result<(), Fail> {
+    for (i, &(slots, exit)) in rows.iter().enumerate() {
+        let file = program(rt, slots)?;
+        let report = reported(rt, Ask::Trace { hex: None }, &file);
+        let end = format!(in rt.alloc(); "{exit}\nwindow none\ndestination none\n")?;
+        let ends = report.out.ends_with(end.as_bytes());
+        assert!(rt; ends, "{i}: {slots} {exit}");
+        assert_eq!(rt; report.status, 0, "{i}: {slots} {exit}");
+    }
+    Ok(())
+}
+
+/// Verifies and traces the programs of a table, each of which has a fault: it is refused for it, and its trace over the
+/// empty datagram is stuck there. Compares what is printed of the fault, and the status.
+pub fn expect_faults<R: Abort + AllocGlobal>(
+    rt: &R,
+    table: &str,
+    rows: &[(&str, &str)],
+) -> Result<(), Fail> {
+    for (i, &(slots, fault)) in rows.iter().enumerate() {
         let file = program(rt, slots)?;
         let refused = format!(in rt.alloc(); "refused {fault}\n")?;
-        expect_printed(rt, &reported(rt, Ask::Verify, &file), &refused, "", 1);
+        let row = format!(in rt.alloc(); "{table} {i}: {slots}")?;
+        expect_printed(rt, &row, &reported(rt, Ask::Verify, &file), &refused, "", 1);
         let stuck = format!(in rt.alloc(); "\nstuck {fault}\n")?;
         let report = reported(rt, Ask::Trace { hex: None }, &file);
-        assert!(rt; report.out.ends_with(stuck.as_bytes()), "{slots} {fault}");
-        assert_eq!(rt; report.status, 1, "{slots} {fault}");
-        assert_eq!(rt; report.err.len(), 0, "{slots} {fault}");
+        let is_stuck = report.out.ends_with(stuck.as_bytes());
+        assert!(rt; is_stuck, "{row} {fault}");
+        assert_eq!(rt; report.status, 1, "{row} {fault}");
+        assert_eq!(rt; report.err.len(), 0, "{row} {fault}");
     }
     Ok(())
 }

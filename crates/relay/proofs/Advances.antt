@@ -1,27 +1,25 @@
 -- A datagram of a source that is served: what its run decides is the outcome of the system with programs.
-use Rattle.std.proofs.Common.{◌≡◌, ◌≢◌, ℕ, List, length, Bool, true, false, refl, sym, ap, subst, ◌∙◌}
-use Rattle.std.specs.Prelude.{◌==◌, ◌&&◌, Option, None, Some, if◌then◌else◌}
+use Rattle.std.proofs.Common.{◌≡◌, ℕ, length, Bool, true, false, refl, sym, ap, subst, ◌∙◌}
+use Rattle.std.specs.Prelude.{◌==◌, ◌&&◌, None, if◌then◌else◌}
 use Rattle.std.proofs.lemmas.Bool.{cond-true, cond-false, and_parts}
-use Rattle.semantics.specs.Runs.{Run, Ending, Exited}
+use Rattle.semantics.specs.Runs.{Run, Ending}
 use Rattle.attributes.specs.declared.address.Addr.{Addr}
 use Rattle.control.specs.declared.config.Config.{Config}
 use Rattle.machine.specs.declared.outcome.Outcome.{Outcome}
 use Rattle.tables.specs.Addresses.{is_ipv4}
 use Rattle.tables.specs.Moments.{moment_of}
-use Rattle.tables.specs.Rows.{Rows, rows_at}
-use Rattle.events.specs.Events.{Sending}
+use Rattle.tables.specs.Rows.{rows_at}
 use Rattle.events.specs.declared.meta.Meta.{Meta}
 use Rattle.events.specs.declared.meta.Source.{Source}
 use Rattle.events.specs.declared.meta.Source.TheVariants.{Client, Peer}
-use Rattle.programs.specs.Runs.{planned, sent_by, datagram_in, destination_in, window_in}
+use Rattle.programs.specs.Runs.{planned, datagram_in, destination_in, window_in}
 use Rattle.programs.specs.declared.verdict.TheConstants.{PASSES, SENDS}
 use Rattle.relay.specs.ByPrograms.{by_programs, by_run, by_ending, by_verdict, is_there}
 use Rattle.relay.specs.ByRules.{from_client}
-use Rattle.relay.specs.Found.{HasRun, run_at, passed_on, window_shown, lent}
+use Rattle.relay.specs.Found.{HasRun, run_at, passed_on, window_shown}
 use Rattle.relay.specs.Relays.{Contents, state_of, datagram_at}
 use Rattle.relay.specs.Steps.{HasStepped, outcome_of}
 use Rattle.relay.specs.Systems.{Reply, silent, relayed, stepped_at, if_ipv4, with_nonce, address_of_source}
-use Rattle.relay.specs.Systems as systems
 use Rattle.relay.proofs.SameNonce.{from_client_same}
 
 module _ (old : Contents) (given : Meta) (n moment : ℕ) where

@@ -1,29 +1,28 @@
 -- What `respond` promises is the answer of the rules.
-use Rattle.std.proofs.Common.{◌≡◌, ◌≢◌, ℕ, ◌<◌, ◌≤◌, length, take, arith, length-take-le, ◌⊎◌, Bool, true, false, List, [], ◌∷◌, refl, sym, ap, subst, ◌∙◌, inl, inr, eqb-true, eq-eqb}
+use Rattle.std.proofs.Common.{◌≡◌, ◌≢◌, ℕ, ◌<◌, ◌≤◌, length, take, arith, length-take-le, ◌⊎◌, true, false, List, [], ◌∷◌, refl, sym, ap, subst, ◌∙◌, inl, inr, eqb-true, eq-eqb}
 use Rattle.std.specs.Prelude.{◌==◌, Option, None, Some, Result, string_bytes}
 use Rattle.std.proofs.lemmas.Bool.{cases_Bool, cond-true, cond-false, both_ways}
 use Rattle.std.proofs.lemmas.Option.{same_Some}
 use Rattle.stun.specs.Datagrams.{message_in}
-use Rattle.stun.specs.Messages.{Parts, parts_bytes}
+use Rattle.stun.specs.Messages.{Parts}
 use Rattle.stun.specs.declared.registry.Class.TheVariants as class
 use Rattle.attributes.specs.declared.address.Addr.{Addr}
 use Rattle.credentials.specs.Checks.{Accounts, accounts_of, IsChecked}
 use Rattle.credentials.specs.Results.{checked}
 use Rattle.credentials.specs.declared.checking.AuthError.{AuthError}
 use Rattle.control.specs.Control.{Decision, decision, binding}
-use Rattle.control.specs.Replies.{kind_of, reply_to}
-use Rattle.control.specs.Responding.{Responds, Answers, IsSilent, IsAnswer, IsCheckedAnswer, key_for}
+use Rattle.control.specs.Replies.{kind_of}
+use Rattle.control.specs.Responding.{Responds, Answers, IsSilent, IsAnswer, key_for}
 use Rattle.tables.specs.Addresses.{is_ipv4}
 use Rattle.control.specs.declared.config.Config.{Config}
 use Rattle.control.specs.declared.request.Request.{Request}
 use Rattle.control.specs.declared.request.Request.TheVariants as request
-use Rattle.control.specs.declared.request.TurnRequest.{TurnRequest}
 use Rattle.control.specs.declared.request.TurnRequest.TheVariants as turn
 use Rattle.tables.specs.Rows.{Rows, rows_at}
 use Rattle.programs.specs.FastPart.{begins_as_stun}
 use Rattle.programs.specs.Rules.{send_indication, send_from, channel_data_from}
-use Rattle.events.specs.Events.{Sending, ToClient}
-use Rattle.relay.specs.ByRules.{requests, request_among, request_of, check_of, decided, reply_with, answered, control, message, from_client}
+use Rattle.events.specs.Events.{ToClient}
+use Rattle.relay.specs.ByRules.{requests, request_among, request_of, decided, reply_with, answered, control, message, from_client}
 use Rattle.relay.specs.Found.{reply_sent}
 use Rattle.relay.specs.Systems.{Reply, silent, relayed}
 

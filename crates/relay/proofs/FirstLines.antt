@@ -1,6 +1,6 @@
 -- The first line of some bytes, and what follows it.
-use Rattle.std.proofs.Common.{◌≡◌, ◌≢◌, ℕ, ◌-◌, ◌<◌, ◌⊎◌, eqb, Bool, true, false, cond, List, [], ◌∷◌, ◌++◌, All, length, length-append, take, refl, sym, ap, ◌∙◌, inl, inr, arith, subst, append-nil, eqb-true, eq-eqb}
-use Rattle.std.specs.Prelude.{nat_lt, ◌&&◌, ◌==◌, slice_index}
+use Rattle.std.proofs.Common.{◌≡◌, ◌≢◌, ℕ, ◌-◌, ◌⊎◌, eqb, true, false, List, [], ◌∷◌, ◌++◌, All, length, length-append, take, refl, sym, ap, ◌∙◌, inl, inr, arith, subst, append-nil, eqb-true, eq-eqb}
+use Rattle.std.specs.Prelude.{nat_lt, ◌==◌, slice_index}
 use Rattle.std.proofs.lemmas.Bool.{cases_Bool, cond-true, cond-false, and_parts, and_from, lt-ltb, ltb-true, both_ways}
 use Rattle.std.proofs.lemmas.List.{take_at, get_or_push}
 use Rattle.std.proofs.lemmas.List.Elements.{All-nil, All-cons, All-get_or}

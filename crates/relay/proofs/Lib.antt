@@ -2,8 +2,13 @@ mod Advances
 mod Controls
 mod FirstLines
 mod Frames
+mod KeptRows
+mod LineLengths
 mod PassedOn
 mod Played
 mod Plays
+mod ReadLines
 mod SameNonce
+mod ShippedRules
+mod ShippedRuns
 mod WrittenBytes

@@ -1,6 +1,6 @@
 -- A client's datagram that was passed on, and is a message that is answered.
-use Rattle.std.proofs.Common.{◌≡◌, ℕ, ◌≤◌, List, length, take, Bool, true, false, sym, ap, ◌∙◌, arith}
-use Rattle.std.specs.Prelude.{◌==◌, Option, Some}
+use Rattle.std.proofs.Common.{◌≡◌, ℕ, ◌≤◌, List, length, take, true, false, sym, ap, ◌∙◌, arith}
+use Rattle.std.specs.Prelude.{◌==◌, Some}
 use Rattle.stun.specs.Datagrams.{message_in}
 use Rattle.stun.specs.Messages.{Parts}
 use Rattle.attributes.specs.declared.address.Addr.{Addr}

@@ -1,5 +1,5 @@
 -- One more event that was read, and answered.
-use Rattle.std.proofs.Common.{◌≡◌, ◌≢◌, ℕ, suc, ◌+◌, ◌<◌, ◌^◌, ◌⊎◌, Bool, true, false, List, [], ◌∷◌, ◌++◌, All, length, length-append, take, refl, sym, ap, ◌∙◌, inl, inr, arith, subst, append_assoc, append-nil}
+use Rattle.std.proofs.Common.{◌≡◌, ◌≢◌, ℕ, suc, ◌+◌, ◌<◌, ◌≤◌, ◌^◌, ◌⊎◌, true, false, List, [], ◌∷◌, ◌++◌, length, length-append, take, refl, sym, ap, ◌∙◌, inl, inr, arith, subst, append_assoc, append-nil}
 use Rattle.std.specs.Prelude.{Option, None, Some, IfSome, Result, Ok, Err, OnErr, is_some}
 use Rattle.std.proofs.lemmas.List.Elements.{All-nil, All-push}
 use Rattle.std.proofs.lemmas.Option.{same_Some, none-some}
@@ -12,10 +12,13 @@ use Rattle.events.specs.Events.{Event, Datagram, Nonce}
 use Rattle.events.specs.Lines.{line_of, answer_line, IsEvent}
 use Rattle.events.specs.Reading.{event_in}
 use Rattle.events.specs.ReadingLaws.{event_in-line_of, event_in-is}
+use Rattle.relay.specs.ReadLines.{IsLine}
 use Rattle.relay.specs.Relays.{Contents, state_of}
-use Rattle.relay.specs.Replays.{text_of, IsText, answer_text, answers_text, after_line, answer_to, system_of, IsSameRelay, HasPlayed, answers_of, HasPlayedAll, StopsAtLine, StopsShort}
-use Rattle.relay.specs.Systems.{State, System, Outcome, step, after, with_nonce}
+use Rattle.relay.specs.Replays.{text_of, IsText, answer_text, answers_text, after_line, answer_to, system_of, IsSameRelay, HasPlayed, HasPlayedAll, answers_of, StopsAtLine, StopsShort}
+use Rattle.relay.specs.Systems.{State, System, Outcome, step, after}
+use Rattle.relay.specs.declared.reading.TheConstants.{MAX_LINE}
 use Rattle.relay.proofs.FirstLines.{taken}
+use Rattle.relay.proofs.LineLengths.{line_short}
 
 -- ---- one event more
 
@@ -121,6 +124,17 @@ pub none_value : (o : Option Event) → is_some o ≡ false → o ≡ None
 none_value None h = refl
 none_value (Some e) h = absurd cc
 
+-- all events were read
+pub ends : (count : ℕ) (read left left' : Option (List ℕ)) (old now : Contents) (held holds : Option (List ℕ)) → IsUnderWay count read left old now held holds
+    → IsAtEnd left → DropsThrough left left' 10 → HasPlayedAll read left' old now held holds
+ends count read left left' old now held holds so_far ended drops = record {
+  events = so_far.events;
+  played = so_far.played;
+  is_text = all_read read left so_far.events so_far.has_read ended;
+  at_end = left_at_end read left left' so_far.events so_far.has_read ended drops;
+  written = so_far.written;
+}
+
 module _ (count : ℕ) (read left : Option (List ℕ)) (old now : Contents) (held holds : Option (List ℕ)) (so_far : IsUnderWay count read left old now held holds) where
   -- what one more event makes
   played_more : (new : Contents) (e : Event) → IsEvent old.config.slots e → state_of new ≡ (step (system_of now) now.config (state_of now) e).state → IsSameRelay now new → HasPlayed (so_far.events ++ e ∷ []) old new
@@ -141,8 +155,21 @@ module _ (count : ℕ) (read left : Option (List ℕ)) (old now : Contents) (hel
   slots_same = ap (λ (c : Config). c.slots) so_far.played.same.config
 
   -- the event of the line that was read
-  module _ (left' : Option (List ℕ)) (line : List ℕ) (new : Contents) (more : IfSome left (λ xs. (xs ≢ []) × (line ≡ first_piece 10 xs))) (drops : DropsThrough left left' 10)
+  module _ (left' : Option (List ℕ)) (line : List ℕ) (new : Contents) (few : now.config.slots < 2 ^ 64)
+      (more : IfSome left (λ xs. (xs ≢ []) × IsLine line xs)) (drops : length line ≤ MAX_LINE → DropsThrough left left' 10)
       (stepped : state_of new ≡ after_line (system_of now) now.config (state_of now) (event_in now.config.slots line)) (same : IsSameRelay now new) where
+    -- a line that is an event's was read whole
+    short : (e : Event) → event_in now.config.slots line ≡ Some e → length line ≤ MAX_LINE
+    short e found =
+        let is = event_in-is now.config.slots line e found in
+        omega (arith, ap length is.1, line_short now.config.slots e few is.0)
+
+    whole_line : (e : Event) → event_in now.config.slots line ≡ Some e → IfSome left (λ xs. (xs ≢ []) × (line ≡ first_piece 10 xs))
+    whole_line e found = of left more where
+      of : (a : Option (List ℕ)) → IfSome a (λ xs. (xs ≢ []) × IsLine line xs) → IfSome a (λ xs. (xs ≢ []) × (line ≡ first_piece 10 xs))
+      of None h = tt
+      of (Some xs) h = (h.0, elim h.1 [ inl same ↦ same | inr long ↦ absurd (omega (arith, short e found, long.0)) ])
+
     pub goes_on : (holds' : Option (List ℕ)) (out : List ℕ) → is_some (event_in now.config.slots line) ≡ true
         → out ≡ answer_to (system_of now) now.config (state_of now) (event_in now.config.slots line) → Appends holds holds' out
         → IsUnderWay (count + 1) read left' old new held holds'
@@ -157,7 +184,7 @@ module _ (count : ℕ) (read left : Option (List ℕ)) (old now : Contents) (hel
           events = so_far.events ++ e ∷ [];
           number = omega (arith, length-append so_far.events (e ∷ []), so_far.number);
           played = played_more new e event (stepped ∙ ap (after_line (system_of now) now.config (state_of now)) found.1) same;
-          has_read = read_more read left left' so_far.events line e so_far.has_read more drops is.1;
+          has_read = read_more read left left' so_far.events line e so_far.has_read (whole_line e found.1) (drops (short e found.1)) is.1;
           written = subst (Appends held holds') (sym (answers-push (system_of old) old.config (state_of old) so_far.events e))
               (Appends-trans held holds holds' (answers_of old so_far.events) _ so_far.written (subst (Appends holds holds') text wrote));
         }
@@ -170,17 +197,23 @@ module _ (count : ℕ) (read left : Option (List ℕ)) (old now : Contents) (hel
       same = trans_same old now new so_far.played.same same;
     }
 
-    not_the_end : (a b : Option (List ℕ)) (events : List Event) → HasRead events a b → IfSome b (λ xs. (xs ≢ []) × (line ≡ first_piece 10 xs))
+    differs : (xs : List ℕ) → IsLine line xs → ((e : Event) → IsEvent old.config.slots e → line ≢ line_of e)
+        → (e : Event) → IsEvent old.config.slots e → first_piece 10 xs ≢ line_of e
+    differs xs (inl same) bad e is is_line = bad e is (same ∙ is_line)
+    differs xs (inr long) bad e is is_line =
+        absurd (omega (arith, long.0, length-append line long.1.0, ap length (sym long.1.1 ∙ is_line), line_short old.config.slots e (subst (λ (n : ℕ). n < 2 ^ 64) slots_same few) is))
+
+    not_the_end : (a b : Option (List ℕ)) (events : List Event) → HasRead events a b → IfSome b (λ xs. (xs ≢ []) × IsLine line xs)
         → ((e : Event) → IsEvent old.config.slots e → line ≢ line_of e)
         → IfSome a (λ text. (rest : List ℕ) × (text ≡ text_of events ++ rest) × (rest ≢ []) × ((e : Event) → IsEvent old.config.slots e → first_piece 10 rest ≢ line_of e))
     not_the_end None b events h more bad = tt
     not_the_end (Some x) None events (inl h) more bad = absurd h
     not_the_end (Some x) None events (inr h) more bad = absurd (none-some [] h.0)
-    not_the_end (Some x) (Some y) events (inl h) more bad = (y, h, more.0, λ e is same. bad e is (more.1 ∙ same))
+    not_the_end (Some x) (Some y) events (inl h) more bad = (y, h, more.0, differs y more.1 bad)
     not_the_end (Some x) (Some y) events (inr h) more bad = absurd (more.0 (same_Some y [] h.0))
 
-    pub stops_at : now.config.slots < 2 ^ 64 → event_in now.config.slots line ≡ None → StopsAtLine (count + 1) read old new held holds
-    stops_at few none = record {
+    pub stops_at : event_in now.config.slots line ≡ None → StopsAtLine (count + 1) read old new held holds
+    stops_at none = record {
       events = so_far.events;
       played = unplayed none;
       number = omega (arith, so_far.number);
@@ -201,7 +234,7 @@ module _ (count : ℕ) (read left : Option (List ℕ)) (old now : Contents) (hel
         record {
           events = so_far.events ++ e ∷ [];
           played = played_more new e event (stepped ∙ ap (after_line (system_of now) now.config (state_of now)) found) same;
-          text = begins read left' (so_far.events ++ e ∷ []) (read_more read left left' so_far.events line e so_far.has_read more drops is.1);
+          text = begins read left' (so_far.events ++ e ∷ []) (read_more read left left' so_far.events line e so_far.has_read (whole_line e found) (drops (short e found)) is.1);
           count = length front + n;
           written = subst (Appends held holds') (sym (take_past front most n) ∙ ap (take (length front + n)) (sym whole)) (Appends-trans held holds holds' front (take n most) so_far.written wrote);
         }

@@ -8,7 +8,7 @@ use Rattle.events.specs.Events.{Event, Datagram, Sending}
 use Rattle.events.specs.Lines.{answer_line}
 use Rattle.events.specs.declared.meta.Meta.{Meta}
 use Rattle.relay.specs.Relays.{Contents, state_of}
-use Rattle.relay.specs.Replays.{system_of, after_line, answer_to, answer_text}
+use Rattle.relay.specs.Replays.{system_of, after_line, answer_to}
 use Rattle.relay.specs.Steps.{HasStepped, outcome_of}
 use Rattle.relay.specs.Systems.{Outcome, step}
 

@@ -3,7 +3,6 @@ use Rattle.std.proofs.Common.{◌≡◌, ℕ, List, refl, ap, ◌∙◌}
 use Rattle.std.specs.Prelude.{◌==◌, Option, None, Some, Result, Ok, Err, if◌then◌else◌}
 use Rattle.stun.specs.Datagrams.{message_in}
 use Rattle.stun.specs.Messages.{Parts, parts_bytes}
-use Rattle.stun.specs.declared.registry.Class.TheVariants as class
 use Rattle.stun.specs.declared.registry.ErrorCode.{ErrorCode}
 use Rattle.stun.specs.declared.registry.ErrorCode.TheVariants as error
 use Rattle.attributes.specs.declared.address.Addr.{Addr}
@@ -16,12 +15,11 @@ use Rattle.control.specs.declared.reply.Grant.{Grant}
 use Rattle.control.specs.declared.reply.Grant.TheVariants as grant
 use Rattle.control.specs.declared.request.Request.{Request}
 use Rattle.control.specs.declared.request.Request.TheVariants as request
-use Rattle.control.specs.declared.request.TurnRequest.{TurnRequest}
 use Rattle.tables.specs.Rows.{Rows, rows_at}
 use Rattle.events.specs.Events.{ToClient}
 use Rattle.programs.specs.FastPart.{begins_as_stun}
 use Rattle.programs.specs.Rules.{send_indication, send_from, channel_data_from}
-use Rattle.relay.specs.ByRules.{check_of, decided, reply_with, answered, control, message, from_client, request_of}
+use Rattle.relay.specs.ByRules.{check_of, reply_with, answered, message, from_client, request_of}
 use Rattle.relay.specs.Systems.{Reply, relayed, with_nonce}
 
 module _ (c : Config) where

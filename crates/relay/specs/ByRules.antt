@@ -14,11 +14,9 @@ use Rattle.control.specs.Responding.{key_for}
 use Rattle.control.specs.declared.config.Config.{Config}
 use Rattle.control.specs.declared.request.Request.{Request}
 use Rattle.control.specs.declared.request.Request.TheVariants as request
-use Rattle.control.specs.declared.request.TurnRequest.{TurnRequest}
 use Rattle.control.specs.declared.request.TurnRequest.TheVariants as turn
 use Rattle.tables.specs.Rows.{Rows, rows_at}
 use Rattle.events.specs.Events.{ToClient}
-use Rattle.events.specs.declared.meta.Source.{Source}
 use Rattle.events.specs.declared.meta.Source.TheVariants.{Client, Peer}
 use Rattle.programs.specs.FastPart.{begins_as_stun}
 use Rattle.programs.specs.Rules.{send_indication, channel_data_from, send_from, peer_data_to}

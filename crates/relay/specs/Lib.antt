@@ -3,7 +3,9 @@ pub mod ByPrograms
 pub mod ByRules
 pub mod Errors
 pub mod Found
+pub mod ReadLines
 pub mod Relays
 pub mod Replays
+pub mod Shipped
 pub mod Steps
 pub mod Systems

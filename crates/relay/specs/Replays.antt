@@ -3,11 +3,11 @@ use Rattle.std.specs.Prelude.{◌≡◌, ◌≢◌, ℕ, ◌+◌, ◌⊎◌, Lis
 use Rattle.std.specs.Io.BufRead.{first_piece}
 use Rattle.std.specs.Io.KnownBytes.{Appends}
 use Rattle.control.specs.declared.config.Config.{Config}
-use Rattle.events.specs.Events.{Event}
+use Rattle.events.specs.Events.{Event, Sending}
 use Rattle.events.specs.Lines.{line_of, answer_line, IsEvent}
 use Rattle.relay.specs.ByPrograms.{by_programs}
 use Rattle.relay.specs.Relays.{Contents, state_of}
-use Rattle.relay.specs.Systems.{State, System, step, after}
+use Rattle.relay.specs.Systems.{State, System, step, answers, after}
 
 -- ---- texts
 
@@ -20,15 +20,20 @@ text_of (e ∷ events) = line_of e ++ 10 ∷ text_of events
 abbrev pub IsText : List ℕ → List Event → Type 0
 IsText text events = (text ≡ text_of events) ⊎ (text ++ 10 ∷ [] ≡ text_of events)
 
--- the line of the answer to an event, ended by a line feed
-abbrev pub answer_text : System → Config → State → Event → List ℕ
-answer_text system config s e = answer_line (step system config s e).answer ++ 10 ∷ []
+-- the line of an answer, ended by a line feed
+abbrev pub line_text : Option Sending → List ℕ
+line_text answer = answer_line answer ++ 10 ∷ []
 
--- those of the answers to some events
+abbrev pub lines_of : List (Option Sending) → List ℕ
+lines_of [] = []
+lines_of (answer ∷ rest) = line_text answer ++ lines_of rest
+
+-- the line of the answer to an event, and those of the answers to some events
+abbrev pub answer_text : System → Config → State → Event → List ℕ
+answer_text system config s e = line_text (step system config s e).answer
+
 abbrev pub answers_text : System → Config → State → List Event → List ℕ
-answers_text system config s [] = []
-answers_text system config s (e ∷ events) =
-    answer_text system config s e ++ answers_text system config (step system config s e).state events
+answers_text system config s events = lines_of (answers system config s events)
 
 -- ---- one line
 

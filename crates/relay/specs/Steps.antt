@@ -6,6 +6,7 @@ use Rattle.machine.specs.Contents.{with_room}
 use Rattle.events.specs.Events.{Datagram}
 use Rattle.events.specs.declared.meta.Meta.{Meta}
 use Rattle.relay.specs.ByPrograms.{by_programs}
+use Rattle.relay.specs.ByRules.{by_rules}
 use Rattle.relay.specs.Relays.{Contents, state_of, datagram_at}
 use Rattle.relay.specs.Systems.{Outcome, step}
 use Rattle.relay.specs.contracts.relay.Relay.{the_row}
@@ -13,6 +14,10 @@ use Rattle.relay.specs.contracts.relay.Relay.{the_row}
 -- the outcome of a datagram by the relay's programs
 abbrev pub outcome_of : Contents → Meta → ℕ → Outcome
 outcome_of r given n = step (by_programs r.programs) r.config (state_of r) (Datagram given (datagram_at r n))
+
+-- the outcome of the same datagram by the rules
+abbrev pub ruled_outcome_of : Contents → Meta → ℕ → Outcome
+ruled_outcome_of r given n = step by_rules r.config (state_of r) (Datagram given (datagram_at r n))
 
 -- the state is the system's, and configuration and programs are as before
 pub record HasStepped (old new : Contents) (outcome : Outcome) : Type 0 where

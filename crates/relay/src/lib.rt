@@ -4,12 +4,15 @@
 mod error;
 mod found;
 mod handling;
+mod reading;
 mod relay;
 mod replaying;
 mod rules;
 mod running;
+mod shipped;
 
 pub use error::RelayError;
 pub use events::{Action, Meta, Source};
 pub use relay::Relay;
 pub use replaying::ReplayError;
+pub use shipped::shipped_programs_are_the_rules;

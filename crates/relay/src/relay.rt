@@ -87,7 +87,8 @@ impl Relay {
     ghost use Rattle.relay.specs.Errors.{IsFault};
     ghost use Rattle.relay.specs.Found.{lent, run_at, passed_on, HasRun, HasRoomFor};
     ghost use Rattle.relay.specs.Relays.{state_of, datagram_at};
-    ghost use Rattle.relay.specs.Steps.{outcome_of, after_step, lends_room, HasStepped};
+    ghost use Rattle.relay.specs.Shipped.{AreShipped};
+    ghost use Rattle.relay.specs.Steps.{outcome_of, ruled_outcome_of, after_step, lends_room, HasStepped};
     ghost use Rattle.relay.specs.Systems.{first};
     ghost use Rattle.relay.specs.declared.error.RelayError.TheVariants.{BadConfig};
 
@@ -137,6 +138,13 @@ impl Relay {
         &self.tables
     }
 
+    /// Returns the frame.
+    pub(crate) fn frame(&self) -> &Frame
+        ensures { result.now ≡ self.now.frame }
+    {
+        &self.frame
+    }
+
     /// Returns the number of slots.
     pub(crate) fn slots(&self) -> usize
         ensures { result ≡ self.now.config.slots }
@@ -151,6 +159,14 @@ impl Relay {
         ensures* writes_back { sem 𝓛 (lends_room self.entry result) }
     {
         self.frame.area()
+    }
+
+    /// Replaces both programs. Allocations, moments and the nonce stay as they are.
+    pub fn set_programs(&mut self, client: Loaded, peer: Loaded)
+        ensures { self.new ≡ record self.old { programs = record { client = client; peer = peer } } }
+    {
+        self.client = client;
+        self.peer = peer;
     }
 
     /// Sets the nonce.
@@ -176,12 +192,15 @@ impl Relay {
     }
 
     /// Decides a datagram, the first `n` bytes of [`area`](Relay::area), and returns what is to be sent: the program of its
-    /// side runs over it, and what the client's program passes on is handled by the rules for requests.
+    /// side runs over it, and what the client's program passes on is handled by the rules for requests. With the shipped
+    /// programs this is what the rules say.
     pub fn step(&mut self, meta: Meta, n: usize) -> Action<'_>
         requires { n ≤ MAX_DATAGRAM }
         ensures answer { sending_of result ≡ (outcome_of self.old meta n).answer }
+        ensures rules { AreShipped self.old.programs → outcome_of self.old meta n ≡ ruled_outcome_of self.old meta n }
         ensures* after { sem 𝓛 (after_step self.entry meta n) }
     {
+        self.steps_by_rules(&meta, n);
         let found = self.advance(&meta, n);
         let relay = &*self;
         relay.lend(found)

@@ -1,10 +1,11 @@
 //! Replays of event text: events come from a reader, and their answers go to a writer.
 
-ghost use Rattle.std.specs.Prelude.{◌≡◌, ◌≢◌, ℕ, ◌<◌, ◌^◌, ◌⊎◌, true, false, List, [], length, take, is_some, IfOk, IfErr, IfSome, OnOk, OnErr};
+ghost use Rattle.std.specs.Prelude.{◌≡◌, ◌≢◌, ℕ, ◌<◌, ◌^◌, ◌⊎◌, true, false, List, [], All, length, take, is_some, IfOk, IfErr, IfSome, OnOk, OnErr};
 ghost use Rattle.std.specs.Io.BufRead.{first_piece, DropsThrough};
 ghost use Rattle.std.specs.Io.KnownBytes.{Appends, IsAtEnd};
 ghost use Rattle.relay.specs.declared.replaying.ReplayError.TheVariants as errors;
 
+use crate::reading::next_line;
 use crate::relay::Relay;
 use events::{Action, Parsed, parse, push_answer};
 use std::alloc::{AllocError, Global};
@@ -55,36 +56,15 @@ fn write_whole<W: Write>(writer: &mut W, bytes: &[u8]) -> Result<(), ReplayError
     Err(ReplayError::Write)
 }
 
-/// Reads a line, without its line feed, over what `line` had. Returns whether there was one.
-///
-/// # Errors
-/// `Read` where the reader fails, and `Memory`.
-fn next_line<R: BufRead>(reader: &mut R, line: &mut Vec<u8>) -> Result<bool, ReplayError>
-    ensures line { IfOk result (λ more. more ≡ true
-        → IfSome (R.remaining reader.old) (λ xs. (xs ≢ []) × (line.new.items ≡ first_piece 10 xs))) }
-    ensures left { OnOk result (DropsThrough (R.remaining reader.old) (R.remaining reader.new) 10) }
-    ensures end { IfOk result (λ more. more ≡ false → IsAtEnd (R.remaining reader.old)) }
-    ensures why { IfErr result (λ e. (e ≡ errors.Read) ⊎ (e ≡ errors.Memory)) }
-{
-    line.clear();
-    match reader.read_until(b'\n', line) {
-        Ok(0) => Ok(false),
-        Ok(_) => {
-            if line.last() == Some(&b'\n') {
-                let _ = line.pop();
-            }
-            Ok(true)
-        }
-        Err(e) if e.kind() == ErrorKind::OutOfMemory => Err(ReplayError::Memory),
-        Err(_) => Err(ReplayError::Read),
-    }
-}
-
 impl Relay {
     ghost use Rattle.events.specs.Reading.{event_in};
     ghost use Rattle.relay.specs.Errors.{IfLine};
     ghost use Rattle.relay.specs.Replays.{system_of, after_line, answer_to, IsSameRelay, HasPlayedAll, StopsAtLine, StopsShort};
+    ghost use Rattle.relay.specs.ByRules.{by_rules};
     ghost use Rattle.relay.specs.Relays.{state_of};
+    ghost use Rattle.relay.specs.Shipped.{AreShipped, AnswerAlike};
+    ghost use Rattle.events.specs.Events.{Event};
+    ghost use Rattle.events.specs.Lines.{IsEvent};
 
     /// Goes on by the event of a line, and writes the line of its answer over what `answer` had. Returns whether the line
     /// is an event's.
@@ -117,7 +97,8 @@ impl Relay {
         }
     }
 
-    /// Reads events, a line each, and writes the line of each answer.
+    /// Reads events, a line each, and writes the line of each answer. With the shipped programs these are the answers of the
+    /// rules.
     ///
     /// # Errors
     /// `Line` at the first line that is no event's; the answers to the lines before it were written. `Read`, `Write` and
@@ -134,7 +115,10 @@ impl Relay {
             (W.contents writer.old) (W.contents writer.new))) }
         ensures short { OnErr result (StopsShort (R.remaining reader.old) self.old self.new
             (W.contents writer.old) (W.contents writer.new)) }
+        ensures rules { AreShipped self.old.programs → (events : List Event) → All (IsEvent self.old.config.slots) events
+            → AnswerAlike (system_of self.old) by_rules self.old.config (state_of self.old) events }
     {
+        self.plays_by_rules();
         let mut line = Vec::new(alloc);
         let mut answer = Vec::new(alloc);
         for count in 0..u64::MAX {

@@ -1,14 +1,25 @@
-//! The program: parses the command line, reads the program file and prints the report.
+//! The program: parses the command line, and reports on a program file, assembles a text, replays events or serves sockets.
 #![tactic(auto)]
 
+mod options;
+mod replacing;
+mod replaying;
+mod server;
+mod sockets;
+
+use crate::replaying::replay;
+use crate::server::{ServerTexts, serve};
 use asm::{AsmError, assemble};
+use clap::ArgMatches;
 use clap::error::ErrorKind as LineErrorKind;
 use command_line::{Subcommand, line, subcommand_of};
 use report::{Ask, ReportError, fail, report};
 use std::alloc::AllocError;
-use std::io::{self, BufWriter, Write};
+use std::io::{self, BufWriter, Read, Write};
+use std::net::Net;
 use std::process::ExitCode;
-use std::rt::{Env, Files};
+use std::random::RandomSource;
+use std::rt::{Clock, Env, Files};
 use std::{env, fs};
 
 /// The exit status where a file cannot be read or written.
@@ -28,15 +39,34 @@ fn report_line<R: Print + Eprint, E: Write>(rt: &R, err: &mut E, error: &clap::E
     if error.use_stderr() { BAD_LINE } else { 0 }
 }
 
-/// Reads the file at `path`, prints the report on it and returns the exit status.
+/// Reads a file whole, or standard input for the file `-`.
 /// See docs/DECISIONS.md, "A program file is read whole".
-fn report_file<R: Files + Print + AllocGlobal, E: Write>(
+fn read_whole<R: Files + Input + AllocGlobal>(rt: &R, path: &str) -> io::Result<Vec<u8>> {
+    if path != "-" {
+        return fs::read(rt, path);
+    }
+    let mut bytes = Vec::new(rt.alloc());
+    rt.reader().read_to_end(&mut bytes)?;
+    Ok(bytes)
+}
+
+/// Reads the file of a text, or standard input for the file `-`.
+fn read_text<R: Files + Input + AllocGlobal>(rt: &R, path: &str) -> io::Result<String> {
+    if path == "-" {
+        io::read_to_string(rt.alloc(), rt.reader())
+    } else {
+        fs::read_to_string(rt, path)
+    }
+}
+
+/// Reads the file at `path`, prints the report on it and returns the exit status.
+fn report_file<R: Files + Input + Print + AllocGlobal, E: Write>(
     rt: &R,
     err: &mut E,
     path: &str,
     ask: Ask<'_>,
 ) -> u8 {
-    let file = match fs::read(rt, path) {
+    let file = match read_whole(rt, path) {
         Ok(file) => file,
         Err(error) if error.kind() == io::ErrorKind::OutOfMemory => {
             return fail(err, ReportError::Memory);
@@ -58,13 +88,13 @@ fn fail_at<E: Write>(err: &mut E, action: &str, path: &str) -> u8 {
 /// Assembles the text in the file `input`, writes the program to the file `output` and returns the exit status. A
 /// text that is refused writes nothing.
 /// See docs/DECISIONS.md, "The output file comes last".
-fn assemble_file<R: Files + Print + AllocGlobal, E: Write>(
+fn assemble_file<R: Files + Input + Print + AllocGlobal, E: Write>(
     rt: &R,
     err: &mut E,
     input: &str,
     output: &str,
 ) -> u8 {
-    let text = match fs::read_to_string(rt, input) {
+    let text = match read_text(rt, input) {
         Ok(text) => text,
         Err(error) if error.kind() == io::ErrorKind::OutOfMemory => {
             return fail(err, ReportError::Memory);
@@ -86,8 +116,54 @@ fn assemble_file<R: Files + Print + AllocGlobal, E: Write>(
     }
 }
 
+/// Runs the subcommand of a parsed command line and returns the exit status.
+fn run_subcommand<R: Files + Input + Print + Net + Clock + RandomSource + AllocGlobal, E: Write>(
+    rt: &R,
+    err: &mut E,
+    matches: &ArgMatches<'_>,
+) -> u8 {
+    match subcommand_of(matches) {
+        Some(Subcommand::Verify { file }) => report_file(rt, err, file, Ask::Verify),
+        Some(Subcommand::Trace { file, data }) => {
+            report_file(rt, err, file, Ask::Trace { hex: data })
+        }
+        Some(Subcommand::Disassemble { file }) => report_file(rt, err, file, Ask::Disassemble),
+        Some(Subcommand::Assemble { input, output }) => assemble_file(rt, err, input, output),
+        Some(
+            Subcommand::Replay {
+                events,
+                nonce,
+                options,
+            },
+        ) => replay(rt, err, events, nonce, &options),
+        Some(
+            Subcommand::Serve {
+                port,
+                rounds,
+                listen,
+                nonce_lifetime,
+                stats,
+                options,
+            },
+        ) => {
+            let texts = ServerTexts {
+                port,
+                rounds,
+                listen,
+                nonce_lifetime,
+                stats,
+            };
+            serve(rt, err, texts, &options)
+        }
+        None => BAD_LINE,
+    }
+}
+
 /// Runs the command line of the process and returns the exit status.
-fn run<R: Env + Files + Print + Eprint + AllocGlobal, E: Write>(rt: &R, err: &mut E) -> u8 {
+fn run<
+    R: Env + Files + Input + Print + Eprint + Net + Clock + RandomSource + AllocGlobal,
+    E: Write,
+>(rt: &R, err: &mut E) -> u8 {
     let words: Result<Vec<String>, AllocError> = match env::args(rt) {
         Ok(words) => words.collect(rt.alloc()),
         Err(_) => Err(AllocError),
@@ -97,15 +173,7 @@ fn run<R: Env + Files + Print + Eprint + AllocGlobal, E: Write>(rt: &R, err: &mu
     };
     match line(rt.alloc(), words.as_slice()) {
         Err(error) => report_line(rt, err, &error),
-        Ok(matches) => match subcommand_of(&matches) {
-            Some(Subcommand::Verify { file }) => report_file(rt, err, file, Ask::Verify),
-            Some(Subcommand::Trace { file, data }) => {
-                report_file(rt, err, file, Ask::Trace { hex: data })
-            }
-            Some(Subcommand::Disassemble { file }) => report_file(rt, err, file, Ask::Disassemble),
-            Some(Subcommand::Assemble { input, output }) => assemble_file(rt, err, input, output),
-            None => BAD_LINE,
-        },
+        Ok(matches) => run_subcommand(rt, err, &matches),
     }
 }
 

@@ -1,3 +1,4 @@
 -- Internal. The modules of this folder.
 pub mod Statuses
 pub mod Traces
+pub mod Texts

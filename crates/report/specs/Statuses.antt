@@ -1,6 +1,6 @@
 -- Meaning. What the exit status says about the program file and the data.
 use Rattle.std.specs.Prelude.{◌≡◌, ◌⊎◌, ℕ, List, Option}
-use Rattle.std.specs.Io.KnownBytes.{Appends}
+use Rattle.std.specs.Io.KnownBytes.{Appends, Keeps}
 use Rattle.insn.specs.Encoding.{Encodes}
 use Rattle.insn.specs.Spelling.{listing}
 use Rattle.insn.specs.declared.instruction.Insn.{Insn}
@@ -11,7 +11,8 @@ use Rattle.verifier.specs.declared.refusal.Refusal.TheVariants as verify
 use Rattle.loader.specs.Loads.{IsLoaded, IsLoadRefusal}
 use Rattle.loader.specs.declared.refusal.LoadError.{LoadError}
 use Rattle.loader.specs.declared.refusal.LoadError.TheVariants as load
-use Rattle.report.specs.Traces.{digits_of, HasDatagram, HasNoDatagram, TraceEnds, IsExit, IsStuck}
+use Rattle.report.specs.Traces.{digits_of, HasDatagram, HasNoDatagram, TraceEnds, PrintsTrace, IsExit, IsStuck}
+use Rattle.report.specs.Texts.{accepted_text, refused_text}
 use Rattle.report.specs.declared.error.ReportError.{ReportError}
 use Rattle.report.specs.declared.error.ReportError.TheVariants as error
 use Rattle.report.specs.declared.reporting.Ask.{Ask}
@@ -57,10 +58,10 @@ Succeeds ask.Verify file = IsSafeFile file
 Succeeds (ask.Trace hex) file = TraceEnds (digits_of hex) file IsExit
 Succeeds ask.Disassemble file = HasProgram file
 
--- what a success has written, where what the output holds is known: of a disassembly, the text of the program
+-- what a success has written, where what the output holds is known
 abbrev pub Writes : Ask → List ℕ → Option (List ℕ) → Option (List ℕ) → Type 0
-Writes ask.Verify file old new = Unit {0}
-Writes (ask.Trace hex) file old new = Unit {0}
+Writes ask.Verify file old new = (code : List Insn) × IsLoaded code file × Appends old new (accepted_text code)
+Writes (ask.Trace hex) file old new = PrintsTrace (digits_of hex) file IsExit old new
 Writes ask.Disassemble file old new = (code : List Insn) × Encodes code file × Appends old new (listing code)
 
 -- the printed report says so: the loader refuses the file, or the traced run gets stuck
@@ -69,11 +70,26 @@ PrintsRefusal ask.Verify file = IsRefusedFile file
 PrintsRefusal (ask.Trace hex) file = TraceEnds (digits_of hex) file IsStuck
 PrintsRefusal ask.Disassemble file = ⊥
 
+-- what a printed refusal has written
+abbrev pub WritesRefusal : Ask → List ℕ → Option (List ℕ) → Option (List ℕ) → Type 0
+WritesRefusal ask.Verify file old new = (e : LoadError) × IsAboutFile e × IsLoadRefusal file e × Appends old new (refused_text e)
+WritesRefusal (ask.Trace hex) file old new = PrintsTrace (digits_of hex) file IsStuck old new
+WritesRefusal ask.Disassemble file old new = ⊥
+
 -- the report is printed with this status
 pub record IsPrinted (asked : Ask) (file : List ℕ) (status : ℕ) : Type 0 where
   pub range : (status ≡ 0) ⊎ (status ≡ 1)
   pub success : status ≡ 0 → Succeeds asked file
   pub refusal : status ≡ 1 → PrintsRefusal asked file
+
+-- the report is written with this status
+pub record IsWritten (asked : Ask) (file : List ℕ) (old new : Option (List ℕ)) (status : ℕ) : Type 0 where
+  pub success : status ≡ 0 → Writes asked file old new
+  pub refusal : status ≡ 1 → WritesRefusal asked file old new
+
+-- an error that is a refusal has written nothing
+abbrev pub IsUnwritten : Option (List ℕ) → Option (List ℕ) → ReportError → Type 0
+IsUnwritten old new e = status_of e ≡ 1 → Keeps old new
 
 -- decoding fails so
 abbrev pub IsNoProgram : List ℕ → ReportError → Type 0
@@ -99,7 +115,14 @@ MayFail ask.Disassemble file (error.Program e) = IsRefused file e
 MayFail ask.Disassemble file (error.Text e) = ⊥
 MayFail ask.Disassemble file error.Output = HasProgram file
 
+-- the error is a refusal, of the digits or of the file
+abbrev pub FailsByRefusal : Ask → List ℕ → Type 0
+FailsByRefusal asked file = MayFail asked file error.Data ⊎ ((e : DecodeError) × MayFail asked file (error.Program e))
+
 -- the request is refused, by a printed report or by an error
 abbrev pub IsRefusal : Ask → List ℕ → Type 0
-IsRefusal asked file = PrintsRefusal asked file ⊎ (MayFail asked file error.Data
-    ⊎ ((e : DecodeError) × MayFail asked file (error.Program e)))
+IsRefusal asked file = PrintsRefusal asked file ⊎ FailsByRefusal asked file
+
+-- what a refusal has written: the report, or nothing to the output where it is an error
+abbrev pub WritesIfRefused : Ask → List ℕ → Option (List ℕ) → Option (List ℕ) → Type 0
+WritesIfRefused asked file old new = WritesRefusal asked file old new ⊎ (FailsByRefusal asked file × Keeps old new)

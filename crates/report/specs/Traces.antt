@@ -1,5 +1,6 @@
 -- Meaning. A trace of a program file over the datagram that hexadecimal digits encode.
 use Rattle.std.specs.Prelude.{◌≡◌, ℕ, ◌≤◌, List, [], ◌∷◌, length, Option, option_copied, Ok}
+use Rattle.std.specs.Io.KnownBytes.{Appends}
 use Rattle.std.specs.Option.{unwrap_or}
 use Rattle.std.specs.Borrow.{Bor}
 use Rattle.hex.specs.Hex.{decode_of}
@@ -10,6 +11,7 @@ use Rattle.semantics.specs.Machine.{Context}
 use Rattle.semantics.specs.Runs.{Run, Ending, Exited, Stuck, Running}
 use Rattle.helpers.specs.Nothing.{finds_nothing}
 use Rattle.machine.specs.Tracing.{run_over}
+use Rattle.report.specs.Texts.{trace_text}
 
 -- The client's side (0), the source 127.0.0.1:9 as an address record (a zero, the family 1, the port, the
 -- address), and a transaction id of zeros.
@@ -48,6 +50,15 @@ pub record TraceEnds (digits file : List ℕ) (IsEnding : Ending → Type 0) : T
   pub datagram : List ℕ
   pub digits_encode : EncodeDatagram digits datagram
   pub ended : IsEnding (traced_run code datagram).ending
+
+-- the same, where the output has the text of the run more
+pub record PrintsTrace (digits file : List ℕ) (IsEnding : Ending → Type 0) (old new : Option (List ℕ)) : Type 0 where
+  pub code : List Insn
+  pub file_encodes : Encodes code file
+  pub datagram : List ℕ
+  pub digits_encode : EncodeDatagram digits datagram
+  pub ended : IsEnding (traced_run code datagram).ending
+  pub written : Appends old new (trace_text (traced_run code datagram))
 
 abbrev pub IsExit : Ending → Type 0
 IsExit (Exited verdict) = Unit {0}

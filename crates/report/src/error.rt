@@ -1,32 +1,45 @@
 //! Why a report fails, with the line and the exit status of each error.
 
-ghost use Rattle.std.specs.Prelude.{◌≡◌};
+ghost use Rattle.std.specs.Prelude.{◌≡◌, Some};
 ghost use Rattle.report.specs.Statuses.{status_of};
+ghost use Rattle.report.specs.Texts.{error_text};
 
 use asm::AsmError;
 use insn::DecodeError;
+use std::error::Error;
+use std::fmt;
 use std::io::Write;
-use thiserror::Error;
 
 /// Why a report fails. Displays as the line for standard error.
-#[derive(Clone, Copy, Debug, PartialEq, Eq, Error)]
+#[derive(Clone, Copy, Debug, PartialEq, Eq)]
 pub enum ReportError {
     /// The data is not pairs of hexadecimal digits, or has more than 65,507 bytes.
-    #[error("refused data")]
     Data,
     /// The file encodes no program.
-    #[error("refused {0}")]
     Program(DecodeError),
     /// The text is not assembled.
-    #[error("refused {0}")]
     Text(AsmError),
     /// The output cannot be written.
-    #[error("cannot write output")]
     Output,
     /// Memory ran out.
-    #[error("out of memory")]
     Memory,
 }
+
+impl fmt::Display for ReportError {
+    ghost output = { λ e. Some (error_text e) };
+
+    fn fmt<W: fmt::Write>(&self, f: &mut fmt::Formatter<W>) -> fmt::Result {
+        match self {
+            ReportError::Data => f.write_str("refused data"),
+            ReportError::Program(refusal) => write!(f, "refused {refusal}"),
+            ReportError::Text(refusal) => write!(f, "refused {refusal}"),
+            ReportError::Output => f.write_str("cannot write output"),
+            ReportError::Memory => f.write_str("out of memory"),
+        }
+    }
+}
+
+impl Error for ReportError {}
 
 impl ReportError {
     /// Returns the exit status: 1 for a refusal, 3 where the output fails, 4 where memory runs out.

@@ -3,6 +3,7 @@
 
 mod error;
 mod reporting;
+mod text;
 
 pub use error::{ReportError, fail};
 pub use reporting::{Ask, report};

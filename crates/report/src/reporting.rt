@@ -1,15 +1,19 @@
 //! Prints the reports of `verify`, `trace` and `disassemble` on a program file, and returns their exit statuses.
 
 ghost use Rattle.std.specs.Prelude.{◌≡◌, ◌⊎◌, ◌≤◌, ◌<◌, IfOk, IfErr, OnOk, MatchResult, true};
+ghost use Rattle.std.specs.Io.KnownBytes.{Appends};
 ghost use Rattle.insn.specs.Encoding.{Encodes};
 ghost use Rattle.machine.specs.Contents.{datagram_of};
 ghost use Rattle.machine.specs.Contexts.{context_of};
 ghost use Rattle.report.specs.Traces.{digits_of, trace_context, EncodeDatagram, HasNoDatagram};
 ghost use Rattle.report.specs.declared.error.ReportError.TheVariants.{Data, Output};
 ghost use Rattle.report.specs.declared.reporting.Ask.TheVariants.{Disassemble, Trace, Verify};
-ghost use Rattle.report.specs.Statuses.{IsNoProgram, IsPrinted, IsRefusal, MayFail, Succeeds, Writes};
+ghost use Rattle.report.specs.Statuses.{IsNoProgram, IsPrinted, IsRefusal, IsUnwritten, IsWritten, MayFail, Succeeds};
+ghost use Rattle.report.specs.Statuses.{Writes, WritesIfRefused};
+ghost use Rattle.report.specs.Texts.{end_text};
 
 use crate::error::{ReportError, fail};
+use crate::text::{Destination, Window};
 use disasm::disassemble;
 use insn::{DecodeError, Insn, decode};
 use loader::{LoadError, load};
@@ -52,6 +56,7 @@ macro_rules! line {
 /// Prints whether the program may be loaded, and returns the status.
 fn report_verify<W: Write>(alloc: Global, file: &[u8], out: &mut W) -> Result<u8, ReportError>
     ensures printed { IfOk result (IsPrinted Verify file.now) }
+    ensures written { IfOk result (IsWritten Verify file.now (W.contents out.old) (W.contents out.new)) }
     ensures failed { IfErr result (MayFail Verify file.now) }
 {
     match load(alloc, file) {
@@ -94,6 +99,7 @@ fn fill(frame: &mut Frame, hex: Option<&str>) -> Result<(), ReportError>
 /// Prints how a traced run ended, and returns the status.
 fn report_end<W: Write>(ended: Result<Outcome, Stuck>, out: &mut W) -> Result<u8, ReportError>
     ensures printed { IfOk result (λ status. MatchResult ended (λ o. status ≡ 0) (λ e. status ≡ 1)) }
+    ensures written { OnOk result (Appends (W.contents out.old) (W.contents out.new) (end_text ended)) }
     ensures failed { IfErr result (λ e. e ≡ Output) }
 {
     let outcome = match ended {
@@ -104,15 +110,9 @@ fn report_end<W: Write>(ended: Result<Outcome, Stuck>, out: &mut W) -> Result<u8
         }
     };
     let verdict = outcome.verdict;
-    line!(out; "exit {verdict}")?;
-    match outcome.window {
-        None => line!(out; "window none")?,
-        Some((front, length)) => line!(out; "window {front} {length}")?,
-    }
-    match outcome.destination {
-        None => line!(out; "destination none")?,
-        Some(address) => line!(out; "destination {address}")?,
-    }
+    let window = Window(outcome.window);
+    let destination = Destination(outcome.destination);
+    line!(out; "exit {verdict}\nwindow {window}\ndestination {destination}")?;
     Ok(0)
 }
 
@@ -131,7 +131,8 @@ fn program(alloc: Global, file: &[u8]) -> Result<Vec<Insn>, ReportError>
 /// Prints the program as text, and returns the status.
 fn report_disassembly<W: Write>(alloc: Global, file: &[u8], out: &mut W) -> Result<u8, ReportError>
     ensures printed { IfOk result (IsPrinted Disassemble file.now) }
-    ensures written { OnOk result (Writes Disassemble file.now (W.contents out.old) (W.contents out.new)) }
+    ensures written { IfOk result (IsWritten Disassemble file.now (W.contents out.old) (W.contents out.new)) }
+    ensures unwritten { IfErr result (IsUnwritten (W.contents out.old) (W.contents out.new)) }
     ensures failed { IfErr result (MayFail Disassemble file.now) }
 {
     let code = program(alloc, file)?;
@@ -166,6 +167,8 @@ fn report_trace<W: Write>(
     out: &mut W,
 ) -> Result<u8, ReportError>
     ensures printed { IfOk result (IsPrinted (Trace hex.entry) file.now) }
+    ensures written { IfOk result (IsWritten (Trace hex.entry) file.now (W.contents out.old) (W.contents out.new)) }
+    ensures unwritten { IfErr result (IsUnwritten (W.contents out.old) (W.contents out.new)) }
     ensures failed { IfErr result (MayFail (Trace hex.entry) file.now) }
 {
     let mut frame = Frame::new(alloc).map_err(|_| ReportError::Memory)?;
@@ -179,8 +182,8 @@ fn report_trace<W: Write>(
 /// Prints the report, flushes the output and returns the status.
 fn print<W: Write>(alloc: Global, ask: Ask<'_>, file: &[u8], out: &mut W) -> Result<u8, ReportError>
     ensures printed { IfOk result (IsPrinted ask.entry file.now) }
-    ensures written { IfOk result (λ status. status ≡ 0
-        → Writes ask.entry file.now (W.contents out.old) (W.contents out.new)) }
+    ensures written { IfOk result (IsWritten ask.entry file.now (W.contents out.old) (W.contents out.new)) }
+    ensures unwritten { IfErr result (IsUnwritten (W.contents out.old) (W.contents out.new)) }
     ensures failed { IfErr result (MayFail ask.entry file.now) }
 {
     let status = match ask {
@@ -213,6 +216,8 @@ pub fn report<W: Write, E: Write>(
     ensures success { result ≡ 0 → Succeeds ask.entry file.now }
     ensures written { result ≡ 0 → Writes ask.entry file.now (W.contents out.old) (W.contents out.new) }
     ensures refusal { result ≡ 1 → IsRefusal ask.entry file.now }
+    ensures written_refusal { result ≡ 1
+        → WritesIfRefused ask.entry file.now (W.contents out.old) (W.contents out.new) }
     ensures output { result ≡ 3 → MayFail ask.entry file.now Output }
 {
     match print(alloc, ask, file, out) {

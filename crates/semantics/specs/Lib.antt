@@ -14,6 +14,7 @@ pub mod EffectLaws
 pub mod Kept
 pub mod Slots
 pub mod SlotLaws
+pub mod Reasons
 pub mod Runs
 pub mod RunLaws
 pub mod Extents

@@ -1,16 +1,23 @@
--- Meaning. The refusals of the verifier.
-use Rattle.std.specs.Prelude.{◌≡◌, ℕ, ◌+◌, ◌<◌, ◌≤◌, ◌⊎◌, List, length, Result, Err, OnOk, IfErr}
+-- Meaning. The refusals of the verifier, and their texts.
+use Rattle.std.specs.Prelude.{◌≡◌, ℕ, ◌+◌, ◌<◌, ◌≤◌, ◌⊎◌, List, ◌++◌, length, codes, decimal, Result, Err, OnOk, IfErr}
 use Rattle.insn.specs.declared.instruction.Insn.{Insn}
 use Rattle.semantics.specs.Slots.{fetch}
 use Rattle.semantics.specs.Runs.{IsSafe}
 use Rattle.semantics.specs.declared.fetching.Fetched.TheVariants.{Begins}
 use Rattle.semantics.specs.LooseRuns.{IsLooselyStuck, beginnings}
+use Rattle.semantics.specs.Reasons.{reason_at}
 use Rattle.semantics.specs.declared.reason.Reason.{Reason}
 use Rattle.interval.specs.Domains.{Operations, ArePrecise}
 use Rattle.absstate.specs.StepReasons.{IsStepReason, IsAboutPlaces, IsRegisterSum}
 use Rattle.verifier.specs.Layout.{IsLaidOut, IsLayoutFault, StartsAt}
 use Rattle.verifier.specs.declared.refusal.Refusal.{Refusal}
 use Rattle.verifier.specs.declared.refusal.Refusal.TheVariants as refusal
+
+-- the text of a refusal: its code and its slot
+abbrev pub refusal_text : Refusal → List ℕ
+refusal_text (refusal.Stuck reason slot) = reason_at reason slot
+refusal_text (refusal.Budget slot) = codes "V17 at " ++ decimal slot
+refusal_text (refusal.Memory slot) = codes "V19 at " ++ decimal slot
 
 -- no instruction adds a register to another one, or subtracts it, on 64 bits
 abbrev pub HasNoSums : List Insn → Type 0

@@ -1,15 +1,15 @@
-//! The abstract step, from the first state on.
+//! The abstract step over intervals, from the first state on.
 
 mod calls;
 mod context;
 mod memory;
 
-use crate::assembly::{BYTE, END, FIRST, ZERO, alu, jump_if, mov};
+use crate::assembly::code_of;
 use absstate::{AbsState, AbstractValue, Anchor, Marks, Next};
-use insn::{AluOp, Condition, Insn, Operand, Reg};
+use insn::Insn;
 use interval::{Domain, Interval};
-use semantics::Reason;
 use std::process::Abort;
+use std::test::Fail;
 
 type State = AbsState<Interval>;
 
@@ -21,6 +21,175 @@ const DATAGRAM: Known = AbstractValue::Data {
     anchor: Anchor::First,
     offset: 0,
 };
+
+/// The least and the greatest number.
+pub type Ends = (u64, u64);
+
+/// Any byte.
+pub const ANY: Ends = (0, 255);
+
+/// Any word.
+pub const WORD: Ends = (0, u64::MAX);
+
+/// The low six bits of a byte.
+const LOW: Ends = (0, 63);
+
+/// Reads any byte into `r5`, and the low six bits of it into `r6`.
+const TWO_BYTES: &str = "ldxdw r2, [r1+0]\nldxb r5, [r2-1]\nmov r6, r5\nand r6, 63";
+
+/// An instruction behind a program that leads on, and the numbers that it writes to `r5` and to `r6`, if any. Nothing
+/// else changes.
+#[derive(Clone, Copy)]
+pub struct Leads {
+    pub before: &'static str,
+    pub insn: &'static str,
+    pub r5: Option<Ends>,
+    pub r6: Option<Ends>,
+}
+
+static LEADS: [Leads; 5] = [
+    Leads {
+        before: TWO_BYTES,
+        insn: "mov r6, r5",
+        r5: Some(ANY),
+        r6: Some(ANY),
+    },
+    Leads {
+        before: TWO_BYTES,
+        insn: "mov r5, -1",
+        r5: Some((u64::MAX, u64::MAX)),
+        r6: Some(LOW),
+    },
+    Leads {
+        before: TWO_BYTES,
+        insn: "add r6, 1",
+        r5: Some(ANY),
+        r6: Some((1, 64)),
+    },
+    Leads {
+        before: TWO_BYTES,
+        insn: "add r5, r6",
+        r5: Some((0, 318)),
+        r6: Some(LOW),
+    },
+    Leads {
+        before: TWO_BYTES,
+        insn: "rsh r5, 4",
+        r5: Some((0, 15)),
+        r6: Some(LOW),
+    },
+];
+
+/// A branch that may be taken, with the numbers that are left in `r5` and in `r6` where they change.
+type Branch = Option<(Option<Ends>, Option<Ends>)>;
+
+/// A jump behind a program, and its branches.
+#[derive(Clone, Copy)]
+struct Forks {
+    before: &'static str,
+    insn: &'static str,
+    not_taken: Branch,
+    taken: Branch,
+}
+
+static FORKS: [Forks; 13] = [
+    // with a number
+    Forks {
+        before: TWO_BYTES,
+        insn: "jgt r5, 10, +0",
+        not_taken: Some((Some((0, 10)), Some(LOW))),
+        taken: Some((Some((11, 255)), Some(LOW))),
+    },
+    Forks {
+        before: TWO_BYTES,
+        insn: "jge r5, 10, +0",
+        not_taken: Some((Some((0, 9)), Some(LOW))),
+        taken: Some((Some((10, 255)), Some(LOW))),
+    },
+    Forks {
+        before: TWO_BYTES,
+        insn: "jeq r5, 10, +0",
+        not_taken: Some((Some(ANY), Some(LOW))),
+        taken: Some((Some((10, 10)), Some(LOW))),
+    },
+    Forks {
+        before: TWO_BYTES,
+        insn: "jslt r5, 10, +0",
+        not_taken: Some((Some((10, 255)), Some(LOW))),
+        taken: Some((Some((0, 9)), Some(LOW))),
+    },
+    Forks {
+        before: TWO_BYTES,
+        insn: "jslt r5, -1, +0",
+        not_taken: Some((Some(ANY), Some(LOW))),
+        taken: Some((Some(ANY), Some(LOW))),
+    },
+    // with a register, and of a register with itself
+    Forks {
+        before: TWO_BYTES,
+        insn: "jgt r5, r6, +0",
+        not_taken: Some((Some(LOW), Some(LOW))),
+        taken: Some((Some((1, 255)), Some(LOW))),
+    },
+    Forks {
+        before: TWO_BYTES,
+        insn: "jsle r5, r6, +0",
+        not_taken: Some((Some((1, 255)), Some(LOW))),
+        taken: Some((Some(LOW), Some(LOW))),
+    },
+    Forks {
+        before: TWO_BYTES,
+        insn: "jne r5, r6, +0",
+        not_taken: Some((Some(LOW), Some(LOW))),
+        taken: Some((Some(ANY), Some(LOW))),
+    },
+    Forks {
+        before: TWO_BYTES,
+        insn: "jgt r5, r5, +0",
+        not_taken: Some((Some(ANY), Some(LOW))),
+        taken: Some((Some(ANY), Some(LOW))),
+    },
+    // of a single number, where one branch is dead
+    Forks {
+        before: "mov r5, 7",
+        insn: "jgt r5, 7, +0",
+        not_taken: Some((Some((7, 7)), None)),
+        taken: None,
+    },
+    Forks {
+        before: "mov r5, 7",
+        insn: "jeq r5, 7, +0",
+        not_taken: None,
+        taken: Some((Some((7, 7)), None)),
+    },
+    Forks {
+        before: "mov r5, 7",
+        insn: "jsgt r5, -1, +0",
+        not_taken: None,
+        taken: Some((Some((7, 7)), None)),
+    },
+    Forks {
+        before: "mov r5, 7",
+        insn: "jset r5, 8, +0",
+        not_taken: Some((Some((7, 7)), None)),
+        taken: None,
+    },
+];
+
+/// A program, an instruction behind it that is refused, and the reason.
+pub type Refused = (&'static str, &'static str, &'static str);
+
+static REFUSED: [Refused; 4] = [
+    ("", "exit", "V5"),
+    ("", "add r1, 1", "V11"),
+    ("", "mov r10, 1", "V7"),
+    ("", "jeq r1, 0, +0", "V12"),
+];
+
+/// Returns the numbers between two.
+fn between(ends: Ends) -> Known {
+    AbstractValue::Scalar(Interval::range(ends.0.min(ends.1), ends.0.max(ends.1)))
+}
 
 /// Returns the state in which these five registers, from `r2` on, are known beside the first ones.
 fn state(known: [Known; 5]) -> State {
@@ -37,179 +206,146 @@ fn state(known: [Known; 5]) -> State {
     }
 }
 
-/// The least and the greatest number.
-type Ends = (u64, u64);
-
-/// Returns the numbers between two.
-fn between(ends: Ends) -> Known {
-    AbstractValue::Scalar(Interval::range(ends.0.min(ends.1), ends.0.max(ends.1)))
-}
-
-/// Returns the state in which `r2` is the datagram's first byte, and `r5` and `r6` are numbers.
-fn numbers(r5: Ends, r6: Ends) -> State {
-    state([DATAGRAM, NOTHING, NOTHING, between(r5), between(r6)])
-}
-
-/// Returns the state behind instructions of which each leads on.
-fn after(rt: &impl Abort, code: &[Insn]) -> State {
+/// Returns the state behind a program, of the branch that is not taken where there are two.
+fn after<R: Abort + AllocGlobal>(rt: &R, text: &str) -> Result<State, Fail> {
     let mut state = AbsState::<Interval>::start();
-    for insn in code {
-        let Ok(Next::On(next)) = state.step(insn) else {
-            panic!(rt; "{insn:?} doesn't lead on");
+    for insn in &code_of(rt, text)? {
+        state = match state.step(insn) {
+            Ok(Next::On(next)) => next,
+            Ok(
+                Next::Fork {
+                    not_taken: Some(next),
+                    ..
+                },
+            ) => next,
+            _ => panic!(rt; "{insn:?} doesn't lead on"),
         };
-        state = next;
     }
-    state
+    Ok(state)
 }
 
-/// Any byte.
-const ANY: Ends = (0, 255);
-
-/// Any word.
-const WORD: Ends = (0, u64::MAX);
-
-/// The low six bits of a byte.
-const LOW: Ends = (0, 63);
-
-/// Returns the state in which `r5` is any byte, and `r6` the low six bits of one.
-fn two_bytes(rt: &impl Abort) -> State {
-    let low = alu(AluOp::And, Reg::R6, Operand::Imm(63));
-    let state = after(rt, &[FIRST, BYTE, mov(Reg::R6, Operand::Reg(Reg::R5)), low]);
-    assert_eq!(rt; state, numbers(ANY, LOW));
-    state
+/// Returns the one instruction of a text.
+fn insn_of<R: Abort + AllocGlobal>(rt: &R, text: &str) -> Result<Insn, Fail> {
+    match code_of(rt, text)?.as_slice() {
+        [insn] => Ok(*insn),
+        _ => panic!(rt; "{text} is not one instruction"),
+    }
 }
 
-#[test]
-fn a_load_leads_on(rt: HostRuntime) {
-    let start = AbsState::<Interval>::start();
-    let first = state([DATAGRAM, NOTHING, NOTHING, NOTHING, NOTHING]);
-    assert_eq!(rt; start.step(&FIRST), Ok(Next::On(first)));
-    let end = state([NOTHING, AbstractValue::End, NOTHING, NOTHING, NOTHING]);
-    assert_eq!(rt; start.step(&END), Ok(Next::On(end)));
-    let byte = state([DATAGRAM, NOTHING, NOTHING, between(ANY), NOTHING]);
-    assert_eq!(rt; after(&rt, &[FIRST]).step(&BYTE), Ok(Next::On(byte)));
+/// Returns the state with these numbers in `r5` and in `r6`, where they are given.
+fn with_numbers(state: &State, r5: Option<Ends>, r6: Option<Ends>) -> State {
+    let mut next = *state;
+    if let Some(ends) = r5 {
+        next.registers[5] = between(ends);
+    }
+    if let Some(ends) = r6 {
+        next.registers[6] = between(ends);
+    }
+    next
 }
 
-#[test]
-fn an_operator_leads_on(rt: HostRuntime) {
-    let here = two_bytes(&rt);
+/// Checks what is known behind the first instructions of many rows, and at an exit.
+fn check_states<R: Abort + AllocGlobal>(rt: &R) -> Result<(), Fail> {
     let rows = [
-        (mov(Reg::R6, Operand::Reg(Reg::R5)), ANY, ANY),
-        (mov(Reg::R5, Operand::Imm(-1)), (u64::MAX, u64::MAX), LOW),
-        (alu(AluOp::Add, Reg::R6, Operand::Imm(1)), ANY, (1, 64)),
+        ("ldxdw r2, [r1+0]", DATAGRAM, NOTHING, NOTHING, NOTHING),
         (
-            alu(AluOp::Add, Reg::R5, Operand::Reg(Reg::R6)),
-            (0, 318),
-            LOW,
+            "ldxdw r3, [r1+8]",
+            NOTHING,
+            AbstractValue::End,
+            NOTHING,
+            NOTHING,
         ),
-        (alu(AluOp::Rsh, Reg::R5, Operand::Imm(4)), (0, 15), LOW),
+        (
+            "ldxdw r2, [r1+0]\nldxb r5, [r2-1]",
+            DATAGRAM,
+            NOTHING,
+            between(ANY),
+            NOTHING,
+        ),
+        (TWO_BYTES, DATAGRAM, NOTHING, between(ANY), between(LOW)),
     ];
-    for (insn, r5, r6) in rows {
-        let next = here.step(&insn);
-        assert_eq!(rt; next, Ok(Next::On(numbers(r5, r6))), "{insn:?}");
+    for (text, r2, r3, r5, r6) in rows {
+        let known = state([r2, r3, NOTHING, r5, r6]);
+        assert_eq!(rt; after(rt, text)?, known, "{text}");
     }
+    assert_eq!(rt; after(rt, "mov r0, 0")?.step(&Insn::Exit), Ok(Next::Exit));
+    Ok(())
 }
 
-#[test]
-fn a_comparison_with_an_imm_forks(rt: HostRuntime) {
-    let here = two_bytes(&rt);
-    let rows = [
-        (Condition::Gt, 10, (0, 10), (11, 255)),
-        (Condition::Ge, 10, (0, 9), (10, 255)),
-        (Condition::Eq, 10, ANY, (10, 10)),
-        (Condition::SignedLt, 10, (10, 255), (0, 9)),
-        (Condition::SignedLt, -1, ANY, ANY),
-    ];
-    for (condition, n, not_taken, taken) in rows {
-        let not_taken = Some(numbers(not_taken, LOW));
-        let taken = Some(numbers(taken, LOW));
-        let next = here.step(&jump_if(condition, Reg::R5, Operand::Imm(n), 0));
-        assert_eq!(rt;
-            next,
-            Ok(Next::Fork { not_taken, taken }),
-            "{condition:?} {n}"
-        );
-    }
-}
-
-#[test]
-fn a_comparison_of_registers_forks(rt: HostRuntime) {
-    let here = two_bytes(&rt);
-    let rows = [
-        (Condition::Gt, Reg::R6, (LOW, LOW), ((1, 255), LOW)),
-        (Condition::SignedLe, Reg::R6, ((1, 255), LOW), (LOW, LOW)),
-        (Condition::Ne, Reg::R6, (LOW, LOW), (ANY, LOW)),
-        // a register that is compared with itself
-        (Condition::Gt, Reg::R5, (ANY, LOW), (ANY, LOW)),
-    ];
-    for (condition, src, not_taken, taken) in rows {
-        let not_taken = Some(numbers(not_taken.0, not_taken.1));
-        let taken = Some(numbers(taken.0, taken.1));
-        let next = here.step(&jump_if(condition, Reg::R5, Operand::Reg(src), 0));
-        assert_eq!(rt;
-            next,
-            Ok(Next::Fork { not_taken, taken }),
-            "{condition:?} {src:?}"
-        );
-    }
-}
-
-#[test]
-fn a_comparison_with_the_end_proves_a_length(rt: HostRuntime) {
-    let here = after(
-        &rt,
-        &[FIRST, END, alu(AluOp::Add, Reg::R2, Operand::Imm(4))],
-    );
-    let next = here.step(&jump_if(Condition::Gt, Reg::R2, Operand::Reg(Reg::R3), 0));
+/// Checks that a comparison with the datagram's end proves a length.
+fn check_length<R: Abort + AllocGlobal>(rt: &R) -> Result<(), Fail> {
+    let here = after(rt, "ldxdw r2, [r1+0]\nldxdw r3, [r1+8]\nadd r2, 4")?;
     let mut long = here;
     long.proved = 4;
     let (not_taken, taken) = (Some(long), Some(here));
+    let next = here.step(&insn_of(rt, "jgt r2, r3, +0")?);
     assert_eq!(rt; next, Ok(Next::Fork { not_taken, taken }));
+    Ok(())
 }
 
-/// Returns the state in which `r5` is this number, if there is one.
-fn only_r5(number: Option<u64>) -> Option<State> {
-    let n = number?;
-    Some(state([NOTHING, NOTHING, NOTHING, between((n, n)), NOTHING]))
+fn check_leads<R: Abort + AllocGlobal>(rt: &R, table: &str, rows: &[Leads]) -> Result<(), Fail> {
+    for (i, row) in rows.iter().enumerate() {
+        let insn = row.insn;
+        let here = after(rt, row.before)?;
+        let next = with_numbers(&here, row.r5, row.r6);
+        let step = here.step(&insn_of(rt, insn)?);
+        assert_eq!(rt; step, Ok(Next::On(next)), "{table} {i}: {insn}");
+    }
+    Ok(())
+}
+
+/// Returns the state of a branch, if that may be taken.
+fn branch_of(state: &State, branch: Branch) -> Option<State> {
+    let (r5, r6) = branch?;
+    Some(with_numbers(state, r5, r6))
+}
+
+fn check_forks<R: Abort + AllocGlobal>(rt: &R, rows: &[Forks]) -> Result<(), Fail> {
+    for (i, row) in rows.iter().enumerate() {
+        let insn = row.insn;
+        let here = after(rt, row.before)?;
+        let not_taken = branch_of(&here, row.not_taken);
+        let taken = branch_of(&here, row.taken);
+        let step = here.step(&insn_of(rt, insn)?);
+        assert_eq!(rt; step, Ok(Next::Fork { not_taken, taken }), "{i}: {insn}");
+    }
+    Ok(())
+}
+
+fn check_refused<R: Abort + AllocGlobal>(
+    rt: &R,
+    table: &str,
+    rows: &[Refused],
+) -> Result<(), Fail> {
+    for (i, &(before, insn, reason)) in rows.iter().enumerate() {
+        match after(rt, before)?.step(&insn_of(rt, insn)?) {
+            Ok(_) => assert!(rt; false, "{table} {i}: {insn} is accepted"),
+            Err(refused) => {
+                let refused = format!(in rt.alloc(); "{refused}")?;
+                assert_eq!(rt; refused.as_str(), reason, "{table} {i}: {insn}");
+            }
+        }
+    }
+    Ok(())
 }
 
 #[test]
-fn a_branch_may_be_dead(rt: HostRuntime) {
-    let here = after(&rt, &[mov(Reg::R5, Operand::Imm(7))]);
-    let rows = [
-        (Condition::Gt, 7, Some(7), None),
-        (Condition::Eq, 7, None, Some(7)),
-        (Condition::SignedGt, -1, None, Some(7)),
-        (Condition::Set, 8, Some(7), None),
-    ];
-    for (condition, n, not_taken, taken) in rows {
-        let [not_taken, taken] = [not_taken, taken].map(only_r5);
-        let next = here.step(&jump_if(condition, Reg::R5, Operand::Imm(n), 0));
-        assert_eq!(rt;
-            next,
-            Ok(Next::Fork { not_taken, taken }),
-            "{condition:?} {n}"
-        );
-    }
+fn a_step_leads_on_forks_ends_or_is_refused(rt: HostRuntime) -> Result<(), Fail> {
+    check_states(&rt)?;
+    check_length(&rt)?;
+    check_leads(&rt, "numbers", LEADS.as_slice())?;
+    check_leads(&rt, "context", context::LEADS.as_slice())?;
+    check_leads(&rt, "memory", memory::LEADS.as_slice())?;
+    check_forks(&rt, FORKS.as_slice())?;
+    check_refused(&rt, "registers", REFUSED.as_slice())?;
+    check_refused(&rt, "context", context::REFUSED.as_slice())?;
+    check_refused(&rt, "memory", memory::REFUSED.as_slice())?;
+    check_refused(&rt, "calls", calls::REFUSED.as_slice())
 }
 
 #[test]
-fn a_step_ends_or_is_refused(rt: HostRuntime) {
-    assert_eq!(rt; after(&rt, &[ZERO]).step(&Insn::Exit), Ok(Next::Exit));
-    let start = AbsState::<Interval>::start();
-    let rows = [
-        (Insn::Exit, Reason::UninitRegister),
-        (
-            alu(AluOp::Add, Reg::R1, Operand::Imm(1)),
-            Reason::PointerArithmetic,
-        ),
-        (mov(Reg::R10, Operand::Imm(1)), Reason::WritesFramePointer),
-        (
-            jump_if(Condition::Eq, Reg::R1, Operand::Imm(0), 0),
-            Reason::PointerCompare,
-        ),
-    ];
-    for (insn, reason) in rows {
-        assert_eq!(rt; start.step(&insn), Err(reason), "{insn:?}");
-    }
+fn bytes_of_the_stack_are_set(rt: HostRuntime) -> Result<(), Fail> {
+    memory::check_stored(&rt, memory::STORED.as_slice())?;
+    memory::check_loaded(&rt)?;
+    calls::check_answers(&rt, calls::ANSWERS.as_slice())
 }

@@ -53,39 +53,59 @@ pub fn left(pair: Option<Refined<Interval>>) -> Option<(Ends, Ends)> {
 /// Two operands, and the ends of the result.
 pub type Row = (Ends, Ends, Ends);
 
-/// Checks an operator on the rows of a table.
-pub fn check_rows(rt: &impl Abort, op: AluOp, width: Width, rows: &[Row]) {
-    for &(a, b, want) in rows {
-        assert_eq!(rt;
-            ends(Interval::alu(op, width, interval(a), interval(b))),
-            want,
-            "{a:?} {b:?}"
-        );
+/// The rows of an operator at a width.
+#[derive(Clone, Copy)]
+pub struct Table {
+    pub op: AluOp,
+    pub width: Width,
+    pub rows: &'static [Row],
+}
+
+/// Checks the rows of one operator.
+fn check_rows(rt: &impl Abort, table: &Table) {
+    let (op, width) = (table.op, table.width);
+    for (i, &(a, b, want)) in table.rows.iter().enumerate() {
+        let result = ends(Interval::alu(op, width, interval(a), interval(b)));
+        assert_eq!(rt; result, want, "{i}: {op:?} {width:?} {a:?} {b:?}");
     }
 }
 
+fn check_tables(rt: &impl Abort, tables: &[Table]) {
+    for table in tables {
+        check_rows(rt, table);
+    }
+}
+
+/// Two intervals, and whether the first covers the second.
+static COVERED: [(Ends, Ends, bool); 9] = [
+    ((0, 10), (0, 10), true),
+    ((0, 10), (1, 9), true),
+    ((1, 10), (0, 10), false),
+    ((0, 9), (0, 10), false),
+    ((0, 10), (11, 12), false),
+    ((5, 6), ALL_64, false),
+    (ALL_64, (5, 6), true),
+    (ALL_64, ALL_64, true),
+    (ALL_32, (0, S32), false),
+];
+
 #[test]
-fn intervals_have_ends(rt: HostRuntime) {
+fn intervals_have_ends_and_cover_those_within(rt: HostRuntime) {
     assert_eq!(rt; ends(Interval::top()), ALL_64);
     assert_eq!(rt; ends(Interval::exact(0)), (0, 0));
     assert_eq!(rt; ends(Interval::exact(L64)), (L64, L64));
     assert_eq!(rt; ends(Interval::range(L31, S63)), (L31, S63));
+    for (i, &(a, b, want)) in COVERED.iter().enumerate() {
+        let covers = interval(a).covers(interval(b));
+        assert_eq!(rt; covers, want, "{i}: {a:?} {b:?}");
+    }
 }
 
 #[test]
-fn intervals_cover_those_within(rt: HostRuntime) {
-    let rows = [
-        ((0, 10), (0, 10), true),
-        ((0, 10), (1, 9), true),
-        ((1, 10), (0, 10), false),
-        ((0, 9), (0, 10), false),
-        ((0, 10), (11, 12), false),
-        ((5, 6), ALL_64, false),
-        (ALL_64, (5, 6), true),
-        (ALL_64, ALL_64, true),
-        (ALL_32, (0, S32), false),
-    ];
-    for (a, b, want) in rows {
-        assert_eq!(rt; interval(a).covers(interval(b)), want, "{a:?} {b:?}");
-    }
+fn operators_and_tests_give_intervals(rt: HostRuntime) {
+    check_tables(&rt, binary::BINARY.as_slice());
+    check_tables(&rt, bitwise::BITWISE.as_slice());
+    check_tables(&rt, signed::SIGNED.as_slice());
+    unary::check_unary(&rt);
+    refined::check_refinements(&rt);
 }

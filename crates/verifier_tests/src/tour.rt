@@ -1,9 +1,10 @@
 //! The abstract states of docs/TOUR.md: a program that loads a datagram's fourth byte, slot by slot.
 
-use crate::assembly::FOURTH_BYTE;
+use crate::assembly::{FOURTH_BYTE, code_of};
 use absstate::{AbsState, AbstractValue, Anchor, Next};
-use insn::Reg;
+use insn::{Insn, Reg};
 use interval::{Domain, Interval};
+use std::test::Fail;
 
 type Known = AbstractValue<Interval>;
 
@@ -16,8 +17,8 @@ fn datagram(offset: i32) -> Known {
 }
 
 /// Returns the state behind an instruction, of the branch that is not taken where there are two.
-fn behind(state: AbsState<Interval>, slot: usize) -> Option<AbsState<Interval>> {
-    match state.step(FOURTH_BYTE.get(slot)?) {
+fn behind(state: AbsState<Interval>, insn: Option<&Insn>) -> Option<AbsState<Interval>> {
+    match state.step(insn?) {
         Ok(Next::On(next)) => Some(next),
         Ok(Next::Fork { not_taken, .. }) => not_taken,
         _ => None,
@@ -33,7 +34,8 @@ struct Row {
 }
 
 #[test]
-fn the_states_of_the_tour(rt: HostRuntime) {
+fn the_states_of_the_tour(rt: HostRuntime) -> Result<(), Fail> {
+    let code = code_of(&rt, FOURTH_BYTE)?;
     let rows = [
         Row {
             register: Reg::R2,
@@ -73,7 +75,7 @@ fn the_states_of_the_tour(rt: HostRuntime) {
     ];
     let mut state = AbsState::<Interval>::start();
     for (slot, row) in rows.iter().enumerate() {
-        match behind(state, slot) {
+        match behind(state, code.get(slot)) {
             Some(next) => state = next,
             None => assert!(rt; false, "{slot}"),
         }
@@ -85,5 +87,6 @@ fn the_states_of_the_tour(rt: HostRuntime) {
         );
         assert_eq!(rt; state.proved, row.proved, "{slot}");
     }
-    assert_eq!(rt; state.step(&FOURTH_BYTE[7]), Ok(Next::Exit));
+    assert_eq!(rt; state.step(&Insn::Exit), Ok(Next::Exit));
+    Ok(())
 }

@@ -12,30 +12,26 @@ mod pointers;
 mod refined;
 mod stores;
 
+use crate::assembly::code_of;
 use crate::known::Known;
 use insn::Insn;
-use semantics::Reason;
 use std::alloc::Global;
 use std::marker::Brand;
 use std::process::Abort;
 use std::sync::ledger::{Blank, Ledger};
+use std::test::Fail;
 use verifier::{Refusal, Steps, verify, verify_with};
 
 /// Accepted, or refused.
 pub type Verdict = Result<(), Refusal>;
 
-/// A program, and its verdict over each domain.
+/// A program, and the line of its verdict over each domain.
 #[derive(Clone, Copy)]
-pub struct Row<'a> {
+pub struct Row {
     pub name: &'static str,
-    pub code: &'a [Insn],
-    pub known: Verdict,
-    pub interval: Verdict,
-}
-
-/// Refused by the step at a slot.
-pub fn stuck(reason: Reason, slot: usize) -> Verdict {
-    Err(Refusal::Stuck { reason, slot })
+    pub text: &'static str,
+    pub known: &'static str,
+    pub interval: &'static str,
 }
 
 fn over_known<L: Ledger>(alloc: Global, code: &[Insn], budget: usize, blank: Blank) -> Verdict
@@ -74,19 +70,38 @@ pub fn interval_verdict(rt: &impl Abort, alloc: Global, code: &[Insn], budget: u
     over_intervals::<Brand>(alloc, code, budget, Blank::new(1))
 }
 
+/// Returns the line of a verdict.
+fn line_of<R: AllocGlobal>(rt: &R, verdict: Verdict) -> Result<String, Fail> {
+    match verdict {
+        Ok(()) => Ok(format!(in rt.alloc(); "accepted")?),
+        Err(refusal) => Ok(format!(in rt.alloc(); "refused {refusal}")?),
+    }
+}
+
 /// Checks the verdicts of a table.
-pub fn check_rows(rt: &impl Abort, alloc: Global, rows: &[Row<'_>]) {
-    for row in rows {
+fn check_rows<R: Abort + AllocGlobal>(rt: &R, table: &str, rows: &[Row]) -> Result<(), Fail> {
+    for (i, row) in rows.iter().enumerate() {
         let name = row.name;
+        let code = code_of(rt, row.text)?;
+        let known = line_of(rt, known_verdict(rt, rt.alloc(), &code, 100))?;
+        assert_eq!(rt; known.as_str(), row.known, "{table} {i}: {name}, known");
+        let interval = line_of(rt, interval_verdict(rt, rt.alloc(), &code, 100))?;
         assert_eq!(rt;
-            known_verdict(rt, alloc, row.code, 100),
-            row.known,
-            "{name}, known"
-        );
-        assert_eq!(rt;
-            interval_verdict(rt, alloc, row.code, 100),
+            interval.as_str(),
             row.interval,
-            "{name}, intervals"
+            "{table} {i}: {name}, intervals"
         );
     }
+    Ok(())
+}
+
+#[test]
+fn programs_are_accepted_or_refused(rt: HostRuntime) -> Result<(), Fail> {
+    check_rows(&rt, "layout", layout::ROWS.as_slice())?;
+    check_rows(&rt, "branches", branches::ROWS.as_slice())?;
+    check_rows(&rt, "refined", refined::ROWS.as_slice())?;
+    check_rows(&rt, "pointers", pointers::ROWS.as_slice())?;
+    check_rows(&rt, "anchors", anchors::ROWS.as_slice())?;
+    check_rows(&rt, "stores", stores::ROWS.as_slice())?;
+    check_rows(&rt, "calls", calls::ROWS.as_slice())
 }

@@ -1,7 +1,7 @@
-use Rattle.std.proofs.Common.{Some, None, codes, inl, inr}
+use Rattle.std.proofs.Common.{Some, None, codes, inl, inr, sym}
 use Rattle.clap.specs.Words.{found_of, rows_of}
 use Rattle.command_line.specs.Subcommands.{IsNoSubcommand}
-use Rattle.command_line.proofs.Subcommands.{one_met, any_met, read, read_as, lacks_file, lacks_files}
+use Rattle.command_line.proofs.Subcommands.{one_met, any_met, read, read_as, lacks_events, lacks_file, lacks_files, no_server_met, server_met}
 use Rattle.command_line.proofs.subcommand_of.Goals as goal
 
 pub returns-in_err-input-in-assemble-clause-none : goal.returns-in_err-input-in-assemble-clause-none
@@ -48,3 +48,23 @@ pub returns-in_ok-file-in-trace-clause-found : goal.returns-in_ok-file-in-trace-
 returns-in_ok-file-in-trace-clause-found c =
     one_met c.args.matches.now c.in_ok-name.name.now (found_of c.in_ok-name.matches.now) _ c.in_ok-name.ensures.name c.in_ok-name.ensures.rows
     (c.in-trace.is, read_as (found_of c.in_ok-name.matches.now) (codes "file") _ (Some c.in_ok-file-in-trace.file) c.get_str-in-trace.ensures c.in_ok-file-in-trace.was, read (found_of c.in_ok-name.matches.now) (codes "data") _ c.get_str-data.ensures)
+
+pub returns-in_err-events-in-replay-clause-none : goal.returns-in_err-events-in-replay-clause-none
+returns-in_err-events-in-replay-clause-none c =
+    rw c.from_residual-in_err-events-in-replay.ensures (any_met c.args.matches.now c.in_ok-name.name.now (found_of c.in_ok-name.matches.now) IsNoSubcommand c.in_ok-name.ensures.name c.in_ok-name.ensures.rows
+    (lacks_events c.in_ok-name.name.now (rows_of (found_of c.in_ok-name.matches.now)) c.in-replay.is (read_as (found_of c.in_ok-name.matches.now) (codes "events") _ None c.get_str-in-replay.ensures c.in_err-events-in-replay.was)))
+
+pub returns-in_ok-events-in-replay-clause-found : goal.returns-in_ok-events-in-replay-clause-found
+returns-in_ok-events-in-replay-clause-found c =
+    one_met c.args.matches.now c.in_ok-name.name.now (found_of c.in_ok-name.matches.now) _ c.in_ok-name.ensures.name c.in_ok-name.ensures.rows
+    (c.in-replay.is, read_as (found_of c.in_ok-name.matches.now) (codes "events") _ (Some c.in_ok-events-in-replay.events) c.get_str-in-replay.ensures c.in_ok-events-in-replay.was, read (found_of c.in_ok-name.matches.now) (codes "nonce") _ c.get_str-nonce.ensures, sym c.options_of-options.ensures)
+
+pub returns-in-serve-clause-found : goal.returns-in-serve-clause-found
+returns-in-serve-clause-found c =
+    server_met c.args.matches.now c.in_ok-name.name.now (found_of c.in_ok-name.matches.now) c.serve_of.result c.in_ok-name.ensures.name c.in_ok-name.ensures.rows
+    c.in-serve.is c.serve_of.ensures.found
+
+pub returns-in-serve-clause-none : goal.returns-in-serve-clause-none
+returns-in-serve-clause-none c =
+    no_server_met c.args.matches.now c.in_ok-name.name.now (found_of c.in_ok-name.matches.now) c.serve_of.result c.in_ok-name.ensures.name c.in_ok-name.ensures.rows
+    c.in-serve.is c.serve_of.ensures.none

@@ -156,17 +156,12 @@ static ASKED: [Asked; 15] = [
 
 /// Runs each row from a client, and compares the verdict.
 fn expect_verdicts<R: Abort + AllocGlobal>(rt: &R, rows: &[Asked]) -> Result<(), Fail> {
-    for row in rows {
+    for (i, row) in rows.iter().enumerate() {
         let slots = row.slots;
         let outcome = outcome_of(rt, slots, &CLIENT, &[], &OnePeer)?;
-        assert_eq!(rt; outcome.verdict, row.verdict, "{slots}");
+        assert_eq!(rt; outcome.verdict, row.verdict, "{i}: {slots}");
     }
     Ok(())
-}
-
-#[test]
-fn helpers_answer_programs(rt: HostRuntime) -> Result<(), Fail> {
-    expect_verdicts(&rt, ASKED.as_slice())
 }
 
 /// The record that a helper writes is set as the destination: `mov r6, r1`, `mov r2, 16385`, `mov r3, r10`,
@@ -175,16 +170,22 @@ const SENDS: &str = "bf16000000000000 b702000001400000 bfa3000000000000 07030000
              8500000001000000 bf61000000000000 bfa2000000000000 07020000f8ffffff \
              8500000005000000 b700000002000000 9500000000000000";
 
-#[test]
-fn a_program_sends_to_the_peer_of_a_channel(rt: HostRuntime) -> Result<(), Fail> {
+/// Runs it from a client, and from a peer, where no destination is set.
+fn expect_destinations<R: Abort + AllocGlobal>(rt: &R) -> Result<(), Fail> {
     let peer = Addr::V4 {
         ip: [192, 0, 2, 7],
         port: 5000,
     };
-    let outcome = outcome_of(&rt, SENDS, &CLIENT, &[], &OnePeer)?;
+    let outcome = outcome_of(rt, SENDS, &CLIENT, &[], &OnePeer)?;
     assert_eq!(rt; outcome.verdict, 2);
     assert_eq!(rt; outcome.destination, Some(peer));
-    let outcome = outcome_of(&rt, SENDS, &PEER, &[], &OnePeer)?;
+    let outcome = outcome_of(rt, SENDS, &PEER, &[], &OnePeer)?;
     assert_eq!(rt; outcome.destination, None);
     Ok(())
+}
+
+#[test]
+fn helpers_answer_programs(rt: HostRuntime) -> Result<(), Fail> {
+    expect_verdicts(&rt, ASKED.as_slice())?;
+    expect_destinations(&rt)
 }

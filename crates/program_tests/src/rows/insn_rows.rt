@@ -1,8 +1,8 @@
-//! How instructions and the refusals of a decoder are spelled, and which file is refused by which.
+//! How instructions are spelled, and which file is refused by which refusal of a decoder.
 
 use super::program;
 use disasm::disassemble;
-use insn::{DecodeError, Insn, decode, encode, read_back};
+use insn::{Insn, decode, encode, read_back};
 use machine::{Lines, Sink};
 use std::process::Abort;
 use std::test::Fail;
@@ -219,30 +219,33 @@ static SPELLED: [Spelled; 25] = [
 
 /// Compares the lines of a trace with those of the text, each behind its slot.
 fn expect_traced<R: Abort + AllocGlobal>(rt: &R, code: &[Insn], text: &str) -> Result<(), Fail> {
-    let mut traced = Lines::new(Vec::new(rt.alloc()));
+    let mut traced = Vec::new(rt.alloc());
+    let mut lines = Lines::new(&mut traced);
     for insn in code {
-        traced.step(7, insn);
+        lines.step(7, insn);
     }
+    lines.finish()?;
     let mut wanted = String::new(rt.alloc());
     for line in text.lines() {
         writeln!(wanted, "7 {line}")?;
     }
-    assert_eq!(rt; traced.finish()?.as_slice(), wanted.as_bytes());
+    assert_eq!(rt; traced.as_slice(), wanted.as_bytes(), "{text}");
     Ok(())
 }
 
 /// Decodes each row, and compares its text, the lines of a trace, its encoding with the bytes, and what is read back.
 fn expect_lines<R: Abort + AllocGlobal>(rt: &R, rows: &[Spelled]) -> Result<(), Fail> {
-    for row in rows {
+    for (i, row) in rows.iter().enumerate() {
+        let lines = row.lines;
         let file = program(rt, row.slots)?;
         let code = decode(rt.alloc(), &file)?;
         let text = disassemble(rt.alloc(), &code)?;
-        assert_eq!(rt; text.as_str(), row.lines);
-        expect_traced(rt, &code, row.lines)?;
+        assert_eq!(rt; text.as_str(), lines, "{i}");
+        expect_traced(rt, &code, lines)?;
         let again = encode(rt.alloc(), &code)?;
-        assert_eq!(rt; again.as_slice(), file.as_slice());
+        assert_eq!(rt; again.as_slice(), file.as_slice(), "{i}: {lines}");
         let back = read_back(rt.alloc(), &code)?;
-        assert_eq!(rt; back.as_slice(), code.as_slice());
+        assert_eq!(rt; back.as_slice(), code.as_slice(), "{i}: {lines}");
     }
     Ok(())
 }
@@ -250,25 +253,6 @@ fn expect_lines<R: Abort + AllocGlobal>(rt: &R, rows: &[Spelled]) -> Result<(), 
 #[test]
 fn instructions_are_spelled(rt: HostRuntime) -> Result<(), Fail> {
     expect_lines(&rt, SPELLED.as_slice())
-}
-
-#[test]
-fn decode_errors_are_spelled(rt: HostRuntime) -> Result<(), Fail> {
-    let table = [
-        (DecodeError::Empty, "E1"),
-        (DecodeError::NotEights, "E2"),
-        (DecodeError::TooLong, "E3"),
-        (DecodeError::Opcode(1), "E4 at 1"),
-        (DecodeError::Register(2), "E5 at 2"),
-        (DecodeError::UnusedField(3), "E6 at 3"),
-        (DecodeError::WideCut(4), "E7 at 4"),
-        (DecodeError::Memory, "E8"),
-    ];
-    for (error, text) in table {
-        let shown = format!(in rt.alloc(); "{error}")?;
-        assert_eq!(rt; shown.as_str(), text);
-    }
-    Ok(())
 }
 
 /// Files that encode no program, and the line of `verify` on each.

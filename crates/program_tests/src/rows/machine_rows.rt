@@ -176,11 +176,6 @@ static TRACED: [Traced; 24] = [
     },
 ];
 
-#[test]
-fn a_trace_ends_as_the_run_does(rt: HostRuntime) -> Result<(), Fail> {
-    expect_ends(&rt, TRACED.as_slice())
-}
-
 /// Makes the longest program whose slots each move their own number into r0.
 fn numbered<R: AllocGlobal>(rt: &R) -> Result<Vec<u8>, Fail> {
     let mut file = Vec::new(rt.alloc());
@@ -203,10 +198,11 @@ fn numbered_lines<R: AllocGlobal>(rt: &R) -> Result<String, Fail> {
 }
 
 #[test]
-fn a_trace_prints_every_step(rt: HostRuntime) -> Result<(), Fail> {
+fn a_trace_prints_each_step_and_its_end(rt: HostRuntime) -> Result<(), Fail> {
+    expect_ends(&rt, "traced", TRACED.as_slice())?;
     let lines = numbered_lines(&rt)?;
     let report = reported(&rt, Ask::Trace { hex: None }, &numbered(&rt)?);
-    expect_printed(&rt, &report, &lines, "", 0);
+    expect_printed(&rt, "4,096 steps", &report, &lines, "", 0);
     Ok(())
 }
 
@@ -288,24 +284,20 @@ fn ran_over<R: AllocGlobal>(rt: &R, file: &[u8], datagram: &[u8]) -> Result<(Out
     Ok((outcome, kept))
 }
 
+/// Runs each row, and compares the outcome and what is left.
 fn expect_verdicts<R: Abort + AllocGlobal>(rt: &R, rows: &[Ran]) -> Result<(), Fail> {
-    for row in rows {
-        let datagram = program(rt, row.hex)?;
+    for (i, row) in rows.iter().enumerate() {
+        let (slots, hex) = (row.slots, row.hex);
+        let datagram = program(rt, hex)?;
         assert!(rt; datagram.len() <= MAX_DATAGRAM);
-        let (outcome, kept) = ran_over(rt, &program(rt, row.slots)?, &datagram)?;
-        let hex = row.hex;
-        assert_eq!(rt; outcome.verdict, row.verdict, "{hex}");
-        assert_eq!(rt; outcome.steps, row.steps, "{hex}");
-        assert_eq!(rt; outcome.window, None, "{hex}");
-        assert_eq!(rt; outcome.destination, None, "{hex}");
-        assert!(rt; kept, "{hex}");
+        let (outcome, kept) = ran_over(rt, &program(rt, slots)?, &datagram)?;
+        assert_eq!(rt; outcome.verdict, row.verdict, "{i}: {slots} {hex}");
+        assert_eq!(rt; outcome.steps, row.steps, "{i}: {slots} {hex}");
+        assert_eq!(rt; outcome.window, None, "{i}: {slots} {hex}");
+        assert_eq!(rt; outcome.destination, None, "{i}: {slots} {hex}");
+        assert!(rt; kept, "{i}: {slots} {hex}");
     }
     Ok(())
-}
-
-#[test]
-fn a_loaded_program_runs_to_its_verdict(rt: HostRuntime) -> Result<(), Fail> {
-    expect_verdicts(&rt, RAN.as_slice())
 }
 
 /// Makes the longest program whose slots each move 0 into r0.
@@ -319,12 +311,12 @@ fn longest<R: AllocGlobal>(rt: &R) -> Result<Vec<u8>, Fail> {
     Ok(file)
 }
 
-#[test]
-fn the_longest_program_runs_to_its_exit(rt: HostRuntime) -> Result<(), Fail> {
-    let file = longest(&rt)?;
+/// Runs it to its exit.
+fn expect_longest<R: Abort + AllocGlobal>(rt: &R) -> Result<(), Fail> {
+    let file = longest(rt)?;
     let loaded = load(rt.alloc(), &file)?;
     assert_eq!(rt; loaded.program().code().len(), 4096);
-    let (outcome, kept) = ran_over(&rt, &file, &[])?;
+    let (outcome, kept) = ran_over(rt, &file, &[])?;
     assert_eq!(rt; outcome.verdict, 0);
     assert_eq!(rt; outcome.steps, 4096);
     assert!(rt; kept);
@@ -369,6 +361,7 @@ static SEEDED: [(u64, usize, Context); 12] = [
 /// Runs and traces a program over a datagram, and compares how the two end.
 fn expect_same_end<R: Abort>(
     rt: &R,
+    name: &str,
     program: &Verified,
     context: &Context,
     datagram: &[u8],
@@ -381,15 +374,15 @@ fn expect_same_end<R: Abort>(
     start_on(traced, context, datagram);
     let outcome = run(program, ran, &NoAllocation);
     let ended = trace(program.code(), traced, &NoAllocation, &mut Silent);
-    assert_eq!(rt; ended, Ok(outcome));
+    assert_eq!(rt; ended, Ok(outcome), "{name}");
 }
 
 /// Compares what two frames show after a run and a trace over datagrams of a length.
-fn expect_same_frames<R: Abort>(rt: &R, ran: &Frame, traced: &Frame, count: usize) {
-    assert_eq!(rt; ran.datagram().len(), count);
-    assert_eq!(rt; traced.datagram(), ran.datagram());
-    assert_eq!(rt; traced.window(), ran.window());
-    assert_eq!(rt; traced.started(), ran.started());
+fn expect_same_frames<R: Abort>(rt: &R, name: &str, ran: &Frame, traced: &Frame, count: usize) {
+    assert_eq!(rt; ran.datagram().len(), count, "{name}");
+    assert_eq!(rt; traced.datagram(), ran.datagram(), "{name}");
+    assert_eq!(rt; traced.window(), ran.window(), "{name}");
+    assert_eq!(rt; traced.started(), ran.started(), "{name}");
 }
 
 /// Runs and traces a program over seeded datagrams from either side, each in a frame of its own, and compares
@@ -405,8 +398,9 @@ fn agree<R: Abort + AllocGlobal>(
     for (seed, count, context) in SEEDED.iter() {
         let datagram = seeded(rt.alloc(), *seed, *count)?;
         assert!(rt; datagram.len() <= MAX_DATAGRAM);
-        expect_same_end(rt, loaded.program(), context, &datagram, ran, traced);
-        expect_same_frames(rt, ran, traced, *count);
+        let name = format!(in rt.alloc(); "{slots} seed {seed}")?;
+        expect_same_end(rt, &name, loaded.program(), context, &datagram, ran, traced);
+        expect_same_frames(rt, &name, ran, traced, *count);
     }
     Ok(())
 }
@@ -434,7 +428,9 @@ fn agree_on_traced<R: Abort + AllocGlobal>(rt: &R, rows: &[Traced]) -> Result<()
 }
 
 #[test]
-fn a_run_and_a_trace_agree(rt: HostRuntime) -> Result<(), Fail> {
+fn a_run_comes_to_its_verdict_as_a_trace_does(rt: HostRuntime) -> Result<(), Fail> {
+    expect_verdicts(&rt, RAN.as_slice())?;
+    expect_longest(&rt)?;
     agree_on_verified(&rt, PROGRAMS.as_slice())?;
     agree_on_verified(&rt, stores::ACCEPTED.as_slice())?;
     agree_on_verified(&rt, context::ACCEPTED.as_slice())?;
@@ -444,8 +440,8 @@ fn a_run_and_a_trace_agree(rt: HostRuntime) -> Result<(), Fail> {
     agree_on_traced(&rt, calls::LOOKUPS.as_slice())
 }
 
-#[test]
-fn a_frame_shows_what_was_written(rt: HostRuntime) -> Result<(), Fail> {
+/// Writes into a frame and starts it, and compares what it shows.
+fn expect_written_frame<R: Abort + AllocGlobal>(rt: &R) -> Result<(), Fail> {
     let mut frame = Frame::new(rt.alloc())?;
     assert!(rt; !frame.started());
     assert_eq!(rt; frame.area().len(), 65_507);
@@ -474,9 +470,9 @@ fn kept_of_two<R: Abort + AllocGlobal>(rt: &R) -> Result<Kept, Fail> {
     Ok(kept)
 }
 
-#[test]
-fn sinks_get_each_step(rt: HostRuntime) -> Result<(), Fail> {
-    let mut kept = kept_of_two(&rt)?;
+/// Reports more steps to it than it stores.
+fn expect_kept<R: Abort + AllocGlobal>(rt: &R) -> Result<(), Fail> {
+    let mut kept = kept_of_two(rt)?;
     for _ in 0..KEPT {
         kept.step(7, &Insn::Exit);
     }
@@ -486,8 +482,8 @@ fn sinks_get_each_step(rt: HostRuntime) -> Result<(), Fail> {
     Ok(())
 }
 
-#[test]
-fn addresses_are_spelled(rt: HostRuntime) -> Result<(), Fail> {
+/// Compares the texts of two addresses.
+fn expect_addresses<R: Abort + AllocGlobal>(rt: &R) -> Result<(), Fail> {
     let v4 = Addr::V4 {
         ip: [192, 0, 2, 7],
         port: 5000,
@@ -499,4 +495,11 @@ fn addresses_are_spelled(rt: HostRuntime) -> Result<(), Fail> {
     let shown = format!(in rt.alloc(); "{v6}")?;
     assert_eq!(rt; shown.as_str(), "[20010db8000000000000000000000001]:9");
     Ok(())
+}
+
+#[test]
+fn frames_sinks_and_addresses_show_what_they_have(rt: HostRuntime) -> Result<(), Fail> {
+    expect_written_frame(&rt)?;
+    expect_kept(&rt)?;
+    expect_addresses(&rt)
 }

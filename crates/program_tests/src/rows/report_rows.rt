@@ -1,9 +1,10 @@
-//! Bad data, bad files, and outputs that fail.
+//! Bad data, bad files, outputs that fail, and outputs that keep their bytes until they are flushed.
 
 use super::{expect_printed, program, reported};
 use insn::Insn;
 use machine::{Lines, Sink};
 use report::{Ask, report};
+use std::alloc::Global;
 use std::io::{self, Write};
 use std::process::Abort;
 use std::test::Fail;
@@ -202,18 +203,49 @@ static REPORTS: [Report; 24] = [
     },
 ];
 
-/// Reports on each row, and compares what is printed, and the status.
-fn expect_reports<R: Abort + AllocGlobal>(rt: &R, rows: &[Report]) -> Result<(), Fail> {
-    for row in rows {
-        let report = reported(rt, row.ask, &program(rt, row.slots)?);
-        expect_printed(rt, &report, row.out, row.err, row.status);
-    }
-    Ok(())
+/// A writer that keeps its bytes until it is flushed.
+#[derive(Drop)]
+struct Holding {
+    held: Vec<u8>,
+    flushed: Vec<u8>,
 }
 
-#[test]
-fn reports_are_printed(rt: HostRuntime) -> Result<(), Fail> {
-    expect_reports(&rt, REPORTS.as_slice())
+impl Write for Holding {
+    fn write(&mut self, buf: &[u8]) -> io::Result<usize> {
+        self.held.extend_from_slice(buf)?;
+        Ok(buf.len())
+    }
+
+    fn flush(&mut self) -> io::Result<()> {
+        self.flushed.extend_from_slice(&self.held)?;
+        self.held.clear();
+        Ok(())
+    }
+}
+
+/// Returns what a report on a file has flushed to its output.
+fn flushed(alloc: Global, ask: Ask<'_>, file: &[u8]) -> Vec<u8> {
+    let mut out = Holding {
+        held: Vec::new(alloc),
+        flushed: Vec::new(alloc),
+    };
+    let mut err = Vec::new(alloc);
+    report(alloc, ask, file, &mut out, &mut err);
+    out.flushed
+}
+
+/// Reports on each row, and compares what is printed and flushed, and the status.
+fn expect_reports<R: Abort + AllocGlobal>(rt: &R, rows: &[Report]) -> Result<(), Fail> {
+    for (i, row) in rows.iter().enumerate() {
+        let (ask, slots) = (row.ask, row.slots);
+        let name = format!(in rt.alloc(); "{i}: {ask:?} {slots}")?;
+        let file = program(rt, slots)?;
+        let report = reported(rt, ask, &file);
+        expect_printed(rt, &name, &report, row.out, row.err, row.status);
+        let flushed = flushed(rt.alloc(), ask, &file);
+        assert_eq!(rt; flushed.as_slice(), row.out.as_bytes(), "{name}");
+    }
+    Ok(())
 }
 
 /// How many times `7f` stands in the data, what follows it, what is printed, and the status.
@@ -279,18 +311,15 @@ fn digits_of<R: AllocGlobal>(rt: &R, row: &Long) -> Result<String, Fail> {
 /// Traces each row, and compares what is printed, and the status.
 fn expect_long<R: Abort + AllocGlobal>(rt: &R, rows: &[Long]) -> Result<(), Fail> {
     let file = program(rt, EXITS_WITH_TWO)?;
-    for row in rows {
+    for (i, row) in rows.iter().enumerate() {
+        let (times, then) = (row.times, row.then);
+        let name = format!(in rt.alloc(); "{i}: {times} bytes and {then:?}")?;
         let digits = digits_of(rt, row)?;
         let hex = Some(digits.as_str());
         let report = reported(rt, Ask::Trace { hex }, &file);
-        expect_printed(rt, &report, row.out, row.err, row.status);
+        expect_printed(rt, &name, &report, row.out, row.err, row.status);
     }
     Ok(())
-}
-
-#[test]
-fn data_has_at_most_65507_bytes(rt: HostRuntime) -> Result<(), Fail> {
-    expect_long(&rt, LONG.as_slice())
 }
 
 /// A writer that accepts `room` bytes, then fails, and counts its failures.
@@ -376,25 +405,25 @@ fn status_without_a_line<R: AllocGlobal>(rt: &R, ask: Ask<'_>, file: &[u8], room
     report(rt.alloc(), ask, file, &mut out, &mut err)
 }
 
-#[test]
-fn a_failing_output_is_reported(rt: HostRuntime) -> Result<(), Fail> {
-    let file = program(&rt, EXITS_WITH_TWO)?;
+/// Reports to outputs that fail, and compares the statuses.
+fn expect_failing_outputs<R: Abort + AllocGlobal>(rt: &R) -> Result<(), Fail> {
+    let file = program(rt, EXITS_WITH_TWO)?;
     let hex = None;
-    expect_failures(&rt, Ask::Verify, &file, ROOMS.as_slice());
-    expect_failures(&rt, Ask::Trace { hex }, &file, ROOMS.as_slice());
-    expect_failures(&rt, Ask::Disassemble, &file, ROOMS.as_slice());
+    expect_failures(rt, Ask::Verify, &file, ROOMS.as_slice());
+    expect_failures(rt, Ask::Trace { hex }, &file, ROOMS.as_slice());
+    expect_failures(rt, Ask::Disassemble, &file, ROOMS.as_slice());
     // a line that cannot be printed changes no status
     let hex = Some("0");
-    assert_eq!(rt; status_without_a_line(&rt, Ask::Verify, &file, 0), 3);
+    assert_eq!(rt; status_without_a_line(rt, Ask::Verify, &file, 0), 3);
     assert_eq!(rt;
-        status_without_a_line(&rt, Ask::Trace { hex }, &file, 1_000),
+        status_without_a_line(rt, Ask::Trace { hex }, &file, 1_000),
         1
     );
     Ok(())
 }
 
-#[test]
-fn lines_stop_at_the_first_failure(rt: HostRuntime) -> Result<(), Fail> {
+/// Reports four steps to a sink of lines whose writer fails at the second line: it writes nothing more.
+fn expect_lines_to_stop<R: Abort>(rt: &R) {
     let mut out = Failing {
         room: 7,
         failures: 0,
@@ -405,5 +434,13 @@ fn lines_stop_at_the_first_failure(rt: HostRuntime) -> Result<(), Fail> {
     }
     assert!(rt; lines.finish().is_err());
     assert_eq!(rt; out.failures, 1);
+}
+
+#[test]
+fn reports_are_printed_and_flushed(rt: HostRuntime) -> Result<(), Fail> {
+    expect_reports(&rt, REPORTS.as_slice())?;
+    expect_long(&rt, LONG.as_slice())?;
+    expect_failing_outputs(&rt)?;
+    expect_lines_to_stop(&rt);
     Ok(())
 }

@@ -1,4 +1,4 @@
-//! Which program is refused for which reason, and how refusals are spelled.
+//! Which program is refused for which reason, and how many steps a verification takes.
 
 ghost use Rattle.std.specs.Prelude.{◌≡◌, ◌<◌, ◌≤◌};
 ghost use Rattle.insn.specs.Encoding.{slot_count};
@@ -6,10 +6,10 @@ ghost use Rattle.insn.specs.declared.decoding.TheConstants.{MAX_SLOTS};
 
 use super::{FIFTH_BYTE, FIFTH_BYTE_CHECKED, FOURTH_BYTE};
 use insn::{Condition, Insn, Operand, Reg, Size, Width};
-use semantics::Reason;
+use std::alloc::Global;
 use std::marker::Brand;
+use std::process::Abort;
 use std::sync::ledger::{Blank, Ledger};
-use std::test::Fail;
 use verifier::{Refusal, Steps, verify};
 
 /// Files that encode a program, and the line of `verify` on each.
@@ -342,46 +342,8 @@ pub static REPEATED: [Repeated; 6] = [
     },
 ];
 
-#[test]
-fn refusals_are_spelled(rt: HostRuntime) -> Result<(), Fail> {
-    let table = [
-        (Reason::JumpBackward, "V1"),
-        (Reason::JumpOutside, "V2"),
-        (Reason::JumpIntoWide, "V3"),
-        (Reason::FallsOffEnd, "V4"),
-        (Reason::UninitRegister, "V5"),
-        (Reason::UninitStack, "V6"),
-        (Reason::WritesFramePointer, "V7"),
-        (Reason::StackBounds, "V8"),
-        (Reason::ContextAccess, "V9"),
-        (Reason::DatagramBounds, "V10"),
-        (Reason::PointerArithmetic, "V11"),
-        (Reason::PointerCompare, "V12"),
-        (Reason::PointerStored, "V13"),
-        (Reason::UnknownHelper, "V14"),
-        (Reason::HelperArgument(2), "V15 argument 2"),
-        (Reason::ExitNotScalar, "V16"),
-        (Reason::NotAPointer, "V18"),
-    ];
-    for (reason, text) in table {
-        let shown = format!(in rt.alloc(); "{reason}")?;
-        assert_eq!(rt; shown.as_str(), text);
-    }
-    let reason = Reason::DatagramBounds;
-    let table = [
-        (Refusal::Stuck { reason, slot: 6 }, "V10 at 6"),
-        (Refusal::Budget { slot: 62 }, "V17 at 62"),
-        (Refusal::Memory { slot: 0 }, "V19 at 0"),
-    ];
-    for (refusal, text) in table {
-        let shown = format!(in rt.alloc(); "{refusal}")?;
-        assert_eq!(rt; shown.as_str(), text);
-    }
-    Ok(())
-}
-
 fn count_verified<L: Ledger>(
-    rt: &HostRuntime,
+    alloc: Global,
     code: &[Insn],
     budget: usize,
     blank: Blank,
@@ -392,19 +354,19 @@ fn count_verified<L: Ledger>(
     requires few { slot_count code.now ≤ MAX_SLOTS }
 {
     let mut steps = Steps::<L>::new(blank);
-    let verified = verify(rt.alloc(), code, budget, &mut steps)?;
+    let verified = verify(alloc, code, budget, &mut steps)?;
     Ok(verified.code().len())
 }
 
 /// Verifies the code with this budget, and returns how many instructions it has.
-fn verified(rt: &HostRuntime, code: &[Insn], budget: usize) -> Result<usize, Refusal>
+fn verified(alloc: Global, code: &[Insn], budget: usize) -> Result<usize, Refusal>
     requires { slot_count code.now ≤ MAX_SLOTS }
 {
-    count_verified::<Brand>(rt, code, budget, Blank::new(1))
+    count_verified::<Brand>(alloc, code, budget, Blank::new(1))
 }
 
-#[test]
-fn the_budget_counts_steps_on_every_path(rt: HostRuntime) {
+/// Compares what a budget is enough for: steps are counted on every path.
+fn expect_every_path<R: Abort + AllocGlobal>(rt: &R) {
     // `ldxdw r2, [r1+0]`, `ldxb r0, [r2-1]`, `jeq r0, 0, +0`, `exit`: five steps, two of them the exit
     let load = |size, dst, base, offset| Insn::Load {
         size,
@@ -425,13 +387,19 @@ fn the_budget_counts_steps_on_every_path(rt: HostRuntime) {
         jump,
         Insn::Exit,
     ];
-    assert_eq!(rt; verified(&rt, &code, 5), Ok(4));
-    assert_eq!(rt; verified(&rt, &code, 4), Err(Refusal::Budget { slot: 3 }));
-    assert_eq!(rt; verified(&rt, &code, 0), Err(Refusal::Budget { slot: 0 }));
+    assert_eq!(rt; verified(rt.alloc(), &code, 5), Ok(4));
+    assert_eq!(rt;
+        verified(rt.alloc(), &code, 4),
+        Err(Refusal::Budget { slot: 3 })
+    );
+    assert_eq!(rt;
+        verified(rt.alloc(), &code, 0),
+        Err(Refusal::Budget { slot: 0 })
+    );
 }
 
-#[test]
-fn a_branch_that_cannot_be_taken_costs_no_step(rt: HostRuntime) {
+/// Compares what a budget is enough for: a branch that cannot be taken costs no step.
+fn expect_taken_branches<R: Abort + AllocGlobal>(rt: &R) {
     // `mov r0, 0`, `jeq r0, 0, +0`, `exit`: three steps, since the jump is always taken
     let (dst, operand) = (Reg::R0, Operand::Imm(0));
     let code = [
@@ -449,6 +417,15 @@ fn a_branch_that_cannot_be_taken_costs_no_step(rt: HostRuntime) {
         },
         Insn::Exit,
     ];
-    assert_eq!(rt; verified(&rt, &code, 3), Ok(3));
-    assert_eq!(rt; verified(&rt, &code, 2), Err(Refusal::Budget { slot: 2 }));
+    assert_eq!(rt; verified(rt.alloc(), &code, 3), Ok(3));
+    assert_eq!(rt;
+        verified(rt.alloc(), &code, 2),
+        Err(Refusal::Budget { slot: 2 })
+    );
+}
+
+#[test]
+fn the_budget_counts_steps(rt: HostRuntime) {
+    expect_every_path(&rt);
+    expect_taken_branches(&rt);
 }

@@ -1,147 +1,69 @@
 //! Branches that can't be taken, which are not followed, and those that can.
 
-use super::{Row, check_rows, stuck};
-use crate::assembly::{BYTE, END, FAULT, FIRST, ZERO, alu, jump_if, load, mov};
-use insn::{AluOp, Condition, Insn, Operand, Reg, Size};
-use semantics::Reason;
+use super::Row;
 
-#[test]
-fn the_low_bits_of_a_byte_are_at_most_7(rt: HostRuntime) {
-    let rows = [Row {
+pub static ROWS: [Row; 9] = [
+    Row {
         name: "a byte of the datagram",
-        code: &[
-            FIRST,
-            END,
-            mov(Reg::R4, Operand::Reg(Reg::R2)),
-            alu(AluOp::Add, Reg::R4, Operand::Imm(1)),
-            ZERO,
-            jump_if(Condition::Gt, Reg::R4, Operand::Reg(Reg::R3), 3),
-            load(Size::Byte, Reg::R5, Reg::R2, 0),
-            alu(AluOp::And, Reg::R5, Operand::Imm(7)),
-            jump_if(Condition::Gt, Reg::R5, Operand::Imm(7), 1),
-            Insn::Exit,
-            FAULT,
-            Insn::Exit,
-        ],
-        known: stuck(Reason::NotAPointer, 10),
-        interval: Ok(()),
-    }];
-    check_rows(&rt, rt.alloc(), &rows);
-}
-
-#[test]
-fn a_single_number_decides(rt: HostRuntime) {
-    let three = mov(Reg::R5, Operand::Imm(3));
-    let above = |n, offset| jump_if(Condition::Gt, Reg::R5, Operand::Imm(n), offset);
-    let rows = [
-        Row {
-            name: "3 isn't above 7",
-            code: &[three, ZERO, above(7, 1), Insn::Exit, FAULT, Insn::Exit],
-            known: Ok(()),
-            interval: Ok(()),
-        },
-        Row {
-            name: "3 is above 1",
-            code: &[three, ZERO, above(1, 1), FAULT, Insn::Exit],
-            known: Ok(()),
-            interval: Ok(()),
-        },
-        Row {
-            name: "3 is above 1, and the fault is there",
-            code: &[three, ZERO, above(1, 1), Insn::Exit, FAULT, Insn::Exit],
-            known: stuck(Reason::NotAPointer, 4),
-            interval: stuck(Reason::NotAPointer, 4),
-        },
-    ];
-    check_rows(&rt, rt.alloc(), &rows);
-}
-
-#[test]
-fn a_register_is_compared_with_itself(rt: HostRuntime) {
-    let above_itself = jump_if(Condition::Gt, Reg::R5, Operand::Reg(Reg::R5), 1);
-    let rows = [
-        Row {
-            name: "a single number isn't above itself",
-            code: &[
-                mov(Reg::R5, Operand::Imm(3)),
-                ZERO,
-                above_itself,
-                Insn::Exit,
-                FAULT,
-                Insn::Exit,
-            ],
-            known: Ok(()),
-            interval: Ok(()),
-        },
-        Row {
-            name: "of any byte it isn't known",
-            code: &[
-                FIRST,
-                BYTE,
-                ZERO,
-                above_itself,
-                Insn::Exit,
-                FAULT,
-                Insn::Exit,
-            ],
-            known: stuck(Reason::NotAPointer, 5),
-            interval: stuck(Reason::NotAPointer, 5),
-        },
-    ];
-    check_rows(&rt, rt.alloc(), &rows);
-}
-
-#[test]
-fn the_branch_not_taken_is_refused_first(rt: HostRuntime) {
-    let frame_pointer = mov(Reg::R10, Operand::Imm(0));
-    let above_10 = jump_if(Condition::Gt, Reg::R5, Operand::Imm(10), 1);
-    let rows = [
-        Row {
-            name: "V7 before V18",
-            code: &[
-                FIRST,
-                BYTE,
-                ZERO,
-                above_10,
-                frame_pointer,
-                FAULT,
-                Insn::Exit,
-            ],
-            known: stuck(Reason::WritesFramePointer, 4),
-            interval: stuck(Reason::WritesFramePointer, 4),
-        },
-        Row {
-            name: "V18 before V7",
-            code: &[
-                FIRST,
-                BYTE,
-                ZERO,
-                above_10,
-                FAULT,
-                frame_pointer,
-                Insn::Exit,
-            ],
-            known: stuck(Reason::NotAPointer, 4),
-            interval: stuck(Reason::NotAPointer, 4),
-        },
-    ];
-    check_rows(&rt, rt.alloc(), &rows);
-}
-
-#[test]
-fn a_dead_branch_is_not_refused(rt: HostRuntime) {
-    let rows = [Row {
+        text: "ldxdw r2, [r1+0]\nldxdw r3, [r1+8]\nmov r4, r2\nadd r4, 1\nmov r0, 0\n\
+             jgt r4, r3, +3\nldxb r5, [r2+0]\nand r5, 7\njgt r5, 7, +1\nexit\nldxb r0, [r0+0]\n\
+             exit",
+        known: "refused V18 at 10",
+        interval: "accepted",
+    },
+    // a single number decides
+    Row {
+        name: "3 isn't above 7",
+        text: "mov r5, 3\nmov r0, 0\njgt r5, 7, +1\nexit\nldxb r0, [r0+0]\nexit",
+        known: "accepted",
+        interval: "accepted",
+    },
+    Row {
+        name: "3 is above 1",
+        text: "mov r5, 3\nmov r0, 0\njgt r5, 1, +1\nldxb r0, [r0+0]\nexit",
+        known: "accepted",
+        interval: "accepted",
+    },
+    Row {
+        name: "3 is above 1, and the fault is there",
+        text: "mov r5, 3\nmov r0, 0\njgt r5, 1, +1\nexit\nldxb r0, [r0+0]\nexit",
+        known: "refused V18 at 4",
+        interval: "refused V18 at 4",
+    },
+    // a register is compared with itself
+    Row {
+        name: "a single number isn't above itself",
+        text: "mov r5, 3\nmov r0, 0\njgt r5, r5, +1\nexit\nldxb r0, [r0+0]\nexit",
+        known: "accepted",
+        interval: "accepted",
+    },
+    Row {
+        name: "of any byte it isn't known",
+        text: "ldxdw r2, [r1+0]\nldxb r5, [r2-1]\nmov r0, 0\njgt r5, r5, +1\nexit\n\
+             ldxb r0, [r0+0]\nexit",
+        known: "refused V18 at 5",
+        interval: "refused V18 at 5",
+    },
+    // the branch that is not taken is refused first
+    Row {
+        name: "V7 before V18",
+        text: "ldxdw r2, [r1+0]\nldxb r5, [r2-1]\nmov r0, 0\njgt r5, 10, +1\nmov r10, 0\n\
+             ldxb r0, [r0+0]\nexit",
+        known: "refused V7 at 4",
+        interval: "refused V7 at 4",
+    },
+    Row {
+        name: "V18 before V7",
+        text: "ldxdw r2, [r1+0]\nldxb r5, [r2-1]\nmov r0, 0\njgt r5, 10, +1\nldxb r0, [r0+0]\n\
+             mov r10, 0\nexit",
+        known: "refused V18 at 4",
+        interval: "refused V18 at 4",
+    },
+    // a dead branch is not refused
+    Row {
         name: "30 is above 10, so V7 doesn't come before V18",
-        code: &[
-            mov(Reg::R5, Operand::Imm(30)),
-            ZERO,
-            jump_if(Condition::Gt, Reg::R5, Operand::Imm(10), 1),
-            mov(Reg::R10, Operand::Imm(0)),
-            FAULT,
-            Insn::Exit,
-        ],
-        known: stuck(Reason::NotAPointer, 4),
-        interval: stuck(Reason::NotAPointer, 4),
-    }];
-    check_rows(&rt, rt.alloc(), &rows);
-}
+        text: "mov r5, 30\nmov r0, 0\njgt r5, 10, +1\nmov r10, 0\nldxb r0, [r0+0]\nexit",
+        known: "refused V18 at 4",
+        interval: "refused V18 at 4",
+    },
+];

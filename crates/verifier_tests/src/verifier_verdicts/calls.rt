@@ -1,135 +1,74 @@
 //! Calls of helpers: their arguments in order, and what is known behind them.
 
-use super::stores::{Same, check_same};
-use super::stuck;
-use crate::assembly::{ZERO, alu, load, mov, store};
-use insn::{AluOp, Insn, Operand, Reg, Size};
-use semantics::Reason;
+use super::Row;
 
-const LOOK_UP: Insn = Insn::Call { helper: 3 };
-
-const CHANNEL_PEER: Insn = Insn::Call { helper: 1 };
-
-#[test]
-fn an_argument_is_tested_behind_those_before_it(rt: HostRuntime) {
-    let stack = mov(Reg::R2, Operand::Reg(Reg::R10));
-    let last = alu(AluOp::Add, Reg::R2, Operand::Imm(-8));
-    let number = |reg| mov(reg, Operand::Imm(0));
-    let rows = [
-        Same {
-            name: "a register that holds nothing",
-            code: &[LOOK_UP, Insn::Exit],
-            verdict: stuck(Reason::UninitRegister, 0),
-        },
-        Same {
-            name: "a number for the context, before a register that holds nothing",
-            code: &[number(Reg::R1), LOOK_UP, Insn::Exit],
-            verdict: stuck(Reason::HelperArgument(1), 1),
-        },
-        Same {
-            name: "a record behind the stack, before its bytes",
-            code: &[stack, LOOK_UP, Insn::Exit],
-            verdict: stuck(Reason::HelperArgument(2), 1),
-        },
-        Same {
-            name: "a record that is not set",
-            code: &[stack, last, LOOK_UP, Insn::Exit],
-            verdict: stuck(Reason::UninitStack, 2),
-        },
-        Same {
-            name: "half a record",
-            code: &[
-                stack,
-                last,
-                store(Size::Word, Reg::R2, Operand::Imm(0), 0),
-                LOOK_UP,
-                Insn::Exit,
-            ],
-            verdict: stuck(Reason::UninitStack, 3),
-        },
-        Same {
-            name: "a record",
-            code: &[
-                stack,
-                last,
-                store(Size::Double, Reg::R2, Operand::Imm(0), 0),
-                LOOK_UP,
-                Insn::Exit,
-            ],
-            verdict: Ok(()),
-        },
-    ];
-    check_same(&rt, rt.alloc(), &rows);
-}
-
-#[test]
-fn a_call_forgets_its_arguments_alone(rt: HostRuntime) {
-    let number = mov(Reg::R2, Operand::Imm(0x4001));
-    let stack = mov(Reg::R3, Operand::Reg(Reg::R10));
-    let last = alu(AluOp::Add, Reg::R3, Operand::Imm(-8));
-    let kept = mov(Reg::R6, Operand::Reg(Reg::R1));
-    let length = |base| load(Size::Double, Reg::R0, base, 16);
-    let rows = [
-        Same {
-            name: "the context in r6",
-            code: &[
-                kept,
-                number,
-                stack,
-                last,
-                CHANNEL_PEER,
-                length(Reg::R6),
-                Insn::Exit,
-            ],
-            verdict: Ok(()),
-        },
-        Same {
-            name: "the context in r1",
-            code: &[
-                number,
-                stack,
-                last,
-                CHANNEL_PEER,
-                length(Reg::R1),
-                Insn::Exit,
-            ],
-            verdict: stuck(Reason::UninitRegister, 4),
-        },
-        Same {
-            name: "the record of the answer",
-            code: &[
-                number,
-                stack,
-                last,
-                CHANNEL_PEER,
-                load(Size::Double, Reg::R0, Reg::R10, -8),
-                Insn::Exit,
-            ],
-            verdict: Ok(()),
-        },
-        Same {
-            name: "the byte before the record",
-            code: &[
-                number,
-                stack,
-                last,
-                CHANNEL_PEER,
-                load(Size::Byte, Reg::R0, Reg::R10, -9),
-                Insn::Exit,
-            ],
-            verdict: stuck(Reason::UninitStack, 4),
-        },
-        Same {
-            name: "a window",
-            code: &[
-                number,
-                mov(Reg::R3, Operand::Imm(3)),
-                Insn::Call { helper: 4 },
-                ZERO,
-                Insn::Exit,
-            ],
-            verdict: Ok(()),
-        },
-    ];
-    check_same(&rt, rt.alloc(), &rows);
-}
+pub static ROWS: [Row; 11] = [
+    // an argument is tested behind those before it
+    Row {
+        name: "a register that holds nothing",
+        text: "call 3\nexit",
+        known: "refused V5 at 0",
+        interval: "refused V5 at 0",
+    },
+    Row {
+        name: "a number for the context, before a register that holds nothing",
+        text: "mov r1, 0\ncall 3\nexit",
+        known: "refused V15 argument 1 at 1",
+        interval: "refused V15 argument 1 at 1",
+    },
+    Row {
+        name: "a record behind the stack, before its bytes",
+        text: "mov r2, r10\ncall 3\nexit",
+        known: "refused V15 argument 2 at 1",
+        interval: "refused V15 argument 2 at 1",
+    },
+    Row {
+        name: "a record that is not set",
+        text: "mov r2, r10\nadd r2, -8\ncall 3\nexit",
+        known: "refused V6 at 2",
+        interval: "refused V6 at 2",
+    },
+    Row {
+        name: "half a record",
+        text: "mov r2, r10\nadd r2, -8\nstw [r2+0], 0\ncall 3\nexit",
+        known: "refused V6 at 3",
+        interval: "refused V6 at 3",
+    },
+    Row {
+        name: "a record",
+        text: "mov r2, r10\nadd r2, -8\nstdw [r2+0], 0\ncall 3\nexit",
+        known: "accepted",
+        interval: "accepted",
+    },
+    // a call forgets its arguments alone
+    Row {
+        name: "the context in r6",
+        text: "mov r6, r1\nmov r2, 16385\nmov r3, r10\nadd r3, -8\ncall 1\nldxdw r0, [r6+16]\nexit",
+        known: "accepted",
+        interval: "accepted",
+    },
+    Row {
+        name: "the context in r1",
+        text: "mov r2, 16385\nmov r3, r10\nadd r3, -8\ncall 1\nldxdw r0, [r1+16]\nexit",
+        known: "refused V5 at 4",
+        interval: "refused V5 at 4",
+    },
+    Row {
+        name: "the record of the answer",
+        text: "mov r2, 16385\nmov r3, r10\nadd r3, -8\ncall 1\nldxdw r0, [r10-8]\nexit",
+        known: "accepted",
+        interval: "accepted",
+    },
+    Row {
+        name: "the byte before the record",
+        text: "mov r2, 16385\nmov r3, r10\nadd r3, -8\ncall 1\nldxb r0, [r10-9]\nexit",
+        known: "refused V6 at 4",
+        interval: "refused V6 at 4",
+    },
+    Row {
+        name: "a window",
+        text: "mov r2, 16385\nmov r3, 3\ncall 4\nmov r0, 0\nexit",
+        known: "accepted",
+        interval: "accepted",
+    },
+];

@@ -1,103 +1,54 @@
 //! Pointers, which over the domain `Known` move by numbers with a single value.
 
-use super::{Row, check_rows, stuck};
-use crate::assembly::{BYTE, END, FIRST, FOURTH_BYTE, ZERO, alu, jump_if, load, mov};
-use insn::{AluOp, Condition, Insn, Operand, Reg, Size};
-use semantics::Reason;
+use super::Row;
 
-#[test]
-fn a_checked_byte_is_read(rt: HostRuntime) {
-    let rows = [
-        Row {
-            name: "four bytes are checked for",
-            code: &FOURTH_BYTE,
-            known: Ok(()),
-            interval: Ok(()),
-        },
-        Row {
-            name: "the four stands in a register",
-            code: &[
-                FIRST,
-                END,
-                mov(Reg::R4, Operand::Reg(Reg::R2)),
-                mov(Reg::R5, Operand::Imm(4)),
-                alu(AluOp::Add, Reg::R4, Operand::Reg(Reg::R5)),
-                ZERO,
-                jump_if(Condition::Gt, Reg::R4, Operand::Reg(Reg::R3), 1),
-                load(Size::Byte, Reg::R0, Reg::R2, 3),
-                Insn::Exit,
-            ],
-            known: Ok(()),
-            interval: Ok(()),
-        },
-    ];
-    check_rows(&rt, rt.alloc(), &rows);
-}
-
-#[test]
-fn pointers_move_by_numbers(rt: HostRuntime) {
-    let moves = alu(AluOp::Add, Reg::R2, Operand::Reg(Reg::R5));
-    let rows = [
-        Row {
-            name: "by any byte",
-            code: &[FIRST, BYTE, moves, ZERO, Insn::Exit],
-            known: stuck(Reason::PointerArithmetic, 2),
-            interval: Ok(()),
-        },
-        Row {
-            name: "by a byte that was found to be 4",
-            code: &[
-                FIRST,
-                BYTE,
-                ZERO,
-                jump_if(Condition::Ne, Reg::R5, Operand::Imm(4), 1),
-                moves,
-                Insn::Exit,
-            ],
-            known: stuck(Reason::PointerArithmetic, 4),
-            interval: Ok(()),
-        },
-        Row {
-            name: "by a byte that was found not to be 4",
-            code: &[
-                FIRST,
-                BYTE,
-                ZERO,
-                jump_if(Condition::Eq, Reg::R5, Operand::Imm(4), 1),
-                moves,
-                Insn::Exit,
-            ],
-            known: stuck(Reason::PointerArithmetic, 4),
-            interval: Ok(()),
-        },
-    ];
-    check_rows(&rt, rt.alloc(), &rows);
-}
-
-#[test]
-fn an_exit_needs_a_number(rt: HostRuntime) {
-    let context = mov(Reg::R0, Operand::Reg(Reg::R1));
-    let rows = [
-        Row {
-            name: "the context at the exit",
-            code: &[context, Insn::Exit],
-            known: stuck(Reason::ExitNotScalar, 1),
-            interval: stuck(Reason::ExitNotScalar, 1),
-        },
-        Row {
-            name: "the context at an exit behind a byte above 255",
-            code: &[
-                FIRST,
-                BYTE,
-                ZERO,
-                jump_if(Condition::Gt, Reg::R5, Operand::Imm(255), 1),
-                Insn::Exit,
-                context,
-                Insn::Exit,
-            ],
-            known: stuck(Reason::ExitNotScalar, 6),
-            interval: Ok(()),
-        },
-    ];
-    check_rows(&rt, rt.alloc(), &rows);
-}
+pub static ROWS: [Row; 7] = [
+    // a checked byte is read
+    Row {
+        name: "four bytes are checked for",
+        text: "ldxdw r2, [r1+0]\nldxdw r3, [r1+8]\nmov r4, r2\nadd r4, 4\nmov r0, 0\n\
+             jgt r4, r3, +1\nldxb r0, [r2+3]\nexit",
+        known: "accepted",
+        interval: "accepted",
+    },
+    Row {
+        name: "the four stands in a register",
+        text: "ldxdw r2, [r1+0]\nldxdw r3, [r1+8]\nmov r4, r2\nmov r5, 4\nadd r4, r5\nmov r0, 0\n\
+             jgt r4, r3, +1\nldxb r0, [r2+3]\nexit",
+        known: "accepted",
+        interval: "accepted",
+    },
+    // pointers move by numbers
+    Row {
+        name: "by any byte",
+        text: "ldxdw r2, [r1+0]\nldxb r5, [r2-1]\nadd r2, r5\nmov r0, 0\nexit",
+        known: "refused V11 at 2",
+        interval: "accepted",
+    },
+    Row {
+        name: "by a byte that was found to be 4",
+        text: "ldxdw r2, [r1+0]\nldxb r5, [r2-1]\nmov r0, 0\njne r5, 4, +1\nadd r2, r5\nexit",
+        known: "refused V11 at 4",
+        interval: "accepted",
+    },
+    Row {
+        name: "by a byte that was found not to be 4",
+        text: "ldxdw r2, [r1+0]\nldxb r5, [r2-1]\nmov r0, 0\njeq r5, 4, +1\nadd r2, r5\nexit",
+        known: "refused V11 at 4",
+        interval: "accepted",
+    },
+    // an exit needs a number
+    Row {
+        name: "the context at the exit",
+        text: "mov r0, r1\nexit",
+        known: "refused V16 at 1",
+        interval: "refused V16 at 1",
+    },
+    Row {
+        name: "the context at an exit behind a byte above 255",
+        text: "ldxdw r2, [r1+0]\nldxb r5, [r2-1]\nmov r0, 0\njgt r5, 255, +1\nexit\nmov r0, r1\n\
+             exit",
+        known: "refused V16 at 6",
+        interval: "accepted",
+    },
+];

@@ -6,7 +6,7 @@ use Rattle.machine.proofs.execution.execute.Given as goal
 
 abbrev pub invariant-loop-insn : goal.invariant-loop-insn
 invariant-loop-insn g l =
-    IsInside l.given.length l.plan × HasRun g.S.Sink.with_step l.given.code.now (g.H.Helpers.answers l.given.helpers.now) l.given.context.now (memory_with l.initial.stack l.initial.bytes l.given.length) (memory_with l.stack l.bytes l.given.length) l.plan l.at l.registers l.steps (g.S.Sink.log l.initial.sink) (g.S.Sink.log l.sink)
+    IsInside l.given.length l.plan × HasRun g.S.Sink.Logs l.given.code.now (g.H.Helpers.answers l.given.helpers.now) l.given.context.now (memory_with l.initial.stack l.initial.bytes l.given.length) (memory_with l.stack l.bytes l.given.length) l.plan l.at l.registers l.steps (g.S.Sink.log l.initial.sink) (g.S.Sink.log l.sink)
 
 abbrev pub decreases-loop-insn : goal.decreases-loop-insn
 decreases-loop-insn g l = length l.given.code.now + 1 - l.at.index

@@ -242,43 +242,43 @@ static LEFT: [Left; 19] = [
 ];
 
 /// Compares the bytes of a frame's datagram and of its window with those of a row.
-fn expect_left<R: Abort + AllocGlobal>(rt: &R, frame: &Frame, row: &Left) -> Result<(), Fail> {
-    let (slots, before) = (row.slots, row.before);
+fn expect_left<R: Abort + AllocGlobal>(
+    rt: &R,
+    name: &str,
+    frame: &Frame,
+    row: &Left,
+) -> Result<(), Fail> {
     let after = program(rt, row.after)?;
-    assert_eq!(rt; frame.datagram(), after.as_slice(), "{slots} {before}");
+    assert_eq!(rt; frame.datagram(), after.as_slice(), "{name}");
     let window = match row.window {
         Some(bytes) => Some(program(rt, bytes)?),
         None => None,
     };
-    assert_eq!(rt; frame.window(), window.as_deref(), "{slots} {before}");
+    assert_eq!(rt; frame.window(), window.as_deref(), "{name}");
     Ok(())
 }
 
 /// Runs and traces each row, and compares the verdict, the window and the datagram.
 fn expect_each_left<R: Abort + AllocGlobal>(rt: &R, rows: &[Left]) -> Result<(), Fail> {
     let mut frame = Frame::new(rt.alloc())?;
-    for row in rows {
+    for (i, row) in rows.iter().enumerate() {
         let (slots, before) = (row.slots, row.before);
+        let name = format!(in rt.alloc(); "{i}: {slots} {before}")?;
         let datagram = program(rt, before)?;
         assert!(rt; datagram.len() <= MAX_DATAGRAM);
         let file = program(rt, slots)?;
         let loaded = load(rt.alloc(), &file)?;
         start_on(&mut frame, &CLIENT, &datagram);
         let outcome = run(loaded.program(), &mut frame, &NoAllocation);
-        assert_eq!(rt; outcome.verdict, row.verdict, "{slots} {before}");
-        expect_left(rt, &frame, row)?;
+        assert_eq!(rt; outcome.verdict, row.verdict, "{name}");
+        expect_left(rt, &name, &frame, row)?;
         start_on(&mut frame, &CLIENT, &datagram);
         let code = loaded.program().code();
         let ended = trace(code, &mut frame, &NoAllocation, &mut Silent);
-        assert_eq!(rt; ended, Ok(outcome), "{slots} {before}");
-        expect_left(rt, &frame, row)?;
+        assert_eq!(rt; ended, Ok(outcome), "{name}");
+        expect_left(rt, &name, &frame, row)?;
     }
     Ok(())
-}
-
-#[test]
-fn a_run_leaves_what_it_stored(rt: HostRuntime) -> Result<(), Fail> {
-    expect_each_left(&rt, LEFT.as_slice())
 }
 
 /// Makes the stores that fill the stack with 64 numbers: `stdw [r10-512], 0` to `stdw [r10-8], 63`.
@@ -309,12 +309,11 @@ fn adding<R: AllocGlobal>(rt: &R) -> Result<Vec<u8>, Fail> {
     Ok(file)
 }
 
-/// 0 and 1 and so on up to 63 make 2,016. There are 64 stores, `mov r0, 0`, 64 loads, 64 additions, and the
+/// Stores and loads the whole stack. 0 and 1 and so on up to 63 make 2,016. There are 64 stores, `mov r0, 0`, 64 loads, 64 additions, and the
 /// exit.
-#[test]
-fn the_whole_stack_is_stored_and_loaded(rt: HostRuntime) -> Result<(), Fail> {
-    let mut file = filling(&rt)?;
-    file.extend_from_slice(&adding(&rt)?)?;
+fn expect_whole_stack<R: Abort + AllocGlobal>(rt: &R) -> Result<(), Fail> {
+    let mut file = filling(rt)?;
+    file.extend_from_slice(&adding(rt)?)?;
     let loaded = load(rt.alloc(), &file)?;
     let mut frame = Frame::new(rt.alloc())?;
     start_on(&mut frame, &CLIENT, &[]);
@@ -352,12 +351,12 @@ fn use_all<R: Abort + AllocGlobal>(rt: &R, frame: &mut Frame) -> Result<(), Fail
     Ok(())
 }
 
-#[test]
-fn a_run_leaves_no_plan_to_the_next(rt: HostRuntime) -> Result<(), Fail> {
-    let file = program(&rt, "b700000000000000 9500000000000000")?;
+/// Runs a program after one that sets a window and a destination: it has neither.
+fn expect_no_plan<R: Abort + AllocGlobal>(rt: &R) -> Result<(), Fail> {
+    let file = program(rt, "b700000000000000 9500000000000000")?;
     let loaded = load(rt.alloc(), &file)?;
     let mut frame = Frame::new(rt.alloc())?;
-    use_all(&rt, &mut frame)?;
+    use_all(rt, &mut frame)?;
     start_on(&mut frame, &CLIENT, &[1, 2, 3, 4]);
     assert_eq!(rt; frame.window(), None);
     let outcome = run(loaded.program(), &mut frame, &NoAllocation);
@@ -393,24 +392,39 @@ static ROOM_LOADS: [&str; 2] = [
     "7913080000000000 7130000000000000 9500000000000000",
 ];
 
-#[test]
-fn a_run_leaves_no_bytes_to_the_next(rt: HostRuntime) -> Result<(), Fail> {
+/// Loads from the stack after a run that has filled it: each load is stuck.
+fn expect_empty_stack<R: Abort + AllocGlobal>(rt: &R) -> Result<(), Fail> {
     let mut frame = Frame::new(rt.alloc())?;
     for slots in STACK_LOADS {
-        let code = decode(rt.alloc(), &program(&rt, slots)?)?;
-        use_all(&rt, &mut frame)?;
+        let code = decode(rt.alloc(), &program(rt, slots)?)?;
+        use_all(rt, &mut frame)?;
         start_on(&mut frame, &CLIENT, &[1, 2, 3, 4]);
         let ended = trace(&code, &mut frame, &NoAllocation, &mut Silent);
         let reason = Reason::UninitStack;
         assert_eq!(rt; ended, Err(Stuck { reason, slot: 0 }), "{slots}");
     }
+    Ok(())
+}
+
+/// Loads from the headroom and the tailroom after a run that has written both.
+fn expect_zeros<R: Abort + AllocGlobal>(rt: &R) -> Result<(), Fail> {
+    let mut frame = Frame::new(rt.alloc())?;
     for slots in ROOM_LOADS {
-        let file = program(&rt, slots)?;
+        let file = program(rt, slots)?;
         let loaded = load(rt.alloc(), &file)?;
-        use_all(&rt, &mut frame)?;
+        use_all(rt, &mut frame)?;
         start_on(&mut frame, &CLIENT, &[1, 2, 3, 4]);
         let outcome = run(loaded.program(), &mut frame, &NoAllocation);
         assert_eq!(rt; outcome.verdict, 0, "{slots}");
     }
     Ok(())
+}
+
+#[test]
+fn a_run_leaves_what_it_stored_and_nothing_to_the_next(rt: HostRuntime) -> Result<(), Fail> {
+    expect_each_left(&rt, LEFT.as_slice())?;
+    expect_whole_stack(&rt)?;
+    expect_no_plan(&rt)?;
+    expect_empty_stack(&rt)?;
+    expect_zeros(&rt)
 }

@@ -1,12 +1,7 @@
 //! What arithmetic and comparisons compute, by the verdicts of traces.
 
-use crate::rows::{program, reported};
-use report::Ask;
-use std::process::Abort;
-use std::test::Fail;
-
 /// Programs, and the line of a trace on the verdict of each.
-static COMPUTED: [(&str, &str); 49] = [
+pub static COMPUTED: [(&str, &str); 49] = [
     // `mov r0, -7`, `smod r0, 2`
     (
         "b7000000f9ffffff 9700010002000000 9500000000000000",
@@ -255,20 +250,3 @@ static COMPUTED: [(&str, &str); 49] = [
         "exit 0",
     ),
 ];
-
-/// Traces each row, and compares what is printed of its verdict.
-fn expect_exits<R: Abort + AllocGlobal>(rt: &R, rows: &[(&str, &str)]) -> Result<(), Fail> {
-    for &(slots, exit) in rows {
-        let file = program(rt, slots)?;
-        let report = reported(rt, Ask::Trace { hex: None }, &file);
-        let end = format!(in rt.alloc(); "{exit}\nwindow none\ndestination none\n")?;
-        assert!(rt; report.out.ends_with(end.as_bytes()));
-        assert_eq!(rt; report.status, 0);
-    }
-    Ok(())
-}
-
-#[test]
-fn traces_exit_with_what_is_computed(rt: HostRuntime) -> Result<(), Fail> {
-    expect_exits(&rt, COMPUTED.as_slice())
-}

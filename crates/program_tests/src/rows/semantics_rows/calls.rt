@@ -1,13 +1,13 @@
 //! Calls of helpers: which are refused, the windows and destinations that are set, and the answers of a relay
 //! without an allocation.
 
-use crate::rows::{CLIENT, PEER, Traced, expect_ends, expect_faults, outcome_of};
+use crate::rows::{CLIENT, PEER, Traced, outcome_of};
 use machine::{MAX_DATAGRAM, NoAllocation};
 use std::process::Abort;
 use std::test::Fail;
 
 /// Programs that are refused, and the refusal of each.
-static FAULTS: [(&str, &str); 60] = [
+pub static FAULTS: [(&str, &str); 60] = [
     // numbers of no helper: `mov r0, 0`, `call 10`
     (
         "b700000000000000 850000000a000000 9500000000000000",
@@ -652,24 +652,14 @@ pub static LOOKUPS: [Traced; 5] = [
     },
 ];
 
-#[test]
-fn a_faulty_call_is_refused(rt: HostRuntime) -> Result<(), Fail> {
-    expect_faults(&rt, FAULTS.as_slice())
-}
-
-#[test]
-fn a_window_lies_in_memory(rt: HostRuntime) -> Result<(), Fail> {
-    expect_ends(&rt, WINDOWS.as_slice())
-}
-
 /// A program that sets a window in a datagram of 65,507 bytes, and the window.
 #[derive(Clone, Copy)]
-struct Longest {
+pub struct Longest {
     slots: &'static str,
     window: Option<(usize, usize)>,
 }
 
-static LONGEST: [Longest; 6] = [
+pub static LONGEST: [Longest; 6] = [
     // `mov r2, 64`, `ldxdw r3, [r1+16]`, `call 4`
     Longest {
         slots: "b702000040000000 7913100000000000 8500000004000000 9500000000000000",
@@ -704,49 +694,38 @@ static LONGEST: [Longest; 6] = [
     },
 ];
 
-fn expect_windows<R: Abort + AllocGlobal>(rt: &R, rows: &[Longest]) -> Result<(), Fail> {
+/// Runs each row, and compares the window.
+pub fn expect_windows<R: Abort + AllocGlobal>(rt: &R, rows: &[Longest]) -> Result<(), Fail> {
     let datagram = vec![in rt.alloc(); 0; MAX_DATAGRAM]?;
-    for row in rows {
+    for (i, row) in rows.iter().enumerate() {
         let slots = row.slots;
         let outcome = outcome_of(rt, slots, &CLIENT, &datagram, &NoAllocation)?;
-        assert_eq!(rt; outcome.window, row.window, "{slots}");
-        assert_eq!(rt; outcome.verdict, u64::from(row.window.is_none()), "{slots}");
+        let refused = u64::from(row.window.is_none());
+        assert_eq!(rt; outcome.window, row.window, "window {i}: {slots}");
+        assert_eq!(rt; outcome.verdict, refused, "window {i}: {slots}");
     }
     Ok(())
-}
-
-#[test]
-fn a_window_is_no_longer_than_a_datagram(rt: HostRuntime) -> Result<(), Fail> {
-    expect_windows(&rt, LONGEST.as_slice())
-}
-
-#[test]
-fn a_destination_is_an_address(rt: HostRuntime) -> Result<(), Fail> {
-    expect_ends(&rt, DESTINATIONS.as_slice())
 }
 
 /// Runs each row from a peer, where no destination is set.
-fn expect_none_from_a_peer<R: Abort + AllocGlobal>(rt: &R, rows: &[Traced]) -> Result<(), Fail> {
-    for row in rows {
+pub fn expect_none_from_a_peer<R: Abort + AllocGlobal>(
+    rt: &R,
+    rows: &[Traced],
+) -> Result<(), Fail> {
+    for (i, row) in rows.iter().enumerate() {
         let slots = row.slots;
         let outcome = outcome_of(rt, slots, &PEER, &[], &NoAllocation)?;
-        assert_eq!(rt; outcome.destination, None, "{slots}");
+        assert_eq!(rt; outcome.destination, None, "destination {i}: {slots}");
     }
     Ok(())
 }
 
-#[test]
-fn a_peer_sets_no_destination(rt: HostRuntime) -> Result<(), Fail> {
-    expect_none_from_a_peer(&rt, DESTINATIONS.as_slice())?;
+/// Asks for a destination from a peer, which is refused.
+pub fn expect_refused_from_a_peer<R: Abort + AllocGlobal>(rt: &R) -> Result<(), Fail> {
     // `lddw r3, 0x070200c088130100`, `stxdw [r10-8], r3`, `mov r2, r10`, `add r2, -8`, `call 5`
     let slots = "1803000000011388 00000000c0000207 7b3af8ff00000000 bfa2000000000000 \
              07020000f8ffffff 8500000005000000 9500000000000000";
-    let outcome = outcome_of(&rt, slots, &PEER, &[], &NoAllocation)?;
+    let outcome = outcome_of(rt, slots, &PEER, &[], &NoAllocation)?;
     assert_eq!(rt; outcome.verdict, 1);
     Ok(())
-}
-
-#[test]
-fn nothing_is_found_without_an_allocation(rt: HostRuntime) -> Result<(), Fail> {
-    expect_ends(&rt, LOOKUPS.as_slice())
 }

@@ -1,12 +1,12 @@
 //! What a program reads in the context record, and which accesses are refused.
 
-use crate::rows::{CLIENT, PEER, Traced, expect_ends, expect_faults, outcome_of};
+use crate::rows::{CLIENT, PEER, Traced, outcome_of};
 use machine::{Addr, Context, NoAllocation, Side};
 use std::process::Abort;
 use std::test::Fail;
 
 /// Programs that are refused, and the refusal of each.
-static FAULTS: [(&str, &str); 18] = [
+pub static FAULTS: [(&str, &str); 18] = [
     // a field in another size: `ldxw r0, [r1+16]`
     ("6110100000000000 9500000000000000", "V9 at 0"),
     // `ldxh r0, [r1+16]`
@@ -82,7 +82,7 @@ pub static ACCEPTED: [(&str, &str); 6] = [
     ),
 ];
 
-static TRACED: [Traced; 6] = [
+pub static TRACED: [Traced; 6] = [
     // the length: `ldxdw r0, [r1+16]`
     Traced {
         slots: "7910100000000000 9500000000000000",
@@ -127,16 +127,6 @@ static TRACED: [Traced; 6] = [
     },
 ];
 
-#[test]
-fn other_accesses_are_refused(rt: HostRuntime) -> Result<(), Fail> {
-    expect_faults(&rt, FAULTS.as_slice())
-}
-
-#[test]
-fn a_trace_reads_its_own_context(rt: HostRuntime) -> Result<(), Fail> {
-    expect_ends(&rt, TRACED.as_slice())
-}
-
 /// A datagram from a peer with an IPv6 address, in a transaction of which every bit is set.
 const FROM_V6: Context = Context {
     side: Side::Peer,
@@ -149,13 +139,13 @@ const FROM_V6: Context = Context {
 
 /// A program that reads a field, a context, and the verdict of the run over a datagram of two bytes.
 #[derive(Clone, Copy)]
-struct Field {
+pub struct Field {
     slots: &'static str,
     context: Context,
     verdict: u64,
 }
 
-static FIELDS: [Field; 11] = [
+pub static FIELDS: [Field; 11] = [
     // the side: `ldxw r0, [r1+44]`
     Field {
         slots: "61102c0000000000 9500000000000000",
@@ -224,16 +214,12 @@ static FIELDS: [Field; 11] = [
     },
 ];
 
-fn expect_fields<R: Abort + AllocGlobal>(rt: &R, rows: &[Field]) -> Result<(), Fail> {
-    for row in rows {
+/// Runs each row, and compares the verdict.
+pub fn expect_fields<R: Abort + AllocGlobal>(rt: &R, rows: &[Field]) -> Result<(), Fail> {
+    for (i, row) in rows.iter().enumerate() {
         let slots = row.slots;
         let outcome = outcome_of(rt, slots, &row.context, &[0xff, 0xff], &NoAllocation)?;
-        assert_eq!(rt; outcome.verdict, row.verdict, "{slots}");
+        assert_eq!(rt; outcome.verdict, row.verdict, "field {i}: {slots}");
     }
     Ok(())
-}
-
-#[test]
-fn fields_are_little_endian(rt: HostRuntime) -> Result<(), Fail> {
-    expect_fields(&rt, FIELDS.as_slice())
 }

@@ -1,10 +1,9 @@
 //! What stores leave in the stack, the headroom, the datagram and the tailroom, and which stores are refused.
 
-use crate::rows::{Traced, expect_ends, expect_faults};
-use std::test::Fail;
+use crate::rows::Traced;
 
 /// Programs that are refused, and the refusal of each.
-static FAULTS: [(&str, &str); 35] = [
+pub static FAULTS: [(&str, &str); 35] = [
     // the base holds nothing: `stxdw [r0+0], r1`
     ("7b10000000000000 9500000000000000", "V5 at 0"),
     // `stb [r0+0], 1`
@@ -219,7 +218,7 @@ pub static REFUSED: [(&str, &str); 3] = [
     ),
 ];
 
-static TRACED: [Traced; 18] = [
+pub static TRACED: [Traced; 18] = [
     // `stxdw [r10-8], r1`
     Traced {
         slots: "7b1af8ff00000000 9500000000000000",
@@ -361,13 +360,3 @@ static TRACED: [Traced; 18] = [
         status: 1,
     },
 ];
-
-#[test]
-fn a_faulty_store_is_refused(rt: HostRuntime) -> Result<(), Fail> {
-    expect_faults(&rt, FAULTS.as_slice())
-}
-
-#[test]
-fn what_is_stored_is_loaded(rt: HostRuntime) -> Result<(), Fail> {
-    expect_ends(&rt, TRACED.as_slice())
-}

@@ -1,7 +1,17 @@
-use Rattle.std.proofs.Common.{rules, IfOk, IfErr}
+use Rattle.std.proofs.Common.{rules, ◌≡◌, None, IfOk, IfErr, OnOk, ap, subst}
+use Rattle.std.specs.Io.KnownBytes.{Appends}
+use Rattle.insn.specs.Encoding.{Encodes}
+use Rattle.semantics.specs.Machine.{Context}
+use Rattle.helpers.specs.Nothing.{finds_nothing}
+use Rattle.machine.specs.Contents.{datagram_of}
+use Rattle.machine.specs.Lines.{lines_written, step_lines}
+use Rattle.machine.specs.Contexts.{around}
+use Rattle.machine.specs.Tracing.{run_of, run_over}
+use Rattle.report.specs.Texts.{end_text}
+use Rattle.report.specs.Traces.{traced_run}
 use Rattle.report.specs.Statuses.{PrintsRefusal, Succeeds}
 use Rattle.report.specs.declared.reporting.Ask.TheVariants.{Trace}
-use Rattle.report.proofs.Printed.{ended_printed}
+use Rattle.report.proofs.Printed.{ended_printed, trace_written}
 use Rattle.report.proofs.reporting.report_trace.Goals as goal
 
 pub returns-clause-printed : goal.returns-clause-printed
@@ -9,3 +19,15 @@ returns-clause-printed g c =
     let exits : IfOk c.trace-ended.result (λ o. Succeeds (Trace c.args.hex) c.args.file.now) = search rules in
     let stuck : IfErr c.trace-ended.result (λ e. PrintsRefusal (Trace c.args.hex) c.args.file.now) = search rules in
     ended_printed (Trace c.args.hex) c.args.file.now c.trace-ended.result c.report_end.result exits stuck c.report_end.ensures.printed
+
+pub returns-clause-written : goal.returns-clause-written
+returns-clause-written g c =
+    let code = c.deref.result.now in
+    let run = run_of code c.prepare.new.frame finds_nothing in
+    let lines = lines_written _ run.path _ c.trace-ended.ensures.reported in
+    let clean : c.trace-ended.new.sink.fault ≡ None = search rules in
+    let steps : Appends (g.W.Write.contents c.args.out.now) (g.W.Write.contents c.trace-ended.new.sink.writer.now) (step_lines run.path) = subst (λ w. Appends (g.W.Write.contents w) (g.W.Write.contents c.trace-ended.new.sink.writer.now) (step_lines run.path)) c.new-lines.ensures.writer (lines.written clean) in
+    let encodes : Encodes code c.args.file.now = search rules in
+    let same : run ≡ traced_run code (datagram_of c.prepare.new.frame) = ap (λ (q : Context). run_over (around q finds_nothing) code (datagram_of c.prepare.new.frame)) c.in_ok-code.ensures.context in
+    let ending : OnOk c.report_end.result (Appends (g.W.Write.contents c.trace-ended.new.sink.writer.now) (g.W.Write.contents c.report_end.new.out) (end_text c.trace-ended.result)) = search rules in
+    trace_written c.args.hex c.args.file.now code (datagram_of c.prepare.new.frame) run encodes c.in_ok-code.ensures.datagram same _ _ _ c.trace-ended.result c.report_end.result c.trace-ended.ensures.ok c.trace-ended.ensures.err steps ending c.report_end.ensures.printed

@@ -1,8 +1,6 @@
-use Rattle.std.proofs.Common.{◌≡◌, ◌≤◌, List, ℕ, length, sym, ap, subst, ◌∙◌, arith, length-take-le, take}
-use Rattle.std.specs.Prelude.{Option, Some}
+use Rattle.std.proofs.Common.{◌≡◌, ◌≤◌, length, sym, ap, subst, ◌∙◌, arith, length-take-le, take}
 use Rattle.stun.specs.Datagrams.{message_in}
 use Rattle.tables.specs.Rows.{rows_at}
-use Rattle.events.specs.Events.{ToClient}
 use Rattle.programs.specs.Rules.{channel_data_from}
 use Rattle.programs.specs.Runs.{planned}
 use Rattle.relay.specs.Found.{lent, send_in, reply_sent, HasRoomFor}

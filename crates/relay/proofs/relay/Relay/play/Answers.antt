@@ -1,9 +1,6 @@
-use Rattle.std.proofs.Common.{◌≡◌, length, take, rules, sym, ap, ◌∙◌}
+use Rattle.std.proofs.Common.{length, rules, sym, ap, ◌∙◌}
 use Rattle.std.specs.Prelude.{Some}
-use Rattle.machine.specs.Contents.{room_of}
-use Rattle.semantics.specs.declared.limits.TheConstants.{MAX_DATAGRAM}
 use Rattle.events.specs.Actions.{sending_of}
-use Rattle.events.specs.Events.{Datagram}
 use Rattle.events.specs.Parsing.{event_of}
 use Rattle.events.specs.Reading.{event_in}
 use Rattle.relay.proofs.Plays.{state_is, answer_is}

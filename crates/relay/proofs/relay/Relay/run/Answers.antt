@@ -1,4 +1,4 @@
-use Rattle.std.proofs.Common.{◌≡◌, ℕ, length, take, subst, ◌∙◌}
+use Rattle.std.proofs.Common.{ℕ, length, take, subst, ◌∙◌}
 use Rattle.semantics.specs.Runs.{Run}
 use Rattle.machine.specs.Contents.{room_of}
 use Rattle.machine.specs.Contexts.{around, context_of}

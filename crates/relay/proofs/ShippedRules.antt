@@ -1,0 +1,176 @@
+-- With the shipped programs, what a datagram gives is what the rules give.
+use Rattle.std.proofs.Common.{◌≡◌, ◌≢◌, ℕ, ◌+◌, ◌*◌, ◌<◌, ◌≤◌, All, List, [], ◌∷◌, length, Bool, true, false, inl, inr, refl, sym, ap, subst, ◌∙◌, arith, eqb-true}
+use Rattle.std.specs.Prelude.{◌==◌, ◌&&◌, Option, None, Some, nat_lt, nat_le, if◌then◌else◌}
+use Rattle.std.specs.Option.{option_map, option_and_then, option_flatten}
+use Rattle.std.proofs.lemmas.Bool.{cases_Bool, cond-true, cond-false, and_parts}
+use Rattle.std.proofs.lemmas.Bool.Decides.{nat_tests}
+use Rattle.std.proofs.lemmas.List.{length-map}
+use Rattle.std.proofs.lemmas.List.Elements.{All-head, All-tail}
+use Rattle.std.proofs.lemmas.Option.{none-some, same_Some, slice_get_past}
+use Rattle.insn.specs.Encoding.{Encodes}
+use Rattle.insn.specs.declared.instruction.Insn.{Insn}
+use Rattle.semantics.specs.Machine.{AreBytes}
+use Rattle.semantics.specs.Runs.{Run, Ending, IsDatagram, IsSafe}
+use Rattle.stun.specs.Channels.{ChannelMessage}
+use Rattle.stun.specs.Datagrams.{message_in, channel_in}
+use Rattle.stun.specs.Messages.{Parts}
+use Rattle.stun.specs.Ranges.{is_between}
+use Rattle.stun.specs.Refusals.{number_at}
+use Rattle.attributes.specs.Addresses.{IsAddress, IsIpv4Address}
+use Rattle.attributes.specs.declared.address.Addr.{Addr}
+use Rattle.control.specs.declared.config.Config.{Config}
+use Rattle.tables.specs.Addresses.{is_ipv4}
+use Rattle.tables.specs.LookUps.{peer_of, permitted, channel_of}
+use Rattle.tables.specs.Moments.{moment_of}
+use Rattle.tables.specs.Rows.{Rows, held_at, rows_at}
+use Rattle.tables.specs.WellFormed.{AreWellFormed}
+use Rattle.tables.specs.WellFormedLaws.{of_ipv4, rows_at-well_formed}
+use Rattle.tables.specs.declared.held.Held.{Held}
+use Rattle.events.specs.Events.{Sending, ToClient}
+use Rattle.events.specs.Options.{◌>>=◌}
+use Rattle.events.specs.declared.meta.Source.{Source}
+use Rattle.events.specs.declared.meta.Source.TheVariants.{Client, Peer}
+use Rattle.programs.specs.FastPart.{begins_as_stun, begins_as_channel_data, is_plain_send, are_address_and_content}
+use Rattle.programs.specs.Relaying.{IsStart, Relays, PassesOn, ServesClient, ServesPeer}
+use Rattle.programs.specs.Rules.{send_indication, channel_data, channel_data_from, client_slot, client_at, peer_data, to_peer}
+use Rattle.programs.specs.Runs.{run_for}
+use Rattle.programs.specs.declared.client.TheConstants.{CLIENT}
+use Rattle.programs.specs.declared.peer.TheConstants.{PEER}
+use Rattle.programs.specs.declared.verdict.TheConstants.{PASSES}
+use Rattle.relay.specs.ByPrograms.{Programs, by_programs, by_run, by_ending, is_there}
+use Rattle.relay.specs.ByRules.{by_rules, from_client}
+use Rattle.relay.specs.Shipped.{AreShipped}
+use Rattle.relay.specs.Systems.{Reply, silent, relayed, address_of_source, if_ipv4}
+use Rattle.relay.proofs.Controls.{is_relayed, is_sent}
+
+module _ (config : Config) (now : ℕ) (tx : List ℕ) (rows : Rows) (datagram : List ℕ) (code : List Insn) where
+  abbrev counting : Rows
+  counting = rows_at now rows
+
+  abbrev run_from : Source → Run
+  run_from from = run_for code tx from counting datagram
+
+  -- what the run of the code gives
+  abbrev pub given : Source → Reply
+  given from = by_run config now from rows (length datagram) (run_from from)
+
+  differs : (verdict : ℕ) → verdict ≢ PASSES → (verdict == PASSES) ≡ false
+  differs verdict other = elim (cases_Bool (verdict == PASSES)) [
+    | inl same ↦ absurd (other (eqb-true verdict PASSES same))
+    | inr f ↦ f
+  ]
+
+  -- what is relayed by the program alone
+  gives_relayed : (from : Source) (sends : Option Sending) → Relays code tx from counting datagram sends → given from ≡ relayed rows sends
+  gives_relayed from sends is =
+      ap (λ (e : Ending). by_ending config now from rows (length datagram) (run_from from) e) is.exits
+      ∙ cond-false (is.verdict == PASSES) _ _ (differs is.verdict is.alone)
+      ∙ ap (relayed rows) is.sent
+
+  -- what is passed on as it came goes by the rules
+  gives_passed : (client : Addr) → PassesOn code tx (Client client) counting datagram → given (Client client) ≡ from_client config now client rows datagram
+  gives_passed client is =
+      ap (λ (e : Ending). by_ending config now (Client client) rows (length datagram) (run_from (Client client)) e) is.exits
+      ∙ ap (λ (d : List ℕ). from_client config now client rows d) is.unchanged
+
+  -- ---- what begins neither as STUN nor as ChannelData does
+
+  no_message : {X : Type 0} (x : X) (a b c : Bool) → b ≡ false → (if a && b && c then Some x else None) ≡ None
+  no_message x true false c e = refl
+  no_message x false b c e = refl
+  no_message x true true c e = absurd cc
+
+  beside : (b c n : ℕ) → n ≡ b * 256 + c → c < 256 → is_between 0x40 0x7f b ≡ false → is_between 0x4000 0x7fff n ≡ false
+  beside b c n is small other = grind (arith, nat_tests)
+
+  no_channel_data : (d : List ℕ) → All (λ b. b < 256) d → begins_as_channel_data d ≡ false → channel_in d ≡ None
+  no_channel_data [] fit other = refl
+  no_channel_data (b ∷ []) fit other = refl
+  no_channel_data (b ∷ c ∷ rest) fit other =
+      let d = b ∷ c ∷ rest in
+      no_message _ (nat_le 4 (length d)) (is_between 0x4000 0x7fff (number_at 2 0 d)) _
+      (beside b c (number_at 2 0 d) (omega arith) (All-head (λ x. x < 256) c rest (All-tail (λ x. x < 256) b (c ∷ rest) fit)) other)
+
+  not_relayed : (client : Addr) → channel_in datagram ≡ None → channel_data_from client counting datagram ≡ None
+  not_relayed client none = of (client_slot client counting) where
+    of : (slot : Option ℕ) → (slot >>= λ at. option_map (to_peer at) (channel_data (λ number. peer_of at number counting) datagram)) ≡ None
+    of None = refl
+    of (Some at) = ap (λ (m : Option ChannelMessage). option_map (to_peer at) (m >>= λ m. peer_of at m.number counting >>= λ to. Some (to, m.bytes))) none
+
+  -- ---- a client's datagram
+
+  client_gives : (client : Addr) → IsDatagram datagram → ServesClient code tx client counting datagram → given (Client client) ≡ from_client config now client rows datagram
+  client_gives client is serves = elim (cases_Bool (begins_as_stun datagram)) [
+    | inl stun ↦ by_message stun (message_in datagram) refl
+    | inr other ↦ elim (cases_Bool (begins_as_channel_data datagram)) [
+      | inl channel ↦ gives_relayed (Client client) _ (serves.channel_data channel) ∙ sym (is_relayed config now client rows datagram other)
+      | inr neither ↦
+          gives_relayed (Client client) None (serves.other neither other)
+          ∙ ap (relayed rows) (sym (not_relayed client (no_channel_data datagram is.bytes_fit neither)))
+          ∙ sym (is_relayed config now client rows datagram other)
+    ]
+  ] where
+    by_message : begins_as_stun datagram ≡ true → (m : Option Parts) → message_in datagram ≡ m → given (Client client) ≡ from_client config now client rows datagram
+    by_message stun None e = gives_passed client (serves.stun stun (λ p found. absurd (none-some p (sym e ∙ found))))
+    by_message stun (Some p) e = elim (cases_Bool (is_plain_send p)) [
+      | inl plain ↦
+          gives_relayed (Client client) _ (serves.send p e plain)
+          ∙ sym (is_sent config now client rows datagram p stun e (and_parts (p.kind == send_indication) (are_address_and_content p.attributes) plain).0)
+      | inr other ↦ gives_passed client (serves.stun stun (λ q found. subst (λ (r : Parts). is_plain_send r ≡ false) (same_Some p q (sym e ∙ found)) other))
+    ]
+
+  -- ---- a peer's datagram
+
+  beyond : (a b : ℕ) → nat_lt a b ≡ false → b ≤ a
+  beyond a b other = grind (arith, nat_tests)
+
+  -- a slot that isn't there has no client
+  no_client : (slot : ℕ) → nat_lt slot (length rows.slots) ≡ false → client_at slot counting ≡ None
+  no_client slot past =
+      let t = moment_of rows.moment now in
+      let few : length counting.slots ≤ slot = omega (arith, length-map rows.slots (option_and_then (held_at t)), beyond slot (length rows.slots) past) in
+      ap (λ (o : Option (Option Held)). option_map (λ a. a.client) (option_map (λ held. held.allocation) (option_flatten o))) (slice_get_past counting.slots slot few)
+
+  peer_gives : (slot : ℕ) (peer : Addr) → ServesPeer code tx slot peer counting datagram
+      → (if is_there (Peer slot peer) rows then given (Peer slot peer) else silent rows) ≡ by_rules config now tx (Peer slot peer) rows datagram
+  peer_gives slot peer serves = elim (cases_Bool (is_there (Peer slot peer) rows)) [
+    | inl there ↦ cond-true (is_there (Peer slot peer) rows) (given (Peer slot peer)) (silent rows) there ∙ gives_relayed (Peer slot peer) _ serves
+    | inr past ↦
+        cond-false (is_there (Peer slot peer) rows) (given (Peer slot peer)) (silent rows) past
+        ∙ ap (λ (client : Option Addr). relayed rows (client >>= λ c. option_map (ToClient c) (peer_data (permitted slot peer counting) (channel_of slot peer counting) peer tx datagram))) (sym (no_client slot past))
+  ]
+
+-- ---- both sides
+
+-- what the two laws of the programs state
+abbrev pub ClientServes : Type 0
+ClientServes = (code : List Insn) → Encodes code CLIENT.now → IsSafe code
+    → (client : Addr) (tx : List ℕ) (rows : Rows) (datagram : List ℕ) → IsStart client tx rows datagram → ServesClient code tx client rows datagram
+
+abbrev pub PeerServes : Type 0
+PeerServes = (code : List Insn) → Encodes code PEER.now → IsSafe code
+    → (slot : ℕ) (peer : Addr) (tx : List ℕ) (rows : Rows) (datagram : List ℕ) → IsStart peer tx rows datagram → ServesPeer code tx slot peer rows datagram
+
+module _ (serves_client : ClientServes) (serves_peer : PeerServes) (programs : Programs) (are : AreShipped programs)
+    (config : Config) (now : ℕ) (tx : List ℕ) (rows : Rows) (datagram : List ℕ)
+    (well_formed : AreWellFormed rows) (is_id : AreBytes 12 tx) (is : IsDatagram datagram) where
+  start : (address : Addr) → IsIpv4Address address → IsStart address tx (rows_at now rows) datagram
+  start address ipv4 = record { well_formed = rows_at-well_formed now rows well_formed; is_ipv4 = ipv4; transaction_id = is_id; is_datagram = is }
+
+  -- a source over IPv4
+  served : (from : Source) → IsIpv4Address (address_of_source from) → by_programs programs config now tx from rows datagram ≡ by_rules config now tx from rows datagram
+  served (Client client) ipv4 =
+      client_gives config now tx rows datagram programs.client client is
+      (serves_client programs.client are.client.encoded are.client.safe client tx (rows_at now rows) datagram (start client ipv4))
+  served (Peer slot peer) ipv4 =
+      peer_gives config now tx rows datagram programs.peer slot peer
+      (serves_peer programs.peer are.peer.encoded are.peer.safe slot peer tx (rows_at now rows) datagram (start peer ipv4))
+
+  -- any source: over IPv6 both systems are silent
+  pub same_reply : (from : Source) → IsAddress (address_of_source from)
+      → if_ipv4 (by_programs programs) config now tx from rows datagram ≡ if_ipv4 by_rules config now tx from rows datagram
+  same_reply from address = of (is_ipv4 (address_of_source from)) refl where
+    of : (b : Bool) → is_ipv4 (address_of_source from) ≡ b
+        → (if b then by_programs programs config now tx from rows datagram else silent rows) ≡ (if b then by_rules config now tx from rows datagram else silent rows)
+    of true e = served from (of_ipv4 (address_of_source from) address e)
+    of false e = refl

@@ -1,0 +1,19 @@
+-- Meaning. The shipped programs in a relay, and systems that answer alike.
+use Rattle.std.specs.Prelude.{◌≡◌, List}
+use Rattle.control.specs.declared.config.Config.{Config}
+use Rattle.events.specs.Events.{Event}
+use Rattle.loader.specs.Loads.{IsLoaded}
+use Rattle.programs.specs.declared.client.TheConstants.{CLIENT}
+use Rattle.programs.specs.declared.peer.TheConstants.{PEER}
+use Rattle.relay.specs.ByPrograms.{Programs}
+use Rattle.relay.specs.Systems.{State, System, answers, after}
+
+-- both programs are the shipped ones
+pub record AreShipped (programs : Programs) : Type 0 where
+  pub client : IsLoaded programs.client CLIENT.now
+  pub peer : IsLoaded programs.peer PEER.now
+
+-- from a state on, two systems send the same for each of some events, and come to the same state
+pub record AnswerAlike (one other : System) (config : Config) (s : State) (events : List Event) : Type 0 where
+  pub answers : answers one config s events ≡ answers other config s events
+  pub after : after one config s events ≡ after other config s events

@@ -1,0 +1,74 @@
+//! The command `replay`: replays the events of a file through a relay.
+
+use crate::options::{Fault, set_up, unread};
+use command_line::Options;
+use relay::{Relay, ReplayError};
+use setup::defaults;
+use std::fs;
+use std::io::{self, BufRead, BufReader, BufWriter, Write};
+use std::rt::Files;
+
+/// Replays the events of a reader, prints the answers and flushes them.
+/// See docs/DECISIONS.md, "Answers before a fault".
+fn play<'a, R: Print + AllocGlobal, B: BufRead>(
+    rt: &R,
+    relay: &mut Relay,
+    reader: &mut B,
+    path: &'a str,
+) -> Result<(), Fault<'a>> {
+    let Ok(mut writer) = BufWriter::new(rt.alloc(), io::writer(rt)) else {
+        return Err(Fault::Memory);
+    };
+    let played = relay.replay(rt.alloc(), reader, &mut writer);
+    if writer.flush().is_err() {
+        return Err(Fault::Output);
+    }
+    match played {
+        Ok(()) => Ok(()),
+        Err(ReplayError::Line(number)) => Err(Fault::Line(number)),
+        Err(ReplayError::Read) => Err(Fault::File(path)),
+        Err(ReplayError::Write) => Err(Fault::Output),
+        Err(ReplayError::Memory) => Err(Fault::Memory),
+    }
+}
+
+/// Replays the events of a file, or of standard input for the file `-`, through the relay that the options describe.
+fn replay_events<'a, R: Files + Input + Print + AllocGlobal>(
+    rt: &R,
+    events: &'a str,
+    nonce: Option<&'a str>,
+    options: &Options<'a>,
+) -> Result<(), Fault<'a>> {
+    let mut relay = set_up(rt, options, nonce.unwrap_or(defaults::NONCE))?.relay;
+    if events == "-" {
+        return match BufReader::new(rt.alloc(), rt.reader()) {
+            Ok(mut reader) => play(rt, &mut relay, &mut reader, events),
+            Err(_) => Err(Fault::Memory),
+        };
+    }
+    let file = match fs::open(rt, events) {
+        Ok(file) => file,
+        Err(error) => return Err(unread(&error, events)),
+    };
+    match BufReader::new(rt.alloc(), file) {
+        Ok(mut reader) => play(rt, &mut relay, &mut reader, events),
+        Err(_) => Err(Fault::Memory),
+    }
+}
+
+/// Replays events, prints the answers, or the line of the first fault to `err`, and returns the exit status.
+pub(crate) fn replay<R: Files + Input + Print + AllocGlobal, E: Write>(
+    rt: &R,
+    err: &mut E,
+    events: &str,
+    nonce: Option<&str>,
+    options: &Options<'_>,
+) -> u8 {
+    match replay_events(rt, events, nonce, options) {
+        Ok(()) => 0,
+        Err(fault) => {
+            let _ = writeln!(err, "{fault}");
+            fault.status()
+        }
+    }
+}

@@ -1,0 +1,342 @@
+//! The command `serve`: relays the datagrams of UDP sockets.
+
+use crate::options::{Fault, port_of, set_up, slots_of};
+use crate::replacing::Sides;
+use crate::sockets::{Addresses, BindFault, Sockets, place_of};
+use command_line::Options;
+use mio::{Events, Poll, Token};
+use rand::make_rng;
+use rand::rngs::StdRng;
+use rand_core::Rng;
+use relay::Relay;
+use serving::{Place, draw_nonce, serve_once};
+use setup::{defaults, ip, number, port};
+use std::io::{self, Write};
+use std::net::{Ipv4Addr, Net};
+use std::random::RandomSource;
+use std::rt::{Clock, Files};
+use std::time::Duration;
+
+/// How many datagrams a socket may have before the others get their turn.
+const TURNS: usize = 64;
+
+/// How many events one wait reports. Further ones are reported by the next.
+const EVENTS: usize = 256;
+
+/// The seconds of the longest wait, and those after which the programs' files are read again.
+const PERIOD: u64 = 1;
+
+/// The seconds after which a nonce is replaced, where none are given.
+const NONCE_LIFETIME: u64 = 3600;
+
+/// The arguments of a server, as they are written; `None` is one that is not given.
+#[derive(Clone, Copy)]
+pub(crate) struct ServerTexts<'a> {
+    pub(crate) port: &'a str,
+    pub(crate) rounds: Option<&'a str>,
+    pub(crate) listen: Option<&'a str>,
+    pub(crate) nonce_lifetime: Option<&'a str>,
+    pub(crate) stats: Option<&'a str>,
+}
+
+/// The values of the arguments of a server.
+#[derive(Clone, Copy)]
+struct Arguments {
+    port: u16,
+    listen: Ipv4Addr,
+    /// How many rounds are made; `None` is to serve until the process is stopped.
+    rounds: Option<u64>,
+    nonce_lifetime: Duration,
+    /// The time between two lines of counters; `None` is to print none.
+    stats: Option<Duration>,
+}
+
+/// What is done from time to time. Its moments are those of a clock that never goes back.
+#[derive(Clone, Copy)]
+struct Timer {
+    /// The time between two moments.
+    every: Duration,
+    next: Duration,
+}
+
+/// A server that has bound its sockets.
+#[derive(Drop)]
+struct Server<'a> {
+    relay: Relay,
+    sockets: Sockets,
+    sides: Sides<'a>,
+    rng: StdRng,
+    nonces: Timer,
+    files: Timer,
+    stats: Option<Timer>,
+}
+
+/// Parses a number of an option.
+fn number_of<'a>(option: &'static str, text: &'a str) -> Result<u64, Fault<'a>> {
+    number(text).ok_or(Fault::Value { option, text })
+}
+
+/// Parses a number of seconds, at least 1.
+fn seconds_of<'a>(option: &'static str, text: &'a str) -> Result<Duration, Fault<'a>> {
+    match number_of(option, text)? {
+        0 => Err(Fault::Value { option, text }),
+        seconds => Ok(Duration::from_secs(seconds)),
+    }
+}
+
+/// Parses the arguments of a server.
+fn parse<'a>(texts: ServerTexts<'a>) -> Result<Arguments, Fault<'a>> {
+    let (option, text) = ("--port <P>", texts.port);
+    let port = port(text).ok_or(Fault::Value { option, text })?;
+    let rounds = match texts.rounds {
+        Some(text) => Some(number_of("--rounds <N>", text)?),
+        None => None,
+    };
+    let listen = match texts.listen {
+        Some(text) => {
+            let option = "--listen <A>";
+            Ipv4Addr::from(ip(text).ok_or(Fault::Value { option, text })?)
+        }
+        None => Ipv4Addr::LOCALHOST,
+    };
+    let nonce_lifetime = match texts.nonce_lifetime {
+        Some(text) => seconds_of("--nonce-lifetime <S>", text)?,
+        None => Duration::from_secs(NONCE_LIFETIME),
+    };
+    let stats = match texts.stats {
+        Some(text) => Some(seconds_of("--stats <S>", text)?),
+        None => None,
+    };
+    Ok(Arguments {
+        port,
+        listen,
+        rounds,
+        nonce_lifetime,
+        stats,
+    })
+}
+
+/// Returns the moment of a datagram: the whole seconds of the clock, since 1970. Where the clock fails it is 0, and the relay
+/// goes on at the greatest moment that it has seen.
+fn moment<R: Clock>(rt: &R) -> u64 {
+    match rt.since_1970() {
+        Ok(time) => time.as_secs(),
+        Err(_) => 0,
+    }
+}
+
+/// Returns the time since an arbitrary start. Where the clock fails it is that start, and nothing is due.
+fn elapsed<R: Clock>(rt: &R) -> Duration {
+    match rt.monotonic() {
+        Ok(time) => time,
+        Err(_) => Duration::ZERO,
+    }
+}
+
+impl Timer {
+    /// Returns a timer that is due one period after `now`.
+    fn new(now: Duration, every: Duration) -> Timer {
+        let next = now.saturating_add(every);
+        Timer { every, next }
+    }
+
+    /// Returns whether the timer is due, and then sets it for one period after `now`.
+    fn is_due(&mut self, now: Duration) -> bool {
+        if now < self.next {
+            return false;
+        }
+        self.next = now.saturating_add(self.every);
+        true
+    }
+}
+
+impl Server<'_> {
+    /// Replaces the nonce by one that is drawn, which is never refused.
+    fn renew_nonce(&mut self) {
+        let nonce = draw_nonce(&mut self.rng);
+        let _ = self.relay.set_nonce(nonce.as_str());
+    }
+
+    /// Does what is due: draws a nonce, replaces programs, and prints counters.
+    fn tend<R: Files + Clock + AllocGlobal, E: Write>(&mut self, rt: &R, err: &mut E) {
+        let now = elapsed(rt);
+        if self.nonces.is_due(now) {
+            self.renew_nonce();
+        }
+        if self.files.is_due(now) {
+            self.sides.replace(rt, &mut self.relay, err);
+        }
+        if let Some(stats) = &mut self.stats
+            && stats.is_due(now)
+        {
+            self.sockets.report(err);
+        }
+    }
+
+    /// Serves one datagram at a place, if one has come there. Returns whether one has come, or a fault, which is printed.
+    fn turn<R: Clock, E: Write>(&mut self, rt: &R, err: &mut E, place: Place) -> bool {
+        let mut tx = [0u8; 12];
+        self.rng.fill_bytes(&mut tx);
+        match serve_once(&mut self.relay, &mut self.sockets, place, moment(rt), tx) {
+            Ok(came) => came,
+            Err(fault) => {
+                let _ = writeln!(err, "{fault}");
+                true
+            }
+        }
+    }
+
+    /// Tries one datagram at each place: that of clients first, then those of the slots in order.
+    fn round<R: Clock, E: Write>(&mut self, rt: &R, err: &mut E) {
+        for token in 0..self.sockets.count() {
+            self.turn(rt, err, place_of(token));
+        }
+    }
+
+    /// Makes rounds that never wait, and prints the counters if they are wanted.
+    fn make_rounds<R: Files + Clock + AllocGlobal, E: Write>(
+        &mut self,
+        rt: &R,
+        err: &mut E,
+        rounds: u64,
+    ) {
+        for _ in 0..rounds {
+            self.round(rt, err);
+            self.tend(rt, err);
+        }
+        if self.stats.is_some() {
+            self.sockets.report(err);
+        }
+    }
+
+    /// Serves a place until nothing comes there, or for as many datagrams as it may have. Returns whether more may be there.
+    fn drain<R: Clock, E: Write>(&mut self, rt: &R, err: &mut E, place: Place) -> bool {
+        for _ in 0..TURNS {
+            if !self.turn(rt, err, place) {
+                return false;
+            }
+        }
+        true
+    }
+
+    /// Serves each place that is ready, and keeps which of them still are. Returns whether one is.
+    fn drain_ready<R: Clock, E: Write>(&mut self, rt: &R, err: &mut E, ready: &mut [bool]) -> bool {
+        let mut more = false;
+        for (token, is_ready) in ready.iter_mut().enumerate() {
+            if *is_ready {
+                *is_ready = self.drain(rt, err, place_of(token));
+                more = more || *is_ready;
+            }
+        }
+        more
+    }
+
+    /// Serves until the process is stopped, and waits while no socket is ready.
+    /// See docs/DECISIONS.md, "A server waits by readiness".
+    fn run<R: Files + Net + Clock + AllocGlobal, E: Write>(
+        &mut self,
+        rt: &R,
+        err: &mut E,
+    ) -> Result<(), Fault<'static>> {
+        let mut poll = Poll::new(rt).map_err(|_| Fault::Wait)?;
+        self.sockets.register(&poll).map_err(|_| Fault::Wait)?;
+        let mut events = Events::with_capacity(rt.alloc(), EVENTS).map_err(|_| Fault::Memory)?;
+        let mut ready = vec![in rt.alloc(); true; self.sockets.count()].map_err(|_| Fault::Memory)?;
+        let period = Duration::from_secs(PERIOD);
+        let mut wait = Duration::ZERO;
+        for _ in 0..u64::MAX {
+            poll.poll(&mut events, Some(wait)).map_err(|_| Fault::Wait)?;
+            mark(&events, &mut ready);
+            let more = self.drain_ready(rt, err, &mut ready);
+            wait = if more { Duration::ZERO } else { period };
+            self.tend(rt, err);
+        }
+        Ok(())
+    }
+}
+
+/// Notes which places are ready.
+fn mark(events: &Events, ready: &mut [bool]) {
+    for event in events.iter() {
+        let Token(token) = event.token();
+        if let Some(is_ready) = ready.get_mut(token) {
+            *is_ready = true;
+        }
+    }
+}
+
+/// Prints the line that says where clients are served.
+fn announce<R: Print>(rt: &R, sockets: &Sockets) -> io::Result<()> {
+    let address = sockets.address()?;
+    let mut out = io::writer(rt);
+    writeln!(out, "listening {address}")?;
+    out.flush()
+}
+
+/// Sets up a server: its relay, and then its sockets, all of which are bound.
+fn start<'a, R: Files + Net + Clock + RandomSource + AllocGlobal>(
+    rt: &R,
+    arguments: Arguments,
+    options: &Options<'a>,
+) -> Result<Server<'a>, Fault<'a>> {
+    let set = set_up(rt, options, defaults::NONCE)?;
+    let addresses = Addresses {
+        listen: arguments.listen,
+        port: arguments.port,
+        first_port: port_of(options)?,
+        slots: slots_of(options)?,
+    };
+    let sockets = match Sockets::bind(rt, addresses) {
+        Ok(sockets) => sockets,
+        Err(BindFault::Address(address)) => return Err(Fault::Bind(address)),
+        Err(BindFault::Memory) => return Err(Fault::Memory),
+    };
+    let rng = make_rng(rt).map_err(|_| Fault::Random)?;
+    let now = elapsed(rt);
+    let mut server = Server {
+        relay: set.relay,
+        sockets,
+        sides: Sides::new(options, set.programs),
+        rng,
+        nonces: Timer::new(now, arguments.nonce_lifetime),
+        files: Timer::new(now, Duration::from_secs(PERIOD)),
+        stats: arguments.stats.map(|every| Timer::new(now, every)),
+    };
+    server.renew_nonce();
+    Ok(server)
+}
+
+/// Serves as the arguments and options say.
+fn serve_sockets<'a, R: Files + Print + Net + Clock + RandomSource + AllocGlobal, E: Write>(
+    rt: &R,
+    err: &mut E,
+    texts: ServerTexts<'a>,
+    options: &Options<'a>,
+) -> Result<(), Fault<'a>> {
+    let arguments = parse(texts)?;
+    let mut server = start(rt, arguments, options)?;
+    announce(rt, &server.sockets).map_err(|_| Fault::Output)?;
+    match arguments.rounds {
+        Some(rounds) => {
+            server.make_rounds(rt, err, rounds);
+            Ok(())
+        }
+        None => server.run(rt, err),
+    }
+}
+
+/// Serves clients and peers, prints the line of the first fault to `err`, and returns the exit status.
+pub(crate) fn serve<R: Files + Print + Net + Clock + RandomSource + AllocGlobal, E: Write>(
+    rt: &R,
+    err: &mut E,
+    texts: ServerTexts<'_>,
+    options: &Options<'_>,
+) -> u8 {
+    match serve_sockets(rt, err, texts, options) {
+        Ok(()) => 0,
+        Err(fault) => {
+            let _ = writeln!(err, "{fault}");
+            fault.status()
+        }
+    }
+}

@@ -1,0 +1,188 @@
+//! The sockets of a server: one for clients, and one for the peers of each slot.
+
+use attributes::Addr;
+use mio::net::UdpSocket;
+use mio::{Interest, Poll, Token};
+use serving::{Link, LinkFault, Place};
+use std::fmt;
+use std::io::{self, ErrorKind};
+use std::net::{Ipv4Addr, Net, SocketAddr, SocketAddrV4};
+
+/// The addresses that the sockets of a server are bound to.
+#[derive(Clone, Copy)]
+pub(crate) struct Addresses {
+    /// The IP address of all of them.
+    pub(crate) listen: Ipv4Addr,
+    /// The port of the clients' socket.
+    pub(crate) port: u16,
+    /// The port of slot 0; slot i has `first_port + i`.
+    pub(crate) first_port: u16,
+    /// The number of slots.
+    pub(crate) slots: usize,
+}
+
+/// Why the sockets can't be bound.
+#[derive(Clone, Copy)]
+pub(crate) enum BindFault {
+    /// The first address that can't be bound.
+    Address(SocketAddrV4),
+    /// Memory ran out.
+    Memory,
+}
+
+/// What was received and sent since the start. Displays as a line of counters.
+#[derive(Clone, Copy)]
+struct Counters {
+    received: u64,
+    sent: u64,
+    receive_faults: u64,
+    send_faults: u64,
+}
+
+impl fmt::Display for Counters {
+    fn fmt<W: fmt::Write>(&self, f: &mut fmt::Formatter<W>) -> fmt::Result {
+        write!(
+            f,
+            "received {} sent {} receive faults {} send faults {}",
+            self.received, self.sent, self.receive_faults, self.send_faults
+        )
+    }
+}
+
+/// The sockets of a server. No call on them waits.
+#[derive(Drop)]
+pub(crate) struct Sockets {
+    client: UdpSocket,
+    slots: Vec<UdpSocket>,
+    counters: Counters,
+}
+
+/// Binds a socket to an address.
+fn bind<R: Net>(rt: &R, address: SocketAddrV4) -> Result<UdpSocket, BindFault> {
+    UdpSocket::bind(rt, SocketAddr::V4(address)).map_err(|_| BindFault::Address(address))
+}
+
+/// Returns the place of a token: 0 is that of clients, and i + 1 that of slot i.
+pub(crate) fn place_of(token: usize) -> Place {
+    match token.checked_sub(1) {
+        Some(slot) => Place::Slot(slot),
+        None => Place::Client,
+    }
+}
+
+impl Sockets {
+    /// Binds the sockets, that of clients first, then those of the slots in order.
+    ///
+    /// # Errors
+    /// The first address that can't be bound, and where memory runs out.
+    pub(crate) fn bind<R: Net + AllocGlobal>(
+        rt: &R,
+        addresses: Addresses,
+    ) -> Result<Sockets, BindFault> {
+        let Addresses { listen, port, .. } = addresses;
+        let client = bind(rt, SocketAddrV4::new(listen, port))?;
+        let mut slots = Vec::new(rt.alloc());
+        for port in (addresses.first_port..=u16::MAX).take(addresses.slots) {
+            let socket = bind(rt, SocketAddrV4::new(listen, port))?;
+            if slots.push(socket).is_err() {
+                return Err(BindFault::Memory);
+            }
+        }
+        let counters = Counters {
+            received: 0,
+            sent: 0,
+            receive_faults: 0,
+            send_faults: 0,
+        };
+        Ok(Sockets {
+            client,
+            slots,
+            counters,
+        })
+    }
+
+    /// Returns the address of the clients' socket. Where port 0 was asked for, its port is the one that the system chose.
+    pub(crate) fn address(&self) -> io::Result<SocketAddr> {
+        self.client.local_addr()
+    }
+
+    /// Returns the number of sockets.
+    pub(crate) fn count(&self) -> usize {
+        self.slots.len().saturating_add(1)
+    }
+
+    /// Has a poll report each socket, under the token of its place, when datagrams have come there.
+    pub(crate) fn register(&mut self, poll: &Poll) -> io::Result<()> {
+        let registry = poll.registry();
+        registry.register(&mut self.client, Token(0), Interest::READABLE)?;
+        for (token, socket) in (1usize..).zip(self.slots.iter_mut()) {
+            registry.register(socket, Token(token), Interest::READABLE)?;
+        }
+        Ok(())
+    }
+
+    /// Prints the line of counters. A failure to print is ignored.
+    pub(crate) fn report<E: io::Write>(&self, err: &mut E) {
+        let _ = writeln!(err, "{}", self.counters);
+    }
+
+    /// Returns the socket of a place.
+    fn at(&self, place: Place) -> Result<&UdpSocket, LinkFault> {
+        match place {
+            Place::Client => Ok(&self.client),
+            Place::Slot(slot) => self.slots.get(slot).ok_or(LinkFault),
+        }
+    }
+
+    /// Receives a datagram at a place, if one has come.
+    fn take(&self, place: Place, into: &mut [u8]) -> Result<Option<(usize, Addr)>, LinkFault> {
+        match self.at(place)?.recv_from(into) {
+            Ok((n, SocketAddr::V4(from))) => {
+                let (ip, port) = (from.ip().octets(), from.port());
+                Ok(Some((n, Addr::V4 { ip, port })))
+            }
+            Ok((_, SocketAddr::V6(_))) => Err(LinkFault),
+            Err(error) if error.kind() == ErrorKind::WouldBlock => Ok(None),
+            Err(_) => Err(LinkFault),
+        }
+    }
+
+    /// Sends a datagram from a place. One that would have to wait, or isn't sent whole, is a fault.
+    fn put(&self, place: Place, to: Addr, bytes: &[u8]) -> Result<(), LinkFault> {
+        let Addr::V4 { ip, port } = to else {
+            return Err(LinkFault);
+        };
+        let to = SocketAddr::V4(SocketAddrV4::new(Ipv4Addr::from(ip), port));
+        match self.at(place)?.send_to(bytes, to) {
+            Ok(n) if n == bytes.len() => Ok(()),
+            _ => Err(LinkFault),
+        }
+    }
+}
+
+impl Link for Sockets {
+    fn receive(
+        &mut self,
+        place: Place,
+        into: &mut [u8],
+    ) -> Result<Option<(usize, Addr)>, LinkFault> {
+        let result = self.take(place, into);
+        let counter = match &result {
+            Ok(None) => return result,
+            Ok(Some(_)) => &mut self.counters.received,
+            Err(_) => &mut self.counters.receive_faults,
+        };
+        *counter = counter.saturating_add(1);
+        result
+    }
+
+    fn send(&mut self, place: Place, to: Addr, bytes: &[u8]) -> Result<(), LinkFault> {
+        let result = self.put(place, to, bytes);
+        let counter = match &result {
+            Ok(()) => &mut self.counters.sent,
+            Err(_) => &mut self.counters.send_faults,
+        };
+        *counter = counter.saturating_add(1);
+        result
+    }
+}

@@ -1,0 +1,14 @@
+-- Meaning. The calls of a link: what each was handed, and what it answered.
+use Rattle.std.specs.Prelude.{◌≡◌, ℕ, List, ◌++◌, Option, Some, Result, IfSome}
+use Rattle.attributes.specs.declared.address.Addr.{Addr}
+use Rattle.serving.specs.declared.link.LinkFault.{LinkFault}
+use Rattle.serving.specs.declared.link.Place.{Place}
+
+-- a receive, with the bytes that the buffer has afterwards; and a send
+pub data Call : Type 0 where
+  Received : (place : Place) (buffer : List ℕ) (answer : Result (Option (ℕ × Addr)) LinkFault) → Call
+  Sent : (place : Place) (to : Addr) (bytes : List ℕ) (answer : Result (Unit {0}) LinkFault) → Call
+
+-- a link that reports its calls has reported these after its former ones
+abbrev pub HasReported : Option (List Call) → Option (List Call) → List Call → Type 0
+HasReported old new calls = IfSome old (λ former. new ≡ Some (former ++ calls))

@@ -1,0 +1,4 @@
+-- Internal. The modules of this folder.
+pub mod Calls
+pub mod Nonces
+pub mod Serving

@@ -1,0 +1,10 @@
+//! Serves a relay over a link: one receive, one step, at most one send.
+#![tactic(auto)]
+
+mod link;
+mod nonce;
+mod serving;
+
+pub use link::{Link, LinkFault, Place};
+pub use nonce::draw_nonce;
+pub use serving::{ServeError, serve_once};

@@ -1,0 +1,92 @@
+//! One turn of a server.
+
+ghost use Rattle.std.specs.Prelude.{◌≡◌, [], ◌∷◌, Result};
+ghost use Rattle.events.specs.Actions.{sending_of};
+ghost use Rattle.serving.specs.Serving.{IsServed, IsSent, result_of, source_at};
+ghost use Rattle.serving.specs.Calls.{Sent, HasReported};
+ghost use Rattle.serving.specs.declared.link.LinkFault.{LinkFault};
+
+use crate::link::{Link, LinkFault, Place};
+use attributes::Addr;
+use events::{Action, Meta, Source};
+use relay::Relay;
+use semantics::MAX_DATAGRAM;
+use thiserror::Error;
+
+/// Why a turn failed.
+#[derive(Clone, Copy, Debug, PartialEq, Eq, Error)]
+pub enum ServeError {
+    /// The receive failed, or counted more bytes than a datagram may have. The relay is as before.
+    #[error("receive fault")]
+    Receive,
+    /// The send failed. The relay is as after the datagram.
+    #[error("send fault")]
+    Send,
+}
+
+/// Returns the source of what comes from an address at a place.
+fn source_at(place: Place, address: Addr) -> Source
+    ensures { result ≡ source_at place address }
+{
+    match place {
+        Place::Client => Source::Client(address),
+        Place::Slot(slot) => Source::Peer {
+            slot,
+            addr: address,
+        },
+    }
+}
+
+/// Sends a datagram.
+fn send_from<L: Link>(
+    link: &mut L,
+    place: Place,
+    to: Addr,
+    bytes: &[u8],
+) -> Result<bool, ServeError>
+    ensures { (answer : Result (Unit {0}) LinkFault)
+        × HasReported (L.calls link.old) (L.calls link.new) (Sent place to bytes.now answer ∷ []) × (result ≡ result_of answer) }
+{
+    match link.send(place, to, bytes) {
+        Ok(()) => Ok(true),
+        Err(LinkFault) => Err(ServeError::Send),
+    }
+}
+
+/// Sends an answer, if there is one.
+fn send<L: Link>(link: &mut L, action: &Action<'_>) -> Result<bool, ServeError>
+    ensures { IsSent (sending_of action.now) (L.calls link.old) (L.calls link.new) result }
+{
+    match *action {
+        Action::Nothing => Ok(true),
+        Action::ToPeer { slot, peer, bytes } => send_from(link, Place::Slot(slot), peer, bytes),
+        Action::ToClient { client, bytes } => send_from(link, Place::Client, client, bytes),
+    }
+}
+
+/// Serves one datagram at a place, if one has come there: receives once, steps, and sends the answer, if there is one. Returns
+/// whether a datagram came.
+///
+/// # Errors
+/// `Receive` where the receive fails or counts more than 65,507 bytes; then the relay is as before. `Send` where the send
+/// fails; then it is as after the datagram.
+pub fn serve_once<L: Link>(
+    relay: &mut Relay,
+    link: &mut L,
+    place: Place,
+    now: u64,
+    tx: [u8; 12],
+) -> Result<bool, ServeError>
+    ensures { IsServed place now tx relay.old relay.new (L.calls link.old) (L.calls link.new) result }
+{
+    let (n, from) = match link.receive(place, relay.area()) {
+        Ok(Some(found)) => found,
+        Ok(None) => return Ok(false),
+        Err(LinkFault) => return Err(ServeError::Receive),
+    };
+    if n > MAX_DATAGRAM {
+        return Err(ServeError::Receive);
+    }
+    let from = source_at(place, from);
+    send(link, &relay.step(Meta { now, tx, from }, n))
+}

@@ -1,0 +1,2 @@
+pub mod RefusedFields
+pub mod NoValues

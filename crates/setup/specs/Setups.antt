@@ -1,0 +1,57 @@
+-- Meaning. What a relay is set up from, and the first of its faults.
+use Rattle.std.specs.Prelude.{◌≡◌, ℕ, ◌<◌, ◌≤◌, List, Option, Some, None, length, string_bytes, IsSomeAnd}
+use Rattle.std.specs.Borrow.{Bor}
+use Rattle.control.specs.Configs.{fault}
+use Rattle.control.specs.declared.config.Config.{Config}
+use Rattle.credentials.specs.declared.checking.User.{User}
+use Rattle.insn.specs.declared.instruction.Insn.{Insn}
+use Rattle.insn.specs.declared.refusal.DecodeError.TheVariants as decode
+use Rattle.loader.specs.Loads.{IsLoaded, IsLoadRefusal}
+use Rattle.loader.specs.declared.refusal.LoadError.{LoadError}
+use Rattle.loader.specs.declared.refusal.LoadError.TheVariants.{Decode, Verify}
+use Rattle.verifier.specs.declared.refusal.Refusal.TheVariants as verify
+use Rattle.setup.specs.declared.error.ProgramError.{ProgramError}
+use Rattle.setup.specs.declared.error.ProgramError.TheVariants as program
+use Rattle.setup.specs.declared.error.SetupError.{SetupError}
+use Rattle.setup.specs.declared.error.SetupError.TheVariants as setup
+use Rattle.setup.specs.declared.setting_up.Setup.{Setup}
+
+-- the bytes that a nonce may have
+abbrev pub MOST_NONCE : ℕ
+MOST_NONCE = 64
+
+-- the configuration has what the setup says, and these users
+pub record IsConfigOf (s : Setup) (users : List User) (c : Config) : Type 0 where
+  pub ip : c.ip ≡ s.ip
+  pub first_port : c.first_port ≡ s.first_port
+  pub slots : c.slots ≡ s.slots
+  pub realm : string_bytes c.realm ≡ s.realm.now
+  pub nonce : c.nonce.bytes ≡ s.nonce.now
+  pub users_are : c.users.items ≡ users
+
+-- the bytes were read, and this program is loaded from them
+abbrev pub IsProgram : Option (Bor (List ℕ)) → List Insn → Type 0
+IsProgram bytes code = IsSomeAnd bytes (λ b. IsLoaded code b.now)
+
+abbrev pub IsMemory : LoadError → Type 0
+IsMemory (Decode e) = e ≡ decode.Memory
+IsMemory (Verify e) = (slot : ℕ) × (e ≡ verify.Memory slot)
+
+-- why no program is loaded: the bytes weren't read, or are refused, not for want of memory
+abbrev pub IsProgramFault : Option (Bor (List ℕ)) → ProgramError → Type 0
+IsProgramFault bytes program.File = bytes ≡ None
+IsProgramFault bytes (program.Refused e) = IsSomeAnd bytes (λ b. IsLoadRefusal b.now e) × ¬ (IsMemory e)
+IsProgramFault bytes program.Memory = Unit {0}
+
+-- the bytes were read, and encode a safe program
+abbrev pub IsLoadable : Option (Bor (List ℕ)) → Type 0
+IsLoadable bytes = (code : List Insn) × IsProgram bytes code
+
+-- the fault is the first: of the nonce's length, the client's program, the peers' program, and the fields
+abbrev pub IsFault : Setup → List User → SetupError → Type 0
+IsFault s users setup.Nonce = MOST_NONCE < length s.nonce.now
+IsFault s users (setup.Client e) = (length s.nonce.now ≤ MOST_NONCE) × IsProgramFault s.client e
+IsFault s users (setup.Peer e) = (length s.nonce.now ≤ MOST_NONCE) × (IsLoadable s.client × IsProgramFault s.peer e)
+IsFault s users (setup.Field field) = (length s.nonce.now ≤ MOST_NONCE) × (IsLoadable s.client × (IsLoadable s.peer
+    × ((c : Config) × (IsConfigOf s users c × (fault c ≡ Some field)))))
+IsFault s users setup.Memory = Unit {0}

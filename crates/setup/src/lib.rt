@@ -1,0 +1,11 @@
+//! Sets up a relay: from the texts of options to a relay that can begin.
+#![tactic(auto)]
+
+pub mod defaults;
+mod error;
+mod setting_up;
+mod texts;
+
+pub use error::{ProgramError, SetupError};
+pub use setting_up::{Setup, program, relay_of};
+pub use texts::{ip, number, port, slots, user};

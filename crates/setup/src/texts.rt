@@ -1,0 +1,54 @@
+//! The values that the texts of options have.
+
+ghost use Rattle.std.specs.Prelude.{◌^◌, IfOk};
+ghost use Rattle.setup.specs.Texts.{IsNumberIn, IsAddressIn, IsUserIn};
+
+use credentials::User;
+use std::alloc::{AllocError, Global};
+use std::net::Ipv4Addr;
+
+/// Parses a number of slots, in decimal digits, below 2^64. `None` is a text that is no such number.
+pub fn slots(text: &str) -> Option<usize>
+    ensures { IsNumberIn (2 ^ 64) text.now result }
+{
+    text.parse().ok()
+}
+
+/// Parses a number, in decimal digits, below 2^64. `None` is a text that is no such number.
+pub fn number(text: &str) -> Option<u64>
+    ensures { IsNumberIn (2 ^ 64) text.now result }
+{
+    text.parse().ok()
+}
+
+/// Parses a port, in decimal digits, below 65,536. `None` is a text that is no such number.
+pub fn port(text: &str) -> Option<u16>
+    ensures { IsNumberIn (2 ^ 16) text.now result }
+{
+    text.parse().ok()
+}
+
+/// Parses an IPv4 address: four decimal numbers below 256, without needless zeros, with dots between them. `None` is any
+/// other text.
+pub fn ip(text: &str) -> Option<[u8; 4]>
+    ensures { IsAddressIn text.now result }
+{
+    let ip: Ipv4Addr = text.parse().ok()?;
+    Some(ip.octets())
+}
+
+/// Parses a user, written as `NAME:PASSWORD`: the name ends at the first colon. `None` is a text without a colon.
+///
+/// # Errors
+/// Where memory runs out.
+pub fn user(alloc: Global, text: &str) -> Result<Option<User>, AllocError>
+    ensures { IfOk result (IsUserIn text.now) }
+{
+    let Some((name, password)) = text.split_once(':') else {
+        return Ok(None);
+    };
+    Ok(Some(User {
+        name: String::from_str(alloc, name)?,
+        password: String::from_str(alloc, password)?,
+    }))
+}

@@ -1,0 +1,174 @@
+"""Prints how many steps a second `Relay::step` takes, and how many lines a second `relayd replay` answers.
+
+    tests/relay_speed.py
+
+No time is asserted. A figure is the best of several rounds. The clock starts at the last answer to the events that set
+the relay up, so that the start of the process and the setup aren't counted.
+"""
+
+import struct
+import subprocess
+import sys
+import time
+
+from program import PROGRAM as RELAYD
+from program import TOP, build
+from rules import (
+    ALLOCATE, CHANNEL_BIND, CHANNEL_NUMBER, CREATE_PERMISSION, LIFETIME, NONCE, REALM, TRANSPORT, USERNAME,
+    XOR_PEER_ADDRESS, address_value, key_of, line_of, message)
+
+FOLDER = TOP / "crates" / "relay_speed"
+PROGRAM = FOLDER / "out" / "relay_speed"
+ROUNDS = 10
+COUNT = 200_000
+# the slots, and how many permissions and channels each of them has
+TABLES = {"1 slot": (1, 1), "256 full slots": (256, 64)}
+SIZES = [160, 1200]
+NOW, TX = 1000, bytes(12)
+FIRST_CHANNEL = 0x4000
+REPLAYS = 3
+LINES = 1_000_000
+# the lines that are written to `replay` at once
+PIECE = 1_000
+
+
+def client(slot):
+    """Returns the client whose allocation is at a slot."""
+    return bytes([198, 51, 100, slot]), 4000
+
+
+def peer(index):
+    """Returns the peer of a permission and of a channel."""
+    return bytes([192, 0, 2, index]), 5000
+
+
+def from_client(address, data):
+    """Returns the line of a client's datagram."""
+    return line_of(("c", NOW, TX, address, data))
+
+
+def from_peer(slot, address, data):
+    """Returns the line of a peer's datagram."""
+    return line_of(("p", NOW, TX, slot, address, data))
+
+
+def signed(kind, given):
+    """Returns a request of the user."""
+    credentials = [(USERNAME, b"u"), (REALM, b"relay"), (NONCE, b"n1")]
+    return message(kind, TX, given + credentials, key_of("u", "relay", "p"))
+
+
+def requests(rows):
+    """Returns the requests of a client that wants an allocation with so many permissions and channels."""
+    peers = [(XOR_PEER_ADDRESS, address_value(peer(index))) for index in range(rows)]
+    transport, hour = (TRANSPORT, bytes([17, 0, 0, 0])), (LIFETIME, struct.pack(">I", 3600))
+    yield signed(ALLOCATE, [transport, hour])
+    yield signed(CREATE_PERMISSION, peers)
+    for index in range(rows):
+        number = (CHANNEL_NUMBER, struct.pack(">HH", FIRST_CHANNEL + index, 0))
+        yield signed(CHANNEL_BIND, [number, peers[index]])
+
+
+def setup(slots, rows):
+    """Returns the lines that fill the tables."""
+    wanted = list(requests(rows))
+    return [from_client(client(slot), data) for slot in range(slots) for data in wanted]
+
+
+def channel_data(index, size):
+    """Returns ChannelData for a channel."""
+    return struct.pack(">HH", FIRST_CHANNEL + index, size) + bytes(size)
+
+
+def datagrams(slots, rows):
+    """Yields what is measured: a title, the line, and whether a datagram is sent. The slot and the row are the last."""
+    slot, row = slots - 1, rows - 1
+    ip, port = peer(row)
+    for size in SIZES:
+        yield f"ChannelData of {size} bytes", from_client(client(slot), channel_data(row, size)), True
+    for size in SIZES:
+        yield f"a peer's {size} bytes to a bound channel", from_peer(slot, (ip, port), bytes(size)), True
+    for size in SIZES:
+        yield f"a peer's {size} bytes by permission alone", from_peer(slot, (ip, port + 1), bytes(size)), True
+    stranger = client(slots - 1)[0], 4001
+    yield "Allocate, error 401", from_client(stranger, message(ALLOCATE, TX, [])), True
+    yield "garbage of 160 bytes", from_client(stranger, b"\xff" * 160), False
+
+
+def is_success(answer):
+    """Returns whether an answer is a success response to a client."""
+    words = answer.split()
+    return len(words) == 3 and words[0] == "c" and int(words[2][:4], 16) & 0x110 == 0x100
+
+
+def timed(slots, lines, line, sends):
+    """Returns how long the steps over a line's datagram take, in seconds, after those of other lines."""
+    words = [PROGRAM, str(slots), str(COUNT)]
+    with subprocess.Popen(words, stdin=subprocess.PIPE, stdout=subprocess.PIPE, text=True) as process:
+        process.stdin.write("\n".join([*lines, line, ""]))
+        process.stdin.close()
+        answers = [process.stdout.readline() for _ in lines]
+        start = time.perf_counter()
+        said = process.stdout.readline()
+        taken = time.perf_counter() - start
+    if not all(map(is_success, answers)) or said != f"{COUNT if sends else 0} of {COUNT} steps send a datagram\n":
+        sys.exit(f"{line[:60]}: {said}")
+    return taken
+
+
+def print_steps():
+    """Prints a line for each datagram and each size of the tables."""
+    lines = {name: setup(*tables) for name, tables in TABLES.items()}
+    cases = [(name, *case) for name, tables in TABLES.items() for case in datagrams(*tables)]
+    # each round runs every case, so that a slow moment of the machine doesn't fall on one of them alone
+    rounds = [[timed(TABLES[name][0], lines[name], *case) for name, _, *case in cases] for _ in range(ROUNDS)]
+    for (name, title, *_), taken in zip(cases, map(min, zip(*rounds))):
+        print(f"{title}, {name}: {COUNT / taken:,.0f} steps a second, {1e9 * taken / COUNT:,.0f} ns each")
+
+
+def resident(process):
+    """Returns the greatest resident set of a process so far, in kilobytes."""
+    with open(f"/proc/{process.pid}/status", encoding="ascii") as status:
+        return next(int(line.split()[1]) for line in status if line.startswith("VmHWM"))
+
+
+def replayed():
+    """Returns how long `relayd replay` takes for all lines, in seconds, and its greatest resident set after the first piece
+    and after all, in kilobytes."""
+    piece = f"{from_client(client(0), channel_data(0, 160))}\n".encode() * PIECE
+    words = [RELAYD, "replay", "-", "--user", "u:p"]
+    with subprocess.Popen(words, stdin=subprocess.PIPE, stdout=subprocess.DEVNULL) as process:
+        process.stdin.write("".join(f"{line}\n" for line in setup(1, 1)).encode() + piece)
+        process.stdin.flush()
+        first = resident(process)
+        start = time.perf_counter()
+        for _ in range(LINES // PIECE):
+            process.stdin.write(piece)
+        process.stdin.flush()
+        last = resident(process)
+        process.stdin.close()
+        status = process.wait()
+        taken = time.perf_counter() - start
+    if status:
+        sys.exit(f"replay: status {status}")
+    return taken, first, last
+
+
+def print_replay():
+    """Prints how fast `relayd replay` answers lines, and the memory that it took."""
+    taken, first, last = zip(*(replayed() for _ in range(REPLAYS)))
+    print(f"replay of {LINES:,} lines: {LINES / min(taken):,.0f} a second; greatest resident set after {PIECE:,} lines "
+          f"{max(first)} kB, at the end {max(last)} kB")
+
+
+def main():
+    """Builds both programs where they are not up to date, and prints all figures."""
+    with open(FOLDER / "stdin", encoding="ascii") as events:
+        subprocess.run(["rt", "run", "--", "1", "0"], cwd=FOLDER, stdin=events, capture_output=True, check=True)
+    build()
+    print_steps()
+    print_replay()
+
+
+if __name__ == "__main__":
+    main()

@@ -1,0 +1,377 @@
+"""Replays seeded events through the built relayd, and compares each answer with that of a model of the rules.
+
+The events are datagrams of several clients and peers over a few slots: requests that are granted and refused, ChannelData
+and Send indications whole, padded, cut and changed, datagrams of peers with and without a permission or a channel, moments
+that pass and go back, and new nonces. They are replayed with the shipped programs, with a program of the client's side that
+passes every datagram on, and with the programs of examples/relay/: those that relay more by themselves give the same answers,
+and those that discard give none where they say so.
+"""
+
+import collections
+import random
+import struct
+import sys
+import tempfile
+from pathlib import Path
+
+from program import build, finish, run
+from rules import (
+    ALLOCATE, BINDING, CHANNEL_BIND, CHANNEL_NUMBER, CREATE_PERMISSION, DATA, FAMILY, LIFETIME, NONCE, REALM, REFRESH, SEND,
+    TRANSPORT, USERNAME, XOR_PEER_ADDRESS, Rules, address_value, answer_line, event_of, key_of, line_of, message)
+
+TOP = Path(__file__).resolve().parent.parent
+PROGRAMS = TOP / "examples" / "relay"
+EVENTS = 10_000
+USERS = [("alice", "secret"), ("bob", "other")]
+SLOTS = 4
+CLIENTS = [(bytes([198, 51, 100, n]), 4000 + n) for n in range(1, 6)]
+PEERS = [(ip, port) for ip in map(bytes, ([192, 0, 2, 1], [192, 0, 2, 2], [203, 0, 113, 3])) for port in (5000, 5001)]
+CHANNELS = [0x4000, 0x4001, 0x4002, 0x4FFF]
+# `mov r0, 1` and `exit`
+PASS_ALL = bytes.fromhex("b700000001000000 9500000000000000")
+IPV6_VALUE = b"\0\2" + bytes(18)
+
+
+class Generator:
+    """Events that are likely to meet each rule, made along a model's state."""
+
+    def __init__(self, seed):
+        self.random = random.Random(seed)
+        self.rules = Rules(USERS, slots=SLOTS)
+        self.now = 1000
+
+    def chance(self, share):
+        return self.random.random() < share
+
+    def bytes(self, n):
+        return self.random.randbytes(n)
+
+    def pick(self, choices):
+        return self.random.choice(choices)
+
+    def event(self):
+        if self.chance(0.01):
+            return "n", b"nonce%d" % self.random.randrange(100)
+        self.now += self.pick([0] * 60 + [1, 5, 20])
+        if self.chance(0.001):
+            self.now += 700
+        now = self.now - 500 if self.chance(0.02) else self.now
+        tx = self.bytes(12)
+        if self.chance(0.35):
+            size = 65_490 + self.random.randrange(18) if self.chance(0.004) else self.random.randrange(40)
+            return "p", now, tx, self.random.randrange(SLOTS), self.pick(PEERS), self.bytes(size)
+        return "c", now, tx, self.pick(CLIENTS), self.spoiled(self.datagram())
+
+    def spoiled(self, data):
+        """Some datagrams are cut, padded or changed."""
+        kind = self.pick(["whole"] * 24 + ["cut", "padded", "changed"])
+        if kind == "cut":
+            return data[:self.random.randrange(len(data) + 1)]
+        if kind == "padded":
+            return data + self.bytes(self.random.randrange(5))
+        if kind == "changed" and data:
+            at = self.random.randrange(min(len(data), 40))
+            return data[:at] + self.bytes(1) + data[at + 1:]
+        return data
+
+    def datagram(self):
+        return self.pick([self.channel_data, self.channel_data, self.send, self.send, self.request, self.request])()
+
+    def channel_data(self):
+        data = self.bytes(self.random.randrange(30))
+        return struct.pack(">HH", self.pick([*CHANNELS, *CHANNELS, 0x5000, 0x7FFF]), len(data)) + data + bytes(-len(data) % 4)
+
+    def send(self):
+        given = [(XOR_PEER_ADDRESS, address_value(self.pick(PEERS))), (DATA, self.bytes(self.random.randrange(40)))]
+        if self.chance(0.3):
+            given.reverse()
+        if self.chance(0.2):
+            other = self.pick([
+                (0x8022, b"name"), (0x8001, b""), (0x001A, b""), (XOR_PEER_ADDRESS, address_value(self.pick(PEERS))),
+                (XOR_PEER_ADDRESS, IPV6_VALUE), (XOR_PEER_ADDRESS, b"\0\2" + bytes(6)), (DATA, b"more")])
+            given.insert(self.random.randrange(3), other)
+        if self.chance(0.05):
+            given.pop(self.random.randrange(len(given)))
+        return message(SEND, self.bytes(12), given)
+
+    def request(self):
+        kind = self.pick([BINDING, ALLOCATE, ALLOCATE, REFRESH, CREATE_PERMISSION, CREATE_PERMISSION, CHANNEL_BIND, CHANNEL_BIND])
+        given = self.arguments(kind)
+        if self.chance(0.05):
+            given.insert(self.random.randrange(len(given) + 1), self.pick([(0x8022, b"name"), (0x001A, b""), (0x7F00, b"x")]))
+        name, password = USERS[0] if self.chance(0.9) else self.pick([USERS[1], ("carol", "secret"), ("alice", "wrong")])
+        nonce = self.rules.nonce if self.chance(0.95) else b"stale"
+        credentials = [(USERNAME, name.encode()), (REALM, b"relay"), (NONCE, nonce)]
+        if self.chance(0.03):
+            credentials.pop(self.random.randrange(3))
+        if self.chance(0.05):
+            return message(kind, self.bytes(12), given)
+        return message(kind, self.bytes(12), given + credentials, key_of(name, "relay", password))
+
+    def arguments(self, kind):
+        lifetime = [(LIFETIME, struct.pack(">I", self.pick([0, 1, 599, 601, 3600, 4000, 2 ** 32 - 1])))]
+        family = [(FAMILY, bytes([self.pick([1, 1, 2]), 0, 0, 0]))]
+        maybe = [a for options in ([lifetime, family] if kind in (ALLOCATE, REFRESH) else []) if self.chance(0.3) for a in options]
+        if kind == ALLOCATE:
+            return [(TRANSPORT, bytes([self.pick([17] * 9 + [6]), 0, 0, 0]))] + maybe
+        if kind == CREATE_PERMISSION:
+            peers = [(XOR_PEER_ADDRESS, address_value(self.pick(PEERS))) for _ in range(self.random.randrange(1, 4))]
+            return peers + ([(XOR_PEER_ADDRESS, IPV6_VALUE)] if self.chance(0.05) else [])
+        if kind == CHANNEL_BIND:
+            number = self.pick([*CHANNELS, *CHANNELS, 0x3FFF, 0x5000])
+            return [(CHANNEL_NUMBER, struct.pack(">HH", number, 0)), (XOR_PEER_ADDRESS, address_value(self.pick(PEERS)))]
+        return maybe
+
+
+def seeded(seed, count):
+    """Events, each with the answer of the model."""
+    generator = Generator(seed)
+    pairs = []
+    for _ in range(count):
+        event = generator.event()
+        pairs.append((line_of(event), answer_line(generator.rules.answer(event))))
+    return pairs
+
+
+def signed(kind, given):
+    """A request of the first user."""
+    name, password = USERS[0]
+    credentials = [(USERNAME, name.encode()), (REALM, b"relay"), (NONCE, b"n1")]
+    return message(kind, bytes(12), given + credentials, key_of(name, "relay", password))
+
+
+def systematic():
+    """Each length of a cut datagram, each remainder of padding in both directions, and the attributes that a Send indication
+    may have and lack, after one allocation with a permission and a channel; each event with the answer of the model."""
+    client, (peer, other_port, no_permission) = CLIENTS[0], [PEERS[0], PEERS[1], PEERS[2]]
+    to_peer, content = (XOR_PEER_ADDRESS, address_value(peer)), (DATA, b"abc")
+    long_content = (DATA, bytes(range(20)))
+    channel_data = struct.pack(">HH", 0x4001, 36) + bytes(36)
+    optional, required = (0x8001, b""), (0x001A, b"")
+    sends = [
+        [to_peer, content], [content, to_peer], [to_peer], [content], [], [to_peer, content, optional], [optional, to_peer, content],
+        [to_peer, content, required], [to_peer, (XOR_PEER_ADDRESS, address_value(no_permission)), content],
+        [(XOR_PEER_ADDRESS, address_value(no_permission)), to_peer, content], [(XOR_PEER_ADDRESS, address_value(no_permission)), content],
+        [(XOR_PEER_ADDRESS, address_value(other_port)), content], [(XOR_PEER_ADDRESS, IPV6_VALUE), content],
+        [(XOR_PEER_ADDRESS, b"\0\2" + address_value(peer)[2:]), content], [(XOR_PEER_ADDRESS, address_value(peer)[:7]), content],
+        [to_peer, content, (DATA, b"more")], [to_peer, (DATA, b"")], [to_peer, content, *[optional] * 3]]
+    requests = [
+        signed(ALLOCATE, [(TRANSPORT, bytes([17, 0, 0, 0]))]), signed(CREATE_PERMISSION, [to_peer]),
+        signed(CHANNEL_BIND, [(CHANNEL_NUMBER, b"\x40\x01\0\0"), to_peer])]
+    from_client = requests + [message(SEND, bytes(12), given) for given in sends]
+    from_client += [channel_data[:n] for n in range(41)]
+    from_client += [message(SEND, bytes(12), given)[:n] for given in ([to_peer, content], [long_content, to_peer]) for n in range(65)]
+    for n in range(5):
+        data = bytes(n)
+        padded = [struct.pack(">HH", 0x4001, n) + data + bytes(extra) for extra in range(4)]
+        from_client += [message(SEND, bytes(12), [to_peer, (DATA, data)]), *padded]
+    events = [("c", 1000, bytes(12), client, data) for data in from_client]
+    sizes = [*range(5), 65_467, 65_468, 65_469, 65_503, 65_504, 65_507]
+    events += [("p", 1000, bytes(12), slot, source, bytes(n)) for n in sizes for source in (peer, other_port, no_permission) for slot in (0, 1)]
+    events += [("c", 1000, bytes(12), CLIENTS[1], channel_data)]
+    rules = Rules(USERS, slots=SLOTS)
+    return [(line_of(event), answer_line(rules.answer(event))) for event in events]
+
+
+def kinds_of(pairs):
+    """How often each kind of answer came."""
+    def kind(answer):
+        return "nothing" if answer == "-" else "to a peer" if answer[0] == "p" else answer.split(" ")[2][:4]
+    return collections.Counter(kind(answer) for _, answer in pairs)
+
+
+class Discarding(Rules):
+    """The rules, where the program of the peers' side discards some datagrams before."""
+
+    def __init__(self, discards):
+        super().__init__(USERS, slots=SLOTS)
+        self.discards = discards
+
+    def from_peer(self, tx, slot, peer, data):
+        return None if self.discards(peer, data) else super().from_peer(tx, slot, peer, data)
+
+
+def discarding(pairs, discards):
+    """The same events with the answers where some datagrams of peers are discarded."""
+    rules = Discarding(discards)
+    return [(line, answer_line(rules.answer(event_of(line)))) for line, _ in pairs]
+
+
+def program(folder, *sources):
+    """Assembles texts of examples/relay/, one after another, and returns the path of the program."""
+    return assembled(folder, "-".join(sources), "".join((PROGRAMS / f"{source}.s").read_text() for source in sources))
+
+
+def compare(folder, name, pairs, words):
+    """The first lines whose answer isn't the one that is wanted."""
+    path = folder / "events"
+    path.write_text("".join(line + "\n" for line, _ in pairs))
+    users = [word for user in USERS for word in ("--user", ":".join(user))]
+    status, out, err = run(["replay", path, *users, "--slots", str(SLOTS), *words])
+    failures = [f"{name}: status {status}, {err}"] if status != 0 or err else []
+    lines = out.splitlines()
+    if len(lines) != len(pairs):
+        failures.append(f"{name}: {len(lines)} answers to {len(pairs)} events")
+    wrong = [(n, got, pair) for n, (got, pair) in enumerate(zip(lines, pairs), 1) if got != pair[1]]
+    return failures + [f"{name}: line {n}: {pair[0]}\n  is      {got}\n  must be {pair[1]}" for n, got, pair in wrong[:3]]
+
+
+# programs that set out to send, with what the events of `odd_events` give: the window and the destination of each verdict
+WINDOW = """
+    mov r6, r1
+    mov r2, {front}
+    mov r3, {length}
+    call 4
+"""
+DESTINATION = """
+    stw [r10-8], -2012020480
+    stw [r10-4], 0x090200c0
+    mov r1, r6
+    mov r2, r10
+    add r2, -8
+    call 5
+"""
+# 192.0.2.9:5000, which has no permission
+ELSEWHERE = (bytes([192, 0, 2, 9]), 5000)
+END = "    mov r0, {verdict}\n    exit\n"
+LONGEST = 65_507
+# the text of the client's program, and the answer to a datagram of a client with an allocation; None is a window of it
+SENDS = [
+    ("nothing planned", "    mov r0, 2\n    exit\n", None),
+    ("a window alone", WINDOW.format(front=64, length=1) + END.format(verdict=2), None),
+    ("a destination alone", "    mov r6, r1\n" + DESTINATION + END.format(verdict=2), None),
+    ("both", WINDOW.format(front=64, length=1) + DESTINATION + END.format(verdict=2), (64, 1)),
+    ("no bytes", WINDOW.format(front=64, length=0) + DESTINATION + END.format(verdict=2), (64, 0)),
+    ("headroom", WINDOW.format(front=0, length=64) + DESTINATION + END.format(verdict=2), (0, 64)),
+    ("all bytes", "    mov r7, r1\n    mov r6, r1\n    mov r2, 64\n    ldxdw r3, [r7+16]\n    call 4\n" + DESTINATION
+     + END.format(verdict=2), (64, None)),
+    ("verdict 0", WINDOW.format(front=64, length=1) + DESTINATION + END.format(verdict=0), None),
+    ("verdict 3", WINDOW.format(front=64, length=1) + DESTINATION + END.format(verdict=3), None),
+    ("a verdict of 64 bits", WINDOW.format(front=64, length=1) + DESTINATION + "    lddw r0, 0x100000002\n    exit\n", None),
+]
+# writes the type of a Binding request over the datagram's first two bytes, and passes it on
+WRITES = """
+    ldxdw r2, [r1+0]
+    ldxdw r3, [r1+8]
+    mov r4, r2
+    add r4, 2
+    mov r0, 0
+    jgt r4, r3, end
+    sth [r2+0], 0x0100
+    mov r0, 1
+end:
+    exit
+"""
+
+
+def assembled(folder, name, text):
+    """Assembles a text, and returns the path of the program."""
+    (folder / f"{name}.s").write_text(text)
+    status, _, err = run(["assemble", folder / f"{name}.s", folder / f"{name}.bpf"])
+    if status != 0:
+        raise SystemExit(f"{name}: {err}")
+    return folder / f"{name}.bpf"
+
+
+def allocated():
+    """The events that give the first client an allocation with a permission and a channel, through the rules."""
+    peer = (XOR_PEER_ADDRESS, address_value(PEERS[0]))
+    requests = [
+        signed(ALLOCATE, [(TRANSPORT, bytes([17, 0, 0, 0]))]), signed(CREATE_PERMISSION, [peer]),
+        signed(CHANNEL_BIND, [(CHANNEL_NUMBER, b"\x40\x01\0\0"), peer])]
+    return [("c", 1000, bytes(12), CLIENTS[0], request) for request in requests]
+
+
+def odd_programs(folder):
+    """Programs that plan half of what is sent, or more than it is, and programs that say so for every datagram."""
+    datagrams = [b"\x80", bytes([0x80]) + bytes(9), bytes([0x80]) * LONGEST, b""]
+    for number, (name, text, planned) in enumerate(SENDS):
+        # requests go by the rules: the program looks for the first two bits 10
+        head = ("    ldxdw r2, [r1+0]\n    ldxdw r3, [r1+8]\n    mov r4, r2\n    add r4, 1\n    mov r0, 1\n    jgt r4, r3, other\n"
+                "    ldxb r5, [r2+0]\n    jge r5, 128, own\nother:\n    exit\nown:\n")
+        path = assembled(folder, f"sends_{number}", head + text)
+        rules = Rules(USERS, slots=SLOTS)
+        pairs = [(line_of(e), answer_line(rules.answer(e))) for e in allocated()]
+        for client in CLIENTS[:2]:
+            for data in datagrams:
+                pairs.append((line_of(("c", 1000, bytes(12), client, data)), sent_line(client, data, planned)))
+        yield f"a program that plans {name}", pairs, ["--client", path]
+    events = systematic()
+    two = assembled(folder, "two", "    mov r0, 2\n    exit\n")
+    yield "verdict 2 on both sides", [(line, "-") for line, _ in events], ["--client", two, "--peer", two]
+    passes = assembled(folder, "passes", "    mov r0, 1\n    exit\n")
+    yield "verdict 1 of peers", discarding(events, lambda peer, data: True), ["--peer", passes]
+    binding = message(BINDING, bytes(12), [])
+    written = [("c", 1000, bytes(12), CLIENTS[0], first + binding[2:]) for first in (b"\x40\x01", b"\xff\xff", binding[:2])]
+    rules = Rules(USERS, slots=SLOTS)
+    answer = answer_line(rules.answer(("c", 1000, bytes(12), CLIENTS[0], binding)))
+    yield "a program that writes", [(line_of(e), answer) for e in written], ["--client", assembled(folder, "writes", WRITES)]
+
+
+def sent_line(client, data, planned):
+    """What a program of `SENDS` gives for a datagram."""
+    if client != CLIENTS[0] or not data or planned is None:
+        return "-"
+    front, length = planned
+    around = bytes(64) + data + bytes(3)
+    window = around[front:front + (len(data) if length is None else length)]
+    return answer_line(("p", 0, ELSEWHERE, window))
+
+
+def odd_moments():
+    """Moments that go back, and the greatest ones: what has ended has ended, and the greatest moment is 2^62."""
+    peer = ("p", 1000, bytes(12), 0, PEERS[0], b"abc")
+    moments = [1299, 1300, 1200, 0, 2 ** 62 - 1, 2 ** 62, 2 ** 64 - 1, 5]
+    events = allocated() + [(*peer[:1], now, *peer[2:]) for now in moments]
+    again = [(*e[:1], 2 ** 64 - 1, *e[2:]) for e in allocated()]
+    rules = Rules(USERS, slots=SLOTS)
+    return [(line_of(e), answer_line(rules.answer(e))) for e in events + again + [peer]]
+
+
+def texts():
+    """The texts in examples/relay/ that are not those of the shipped programs."""
+    for side in ("client", "peer"):
+        source = (TOP / "crates" / "programs" / "src" / f"{side}.rt").read_text()
+        if f'"\\\n{(PROGRAMS / f"{side}.s").read_text()}"' not in source:
+            yield f"examples/relay/{side}.s is not the shipped text"
+
+
+def stored():
+    """The model against the stored session of Chromium, whose answers other hands wrote."""
+    folder = TOP / "crates" / "session_replay"
+    rules = Rules([("u", "p")])
+    events = (folder / "stdin").read_text().splitlines()
+    answers = (folder / "stdout").read_text().splitlines()
+    return [f"model: {e}" for e, a in zip(events, answers, strict=True) if answer_line(rules.answer(event_of(e))) != a]
+
+
+def main():
+    build()
+    failures = [*texts(), *stored()]
+    pairs = seeded(8656, EVENTS)
+    count = 0
+    with tempfile.TemporaryDirectory() as name:
+        folder = Path(name)
+        (folder / "pass_all.bpf").write_bytes(PASS_ALL)
+        options = ["--client", program(folder, "client_with_options")]
+        refuse = ["--peer", program(folder, "refuse_network", "peer")]
+        short = ["--peer", program(folder, "at_most_1200_bytes", "peer")]
+        for kind, events in (("one after another", systematic()), ("seeded", pairs)):
+            for program_name, wanted, words in (
+                ("shipped programs", events, []),
+                ("a program that passes all on", events, ["--client", folder / "pass_all.bpf"]),
+                ("client_with_options", events, options),
+                ("refuse_network", discarding(events, lambda peer, _: peer[0][:3] == bytes([203, 0, 113])), refuse),
+                ("at_most_1200_bytes", discarding(events, lambda _, data: len(data) > 1200), short),
+            ):
+                failures += compare(folder, f"{kind}, {program_name}", wanted, words)
+                count += len(events)
+        for program_name, events, words in (*odd_programs(folder), ("odd moments", odd_moments(), [])):
+            failures += compare(folder, program_name, events, words)
+            count += len(events)
+    met = ", ".join(f"{kind} {number}" for kind, number in sorted(kinds_of(pairs).items()))
+    return finish(failures, f"events replayed and compared with a model: {count} ({met}), {len(failures)} failures")
+
+
+if __name__ == "__main__":
+    sys.exit(main())

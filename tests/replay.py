@@ -1,0 +1,299 @@
+"""Runs the built relayd's `replay` over sessions, options, faults and outputs.
+
+The session of examples/ is written anew from its description, and its answers are those that the description says. The
+session of Chromium has stored answers of other hands. Each further case gives the words, the status and the whole text
+that relayd has to print to each stream.
+"""
+
+import pathlib
+import sys
+import tempfile
+
+from program import TOP, finish, run
+
+sys.path.insert(0, str(TOP / "examples"))
+import events
+
+EXAMPLES = TOP / "examples"
+SESSION = TOP / "crates" / "session_replay"
+USER = ["--user", "u:p"]
+# `exit`, which is refused since r0 is not set
+BAD = bytes.fromhex("9500000000000000")
+# `mov r0, 1` and `exit`: every datagram is passed on to the rules, and those of peers are discarded
+PASS = bytes.fromhex("b700000001000000 9500000000000000")
+LONG_NONCE = ["--nonce", "n" * 65]
+SPACED_NONCE = ["--nonce", "a b"]
+TWICE = ["--user", "u:q"]
+BAD_CLIENT = ["--client", "bad"]
+BAD_PEER = ["--peer", "bad"]
+NO_CLIENT = ["--client", "missing"]
+NO_PEER = ["--peer", "missing"]
+UNREAD = "cannot read missing\n"
+REFUSED = "refused V5 at 0\n"
+BINDING = f"c 1000 {'0' * 24} 198.51.100.2:4000 000100002112a442{'0' * 24}\n"
+BOUND = f"c 198.51.100.2:4000 0101000c2112a442{'0' * 24}0020000800012eb2e721c040\n"
+# the answer to an Allocate request without attributes, where the nonce is n2
+UNSIGNED = (
+    f"c 198.51.100.2:4000 0113002c2112a442{'0' * 24}00090013000004"
+    "01556e61757468656e74696361746564000014000572656c6179000000001500026e320000\n"
+)
+# the words after `replay`, the status, standard error; nothing is printed to standard output. The faults come in the
+# order of the command line, the file of users, the nonce's length, the programs, the fields and the events, so the
+# second fault of a case is not named.
+FAULTS = [
+    (["missing"], 2, "error: '--user <NAME:PASSWORD>' or '--users <FILE>' is required\n"),
+    (["--user", "up", "missing"], 2, "error: invalid value 'up' for '--user <NAME:PASSWORD>'\n"),
+    ([*USER, "--slots", "x", *LONG_NONCE, "events"], 2, "error: invalid value 'x' for '--slots <N>'\n"),
+    ([*USER, "--slots", "-1", "events"], 2, None),
+    ([*USER, "--slots=-1", "events"], 2, "error: invalid value '-1' for '--slots <N>'\n"),
+    ([*USER, "--slots", "18446744073709551616", "events"], 2, None),
+    ([*USER, "--first-port", "65536", "events"], 2, "error: invalid value '65536' for '--first-port <P>'\n"),
+    ([*USER, "--first-port", "", "events"], 2, "error: invalid value '' for '--first-port <P>'\n"),
+    ([*USER, "--relay-ip", "1.2.3", "events"], 2, "error: invalid value '1.2.3' for '--relay-ip <A>'\n"),
+    ([*USER, "--relay-ip", "1.2.3.256", "events"], 2, "error: invalid value '1.2.3.256' for '--relay-ip <A>'\n"),
+    ([*USER, "--relay-ip", "::1", "events"], 2, "error: invalid value '::1' for '--relay-ip <A>'\n"),
+    (["--users", "missing", *LONG_NONCE, "events"], 3, UNREAD),
+    (["--users", "bad_users", *LONG_NONCE, "events"], 1, "refused users at line 2\n"),
+    (["--users", "bytes", "events"], 3, "cannot read bytes\n"),
+    ([*USER, *LONG_NONCE, *BAD_CLIENT, "events"], 1, "refused nonce\n"),
+    ([*USER, *LONG_NONCE, *NO_CLIENT, "events"], 1, "refused nonce\n"),
+    ([*USER, *LONG_NONCE, "--first-port", "0", "events"], 1, "refused nonce\n"),
+    ([*USER, *BAD_CLIENT, "--peer", "empty", "events"], 1, REFUSED),
+    ([*USER, "--client", "empty", *BAD_PEER, "events"], 1, "refused E1\n"),
+    ([*USER, *BAD_CLIENT, *NO_PEER, "events"], 1, REFUSED),
+    ([*USER, *NO_CLIENT, *BAD_PEER, "events"], 3, UNREAD),
+    ([*USER, *NO_CLIENT, "--slots", "0", "events"], 3, UNREAD),
+    ([*USER, *BAD_PEER, "--slots", "0", "events"], 1, REFUSED),
+    ([*USER, *NO_PEER, *SPACED_NONCE, "events"], 3, UNREAD),
+    ([*USER, "--first-port", "0", "--slots", "0", "events"], 1, "refused first_port\n"),
+    ([*USER, "--first-port", "0", *SPACED_NONCE, "events"], 1, "refused first_port\n"),
+    ([*USER, "--slots", "0", "--realm", "", "events"], 1, "refused slots\n"),
+    ([*USER, "--slots", "257", "events"], 1, "refused slots\n"),
+    ([*USER, "--slots", "2", "--first-port", "65535", "events"], 1, "refused slots\n"),
+    ([*USER, "--realm", "", *SPACED_NONCE, "events"], 1, "refused realm\n"),
+    ([*USER, *TWICE, *SPACED_NONCE, "events"], 1, "refused nonce\n"),
+    ([*USER, "--nonce", "", "events"], 1, "refused nonce\n"),
+    ([*USER, *TWICE, "missing"], 1, "refused users\n"),
+    (["--users", "empty", "missing"], 1, "refused users\n"),
+    ([*USER, "--users", "users", "events"], 1, "refused users\n"),
+    ([*USER, "missing"], 3, UNREAD),
+    ([*USER, "folder"], 3, "cannot read folder\n"),
+]
+# the words after `replay` and --user, the status, standard output, standard error
+RUNS = [
+    (["events"], 0, BOUND, ""),
+    (["empty"], 0, "", ""),
+    (["unended"], 0, BOUND, ""),
+    # the answers before the refused line are printed
+    (["second"], 1, BOUND, "refused line 2\n"),
+    (["blank"], 1, "", "refused line 1\n"),
+    # slot 16 is not there
+    (["slot"], 1, "", "refused line 1\n"),
+    (["--slots", "17", "slot"], 0, "-\n", ""),
+    (["--", "events"], 0, BOUND, ""),
+    # a new nonce, and a text that is none
+    (["renewed"], 0, f"-\n{UNSIGNED}", ""),
+    (["long_nonce"], 1, "-\n", "refused line 2\n"),
+]
+TX = "0" * 24
+# lines that are no event's: an empty one, needless zeros, numbers too great, digits that are upper-case or odd, an id that is
+# cut, a slot that isn't there, addresses that aren't over IPv4, fields that lack or are too many, and lines that are too long
+NO_EVENTS = [
+    "", "c", "c 1000", f"x 1000 {TX} 198.51.100.2:4000 -", f"c 01000 {TX} 198.51.100.2:4000 -", f"c  1000 {TX} 198.51.100.2:4000 -",
+    f"c 18446744073709551616 {TX} 198.51.100.2:4000 -", f"c -1 {TX} 198.51.100.2:4000 -", f"c 1000 {TX[1:]} 198.51.100.2:4000 -",
+    f"c 1000 {TX[1:]}A 198.51.100.2:4000 -", f"c 1000 {TX} 198.51.100.2:4000 AB", f"c 1000 {TX} 198.51.100.2:4000 abc",
+    f"c 1000 {TX} 198.51.100.2:4000 ", f"c 1000 {TX} 198.51.100.2:4000", f"c 1000 {TX} 198.51.100.2:4000 - -",
+    f"c 1000 {TX} 198.51.100.02:4000 -", f"c 1000 {TX} 198.51.100.256:4000 -", f"c 1000 {TX} 198.51.100.2:65536 -",
+    f"c 1000 {TX} 198.51.100.2:04000 -", f"c 1000 {TX} 198.51.100:4000 -", f"c 1000 {TX} [::1]:4000 -",
+    f"p 1000 {TX} 16 192.0.2.7:5000 -", f"p 1000 {TX} 00 192.0.2.7:5000 -", f"p 1000 {TX} 192.0.2.7:5000 -",
+    "n", "n ", "n a b", "n " + "a" * 65, f"c 1000 {TX} 198.51.100.2:4000 -\r", f"c 1000 {TX} 198.51.100.2:4000 -\t",
+    f"c 1000 {TX} 198.51.100.2:4000 " + "00" * 65_508, "c" * 131_200, "c" * 131_201, "c" * 1_000_000]
+# a description whose answers show the options, in the words of examples/events.py
+SHOWN = """
+user {name}:{password}
+realm {realm}
+nonce {nonce}
+now 1
+from client 198.51.100.2:4000
+    Allocate request
+to client 198.51.100.2:4000
+    Allocate error
+    ERROR-CODE 401 Unauthenticated
+    REALM {realm}
+    NONCE {nonce}
+from client 198.51.100.2:4000
+    Allocate request
+    REQUESTED-TRANSPORT 17
+    signed
+to client 198.51.100.2:4000
+    Allocate success
+    XOR-RELAYED-ADDRESS {address}
+    LIFETIME 600
+    XOR-MAPPED-ADDRESS 198.51.100.2:4000
+    signed
+"""
+# the longest datagrams, after an allocation with a channel: one more byte of data has no room in ChannelData
+CHANNEL = """
+from client 198.51.100.2:4000
+    ChannelBind request
+    CHANNEL-NUMBER 0x4001
+    XOR-PEER-ADDRESS 192.0.2.7:5000
+    signed
+to client 198.51.100.2:4000
+    ChannelBind success
+    signed
+"""
+LONGEST_DATA = 65503
+DEFAULTS = {"name": "u", "password": "p", "realm": "relay", "nonce": "n1", "address": "127.0.0.1:49152"}
+# options, with what they change of the answers
+OPTIONS = [
+    (USER, {}),
+    (["--user", "u:p:q"], {"password": "p:q"}),
+    (["--user", "u:"], None),
+    (["--user", "v:r", *USER], {}),
+    (["--users", "users"], {}),
+    (["--users", "users"], {"name": "second", "password": "a b:c"}),
+    (["--users", "users", "--user", "third:x"], {"name": "third", "password": "x"}),
+    ([*USER, "--realm", "example.org"], {"realm": "example.org"}),
+    ([*USER, "--nonce", "n2"], {"nonce": "n2"}),
+    ([*USER, "--relay-ip", "203.0.113.9"], {"address": "203.0.113.9:49152"}),
+    ([*USER, "--first-port", "+0500"], {"address": "127.0.0.1:500"}),
+]
+
+
+def write_files(folder):
+    """Writes the files that the cases name."""
+    (folder / "bad").write_bytes(BAD)
+    (folder / "pass").write_bytes(PASS)
+    (folder / "bytes").write_bytes(b"u:\xff\n")
+    (folder / "folder").mkdir()
+    texts = {
+        "empty": "",
+        "events": BINDING,
+        "unended": BINDING.rstrip("\n"),
+        "second": f"{BINDING}c 1000\n{BINDING}",
+        "blank": f"\n{BINDING}",
+        "slot": f"p 1000 {'0' * 24} 16 192.0.2.7:5000 616263\n",
+        "renewed": f"n n2\nc 1000 {'0' * 24} 198.51.100.2:4000 000300002112a442{'0' * 24}\n",
+        "long_nonce": f"n {'n' * 64}\nn {'n' * 65}\n",
+        "users": "u:p\nsecond:a b:c\n",
+        "bad_users": "u:p\nup\n",
+    }
+    for name, text in texts.items():
+        (folder / name).write_text(text, encoding="utf-8")
+
+
+def differences(name, got, wanted):
+    """Yields the case if what it printed is not what is wanted, where a text that is None may be any but none."""
+    alike = [seen == text or (text is None and seen) for seen, text in zip(got, wanted)]
+    if not all(alike):
+        yield f"{name}: {str(got)[:300]}"
+
+
+def failures_of_example(_):
+    """Yields what is wrong with the session of examples/: its files, and its answers."""
+    description = (EXAMPLES / "session.txt").read_text(encoding="utf-8")
+    stored = [(EXAMPLES / f"session.{kind}").read_text(encoding="utf-8") for kind in ("events", "expected")]
+    if events.lines_of(description) != tuple(stored):
+        yield "examples/session.events and session.expected are not those of session.txt"
+    words = ["--users", str(EXAMPLES / "users.txt"), "--relay-ip", "203.0.113.1", str(EXAMPLES / "session.events")]
+    yield from differences("the session of examples/", run(["replay", *words]), (0, stored[1], ""))
+
+
+def failures_of_chromium(folder):
+    """Yields what is wrong with the session of Chromium, from a file, from standard input, and with other programs."""
+    session = str(SESSION / "stdin")
+    stored = (SESSION / "stdout").read_text(encoding="utf-8")
+    sources = (SESSION / "stdin").read_text(encoding="utf-8").splitlines()
+    answers = [answer if source[0] == "c" else "-" for source, answer in zip(sources, stored.splitlines())]
+    discarded = "".join(f"{answer}\n" for answer in answers)
+    yield from differences("chromium", run(["replay", *USER, session]), (0, stored, ""))
+    for words, wanted in ((["--client", "pass"], stored), (["--peer", "pass"], discarded)):
+        got = run(["replay", *USER, *words, session], cwd=folder)
+        yield from differences(f"chromium {words}", got, (0, wanted, ""))
+    with open(session, encoding="utf-8") as source:
+        yield from differences("chromium -", run(["replay", *USER, "-"], stdin=source), (0, stored, ""))
+
+
+def failures_of_faults(folder):
+    """Yields the faults that are not named, or not first."""
+    for words, status, err in FAULTS:
+        got = run(["replay", *words], cwd=folder)
+        yield from differences(" ".join(words)[:80], got, (status, "", err))
+
+
+def failures_of_runs(folder):
+    """Yields the runs that do not end as they have to."""
+    for words, *wanted in RUNS:
+        got = run(["replay", *USER, *words], cwd=folder)
+        yield from differences(" ".join(words), got, wanted)
+
+
+def failures_of_options(folder):
+    """Yields the options, and the defaults, whose answers are not those that they have to be."""
+    for words, changes in OPTIONS:
+        if changes is None:
+            got = run(["replay", *words, "events"], cwd=folder)
+            yield from differences(" ".join(words), got, (1, "", "refused users\n"))
+            continue
+        lines, answers = events.lines_of(SHOWN.format(**{**DEFAULTS, **changes}))
+        (folder / "shown").write_text(lines, encoding="utf-8")
+        got = run(["replay", *words, "shown"], cwd=folder)
+        yield from differences(" ".join(words), got, (0, answers, ""))
+
+
+def from_peer(count, answered):
+    """Returns the description of a peer's datagram of `count` bytes, answered by ChannelData or not."""
+    text = "x" * count
+    answer = f"to client 198.51.100.2:4000\n    ChannelData 0x4001 {text}" if answered else "nothing"
+    return f"from peer 192.0.2.7:5000 at slot 0\n    data {text}\n{answer}\n"
+
+
+def failures_of_sizes(folder):
+    """Yields what is wrong with datagrams of the greatest sizes, and with a line that has one byte more."""
+    sizes = [from_peer(LONGEST_DATA, True), from_peer(LONGEST_DATA + 1, False), from_peer(LONGEST_DATA + 4, False)]
+    lines, answers = events.lines_of(SHOWN.format(**DEFAULTS) + CHANNEL + "".join(sizes))
+    last, _ = events.lines_of(from_peer(LONGEST_DATA + 5, False))
+    (folder / "longest").write_text(lines + last, encoding="utf-8")
+    got = run(["replay", *USER, "longest"], cwd=folder)
+    yield from differences("the longest datagrams", got, (1, answers, "refused line 7\n"))
+
+
+def failures_of_lines(folder):
+    """Yields the lines that are no event's and are not refused, each after a good one."""
+    for line in NO_EVENTS:
+        (folder / "line").write_text(BINDING + line + "\n" + BINDING, encoding="utf-8")
+        got = run(["replay", *USER, "line"], cwd=folder)
+        yield from differences(line[:60], got, (1, BOUND, "refused line 2\n"))
+
+
+def failures_of_output(folder):
+    """Yields the outputs that fail and are not reported."""
+    for words in (["events"], ["second"], ["-"]):
+        with open("/dev/full", "w", encoding="utf-8") as full, open(folder / "events", encoding="utf-8") as source:
+            got = run(["replay", *USER, *words], cwd=folder, stdout=full, stdin=source)
+        if got != (3, None, "cannot write output\n"):
+            yield f"{words}, output full: {got}"
+
+
+def main():
+    """Runs every case, and returns the exit status."""
+    cases = (
+        failures_of_example,
+        failures_of_chromium,
+        failures_of_faults,
+        failures_of_runs,
+        failures_of_options,
+        failures_of_sizes,
+        failures_of_lines,
+        failures_of_output,
+    )
+    with tempfile.TemporaryDirectory() as name:
+        folder = pathlib.Path(name)
+        write_files(folder)
+        failures = [found for case in cases for found in case(folder)]
+    return finish(failures, f"replays: {len(failures)} failures")
+
+
+if __name__ == "__main__":
+    sys.exit(main())

@@ -1,0 +1,360 @@
+"""A model of the relay's rules, from the standards (RFC 8489, RFC 8656) and the tables of this profile: what is answered to
+a list of events, written apart from the relay's definitions. Python's standard library alone."""
+import hashlib
+import hmac
+import struct
+
+COOKIE = 0x2112A442
+LATEST = 2 ** 62
+(USERNAME, INTEGRITY, ERROR_CODE, UNKNOWN_ATTRIBUTES, CHANNEL_NUMBER, LIFETIME, XOR_PEER_ADDRESS, DATA, REALM, NONCE,
+ XOR_RELAYED_ADDRESS, FAMILY, TRANSPORT, XOR_MAPPED_ADDRESS) = UNDERSTOOD = (
+    0x06, 0x08, 0x09, 0x0A, 0x0C, 0x0D, 0x12, 0x13, 0x14, 0x15, 0x16, 0x17, 0x19, 0x20)
+BINDING, ALLOCATE, REFRESH, CREATE_PERMISSION, CHANNEL_BIND = 0x0001, 0x0003, 0x0004, 0x0008, 0x0009
+SEND, DATA_INDICATION = 0x0016, 0x0017
+PHRASES = {
+    400: "Bad Request", 401: "Unauthenticated", 420: "Unknown Attribute", 437: "Allocation Mismatch", 438: "Stale Nonce",
+    440: "Address Family not Supported", 441: "Wrong Credentials", 442: "Unsupported Transport Protocol",
+    443: "Peer Address Family Mismatch", 508: "Insufficient Capacity"}
+
+
+class Refused(Exception):
+    """A request is answered by an error response with this code."""
+
+    def __init__(self, code):
+        super().__init__(code)
+        self.code = code
+
+
+def xor(data, mask):
+    return bytes(a ^ b for a, b in zip(data, mask))
+
+
+def address_value(address):
+    """The value of an XOR address over IPv4."""
+    ip, port = address
+    cookie = struct.pack(">I", COOKIE)
+    return b"\0\1" + xor(struct.pack(">H", port), cookie) + xor(ip, cookie)
+
+
+def address_in(value, tx):
+    """The address of a value: IP address of 4 or 16 bytes, and port. None where it is malformed."""
+    mask = struct.pack(">I", COOKIE) + tx
+    for size, family in ((4, 1), (16, 2)):
+        if len(value) == size + 4 and value[1] == family:
+            return xor(value[4:], mask), struct.unpack(">H", xor(value[2:4], mask))[0]
+    return None
+
+
+def attribute(kind, value):
+    return struct.pack(">HH", kind, len(value)) + value + bytes(-len(value) % 4)
+
+
+def message(kind, tx, attributes, key=None):
+    """The bytes of a message, signed under the key if there is one."""
+    body = b"".join(attribute(k, v) for k, v in attributes)
+    if key is not None:
+        covered = struct.pack(">HHI", kind, len(body) + 24, COOKIE) + tx + body
+        body += attribute(INTEGRITY, hmac.new(key, covered, hashlib.sha1).digest())
+    return struct.pack(">HHI", kind, len(body), COOKIE) + tx + body
+
+
+def key_of(name, realm, password):
+    return hashlib.md5(f"{name}:{realm}:{password}".encode()).digest()
+
+
+class Message:
+    """A message that was read: type, transaction id, and the attributes up to the first MESSAGE-INTEGRITY."""
+
+    def __init__(self, data):
+        kind, length, cookie = struct.unpack(">HHI", data[:8])
+        if kind >= 0x4000 or cookie != COOKIE or length % 4 != 0 or length + 20 != len(data):
+            raise ValueError
+        self.kind, self.tx, self.attributes, self.covered = kind, data[8:20], [], None
+        at, signed = 20, False
+        while at < len(data):
+            if at + 4 > len(data):
+                raise ValueError
+            number, size = struct.unpack(">HH", data[at:at + 4])
+            end = at + 4 + size + (-size % 4)
+            if end > len(data):
+                raise ValueError
+            if not signed:
+                self.attributes.append((number, data[at + 4:at + 4 + size]))
+            if number == INTEGRITY and not signed:
+                signed = True
+                self.covered = struct.pack(">HHI", kind, at - 20 + 24, COOKIE) + data[8:at]
+            at = end
+
+    def values(self, kind):
+        return [v for k, v in self.attributes if k == kind]
+
+    def first(self, kind):
+        return next(iter(self.values(kind)), None)
+
+    def unknown(self):
+        found = []
+        for kind, _ in self.attributes:
+            if kind < 0x8000 and kind not in UNDERSTOOD and kind not in found:
+                found.append(kind)
+        return found[:16]
+
+
+def read(data):
+    try:
+        return Message(data) if len(data) >= 20 else None
+    except ValueError:
+        return None
+
+
+class Allocation:
+    def __init__(self, slot, client, user, tx, lifetime, end):
+        self.slot, self.client, self.user, self.tx, self.lifetime, self.end = slot, client, user, tx, lifetime, end
+        self.permissions, self.channels = {}, {}
+
+
+class Rules:
+    """The rules, over a state: allocations by slot, the greatest moment, and the nonce."""
+
+    def __init__(self, users, realm="relay", nonce="n1", slots=16, ip=bytes([127, 0, 0, 1]), first_port=49152):
+        self.users, self.realm, self.nonce = users, realm, nonce.encode()
+        self.ip, self.first_port, self.now = ip, first_port, 0
+        self.slots = [None] * slots
+
+    # ---- look-ups
+
+    def at(self, slot):
+        """The allocation at a slot, with what counts of it."""
+        a = self.slots[slot] if slot < len(self.slots) else None
+        if a is None or a.end <= self.now:
+            return None
+        a.permissions = {ip: end for ip, end in a.permissions.items() if end > self.now}
+        a.channels = {n: c for n, c in a.channels.items() if c[1] > self.now}
+        return a
+
+    def of(self, client):
+        return next((a for a in map(self.at, range(len(self.slots))) if a and a.client == client), None)
+
+    # ---- events
+
+    def answer(self, event):
+        """The answer to an event: None, ("c", client, bytes) or ("p", slot, peer, bytes)."""
+        if event[0] == "n":
+            self.nonce = event[1]
+            return None
+        side, now, tx = event[:3]
+        self.now = max(self.now, min(now, LATEST))
+        if side == "p":
+            return self.from_peer(tx, *event[3:])
+        return self.from_client(*event[3:])
+
+    def from_peer(self, tx, slot, peer, data):
+        a = self.at(slot)
+        if a is None or peer[0] not in a.permissions:
+            return None
+        for number, (bound, _) in a.channels.items():
+            if bound == peer:
+                out = struct.pack(">HH", number, len(data)) + data
+                break
+        else:
+            out = message(DATA_INDICATION, tx, [(XOR_PEER_ADDRESS, address_value(peer)), (DATA, data)])
+        return ("c", a.client, out) if len(out) <= 65507 else None
+
+    def from_client(self, client, data):
+        if not data or data[0] >= 0x40:
+            return self.channel_data(client, data)
+        m = read(data)
+        if m is None:
+            return None
+        if m.kind == SEND:
+            return self.send(client, m)
+        return self.request(client, m)
+
+    def channel_data(self, client, data):
+        a = self.of(client)
+        if a is None or len(data) < 4:
+            return None
+        number, length = struct.unpack(">HH", data[:4])
+        if length > len(data) - 4 or number not in a.channels:
+            return None
+        return ("p", a.slot, a.channels[number][0], data[4:4 + length])
+
+    def send(self, client, m):
+        a, value, data = self.of(client), m.first(XOR_PEER_ADDRESS), m.first(DATA)
+        if a is None or m.unknown() or value is None or data is None:
+            return None
+        peer = address_in(value, m.tx)
+        if peer is None or peer[0] not in a.permissions:
+            return None
+        return ("p", a.slot, peer, data)
+
+    # ---- requests
+
+    def request(self, client, m):
+        serve = {BINDING: None, ALLOCATE: self.allocate, REFRESH: self.refresh,
+                 CREATE_PERMISSION: self.create_permission, CHANNEL_BIND: self.channel_bind}
+        if m.kind not in serve:
+            return None
+        key = None
+        try:
+            user = None
+            if m.kind != BINDING:
+                user, key = self.check(m)
+            if m.unknown():
+                raise Refused(420)
+            if m.kind == BINDING:
+                given = [(XOR_MAPPED_ADDRESS, address_value(client))]
+            else:
+                given = serve[m.kind](client, user, m)
+            return ("c", client, message(m.kind | 0x100, m.tx, given, key))
+        except Refused as refused:
+            code = refused.code
+            given = [(ERROR_CODE, bytes([0, 0, code // 100, code % 100]) + PHRASES[code].encode())]
+            if code in (401, 438):
+                given += [(REALM, self.realm.encode()), (NONCE, self.nonce)]
+            if code == 420:
+                given += [(UNKNOWN_ATTRIBUTES, b"".join(struct.pack(">H", k) for k in m.unknown()))]
+            return ("c", client, message(m.kind | 0x110, m.tx, given, key))
+
+    def check(self, m):
+        """The user of a request, by index, and the key."""
+        code, name = m.first(INTEGRITY), m.first(USERNAME)
+        if code is None:
+            raise Refused(401)
+        if name is None or m.first(REALM) is None or m.first(NONCE) is None:
+            raise Refused(400)
+        if m.first(NONCE) != self.nonce:
+            raise Refused(438)
+        for index, (user, password) in enumerate(self.users):
+            if user.encode() == name:
+                key = key_of(user, self.realm, password)
+                if hmac.new(key, m.covered, hashlib.sha1).digest() != code:
+                    raise Refused(401)
+                return index, key
+        raise Refused(401)
+
+    @staticmethod
+    def number(m, kind, size, must=False):
+        """The number of an attribute: its value begins with it."""
+        value = m.first(kind)
+        if value is None:
+            if must:
+                raise Refused(400)
+            return None
+        if len(value) != 4:
+            raise Refused(400)
+        return int.from_bytes(value[:size], "big")
+
+    @staticmethod
+    def lifetime(requested):
+        return 600 if requested is None else max(600, min(requested, 3600))
+
+    def own(self, client, user):
+        a = self.of(client)
+        if a is None:
+            raise Refused(437)
+        if a.user != user:
+            raise Refused(441)
+        return a
+
+    def allocate(self, client, user, m):
+        a = self.of(client)
+        if a is not None:
+            if a.tx != m.tx or a.user != user:
+                raise Refused(437)
+        else:
+            if self.number(m, TRANSPORT, 1, must=True) != 17:
+                raise Refused(442)
+            if self.number(m, FAMILY, 1) not in (None, 1):
+                raise Refused(440)
+            lifetime = self.lifetime(self.number(m, LIFETIME, 4))
+            free = [s for s in range(len(self.slots)) if self.at(s) is None]
+            if not free:
+                raise Refused(508)
+            a = Allocation(free[0], client, user, m.tx, lifetime, self.now + lifetime)
+            self.slots[a.slot] = a
+        return [(XOR_RELAYED_ADDRESS, address_value((self.ip, self.first_port + a.slot))),
+                (LIFETIME, struct.pack(">I", a.lifetime)), (XOR_MAPPED_ADDRESS, address_value(client))]
+
+    def refresh(self, client, user, m):
+        a = self.own(client, user)
+        if self.number(m, FAMILY, 1) not in (None, 1):
+            raise Refused(443)
+        requested = self.number(m, LIFETIME, 4)
+        lifetime = 0 if requested == 0 else self.lifetime(requested)
+        a.end = self.now + lifetime
+        return [(LIFETIME, struct.pack(">I", lifetime))]
+
+    def create_permission(self, client, user, m):
+        a = self.own(client, user)
+        peers = [address_in(v, m.tx) for v in m.values(XOR_PEER_ADDRESS)]
+        if not peers or None in peers:
+            raise Refused(400)
+        if any(len(ip) != 4 for ip, _ in peers):
+            raise Refused(443)
+        ips = {ip for ip, _ in peers}
+        if len(a.permissions.keys() | ips) > 64:
+            raise Refused(508)
+        a.permissions.update({ip: self.now + 300 for ip in ips})
+        return []
+
+    def channel_bind(self, client, user, m):
+        a = self.own(client, user)
+        number = self.number(m, CHANNEL_NUMBER, 2, must=True)
+        value = m.first(XOR_PEER_ADDRESS)
+        peer = None if value is None else address_in(value, m.tx)
+        if peer is None or not 0x4000 <= number <= 0x4FFF:
+            raise Refused(400)
+        if len(peer[0]) != 4:
+            raise Refused(443)
+        others = [n for n, (bound, _) in a.channels.items() if bound == peer]
+        if a.channels.get(number, (peer, 0))[0] != peer or others not in ([], [number]):
+            raise Refused(400)
+        if len(a.channels.keys() | {number}) > 64 or len(a.permissions.keys() | {peer[0]}) > 64:
+            raise Refused(508)
+        a.channels[number] = (peer, self.now + 600)
+        a.permissions[peer[0]] = self.now + 300
+        return []
+
+
+# ---- lines of text
+
+def address_text(address):
+    return ".".join(map(str, address[0])) + f":{address[1]}"
+
+
+def address_of(text):
+    ip, port = text.split(":")
+    return bytes(map(int, ip.split("."))), int(port)
+
+
+def hex_text(data):
+    return data.hex() or "-"
+
+
+def line_of(event):
+    if event[0] == "n":
+        return "n " + event[1].decode()
+    if event[0] == "c":
+        _, now, tx, client, data = event
+        return f"c {now} {tx.hex()} {address_text(client)} {hex_text(data)}"
+    _, now, tx, slot, peer, data = event
+    return f"p {now} {tx.hex()} {slot} {address_text(peer)} {hex_text(data)}"
+
+
+def event_of(line):
+    side, *rest = line.split(" ")
+    if side == "n":
+        return "n", rest[0].encode()
+    now, tx, *source, data = rest
+    data = b"" if data == "-" else bytes.fromhex(data)
+    if side == "c":
+        return "c", int(now), bytes.fromhex(tx), address_of(source[0]), data
+    return "p", int(now), bytes.fromhex(tx), int(source[0]), address_of(source[1]), data
+
+
+def answer_line(answer):
+    if answer is None:
+        return "-"
+    if answer[0] == "c":
+        return f"c {address_text(answer[1])} {hex_text(answer[2])}"
+    return f"p {answer[1]} {address_text(answer[2])} {hex_text(answer[3])}"
