@@ -13,6 +13,8 @@ pub mod Members
 pub mod Operators
 pub mod OneOperand
 pub mod Refinements
+pub mod Narrow
+pub mod Passing
 
 covers_member : (x y : Bounds) (n : ℕ) → contains x y ≡ true → IsMember y n → IsMember x n
 covers_member x y n e h =

@@ -8,7 +8,7 @@ use Rattle.insn.specs.Words.{modulus, cut}
 use Rattle.insn.specs.declared.width.Width.{Width}
 use Rattle.insn.specs.declared.width.Width.TheVariants.{W32, W64}
 use Rattle.interval.specs.declared.domain.Bounds.{Bounds}
-use Rattle.interval.specs.Intervals.{IsMember, from_to, single, all, narrowed, is_single}
+use Rattle.interval.specs.Intervals.{IsMember, from_to, all, narrowed, is_single}
 
 -- a member of an interval whose ends are below M
 pub record IsWithin (M : ℕ) (x : Bounds) (n : ℕ) : Type 0 where

@@ -30,10 +30,10 @@ swap_fits swap.Half = omega arith
 swap_fits swap.Word = omega arith
 swap_fits swap.Double = omega arith
 
-low_below : (z : SwapSize) (n : ℕ) → n % 2 ^ bits (swap_width z) < 2 ^ bits (swap_width z)
+pub low_below : (z : SwapSize) (n : ℕ) → n % 2 ^ bits (swap_width z) < 2 ^ bits (swap_width z)
 low_below z n = mod_below n (2 ^ bits (swap_width z)) (pow_pos (bits (swap_width z)))
 
-reversed_below : (z : SwapSize) (n : ℕ) → swap_bytes (swap_width z) n < 2 ^ bits (swap_width z)
+pub reversed_below : (z : SwapSize) (n : ℕ) → swap_bytes (swap_width z) n < 2 ^ bits (swap_width z)
 reversed_below swap.Half n = omega arith
 reversed_below swap.Word n = omega arith
 reversed_below swap.Double n = omega arith
@@ -54,7 +54,7 @@ row_low z x n a =
 -- ---- sign extensions
 
 -- a number with the sign of its size clear is extended to itself
-extended_is : (z : SignedSize) (n : ℕ) → n < 2 ^ bits (signed_width z) / 2 → sign_extended z n ≡ n
+pub extended_is : (z : SignedSize) (n : ℕ) → n < 2 ^ bits (signed_width z) / 2 → sign_extended z n ≡ n
 extended_is signed.Byte n lt =
     let same : n % 2 ^ 8 ≡ n = omega arith in
     ap (cast_unsigned w64) (to_z_pos w8 (n % 2 ^ 8) (omega arith)) ∙ same

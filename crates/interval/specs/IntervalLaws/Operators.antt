@@ -14,7 +14,7 @@ use Rattle.insn.specs.declared.operator.AluOp.{AluOp}
 use Rattle.insn.specs.declared.operator.AluOp.TheVariants.{Add, Sub, Mul, Div, SignedDiv, Or, And, Lsh, Rsh, Mod, SignedMod, Xor, Arsh}
 use Rattle.interval.specs.declared.domain.Bounds.{Bounds}
 use Rattle.interval.specs.Intervals.{IsMember, from_to, single, all, narrowed, is_single, are_positive, divided, remainder, ones, shifted_right, ranged, interval_alu}
-use Rattle.interval.specs.IntervalLaws.Members.{IsWithin, LiesInWords, modulus_fits, number_small, cut_below, cut_cut, cut_between, cut_up_to, cut_any, chosen, narrowed_within, the_member, only_member}
+use Rattle.interval.specs.IntervalLaws.Members.{IsWithin, LiesInWords, modulus_fits, number_small, cut_below, cut_between, cut_up_to, cut_any, chosen, narrowed_within, the_member, only_member}
 
 -- ---- plain numbers
 
@@ -26,7 +26,7 @@ div_grows a b k lt le = le-div (a / k) b k lt (omega (arith, div-mul-le_self a k
 div_falls : (a j k : ℕ) → 0 < j → j ≤ k → a / k ≤ a / j
 div_falls a j k lt le = le-div (a / k) a j lt (omega (arith, mul-le (a / k) j (a / k) k (omega arith) le, div-mul-le_self a k))
 
-ones_above : (n : ℕ) → n < 2 ^ 64 → (n < 2 ^ (64 - leading_zeros w64 n)) × (2 ^ (64 - leading_zeros w64 n) ≤ 2 ^ 64)
+pub ones_above : (n : ℕ) → n < 2 ^ 64 → (n < 2 ^ (64 - leading_zeros w64 n)) × (2 ^ (64 - leading_zeros w64 n) ≤ 2 ^ 64)
 ones_above n lt =
     let found = leading_length 64 n lt in
     let same : found.0 ≡ 64 - leading_zeros w64 n = omega (arith, found.1) in
@@ -157,18 +157,18 @@ module _ (w : Width) (x y : Bounds) (m n : ℕ) (a : IsWithin (modulus w) x m) (
       let right = ltb-true y.hi (modulus w / 2) both.1 in
       (positive w m (omega (arith, left, a.below)), positive w n (omega (arith, right, b.below)))
 
-  signed_div_is : are_positive w x y ≡ true → whole SignedDiv w m n ≡ whole Div w m n
+  pub signed_div_is : are_positive w x y ≡ true → whole SignedDiv w m n ≡ whole Div w m n
   signed_div_is e = let is = signs_are e in λ i. if n == 0 then 0 else cast_unsigned (int_width w) (int_div (is.0 i) (is.1 i))
 
-  signed_mod_is : are_positive w x y ≡ true → whole SignedMod w m n ≡ whole Mod w m n
+  pub signed_mod_is : are_positive w x y ≡ true → whole SignedMod w m n ≡ whole Mod w m n
   signed_mod_is e = let is = signs_are e in λ i. if n == 0 then m else cast_unsigned (int_width w) (int_rem (is.0 i) (is.1 i))
 
-  arsh_is : nat_lt x.hi (modulus w / 2) ≡ true → whole Arsh w m n ≡ m / 2 ^ (n % bit_count w)
+  pub arsh_is : nat_lt x.hi (modulus w / 2) ≡ true → whole Arsh w m n ≡ m / 2 ^ (n % bit_count w)
   arsh_is e =
       let lt = ltb-true x.hi (modulus w / 2) e in
       ap (λ (z : ℤ). cast_unsigned (int_width w) (int_shr z (n % bit_count w))) (positive w m (omega (arith, lt, a.below)))
 
-  row : (op : AluOp) → LiesInWords (ranged op w x y) (cut w (whole op w m n))
+  pub row : (op : AluOp) → LiesInWords (ranged op w x y) (cut w (whole op w m n))
   row Add = row_add
   row Sub = row_sub
   row Mul = row_mul
