@@ -178,7 +178,7 @@ pub(crate) fn bytes_of_cells(cells: &[Option<u8>]) -> Option<[u8; RECORD_BYTES]>
 
 /// Returns the window of `length` bytes from the index `front` on, of headroom, datagram and tailroom, or `None` where
 /// it doesn't lie in them, or is too long to be sent.
-pub(crate) fn window_within(size: usize, front: u64, length: u64) -> Option<(usize, usize)>
+pub fn window_within(size: usize, front: u64, length: u64) -> Option<(usize, usize)>
     requires { size ≤ MAX_DATAGRAM }
     ensures { result ≡ window_within size front length }
 {
@@ -191,7 +191,7 @@ pub(crate) fn window_within(size: usize, front: u64, length: u64) -> Option<(usi
 }
 
 /// Returns the destination that a program on a side may set: a valid record, at the client's side.
-pub(crate) fn destination_at(side: u64, address: [u8; RECORD_BYTES]) -> Option<[u8; RECORD_BYTES]>
+pub fn destination_at(side: u64, address: [u8; RECORD_BYTES]) -> Option<[u8; RECORD_BYTES]>
     ensures { result ≡ destination_at side address }
 {
     if side == 0 && address[0] == 0 && address[1] == 1 {

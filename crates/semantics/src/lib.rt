@@ -19,7 +19,9 @@ mod value;
 pub use access::{HEADROOM_FIRST, Location, index_in_stack, is_within};
 pub use effect::{Effect, Registers, effect_of, moved_place, writable};
 pub use fetching::{Branch, Fetched, Position, Visit, fetch, last, target};
-pub use helper::{Argument, Helper, Inputs, Question, RECORD_BYTES, Signature};
+pub use helper::{
+    Argument, Helper, Inputs, Question, RECORD_BYTES, Signature, destination_at, window_within,
+};
 pub use limits::{HEADROOM, MAX_DATAGRAM, MAX_OFFSET, STACK_BYTES, TAILROOM, sizes};
 pub use loading::{CONTEXT_BYTES, ContextField, field_at};
 pub use memory::Memory;

@@ -82,6 +82,15 @@ impl Verified {
     {
         self.program.code()
     }
+
+    /// Returns the same instructions, with the list of their slots.
+    pub fn program(&self) -> &Program
+        ensures code { result.now ≡ self.now }
+        ensures safe { IsSafe self.now }
+        ensures few { slot_count self.now ≤ MAX_SLOTS }
+    {
+        &self.program
+    }
 }
 
 /// Returns the slot that a branch of an instruction leads to, in a program without a faulty jump.
