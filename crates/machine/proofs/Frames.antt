@@ -1,17 +1,20 @@
 -- The bytes of a frame that was started.
-use Rattle.std.proofs.Common.{◌≡◌, ℕ, ◌+◌, ◌-◌, ◌≤◌, true, false, List, [], ◌∷◌, ◌++◌, length, take, drop, replicate, Option, None, Some, Result, Ok, Err, refl, sym, ap, ◌∙◌, subst, arith, append_assoc}
-use Rattle.std.proofs.lemmas.List.{length-append, length-take-le, length-drop, take_at, take-append-drop, drop-drop, drop_all, append-nil, drop-append-le, take-append-le}
+use Rattle.std.proofs.Common.{◌≡◌, ℕ, ◌+◌, ◌-◌, ◌≤◌, Bool, true, false, List, [], ◌∷◌, ◌++◌, length, take, drop, replicate, Option, None, Some, Result, Ok, Err, refl, sym, ap, ◌∙◌, subst, arith, append_assoc}
+use Rattle.std.proofs.lemmas.List.{length-append, length-take-le, length-drop, take_at, drop_at, drop-take, take-append-drop, drop-drop, drop_all, take_all, append-nil, drop-append-le, take-append-le}
 use Rattle.std.specs.Prelude.{option_map, IfSome}
-use Rattle.std.proofs.lemmas.Slice.{drop-append-drop}
-use Rattle.std.proofs.Math.Seq.{take-append-add}
+use Rattle.std.proofs.lemmas.Slice.{drop-append-drop, between-put_mid, drop-put_mid}
+use borrow.Rule.Slice.PartMut.{put_mid}
+use Rattle.std.proofs.Math.Seq.{take-append-add, take-add}
 use Rattle.insn.specs.declared.instruction.Insn.{Insn}
 use Rattle.semantics.specs.Machine.{IsContext, Memory, context_bytes, headroom, surrounded, empty_stack, start}
+use Rattle.semantics.specs.declared.limits.TheConstants.{STACK_BYTES}
 use Rattle.semantics.specs.declared.plan.Plan.{Plan}
 use Rattle.semantics.specs.Runs.{Run}
 use Rattle.semantics.specs.Calls.{IsWindow}
 use Rattle.semantics.specs.Extents.{HasExtent, start_extent, run_extent}
 use Rattle.semantics.specs.StartLaws.{length-headroom, length-surrounded, length-empty_stack}
-use Rattle.machine.specs.Contents.{Contents, HoldsDatagram, datagram_of, window_of, with_room}
+use Rattle.machine.specs.Contents.{Contents, HoldsDatagram, IsFrame, area_size, datagram_of, window_of, with_room}
+use Rattle.machine.specs.declared.context.Context.{Context}
 use Rattle.machine.specs.FrameLaws.{datagram_inside}
 use Rattle.semantics.specs.Views.{memory_with}
 use Rattle.semantics.specs.declared.fetching.Visit.{Visit}
@@ -72,7 +75,7 @@ memory_is area stack n window frame =
     λ i. memory_with (frame.empty refl i) (frame.ready refl i) (count i)
 
 -- a frame with the bytes and the window that a run left, before what stands behind the tailroom
-frame_left : (f : Contents) (area : List ℕ) (plan : Plan) (r : Run) → r.state.memory.bytes ≡ take (67 + f.length) area → drop (67 + f.length) area ≡ drop (67 + f.length) f.area → r.state.plan ≡ plan
+pub frame_left : (f : Contents) (area : List ℕ) (plan : Plan) (r : Run) → r.state.memory.bytes ≡ take (67 + f.length) area → drop (67 + f.length) area ≡ drop (67 + f.length) f.area → r.state.plan ≡ plan
     → record f { area = area; is_started = false; window = plan.window } ≡ left_by f r
 frame_left f area plan r bytes behind planned =
     let whole : area ≡ r.state.memory.bytes ++ drop (67 + f.length) f.area = sym (take-append-drop (67 + f.length) area) ∙ (λ i. sym bytes i ++ behind i) in
@@ -123,17 +126,95 @@ sticks_with Logs answers program before after plan old new stuck runs = record {
 pub written : {X : Type 0} (new old : List X) (len : ℕ) → length new ≡ len → take len (new ++ drop (length new) old) ≡ new
 written new old len e = take_at new (drop (length new) old) len e
 
--- a vector's bytes behind a slice of them from index 64 on
-pub written_behind : (old bytes : List ℕ) (len : ℕ) → len ≡ length old → 64 ≤ length old
-    → (let new : List ℕ = take 64 old ++ (bytes ++ drop (length bytes) (drop 64 old)) in take len (new ++ drop (length new) old)) ≡ take (length old) (take 64 old ++ bytes ++ drop (64 + length bytes) old)
-written_behind old bytes len e long =
-    let rest : List ℕ = drop (length bytes) (drop 64 old) in
-    let new : List ℕ = take 64 old ++ (bytes ++ rest) in
-    let whole : length old ≤ length new = omega (arith, length-append (take 64 old) (bytes ++ rest), length-append bytes rest, length-take-le 64 old long, length-drop (length bytes) (drop 64 old), length-drop 64 old) in
+-- a vector's bytes after a slice of them from an index on is written
+pub written_behind : (k : ℕ) (old bytes : List ℕ) (len : ℕ) → len ≡ length old → k ≤ length old
+    → (let new : List ℕ = take k old ++ (bytes ++ drop (length bytes) (drop k old)) in take len (new ++ drop (length new) old)) ≡ take (length old) (take k old ++ bytes ++ drop (k + length bytes) old)
+written_behind k old bytes len e long =
+    let rest : List ℕ = drop (length bytes) (drop k old) in
+    let new : List ℕ = take k old ++ (bytes ++ rest) in
+    let whole : length old ≤ length new = omega (arith, length-append (take k old) (bytes ++ rest), length-append bytes rest, length-take-le k old long, length-drop (length bytes) (drop k old), length-drop k old) in
     let none : new ++ drop (length new) old ≡ new = ap (λ (l : List ℕ). new ++ l) (drop_all (length new) old whole) ∙ append-nil new in
-    let behind : rest ≡ drop (64 + length bytes) old = drop-drop (length bytes) 64 old in
-    (λ i. take (e i) (none i)) ∙ ap (λ (l : List ℕ). take (length old) (take 64 old ++ (bytes ++ l))) behind
-    ∙ ap (take (length old)) (sym (append_assoc (take 64 old) bytes (drop (64 + length bytes) old)))
+    let behind : rest ≡ drop (k + length bytes) old = drop-drop (length bytes) k old in
+    (λ i. take (e i) (none i)) ∙ ap (λ (l : List ℕ). take (length old) (take k old ++ (bytes ++ l))) behind
+    ∙ ap (take (length old)) (sym (append_assoc (take k old) bytes (drop (k + length bytes) old)))
+
+-- a vector has the length that it had
+pub length_written : (old new : List ℕ) (len : ℕ) → len ≡ length old → length (take len (new ++ drop (length new) old)) ≡ length old
+length_written old new len e =
+    let whole : length old ≤ length (new ++ drop (length new) old) = omega (arith, length-append new (drop (length new) old), length-drop (length new) old) in
+    ap (λ (k : ℕ). length (take k (new ++ drop (length new) old))) e ∙ length-take-le (length old) (new ++ drop (length new) old) whole
+
+-- a frame that is not started, with another area, stack and window
+pub is_unstarted : (flat new : List ℕ) (stack new_stack : List (Option ℕ)) (n : ℕ) (started : Bool) (window new_window : Option (ℕ × ℕ)) (context : Context) → length new ≡ 66134 → length new_stack ≡ STACK_BYTES → IfSome new_window (λ w. w.0 + w.1 ≤ area_size)
+    → IsFrame flat stack n started window context → IsFrame new new_stack n false new_window context
+is_unstarted flat new stack new_stack n started window new_window context long cells inside is = record {
+  long = long;
+  holds = record {
+    long = omega (arith, long, length-drop 560 new);
+    short = is.holds.short;
+    cells = cells;
+    empty = λ e. absurd (no_true e);
+    ready = λ e. absurd (no_true e);
+    inside = inside;
+  };
+  is_context = is.is_context;
+}
+  where
+    no_true : false ≡ true → ⊥
+    no_true e = absurd cc
+
+-- the bytes from headroom on, of an area whose room is written
+room_from_headroom : (flat bytes : List ℕ) → length flat ≡ 66134
+    → drop 560 (take (length flat) (take 624 flat ++ bytes ++ drop (624 + length bytes) flat)) ≡ take (length (drop 560 flat)) (take 64 (drop 560 flat) ++ bytes ++ drop (64 + length bytes) (drop 560 flat))
+room_from_headroom flat bytes long =
+    let area : List ℕ = drop 560 flat in
+    let all : length flat ≡ 560 + (length flat - 560) = omega (arith, long) in
+    let front : length (take 560 flat) ≡ 560 = length-take-le 560 flat (omega (arith, long)) in
+    let split : take 624 flat ≡ take 560 flat ++ take 64 area = take-add 560 64 flat in
+    let same : 624 + length bytes ≡ 560 + (64 + length bytes) = omega arith in
+    let rest : drop (624 + length bytes) flat ≡ drop (64 + length bytes) area = ap (λ (k : ℕ). drop k flat) same ∙ sym (drop-drop (64 + length bytes) 560 flat) in
+    let regrouped : take 624 flat ++ bytes ++ drop (624 + length bytes) flat ≡ take 560 flat ++ (take 64 area ++ bytes ++ drop (64 + length bytes) area) =
+    (λ i. split i ++ bytes ++ rest i) ∙ ap (λ (l : List ℕ). l ++ drop (64 + length bytes) area) (append_assoc (take 560 flat) (take 64 area) bytes) ∙ append_assoc (take 560 flat) (take 64 area ++ bytes) (drop (64 + length bytes) area) in
+    ap (λ (k : ℕ). drop 560 (take k (take 624 flat ++ bytes ++ drop (624 + length bytes) flat))) all
+    ∙ drop-take 560 (length flat - 560) (take 624 flat ++ bytes ++ drop (624 + length bytes) flat)
+    ∙ ap (take (length flat - 560)) (ap (drop 560) regrouped ∙ drop_at (take 560 flat) (take 64 area ++ bytes ++ drop (64 + length bytes) area) 560 front)
+    ∙ ap (λ (k : ℕ). take k (take 64 area ++ bytes ++ drop (64 + length bytes) area)) (sym (length-drop 560 flat))
+
+-- the bytes from headroom on, after a slice of a vector's bytes from the room on is written
+pub room_written_in : (old bytes : List ℕ) (len : ℕ) → len ≡ length old → length old ≡ 66134
+    → drop 560 (let new : List ℕ = take 624 old ++ (bytes ++ drop (length bytes) (drop 624 old)) in take len (new ++ drop (length new) old)) ≡ take (length (drop 560 old)) (take 64 (drop 560 old) ++ bytes ++ drop (64 + length bytes) (drop 560 old))
+room_written_in old bytes len e long = ap (drop 560) (written_behind 624 old bytes len e (omega (arith, long))) ∙ room_from_headroom old bytes long
+
+-- the room of an area
+pub room_in : (flat : List ℕ) → take 65507 (drop 624 flat) ≡ take 65507 (drop 64 (drop 560 flat))
+room_in flat = ap (take 65507) (sym (drop-drop 64 560 flat))
+
+-- the bytes from headroom on, after all of them were written
+pub all_written : (flat new : List ℕ) → 560 ≤ length flat → length new ≡ length flat - 560 → drop 560 (put_mid 560 (length flat - 560) flat new) ≡ new
+all_written flat new le long =
+    let from : List ℕ = drop 560 flat in
+    let none : drop (length flat - 560) from ≡ [] = drop_all (length flat - 560) from (omega (arith, length-drop 560 flat)) in
+    drop_at (take 560 flat) (new ++ drop (length flat - 560) from) 560 (length-take-le 560 flat le) ∙ ap (λ (l : List ℕ). new ++ l) none ∙ append-nil new
+
+pub all_from_headroom : (flat : List ℕ) → take (length flat - 560) (drop 560 flat) ≡ drop 560 flat
+all_from_headroom flat = take_all (length flat - 560) (drop 560 flat) (omega (arith, length-drop 560 flat))
+
+-- the bytes of headroom, datagram and tailroom, after they were written, and what follows them
+module _ (n : ℕ) (flat new : List ℕ) (room : 560 + (67 + n) ≤ length flat) (long : length new ≡ 67 + n) where
+  abbrev pub after_part : List ℕ
+  after_part = put_mid 560 (627 + n - 560) flat new
+
+  pub part_end : 627 + n - 560 ≡ 67 + n
+  part_end = omega arith
+
+  pub part_is_new : take (67 + n) (drop 560 (put_mid 560 (627 + n - 560) flat new)) ≡ new
+  part_is_new = ap (λ (k : ℕ). take k (drop 560 after_part)) (sym part_end) ∙ between-put_mid 560 (627 + n - 560) flat new (627 + n) (omega (arith, room)) (omega (arith, long))
+
+  pub rest_is_old : drop (67 + n) (drop 560 (put_mid 560 (627 + n - 560) flat new)) ≡ drop (67 + n) (drop 560 flat)
+  rest_is_old =
+      drop-drop (67 + n) 560 after_part
+      ∙ drop-put_mid 560 (627 + n - 560) flat new (560 + (67 + n)) (omega arith) (omega (arith, room)) (omega (arith, long))
+      ∙ sym (drop-drop (67 + n) 560 flat)
 
 -- a frame whose vector is written so has its room written
 pub frame_written : (f now : Contents) (bytes area : List ℕ) → f ≡ now → area ≡ take (length f.area) (take 64 f.area ++ bytes ++ drop (64 + length bytes) f.area) → record f { area = area; is_started = false } ≡ with_room now bytes

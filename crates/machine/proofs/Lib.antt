@@ -1,3 +1,4 @@
 pub mod Executions
 pub mod Frames
 pub mod SafeRuns
+pub mod FlatFrames

@@ -2,6 +2,8 @@
 use Rattle.std.specs.Prelude.{◌≡◌, ℕ, ◌+◌, ◌≤◌, Bool, true, false, List, ◌++◌, All, length, take, drop, Option, None, IfSome}
 use Rattle.semantics.specs.Machine.{IsContext, surrounded, empty_stack}
 use Rattle.semantics.specs.declared.limits.TheConstants.{STACK_BYTES, HEADROOM, MAX_DATAGRAM, TAILROOM}
+use Rattle.flat.specs.Layout as layout
+use Rattle.flat.specs.Layout.{headroom_index}
 use Rattle.machine.specs.Contexts.{context_of}
 use Rattle.machine.specs.declared.context.Context.{Context}
 
@@ -53,9 +55,10 @@ pub record HoldsDatagram (area : List ℕ) (stack : List (Option ℕ)) (count : 
   pub ready : is_started ≡ true → take (HEADROOM + TAILROOM + count) area ≡ surrounded (take count (drop HEADROOM area))
   pub inside : IfSome window (λ w. w.0 + w.1 ≤ area_size)
 
--- a frame's memory, and a context of the definitions' sizes
-pub record IsFrame (area : List ℕ) (stack : List (Option ℕ)) (count : ℕ) (is_started : Bool) (window : Option (ℕ × ℕ)) (context : Context) : Type 0 where
-  pub holds : HoldsDatagram area stack count is_started window
+-- a frame's memory, in an area that has it from headroom on, and a context of the definitions' sizes
+pub record IsFrame (flat : List ℕ) (stack : List (Option ℕ)) (count : ℕ) (is_started : Bool) (window : Option (ℕ × ℕ)) (context : Context) : Type 0 where
+  pub long : length flat ≡ layout.area_size
+  pub holds : HoldsDatagram (drop headroom_index flat) stack count is_started window
   pub is_context : IsContext (context_of context)
 
 -- a new frame: zeros, the empty datagram, not started, no window

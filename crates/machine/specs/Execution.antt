@@ -1,20 +1,21 @@
 -- Internal. A run from the first registers to its end, and the memory that it leaves.
-use Rattle.std.specs.Prelude.{◌≡◌, ℕ, ◌+◌, ◌<◌, ◌≤◌, List, length, IfSome, Result, Ok, Err}
+use Rattle.std.specs.Prelude.{◌≡◌, ℕ, ◌+◌, ◌<◌, List, length, IfSome, Result, Ok, Err}
 use Rattle.insn.specs.declared.instruction.Insn.{Insn}
 use Rattle.semantics.specs.Machine.{Context, IsContext, Memory, State, Environment, context_bytes, first_registers, no_plan}
 use Rattle.semantics.specs.Calls.{IsWindow}
 use Rattle.semantics.specs.declared.plan.Plan.{Plan}
 use Rattle.semantics.specs.Slots.{IsAt}
 use Rattle.semantics.specs.Runs as runs
-use Rattle.semantics.specs.Runs.{Goes, Exits, Sticks, Run, run}
+use Rattle.semantics.specs.Runs.{Goes, Exits, Sticks, Run, IsDatagram, run}
 use Rattle.semantics.specs.declared.value.Value.{Value}
 use Rattle.semantics.specs.declared.effect.Effect.{Effect}
 use Rattle.semantics.specs.declared.effect.Effect.TheVariants as effects
 use Rattle.semantics.specs.declared.fetching.Visit.{Visit}
 use Rattle.semantics.specs.declared.fetching.Position.{Position}
-use Rattle.machine.specs.Contexts.{Answers, around}
-use Rattle.machine.specs.Contents.{Contents}
-use Rattle.machine.specs.Tracing.{run_of, left_by, Reports}
+use Rattle.flat.specs.declared.running.Ended.{Ended}
+use Rattle.machine.specs.Contexts.{Answers, around, context_of}
+use Rattle.machine.specs.Contents.{Contents, datagram_of}
+use Rattle.machine.specs.Tracing.{run_of, safe_run_of, left_by, Reports}
 use Rattle.machine.specs.declared.execution.StepResult.{StepResult}
 use Rattle.machine.specs.declared.execution.StepResult.TheVariants as code
 use Rattle.machine.specs.declared.execution.Exited.{Exited}
@@ -88,3 +89,13 @@ pub record RunsOver {Log : Type 0} (Logs : Log → Visit → Log → Type 0) (an
   pub plan_is : (run_of program before answers).state.plan ≡ plan
   pub left : after ≡ left_by before (run_of program before answers)
   pub logged : Reports Logs old (run_of program before answers).path new
+
+-- The flat run over a started frame: its end, with the plan, and the frame as the run leaves it.
+pub record RunsFlat (answers : Answers) (program : List Insn) (before after : Contents) (ended : Ended) : Type 0 where
+  pub is_datagram : IsDatagram (datagram_of before)
+  pub length_is : length (datagram_of before) ≡ before.length
+  pub is_context : IsContext (context_of before.context)
+  pub ending : (safe_run_of program before answers).ending ≡ runs.Exited ended.verdict
+  pub steps : length (safe_run_of program before answers).path ≡ ended.steps
+  pub plan_is : (safe_run_of program before answers).state.plan ≡ ended.plan
+  pub left : after ≡ left_by before (safe_run_of program before answers)

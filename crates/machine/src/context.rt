@@ -24,7 +24,7 @@ pub struct Context {
 }
 
 /// Returns the number of a side in the context record: 0 for a client, 1 for a peer.
-fn side_number(side: Side) -> u32
+pub(crate) fn side_number(side: Side) -> u32
     ensures { result ≡ side_number side }
 {
     match side {

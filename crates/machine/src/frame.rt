@@ -3,22 +3,22 @@
 ghost use Rattle.std.specs.Prelude.{◌≡◌, ◌≤◌, ◌+◌, ◌++◌, None, length, take, drop, replicate, IfOk, All, ◌<◌};
 ghost use Rattle.semantics.specs.Machine.{AreBytes, IsContext, empty_stack, surrounded};
 ghost use Rattle.semantics.specs.declared.limits.TheConstants.{STACK_BYTES, HEADROOM, TAILROOM};
+ghost use Rattle.flat.specs.Layout.{headroom_index};
 ghost use Rattle.machine.specs.Contexts.{context_of};
 
 use crate::context::{Context, Side};
 use attributes::{Addr, is_address};
+use flat::{AREA_BYTES, HEADROOM_INDEX};
 use semantics::{HEADROOM, MAX_DATAGRAM, STACK_BYTES, TAILROOM};
 use std::alloc::{AllocError, Global};
 use std::marker::Model;
 
-/// The number of bytes of a frame's area.
-const AREA: usize = HEADROOM + MAX_DATAGRAM + TAILROOM;
-
-/// The memory of a run: one area of bytes, with a datagram between headroom and tailroom, and the stack. It is
-/// allocated once, by [`Frame::new`].
+/// The memory of a run: one area of bytes, with the stack, the context record, and a datagram between headroom and
+/// tailroom. Traced runs have a stack of their own, of which each byte is set or not. All of it is allocated once, by
+/// [`Frame::new`].
 #[derive(Drop)]
 pub struct Frame {
-    pub(crate) area: Vec<u8>,
+    pub(crate) flat: Vec<u8>,
     pub(crate) stack: Vec<Option<u8>>,
     pub(crate) length: usize,
     pub(crate) is_started: bool,
@@ -27,19 +27,21 @@ pub struct Frame {
 }
 
 impl Model for Frame {
+    ghost use Rattle.std.specs.Prelude.{drop};
+    ghost use Rattle.flat.specs.Layout.{headroom_index};
     ghost use Rattle.machine.specs.Contents.{Contents, IsFrame};
 
     ghost Value = { Contents };
 
     ghost view = { λ f. record {
-      area = f.area.items;
+      area = drop headroom_index f.flat.items;
       length = f.length;
       is_started = f.is_started;
       context = f.context;
       window = f.window;
     } };
 
-    ghost invariant = { λ f. IsFrame f.area.items f.stack.items f.length f.is_started f.window f.context };
+    ghost invariant = { λ f. IsFrame f.flat.items f.stack.items f.length f.is_started f.window f.context };
 }
 
 /// The context of a frame that was never started.
@@ -119,6 +121,24 @@ fn surround(bytes: &mut [u8], n: usize)
     write_zeros(bytes, HEADROOM + n, TAILROOM);
 }
 
+/// Returns headroom, datagram and tailroom of an area.
+fn from_headroom(flat: &[u8]) -> &[u8]
+    requires { headroom_index ≤ length flat.now }
+    ensures { result.now ≡ drop headroom_index flat.now }
+{
+    let (_, bytes) = flat.split_at(HEADROOM_INDEX);
+    bytes
+}
+
+/// Writes headroom and tailroom round a datagram of `n` bytes, in an area.
+fn surround_in(flat: &mut [u8], n: usize)
+    requires { headroom_index + (HEADROOM + TAILROOM + n) ≤ length flat.old }
+    ensures { drop headroom_index flat.new ≡ surrounded (take n (drop HEADROOM (drop headroom_index flat.old)))
+        ++ drop (HEADROOM + TAILROOM + n) (drop headroom_index flat.old) }
+{
+    surround(&mut flat[HEADROOM_INDEX..], n);
+}
+
 /// Returns the datagram of `n` bytes in an area.
 fn datagram_in(area: &[u8], n: usize) -> &[u8]
     requires { HEADROOM + n ≤ length area.now }
@@ -148,7 +168,7 @@ impl Frame {
     {
         is_context(&NO_CONTEXT);
         Ok(Frame {
-            area: zeros(alloc, AREA)?,
+            flat: zeros(alloc, AREA_BYTES)?,
             stack: empty_stack(alloc)?,
             length: 0,
             is_started: false,
@@ -167,7 +187,8 @@ impl Frame {
         ensures* writes_back { sem 𝓛 (lends_room self.entry result) }
     {
         self.is_started = false;
-        self.area.slice_mut(HEADROOM..HEADROOM + MAX_DATAGRAM)
+        let start = HEADROOM_INDEX + HEADROOM;
+        self.flat.slice_mut(start..start + MAX_DATAGRAM)
     }
 
     /// Returns the room for a datagram, 65,507 bytes, as it stands.
@@ -175,7 +196,7 @@ impl Frame {
         ensures value { result.now ≡ room_of self.now }
         ensures len { length (room_of self.now) ≡ MAX_DATAGRAM }
     {
-        &self.area[HEADROOM..HEADROOM + MAX_DATAGRAM]
+        datagram_in(from_headroom(&self.flat), MAX_DATAGRAM)
     }
 
     /// Returns whether the frame is started, so that a run may begin.
@@ -191,7 +212,7 @@ impl Frame {
         ensures short { IsDatagram (datagram_of self.now) }
         ensures length { length (datagram_of self.now) ≡ self.now.length }
     {
-        datagram_in(&self.area, self.length)
+        datagram_in(from_headroom(&self.flat), self.length)
     }
 
     /// Returns the bytes of the window that the last run set, `None` where it set none.
@@ -201,7 +222,7 @@ impl Frame {
         match self.window {
             None => None,
             Some((front, length)) => {
-                let (_, bytes) = self.area.split_at(front);
+                let (_, bytes) = from_headroom(&self.flat).split_at(front);
                 let (window, _) = bytes.split_at(length);
                 Some(window)
             }
@@ -216,7 +237,7 @@ impl Frame {
     {
         is_context(context);
         clear_stack(&mut self.stack);
-        surround(&mut self.area, n);
+        surround_in(&mut self.flat, n);
         self.length = n;
         self.context = *context;
         self.window = None;

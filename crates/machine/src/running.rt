@@ -2,18 +2,37 @@
 
 ghost use Rattle.std.specs.Prelude.{◌≡◌, ◌≤◌, true, length};
 ghost use Rattle.machine.specs.Contents.{datagram_of};
+ghost use Rattle.machine.specs.Execution.{RunsFlat};
 ghost use Rattle.machine.specs.Tracing.{run_of, safe_run_of, IsOutcome, left_by, Shows};
 
+use crate::context::{context_record, side_number};
 use crate::frame::Frame;
 use crate::outcome::Outcome;
-use crate::sink::Silent;
-use crate::tracing::execute_frame;
+use crate::tracing::destination_of;
+use flat::{Ended, Given, lay_out, run_flat};
 use helpers::Helpers;
 use verifier::Verified;
 
+/// Runs a verified program over the area of a started frame, to its exit. Afterwards the frame is not started.
+fn run_area<H: Helpers>(program: &Verified, frame: &mut Frame, helpers: &H) -> Ended
+    requires { frame.old.is_started ≡ true }
+    ensures { RunsFlat (H.answers helpers.now) program.now frame.old frame.new result }
+{
+    let size = frame.datagram().len();
+    let given = Given {
+        helpers,
+        length: size,
+        side: u64::from(side_number(frame.context.side)),
+    };
+    lay_out(&mut frame.flat, &context_record(&frame.context, size), size);
+    frame.is_started = false;
+    let ended = run_flat(program.program(), &given, &mut frame.flat);
+    frame.window = ended.plan.window;
+    ended
+}
+
 /// Runs a verified program over a started frame to its exit, within as many steps as the program has instructions.
 /// There is no refusal. Afterwards the frame is not started.
-#[tactic(auto, using(semantics::specs::SlotLaws::few_instructions))]
 pub fn run<H: Helpers>(program: &Verified, frame: &mut Frame, helpers: &H) -> Outcome
     requires { frame.old.is_started ≡ true }
     ensures outcome { IsOutcome result (safe_run_of program.now frame.old (H.answers helpers.now)) }
@@ -24,8 +43,12 @@ pub fn run<H: Helpers>(program: &Verified, frame: &mut Frame, helpers: &H) -> Ou
     ensures shows { Shows frame.new (length (datagram_of frame.old))
         (safe_run_of program.now frame.old (H.answers helpers.now)) }
 {
-    match execute_frame(program.code(), frame, helpers, &mut Silent) {
-        Ok(outcome) => outcome,
-        Err(_) => unreachable!(),
+    let ended = run_area(program, frame, helpers);
+    program.code();
+    Outcome {
+        verdict: ended.verdict,
+        steps: ended.steps,
+        window: ended.plan.window,
+        destination: destination_of(ended.plan.destination),
     }
 }

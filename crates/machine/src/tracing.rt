@@ -9,6 +9,7 @@ ghost use Rattle.semantics.specs.Runs as runs;
 ghost use Rattle.semantics.specs.Runs.{IsDatagram};
 ghost use Rattle.semantics.specs.Views.{memory_with};
 ghost use Rattle.semantics.specs.declared.limits.TheConstants.{STACK_BYTES, HEADROOM, MAX_DATAGRAM, TAILROOM};
+ghost use Rattle.flat.specs.Layout.{headroom_index};
 ghost use Rattle.machine.specs.Contents.{datagram_of};
 ghost use Rattle.helpers.specs.Records.{address_of};
 ghost use Rattle.machine.specs.Contexts.{context_of};
@@ -21,6 +22,7 @@ use crate::frame::Frame;
 use crate::outcome::{Outcome, Stuck};
 use crate::sink::Sink;
 use attributes::Addr;
+use flat::HEADROOM_INDEX;
 use helpers::{Helpers, address_of};
 use insn::Insn;
 use semantics::{HEADROOM, Plan, TAILROOM};
@@ -31,33 +33,34 @@ const NO_PLAN: Plan = Plan {
     destination: None,
 };
 
-/// Runs a program over a stack, and over the first bytes of an area: a datagram between headroom and tailroom. What
-/// stands behind them does not change.
+/// Runs a program over a stack, and over headroom, datagram and tailroom of an area. What follows them doesn't change.
 ///
 /// # Errors
 /// The step that is stuck.
 fn execute_in<H: Helpers, S: Sink>(
     given: &Environment<H>,
     stack: &mut [Option<u8>],
-    area: &mut [u8],
+    flat: &mut [u8],
     plan: &mut Plan,
     sink: &mut S,
 ) -> Result<Exited, Stuck>
     requires few { slot_count given.now.code.now ≤ MAX_SLOTS }
     requires context { IsContextRecord given.now.context.now given.now.length }
     requires cells { count stack.old ≡ STACK_BYTES }
-    requires room { HEADROOM + TAILROOM + given.now.length ≤ count area.old }
+    requires room { headroom_index + (HEADROOM + TAILROOM + given.now.length) ≤ count flat.old }
     requires short { given.now.length ≤ MAX_DATAGRAM }
     requires planless { plan.old ≡ no_plan }
     ensures run { let size = HEADROOM + TAILROOM + given.now.length in
         IsWholeRun S.Logs given.now.code.now (H.answers given.now.helpers.now) given.now.context.now
-        (memory_with stack.old (take size area.old) given.now.length)
-        (memory_with stack.new (take size area.new) given.now.length)
+        (memory_with stack.old (take size (drop headroom_index flat.old)) given.now.length)
+        (memory_with stack.new (take size (drop headroom_index flat.new)) given.now.length)
         plan.new (S.log sink.old) (S.log sink.new) result }
     ensures inside { IsInside given.now.length plan.new }
-    ensures behind { let size = HEADROOM + TAILROOM + given.now.length in drop size area.new ≡ drop size area.old }
+    ensures behind { let size = HEADROOM + TAILROOM + given.now.length in
+        drop size (drop headroom_index flat.new) ≡ drop size (drop headroom_index flat.old) }
 {
-    let bytes = &mut area[..HEADROOM + TAILROOM + given.length];
+    let end = HEADROOM_INDEX + HEADROOM + TAILROOM + given.length;
+    let bytes = &mut flat[HEADROOM_INDEX..end];
     execute(given, stack, bytes, plan, sink)
 }
 
@@ -91,13 +94,13 @@ fn run_frame<H: Helpers, S: Sink>(
         helpers,
         length,
     };
-    let ended = execute_in(&given, &mut frame.stack, &mut frame.area, plan, sink);
+    let ended = execute_in(&given, &mut frame.stack, &mut frame.flat, plan, sink);
     frame.window = plan.window;
     ended
 }
 
 /// Returns the address of a record, if there is one.
-fn destination_of(bytes: Option<[u8; 8]>) -> Option<Addr>
+pub(crate) fn destination_of(bytes: Option<[u8; 8]>) -> Option<Addr>
     ensures { result ≡ option_map address_of bytes }
 {
     Some(address_of(&bytes?))
