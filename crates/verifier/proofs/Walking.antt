@@ -25,7 +25,7 @@ use Rattle.absstate.specs.StepLaws.Answers.{step_successors, step_reasons}
 use Rattle.absstate.specs.StepLaws.Members.{at_first, first_member}
 use Rattle.absstate.specs.declared.abstract_state.AbsState.{AbsState}
 use Rattle.absstate.specs.declared.abstract_step.Next.{Next}
-use Rattle.verifier.specs.Layout.{IsLaidOut}
+use Rattle.verifier.specs.Layout.{IsLaidOut, StartsAt}
 use Rattle.verifier.specs.PendingStates.{AllRunsExit, IsReached, count_from, counts_from}
 use Rattle.verifier.specs.Refusing.{IsReal, MayRefuseOver}
 use Rattle.verifier.specs.Walk.{IsInside, IsNext, IsLeft, GoesOn, Advances, IsStepRefusal, Picks}
@@ -194,7 +194,7 @@ module _ {D : Type 0} (ops : Operations D) (Member : D → ℕ → Type 0) (soun
         λ precise. subst (IsReal code reason) (sym refused.0) (refusal_is_real ops Member sound precise code here reason (walking.reached precise) refused.1),
       )
   real code budget made here pending (refusal.Budget slot) laid_out walking refused = absurd refused
-  real code budget made here pending (refusal.Memory slot) laid_out walking refused = laid_out
+  real code budget made here pending (refusal.Memory slot) laid_out walking refused = (laid_out, subst (StartsAt code) (sym refused) walking.inside)
 
   -- after the budget's steps there is a beginning of a path more than they
   pub more_paths : (code : List Insn) (made : ℕ) (here : Pending D) (pending : List (Pending D)) → IsWalking code made here pending → made < length (beginnings code)

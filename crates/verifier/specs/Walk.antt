@@ -82,7 +82,7 @@ IsOutOfMemory here (refusal.Memory slot) = slot ≡ here
 abbrev pub IsStepRefusal : {D : Type 0} → Operations D → List Insn → Pending D → Refusal → Type 0
 IsStepRefusal ops code here (refusal.Stuck reason slot) = (slot ≡ here.slot) × IsRefusedAt ops code here reason
 IsStepRefusal ops code here (refusal.Budget slot) = ⊥
-IsStepRefusal ops code here (refusal.Memory slot) = Unit {0}
+IsStepRefusal ops code here (refusal.Memory slot) = slot ≡ here.slot
 
 -- the state that is followed: the next one of the path, or after its exit the last one left pending
 abbrev pub Picks : {D : Type 0} → Option (Pending D) → List (Pending D) → Option (Pending D) → List (Pending D) → Type 0

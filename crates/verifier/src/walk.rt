@@ -248,7 +248,9 @@ pub fn verify_with<D: Domain, L: Ledger>(
     ensures counts { CountsSteps budget steps.old steps.new result }
 {
     check_layout(code)?;
-    let program = Program::new(alloc, code).map_err(|_| Refusal::Memory { slot: 0 })?;
+    let Ok(program) = Program::new(alloc, code) else {
+        return Err(Refusal::Memory { slot: 0 });
+    };
     walk::<D, L>(alloc, &program, budget, steps)?;
     Ok(Verified { program })
 }
