@@ -6,4 +6,5 @@ pub mod Keeping
 pub mod Safety
 pub mod Reaching
 pub mod Walking
+pub mod Walked
 pub mod Verdicts

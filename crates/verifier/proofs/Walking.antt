@@ -19,7 +19,6 @@ use Rattle.semantics.specs.declared.fetching.Branch.TheVariants.{NotTaken, Taken
 use Rattle.interval.specs.Domains.{Operations, AreSound, ArePrecise}
 use Rattle.absstate.specs.Membership.{Loose}
 use Rattle.absstate.specs.MemberSteps.{state_after}
-use Rattle.absstate.specs.AbstractStates.{first_state}
 use Rattle.absstate.specs.AbstractSteps as abstract
 use Rattle.absstate.specs.StepReasons.{IsStepReason}
 use Rattle.absstate.specs.Successors.{successors_of, successors_in}
@@ -32,7 +31,7 @@ use Rattle.verifier.specs.Layout.{IsLaidOut, StartsAt}
 use Rattle.verifier.specs.declared.kept.Kept.{Kept}
 use Rattle.verifier.specs.PendingStates.{AllRunsExit, IsReached, count_from, counts_from}
 use Rattle.verifier.specs.Refusing.{IsReal, MayRefuseOver}
-use Rattle.verifier.specs.Walk.{IsInside, LeadsTo, IsNext, IsLeft, GoesOn, Advances, IsStepRefusal, IsCovered, Skips, Settles, MakesStep, waiting, followed}
+use Rattle.verifier.specs.Walk.{first_pending, IsInside, LeadsTo, IsNext, IsLeft, GoesOn, Advances, IsStepRefusal, IsCovered, Skips, Settles, MakesStep, waiting, followed}
 use Rattle.verifier.specs.declared.refusal.Refusal.{Refusal}
 use Rattle.verifier.specs.declared.refusal.Refusal.TheVariants as refusal
 use Rattle.verifier.specs.declared.walk.Path.{Path}
@@ -43,9 +42,6 @@ use Rattle.verifier.proofs.Branches.{branch_rises, branch_begins, state_goes_on}
 use Rattle.verifier.proofs.Safety.{good_before}
 use Rattle.verifier.proofs.Reaching.{all_none, all_one, first_reached, reached_after, refusal_is_real}
 use Rattle.verifier.proofs.Counting.{count_next, counts_before, counted_at, fuel_is}
-
-abbrev pub first_pending : {D : Type 0} → Pending D
-first_pending = record { slot = 0; state = first_state }
 
 answer_successors : {D : Type 0} (a : Result (Next D) Reason) (i : Insn) (answer : Next D) → IfOk a (λ n. successors_in n ≡ successors_of i) → a ≡ Ok answer → successors_in answer ≡ successors_of i
 answer_successors (Ok n) i answer h e = subst (λ (m : Next _). successors_in m ≡ successors_of i) (let is : n ≡ answer = cc in is) h

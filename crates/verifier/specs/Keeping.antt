@@ -2,11 +2,13 @@
 use Rattle.std.specs.Prelude.{◌≡◌, ◌==◌, ℕ, ◌&&◌, ◌||◌, Bool, true, false, List, [], ◌∷◌, ◌++◌, Option, Some, None, is_some, slice_index_or, Vec}
 use Rattle.std.specs.List.{Any, list_any}
 use Rattle.std.specs.declared.alloc.Global.{Global}
+use Rattle.insn.specs.declared.instruction.Insn.{Insn}
 use Rattle.interval.specs.Domains.{Operations}
 use Rattle.semantics.specs.Machine.{State}
 use Rattle.absstate.specs.Covers.{covers}
 use Rattle.absstate.specs.Membership.{Loose, IsMember}
 use Rattle.absstate.specs.declared.abstract_state.AbsState.{AbsState}
+use Rattle.verifier.specs.Goals.{IsGoal}
 use Rattle.verifier.specs.declared.kept.Kept.{Kept}
 use Rattle.verifier.specs.declared.walk.Pending.{Pending}
 
@@ -22,9 +24,18 @@ kept_at kept slot = states_of (slice_index_or kept.by_slot.items slot None)
 abbrev pub keeps_at : {D : Type 0} → Kept D → ℕ → Bool
 keeps_at kept slot = is_some (slice_index_or kept.by_slot.items slot None)
 
--- states are kept at one slot more
-abbrev pub MarksSlot : {D : Type 0} → ℕ → Kept D → Kept D → Type 0
-MarksSlot goal old new = (slot : ℕ) → keeps_at new slot ≡ (keeps_at old slot || (slot == goal))
+-- states are kept at the goals of jumps, and nowhere else
+pub record KeepsAtGoals {D : Type 0} (code : List Insn) (kept : Kept D) : Type 0 where
+  pub only : (slot : ℕ) → keeps_at kept slot ≡ true → IsGoal code slot
+  pub all : (slot : ℕ) → IsGoal code slot → keeps_at kept slot ≡ true
+
+abbrev pub is_slot : Option ℕ → ℕ → Bool
+is_slot None slot = false
+is_slot (Some goal) slot = slot == goal
+
+-- states are kept at one slot more, if there is one
+abbrev pub MarksGoal : {D : Type 0} → Option ℕ → Kept D → Kept D → Type 0
+MarksGoal goal old new = (slot : ℕ) → keeps_at new slot ≡ (keeps_at old slot || is_slot goal slot)
 
 -- a kept state of its slot covers a state
 abbrev pub is_covered : {D : Type 0} → Operations D → (ℕ → List (AbsState D)) → Pending D → Bool

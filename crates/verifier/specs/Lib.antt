@@ -3,5 +3,6 @@ pub mod Layout
 pub mod Goals
 pub mod Keeping
 pub mod Walk
+pub mod Walks
 pub mod Refusing
 pub mod PendingStates

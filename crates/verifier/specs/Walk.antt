@@ -9,6 +9,7 @@ use Rattle.semantics.specs.declared.fetching.Fetched.TheVariants.{Begins}
 use Rattle.semantics.specs.declared.fetching.Branch.{Branch}
 use Rattle.semantics.specs.declared.fetching.Branch.TheVariants.{NotTaken, Taken}
 use Rattle.interval.specs.Domains.{Operations}
+use Rattle.absstate.specs.AbstractStates.{first_state}
 use Rattle.absstate.specs.AbstractSteps.{step}
 use Rattle.absstate.specs.MemberSteps.{state_after}
 use Rattle.absstate.specs.declared.abstract_state.AbsState.{AbsState}
@@ -85,6 +86,10 @@ abbrev pub IsStepRefusal : {D : Type 0} → Operations D → List Insn → Pendi
 IsStepRefusal ops code here (refusal.Stuck reason slot) = (slot ≡ here.slot) × IsRefusedAt ops code here reason
 IsStepRefusal ops code here (refusal.Budget slot) = ⊥
 IsStepRefusal ops code here (refusal.Memory slot) = slot ≡ here.slot
+
+-- the state from which the walk starts
+abbrev pub first_pending : {D : Type 0} → Pending D
+first_pending = record { slot = 0; state = first_state }
 
 -- the states from which paths are still to be followed, the next one last
 abbrev pub waiting : {D : Type 0} → Option (Pending D) → List (Pending D) → List (Pending D)

@@ -5,18 +5,19 @@ ghost use Rattle.std.specs.List.{list_any};
 ghost use Rattle.insn.specs.Encoding.{slot_count};
 ghost use Rattle.insn.specs.declared.decoding.TheConstants.{MAX_SLOTS};
 ghost use Rattle.absstate.specs.Covers.{covers};
-ghost use Rattle.verifier.specs.Goals.{goal_of};
-ghost use Rattle.verifier.specs.Keeping.{states_of, states_with, kept_at, is_covered, HasCover, KeepsNothing, MarksSlot, Keeps};
+ghost use Rattle.verifier.specs.Goals.{goal_at};
+ghost use Rattle.verifier.specs.Keeping.{states_of, states_with, kept_at, is_covered, HasCover, KeepsNothing, KeepsAtGoals, MarksGoal, Keeps};
 
 use crate::layout::distance;
 use crate::walk::Pending;
 use absstate::AbsState;
-use insn::Insn;
+use insn::MAX_SLOTS;
 use interval::Domain;
-use semantics::{Position, Program};
+use semantics::{Fetched, Program};
 use std::alloc::{AllocError, Global};
 
-/// The states that the walk has kept, by slot: `None` at each slot that no jump leads to.
+/// The states that the walk has kept, by slot: `None` at each slot that no jump leads to. The list ends at the last slot that
+/// one does.
 #[derive(Drop)]
 pub struct Kept<D> {
     by_slot: Vec<Option<Vec<AbsState<D>>>>,
@@ -44,24 +45,30 @@ fn push_state<D: Copy>(
     ensures states { OnOk result (states_of states.new ≡ states_with (is_some states.old) state (states_of states.old)) }
 {
     if let Some(states) = states {
+        if states.is_empty() {
+            states.reserve_exact(1)?;
+        }
         states.push(state)?;
     }
     Ok(())
 }
 
-/// Returns the slot that a jump leads to, `None` for an instruction that is no jump.
-fn goal_of(program: &Program, slot: usize, insn: Insn) -> Option<usize>
+/// Returns the slot that the jump at a slot leads to, `None` where no jump is.
+fn goal_at(program: &Program, slot: usize) -> Option<usize>
     requires { slot < MAX_SLOTS }
-    ensures { result ≡ goal_of program.now slot insn }
+    ensures { result ≡ goal_at program.now slot }
 {
+    let Fetched::Begins(insn) = program.fetch(slot) else {
+        return None;
+    };
     match distance(insn) {
         None => None,
         Some(offset) => program.target(slot, offset).ok(),
     }
 }
 
-#[tactic(auto, using(crate::proofs::Keeping::none_more))]
 /// Lengthens a list by slot, until it has a slot.
+#[tactic(auto, using(crate::proofs::Keeping::none_more))]
 fn lengthen<D: Copy>(
     by_slot: &mut Vec<Option<Vec<AbsState<D>>>>,
     slot: usize,
@@ -80,29 +87,29 @@ impl<D: Domain> Kept<D> {
     ///
     /// # Errors
     /// Where memory runs out.
+    #[tactic(auto, using(crate::proofs::Keeping::none_below, crate::proofs::Keeping::next_below, crate::proofs::Keeping::goals_below))]
     pub fn new(alloc: Global, program: &Program) -> Result<Kept<D>, AllocError>
         requires { slot_count program.now ≤ MAX_SLOTS }
+        ensures goals { IfOk result (KeepsAtGoals program.now) }
         ensures none { IfOk result KeepsNothing }
     {
         let mut kept = Kept {
             by_slot: Vec::new(alloc),
         };
-        let code = program.code();
-        let mut at = Position { slot: 0, index: 0 };
-        while at.index < code.len() {
-            if let Some(goal) = goal_of(program, at.slot, code[at.index]) {
-                kept.mark(alloc, goal)?;
-            }
-            at = at.next(code);
+        for slot in 0..MAX_SLOTS {
+            kept.mark(alloc, goal_at(program, slot))?;
         }
         Ok(kept)
     }
 
-    /// Marks a slot that some jump leads to.
-    fn mark(&mut self, alloc: Global, slot: usize) -> Result<(), AllocError>
-        ensures marks { OnOk result (MarksSlot slot self.old self.new) }
+    /// Marks the slot that a jump leads to, if there is one.
+    fn mark(&mut self, alloc: Global, goal: Option<usize>) -> Result<(), AllocError>
+        ensures marks { OnOk result (MarksGoal goal self.old self.new) }
         ensures none { KeepsNothing self.old → OnOk result (KeepsNothing self.new) }
     {
+        let Some(slot) = goal else {
+            return Ok(());
+        };
         lengthen(&mut self.by_slot, slot)?;
         self.by_slot[slot] = Some(Vec::new(alloc));
         Ok(())

@@ -11,6 +11,8 @@ ghost use Rattle.verifier.specs.Layout.{IsLaidOut};
 ghost use Rattle.verifier.specs.Refusing.{MayRefuseOver, IsVerdict, IsVerdictOver, CountsSteps};
 ghost use Rattle.verifier.specs.Keeping.{kept_at};
 ghost use Rattle.verifier.specs.Walk.{IsStepRefusal, IsInside, IsNext, IsOutOfMemory, Leaves, Advances, Settles, MakesStep, followed};
+ghost use Rattle.verifier.specs.Walks.{EndsWalk};
+ghost use Rattle.interval.specs.Intervals.{IsMember, interval_ops};
 ghost use Rattle.semantics.specs.declared.fetching.Branch.TheVariants.{NotTaken, Taken};
 
 use crate::kept::Kept;
@@ -261,6 +263,7 @@ fn walk<D: Domain, L: Ledger>(
     ensures safe { OnOk result (IsSafe program.now) }
     ensures refused { IfErr result (MayRefuseOver D.ops D.Member program.now budget) }
     ensures counts { CountsSteps budget steps.old steps.new result }
+    ensures walked { EndsWalk D.ops D.Member program.now steps.old steps.new result }
 {
     let Ok(mut kept) = Kept::new(alloc, program) else {
         return Err(Refusal::Memory { slot: 0 });
@@ -296,6 +299,7 @@ pub fn verify_with<D: Domain, L: Ledger>(
     ensures code { IfOk result (λ v. v ≡ code.now) }
     ensures verdict { IsVerdictOver D.ops D.Member code.now budget result }
     ensures counts { CountsSteps budget steps.old steps.new result }
+    ensures walked { EndsWalk D.ops D.Member code.now steps.old steps.new result }
 {
     check_layout(code)?;
     let Ok(program) = Program::new(alloc, code) else {
@@ -323,6 +327,7 @@ pub fn verify<L: Ledger>(
     ensures code { IfOk result (λ v. v ≡ code.now) }
     ensures verdict { IsVerdict code.now budget result }
     ensures counts { CountsSteps budget steps.old steps.new result }
+    ensures walked { EndsWalk interval_ops IsMember code.now steps.old steps.new result }
 {
     verify_with::<Interval, L>(alloc, code, budget, steps)
 }

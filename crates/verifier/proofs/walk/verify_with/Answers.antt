@@ -10,6 +10,9 @@ use Rattle.semantics.specs.declared.reason.Reason.{Reason}
 use Rattle.verifier.specs.Layout.{IsLaidOut, IsLayoutFault}
 use Rattle.verifier.proofs.Positions.{first_begins}
 use Rattle.verifier.proofs.Verdicts.{layout_verdict}
+use Rattle.verifier.proofs.Walked.{accepted_end}
+use Rattle.verifier.specs.Walks.{EndsWalk}
+use Rattle.verifier.specs.declared.walk.Verified.{Verified}
 use Rattle.verifier.proofs.walk.verify_with.Goals as goal
 
 pub returns-in_err-check_layout-clause-verdict : goal.returns-in_err-check_layout-clause-verdict
@@ -54,3 +57,9 @@ returns-clause-verdict g c =
 
 pub returns-clause-counts : goal.returns-clause-counts
 returns-clause-counts g c = record { bound = c.walk.ensures.counts.bound; budget_made = tt }
+
+pub returns-clause-walked : goal.returns-clause-walked
+returns-clause-walked g c =
+    let is : c.in-Ok.program ≡ c.args.code.now = returns-clause-code g c in
+    subst (λ (code : List Insn). EndsWalk {T = Verified} g.D.Domain.ops g.D.Domain.Member code c.args.steps.now c.walk.new.steps (Ok c.in-Ok.program)) is
+    (accepted_end g.D.Domain.ops g.D.Domain.Member c.in-Ok.program c.args.steps.now c.walk.new.steps c.in_ok-walk.field-0 c.in-Ok.program c.in_ok-walk.ensures.walked)

@@ -1,4 +1,4 @@
-use Rattle.std.proofs.Common.{◌≡◌, Some, List, [], ◌∷◌, ◌++◌, sym, subst, arith}
+use Rattle.std.proofs.Common.{◌≡◌, ◌+◌, Some, inl, refl, List, [], ◌∷◌, ◌++◌, sym, subst, arith}
 use Rattle.std.proofs.lemmas.Result.{err_from_is_err_and}
 use Rattle.absstate.specs.declared.abstract_state.AbsState.{AbsState}
 use Rattle.insn.specs.declared.instruction.Insn.{Insn}
@@ -8,12 +8,14 @@ use Rattle.verifier.proofs.Sizes.{state_fits, pending_fits}
 use Rattle.verifier.specs.Keeping.{kept_at}
 use Rattle.verifier.specs.Refusing.{IfBudget}
 use Rattle.verifier.specs.Walk.{IsInside, IsStepRefusal}
+use Rattle.verifier.specs.Walks.{Walks}
 use Rattle.verifier.specs.declared.refusal.Refusal.{Refusal}
 use Rattle.verifier.specs.declared.refusal.Refusal.TheVariants as refusal
 use Rattle.verifier.specs.declared.walk.Pending.{Pending}
 use Rattle.verifier.specs.declared.walk.Path.TheVariants.{Continues, Ended}
 use Rattle.verifier.proofs.Positions.{first_begins}
 use Rattle.verifier.proofs.Walking.{IsWalking, last_of, begins, made_so, made_step, finished, safe, real, more_paths}
+use Rattle.verifier.proofs.Walked.{starts, goes, ends, refused_end}
 use Rattle.verifier.proofs.walk.walk.Goals as goal
 
 pub returns-in_default-clause-refused : goal.returns-in_default-clause-refused
@@ -27,6 +29,8 @@ loop-init g c = record {
   count = omega arith;
   walking = subst (λ (a : AbsState g.row.D.Denot). IsWalking g.D.Domain.ops g.D.Domain.Member g.met.D.Domain.laws c.args.program.now 0 (c.new-pending.result.items ++ record { slot = 0; state = a } ∷ []) (kept_at c.in-Ok.kept)) (sym c.start.ensures)
       (begins g.D.Domain.ops g.D.Domain.Member g.met.D.Domain.laws c.args.program.now c.new-pending.result.items (kept_at c.in-Ok.kept) c.requires.laid_out c.new-pending.ensures.items c.in-Ok.ensures.none);
+  walked = subst (λ (a : AbsState g.row.D.Denot). Walks g.D.Domain.ops g.D.Domain.Member c.args.program.now 0 (c.new-pending.result.items ++ record { slot = 0; state = a } ∷ []) c.in-Ok.kept) (sym c.start.ensures)
+      (starts g.D.Domain.ops g.D.Domain.Member c.args.program.now c.new-pending.result.items c.in-Ok.kept c.new-pending.ensures.items c.in-Ok.ensures.goals c.in-Ok.ensures.none);
 }
 
 pub make_step-requires : goal.make_step-requires
@@ -61,9 +65,42 @@ loop-preserved g c = record {
   walking =
       made_step g.D.Domain.ops g.D.Domain.Member g.met.D.Domain.laws c.args.program.now c.loop.counter c.loop.here c.loop.pending.items c.loop.kept (Some c.make_step.new.here) c.make_step.new.pending.items c.make_step.new.kept c.requires.laid_out c.loop.invariant.walking
       (made_so g.D.Domain.ops g.D.Domain.Member c.args.program.now c.loop.here c.loop.pending.items c.loop.kept c.make_step.new.here c.make_step.new.pending.items c.make_step.new.kept c.in_ok-make_step.field-0 Continues c.in-Continues.is c.in_ok-make_step.ensures.made);
+  walked =
+      goes g.D.Domain.ops g.D.Domain.Member c.args.program.now c.loop.counter c.loop.here c.loop.pending.items c.loop.kept c.make_step.new.here c.make_step.new.pending.items c.make_step.new.kept c.loop.invariant.walked
+      (made_so g.D.Domain.ops g.D.Domain.Member c.args.program.now c.loop.here c.loop.pending.items c.loop.kept c.make_step.new.here c.make_step.new.pending.items c.make_step.new.kept c.in_ok-make_step.field-0 Continues c.in-Continues.is c.in_ok-make_step.ensures.made);
 }
 
 pub returns-clause-refused : goal.returns-clause-refused
 returns-clause-refused g c =
     let all : c.loop.counter ≡ c.args.budget = omega (arith, c.loop-test.false, c.loop.auto.counter-end) in
     (c.requires.laid_out, last_of (IsInside c.args.program.now) c.loop.pending.items c.loop.here c.loop.invariant.walking.inside, omega (arith, more_paths g.D.Domain.ops g.D.Domain.Member g.met.D.Domain.laws c.args.program.now c.loop.counter c.loop.here c.loop.pending.items (kept_at c.loop.kept) c.loop.invariant.walking, all))
+
+pub returns-in_default-clause-walked : goal.returns-in_default-clause-walked
+returns-in_default-clause-walked g c = record { made = 0; count = omega arith; end = inl (refl, refl) }
+
+pub returns-in_err-make_step-clause-walked : goal.returns-in_err-make_step-clause-walked
+returns-in_err-make_step-clause-walked g c =
+    let p = err_from_is_err_and c.from_residual.result c.from_residual.ensures.1 in
+    record {
+      made = c.loop.counter + 1;
+      count = omega (arith, c.tick.ensures, c.loop.invariant.count);
+      end = rw (p.1, p.2) (refused_end g.D.Domain.ops g.D.Domain.Member c.args.program.now c.loop.counter c.loop.here c.loop.pending.items c.loop.kept c.in_err-make_step.field-0.0 c.loop.invariant.walked c.in_err-make_step.ensures.refused);
+    }
+
+pub returns-in-Ended-clause-walked : goal.returns-in-Ended-clause-walked
+returns-in-Ended-clause-walked g c = record {
+  made = c.loop.counter + 1;
+  count = omega (arith, c.tick.ensures, c.loop.invariant.count);
+  end = (
+    c.make_step.new.kept,
+    ends g.D.Domain.ops g.D.Domain.Member c.args.program.now c.loop.counter c.loop.here c.loop.pending.items c.loop.kept c.make_step.new.pending.items c.make_step.new.kept c.loop.invariant.walked
+        (made_so g.D.Domain.ops g.D.Domain.Member c.args.program.now c.loop.here c.loop.pending.items c.loop.kept c.make_step.new.here c.make_step.new.pending.items c.make_step.new.kept c.in_ok-make_step.field-0 Ended c.in-Ended.is c.in_ok-make_step.ensures.made),
+  );
+}
+
+pub returns-clause-walked : goal.returns-clause-walked
+returns-clause-walked g c = record {
+  made = c.loop.counter;
+  count = omega (arith, c.loop.invariant.count);
+  end = record { here = c.loop.here; pending = c.loop.pending.items; kept = c.loop.kept; walks = c.loop.invariant.walked; slot_is = refl };
+}
