@@ -1,4 +1,4 @@
--- Internal. The states that the walk keeps, and those that they cover.
+-- Interface. The states that the walk keeps, and those that they cover.
 use Rattle.std.specs.Prelude.{◌≡◌, ◌==◌, ℕ, ◌&&◌, ◌||◌, Bool, true, false, List, [], ◌∷◌, ◌++◌, Option, Some, None, is_some, slice_index_or, Vec}
 use Rattle.std.specs.List.{Any, list_any}
 use Rattle.std.specs.declared.alloc.Global.{Global}

@@ -1,4 +1,4 @@
--- Internal. The walk over all paths: how it goes on from a step, and the refusals of a step.
+-- Interface. One step of the walk over all paths: how it goes on, and its refusals.
 use Rattle.std.specs.Prelude.{◌≡◌, ℕ, true, false, List, [], ◌∷◌, ◌++◌, Option, Some, None, Ok, Err, IfSome, IfNone, All}
 use Rattle.insn.specs.Encoding.{Fits}
 use Rattle.insn.specs.declared.instruction.Insn.{Insn}

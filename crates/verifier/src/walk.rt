@@ -1,4 +1,5 @@
-//! The walk: every path is followed from the first slot, the branch that is not taken first.
+//! The walk: every path is followed from the first slot, the branch that is not taken first. A state that a kept one of its
+//! slot covers is skipped.
 
 ghost use Rattle.std.specs.Prelude.{◌≡◌, ◌≤◌, ◌<◌, None, Ok, IfOk, IfErr, OnOk, IsOk};
 ghost use Rattle.std.specs.Option.{option_map};
@@ -284,7 +285,8 @@ fn walk<D: Domain, L: Ledger>(
 }
 
 /// Verifies a program, with what a numeric domain knows of its numbers: accepts it if no step of it, on any path, can be
-/// stuck. `steps` counts one for each abstract step, of which at most `budget` are made.
+/// stuck. `steps` counts one for each abstract step, of which at most `budget` are made. A state that one kept at its slot
+/// covers takes no step: states are kept at the slots that jumps lead to.
 /// See docs/DECISIONS.md, "Refusals need a precise domain".
 ///
 /// # Errors
@@ -310,13 +312,15 @@ pub fn verify_with<D: Domain, L: Ledger>(
 }
 
 /// Verifies a program with intervals: accepts it if no step of it, on any path, can be stuck. `steps` counts one for each
-/// abstract step, of which at most `budget` are made.
+/// abstract step, of which at most `budget` are made. A state that one kept at its slot covers takes no step: states are kept
+/// at the slots that jumps lead to.
 ///
 /// # Errors
 /// A fault of the layout: the first faulty jump (V1 to V3), or a last instruction that is no exit (V4). Else the
 /// first refusal on the paths (V5 to V16, V18), each a step at which a loose run is stuck; V17 at the instruction
-/// whose step would pass the budget; V19 where memory runs out. In code with sums of registers, V10 and V11 at a sum with
-/// a constant may come where no run is stuck: see docs/DECISIONS.md, "Refusals are stuck runs".
+/// whose step would pass the budget; V19 where memory runs out, at the instruction in hand, or at slot 0 before the first
+/// step. In code with sums of registers, V10 and V11 at a sum with a constant may come where no run is stuck: see
+/// docs/DECISIONS.md, "Refusals are stuck runs".
 pub fn verify<L: Ledger>(
     alloc: Global,
     code: &[Insn],
