@@ -37,6 +37,9 @@ fn one_covers<D: Domain>(states: &[AbsState<D>], state: &AbsState<D>) -> bool
 }
 
 /// Appends a state to those that are kept at a slot, where states are.
+///
+/// # Errors
+/// Where memory runs out.
 fn push_state<D: Copy>(
     states: &mut Option<Vec<AbsState<D>>>,
     state: AbsState<D>,
@@ -68,6 +71,9 @@ fn goal_at(program: &Program, slot: usize) -> Option<usize>
 }
 
 /// Lengthens a list by slot, until it has a slot.
+///
+/// # Errors
+/// Where memory runs out.
 #[tactic(auto, using(crate::proofs::Keeping::none_more))]
 fn lengthen<D: Copy>(
     by_slot: &mut Vec<Option<Vec<AbsState<D>>>>,
@@ -96,6 +102,7 @@ impl<D: Domain> Kept<D> {
         let mut kept = Kept {
             by_slot: Vec::new(alloc),
         };
+        // no jump is at a slot after the last one
         for slot in 0..MAX_SLOTS {
             kept.mark(alloc, goal_at(program, slot))?;
         }
@@ -103,6 +110,9 @@ impl<D: Domain> Kept<D> {
     }
 
     /// Marks the slot that a jump leads to, if there is one.
+    ///
+    /// # Errors
+    /// Where memory runs out.
     fn mark(&mut self, alloc: Global, goal: Option<usize>) -> Result<(), AllocError>
         ensures marks { OnOk result (MarksGoal goal self.old self.new) }
         ensures none { KeepsNothing self.old → OnOk result (KeepsNothing self.new) }

@@ -229,6 +229,9 @@ fn settle<D: Domain>(
 
 /// Makes one step of the walk: keeps the state at hand, if some jump leads to its slot, makes its step, and goes on to the
 /// state to follow next.
+///
+/// # Errors
+/// The refusal of the step; V19 where memory runs out for a state that is kept or left pending.
 fn make_step<D: Domain>(
     program: &Program,
     kept: &mut Kept<D>,
