@@ -2,7 +2,9 @@ pub mod Sizes
 pub mod Positions
 pub mod Branches
 pub mod Counting
+pub mod Keeping
 pub mod Safety
 pub mod Reaching
 pub mod Walking
+pub mod Walked
 pub mod Verdicts

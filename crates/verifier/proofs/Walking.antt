@@ -1,8 +1,9 @@
 -- What the walk keeps, from the first pending state to its end.
-use Rattle.std.proofs.Common.{◌≡◌, ℕ, suc, ◌+◌, ◌-◌, ◌<◌, ◌≤◌, List, [], ◌∷◌, ◌++◌, length, Option, Some, None, Result, Ok, Err, refl, sym, ap, ◌∙◌, subst, arith, All, inr}
-use Rattle.std.specs.Prelude.{IfSome, IfOk, IfErr}
+use Rattle.std.proofs.Common.{◌≡◌, ℕ, suc, ◌+◌, ◌-◌, ◌<◌, ◌≤◌, Bool, true, false, List, [], ◌∷◌, ◌++◌, length, Option, Some, None, Result, Ok, Err, refl, sym, ap, ◌∙◌, subst, arith, All, inr, ◌&&◌, append-nil, append_assoc}
+use Rattle.std.specs.Prelude.{◌==◌, IfSome, IfOk, IfErr}
 use Rattle.std.proofs.lemmas.List.{take_at, drop_at}
-use Rattle.std.proofs.lemmas.List.Elements.{All-take, All-drop, All-append, All-push}
+use Rattle.std.proofs.lemmas.Bool.{eqb-true}
+use Rattle.std.proofs.lemmas.List.Elements.{All-take, All-drop, All-append, All-push, All-weaker, All-nil, All-cons, All-head, All-tail}
 use Rattle.std.proofs.lemmas.List.Sums.{sum_by-append, sum_by_push}
 use Rattle.insn.specs.Encoding.{Fits}
 use Rattle.insn.specs.declared.instruction.Insn.{Insn}
@@ -13,11 +14,11 @@ use Rattle.semantics.specs.Runs.{IsSafe, run}
 use Rattle.semantics.specs.LooseRuns.{beginnings, beginnings_from}
 use Rattle.semantics.specs.declared.reason.Reason.{Reason}
 use Rattle.semantics.specs.declared.fetching.Fetched.TheVariants.{Begins}
+use Rattle.semantics.specs.declared.fetching.Branch.{Branch}
 use Rattle.semantics.specs.declared.fetching.Branch.TheVariants.{NotTaken, Taken}
 use Rattle.interval.specs.Domains.{Operations, AreSound, ArePrecise}
 use Rattle.absstate.specs.Membership.{Loose}
 use Rattle.absstate.specs.MemberSteps.{state_after}
-use Rattle.absstate.specs.AbstractStates.{first_state}
 use Rattle.absstate.specs.AbstractSteps as abstract
 use Rattle.absstate.specs.StepReasons.{IsStepReason}
 use Rattle.absstate.specs.Successors.{successors_of, successors_in}
@@ -25,21 +26,22 @@ use Rattle.absstate.specs.StepLaws.Answers.{step_successors, step_reasons}
 use Rattle.absstate.specs.StepLaws.Members.{at_first, first_member}
 use Rattle.absstate.specs.declared.abstract_state.AbsState.{AbsState}
 use Rattle.absstate.specs.declared.abstract_step.Next.{Next}
-use Rattle.verifier.specs.Layout.{IsLaidOut}
+use Rattle.verifier.specs.Keeping.{kept_at, keeps_at, states_with, kept_with, is_covered, Keeps}
+use Rattle.verifier.specs.Layout.{IsLaidOut, StartsAt}
+use Rattle.verifier.specs.declared.kept.Kept.{Kept}
 use Rattle.verifier.specs.PendingStates.{AllRunsExit, IsReached, count_from, counts_from}
 use Rattle.verifier.specs.Refusing.{IsReal, MayRefuseOver}
-use Rattle.verifier.specs.Walk.{IsInside, IsNext, IsLeft, GoesOn, Advances, IsStepRefusal, Picks}
+use Rattle.verifier.specs.Walk.{first_pending, IsInside, LeadsTo, IsNext, IsLeft, GoesOn, Advances, IsStepRefusal, IsCovered, Skips, Settles, MakesStep, waiting, followed}
 use Rattle.verifier.specs.declared.refusal.Refusal.{Refusal}
 use Rattle.verifier.specs.declared.refusal.Refusal.TheVariants as refusal
+use Rattle.verifier.specs.declared.walk.Path.{Path}
+use Rattle.verifier.specs.declared.walk.Path.TheVariants.{Continues}
 use Rattle.verifier.specs.declared.walk.Pending.{Pending}
 use Rattle.verifier.proofs.Positions.{first_begins}
-use Rattle.verifier.proofs.Branches.{branch_begins, state_goes_on}
+use Rattle.verifier.proofs.Branches.{branch_rises, branch_begins, state_goes_on}
 use Rattle.verifier.proofs.Safety.{good_before}
 use Rattle.verifier.proofs.Reaching.{all_none, all_one, first_reached, reached_after, refusal_is_real}
 use Rattle.verifier.proofs.Counting.{count_next, counts_before, counted_at, fuel_is}
-
-abbrev pub first_pending : {D : Type 0} → Pending D
-first_pending = record { slot = 0; state = first_state }
 
 answer_successors : {D : Type 0} (a : Result (Next D) Reason) (i : Insn) (answer : Next D) → IfOk a (λ n. successors_in n ≡ successors_of i) → a ≡ Ok answer → successors_in answer ≡ successors_of i
 answer_successors (Ok n) i answer h e = subst (λ (m : Next _). successors_in m ≡ successors_of i) (let is : n ≡ answer = cc in is) h
@@ -63,30 +65,33 @@ advances ops code here old new i begins fits answer is on left new_is goes = rec
   goes_on = goes;
 }
 
--- ---- what is picked of the pending states
+same_slots : (keeps : Bool) (m n : ℕ) → (keeps && (m == n)) ≡ true → m ≡ n
+same_slots true m n e = eqb-true m n e
+same_slots false m n e = absurd cc
 
--- a fact of the states at hand holds of the one that is picked, and of those that stay pending
-picked : {D : Type 0} (P : Pending D → Type 0) (on : Option (Pending D)) (old : List (Pending D)) (p : Pending D) (new : List (Pending D)) → Picks on old (Some p) new → IfSome on P → All P old → P p × All P new
-picked P (Some q) old p new picks h all = (subst P (let is : q ≡ p = cc in is) h, subst (All P) (sym picks.1) all)
-picked P None old p new picks h all =
-    let both : All P (new ++ p ∷ []) = subst (All P) picks all in
-    (subst (All P) (drop_at new (p ∷ []) (length new) refl) (All-drop P (length new) (new ++ p ∷ []) both) 0 p (omega arith), subst (All P) (take_at new (p ∷ []) (length new) refl) (All-take P (length new) (new ++ p ∷ []) both))
+-- ---- lists of states
 
--- and the other way round
-unpicked : {D : Type 0} (P : Pending D → Type 0) (on : Option (Pending D)) (old : List (Pending D)) (p : Pending D) (new : List (Pending D)) → Picks on old (Some p) new → P p → All P new → IfSome on P × All P old
-unpicked P (Some q) old p new picks h all = (subst P (let is : p ≡ q = cc in is) h, subst (All P) picks.1 all)
-unpicked P None old p new picks h all = (tt, subst (All P) (sym picks) (All-push P new p all h))
+module _ {D : Type 0} (P : Pending D → Type 0) where
+  firsts : (xs ys : List (Pending D)) → All P (xs ++ ys) → All P xs
+  firsts xs ys all = subst (All P) (take_at xs ys (length xs) refl) (All-take P (length xs) (xs ++ ys) all)
 
-nothing_left : {D : Type 0} (P : Pending D → Type 0) (on : Option (Pending D)) (old new : List (Pending D)) → Picks on old None new → IfSome on P × All P old
-nothing_left P (Some q) old new picks = absurd (let bad : None ≡ Some q = picks.0 in cc)
-nothing_left P None old new picks = (tt, all_none P old picks.0)
+  lasts : (xs ys : List (Pending D)) → All P (xs ++ ys) → All P ys
+  lasts xs ys all = subst (All P) (drop_at xs ys (length xs) refl) (All-drop P (length xs) (xs ++ ys) all)
 
-picked_count : {D : Type 0} (code : List Insn) (on : Option (Pending D)) (old : List (Pending D)) (p : Pending D) (new : List (Pending D)) → Picks on old (Some p) new → count_from code p + counts_from code new ≡ count_next code on + counts_from code old
-picked_count code (Some q) old p new picks =
-    let point : count_from code q ≡ count_from code p = ap (count_from code) (let is : q ≡ p = cc in is) in
-    let rest : counts_from code new ≡ counts_from code old = ap (counts_from code) picks.1 in
-    omega (arith, point, rest)
-picked_count code None old p new picks = omega (arith, ap (counts_from code) picks, sum_by_push (count_from code) new p)
+  pub last_of : (xs : List (Pending D)) (p : Pending D) → All P (xs ++ p ∷ []) → P p
+  last_of xs p all = lasts xs (p ∷ []) all 0 p (omega arith)
+
+  all_waiting : (on : Option (Pending D)) (pending : List (Pending D)) → IfSome on P → All P pending → All P (waiting on pending)
+  all_waiting None pending h all = all
+  all_waiting (Some p) pending h all = All-push P pending p all h
+
+  of_waiting : (on : Option (Pending D)) (pending : List (Pending D)) → All P (waiting on pending) → IfSome on P × All P pending
+  of_waiting None pending all = (tt, all)
+  of_waiting (Some p) pending all = (last_of pending p all, firsts pending (p ∷ []) all)
+
+waiting_count : {D : Type 0} (code : List Insn) (on : Option (Pending D)) (pending : List (Pending D)) → counts_from code (waiting on pending) ≡ count_next code on + counts_from code pending
+waiting_count code None pending = omega arith
+waiting_count code (Some p) pending = omega (arith, sum_by_push (count_from code) pending p)
 
 some_begins : {D : Type 0} (code : List Insn) (here : Pending D) → IsInside code here → 1 ≤ count_from code here
 some_begins code here inside =
@@ -110,73 +115,197 @@ module _ {D : Type 0} (code : List Insn) (here : Pending D) (laid_out : IsLaidOu
   goes_inside : (on : Option (Pending D)) (left : List (Pending D)) → GoesOn code here.slot i answer on left → IfSome on (IsInside code) × All (IsInside code) left
   goes_inside on left goes = (next_inside (state_after answer NotTaken) refl on goes.0, left_inside (state_after answer Taken) refl left goes.1)
 
-module _ {D : Type 0} (ops : Operations D) (Member : D → ℕ → Type 0) (sound : AreSound ops Member) where
-  -- the walk after some steps, with a current state and others pending
-  pub record IsWalking (code : List Insn) (made : ℕ) (here : Pending D) (pending : List (Pending D)) : Type 0 where
-    pub inside : IsInside code here
-    pub inside_pending : All (IsInside code) pending
-    pub good : All (AllRunsExit Member code) pending → AllRunsExit Member code here → AllRunsExit Member code first_pending
-    pub reached : ArePrecise ops Member → IsReached Member code here
-    pub reached_pending : ArePrecise ops Member → All (IsReached Member code) pending
-    pub counted : made + (count_from code here + counts_from code pending) ≤ length (beginnings code)
+-- ---- skipped states
 
-  pub begins : (code : List Insn) (pending : List (Pending D)) → IsLaidOut code → pending ≡ [] → IsWalking code 0 first_pending pending
-  begins code pending laid_out none = record {
-    inside = first_begins code laid_out.exit;
-    inside_pending = all_none (IsInside code) pending none;
-    good = λ goods good. good;
-    reached = λ precise. first_reached ops Member sound code;
-    reached_pending = λ precise. all_none (IsReached Member code) pending none;
-    counted =
-        let nothing : counts_from code pending ≡ 0 = ap (counts_from code) none in
-        let all : count_from code (first_pending {D = D}) ≡ length (beginnings code) = ap (λ (k : ℕ). length (beginnings_from code k 0)) (ahead_start code) in
-        omega (arith, nothing, all);
+module _ {D : Type 0} (ops : Operations D) (Member : D → ℕ → Type 0) (kept : ℕ → List (AbsState D)) where
+  pub skips_none : (all rest : List (Pending D)) → all ≡ rest → Skips ops Member kept all rest
+  skips_none all rest same = record { skipped = []; covered = all_none (IsCovered ops Member kept) [] refl; parts = same ∙ sym (append-nil rest) }
+
+  pub skips_more : (all rest : List (Pending D)) (p : Pending D) → Skips ops Member kept all (rest ++ p ∷ []) → IsCovered ops Member kept p → Skips ops Member kept all rest
+  skips_more all rest p skips covered = record {
+    skipped = p ∷ skips.skipped;
+    covered = All-cons (IsCovered ops Member kept) p skips.skipped covered skips.covered;
+    parts = skips.parts ∙ append_assoc rest (p ∷ []) skips.skipped;
   }
+
+  skips_after : (old : List (Pending D)) (p : Pending D) (rest : List (Pending D)) → IsCovered ops Member kept p → Skips ops Member kept old rest → Skips ops Member kept (waiting (Some p) old) rest
+  skips_after old p rest covered skips = record {
+    skipped = skips.skipped ++ p ∷ [];
+    covered = All-push (IsCovered ops Member kept) skips.skipped p skips.covered covered;
+    parts = ap (λ (xs : List (Pending D)). xs ++ p ∷ []) skips.parts ∙ append_assoc rest skips.skipped (p ∷ []);
+  }
+
+  -- a path that continues from a state that is not covered, and from one that is
+  pub settles_here : (path : Path) (here : Pending D) (old : List (Pending D)) → path ≡ Continues → is_covered ops kept here ≡ false → Settles ops Member kept (followed path here) old (Some here) old
+  settles_here path here old is uncovered = subst (λ (p : Path). Settles ops Member kept (followed p here) old (Some here) old) (sym is) (record { skips = skips_none (waiting (Some here) old) (waiting (Some here) old) refl; uncovered = uncovered; ended = tt })
+
+  pub settles_past : (path : Path) (here : Pending D) (old : List (Pending D)) (picked : Option (Pending D)) (new : List (Pending D)) → path ≡ Continues → IsCovered ops Member kept here → Settles ops Member kept None old picked new → Settles ops Member kept (followed path here) old picked new
+  settles_past path here old picked new is covered settles = subst (λ (p : Path). Settles ops Member kept (followed p here) old picked new) (sym is) (record { skips = skips_after old here (waiting picked new) covered settles.skips; uncovered = settles.uncovered; ended = settles.ended })
+
+-- a step, where it is known how its path ends
+pub made_so : {D : Type 0} (ops : Operations D) (Member : D → ℕ → Type 0) (code : List Insn) (here : Pending D) (old : List (Pending D)) (kept : Kept D) (next : Pending D) (new : List (Pending D)) (more : Kept D) (path other : Path) → path ≡ other → MakesStep ops Member code here old kept (followed path next) new more → MakesStep ops Member code here old kept (followed other next) new more
+made_so ops Member code here old kept next new more path other is step = subst (λ (p : Path). MakesStep ops Member code here old kept (followed p next) new more) is step
+
+pub makes_step : {D : Type 0} (ops : Operations D) (Member : D → ℕ → Type 0) (code : List Insn) (here : Pending D) (old : List (Pending D)) (kept : Kept D) (picked : Option (Pending D)) (new : List (Pending D)) (more : Kept D) (next : Option (Pending D)) (pending : List (Pending D)) → Keeps here kept more → Advances ops code here old next pending → Settles ops Member (kept_at more) next pending picked new → MakesStep ops Member code here old kept picked new more
+makes_step ops Member code here old kept picked new more next pending keeps advances settles = record { next = next; pending = pending; keeps = keeps; advances = advances; settles = settles }
+
+module _ {D : Type 0} (ops : Operations D) (Member : D → ℕ → Type 0) (sound : AreSound ops Member) (code : List Insn) where
+  -- ---- kept states
+
+  -- every run from a state exits, if it waits above a slot
+  abbrev pub IsGoodAbove : ℕ → Pending D → Type 0
+  IsGoodAbove n p = n < p.slot → AllRunsExit Member code p
+
+  abbrev pub pending_at : ℕ → AbsState D → Pending D
+  pending_at n k = record { slot = n; state = k }
+
+  -- every run from a kept state exits, where that holds of all that wait above its slot
+  abbrev pub IsKept : List (Pending D) → ℕ → AbsState D → Type 0
+  IsKept waits n k = All (IsGoodAbove n) waits → AllRunsExit Member code (pending_at n k)
+
+  abbrev pub AreKept : List (Pending D) → (ℕ → List (AbsState D)) → Type 0
+  AreKept waits kept = (n : ℕ) → All (IsKept waits n) (kept n)
+
+  lies_above : (here : Pending D) (i : Insn) (branch : Branch) (b : AbsState D) (p : Pending D) → LeadsTo code here.slot i branch b p → here.slot < p.slot
+  lies_above here i branch b p leads = branch_rises code here.slot p.slot i branch leads.leads
+
+  next_good : (n : ℕ) (here : Pending D) (i : Insn) (state : Option (AbsState D)) (on : Option (Pending D)) → n ≤ here.slot → IsNext code here.slot i NotTaken state on → IfSome on (IsGoodAbove n) → IfSome on (AllRunsExit Member code)
+  next_good n here i None None le next good = tt
+  next_good n here i None (Some p) le next good = absurd next
+  next_good n here i (Some b) None le next good = tt
+  next_good n here i (Some b) (Some p) le next good = let up = lies_above here i NotTaken b p next in good (omega (arith, le, up))
+
+  left_good : (n : ℕ) (here : Pending D) (i : Insn) (state : Option (AbsState D)) (left : List (Pending D)) → n ≤ here.slot → IsLeft code here.slot i Taken state left → All (IsGoodAbove n) left → All (AllRunsExit Member code) left
+  left_good n here i None left le none good = all_none (AllRunsExit Member code) left none
+  left_good n here i (Some b) left le one good =
+      let up = lies_above here i Taken b one.0 one.1 in
+      let all : All (IsGoodAbove n) (one.0 ∷ []) = subst (All (IsGoodAbove n)) one.2 good in
+      let first : IsGoodAbove n one.0 = all 0 one.0 (omega arith) in
+      subst (All (AllRunsExit Member code)) (sym one.2) (all_one (AllRunsExit Member code) one.0 (first (omega (arith, le, up))))
+
+  -- ---- the walk
+
+  -- the walk after some steps, with the states that wait and those that are kept
+  pub record IsWalking (made : ℕ) (waits : List (Pending D)) (states : ℕ → List (AbsState D)) : Type 0 where
+    pub inside : All (IsInside code) waits
+    pub good : All (AllRunsExit Member code) waits → AllRunsExit Member code first_pending
+    pub reached : ArePrecise ops Member → All (IsReached Member code) waits
+    pub counted : made + counts_from code waits ≤ length (beginnings code)
+    pub kept : AreKept waits states
+
+  pub begins : (pending : List (Pending D)) (states : ℕ → List (AbsState D)) → IsLaidOut code → pending ≡ [] → ((n : ℕ) → states n ≡ []) → IsWalking 0 (pending ++ first_pending ∷ []) states
+  begins pending states laid_out none nothing = record {
+    inside = one (IsInside code) (first_begins code laid_out.exit);
+    good = λ goods. last_of (AllRunsExit Member code) pending first_pending goods;
+    reached = λ precise. one (IsReached Member code) (first_reached ops Member sound code);
+    counted =
+        let zero_pending : counts_from code pending ≡ 0 = ap (counts_from code) none in
+        let all : count_from code (first_pending {D = D}) ≡ length (beginnings code) = ap (λ (k : ℕ). length (beginnings_from code k 0)) (ahead_start code) in
+        omega (arith, zero_pending, all, sum_by_push (count_from code) pending first_pending);
+    kept = λ n. subst (All (IsKept (pending ++ first_pending ∷ []) n)) (sym (nothing n)) (All-nil (IsKept (pending ++ first_pending ∷ []) n));
+  } where
+    one : (P : Pending D → Type 0) → P first_pending → All P (pending ++ first_pending ∷ [])
+    one P h = All-push P pending first_pending (all_none P pending none) h
 
   -- ---- a step
 
-  module _ (code : List Insn) (made : ℕ) (here : Pending D) (old new : List (Pending D)) (on : Option (Pending D)) (laid_out : IsLaidOut code) (walking : IsWalking code made here old) (adv : Advances ops code here old on new) where
+  module _ (made : ℕ) (here : Pending D) (old new : List (Pending D)) (on : Option (Pending D)) (states more : ℕ → List (AbsState D)) (keeps : Bool) (laid_out : IsLaidOut code) (walking : IsWalking made (old ++ here ∷ []) states) (adv : Advances ops code here old on new) (kept_is : (n : ℕ) → more n ≡ kept_with keeps here states n) where
     successors_are : successors_in adv.accepted ≡ successors_of adv.insn
     successors_are = answer_successors (abstract.step ops here.state adv.insn) adv.insn adv.accepted (step_successors ops here.state adv.insn) adv.step_is
 
-    -- a fact of the earlier pending states, and of those after the step, holds of all that are pending
-    all_new : (P : Pending D → Type 0) → All P old → All P adv.left → All P new
-    all_new P olds lefts = subst (All P) (sym adv.new_is) (All-append P old adv.left olds lefts)
+    -- a fact of the earlier pending states, and of those after the step, holds of all that wait
+    all_new : (P : Pending D → Type 0) → All P old → IfSome on P → All P adv.left → All P (waiting on new)
+    all_new P olds next lefts = all_waiting P on new next (subst (All P) (sym adv.new_is) (All-append P old adv.left olds lefts))
 
-    all_old : (P : Pending D → Type 0) → All P new → All P old
-    all_old P all = subst (All P) (take_at old adv.left (length old) refl) (All-take P (length old) (old ++ adv.left) (subst (All P) adv.new_is all))
+    olds_of : (P : Pending D → Type 0) → All P (waiting on new) → All P old
+    olds_of P all = firsts P old adv.left (subst (All P) adv.new_is (of_waiting P on new all).1)
 
-    all_left : (P : Pending D → Type 0) → All P new → All P adv.left
-    all_left P all = subst (All P) (drop_at old adv.left (length old) refl) (All-drop P (length old) (old ++ adv.left) (subst (All P) adv.new_is all))
+    lefts_of : (P : Pending D → Type 0) → All P (waiting on new) → All P adv.left
+    lefts_of P all = lasts P old adv.left (subst (All P) adv.new_is (of_waiting P on new all).1)
 
-    good_first : IfSome on (AllRunsExit Member code) → All (AllRunsExit Member code) new → AllRunsExit Member code first_pending
-    good_first good goods =
-        walking.good (all_old (AllRunsExit Member code) goods)
-        (good_before ops Member sound code laid_out.jumps here adv.insn adv.begins adv.fits adv.accepted adv.step_is on adv.left adv.goes_on good (all_left (AllRunsExit Member code) goods))
+    -- the state at hand is good, where what it leaves is that lies above a slot not above its own
+    good_here : (n : ℕ) → n ≤ here.slot → All (IsGoodAbove n) (waiting on new) → AllRunsExit Member code here
+    good_here n le all =
+        good_before ops Member sound code laid_out.jumps here adv.insn adv.begins adv.fits adv.accepted adv.step_is on adv.left adv.goes_on
+        (next_good n here adv.insn (state_after adv.accepted NotTaken) on le adv.goes_on.0 (of_waiting (IsGoodAbove n) on new all).0)
+        (left_good n here adv.insn (state_after adv.accepted Taken) adv.left le adv.goes_on.1 (lefts_of (IsGoodAbove n) all))
 
-    pub goes_on : (p : Pending D) (pending : List (Pending D)) → Picks on new (Some p) pending → IsWalking code (made + 1) p pending
-    goes_on p pending picks =
+    good_first : All (AllRunsExit Member code) (waiting on new) → AllRunsExit Member code first_pending
+    good_first goods =
+        walking.good (All-push (AllRunsExit Member code) old here (olds_of (AllRunsExit Member code) goods)
+        (good_here here.slot (omega arith) (All-weaker (AllRunsExit Member code) (IsGoodAbove here.slot) (λ p h high. h) (waiting on new) goods)))
+
+    -- a kept state stays one over a step
+    kept_after : (n : ℕ) (k : AbsState D) → IsKept (old ++ here ∷ []) n k → IsKept (waiting on new) n k
+    kept_after n k kept goods = kept (All-push (IsGoodAbove n) old here (olds_of (IsGoodAbove n) goods) (λ high. good_here n (omega (arith, high)) goods))
+
+    -- the state itself may be kept with its step
+    kept_itself : (n : ℕ) → n ≡ here.slot → IsKept (waiting on new) n here.state
+    kept_itself n same goods = subst (λ (m : ℕ). AllRunsExit Member code (pending_at m here.state)) (sym same) (good_here n (omega (arith, same)) goods)
+
+    olds_kept : (n : ℕ) → All (IsKept (waiting on new) n) (states n)
+    olds_kept n = All-weaker (IsKept (old ++ here ∷ []) n) (IsKept (waiting on new) n) (kept_after n) (states n) (walking.kept n)
+
+    all_kept : (n : ℕ) (keep : Bool) → (keep ≡ true → n ≡ here.slot) → All (IsKept (waiting on new) n) (states_with keep here.state (states n))
+    all_kept n true same = All-push (IsKept (waiting on new) n) (states n) here.state (olds_kept n) (kept_itself n (same refl))
+    all_kept n false same = olds_kept n
+
+    pub stepped : IsWalking (made + 1) (waiting on new) more
+    stepped =
         let inside = goes_inside code here laid_out adv.insn adv.begins adv.accepted successors_are on adv.left adv.goes_on in
-        let insides = picked (IsInside code) on new p pending picks inside.0 (all_new (IsInside code) walking.inside_pending inside.1) in
-        let reacheds : ArePrecise ops Member → IsReached Member code p × All (IsReached Member code) pending =
-        λ precise.
-        let reached = reached_after ops Member sound precise code laid_out.jumps here adv.insn adv.begins adv.fits adv.accepted adv.step_is (walking.reached precise) on adv.left adv.goes_on in
-        picked (IsReached Member code) on new p pending picks reached.0 (all_new (IsReached Member code) (walking.reached_pending precise) reached.1) in
         let counts = counts_before code here adv.insn adv.begins adv.accepted successors_are on adv.left adv.goes_on in
         let sums : counts_from code new ≡ counts_from code old + counts_from code adv.left = ap (counts_from code) adv.new_is ∙ sum_by-append (count_from code) old adv.left in
         record {
-          inside = insides.0;
-          inside_pending = insides.1;
-          good = λ goods good. let back = unpicked (AllRunsExit Member code) on new p pending picks good goods in good_first back.0 back.1;
-          reached = λ precise. (reacheds precise).0;
-          reached_pending = λ precise. (reacheds precise).1;
-          counted = omega (arith, walking.counted, counts, sums, picked_count code on new p pending picks);
+          inside = all_new (IsInside code) (firsts (IsInside code) old (here ∷ []) walking.inside) inside.0 inside.1;
+          good = good_first;
+          reached = λ precise.
+              let reached = reached_after ops Member sound precise code laid_out.jumps here adv.insn adv.begins adv.fits adv.accepted adv.step_is (last_of (IsReached Member code) old here (walking.reached precise)) on adv.left adv.goes_on in
+              all_new (IsReached Member code) (firsts (IsReached Member code) old (here ∷ []) (walking.reached precise)) reached.0 reached.1;
+          counted = omega (arith, walking.counted, counts, sums, waiting_count code on new, sum_by_push (count_from code) old here);
+          kept = λ n. subst (All (IsKept (waiting on new) n)) (sym (kept_is n)) (all_kept n (keeps && (n == here.slot)) (same_slots keeps n here.slot));
         }
 
-    -- where nothing is left to follow, every run from the first pending state exits
-    pub ends : (pending : List (Pending D)) → Picks on new None pending → AllRunsExit Member code first_pending
-    ends pending picks = let none = nothing_left (AllRunsExit Member code) on new pending picks in good_first none.0 none.1
+  -- ---- a skip
 
+  module _ (made : ℕ) (states : ℕ → List (AbsState D)) (rest : List (Pending D)) (p : Pending D) (covered : IsCovered ops Member states p) (walking : IsWalking made (rest ++ p ∷ []) states) where
+    -- a skipped state is good, where all that wait above its slot are
+    skipped : All (IsGoodAbove p.slot) rest → AllRunsExit Member code p
+    skipped goods w s real at short member =
+        let any = covered.1 in
+        let kept : IsKept (rest ++ p ∷ []) p.slot any.1 = subst (IsKept (rest ++ p ∷ []) p.slot) any.3 (walking.kept p.slot any.0 any.1 any.2) in
+        kept (All-push (IsGoodAbove p.slot) rest p goods (λ high. absurd (omega (arith, high)))) w s real at short (any.4 s member)
+
+    above : (n : ℕ) → n ≤ p.slot → All (IsGoodAbove n) rest → All (IsGoodAbove p.slot) rest
+    above n le goods = All-weaker (IsGoodAbove n) (IsGoodAbove p.slot) (λ q good high. good (omega (arith, le, high))) rest goods
+
+    pub skips_one : IsWalking made rest states
+    skips_one = record {
+      inside = firsts (IsInside code) rest (p ∷ []) walking.inside;
+      good = λ goods. walking.good (All-push (AllRunsExit Member code) rest p goods (skipped (All-weaker (AllRunsExit Member code) (IsGoodAbove p.slot) (λ q h high. h) rest goods)));
+      reached = λ precise. firsts (IsReached Member code) rest (p ∷ []) (walking.reached precise);
+      counted = omega (arith, walking.counted, sum_by_push (count_from code) rest p);
+      kept = λ n. All-weaker (IsKept (rest ++ p ∷ []) n) (IsKept rest n) (λ k kept goods. kept (All-push (IsGoodAbove n) rest p goods (λ high. skipped (above n (omega (arith, high)) goods)))) (states n) (walking.kept n);
+    }
+
+  skips_all : (made : ℕ) (states : ℕ → List (AbsState D)) (rest skipped : List (Pending D)) → All (IsCovered ops Member states) skipped → IsWalking made (rest ++ skipped) states → IsWalking made rest states
+  skips_all made states rest [] covered walking = subst (λ (xs : List (Pending D)). IsWalking made xs states) (append-nil rest) walking
+  skips_all made states rest (p ∷ skipped) covered walking =
+      skips_one made states rest p (All-head (IsCovered ops Member states) p skipped covered)
+      (skips_all made states (rest ++ p ∷ []) skipped (All-tail (IsCovered ops Member states) p skipped covered) (subst (λ (xs : List (Pending D)). IsWalking made xs states) (sym (append_assoc rest (p ∷ []) skipped)) walking))
+
+  pub settles : (made : ℕ) (states : ℕ → List (AbsState D)) (all rest : List (Pending D)) → Skips ops Member states all rest → IsWalking made all states → IsWalking made rest states
+  settles made states all rest skips walking = skips_all made states rest skips.skipped skips.covered (subst (λ (xs : List (Pending D)). IsWalking made xs states) skips.parts walking)
+
+  pub made_step : (made : ℕ) (here : Pending D) (old : List (Pending D)) (kept : Kept D) (picked : Option (Pending D)) (new : List (Pending D)) (more : Kept D) → IsLaidOut code → IsWalking made (old ++ here ∷ []) (kept_at kept) → MakesStep ops Member code here old kept picked new more → IsWalking (made + 1) (waiting picked new) (kept_at more)
+  made_step made here old kept picked new more laid_out walking step =
+      settles (made + 1) (kept_at more) (waiting step.next step.pending) (waiting picked new) step.settles.skips
+      (stepped made here old step.pending step.next (kept_at kept) (kept_at more) (keeps_at kept here.slot) laid_out walking step.advances step.keeps.states)
+
+  -- where nothing is left to follow, every run from the first pending state exits
+  pub finished : (made : ℕ) (here : Pending D) (old : List (Pending D)) (kept : Kept D) (new : List (Pending D)) (more : Kept D) → IsLaidOut code → IsWalking made (old ++ here ∷ []) (kept_at kept) → MakesStep ops Member code here old kept None new more → AllRunsExit Member code first_pending
+  finished made here old kept new more laid_out walking step = (made_step made here old kept None new more laid_out walking step).good (all_none (AllRunsExit Member code) new step.settles.ended)
+
+module _ {D : Type 0} (ops : Operations D) (Member : D → ℕ → Type 0) (sound : AreSound ops Member) where
   -- ---- the ends of the walk
 
   -- where every run from the first pending state exits, the code is safe
@@ -186,16 +315,16 @@ module _ {D : Type 0} (ops : Operations D) (Member : D → ℕ → Type 0) (soun
       (exits.0, ap (λ (k : ℕ). (run w code k (start datagram)).ending) (sym (ahead_start code)) ∙ exits.1)
 
   -- a refused step may be refused
-  pub real : (code : List Insn) (budget made : ℕ) (here : Pending D) (pending : List (Pending D)) (e : Refusal) → IsLaidOut code → IsWalking code made here pending → IsStepRefusal ops code here e → MayRefuseOver ops Member code budget e
-  real code budget made here pending (refusal.Stuck reason slot) laid_out walking refused =
+  pub real : (code : List Insn) (budget made : ℕ) (here : Pending D) (pending : List (Pending D)) (states : ℕ → List (AbsState D)) (e : Refusal) → IsLaidOut code → IsWalking ops Member sound code made (pending ++ here ∷ []) states → IsStepRefusal ops code here e → MayRefuseOver ops Member code budget e
+  real code budget made here pending states (refusal.Stuck reason slot) laid_out walking refused =
       inr (
         laid_out,
         fault_reason (abstract.step ops here.state refused.1.insn) reason (step_reasons ops here.state refused.1.insn) refused.1.step_is,
-        λ precise. subst (IsReal code reason) (sym refused.0) (refusal_is_real ops Member sound precise code here reason (walking.reached precise) refused.1),
+        λ precise. subst (IsReal code reason) (sym refused.0) (refusal_is_real ops Member sound precise code here reason (last_of (IsReached Member code) pending here (walking.reached precise)) refused.1),
       )
-  real code budget made here pending (refusal.Budget slot) laid_out walking refused = absurd refused
-  real code budget made here pending (refusal.Memory slot) laid_out walking refused = laid_out
+  real code budget made here pending states (refusal.Budget slot) laid_out walking refused = absurd refused
+  real code budget made here pending states (refusal.Memory slot) laid_out walking refused = (laid_out, subst (StartsAt code) (sym refused) (last_of (IsInside code) pending here walking.inside))
 
   -- after the budget's steps there is a beginning of a path more than they
-  pub more_paths : (code : List Insn) (made : ℕ) (here : Pending D) (pending : List (Pending D)) → IsWalking code made here pending → made < length (beginnings code)
-  more_paths code made here pending walking = omega (arith, walking.counted, some_begins code here walking.inside)
+  pub more_paths : (code : List Insn) (made : ℕ) (here : Pending D) (pending : List (Pending D)) (states : ℕ → List (AbsState D)) → IsWalking ops Member sound code made (pending ++ here ∷ []) states → made < length (beginnings code)
+  more_paths code made here pending states walking = omega (arith, walking.counted, sum_by_push (count_from code) pending here, some_begins code here (last_of (IsInside code) pending here walking.inside))

@@ -1,5 +1,8 @@
 -- Internal. The modules of this folder.
 pub mod Layout
+pub mod Goals
+pub mod Keeping
 pub mod Walk
+pub mod Walks
 pub mod Refusing
 pub mod PendingStates

@@ -1,4 +1,4 @@
--- Internal. What the walk keeps of each pending state.
+-- Internal. What the proofs keep of each pending state.
 use Rattle.std.specs.Prelude.{◌≡◌, ℕ, ◌≤◌, ◌<◌, pos, ◌≤ℤ◌, ℤ, List, length, replicate, sum_by, All}
 use Rattle.insn.specs.Encoding.{slot_count}
 use Rattle.insn.specs.declared.decoding.TheConstants.{MAX_SLOTS}

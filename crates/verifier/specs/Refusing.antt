@@ -24,11 +24,11 @@ abbrev pub HasNoSums : List Insn → Type 0
 HasNoSums code = (slot : ℕ) (i : Insn) → fetch code slot ≡ Begins i → IsRegisterSum i → ⊥
 
 -- What may be refused of code: the first fault of its layout; a step, where that refusal is real; the step at an
--- instruction, where the code has more beginnings of paths than the budget; and a failed allocation.
+-- instruction, where the code has more beginnings of paths than the budget; and a failed allocation, at an instruction.
 abbrev pub MayRefuseWhere : (Reason → ℕ → Type 0) → List Insn → ℕ → Refusal → Type 0
 MayRefuseWhere Real code budget (refusal.Stuck reason slot) = IsLayoutFault code reason slot ⊎ (IsLaidOut code × IsStepReason reason × Real reason slot)
 MayRefuseWhere Real code budget (refusal.Budget slot) = IsLaidOut code × StartsAt code slot × (budget < length (beginnings code))
-MayRefuseWhere Real code budget (refusal.Memory slot) = IsLaidOut code
+MayRefuseWhere Real code budget (refusal.Memory slot) = IsLaidOut code × StartsAt code slot
 
 -- A refusal of a step is real where a loose run is stuck there for that reason. A refusal that speaks of the places of
 -- pointers, by the reason and the instruction at that slot, is real in code without sums of registers.

@@ -1,5 +1,5 @@
--- Internal. The walk over all paths: how it goes on from a step, and the refusals of a step.
-use Rattle.std.specs.Prelude.{◌≡◌, ℕ, List, [], ◌∷◌, ◌++◌, Option, Some, None, Ok, Err}
+-- Interface. One step of the walk over all paths: how it goes on, and its refusals.
+use Rattle.std.specs.Prelude.{◌≡◌, ℕ, true, false, List, [], ◌∷◌, ◌++◌, Option, Some, None, Ok, Err, IfSome, IfNone, All}
 use Rattle.insn.specs.Encoding.{Fits}
 use Rattle.insn.specs.declared.instruction.Insn.{Insn}
 use Rattle.semantics.specs.Slots.{fetch}
@@ -9,11 +9,14 @@ use Rattle.semantics.specs.declared.fetching.Fetched.TheVariants.{Begins}
 use Rattle.semantics.specs.declared.fetching.Branch.{Branch}
 use Rattle.semantics.specs.declared.fetching.Branch.TheVariants.{NotTaken, Taken}
 use Rattle.interval.specs.Domains.{Operations}
+use Rattle.absstate.specs.AbstractStates.{first_state}
 use Rattle.absstate.specs.AbstractSteps.{step}
 use Rattle.absstate.specs.MemberSteps.{state_after}
 use Rattle.absstate.specs.declared.abstract_state.AbsState.{AbsState}
 use Rattle.absstate.specs.declared.abstract_step.Next.{Next}
+use Rattle.verifier.specs.Keeping.{kept_at, is_covered, HasCover, Keeps}
 use Rattle.verifier.specs.Layout.{StartsAt}
+use Rattle.verifier.specs.declared.kept.Kept.{Kept}
 use Rattle.verifier.specs.declared.refusal.Refusal.{Refusal}
 use Rattle.verifier.specs.declared.refusal.Refusal.TheVariants as refusal
 use Rattle.verifier.specs.declared.walk.Pending.{Pending}
@@ -82,10 +85,37 @@ IsOutOfMemory here (refusal.Memory slot) = slot ≡ here
 abbrev pub IsStepRefusal : {D : Type 0} → Operations D → List Insn → Pending D → Refusal → Type 0
 IsStepRefusal ops code here (refusal.Stuck reason slot) = (slot ≡ here.slot) × IsRefusedAt ops code here reason
 IsStepRefusal ops code here (refusal.Budget slot) = ⊥
-IsStepRefusal ops code here (refusal.Memory slot) = Unit {0}
+IsStepRefusal ops code here (refusal.Memory slot) = slot ≡ here.slot
 
--- the state that is followed: the next one of the path, or after its exit the last one left pending
-abbrev pub Picks : {D : Type 0} → Option (Pending D) → List (Pending D) → Option (Pending D) → List (Pending D) → Type 0
-Picks (Some p) old picked new = (picked ≡ Some p) × (new ≡ old)
-Picks None old (Some p) new = old ≡ new ++ p ∷ []
-Picks None old None new = (old ≡ []) × (new ≡ [])
+-- the state from which the walk starts
+abbrev pub first_pending : {D : Type 0} → Pending D
+first_pending = record { slot = 0; state = first_state }
+
+-- the states from which paths are still to be followed, the next one last
+abbrev pub waiting : {D : Type 0} → Option (Pending D) → List (Pending D) → List (Pending D)
+waiting None pending = pending
+waiting (Some p) pending = pending ++ p ∷ []
+
+-- a kept state of its slot covers a state, and so each member of the one is a member of the other
+abbrev pub IsCovered : {D : Type 0} → Operations D → (D → ℕ → Type 0) → (ℕ → List (AbsState D)) → Pending D → Type 0
+IsCovered ops Member kept p = (is_covered ops kept p ≡ true) × HasCover Member (kept p.slot) p.state
+
+-- the last ones of some states are skipped
+pub record Skips {D : Type 0} (ops : Operations D) (Member : D → ℕ → Type 0) (kept : ℕ → List (AbsState D)) (all rest : List (Pending D)) : Type 0 where
+  pub skipped : List (Pending D)
+  pub covered : All (IsCovered ops Member kept) skipped
+  pub parts : all ≡ rest ++ skipped
+
+-- the last of these states is followed that no kept one covers, and those after it are skipped
+pub record Settles {D : Type 0} (ops : Operations D) (Member : D → ℕ → Type 0) (kept : ℕ → List (AbsState D)) (on : Option (Pending D)) (old : List (Pending D)) (picked : Option (Pending D)) (new : List (Pending D)) : Type 0 where
+  pub skips : Skips ops Member kept (waiting on old) (waiting picked new)
+  pub uncovered : IfSome picked (λ p. is_covered ops kept p ≡ false)
+  pub ended : IfNone picked (new ≡ [])
+
+-- one step of the walk: the state at hand is kept, its step is made, and the walk goes on so
+pub record MakesStep {D : Type 0} (ops : Operations D) (Member : D → ℕ → Type 0) (code : List Insn) (here : Pending D) (old : List (Pending D)) (kept : Kept D) (picked : Option (Pending D)) (new : List (Pending D)) (more : Kept D) : Type 0 where
+  pub next : Option (Pending D)
+  pub pending : List (Pending D)
+  pub keeps : Keeps here kept more
+  pub advances : Advances ops code here old next pending
+  pub settles : Settles ops Member (kept_at more) next pending picked new

@@ -11,7 +11,7 @@ use insn::Insn;
 use semantics::{Fetched, Position, Reason, fetch, last, target};
 
 /// Returns the distance of a jump, `None` for an instruction that is no jump.
-fn distance(insn: Insn) -> Option<i32>
+pub fn distance(insn: Insn) -> Option<i32>
     ensures { result ≡ distance_of insn }
 {
     match insn {

@@ -1,6 +1,7 @@
 //! The walk over all paths of a program, which accepts it or names the refusal.
 #![tactic(auto)]
 
+mod kept;
 mod layout;
 mod refusal;
 mod walk;

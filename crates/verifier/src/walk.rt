@@ -1,6 +1,7 @@
-//! The walk: every path is followed from the first slot, the branch that is not taken first.
+//! The walk: every path is followed from the first slot, the branch that is not taken first. A state that a kept one of its
+//! slot covers is skipped.
 
-ghost use Rattle.std.specs.Prelude.{◌≡◌, ◌≤◌, ◌<◌, Ok, IfOk, IfErr, OnOk, IsOk};
+ghost use Rattle.std.specs.Prelude.{◌≡◌, ◌≤◌, ◌<◌, None, Ok, IfOk, IfErr, OnOk, IsOk};
 ghost use Rattle.std.specs.Option.{option_map};
 ghost use Rattle.insn.specs.Encoding.{slot_count};
 ghost use Rattle.insn.specs.declared.decoding.TheConstants.{MAX_SLOTS};
@@ -9,9 +10,13 @@ ghost use Rattle.semantics.specs.Flow.{branch_slot};
 ghost use Rattle.absstate.specs.Changes.{changed};
 ghost use Rattle.verifier.specs.Layout.{IsLaidOut};
 ghost use Rattle.verifier.specs.Refusing.{MayRefuseOver, IsVerdict, IsVerdictOver, CountsSteps};
-ghost use Rattle.verifier.specs.Walk.{IsStepRefusal, IsInside, IsNext, IsOutOfMemory, Leaves, Advances, Picks, followed};
+ghost use Rattle.verifier.specs.Keeping.{kept_at};
+ghost use Rattle.verifier.specs.Walk.{IsStepRefusal, IsInside, IsNext, IsOutOfMemory, Leaves, Advances, Settles, MakesStep, followed};
+ghost use Rattle.verifier.specs.Walks.{EndsWalk};
+ghost use Rattle.interval.specs.Intervals.{IsMember, interval_ops};
 ghost use Rattle.semantics.specs.declared.fetching.Branch.TheVariants.{NotTaken, Taken};
 
+use crate::kept::Kept;
 use crate::layout::check_layout;
 use crate::refusal::Refusal;
 use absstate::{AbsState, Change, Transition};
@@ -190,21 +195,70 @@ fn advance<D: Domain>(
     }
 }
 
-/// Goes on to the state to follow next: that of the current path, or, where it has ended, the last pending one. Where none
-/// is pending, all paths have ended.
-fn follow<D: Copy>(path: Path, here: &mut Pending<D>, pending: &mut Vec<Pending<D>>) -> Path
-    ensures { Picks (followed path here.old) pending.old.items (followed result here.new) pending.new.items }
+/// Goes on to the last pending state that no kept one of its slot covers, and skips those after it. Where there is none,
+/// all paths have ended.
+fn pop_uncovered<D: Domain>(
+    kept: &Kept<D>,
+    here: &mut Pending<D>,
+    pending: &mut Vec<Pending<D>>,
+) -> Path
+    ensures { Settles D.ops D.Member (kept_at kept.now) None pending.old.items
+        (followed result here.new) pending.new.items }
 {
-    if let Path::Continues = path {
-        return path;
-    }
-    match pending.pop() {
-        Some(last) => {
+    while let Some(last) = pending.pop() {
+        if !kept.covers(&last) {
             *here = last;
+            return Path::Continues;
+        }
+    }
+    Path::Ended
+}
+
+/// Goes on to the state to follow next: that of the current path, or, where it has ended, the last pending one. A state that
+/// a kept one of its slot covers is skipped. Where no other is left, all paths have ended.
+fn settle<D: Domain>(
+    path: Path,
+    kept: &Kept<D>,
+    here: &mut Pending<D>,
+    pending: &mut Vec<Pending<D>>,
+) -> Path
+    ensures { Settles D.ops D.Member (kept_at kept.now) (followed path here.old) pending.old.items
+        (followed result here.new) pending.new.items }
+{
+    match path {
+        Path::Ended => pop_uncovered(kept, here, pending),
+        Path::Continues => {
+            if kept.covers(here) {
+                return pop_uncovered(kept, here, pending);
+            }
             Path::Continues
         }
-        None => Path::Ended,
     }
+}
+
+/// Makes one step of the walk: keeps the state at hand, if some jump leads to its slot, makes its step, and goes on to the
+/// state to follow next.
+///
+/// # Errors
+/// The refusal of the step; V19 where memory runs out for a state that is kept or left pending.
+fn make_step<D: Domain>(
+    program: &Program,
+    kept: &mut Kept<D>,
+    here: &mut Pending<D>,
+    pending: &mut Vec<Pending<D>>,
+) -> Result<Path, Refusal>
+    requires few { slot_count program.now ≤ MAX_SLOTS }
+    requires laid_out { IsLaidOut program.now }
+    requires inside { IsInside program.now here.old }
+    ensures made { IfOk result (λ path. MakesStep D.ops D.Member program.now here.old pending.old.items kept.old
+        (followed path here.new) pending.new.items kept.new) }
+    ensures refused { IfErr result (IsStepRefusal D.ops program.now here.old) }
+{
+    let Ok(()) = kept.keep(here) else {
+        return Err(Refusal::Memory { slot: here.slot });
+    };
+    let path = advance(program, here, pending)?;
+    Ok(settle(path, kept, here, pending))
 }
 
 /// Follows every path from the first slot on, in at most `budget` steps.
@@ -222,7 +276,11 @@ fn walk<D: Domain, L: Ledger>(
     ensures safe { OnOk result (IsSafe program.now) }
     ensures refused { IfErr result (MayRefuseOver D.ops D.Member program.now budget) }
     ensures counts { CountsSteps budget steps.old steps.new result }
+    ensures walked { EndsWalk D.ops D.Member program.now steps.old steps.new result }
 {
+    let Ok(mut kept) = Kept::new(alloc, program) else {
+        return Err(Refusal::Memory { slot: 0 });
+    };
     let mut pending = Vec::new(alloc);
     let mut here = Pending::<D> {
         slot: 0,
@@ -230,8 +288,7 @@ fn walk<D: Domain, L: Ledger>(
     };
     for _ in 0..budget {
         steps.tick();
-        let path = advance(program, &mut here, &mut pending)?;
-        match follow(path, &mut here, &mut pending) {
+        match make_step(program, &mut kept, &mut here, &mut pending)? {
             Path::Continues => {}
             Path::Ended => return Ok(()),
         }
@@ -240,7 +297,8 @@ fn walk<D: Domain, L: Ledger>(
 }
 
 /// Verifies a program, with what a numeric domain knows of its numbers: accepts it if no step of it, on any path, can be
-/// stuck. `steps` counts one for each abstract step, of which at most `budget` are made.
+/// stuck. `steps` counts one for each abstract step, of which at most `budget` are made. A state that one kept at its slot
+/// covers takes no step: states are kept at the slots that jumps lead to.
 /// See docs/DECISIONS.md, "Refusals need a precise domain".
 ///
 /// # Errors
@@ -255,21 +313,26 @@ pub fn verify_with<D: Domain, L: Ledger>(
     ensures code { IfOk result (λ v. v ≡ code.now) }
     ensures verdict { IsVerdictOver D.ops D.Member code.now budget result }
     ensures counts { CountsSteps budget steps.old steps.new result }
+    ensures walked { EndsWalk D.ops D.Member code.now steps.old steps.new result }
 {
     check_layout(code)?;
-    let program = Program::new(alloc, code).map_err(|_| Refusal::Memory { slot: 0 })?;
+    let Ok(program) = Program::new(alloc, code) else {
+        return Err(Refusal::Memory { slot: 0 });
+    };
     walk::<D, L>(alloc, &program, budget, steps)?;
     Ok(Verified { program })
 }
 
 /// Verifies a program with intervals: accepts it if no step of it, on any path, can be stuck. `steps` counts one for each
-/// abstract step, of which at most `budget` are made.
+/// abstract step, of which at most `budget` are made. A state that one kept at its slot covers takes no step: states are kept
+/// at the slots that jumps lead to.
 ///
 /// # Errors
 /// A fault of the layout: the first faulty jump (V1 to V3), or a last instruction that is no exit (V4). Else the
 /// first refusal on the paths (V5 to V16, V18), each a step at which a loose run is stuck; V17 at the instruction
-/// whose step would pass the budget; V19 where memory runs out. In code with sums of registers, V10 and V11 at a sum with
-/// a constant may come where no run is stuck: see docs/DECISIONS.md, "Refusals are stuck runs".
+/// whose step would pass the budget; V19 where memory runs out, at the instruction in hand, or at slot 0 before the first
+/// step. In code with sums of registers, V10 and V11 at a sum with a constant may come where no run is stuck: see
+/// docs/DECISIONS.md, "Refusals are stuck runs".
 pub fn verify<L: Ledger>(
     alloc: Global,
     code: &[Insn],
@@ -280,6 +343,7 @@ pub fn verify<L: Ledger>(
     ensures code { IfOk result (λ v. v ≡ code.now) }
     ensures verdict { IsVerdict code.now budget result }
     ensures counts { CountsSteps budget steps.old steps.new result }
+    ensures walked { EndsWalk interval_ops IsMember code.now steps.old steps.new result }
 {
     verify_with::<Interval, L>(alloc, code, budget, steps)
 }

@@ -15,7 +15,7 @@ struct Row {
     interval: (usize, usize),
 }
 
-static ROWS: [Row; 7] = [
+static ROWS: [Row; 12] = [
     // slots 0 to 5, then 6 and 7, and 7 again for the taken branch
     Row {
         name: "both branches of a comparison of pointers",
@@ -24,12 +24,12 @@ static ROWS: [Row; 7] = [
         known: (9, 7),
         interval: (9, 7),
     },
-    // slots 0 to 4, and 4 again
+    // slots 0 to 4: a byte that is 4 is covered at slot 4 by one of which less is known
     Row {
         name: "both branches lead to the same slot",
         text: "ldxdw r2, [r1+0]\nldxb r5, [r2-1]\nmov r0, 0\njeq r5, 4, +0\nexit",
-        known: (6, 4),
-        interval: (6, 4),
+        known: (5, 4),
+        interval: (5, 4),
     },
     // a dead branch counts no step: slots 0 to 3
     Row {
@@ -59,13 +59,60 @@ static ROWS: [Row; 7] = [
         known: (7, 6),
         interval: (5, 6),
     },
-    // slots 0 to 4, and 6 for each taken branch; 5 and 6 before these where it isn't known
+    // slots 0 to 4, and 6 for each taken branch. Where it isn't known: slots 5 and 6 before these, and the second of them is
+    // covered at slot 6 by the first
     Row {
         name: "a byte that isn't above 10 is below 11",
         text: "ldxdw r2, [r1+0]\nldxb r5, [r2-1]\nmov r0, 0\njgt r5, 10, +2\njlt r5, 11, +1\n\
              mov r0, 1\nexit",
-        known: (9, 6),
+        known: (8, 6),
         interval: (7, 6),
+    },
+    // slots 0 to 62, and a covered state at the slot after each `mov`
+    Row {
+        name: "thirty conditional moves",
+        text: "ldxdw r2, [r1+16]\nmov r0, 0\n\
+             jset r2, 1, +1\nmov r0, 0\njset r2, 1, +1\nmov r0, 0\njset r2, 1, +1\nmov r0, 0\n\
+             jset r2, 1, +1\nmov r0, 0\njset r2, 1, +1\nmov r0, 0\njset r2, 1, +1\nmov r0, 0\n\
+             jset r2, 1, +1\nmov r0, 0\njset r2, 1, +1\nmov r0, 0\njset r2, 1, +1\nmov r0, 0\n\
+             jset r2, 1, +1\nmov r0, 0\njset r2, 1, +1\nmov r0, 0\njset r2, 1, +1\nmov r0, 0\n\
+             jset r2, 1, +1\nmov r0, 0\njset r2, 1, +1\nmov r0, 0\njset r2, 1, +1\nmov r0, 0\n\
+             jset r2, 1, +1\nmov r0, 0\njset r2, 1, +1\nmov r0, 0\njset r2, 1, +1\nmov r0, 0\n\
+             jset r2, 1, +1\nmov r0, 0\njset r2, 1, +1\nmov r0, 0\njset r2, 1, +1\nmov r0, 0\n\
+             jset r2, 1, +1\nmov r0, 0\njset r2, 1, +1\nmov r0, 0\njset r2, 1, +1\nmov r0, 0\n\
+             jset r2, 1, +1\nmov r0, 0\njset r2, 1, +1\nmov r0, 0\njset r2, 1, +1\nmov r0, 0\n\
+             jset r2, 1, +1\nmov r0, 0\njset r2, 1, +1\nmov r0, 0\njset r2, 1, +1\nmov r0, 0\n\
+             exit",
+        known: (63, 62),
+        interval: (63, 62),
+    },
+    // slots 0 to 4; and 4 again where a number above 10 isn't covered by one up to 10
+    Row {
+        name: "a comparison that is passed by other numbers",
+        text: "ldxdw r2, [r1+16]\nmov r0, 0\njgt r2, 10, +1\nmov r0, 0\nexit",
+        known: (5, 4),
+        interval: (6, 4),
+    },
+    // slots 0 to 4
+    Row {
+        name: "a comparison of which no bound is known",
+        text: "ldxdw r2, [r1+16]\nmov r0, 0\njset r2, 1, +1\nmov r0, 0\nexit",
+        known: (5, 4),
+        interval: (5, 4),
+    },
+    // slots 0 to 4, and 4 again: the kept state has bytes of the stack set that the second one has not
+    Row {
+        name: "bytes of the stack are set on the first path only",
+        text: "ldxdw r2, [r1+16]\nmov r0, 0\njset r2, 1, +1\nstdw [r10-8], 0\nexit",
+        known: (6, 4),
+        interval: (6, 4),
+    },
+    // slots 0 to 3, 5, and 4: at slot 5 the second state has more bytes of the stack set than the kept one
+    Row {
+        name: "bytes of the stack are set on the second path only",
+        text: "ldxdw r2, [r1+16]\nmov r0, 0\njset r2, 1, +1\nja +1\nstdw [r10-8], 0\nexit",
+        known: (6, 4),
+        interval: (6, 4),
     },
 ];
 

@@ -7,6 +7,7 @@ ghost use Rattle.insn.specs.declared.decoding.TheConstants.{MAX_SLOTS};
 mod anchors;
 mod branches;
 mod calls;
+mod kept;
 mod layout;
 mod pointers;
 mod refined;
@@ -103,5 +104,6 @@ fn programs_are_accepted_or_refused(rt: HostRuntime) -> Result<(), Fail> {
     check_rows(&rt, "pointers", pointers::ROWS.as_slice())?;
     check_rows(&rt, "anchors", anchors::ROWS.as_slice())?;
     check_rows(&rt, "stores", stores::ROWS.as_slice())?;
-    check_rows(&rt, "calls", calls::ROWS.as_slice())
+    check_rows(&rt, "calls", calls::ROWS.as_slice())?;
+    check_rows(&rt, "kept", kept::ROWS.as_slice())
 }

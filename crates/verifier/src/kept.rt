@@ -1,0 +1,158 @@
+//! The states that the walk keeps, at the slots that jumps lead to.
+
+ghost use Rattle.std.specs.Prelude.{◌≡◌, ◌≤◌, ◌<◌, ℕ, true, None, length, slice_index_or, OnOk, IfOk, is_some};
+ghost use Rattle.std.specs.List.{list_any};
+ghost use Rattle.insn.specs.Encoding.{slot_count};
+ghost use Rattle.insn.specs.declared.decoding.TheConstants.{MAX_SLOTS};
+ghost use Rattle.absstate.specs.Covers.{covers};
+ghost use Rattle.verifier.specs.Goals.{goal_at};
+ghost use Rattle.verifier.specs.Keeping.{states_of, states_with, kept_at, is_covered, HasCover, KeepsNothing, KeepsAtGoals, MarksGoal, Keeps};
+
+use crate::layout::distance;
+use crate::walk::Pending;
+use absstate::AbsState;
+use insn::MAX_SLOTS;
+use interval::Domain;
+use semantics::{Fetched, Program};
+use std::alloc::{AllocError, Global};
+
+/// The states that the walk has kept, by slot: `None` at each slot that no jump leads to. The list ends at the last slot that
+/// one does.
+#[derive(Drop)]
+pub struct Kept<D> {
+    by_slot: Vec<Option<Vec<AbsState<D>>>>,
+}
+
+/// Returns whether one of some states covers a state.
+fn one_covers<D: Domain>(states: &[AbsState<D>], state: &AbsState<D>) -> bool
+    ensures value { result ≡ list_any (λ kept. covers D.ops kept state.now) states.now }
+    ensures members { result ≡ true → HasCover D.Member states.now state.now }
+{
+    for kept in states {
+        if kept.covers(state) {
+            return true;
+        }
+    }
+    false
+}
+
+/// Appends a state to those that are kept at a slot, where states are.
+///
+/// # Errors
+/// Where memory runs out.
+fn push_state<D: Copy>(
+    states: &mut Option<Vec<AbsState<D>>>,
+    state: AbsState<D>,
+) -> Result<(), AllocError>
+    ensures slots { OnOk result (is_some states.new ≡ is_some states.old) }
+    ensures states { OnOk result (states_of states.new ≡ states_with (is_some states.old) state (states_of states.old)) }
+{
+    if let Some(states) = states {
+        if states.is_empty() {
+            states.reserve_exact(1)?;
+        }
+        states.push(state)?;
+    }
+    Ok(())
+}
+
+/// Returns the slot that the jump at a slot leads to, `None` where no jump is.
+fn goal_at(program: &Program, slot: usize) -> Option<usize>
+    requires { slot < MAX_SLOTS }
+    ensures { result ≡ goal_at program.now slot }
+{
+    let Fetched::Begins(insn) = program.fetch(slot) else {
+        return None;
+    };
+    match distance(insn) {
+        None => None,
+        Some(offset) => program.target(slot, offset).ok(),
+    }
+}
+
+/// Lengthens a list by slot, until it has a slot.
+///
+/// # Errors
+/// Where memory runs out.
+#[tactic(auto, using(crate::proofs::Keeping::none_more))]
+fn lengthen<D: Copy>(
+    by_slot: &mut Vec<Option<Vec<AbsState<D>>>>,
+    slot: usize,
+) -> Result<(), AllocError>
+    ensures reached { OnOk result (slot < length by_slot.new.items) }
+    ensures same { OnOk result ((n : ℕ) → slice_index_or by_slot.new.items n None ≡ slice_index_or by_slot.old.items n None) }
+{
+    while by_slot.len() <= slot {
+        by_slot.push(None)?;
+    }
+    Ok(())
+}
+
+impl<D: Domain> Kept<D> {
+    /// Keeps no state, and marks the slots that jumps lead to.
+    ///
+    /// # Errors
+    /// Where memory runs out.
+    #[tactic(auto, using(crate::proofs::Keeping::none_below, crate::proofs::Keeping::next_below, crate::proofs::Keeping::goals_below))]
+    pub fn new(alloc: Global, program: &Program) -> Result<Kept<D>, AllocError>
+        requires { slot_count program.now ≤ MAX_SLOTS }
+        ensures goals { IfOk result (KeepsAtGoals program.now) }
+        ensures none { IfOk result KeepsNothing }
+    {
+        let mut kept = Kept {
+            by_slot: Vec::new(alloc),
+        };
+        // no jump is at a slot after the last one
+        for slot in 0..MAX_SLOTS {
+            kept.mark(alloc, goal_at(program, slot))?;
+        }
+        Ok(kept)
+    }
+
+    /// Marks the slot that a jump leads to, if there is one.
+    ///
+    /// # Errors
+    /// Where memory runs out.
+    fn mark(&mut self, alloc: Global, goal: Option<usize>) -> Result<(), AllocError>
+        ensures marks { OnOk result (MarksGoal goal self.old self.new) }
+        ensures none { KeepsNothing self.old → OnOk result (KeepsNothing self.new) }
+    {
+        let Some(slot) = goal else {
+            return Ok(());
+        };
+        lengthen(&mut self.by_slot, slot)?;
+        self.by_slot[slot] = Some(Vec::new(alloc));
+        Ok(())
+    }
+
+    /// Returns the states that are kept at a slot.
+    fn states(&self, slot: usize) -> &[AbsState<D>]
+        ensures { result.now ≡ kept_at self.now slot }
+    {
+        match self.by_slot.get(slot) {
+            Some(Some(states)) => states,
+            _ => &[],
+        }
+    }
+
+    /// Returns whether a kept state of its slot covers a state.
+    pub fn covers(&self, here: &Pending<D>) -> bool
+        ensures value { result ≡ is_covered D.ops (kept_at self.now) here.now }
+        ensures members { result ≡ true → HasCover D.Member (kept_at self.now here.now.slot) here.now.state }
+    {
+        one_covers(self.states(here.slot), &here.state)
+    }
+
+    /// Keeps a state, if some jump leads to its slot.
+    ///
+    /// # Errors
+    /// Where memory runs out.
+    pub fn keep(&mut self, here: &Pending<D>) -> Result<(), AllocError>
+        ensures { OnOk result (Keeps here.now self.old self.new) }
+    {
+        if here.slot < self.by_slot.len() {
+            push_state(&mut self.by_slot[here.slot], here.state)?;
+        }
+        Ok(())
+    }
+}
