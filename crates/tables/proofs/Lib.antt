@@ -1,4 +1,6 @@
 pub mod Lists
+pub mod Searches
+pub mod Ascending
 pub mod Maps
 pub mod Peers
 pub mod PermissionRows

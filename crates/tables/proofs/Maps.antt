@@ -1,11 +1,12 @@
 -- Finite maps by `from_entries` of lists whose keys differ.
-use Rattle.std.proofs.Common.{◌≡◌, ◌≢◌, ℕ, zero, suc, ◌+◌, ◌<◌, ◌≤◌, Bool, true, false, cond, List, [], ◌∷◌, ◌++◌, map, filter, find, length, get_or, set, Option, Some, None, is_some, option_map, All, AllPairs, position, Ordering, is_eq, sym, refl, ap, ◌∙◌, subst, inl, inr, arith}
+use Rattle.std.proofs.Common.{◌≡◌, ◌≢◌, ℕ, zero, suc, ◌+◌, ◌<◌, ◌≤◌, Bool, true, false, cond, List, [], ◌∷◌, ◌++◌, map, filter, find, length, get_or, set, Option, Some, None, is_some, option_map, All, AllPairs, position, Ordering, is_eq, take, drop, sym, refl, ap, ◌∙◌, subst, inl, inr, arith}
 use Rattle.std.specs.Ordering.{eq_by_cmp}
 use Rattle.std.specs.Cmp.{IsTotalOrder, Equal-is, tied_itself}
+use Rattle.std.specs.List.{insert as insert_at}
 use Rattle.std.specs.FinMap.{FinMap, IsAntisymmetric, get, insert, len, entries, retain_keys, from_entries, get-entries, get-from_entries, get-insert, get-retain_keys, get_tied, same_map, from_entries_push, len-insert, len-empty, contains_key, find as lookup}
 use Rattle.std.proofs.lemmas.Bool.{cases_Bool, cond-true, cond-false, false_from_ne_true, both_ways}
 use Rattle.std.proofs.lemmas.Option.{none-some, same_Some}
-use Rattle.std.proofs.lemmas.List.{map-append, get_or_default}
+use Rattle.std.proofs.lemmas.List.{map-append, get_or_default, take-append-drop}
 use Rattle.std.proofs.lemmas.List.Quantifiers.{position-Some, all_pairs_push}
 use Rattle.tables.specs.MapLaws.{entry_found}
 use Rattle.tables.specs.RetainedLaws.{none_kept}
@@ -119,6 +120,23 @@ module _ {K : Type 0} {R : K → K → Ordering} (o : IsTotalOrder R) (same : Is
     pub from_entries-push : (xs : List Row) (y : Row) → All (λ x. (f y).0 ≢ (f x).0) xs
         → from_entries {R = R} (map f (xs ++ y ∷ [])) ≡ insert (from_entries (map f xs)) (f y).0 (f y).1
     from_entries-push xs y h = ap (λ es. from_entries {R = R} es) (map-append f xs (y ∷ [])) ∙ from_entries_push o same (map f xs) (f y).0 (f y).1 (find-absent (f y).0 xs h)
+
+    find-among : (q : K) (xs ys : List Row) (y : Row) → All (λ z. (f y).0 ≢ (f z).0) (xs ++ ys)
+        → lookup R q (map f (xs ++ y ∷ ys)) ≡ cond (eq_by_cmp R q (f y).0) (Some (f y).1) (lookup R q (map f (xs ++ ys)))
+    find-among q [] ys y h = refl
+    find-among q (x ∷ xs) ys y h =
+        ap (cond (eq_by_cmp R q (f x).0) (Some (f x).1)) (find-among q xs ys y (λ k d l. h (suc k) d (omega arith)))
+        ∙ swapped (eq_by_cmp R q (f x).0) (eq_by_cmp R q (f y).0) _ _ _ (λ s t. h zero x (omega arith) (sym (tied q (f y).0 t) ∙ tied q (f x).0 s))
+
+    -- to insert a row with a new key at an index is to insert it
+    pub from_entries-insert : (xs : List Row) (i : ℕ) (y : Row) → All (λ x. (f y).0 ≢ (f x).0) xs
+        → from_entries {R = R} (map f (insert_at xs i y)) ≡ insert (from_entries (map f xs)) (f y).0 (f y).1
+    from_entries-insert xs i y h =
+        let whole : take i xs ++ drop i xs ≡ xs = take-append-drop i xs in
+        let each : All (λ x. (f y).0 ≢ (f x).0) (take i xs ++ drop i xs) = subst (All (λ x. (f y).0 ≢ (f x).0)) (sym whole) h in
+        same_map o same _ _ (λ q. get-from_entries o (map f (insert_at xs i y)) q ∙ find-among q (take i xs) (drop i xs) y each
+        ∙ ap (λ s. cond (eq_by_cmp R q (f y).0) (Some (f y).1) (lookup R q (map f s))) whole
+        ∙ sym (get-insert o (from_entries (map f xs)) (f y).0 (f y).1 q ∙ ap (cond (eq_by_cmp R q (f y).0) (Some (f y).1)) (get-from_entries o (map f xs) q)))
 
     pub len-from_entries : (xs : List Row) → Distinct xs → len (from_entries {R = R} (map f xs)) ≡ length xs
     len-from_entries [] h = len-empty R X

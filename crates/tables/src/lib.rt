@@ -13,6 +13,7 @@ mod look_ups;
 mod moment;
 mod permissions;
 mod refusal;
+mod search;
 mod storage;
 pub mod uncounted;
 

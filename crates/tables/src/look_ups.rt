@@ -7,7 +7,7 @@ use std::sync::ledger::Ledger;
 use steps::Steps;
 
 impl Tables {
-    ghost use Rattle.std.specs.Prelude.{◌≡◌, ◌≤◌, ◌<◌, IfSome, length};
+    ghost use Rattle.std.specs.Prelude.{◌≡◌, ◌+◌, ◌≤◌, ◌<◌, IfSome, length};
     ghost use Rattle.std.specs.Option.{option_copied};
     ghost use Rattle.tables.specs.Channels.{IsChannelNumber};
     ghost use Rattle.tables.specs.Rows.{rows_at};
@@ -87,13 +87,14 @@ impl Tables {
         now: u64,
         steps: &mut Steps<L>,
     ) -> bool
-        ensures { result ≡ permitted slot ip (rows_at now self.now) }
+        ensures permitted { result ≡ permitted slot ip (rows_at now self.now) }
+        ensures keys { steps.new ≤ steps.old + 7 }
     {
         let moment = self.moment_at(now);
         let Some(held) = self.held(slot, moment) else {
             return false;
         };
-        match held.permissions.end_of(&ip) {
+        match held.permissions.end_of(&ip, steps) {
             Some(end) => moment < end,
             None => false,
         }

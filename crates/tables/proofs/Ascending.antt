@@ -1,0 +1,111 @@
+-- Lists of rows in ascending order, as they are searched and changed.
+use Rattle.std.proofs.Common.{◌≡◌, ◌≢◌, ℕ, zero, suc, ◌+◌, ◌-◌, ◌<◌, ◌≤◌, Bool, true, false, cond, List, [], ◌∷◌, ◌++◌, map, filter, take, drop, length, get_or, set, Option, Some, None, All, AllPairs, Ordering, Less, Equal, Greater, sym, refl, ap, ◌∙◌, subst, inl, inr, arith}
+use Rattle.std.specs.Ordering.{eq_by_cmp, is_lt, is_gt, is_eq, ordering_reverse}
+use Rattle.std.specs.Cmp.{IsTotalOrder, tied_itself}
+use Rattle.std.specs.List.{insert, remove}
+use Rattle.std.specs.FinMap.{FinMap, IsAntisymmetric, get-from_entries, get-insert, same_map, from_entries, insert as put, find as lookup}
+use Rattle.std.proofs.lemmas.Bool.{cases_order, cases_lt, both_ways}
+use Rattle.std.proofs.lemmas.List.{get_or_default, length-set}
+use Rattle.std.proofs.lemmas.List.Edits.{length-insert, get_or-insert_below, get_or-insert_at, get_or-insert_above, length-remove, get_or-remove_below, get_or-remove_above}
+use Rattle.std.proofs.lemmas.List.Kept.{AllPairs-filter}
+use Rattle.tables.specs.Search.{AreAscending, IsFoundAt, IsMissingAt}
+use Rattle.tables.proofs.Lists.{AllPairs-set}
+
+less_differs : Less ≡ Equal → ⊥
+less_differs e = absurd (both_ways false refl (ap is_eq e))
+
+greater_differs : Greater ≡ Equal → ⊥
+greater_differs e = absurd (both_ways false refl (ap is_eq e))
+
+module _ {Row K : Type 0} {R : K → K → Ordering} (o : IsTotalOrder R) (key : Row → K) where
+  abbrev pub Ascending : List Row → Type 0
+  Ascending rows = AllPairs (λ a b. R (key a) (key b) ≡ Less) rows
+
+  -- how the rows compare with a key
+  abbrev pub against : K → Row → Ordering
+  against k row = R (key row) k
+
+  less_back : (a b : K) → R a b ≡ Less → R b a ≡ Greater
+  less_back a b e = IsTotalOrder.antisymm o b a ∙ ap ordering_reverse e
+
+  less_differ : (a b : K) → R a b ≡ Less → a ≢ b
+  less_differ a b e s = less_differs (sym e ∙ subst (λ (c : K). R a c ≡ Equal) s (tied_itself o a))
+
+  above_by : (a b k : K) (r : Ordering) → R a b ≡ Less → R a k ≡ r → is_lt r ≡ false → is_gt (R b k) ≡ true
+  above_by a b k Less e is h = absurd (both_ways true h refl)
+  above_by a b k Equal e is h = ap is_gt (less_back k b (sym (IsTotalOrder.congr o a k b is) ∙ e))
+  above_by a b k Greater e is h =
+      let back : R k a ≡ Less = IsTotalOrder.antisymm o k a ∙ ap ordering_reverse is in
+      ap is_gt (less_back k b (IsTotalOrder.trans o k a b back e))
+
+  pub searchable : (rows : List Row) (k : K) → Ascending rows → AreAscending (against k) rows
+  searchable rows k up = λ i j d p l h. above_by (key (get_or rows i d)) (key (get_or rows j d)) k (R (key (get_or rows i d)) k) (up i j d p l) refl h
+
+  pub Ascending-distinct : (rows : List Row) → Ascending rows → AllPairs (λ a b. key a ≢ key b) rows
+  Ascending-distinct rows up = λ i j d p l. less_differ (key (get_or rows i d)) (key (get_or rows j d)) (up i j d p l)
+
+  pub Ascending-filter : (test : Row → Bool) (rows : List Row) → Ascending rows → Ascending (filter test rows)
+  Ascending-filter test rows up = AllPairs-filter (λ a b. R (key a) (key b) ≡ Less) test rows up
+
+  -- a write that keeps the key
+  pub Ascending-set : (rows : List Row) (i : ℕ) (y d : Row) → Ascending rows → i < length rows → key y ≡ key (get_or rows i d) → Ascending (set rows i y)
+  Ascending-set rows i y d up l e =
+      AllPairs-set (λ a b. R (key a) (key b) ≡ Less) rows i y l up
+      (λ k c p. subst (λ (q : K). R (key (get_or rows k c)) q ≡ Less) (sym (e ∙ ap key (get_or_default rows i d c l))) (up k i c p l))
+      (λ k c p q. subst (λ (r : K). R r (key (get_or rows k c)) ≡ Less) (sym (e ∙ ap key (get_or_default rows i d c l))) (up i k c p q))
+
+  pub Ascending-insert : (rows : List Row) (i : ℕ) (y : Row) → Ascending rows → IsMissingAt (against (key y)) rows i → Ascending (insert rows i y)
+  Ascending-insert rows n y up miss = λ i j d p l.
+      let long : length (insert rows n y) ≡ length rows + 1 = length-insert rows n y miss.inside in
+      let P : Row → Row → Type 0 = λ a b. R (key a) (key b) ≡ Less in
+      let low : (k : ℕ) → k < n → get_or rows k d ≡ get_or (insert rows n y) k d = λ k q. sym (get_or-insert_below rows n y d k q miss.inside) in
+      let high : (k : ℕ) → n < k → get_or rows (k - 1) d ≡ get_or (insert rows n y) k d = λ k q.
+      let more : k - 1 + 1 ≡ k = omega arith in
+      sym (get_or-insert_above rows n y d (k - 1) (omega arith) miss.inside) ∙ ap (λ m. get_or (insert rows n y) m d) more in
+      let here : y ≡ get_or (insert rows n y) n d = sym (get_or-insert_at rows n y d miss.inside) in
+      elim (cases_order i n) [
+        | inl e ↦ subst (λ a. P a (get_or (insert rows n y) j d)) (here ∙ ap (λ m. get_or (insert rows n y) m d) (sym e))
+            (subst (P y) (high j (omega (arith, e, p))) (IsTotalOrder.antisymm o (key y) (key (get_or rows (j - 1) d)) ∙ ap ordering_reverse (miss.above (j - 1) d (omega (arith, e, p)) (omega (arith, e, p, l, long)))))
+        | inr s ↦ elim s [
+          | inl q ↦ elim (cases_order j n) [
+            | inl e ↦ subst (P (get_or (insert rows n y) i d)) (here ∙ ap (λ m. get_or (insert rows n y) m d) (sym e)) (subst (λ a. P a y) (low i q) (miss.below i d q))
+            | inr t ↦ elim t [
+              | inl r ↦ subst (λ a. P a (get_or (insert rows n y) j d)) (low i q) (subst (P (get_or rows i d)) (low j r) (up i j d p (omega (arith, r, miss.inside))))
+              | inr r ↦ subst (λ a. P a (get_or (insert rows n y) j d)) (low i q) (subst (P (get_or rows i d)) (high j r) (up i (j - 1) d (omega (arith, q, r)) (omega (arith, r, l, long))))
+            ]
+          ]
+          | inr q ↦
+              let r : n < j = omega (arith, p, q) in
+              subst (λ a. P a (get_or (insert rows n y) j d)) (high i q) (subst (P (get_or rows (i - 1) d)) (high j r) (up (i - 1) (j - 1) d (omega (arith, p, q)) (omega (arith, r, l, long))))
+        ]
+      ]
+
+  pub Ascending-remove : (rows : List Row) (n : ℕ) → Ascending rows → n < length rows → Ascending (remove rows n)
+  Ascending-remove rows n up within = λ i j d p l.
+      let long : length (remove rows n) + 1 ≡ length rows = length-remove rows n within in
+      let P : Row → Row → Type 0 = λ a b. R (key a) (key b) ≡ Less in
+      let low : (k : ℕ) → k < n → get_or rows k d ≡ get_or (remove rows n) k d = λ k q. sym (get_or-remove_below rows n d k q within) in
+      let high : (k : ℕ) → n ≤ k → get_or rows (k + 1) d ≡ get_or (remove rows n) k d = λ k q. sym (get_or-remove_above rows n d k q within) in
+      elim (cases_lt i n) [
+        | inl q ↦ elim (cases_lt j n) [
+          | inl r ↦ subst (λ a. P a (get_or (remove rows n) j d)) (low i q) (subst (P (get_or rows i d)) (low j r) (up i j d p (omega (arith, r, within))))
+          | inr r ↦ subst (λ a. P a (get_or (remove rows n) j d)) (low i q) (subst (P (get_or rows i d)) (high j r) (up i (j + 1) d (omega (arith, p)) (omega (arith, l, long))))
+        ]
+        | inr q ↦
+            let r : n ≤ j = omega (arith, p, q) in
+            subst (λ a. P a (get_or (remove rows n) j d)) (high i q) (subst (P (get_or rows (i + 1) d)) (high j r) (up (i + 1) (j + 1) d (omega (arith, p)) (omega (arith, l, long))))
+      ]
+
+  -- ---- what a search gives
+
+  pub missing_key : (rows : List Row) (k : K) (i : ℕ) → IsMissingAt (against k) rows i → All (λ row. k ≢ key row) rows
+  missing_key rows k i miss = λ n d l s.
+      let tie : R (key (get_or rows n d)) k ≡ Equal = subst (λ (q : K). R (key (get_or rows n d)) q ≡ Equal) (sym s) (tied_itself o (key (get_or rows n d))) in
+      elim (cases_lt n i) [
+        | inl p ↦ less_differs (sym (miss.below n d p) ∙ tie)
+        | inr p ↦ greater_differs (sym (miss.above n d p l) ∙ tie)
+      ]
+
+  module _ (same : IsAntisymmetric R) where
+    pub found_key : (rows : List Row) (k : K) (i : ℕ) (d : Row) → IsFoundAt (against k) rows i → k ≡ key (get_or rows i d)
+    found_key rows k i d at = sym (same (key (get_or rows i d)) k (at.equal d))
