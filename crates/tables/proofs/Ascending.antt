@@ -1,15 +1,15 @@
 -- Lists of rows in ascending order, as they are searched and changed.
-use Rattle.std.proofs.Common.{◌≡◌, ◌≢◌, ℕ, zero, suc, ◌+◌, ◌-◌, ◌<◌, ◌≤◌, Bool, true, false, cond, List, [], ◌∷◌, ◌++◌, map, filter, take, drop, length, get_or, set, Option, Some, None, All, AllPairs, Ordering, Less, Equal, Greater, sym, refl, ap, ◌∙◌, subst, inl, inr, arith}
+use Rattle.std.proofs.Common.{◌≡◌, ◌≢◌, ℕ, zero, suc, ◌+◌, ◌-◌, ◌<◌, ◌≤◌, Bool, true, false, cond, List, [], ◌∷◌, ◌++◌, map, filter, take, drop, length, get_or, set, Option, Some, None, Result, Ok, Err, All, AllPairs, Ordering, Less, Equal, Greater, sym, refl, ap, ◌∙◌, subst, inl, inr, arith}
 use Rattle.std.specs.Ordering.{eq_by_cmp, is_lt, is_gt, is_eq, ordering_reverse}
 use Rattle.std.specs.Cmp.{IsTotalOrder, tied_itself}
 use Rattle.std.specs.List.{insert, remove}
 use Rattle.std.specs.FinMap.{FinMap, IsAntisymmetric, get-from_entries, get-insert, same_map, from_entries, insert as put, find as lookup}
-use Rattle.std.proofs.lemmas.Bool.{cases_order, cases_lt, both_ways}
+use Rattle.std.proofs.lemmas.Bool.{cases_lt, both_ways}
 use Rattle.std.proofs.lemmas.List.{get_or_default, length-set}
-use Rattle.std.proofs.lemmas.List.Edits.{length-insert, get_or-insert_below, get_or-insert_at, get_or-insert_above, length-remove, get_or-remove_below, get_or-remove_above}
+use Rattle.std.proofs.lemmas.List.Edits.{length-remove, get_or-remove_below, get_or-remove_above}
 use Rattle.std.proofs.lemmas.List.Kept.{AllPairs-filter}
-use Rattle.tables.specs.Search.{AreAscending, IsFoundAt, IsMissingAt}
-use Rattle.tables.proofs.Lists.{AllPairs-set}
+use Rattle.tables.specs.Search.{AreAscending, IsFoundAt, IsMissingAt, IsPlace, with_row}
+use Rattle.tables.proofs.Lists.{AllPairs-set, AllPairs-insert}
 
 less_differs : Less ≡ Equal → ⊥
 less_differs e = absurd (both_ways false refl (ap is_eq e))
@@ -55,30 +55,9 @@ module _ {Row K : Type 0} {R : K → K → Ordering} (o : IsTotalOrder R) (key :
       (λ k c p q. subst (λ (r : K). R r (key (get_or rows k c)) ≡ Less) (sym (e ∙ ap key (get_or_default rows i d c l))) (up i k c p q))
 
   pub Ascending-insert : (rows : List Row) (i : ℕ) (y : Row) → Ascending rows → IsMissingAt (against (key y)) rows i → Ascending (insert rows i y)
-  Ascending-insert rows n y up miss = λ i j d p l.
-      let long : length (insert rows n y) ≡ length rows + 1 = length-insert rows n y miss.inside in
-      let P : Row → Row → Type 0 = λ a b. R (key a) (key b) ≡ Less in
-      let low : (k : ℕ) → k < n → get_or rows k d ≡ get_or (insert rows n y) k d = λ k q. sym (get_or-insert_below rows n y d k q miss.inside) in
-      let high : (k : ℕ) → n < k → get_or rows (k - 1) d ≡ get_or (insert rows n y) k d = λ k q.
-      let more : k - 1 + 1 ≡ k = omega arith in
-      sym (get_or-insert_above rows n y d (k - 1) (omega arith) miss.inside) ∙ ap (λ m. get_or (insert rows n y) m d) more in
-      let here : y ≡ get_or (insert rows n y) n d = sym (get_or-insert_at rows n y d miss.inside) in
-      elim (cases_order i n) [
-        | inl e ↦ subst (λ a. P a (get_or (insert rows n y) j d)) (here ∙ ap (λ m. get_or (insert rows n y) m d) (sym e))
-            (subst (P y) (high j (omega (arith, e, p))) (IsTotalOrder.antisymm o (key y) (key (get_or rows (j - 1) d)) ∙ ap ordering_reverse (miss.above (j - 1) d (omega (arith, e, p)) (omega (arith, e, p, l, long)))))
-        | inr s ↦ elim s [
-          | inl q ↦ elim (cases_order j n) [
-            | inl e ↦ subst (P (get_or (insert rows n y) i d)) (here ∙ ap (λ m. get_or (insert rows n y) m d) (sym e)) (subst (λ a. P a y) (low i q) (miss.below i d q))
-            | inr t ↦ elim t [
-              | inl r ↦ subst (λ a. P a (get_or (insert rows n y) j d)) (low i q) (subst (P (get_or rows i d)) (low j r) (up i j d p (omega (arith, r, miss.inside))))
-              | inr r ↦ subst (λ a. P a (get_or (insert rows n y) j d)) (low i q) (subst (P (get_or rows i d)) (high j r) (up i (j - 1) d (omega (arith, q, r)) (omega (arith, r, l, long))))
-            ]
-          ]
-          | inr q ↦
-              let r : n < j = omega (arith, p, q) in
-              subst (λ a. P a (get_or (insert rows n y) j d)) (high i q) (subst (P (get_or rows (i - 1) d)) (high j r) (up (i - 1) (j - 1) d (omega (arith, p, q)) (omega (arith, r, l, long))))
-        ]
-      ]
+  Ascending-insert rows i y up miss =
+      AllPairs-insert (λ a b. R (key a) (key b) ≡ Less) rows i y miss.inside up miss.below
+      (λ k d p l. IsTotalOrder.antisymm o (key y) (key (get_or rows k d)) ∙ ap ordering_reverse (miss.above k d p l))
 
   pub Ascending-remove : (rows : List Row) (n : ℕ) → Ascending rows → n < length rows → Ascending (remove rows n)
   Ascending-remove rows n up within = λ i j d p l.
@@ -107,5 +86,10 @@ module _ {Row K : Type 0} {R : K → K → Ordering} (o : IsTotalOrder R) (key :
       ]
 
   module _ (same : IsAntisymmetric R) where
+    -- a write or an insert at the place of the key
+    pub Ascending-put : (rows : List Row) (place : Result ℕ ℕ) (y : Row) → Ascending rows → IsPlace (against (key y)) rows place → Ascending (with_row place y rows)
+    Ascending-put rows (Ok i) y up at = Ascending-set rows i y y up at.inside (sym (same (key (get_or rows i y)) (key y) (at.equal y)))
+    Ascending-put rows (Err i) y up miss = Ascending-insert rows i y up miss
+
     pub found_key : (rows : List Row) (k : K) (i : ℕ) (d : Row) → IsFoundAt (against k) rows i → k ≡ key (get_or rows i d)
     found_key rows k i d at = sym (same (key (get_or rows i d)) k (at.equal d))

@@ -48,11 +48,12 @@ impl Tables {
         now: u64,
         steps: &mut Steps<L>,
     ) -> Option<Addr>
-        ensures { result ≡ peer_of slot number (rows_at now self.now) }
+        ensures peer { result ≡ peer_of slot number (rows_at now self.now) }
+        ensures keys { steps.new ≤ steps.old + 7 }
     {
         let moment = self.moment_at(now);
         let held = self.held(slot, moment)?;
-        let binding = held.channels.binding_of(number)?;
+        let binding = held.channels.binding_of(number, steps)?;
         if moment < binding.end {
             Some(binding.peer)
         } else {
@@ -73,10 +74,11 @@ impl Tables {
     ) -> Option<u16>
         ensures number { result ≡ channel_of slot peer (rows_at now self.now) }
         ensures range { IfSome result IsChannelNumber }
+        ensures keys { steps.new ≤ steps.old + 7 }
     {
         let moment = self.moment_at(now);
         let held = self.held(slot, moment)?;
-        held.channels.number_at(&peer, moment)
+        held.channels.number_at(&peer, moment, steps)
     }
 
     /// Returns whether an IP address has a permission at a slot at a moment. The port is not looked at.
