@@ -27,7 +27,7 @@ use Rattle.tables.specs.declared.channels.Channel.{Channel}
 use Rattle.tables.proofs.Ascending.{searchable, Ascending-filter, Ascending-put, missing_key, found_key}
 use Rattle.tables.proofs.Lists.{AllPairs-set, AllPairs-insert, All-insert}
 use Rattle.tables.proofs.Maps.{from_entries-filter, from_entries-set, from_entries-insert, len-from_entries, find_at, find_row, find-absent, Distinct-set, PassesOnce, key_where-None, key_where-Some}
-use Rattle.tables.proofs.Peers.{is_same-symmetric, is_same-joined}
+use Rattle.tables.proofs.Peers.{is_same-symmetric, is_same-joined, same-found, same-missing}
 
 abbrev pub entry_of : Channel → ℕ × Binding
 entry_of row = (row.number, row.binding)
@@ -63,17 +63,10 @@ searchable_by_peer peer rows sorted = searchable parts_order-total peer_in rows 
 
 -- what a search for a peer gives
 pub is_to-found : (peer : Addr) (rows : List Channel) (i : ℕ) (d : Channel) → IsFoundAt (by_peer peer) rows i → is_to peer (get_or rows i d) ≡ true
-is_to-found peer rows i d at =
-    sym (address_order-same peer (get_or rows i d).binding.peer) ∙ ap is_eq (tied_back address_order-total (get_or rows i d).binding.peer peer (at.equal d))
-
-less_apart : (a b : Addr) (r : Ordering) → address_order b a ≡ r → is_eq r ≡ false → is_same_address a b ≡ false
-less_apart a b r is differs = sym (address_order-same a b) ∙ (eq_by_cmp_equiv address_order-total).symm a b ∙ ap is_eq is ∙ differs
+is_to-found peer rows i d at = same-found (λ (row : Channel). row.binding.peer) peer rows i d at
 
 pub is_to-missing : (peer : Addr) (rows : List Channel) (i : ℕ) → IsMissingAt (by_peer peer) rows i → All (λ row. is_to peer row ≡ false) rows
-is_to-missing peer rows i none = λ k d l. elim (cases_lt k i) [
-  | inl p ↦ less_apart peer (get_or rows k d).binding.peer Less (none.below k d p) refl
-  | inr p ↦ less_apart peer (get_or rows k d).binding.peer Greater (none.above k d p l) refl
-]
+is_to-missing peer rows i none = same-missing (λ (row : Channel). row.binding.peer) peer rows i none
 
 pub len-channels : (rows : List Channel) → AreChannels rows → len (channels_of rows) ≡ length rows
 len-channels rows are = len-from_entries nat_cmp_total nat_cmp-IsAntisymmetric entry_of rows are.distinct

@@ -6,5 +6,6 @@ pub mod Peers
 pub mod PermissionRows
 pub mod ChannelRows
 pub mod Slots
+pub mod ClientRows
 pub mod Found
 pub mod HeldRows

@@ -4,6 +4,7 @@ use Rattle.std.specs.List.{position_or_len}
 use Rattle.std.specs.Option.{option_flatten}
 use Rattle.std.proofs.lemmas.Bool.{cond-true, cond-false, ltb-true, lt-ltb, le-ltb, both_ways}
 use Rattle.std.proofs.lemmas.List.{map-set, length-map, at_drop_more, at_drop_all}
+use Rattle.std.proofs.lemmas.List.Quantifiers.{position-Some}
 use Rattle.std.proofs.lemmas.List.Sums.{position_or_len_is}
 use Rattle.std.proofs.lemmas.Option.{slice_get-get_or, slice_get_read}
 use Rattle.tables.specs.Addresses.{is_same_address}
@@ -69,6 +70,10 @@ unfound t client shown i l = at_drop_all (λ s. find (is_of client) (slots_at t 
 get_flat : (slots : List (Option Held)) (i : ℕ) (d : Option Held) → i < length slots → option_flatten (slice_get slots i) ≡ get_or slots i d
 get_flat slots i d l = ap option_flatten (slice_get-get_or slots i d l)
 
+none_is : (o : Option Held) → is_none o ≡ true → o ≡ None
+none_is None h = refl
+none_is (Some held) h = absurd (both_ways false refl h)
+
 pub free_at : (rows : Rows) (i : ℕ) → i < length rows.slots → ((k : ℕ) → k < i → is_none (held_in rows k) ≡ false) → held_in rows i ≡ None → first_free rows ≡ Some i
 free_at rows i l before here =
     let slots = rows.slots in
@@ -83,6 +88,12 @@ free_none rows n l before =
     let first : position_or_len is_none slots ≡ m =
     position_or_len_is is_none slots m None (omega arith) (λ k p. ap is_none (sym (get_flat slots k None p)) ∙ before k (omega (arith, p, l))) (λ p. absurd (omega (arith, p))) in
     ap (λ n. cond (nat_lt n m) (Some n) None) first ∙ cond-false (nat_lt m m) (Some m) None (le-ltb m m (omega arith))
+
+-- the lowest free slot holds nothing
+pub free_slot : (rows : Rows) (slot : ℕ) → first_free rows ≡ Some slot → held_in rows slot ≡ None
+free_slot rows slot is =
+    let r = position-Some is_none rows.slots slot None is in
+    get_flat rows.slots slot None r.0 ∙ none_is (get_or rows.slots slot None) r.1
 
 -- what is held, by what a look-up gave
 pub held_none : (t : ℕ) (r : Option (Bor Held)) (o : Option Held) → option_and_then (held_at t) (option_copied r) ≡ o → is_some r ≡ false → o ≡ None

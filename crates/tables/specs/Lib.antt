@@ -20,3 +20,4 @@ pub mod PermitLaws
 pub mod AddressOrder
 pub mod AddressOrderLaws
 pub mod SortedRows
+pub mod Stored

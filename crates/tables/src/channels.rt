@@ -1,12 +1,12 @@
 //! The channels of an allocation (RFC 8656, section 12).
 
-ghost use Rattle.std.specs.Prelude.{◌≡◌, ◌<◌, ◌≤◌, IfOk, IfErr, length, filter, nat_lt};
-ghost use Rattle.tables.specs.Search.{has_room, with_row};
+ghost use Rattle.std.specs.Prelude.{◌≡◌, ◌≤◌, length, filter, nat_lt};
+ghost use Rattle.tables.specs.Search.{has_room};
 ghost use Rattle.tables.specs.declared.channels.TheConstants.{MAX_CHANNELS};
 
 use crate::address::{compare_addresses, is_same};
 use crate::refusal::Refused;
-use crate::search::{Row, place_of, search};
+use crate::search::{Row, place_of, put_at, search};
 use arrayvec::ArrayVec;
 use attributes::Addr;
 use std::cmp::Ordering;
@@ -123,18 +123,6 @@ fn has_room(rows: &[Channel], place: &Result<usize, usize>) -> bool
     match place {
         Ok(_) => true,
         Err(_) => rows.len() < MAX_CHANNELS,
-    }
-}
-
-/// Writes a channel over the row at the place of its key, or inserts it there.
-fn put_at(rows: &mut ArrayVec<Channel, MAX_CHANNELS>, place: Result<usize, usize>, channel: Channel)
-    requires found { IfOk place (λ index. index < length rows.old.items) }
-    requires missing { IfErr place (λ index. (index ≤ length rows.old.items) × (length rows.old.items < MAX_CHANNELS)) }
-    ensures { rows.new.items ≡ with_row place channel rows.old.items }
-{
-    match place {
-        Ok(index) => rows[index] = channel,
-        Err(index) => rows.insert(index, channel),
     }
 }
 

@@ -6,6 +6,7 @@ mod address;
 mod allocation;
 mod changes;
 mod channels;
+mod clients;
 mod held;
 mod limits;
 mod listing;

@@ -22,8 +22,9 @@ impl Tables {
     ) -> Option<&Allocation>
         ensures allocation { option_copied result ≡ allocation_of client (rows_at now self.now) }
         ensures inside { IfSome result (λ a. a.now.slot < length self.now.slots) }
+        ensures keys { steps.new ≤ steps.old + 9 }
     {
-        let held = self.held_by(&client, self.moment_at(now))?;
+        let held = self.held_by(&client, self.moment_at(now), steps)?;
         Some(&held.allocation)
     }
 
@@ -34,7 +35,8 @@ impl Tables {
         now: u64,
         steps: &mut Steps<L>,
     ) -> Option<&Allocation>
-        ensures { option_copied result ≡ allocation_at slot (rows_at now self.now) }
+        ensures allocation { option_copied result ≡ allocation_at slot (rows_at now self.now) }
+        ensures keys { steps.new ≡ steps.old }
     {
         let held = self.held(slot, self.moment_at(now))?;
         Some(&held.allocation)

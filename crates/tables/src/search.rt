@@ -1,9 +1,10 @@
 //! Binary search in rows that are in the order of their keys.
 
-ghost use Rattle.std.specs.Prelude.{◌≡◌, ℕ, ◌+◌, ◌^◌, ◌<◌, ◌≤◌, length};
+ghost use Rattle.std.specs.Prelude.{◌≡◌, ℕ, ◌+◌, ◌^◌, ◌<◌, ◌≤◌, IfOk, IfErr, length};
 ghost use Rattle.std.specs.declared.cmp.Ordering.{Ordering};
-ghost use Rattle.tables.specs.Search.{AreAscending, IsPlace};
+ghost use Rattle.tables.specs.Search.{AreAscending, IsPlace, with_row};
 
+use arrayvec::ArrayVec;
 use std::cmp::Ordering;
 use std::marker::Brand;
 use std::sync::ledger::{Blank, Ledger};
@@ -67,4 +68,20 @@ pub(crate) fn place_of<K, R: Row<K>>(rows: &[R], key: &K) -> Result<usize, usize
     ensures { IsPlace (λ row. R.order row key.now) rows.now result }
 {
     place_of_by::<K, R, Brand>(rows, key, Blank::new(1))
+}
+
+/// Writes a row over that at its place, or inserts it there.
+pub(crate) fn put_at<R: Copy, const N: usize>(
+    rows: &mut ArrayVec<R, N>,
+    place: Result<usize, usize>,
+    row: R,
+)
+    requires found { IfOk place (λ index. index < length rows.old.items) }
+    requires missing { IfErr place (λ index. (index ≤ length rows.old.items) × (length rows.old.items < N)) }
+    ensures { rows.new.items ≡ with_row place row rows.old.items }
+{
+    match place {
+        Ok(index) => rows[index] = row,
+        Err(index) => rows.insert(index, row),
+    }
 }
