@@ -1,12 +1,11 @@
 -- Lists of rows in ascending order, as they are searched and changed.
-use Rattle.std.proofs.Common.{◌≡◌, ◌≢◌, ℕ, zero, suc, ◌+◌, ◌-◌, ◌<◌, ◌≤◌, Bool, true, false, cond, List, [], ◌∷◌, ◌++◌, map, filter, take, drop, length, get_or, set, Option, Some, None, Result, Ok, Err, All, AllPairs, Ordering, Less, Equal, Greater, sym, refl, ap, ◌∙◌, subst, inl, inr, arith}
-use Rattle.std.specs.Ordering.{eq_by_cmp, is_lt, is_gt, is_eq, ordering_reverse}
+use Rattle.std.proofs.Common.{◌≡◌, ◌≢◌, ℕ, ◌<◌, Bool, true, false, List, filter, length, get_or, set, Result, Ok, Err, All, AllPairs, Ordering, Less, Equal, Greater, sym, refl, ap, ◌∙◌, subst, inl, inr}
+use Rattle.std.specs.Ordering.{is_lt, is_gt, is_eq, ordering_reverse}
 use Rattle.std.specs.Cmp.{IsTotalOrder, tied_itself}
-use Rattle.std.specs.List.{insert, remove}
-use Rattle.std.specs.FinMap.{FinMap, IsAntisymmetric, get-from_entries, get-insert, same_map, from_entries, insert as put, find as lookup}
+use Rattle.std.specs.List.{insert}
+use Rattle.std.specs.FinMap.{IsAntisymmetric}
 use Rattle.std.proofs.lemmas.Bool.{cases_lt, both_ways}
-use Rattle.std.proofs.lemmas.List.{get_or_default, length-set}
-use Rattle.std.proofs.lemmas.List.Edits.{length-remove, get_or-remove_below, get_or-remove_above}
+use Rattle.std.proofs.lemmas.List.{get_or_default}
 use Rattle.std.proofs.lemmas.List.Kept.{AllPairs-filter}
 use Rattle.tables.specs.Search.{AreAscending, IsFoundAt, IsMissingAt, IsPlace, with_row}
 use Rattle.tables.proofs.Lists.{AllPairs-set, AllPairs-insert}
@@ -58,22 +57,6 @@ module _ {Row K : Type 0} {R : K → K → Ordering} (o : IsTotalOrder R) (key :
   Ascending-insert rows i y up miss =
       AllPairs-insert (λ a b. R (key a) (key b) ≡ Less) rows i y miss.inside up miss.below
       (λ k d p l. IsTotalOrder.antisymm o (key y) (key (get_or rows k d)) ∙ ap ordering_reverse (miss.above k d p l))
-
-  pub Ascending-remove : (rows : List Row) (n : ℕ) → Ascending rows → n < length rows → Ascending (remove rows n)
-  Ascending-remove rows n up within = λ i j d p l.
-      let long : length (remove rows n) + 1 ≡ length rows = length-remove rows n within in
-      let P : Row → Row → Type 0 = λ a b. R (key a) (key b) ≡ Less in
-      let low : (k : ℕ) → k < n → get_or rows k d ≡ get_or (remove rows n) k d = λ k q. sym (get_or-remove_below rows n d k q within) in
-      let high : (k : ℕ) → n ≤ k → get_or rows (k + 1) d ≡ get_or (remove rows n) k d = λ k q. sym (get_or-remove_above rows n d k q within) in
-      elim (cases_lt i n) [
-        | inl q ↦ elim (cases_lt j n) [
-          | inl r ↦ subst (λ a. P a (get_or (remove rows n) j d)) (low i q) (subst (P (get_or rows i d)) (low j r) (up i j d p (omega (arith, r, within))))
-          | inr r ↦ subst (λ a. P a (get_or (remove rows n) j d)) (low i q) (subst (P (get_or rows i d)) (high j r) (up i (j + 1) d (omega (arith, p)) (omega (arith, l, long))))
-        ]
-        | inr q ↦
-            let r : n ≤ j = omega (arith, p, q) in
-            subst (λ a. P a (get_or (remove rows n) j d)) (high i q) (subst (P (get_or rows (i + 1) d)) (high j r) (up (i + 1) (j + 1) d (omega (arith, p)) (omega (arith, l, long))))
-      ]
 
   -- ---- what a search gives
 

@@ -1,10 +1,10 @@
 -- Channels as they are stored, and their map.
-use Rattle.std.proofs.Common.{◌≡◌, ◌≢◌, ℕ, ◌+◌, ◌<◌, ◌≤◌, Bool, true, false, IsTrue, List, [], ◌∷◌, length, get_or, set, filter, nat_lt, nat_eq, Some, None, Result, Ok, Err, IfOk, IfErr, All, Ordering, Less, Equal, Greater, is_eq, sym, refl, ap, ◌∙◌, subst, inl, inr, arith}
+use Rattle.std.proofs.Common.{◌≡◌, ◌≢◌, ℕ, ◌<◌, ◌≤◌, Bool, true, false, IsTrue, List, [], length, get_or, set, filter, nat_lt, nat_eq, Some, None, Result, Ok, Err, IfErr, All, Ordering, sym, refl, ap, ◌∙◌, subst, inl, inr, arith}
 use Rattle.std.specs.Ordering.{nat_cmp}
-use Rattle.std.specs.Cmp.{nat_cmp_total, tied_back, eq_by_cmp_equiv}
+use Rattle.std.specs.Cmp.{nat_cmp_total}
 use Rattle.std.specs.List.{insert as insert_at}
 use Rattle.std.specs.FinMap.{get, insert, len, get-from_entries, nat_cmp-IsAntisymmetric}
-use Rattle.std.proofs.lemmas.Bool.{cases_order, cases_lt, cond-true, both_ways, false_from_ne_true, and_parts, eqb-true, lt-ltb, le-ltb, ltb-true, ltb-false}
+use Rattle.std.proofs.lemmas.Bool.{cases_order, cond-true, both_ways, false_from_ne_true, and_parts, eqb-true, lt-ltb, le-ltb, ltb-true, ltb-false}
 use Rattle.std.proofs.lemmas.Option.{same_Some, none-some}
 use Rattle.std.proofs.lemmas.List.{get_or_default, length-set}
 use Rattle.std.proofs.lemmas.List.Edits.{length-insert}
@@ -13,7 +13,7 @@ use Rattle.std.proofs.lemmas.List.Kept.{AllPairs-filter}
 use Rattle.attributes.specs.declared.address.Addr.{Addr}
 use Rattle.attributes.specs.declared.address.Addr.TheVariants.{V4}
 use Rattle.tables.specs.AddressOrder.{parts_of, address_order}
-use Rattle.tables.specs.AddressOrderLaws.{parts_order-total, parts_order-antisymmetric, address_order-total, address_order-same}
+use Rattle.tables.specs.AddressOrderLaws.{parts_order-total, parts_order-antisymmetric}
 use Rattle.tables.specs.Addresses.{is_same_address}
 use Rattle.tables.specs.Channels.{channels_at, number_to, may_bind, is_none_or}
 use Rattle.tables.specs.RowLists.{channels_of, AreChannels}
@@ -292,15 +292,6 @@ module _ (number : ℕ) (binding : Binding) (rows others : List Channel) (are : 
       none-some (get_or rows k blank).binding (sym absent ∙ ap (λ m. get m number) are.same ∙ found number rows k blank are.channels own)
 
 -- ---- room for a row at its place
-
-pub found_inside : (order : Channel → Ordering) (rows : List Channel) (place : Result ℕ ℕ) → IsPlace order rows place → IfOk place (λ i. i < length rows)
-found_inside order rows (Ok i) at = at.inside
-found_inside order rows (Err i) none = tt
-
-pub room_for : (order : Channel → Ordering) (rows : List Channel) (most : ℕ) (place : Result ℕ ℕ) → IsPlace order rows place → has_room most (length rows) place ≡ true
-    → IfErr place (λ i. (i ≤ length rows) × (length rows < most))
-room_for order rows most (Ok i) at room = tt
-room_for order rows most (Err i) none room = (none.inside, ltb-true (length rows) most room)
 
 room_by_peer : (order : Channel → Ordering) (rows others : List Channel) (most : ℕ) (place place_by_peer : Result ℕ ℕ) → length others ≡ length rows → IsPlace order others place_by_peer
     → has_room most (length rows) place ≡ true → ((i : ℕ) → place_by_peer ≡ Err i → (k : ℕ) → place ≡ Ok k → ⊥) → IfErr place_by_peer (λ i. (i ≤ length others) × (length others < most))

@@ -1,5 +1,5 @@
 -- The clients of what is stored: looked up, and as slots are swept and filled.
-use Rattle.std.proofs.Common.{◌≡◌, ◌≢◌, ℕ, zero, suc, ◌+◌, ◌<◌, ◌≤◌, Bool, true, false, cond, List, [], ◌∷◌, map, filter, find, length, get_or, set, slice_get, nat_lt, Option, Some, None, is_some, Result, Ok, Err, IfOk, IfErr, option_map, option_and_then, All, AllPairs, Ordering, Less, Equal, sym, refl, ap, ◌∙◌, subst, inl, inr, arith, is_eq as is_equal, eqb, ◌||◌}
+use Rattle.std.proofs.Common.{◌≡◌, ◌≢◌, ℕ, zero, suc, ◌+◌, ◌<◌, ◌≤◌, Bool, true, false, List, [], ◌∷◌, map, filter, find, length, get_or, set, slice_get, nat_lt, Option, Some, None, is_some, Result, Ok, Err, option_map, option_and_then, All, Ordering, Equal, sym, refl, ap, ◌∙◌, subst, inl, inr, arith, is_eq as is_equal, eqb, ◌||◌}
 use Rattle.std.specs.Cmp.{IsTotalOrder, tied_back, tied_itself}
 use Rattle.std.specs.List.{insert as insert_at, list_any}
 use Rattle.std.specs.Option.{option_flatten}
@@ -36,7 +36,7 @@ key_in row = parts_of row.address
 abbrev pub by_client : Addr → Client → Ordering
 by_client client row = address_order row.address client
 
--- what is read behind the last row
+-- what is read after the last row
 abbrev pub blank : Client
 blank = record { address = V4 [] 0; slot = 0 }
 
@@ -322,12 +322,6 @@ module _ (slots : List (Option Held)) (clients : List Client) (are : AreClients 
       let few : length numbers ≤ length slots = length-le_from_distinct_below numbers (length slots) (IsDistinct-from_apart eqb numbers numbers_apart) (λ q any. below_by q (length slots) numbers below any) in
       omega (arith, few, length-map clients (λ (row : Client). row.slot))
 
--- each client's slot is there
-pub rows_inside : (slots : List (Option Held)) (clients : List Client) → AreClients slots clients → All (λ row. row.slot < length slots) clients
-rows_inside slots clients are = λ i d l.
-    let held = some_client (stored_at slots (get_or clients i d).slot) (get_or clients i d).address (are.held i d l) in
-    inside slots (get_or clients i d).slot held.0 held.1
-
 pub client_of_counted : (t : ℕ) (o : Option Held) (a : Addr) → client_in (option_and_then (held_at t) o) ≡ Some a → client_in o ≡ Some a
 client_of_counted t None a is = is
 client_of_counted t (Some held) a is = elim (cases_Bool (nat_lt t held.allocation.end)) [
@@ -360,16 +354,6 @@ module _ (t : ℕ) (slots : List (Option Held)) (clients : List Client) (are : A
 
   pub slots_at-admitted : slots_at t (set swept slot (Some held)) ≡ set (slots_at t slots) slot (held_at t held)
   slots_at-admitted = map-set (option_and_then (held_at t)) swept slot (Some held) ∙ ap (λ s. set s slot (held_at t held)) (slots_at-swept t slots)
-
--- ---- a row at its place
-
-pub place_inside : {X : Type 0} (order : X → Ordering) (rows : List X) (place : Result ℕ ℕ) → IsPlace order rows place → IfOk place (λ i. i < length rows)
-place_inside order rows (Ok i) at = at.inside
-place_inside order rows (Err i) none = tt
-
-pub place_room : {X : Type 0} (order : X → Ordering) (rows : List X) (place : Result ℕ ℕ) (most : ℕ) → IsPlace order rows place → length rows < most → IfErr place (λ i. (i ≤ length rows) × (length rows < most))
-place_room order rows (Ok i) most at room = tt
-place_room order rows (Err i) most none room = (none.inside, room)
 
 -- ---- swept slots are well formed
 

@@ -1,13 +1,11 @@
 -- Pairs of elements, and places in lists.
-use Rattle.std.proofs.Common.{◌≡◌, ◌≢◌, ℕ, zero, suc, ◌+◌, ◌-◌, ◌<◌, ◌≤◌, Bool, false, cond, List, ◌∷◌, length, get_or, set, Option, Some, None, All, AllPairs, position, nat_lt, sym, refl, ap, ◌∙◌, subst, inl, inr, arith, get_or-set_same, get_or-set_other, filter, not}
+use Rattle.std.proofs.Common.{◌≡◌, ◌≢◌, ℕ, zero, suc, ◌+◌, ◌-◌, ◌<◌, ◌≤◌, Bool, List, ◌∷◌, length, get_or, set, All, AllPairs, sym, refl, ap, ◌∙◌, subst, inl, inr, arith, get_or-set_same, get_or-set_other, filter, not}
 use Rattle.std.proofs.lemmas.List.{length-set}
 use Rattle.std.proofs.lemmas.List.Filters.{length-filter_both}
 use Rattle.arrayvec.proofs.ArrayVecLemmas.{items-with_items}
-use Rattle.std.specs.List.{position_or_len, refill, insert}
+use Rattle.std.specs.List.{refill, insert}
 use Rattle.std.proofs.lemmas.List.Edits.{length-insert, get_or-insert_below, get_or-insert_at, get_or-insert_above}
-use Rattle.std.proofs.lemmas.Bool.{cases_Bool, cases_eq, cases_order, cond-true, ltb-false}
-use Rattle.std.proofs.lemmas.List.Sums.{fails_before_first}
-use Rattle.std.proofs.lemmas.Option.{none-some}
+use Rattle.std.proofs.lemmas.Bool.{cases_eq, cases_order}
 
 module _ {A : Type 0} (R : A → A → Type 0) where
   pub AllPairs-head : (x : A) (xs : List A) → AllPairs R (x ∷ xs) → All (R x) xs
@@ -81,15 +79,6 @@ All-insert P xs n y within all new = λ k d l. elim (cases_order k n) [
   ]
 ]
 
-at_none : (a b : ℕ) → cond (nat_lt a b) (Some a) None ≡ None → b ≤ a
-at_none a b e = elim (cases_Bool (nat_lt a b)) [
-  | inl t ↦ absurd (none-some a (sym e ∙ cond-true (nat_lt a b) (Some a) None t))
-  | inr t ↦ ltb-false a b t
-]
-
-pub position-None : {A : Type 0} (p : A → Bool) (xs : List A) → position p xs ≡ None → All (λ x. p x ≡ false) xs
-position-None p xs e = λ k d l. let far = at_none (position_or_len p xs) (length xs) e in fails_before_first p xs k d (omega arith)
-
 pub length-filter-le : {A : Type 0} (p : A → Bool) (xs : List A) → length (filter p xs) ≤ length xs
 length-filter-le p xs = omega (arith, length-filter_both p (λ x. not (p x)) (λ x. refl) xs)
 
@@ -99,7 +88,3 @@ written {A} shown xs i new d same =
     let ys : List A = set shown i (new (get_or shown i d)) in
     let long : length ys ≡ length xs = length-set shown i (new (get_or shown i d)) ∙ ap length same in
     items-with_items (record { items = xs }) ys long ∙ ap (λ s. set s i (new (get_or s i d))) same
-
--- where an index was found in the same elements
-pub placed : {A : Type 0} (p : A → Bool) {shown xs : List A} {r o : Option ℕ} → shown ≡ xs → r ≡ position p shown → r ≡ o → position p xs ≡ o
-placed p same found is = ap (position p) (sym same) ∙ sym found ∙ is

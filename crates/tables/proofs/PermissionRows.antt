@@ -1,6 +1,5 @@
 -- Permissions as they are stored, and their map.
-use Rattle.std.proofs.Common.{Ordering, ◌≡◌, ◌≢◌, ℕ, ◌+◌, ◌≤◌, Bool, List, [], ◌∷◌, ◌++◌, length, get_or, set, filter, position, nat_lt, Some, None, Result, Ok, Err, OnErr, All, sym, refl, ap, ◌∙◌, arith}
-use Rattle.std.specs.Ordering.{eq_by_cmp}
+use Rattle.std.proofs.Common.{Ordering, ◌≡◌, ℕ, ◌+◌, ◌≤◌, List, [], ◌∷◌, length, get_or, set, filter, nat_lt, Some, None, Result, Ok, Err, OnErr, sym, refl, ap, ◌∙◌, arith}
 use Rattle.std.specs.FinMap.{get, insert, len}
 use Rattle.std.specs.List.{insert as insert_at}
 use Rattle.std.specs.FinMap.{get-from_entries}
@@ -9,7 +8,6 @@ use Rattle.std.proofs.lemmas.List.Edits.{length-insert}
 use Rattle.attributes.specs.Addresses.{ip_of}
 use Rattle.attributes.specs.declared.address.Addr.{Addr}
 use Rattle.attributes.specs.declared.address.Addr.TheVariants.{V4}
-use Rattle.tables.specs.Addresses.{ip_cmp}
 use Rattle.tables.specs.Moments.{counts_at}
 use Rattle.tables.specs.Permissions.{PermissionMap, permissions_at, with_all}
 use Rattle.tables.specs.RowLists.{permissions_of, ArePermissions}

@@ -1,11 +1,11 @@
 -- What a comparison rules out of rows in ascending order, and how often they can be halved.
-use Rattle.std.proofs.Common.{◌≡◌, ℕ, zero, suc, ◌+◌, ◌-◌, ◌*◌, ◌/◌, ◌^◌, ◌<◌, ◌≤◌, true, false, List, length, get_or, Ordering, Less, Equal, Greater, sym, refl, ap, ◌∙◌, subst, inl, inr, arith}
+use Rattle.std.proofs.Common.{◌≡◌, ℕ, zero, suc, ◌+◌, ◌-◌, ◌*◌, ◌/◌, ◌^◌, ◌<◌, ◌≤◌, true, false, List, length, Result, Ok, Err, IfOk, IfErr, get_or, Ordering, Less, Equal, Greater, sym, refl, ap, ◌∙◌, subst, inl, inr, arith}
 use Rattle.std.specs.Ordering.{is_lt, is_gt}
 use Rattle.std.proofs.lemmas.Bool.{cases_Bool, cases_eq, both_ways}
 use Rattle.std.proofs.lemmas.List.{get_or_default}
 use Rattle.std.proofs.lemmas.Nat.{div_below}
 use Rattle.std.proofs.Math.Nat.{pow-suc}
-use Rattle.tables.specs.Search.{AreAscending}
+use Rattle.tables.specs.Search.{AreAscending, IsPlace}
 
 is_less : (o : Ordering) → is_lt o ≡ true → o ≡ Less
 is_less Less h = refl
@@ -51,3 +51,14 @@ halved old k steps size half before some less =
     let more = halved_from (old + k - steps) size half before.1 some less in
     let fewer : old + k - steps - 1 ≡ old + k - (steps + 1) = omega arith in
     (omega (arith, before.0, more.0), subst (λ n. half < 2 ^ n) fewer more.1)
+
+-- ---- a row at its place
+
+module _ {X : Type 0} (order : X → Ordering) (rows : List X) where
+  pub place_inside : (place : Result ℕ ℕ) → IsPlace order rows place → IfOk place (λ i. i < length rows)
+  place_inside (Ok i) at = at.inside
+  place_inside (Err i) none = tt
+
+  pub place_room : (place : Result ℕ ℕ) (most : ℕ) → IsPlace order rows place → length rows < most → IfErr place (λ i. (i ≤ length rows) × (length rows < most))
+  place_room (Ok i) most at room = tt
+  place_room (Err i) most none room = (none.inside, room)

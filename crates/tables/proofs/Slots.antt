@@ -1,13 +1,12 @@
 -- The slots as they are stored, and the rows that count.
-use Rattle.std.proofs.Common.{◌≡◌, ℕ, zero, suc, ◌<◌, ◌≤◌, ◌+◌, true, false, cond, List, ◌∷◌, length, get_or, set, drop, find, replicate, slice_get, nat_lt, Option, Some, None, is_some, is_none, IfSome, option_and_then, option_copied, sym, refl, ap, ◌∙◌, Bor, arith}
+use Rattle.std.proofs.Common.{◌≡◌, ℕ, zero, suc, ◌<◌, ◌≤◌, true, false, cond, List, ◌∷◌, length, get_or, set, find, replicate, slice_get, nat_lt, Option, Some, None, is_some, is_none, IfSome, option_and_then, option_copied, sym, refl, ap, ◌∙◌, Bor, arith}
 use Rattle.std.specs.List.{position_or_len}
 use Rattle.std.specs.Option.{option_flatten}
 use Rattle.std.proofs.lemmas.Bool.{cond-true, cond-false, ltb-true, lt-ltb, le-ltb, both_ways}
-use Rattle.std.proofs.lemmas.List.{map-set, length-map, at_drop_more, at_drop_all}
+use Rattle.std.proofs.lemmas.List.{map-set, length-map}
 use Rattle.std.proofs.lemmas.List.Quantifiers.{position-Some}
 use Rattle.std.proofs.lemmas.List.Sums.{position_or_len_is}
 use Rattle.std.proofs.lemmas.Option.{slice_get-get_or, slice_get_read}
-use Rattle.tables.specs.Addresses.{is_same_address}
 use Rattle.attributes.specs.declared.address.Addr.{Addr}
 use Rattle.tables.specs.Rows.{Rows, held_at, slots_at, counting}
 use Rattle.tables.specs.LookUps.{held_in, held_by, is_of}
@@ -44,26 +43,6 @@ module _ (last : ℕ) (slots : List (Option Held)) (now : Rows) (shows : ShowsSt
 -- what `get` gives
 pub slot_shown : (shown slots : List (Option Held)) (i : ℕ) (slot : Option Held) → shown ≡ slots → true ≡ nat_lt i (length shown) → slot ≡ get_or shown i slot → slice_get slots i ≡ Some slot
 slot_shown shown slots i slot same within at = ap (λ s. slice_get s i) (sym same) ∙ slice_get_read shown (length shown) i slot refl (ltb-true i (length shown) (sym within)) at
-
--- what an iteration gives
-pub slot_at : (shown slots : List (Option Held)) (i : ℕ) (slot : Option Held) (held : Held) → shown ≡ slots → i < length shown → slot ≡ get_or shown i slot → slot ≡ Some held
-    → option_flatten (slice_get slots i) ≡ Some held
-slot_at shown slots i slot held same within at is =
-    ap (λ s. option_flatten (slice_get s i)) (sym same) ∙ ap option_flatten (slice_get_read shown (length shown) i slot refl within at) ∙ is
-
--- ---- a client
-
-pub found_by : (t : ℕ) (client : Addr) (shown : List (Option Held)) (i : ℕ) (slot : Option Held) (held : Held) → i < length shown → slot ≡ get_or shown i slot → slot ≡ Some held
-    → t < held.allocation.end → is_same_address client held.allocation.client ≡ true → find (is_of client) (slots_at t (drop i shown)) ≡ Some (held_at t held)
-found_by t client shown i slot held l at is counts same =
-    let rest : List (Option Held) = slots_at t (drop (i + 1) shown) in
-    let own : is_of client (held_at t held) ≡ true = ap (is_of client) (held_at-counts t held (lt-ltb t held.allocation.end counts)) ∙ same in
-    at_drop_more (λ s. find (is_of client) (slots_at t s)) shown i slot l
-    ∙ ap (λ o. find (is_of client) (option_and_then (held_at t) o ∷ rest)) (sym at ∙ is)
-    ∙ cond-true (is_of client (held_at t held)) (Some (held_at t held)) (find (is_of client) rest) own
-
-pub unfound : (t : ℕ) (client : Addr) (shown : List (Option Held)) (i : ℕ) → length shown ≤ i → find (is_of client) (slots_at t (drop i shown)) ≡ None
-unfound t client shown i l = at_drop_all (λ s. find (is_of client) (slots_at t s)) shown i l
 
 -- ---- a free slot
 

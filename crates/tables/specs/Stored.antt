@@ -1,10 +1,9 @@
 -- Internal. What is stored: slots, and the clients that have one in ascending order of their addresses.
-use Rattle.std.specs.Prelude.{◌≡◌, ◌≢◌, ℕ, List, slice_get, Option, None, Some, All, AllPairs, nat_lt, is_some, if◌then◌else◌}
+use Rattle.std.specs.Prelude.{◌≡◌, ◌≢◌, ℕ, List, slice_get, Option, None, Some, All, AllPairs, nat_lt, if◌then◌else◌}
 use Rattle.std.specs.Option.{option_map, option_flatten}
 use Rattle.std.specs.declared.cmp.Ordering.TheVariants.{Less}
 use Rattle.attributes.specs.declared.address.Addr.{Addr}
 use Rattle.tables.specs.AddressOrder.{address_order}
-use Rattle.tables.specs.Rows.{Rows}
 use Rattle.tables.specs.WellFormed.{AreWellFormed}
 use Rattle.tables.specs.declared.clients.Client.{Client}
 use Rattle.tables.specs.declared.held.Held.{Held}

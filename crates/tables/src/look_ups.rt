@@ -1,4 +1,4 @@
-//! Look-ups. None of them changes the tables.
+//! Look-ups, by binary search. None of them changes the tables. `steps` counts one for each key that is compared.
 
 use crate::allocation::Allocation;
 use crate::storage::Tables;
@@ -13,7 +13,7 @@ impl Tables {
     ghost use Rattle.tables.specs.Rows.{rows_at};
     ghost use Rattle.tables.specs.LookUps.{allocation_of, allocation_at, peer_of, channel_of, permitted};
 
-    /// Returns the allocation of a client at a moment.
+    /// Returns the allocation of a client at a moment. At most 9 of the clients' addresses are compared.
     pub fn allocation_of<L: Ledger>(
         &self,
         client: Addr,
@@ -28,7 +28,7 @@ impl Tables {
         Some(&held.allocation)
     }
 
-    /// Returns the allocation at a slot at a moment. A slot that isn't there has none.
+    /// Returns the allocation at a slot at a moment. A slot that isn't there has none. No key is compared.
     pub fn allocation_at<L: Ledger>(
         &self,
         slot: usize,
@@ -42,7 +42,7 @@ impl Tables {
         Some(&held.allocation)
     }
 
-    /// Returns the peer that a channel of a slot is bound to at a moment.
+    /// Returns the peer that a channel of a slot is bound to at a moment. At most 7 of the slot's channels are compared.
     pub fn peer_of<L: Ledger>(
         &self,
         slot: usize,
@@ -64,6 +64,7 @@ impl Tables {
     }
 
     /// Returns the channel of a slot that is bound to a peer at a moment: a number from [`FIRST_CHANNEL`] to [`LAST_CHANNEL`].
+    /// At most 7 of the slot's peers are compared.
     ///
     /// [`FIRST_CHANNEL`]: crate::FIRST_CHANNEL
     /// [`LAST_CHANNEL`]: crate::LAST_CHANNEL
@@ -83,7 +84,8 @@ impl Tables {
         held.channels.number_at(&peer, moment, steps)
     }
 
-    /// Returns whether an IP address has a permission at a slot at a moment. The port is not looked at.
+    /// Returns whether an IP address has a permission at a slot at a moment. The port is not looked at. At most 7 of the slot's
+    /// addresses are compared.
     pub fn permitted<L: Ledger>(
         &self,
         slot: usize,

@@ -25,6 +25,7 @@ pub const MAX_ALLOCATIONS: usize = 256;
 pub struct Tables {
     pub(crate) moment: u64,
     pub(crate) slots: Vec<Option<Held>>,
+    /// The client of each slot that holds something, in the order of their addresses.
     pub(crate) clients: ArrayVec<Client, MAX_ALLOCATIONS>,
 }
 

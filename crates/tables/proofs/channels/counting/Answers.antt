@@ -1,6 +1,6 @@
-use Rattle.std.proofs.Common.{◌≡◌, nat_lt, length, filter, take, ap, ◌∙◌, sym, arith}
+use Rattle.std.proofs.Common.{nat_lt, length, take, ap, arith}
 use Rattle.std.proofs.lemmas.Grind.{common_steps}
-use Rattle.std.proofs.lemmas.List.{take_all, length-take}
+use Rattle.std.proofs.lemmas.List.{length-take}
 use Rattle.tables.proofs.Lists.{length-filter-le}
 use Rattle.tables.proofs.channels.counting.Goals as goal
 

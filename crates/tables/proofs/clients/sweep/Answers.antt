@@ -1,4 +1,4 @@
-use Rattle.std.proofs.Common.{None, ◌<◌, length, get_or, set, ap, ◌∙◌, sym, arith}
+use Rattle.std.proofs.Common.{None, ◌<◌, length, get_or, ap, ◌∙◌, arith}
 use Rattle.std.proofs.lemmas.List.{length-set, get_or_default}
 use Rattle.std.proofs.lemmas.List.Edits.{map_over_more}
 use Rattle.tables.specs.Stored.{left_at}

@@ -1,4 +1,4 @@
-use Rattle.std.proofs.Common.{◌≡◌, length, filter, is_some, take, ap, ◌∙◌, sym, arith}
+use Rattle.std.proofs.Common.{length, is_some, take, ap, arith}
 use Rattle.std.proofs.lemmas.Grind.{common_steps}
 use Rattle.std.proofs.lemmas.List.{length-take}
 use Rattle.tables.specs.Stored.{stored_at}

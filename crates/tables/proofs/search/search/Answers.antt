@@ -1,4 +1,4 @@
-use Rattle.std.proofs.Common.{◌≡◌, ℕ, ◌+◌, ◌-◌, ◌/◌, ◌^◌, ◌<◌, ◌≤◌, length, get_or, Ordering, sym, subst, ap, ◌∙◌, arith}
+use Rattle.std.proofs.Common.{◌+◌, ◌-◌, ◌/◌, ◌^◌, ◌<◌, ◌≤◌, length, Ordering, sym, subst, ◌∙◌, arith}
 use Rattle.tables.proofs.Searches.{all_less, all_greater, halved}
 use Rattle.tables.proofs.search.search.Goals as goal
 

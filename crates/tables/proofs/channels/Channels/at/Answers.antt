@@ -1,4 +1,4 @@
-use Rattle.std.proofs.Common.{◌≡◌, nat_lt, filter, ap, ◌∙◌, sym, subst}
+use Rattle.std.proofs.Common.{nat_lt, filter, ap, ◌∙◌, sym, subst}
 use Rattle.tables.specs.Channels.{channels_at}
 use Rattle.tables.specs.RowLists.{channels_of}
 use Rattle.tables.specs.SortedRows.{AreChannelLists}

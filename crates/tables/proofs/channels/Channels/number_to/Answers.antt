@@ -1,6 +1,5 @@
 use Rattle.std.proofs.Common.{Some, get_or, ap, ◌∙◌, sym, subst}
 use Rattle.tables.specs.Channels.{number_to}
-use Rattle.tables.specs.RowLists.{channels_of}
 use Rattle.tables.specs.Search.{AreAscending, IsFoundAt, IsMissingAt}
 use Rattle.tables.proofs.ChannelRows.{by_peer, blank, searchable_by_peer, is_to-missing, number_to-none, number_to-found}
 use Rattle.tables.proofs.channels.Channels.number_to.Goals as goal

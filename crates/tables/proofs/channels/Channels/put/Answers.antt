@@ -5,7 +5,8 @@ use Rattle.tables.specs.RowLists.{channels_of}
 use Rattle.tables.specs.Search.{AreAscending, IsPlace, has_room, with_row}
 use Rattle.tables.specs.SortedRows.{AreChannelLists}
 use Rattle.tables.specs.declared.channels.TheConstants.{MAX_CHANNELS}
-use Rattle.tables.proofs.ChannelRows.{by_number, by_peer, searchable_by_number, searchable_by_peer, found_inside, room_for_peer, few-put, full-put, new, put_map, put_lists}
+use Rattle.tables.proofs.ChannelRows.{by_number, by_peer, searchable_by_number, searchable_by_peer, room_for_peer, few-put, full-put, put_map, put_lists}
+use Rattle.tables.proofs.Searches.{place_inside}
 use Rattle.tables.proofs.channels.Channels.put.Goals as goal
 
 pub place_of-place-requires : goal.place_of-place-requires
@@ -35,7 +36,7 @@ put_at-requires-2 c =
     let place_by_peer = c.place_of-place_by_peer.result in
     let at_peer = subst (λ s. IsPlace (by_peer c.args.binding.peer) s place_by_peer) c.as_slice-3.ensures.value c.place_of-place_by_peer.ensures in
     let room : has_room MAX_CHANNELS (length rows) place ≡ true = ap (λ s. has_room MAX_CHANNELS (length s) place) (sym c.as_slice-2.ensures.value) ∙ sym c.has_room.ensures ∙ c.if-not-has_room.false in
-    (omega arith, (found_inside (by_peer c.args.binding.peer) others place_by_peer at_peer, room_for_peer c.args.number c.args.binding rows others c.self.invariant free c.requires.range.0 c.requires.range.1 place place_by_peer at at_peer MAX_CHANNELS room))
+    (omega arith, (place_inside (by_peer c.args.binding.peer) others place_by_peer at_peer, room_for_peer c.args.number c.args.binding rows others c.self.invariant free c.requires.range.0 c.requires.range.1 place place_by_peer at at_peer MAX_CHANNELS room))
 
 pub invariant_of-self : goal.invariant_of-self
 invariant_of-self c =

@@ -1,4 +1,4 @@
-use Rattle.std.proofs.Common.{◌≡◌, ◌<◌, ◌≤◌, List, length, filter, is_some, map, set, Some, sym, ap, ◌∙◌, subst, arith, option_and_then, IfOk, IfErr}
+use Rattle.std.proofs.Common.{◌<◌, length, filter, is_some, map, set, Some, sym, ap, ◌∙◌, subst, arith, option_and_then}
 use Rattle.std.proofs.lemmas.List.{length-map}
 use Rattle.std.proofs.lemmas.Option.{same_Some}
 use Rattle.tables.specs.Changes.{with_held}
@@ -8,7 +8,8 @@ use Rattle.tables.specs.Stored.{stored_at, left_at, AreClients}
 use Rattle.tables.specs.WellFormed.{IsHeldAt, AreWellFormed}
 use Rattle.tables.specs.WellFormedLaws.{set-well_formed}
 use Rattle.tables.specs.declared.clients.Client.{Client}
-use Rattle.tables.proofs.ClientRows.{by_client, searchable_by_client, swept_are, kept_shown, few-admitted, are-admitted, slots_at-admitted, place_inside, place_room, swept-well_formed}
+use Rattle.tables.proofs.ClientRows.{by_client, searchable_by_client, swept_are, kept_shown, few-admitted, are-admitted, slots_at-admitted, swept-well_formed}
+use Rattle.tables.proofs.Searches.{place_inside, place_room}
 use Rattle.tables.proofs.Slots.{counting-stored, held_in-stored, held_by-stored}
 use Rattle.tables.proofs.storage.Tables.admit.Goals as goal
 
