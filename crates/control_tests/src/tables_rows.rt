@@ -122,7 +122,7 @@ fn expect<T: Copy + PartialEq + Debug>(rt: &impl Abort, index: usize, found: T, 
     assert_eq!(rt; found, expected, "step {index}");
 }
 
-/// Compares the permissions of slot 0.
+/// Compares the permissions of slot 0, which are in the order of their addresses.
 fn check_permissions(
     rt: &impl Abort,
     tables: &Tables,
@@ -140,7 +140,7 @@ fn check_permissions(
     }
 }
 
-/// Compares the channels of slot 0.
+/// Compares the channels of slot 0, which are in the order of their numbers.
 fn check_channels(
     rt: &impl Abort,
     tables: &Tables,
@@ -311,6 +311,27 @@ fn the_lowest_free_slot_is_taken(rt: &impl Abort, alloc: Global) -> Result<(), A
     check_steps(rt, alloc, 2, &steps)
 }
 
+fn a_client_comes_back_at_another_slot(rt: &impl Abort, alloc: Global) -> Result<(), AllocError> {
+    let back = Found {
+        client: Some((0, 2300)),
+        slot: Some((2, 600)),
+        ..NOTHING
+    };
+    let steps = [
+        Step::Allocate(1000, OTHER_CLIENT, 0, 600, Ok(0)),
+        Step::Allocate(1000, CLIENT, 1, 700, Ok(1)),
+        // both have ended by now, and slot 1 holds the client's old allocation
+        Step::Allocate(1700, CLIENT, 2, 600, Ok(0)),
+        Step::Find(1700, back),
+        Step::Allocate(1700, THIRD_CLIENT, 3, 600, Ok(1)),
+        Step::Find(2299, back),
+        Step::Refresh(2299, 1, 0, Ok(())),
+        Step::Find(2299, back),
+        Step::Find(2300, NOTHING),
+    ];
+    check_steps(rt, alloc, 2, &steps)
+}
+
 fn a_channel_and_a_peer_belong_together(rt: &impl Abort, alloc: Global) -> Result<(), AllocError> {
     let held = Found {
         client: Some((0, 4600)),
@@ -344,7 +365,7 @@ fn a_channel_and_a_peer_belong_together(rt: &impl Abort, alloc: Global) -> Resul
         Step::Permissions(1600, &[(7, 1899), (8, 1900)]),
         Step::Channels(
             1600,
-            &[(0x4002, peer(7, 5001), 2199), (NUMBER, peer(8, 5000), 2200)],
+            &[(NUMBER, peer(8, 5000), 2200), (0x4002, peer(7, 5001), 2199)],
         ),
     ];
     check_steps(rt, alloc, 1, &steps)
@@ -400,9 +421,32 @@ fn only_distinct_addresses_that_count_fill_capacity(
     check_steps(rt, alloc, 1, &steps)
 }
 
+fn ended_permissions_make_room(rt: &impl Abort, alloc: Global) -> Result<(), AllocError> {
+    let addresses = addresses();
+    let (front, last) = addresses.split_at(64);
+    let steps = [
+        Step::Allocate(1000, CLIENT, 0, 3600, Ok(0)),
+        Step::Permit(1000, front, Ok(())),
+        Step::Permit(1299, last, Err(Refused::Capacity)),
+        Step::Permit(1300, last, Ok(())),
+        Step::Permissions(1300, &[(64, 1600)]),
+    ];
+    check_steps(rt, alloc, 1, &steps)
+}
+
+/// Returns the last byte of each of the addresses 192.0.2.0 to 192.0.2.63, with an end.
+fn ending(end: u64) -> [(u8, u64); 64] {
+    let mut ends = [(0, end); 64];
+    for i in 0..64 {
+        ends[i] = (i as u8, end);
+    }
+    ends
+}
+
 fn what_is_refused_later_is_there_before(rt: &impl Abort, alloc: Global) -> Result<(), AllocError> {
     let addresses = addresses();
     let (front, _) = addresses.split_at(64);
+    let all = ending(1300);
     let steps = [
         Step::Allocate(1000, CLIENT, 0, 3600, Ok(0)),
         Step::Permit(1000, front, Ok(())),
@@ -410,6 +454,7 @@ fn what_is_refused_later_is_there_before(rt: &impl Abort, alloc: Global) -> Resu
         Step::Permit(2000, &addresses, Err(Refused::Capacity)),
         Step::IsPermitted(1200, 0, true),
         Step::IsPermitted(1200, 63, true),
+        Step::Permissions(1200, &all),
     ];
     check_steps(rt, alloc, 1, &steps)
 }
@@ -474,8 +519,10 @@ fn rows_end_as_the_stories_say(rt: HostRuntime) -> Result<(), AllocError> {
     a_refreshed_allocation_keeps_its_rows(&rt, alloc)?;
     a_deleted_allocation_takes_its_rows_along(&rt, alloc)?;
     the_lowest_free_slot_is_taken(&rt, alloc)?;
+    a_client_comes_back_at_another_slot(&rt, alloc)?;
     a_channel_and_a_peer_belong_together(&rt, alloc)?;
     only_distinct_addresses_that_count_fill_capacity(&rt, alloc)?;
+    ended_permissions_make_room(&rt, alloc)?;
     what_is_refused_later_is_there_before(&rt, alloc)?;
     a_moment_after_the_latest_counts_as_that(&rt, alloc)
 }

@@ -1,8 +1,11 @@
 pub mod Lists
+pub mod Searches
+pub mod Ascending
 pub mod Maps
 pub mod Peers
 pub mod PermissionRows
 pub mod ChannelRows
 pub mod Slots
+pub mod ClientRows
 pub mod Found
 pub mod HeldRows

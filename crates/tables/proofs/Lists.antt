@@ -1,12 +1,11 @@
 -- Pairs of elements, and places in lists.
-use Rattle.std.proofs.Common.{◌≡◌, ◌≢◌, ℕ, zero, suc, ◌<◌, ◌≤◌, Bool, false, cond, List, ◌∷◌, length, get_or, set, Option, Some, None, All, AllPairs, position, nat_lt, sym, refl, ap, ◌∙◌, subst, inl, inr, arith, get_or-set_same, get_or-set_other, filter, not}
+use Rattle.std.proofs.Common.{◌≡◌, ◌≢◌, ℕ, zero, suc, ◌+◌, ◌-◌, ◌<◌, ◌≤◌, Bool, List, ◌∷◌, length, get_or, set, All, AllPairs, sym, refl, ap, ◌∙◌, subst, inl, inr, arith, get_or-set_same, get_or-set_other, filter, not}
 use Rattle.std.proofs.lemmas.List.{length-set}
 use Rattle.std.proofs.lemmas.List.Filters.{length-filter_both}
 use Rattle.arrayvec.proofs.ArrayVecLemmas.{items-with_items}
-use Rattle.std.specs.List.{position_or_len, refill}
-use Rattle.std.proofs.lemmas.Bool.{cases_Bool, cases_eq, cond-true, ltb-false}
-use Rattle.std.proofs.lemmas.List.Sums.{fails_before_first}
-use Rattle.std.proofs.lemmas.Option.{none-some}
+use Rattle.std.specs.List.{refill, insert}
+use Rattle.std.proofs.lemmas.List.Edits.{length-insert, get_or-insert_below, get_or-insert_at, get_or-insert_above}
+use Rattle.std.proofs.lemmas.Bool.{cases_eq, cases_order}
 
 module _ {A : Type 0} (R : A → A → Type 0) where
   pub AllPairs-head : (x : A) (xs : List A) → AllPairs R (x ∷ xs) → All (R x) xs
@@ -40,14 +39,45 @@ module _ {A : Type 0} (R : A → A → Type 0) where
         ]
       ]
 
-at_none : (a b : ℕ) → cond (nat_lt a b) (Some a) None ≡ None → b ≤ a
-at_none a b e = elim (cases_Bool (nat_lt a b)) [
-  | inl t ↦ absurd (none-some a (sym e ∙ cond-true (nat_lt a b) (Some a) None t))
-  | inr t ↦ ltb-false a b t
-]
+  -- after an insert, where the new element fits the others
+  pub AllPairs-insert : (xs : List A) (n : ℕ) (y : A) → n ≤ length xs → AllPairs R xs
+      → ((k : ℕ) (d : A) → k < n → R (get_or xs k d) y)
+      → ((k : ℕ) (d : A) → n ≤ k → k < length xs → R y (get_or xs k d))
+      → AllPairs R (insert xs n y)
+  AllPairs-insert xs n y within all before after = λ i j d p l.
+      let long : length (insert xs n y) ≡ length xs + 1 = length-insert xs n y within in
+      let low : (k : ℕ) → k < n → get_or xs k d ≡ get_or (insert xs n y) k d = λ k q. sym (get_or-insert_below xs n y d k q within) in
+      let high : (k : ℕ) → n < k → get_or xs (k - 1) d ≡ get_or (insert xs n y) k d = λ k q.
+      let more : k - 1 + 1 ≡ k = omega arith in
+      sym (get_or-insert_above xs n y d (k - 1) (omega arith) within) ∙ ap (λ m. get_or (insert xs n y) m d) more in
+      let here : y ≡ get_or (insert xs n y) n d = sym (get_or-insert_at xs n y d within) in
+      elim (cases_order i n) [
+        | inl e ↦ subst (λ (a : A). R a (get_or (insert xs n y) j d)) (here ∙ ap (λ m. get_or (insert xs n y) m d) (sym e))
+            (subst (λ (b : A). R y b) (high j (omega (arith, e, p))) (after (j - 1) d (omega (arith, e, p)) (omega (arith, e, p, l, long))))
+        | inr s ↦ elim s [
+          | inl q ↦ elim (cases_order j n) [
+            | inl e ↦ subst (λ (b : A). R (get_or (insert xs n y) i d) b) (here ∙ ap (λ m. get_or (insert xs n y) m d) (sym e)) (subst (λ (a : A). R a y) (low i q) (before i d q))
+            | inr t ↦ elim t [
+              | inl r ↦ subst (λ (a : A). R a (get_or (insert xs n y) j d)) (low i q) (subst (λ (b : A). R (get_or xs i d) b) (low j r) (all i j d p (omega (arith, r, within))))
+              | inr r ↦ subst (λ (a : A). R a (get_or (insert xs n y) j d)) (low i q) (subst (λ (b : A). R (get_or xs i d) b) (high j r) (all i (j - 1) d (omega (arith, q, r)) (omega (arith, r, l, long))))
+            ]
+          ]
+          | inr q ↦
+              let r : n < j = omega (arith, p, q) in
+              subst (λ (a : A). R a (get_or (insert xs n y) j d)) (high i q) (subst (λ (b : A). R (get_or xs (i - 1) d) b) (high j r) (all (i - 1) (j - 1) d (omega (arith, p, q)) (omega (arith, r, l, long))))
+        ]
+      ]
 
-pub position-None : {A : Type 0} (p : A → Bool) (xs : List A) → position p xs ≡ None → All (λ x. p x ≡ false) xs
-position-None p xs e = λ k d l. let far = at_none (position_or_len p xs) (length xs) e in fails_before_first p xs k d (omega arith)
+pub All-insert : {A : Type 0} (P : A → Type 0) (xs : List A) (n : ℕ) (y : A) → n ≤ length xs → All P xs → P y → All P (insert xs n y)
+All-insert P xs n y within all new = λ k d l. elim (cases_order k n) [
+  | inl e ↦ subst P (sym (get_or-insert_at xs n y d within) ∙ ap (λ m. get_or (insert xs n y) m d) (sym e)) new
+  | inr s ↦ elim s [
+    | inl q ↦ subst P (sym (get_or-insert_below xs n y d k q within)) (all k d (omega (arith, q, within)))
+    | inr q ↦
+        let more : k - 1 + 1 ≡ k = omega arith in
+        subst P (sym (get_or-insert_above xs n y d (k - 1) (omega arith) within) ∙ ap (λ m. get_or (insert xs n y) m d) more) (all (k - 1) d (omega (arith, q, l, length-insert xs n y within)))
+  ]
+]
 
 pub length-filter-le : {A : Type 0} (p : A → Bool) (xs : List A) → length (filter p xs) ≤ length xs
 length-filter-le p xs = omega (arith, length-filter_both p (λ x. not (p x)) (λ x. refl) xs)
@@ -58,7 +88,3 @@ written {A} shown xs i new d same =
     let ys : List A = set shown i (new (get_or shown i d)) in
     let long : length ys ≡ length xs = length-set shown i (new (get_or shown i d)) ∙ ap length same in
     items-with_items (record { items = xs }) ys long ∙ ap (λ s. set s i (new (get_or s i d))) same
-
--- where an index was found in the same elements
-pub placed : {A : Type 0} (p : A → Bool) {shown xs : List A} {r o : Option ℕ} → shown ≡ xs → r ≡ position p shown → r ≡ o → position p xs ≡ o
-placed p same found is = ap (position p) (sym same) ∙ sym found ∙ is

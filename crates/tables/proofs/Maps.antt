@@ -1,15 +1,15 @@
 -- Finite maps by `from_entries` of lists whose keys differ.
-use Rattle.std.proofs.Common.{◌≡◌, ◌≢◌, ℕ, zero, suc, ◌+◌, ◌<◌, ◌≤◌, Bool, true, false, cond, List, [], ◌∷◌, ◌++◌, map, filter, find, length, get_or, set, Option, Some, None, is_some, option_map, All, AllPairs, position, Ordering, is_eq, sym, refl, ap, ◌∙◌, subst, inl, inr, arith}
+use Rattle.std.proofs.Common.{◌≡◌, ◌≢◌, ℕ, zero, suc, ◌+◌, ◌<◌, ◌≤◌, Bool, true, false, cond, List, [], ◌∷◌, ◌++◌, map, filter, find, length, get_or, set, Option, Some, None, is_some, option_map, All, AllPairs, Ordering, is_eq, take, drop, sym, refl, ap, ◌∙◌, subst, inl, inr, arith}
 use Rattle.std.specs.Ordering.{eq_by_cmp}
 use Rattle.std.specs.Cmp.{IsTotalOrder, Equal-is, tied_itself}
-use Rattle.std.specs.FinMap.{FinMap, IsAntisymmetric, get, insert, len, entries, retain_keys, from_entries, get-entries, get-from_entries, get-insert, get-retain_keys, get_tied, same_map, from_entries_push, len-insert, len-empty, contains_key, find as lookup}
+use Rattle.std.specs.List.{insert as insert_at}
+use Rattle.std.specs.FinMap.{FinMap, IsAntisymmetric, get, insert, len, entries, retain_keys, from_entries, get-entries, get-from_entries, get-insert, get-retain_keys, get_tied, same_map, len-insert, len-empty, contains_key, find as lookup}
 use Rattle.std.proofs.lemmas.Bool.{cases_Bool, cond-true, cond-false, false_from_ne_true, both_ways}
 use Rattle.std.proofs.lemmas.Option.{none-some, same_Some}
-use Rattle.std.proofs.lemmas.List.{map-append, get_or_default}
-use Rattle.std.proofs.lemmas.List.Quantifiers.{position-Some, all_pairs_push}
+use Rattle.std.proofs.lemmas.List.{get_or_default, take-append-drop}
 use Rattle.tables.specs.MapLaws.{entry_found}
 use Rattle.tables.specs.RetainedLaws.{none_kept}
-use Rattle.tables.proofs.Lists.{AllPairs-head, AllPairs-tail, AllPairs-set, position-None}
+use Rattle.tables.proofs.Lists.{AllPairs-head, AllPairs-tail, AllPairs-set}
 
 -- two tests that do not pass together may change places
 swapped : {A : Type 0} (a b : Bool) (x y z : A) → (a ≡ true → b ≡ true → ⊥) → cond a x (cond b y z) ≡ cond b y (cond a x z)
@@ -115,10 +115,22 @@ module _ {K : Type 0} {R : K → K → Ordering} (o : IsTotalOrder R) (same : Is
         same_map o same _ _ (λ q. get-from_entries o (map f (set xs i y)) q ∙ find-set q xs i y d h l e
         ∙ sym (get-insert o (from_entries (map f xs)) (f y).0 (f y).1 q ∙ ap (cond (eq_by_cmp R q (f y).0) (Some (f y).1)) (get-from_entries o (map f xs) q)))
 
-    -- to push a row with a new key is to insert it
-    pub from_entries-push : (xs : List Row) (y : Row) → All (λ x. (f y).0 ≢ (f x).0) xs
-        → from_entries {R = R} (map f (xs ++ y ∷ [])) ≡ insert (from_entries (map f xs)) (f y).0 (f y).1
-    from_entries-push xs y h = ap (λ es. from_entries {R = R} es) (map-append f xs (y ∷ [])) ∙ from_entries_push o same (map f xs) (f y).0 (f y).1 (find-absent (f y).0 xs h)
+    find-among : (q : K) (xs ys : List Row) (y : Row) → All (λ z. (f y).0 ≢ (f z).0) (xs ++ ys)
+        → lookup R q (map f (xs ++ y ∷ ys)) ≡ cond (eq_by_cmp R q (f y).0) (Some (f y).1) (lookup R q (map f (xs ++ ys)))
+    find-among q [] ys y h = refl
+    find-among q (x ∷ xs) ys y h =
+        ap (cond (eq_by_cmp R q (f x).0) (Some (f x).1)) (find-among q xs ys y (λ k d l. h (suc k) d (omega arith)))
+        ∙ swapped (eq_by_cmp R q (f x).0) (eq_by_cmp R q (f y).0) _ _ _ (λ s t. h zero x (omega arith) (sym (tied q (f y).0 t) ∙ tied q (f x).0 s))
+
+    -- to insert a row with a new key at an index is to insert it
+    pub from_entries-insert : (xs : List Row) (i : ℕ) (y : Row) → All (λ x. (f y).0 ≢ (f x).0) xs
+        → from_entries {R = R} (map f (insert_at xs i y)) ≡ insert (from_entries (map f xs)) (f y).0 (f y).1
+    from_entries-insert xs i y h =
+        let whole : take i xs ++ drop i xs ≡ xs = take-append-drop i xs in
+        let each : All (λ x. (f y).0 ≢ (f x).0) (take i xs ++ drop i xs) = subst (All (λ x. (f y).0 ≢ (f x).0)) (sym whole) h in
+        same_map o same _ _ (λ q. get-from_entries o (map f (insert_at xs i y)) q ∙ find-among q (take i xs) (drop i xs) y each
+        ∙ ap (λ s. cond (eq_by_cmp R q (f y).0) (Some (f y).1) (lookup R q (map f s))) whole
+        ∙ sym (get-insert o (from_entries (map f xs)) (f y).0 (f y).1 q ∙ ap (cond (eq_by_cmp R q (f y).0) (Some (f y).1)) (get-from_entries o (map f xs) q)))
 
     pub len-from_entries : (xs : List Row) → Distinct xs → len (from_entries {R = R} (map f xs)) ≡ length xs
     len-from_entries [] h = len-empty R X
@@ -136,29 +148,6 @@ module _ {K : Type 0} {R : K → K → Ordering} (o : IsTotalOrder R) (same : Is
         AllPairs-set (λ a b. (f a).0 ≢ (f b).0) xs i y l h
         (λ k c p s. h k i c p l (s ∙ e ∙ ap (λ r. (f r).0) (get_or_default xs i d c l)))
         (λ k c p q s. h i k c p q (ap (λ r. (f r).0) (get_or_default xs i c d l) ∙ sym e ∙ s))
-
-    pub Distinct-push : (xs : List Row) (y : Row) → Distinct xs → All (λ x. (f y).0 ≢ (f x).0) xs → Distinct (xs ++ y ∷ [])
-    Distinct-push xs y h new = all_pairs_push (λ a b. (f a).0 ≢ (f b).0) xs y h (λ k d l s. new k d l (sym s))
-
-    -- what a search for a key gives
-    pub find-at_place : (q : K) (p : Row → Bool) → ((x : Row) → p x ≡ eq_by_cmp R q (f x).0) → (xs : List Row) (i : ℕ) (d : Row) → Distinct xs → position p xs ≡ Some i
-        → get (from_entries {R = R} (map f xs)) q ≡ Some (f (get_or xs i d)).1
-    find-at_place q p is xs i d h e =
-        let r = position-Some p xs i d e in
-        get-from_entries o (map f xs) q ∙ find_at q xs i d h r.0 (tied q (f (get_or xs i d)).0 (sym (is (get_or xs i d)) ∙ r.1))
-
-    pub key-at_place : (q : K) (p : Row → Bool) → ((x : Row) → p x ≡ eq_by_cmp R q (f x).0) → (xs : List Row) (i : ℕ) (d : Row) → position p xs ≡ Some i
-        → (i < length xs) × (q ≡ (f (get_or xs i d)).0)
-    key-at_place q p is xs i d e =
-        let r = position-Some p xs i d e in
-        (r.0, tied q (f (get_or xs i d)).0 (sym (is (get_or xs i d)) ∙ r.1))
-
-    pub no_key-at_none : (q : K) (p : Row → Bool) → ((x : Row) → p x ≡ eq_by_cmp R q (f x).0) → (xs : List Row) → position p xs ≡ None → All (λ x. q ≢ (f x).0) xs
-    no_key-at_none q p is xs e = λ k d l s. both_ways (p (get_or xs k d)) (position-None p xs e k d l) (is (get_or xs k d) ∙ itself q (f (get_or xs k d)).0 s)
-
-    pub get-at_none : (q : K) (p : Row → Bool) → ((x : Row) → p x ≡ eq_by_cmp R q (f x).0) → (xs : List Row) → position p xs ≡ None
-        → get (from_entries {R = R} (map f xs)) q ≡ None
-    get-at_none q p is xs e = get-from_entries o (map f xs) q ∙ find-absent q xs (no_key-at_none q p is xs e)
 
 -- a map never gets smaller by an insert
 pub len-insert-ge : {K X : Type 0} {R : K → K → Ordering} → IsTotalOrder R → (m : FinMap R X) (k : K) (v : X) → len m ≤ len (insert m k v)

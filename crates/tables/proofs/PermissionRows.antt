@@ -1,26 +1,35 @@
 -- Permissions as they are stored, and their map.
-use Rattle.std.proofs.Common.{◌≡◌, ◌≢◌, ℕ, ◌+◌, ◌≤◌, Bool, List, [], ◌∷◌, ◌++◌, length, get_or, set, filter, position, nat_lt, Some, None, Result, Ok, Err, OnErr, All, sym, refl, ap, ◌∙◌, arith}
-use Rattle.std.specs.Ordering.{eq_by_cmp}
+use Rattle.std.proofs.Common.{Ordering, ◌≡◌, ℕ, ◌+◌, ◌≤◌, List, [], ◌∷◌, length, get_or, set, filter, nat_lt, Some, None, Result, Ok, Err, OnErr, sym, refl, ap, ◌∙◌, arith}
 use Rattle.std.specs.FinMap.{get, insert, len}
-use Rattle.std.proofs.lemmas.List.{length-set, length_push}
-use Rattle.std.proofs.lemmas.List.Kept.{AllPairs-filter}
+use Rattle.std.specs.List.{insert as insert_at}
+use Rattle.std.specs.FinMap.{get-from_entries}
+use Rattle.std.proofs.lemmas.List.{length-set}
+use Rattle.std.proofs.lemmas.List.Edits.{length-insert}
 use Rattle.attributes.specs.Addresses.{ip_of}
 use Rattle.attributes.specs.declared.address.Addr.{Addr}
 use Rattle.attributes.specs.declared.address.Addr.TheVariants.{V4}
-use Rattle.tables.specs.Addresses.{ip_cmp}
 use Rattle.tables.specs.Moments.{counts_at}
 use Rattle.tables.specs.Permissions.{PermissionMap, permissions_at, with_all}
 use Rattle.tables.specs.RowLists.{permissions_of, ArePermissions}
 use Rattle.tables.specs.RowLaws.{ip_total, ip_antisymmetric}
 use Rattle.tables.specs.declared.permissions.Permission.{Permission}
 use Rattle.tables.proofs.Lists.{length-filter-le}
-use Rattle.tables.proofs.Maps.{from_entries-filter, from_entries-set, from_entries-push, len-from_entries, find-at_place, key-at_place, no_key-at_none, get-at_none, Distinct-set, Distinct-push, len-insert-ge}
+use Rattle.tables.specs.AddressOrder.{ip_order}
+use Rattle.tables.specs.AddressOrderLaws.{ip_order-total, ip_order-antisymmetric}
+use Rattle.tables.specs.Search.{AreAscending, IsFoundAt, IsMissingAt}
+use Rattle.tables.specs.SortedRows.{AreSortedPermissions}
+use Rattle.tables.proofs.Ascending.{searchable, Ascending-distinct, Ascending-filter, Ascending-set, Ascending-insert, missing_key, found_key}
+use Rattle.tables.proofs.Maps.{from_entries-filter, from_entries-set, from_entries-insert, len-from_entries, find_at, find-absent, len-insert-ge}
 
 abbrev pub entry_of : Permission → List ℕ × ℕ
 entry_of row = (ip_of row.ip, row.end)
 
-abbrev pub is_for : List ℕ → Permission → Bool
-is_for ip row = eq_by_cmp ip_cmp ip (ip_of row.ip)
+abbrev pub ip_in : Permission → List ℕ
+ip_in row = ip_of row.ip
+
+-- how a row compares with an IP address
+abbrev pub by_ip : List ℕ → Permission → Ordering
+by_ip ip row = ip_order (ip_of row.ip) ip
 
 -- what is read behind the last row
 abbrev pub blank : Permission
@@ -30,42 +39,46 @@ blank = record { ip = V4 [] 0; end = 0 }
 abbrev pub ending : ℕ → Permission → Permission
 ending end row = record row { end = end }
 
-pub len-permissions : (rows : List Permission) → ArePermissions rows → len (permissions_of rows) ≡ length rows
-len-permissions rows are = len-from_entries ip_total ip_antisymmetric entry_of rows are.distinct
+pub are_permissions : (rows : List Permission) → AreSortedPermissions rows → ArePermissions rows
+are_permissions rows sorted = record { distinct = Ascending-distinct ip_order-total ip_in rows sorted }
+
+pub searchable_by : (ip : List ℕ) (rows : List Permission) → AreSortedPermissions rows → AreAscending (by_ip ip) rows
+searchable_by ip rows sorted = searchable ip_order-total ip_in rows ip sorted
+
+pub len-permissions : (rows : List Permission) → AreSortedPermissions rows → len (permissions_of rows) ≡ length rows
+len-permissions rows sorted = len-from_entries ip_total ip_antisymmetric entry_of rows (are_permissions rows sorted).distinct
 
 -- ---- those that count
 
-pub filtered_are : (t : ℕ) (rows : List Permission) → ArePermissions rows → ArePermissions (filter (λ row. nat_lt t row.end) rows)
-filtered_are t rows are = record { distinct = AllPairs-filter (λ a b. ip_of a.ip ≢ ip_of b.ip) (λ row. nat_lt t row.end) rows are.distinct }
+pub filtered_are : (t : ℕ) (rows : List Permission) → AreSortedPermissions rows → AreSortedPermissions (filter (λ row. nat_lt t row.end) rows)
+filtered_are t rows sorted = Ascending-filter ip_order-total ip_in (λ row. nat_lt t row.end) rows sorted
 
-pub filtered : (t : ℕ) (rows : List Permission) → ArePermissions rows → permissions_of (filter (λ row. nat_lt t row.end) rows) ≡ permissions_at t (permissions_of rows)
-filtered t rows are = from_entries-filter ip_total ip_antisymmetric entry_of (counts_at t) (λ row. nat_lt t row.end) (λ x. refl) rows are.distinct
+pub filtered : (t : ℕ) (rows : List Permission) → AreSortedPermissions rows → permissions_of (filter (λ row. nat_lt t row.end) rows) ≡ permissions_at t (permissions_of rows)
+filtered t rows are = from_entries-filter ip_total ip_antisymmetric entry_of (counts_at t) (λ row. nat_lt t row.end) (λ x. refl) rows (are_permissions rows are).distinct
 
-pub len-filtered : (t most : ℕ) (rows : List Permission) → ArePermissions rows → length rows ≤ most → len (permissions_of (filter (λ row. nat_lt t row.end) rows)) ≤ most
+pub len-filtered : (t most : ℕ) (rows : List Permission) → AreSortedPermissions rows → length rows ≤ most → len (permissions_of (filter (λ row. nat_lt t row.end) rows)) ≤ most
 len-filtered t most rows are few =
     omega (arith, len-permissions (filter (λ row. nat_lt t row.end) rows) (filtered_are t rows are), length-filter-le (λ row. nat_lt t row.end) rows)
 
 -- ---- a look-up
 
-pub found : (ip : List ℕ) (rows : List Permission) (i : ℕ) (d : Permission) → ArePermissions rows → position (is_for ip) rows ≡ Some i → get (permissions_of rows) ip ≡ Some (get_or rows i d).end
-found ip rows i d are at = find-at_place ip_total ip_antisymmetric entry_of ip (is_for ip) (λ x. refl) rows i d are.distinct at
+pub found : (ip : List ℕ) (rows : List Permission) (i : ℕ) (d : Permission) → AreSortedPermissions rows → IsFoundAt (by_ip ip) rows i → get (permissions_of rows) ip ≡ Some (get_or rows i d).end
+found ip rows i d sorted at =
+    get-from_entries ip_total _ ip ∙ find_at ip_total ip_antisymmetric entry_of ip rows i d (are_permissions rows sorted).distinct at.inside (found_key ip_order-total ip_in ip_order-antisymmetric rows ip i d at)
 
-pub missing : (ip : List ℕ) (rows : List Permission) → position (is_for ip) rows ≡ None → get (permissions_of rows) ip ≡ None
-missing ip rows none = get-at_none ip_total ip_antisymmetric entry_of ip (is_for ip) (λ x. refl) rows none
+pub missing : (ip : List ℕ) (rows : List Permission) (i : ℕ) → IsMissingAt (by_ip ip) rows i → get (permissions_of rows) ip ≡ None
+missing ip rows i none = get-from_entries ip_total _ ip ∙ find-absent ip_total ip_antisymmetric entry_of ip rows (missing_key ip_order-total ip_in rows ip i none)
 
 -- ---- a new end
 
-module _ (ip : List ℕ) (rows : List Permission) (are : ArePermissions rows) (i end : ℕ) (d : Permission) (at : position (is_for ip) rows ≡ Some i) where
-  pub renewed_are : ArePermissions (set rows i (ending end (get_or rows i d)))
-  renewed_are =
-      let key = key-at_place ip_total ip_antisymmetric entry_of ip (is_for ip) (λ x. refl) rows i d at in
-      record { distinct = Distinct-set ip_total ip_antisymmetric entry_of rows i (ending end (get_or rows i d)) d are.distinct key.0 refl }
+module _ (ip : List ℕ) (rows : List Permission) (sorted : AreSortedPermissions rows) (i end : ℕ) (d : Permission) (at : IsFoundAt (by_ip ip) rows i) where
+  pub renewed_are : AreSortedPermissions (set rows i (ending end (get_or rows i d)))
+  renewed_are = Ascending-set ip_order-total ip_in rows i (ending end (get_or rows i d)) d sorted at.inside refl
 
   pub renewed : permissions_of (set rows i (ending end (get_or rows i d))) ≡ insert (permissions_of rows) ip end
   renewed =
-      let key = key-at_place ip_total ip_antisymmetric entry_of ip (is_for ip) (λ x. refl) rows i d at in
-      from_entries-set ip_total ip_antisymmetric entry_of rows i (ending end (get_or rows i d)) d are.distinct key.0 refl
-      ∙ ap (λ k. insert (permissions_of rows) k end) (sym key.1)
+      from_entries-set ip_total ip_antisymmetric entry_of rows i (ending end (get_or rows i d)) d (are_permissions rows sorted).distinct at.inside refl
+      ∙ ap (λ k. insert (permissions_of rows) k end) (sym (found_key ip_order-total ip_in ip_order-antisymmetric rows ip i d at))
 
   pub len-renewed : (most : ℕ) → length rows ≤ most → len (permissions_of (set rows i (ending end (get_or rows i d)))) ≤ most
   len-renewed most few =
@@ -73,21 +86,18 @@ module _ (ip : List ℕ) (rows : List Permission) (are : ArePermissions rows) (i
 
 -- ---- a new permission
 
-module _ (rows : List Permission) (are : ArePermissions rows) (row : Permission) (none : position (is_for (ip_of row.ip)) rows ≡ None) where
-  new_key : All (λ x. ip_of row.ip ≢ ip_of x.ip) rows
-  new_key = no_key-at_none ip_total ip_antisymmetric entry_of (ip_of row.ip) (is_for (ip_of row.ip)) (λ x. refl) rows none
+module _ (rows : List Permission) (sorted : AreSortedPermissions rows) (row : Permission) (i : ℕ) (none : IsMissingAt (by_ip (ip_of row.ip)) rows i) where
+  pub inserted_are : AreSortedPermissions (insert_at rows i row)
+  inserted_are = Ascending-insert ip_order-total ip_in rows i row sorted none
 
-  pub pushed_are : ArePermissions (rows ++ row ∷ [])
-  pushed_are = record { distinct = Distinct-push ip_total ip_antisymmetric entry_of rows row are.distinct new_key }
+  pub inserted : permissions_of (insert_at rows i row) ≡ insert (permissions_of rows) (ip_of row.ip) row.end
+  inserted = from_entries-insert ip_total ip_antisymmetric entry_of rows i row (missing_key ip_order-total ip_in rows (ip_of row.ip) i none)
 
-  pub pushed : permissions_of (rows ++ row ∷ []) ≡ insert (permissions_of rows) (ip_of row.ip) row.end
-  pushed = from_entries-push ip_total ip_antisymmetric entry_of rows row new_key
-
-  pub len-pushed : len (permissions_of (rows ++ row ∷ [])) ≡ length rows + 1
-  len-pushed = len-permissions (rows ++ row ∷ []) pushed_are ∙ length_push rows row
+  pub len-inserted : len (permissions_of (insert_at rows i row)) ≡ length rows + 1
+  len-inserted = len-permissions (insert_at rows i row) inserted_are ∙ length-insert rows i row none.inside
 
   pub len-insert-full : len (insert (permissions_of rows) (ip_of row.ip) row.end) ≡ length rows + 1
-  len-insert-full = ap len (sym pushed) ∙ len-pushed
+  len-insert-full = ap len (sym inserted) ∙ len-inserted
 
 -- ---- permissions for all
 

@@ -1,12 +1,12 @@
 -- The slots as they are stored, and the rows that count.
-use Rattle.std.proofs.Common.{◌≡◌, ℕ, zero, suc, ◌<◌, ◌≤◌, ◌+◌, true, false, cond, List, ◌∷◌, length, get_or, set, drop, find, replicate, slice_get, nat_lt, Option, Some, None, is_some, is_none, IfSome, option_and_then, option_copied, sym, refl, ap, ◌∙◌, Bor, arith}
+use Rattle.std.proofs.Common.{◌≡◌, ℕ, zero, suc, ◌<◌, ◌≤◌, true, false, cond, List, ◌∷◌, length, get_or, set, find, replicate, slice_get, nat_lt, Option, Some, None, is_some, is_none, IfSome, option_and_then, option_copied, sym, refl, ap, ◌∙◌, Bor, arith}
 use Rattle.std.specs.List.{position_or_len}
 use Rattle.std.specs.Option.{option_flatten}
 use Rattle.std.proofs.lemmas.Bool.{cond-true, cond-false, ltb-true, lt-ltb, le-ltb, both_ways}
-use Rattle.std.proofs.lemmas.List.{map-set, length-map, at_drop_more, at_drop_all}
+use Rattle.std.proofs.lemmas.List.{map-set, length-map}
+use Rattle.std.proofs.lemmas.List.Quantifiers.{position-Some}
 use Rattle.std.proofs.lemmas.List.Sums.{position_or_len_is}
 use Rattle.std.proofs.lemmas.Option.{slice_get-get_or, slice_get_read}
-use Rattle.tables.specs.Addresses.{is_same_address}
 use Rattle.attributes.specs.declared.address.Addr.{Addr}
 use Rattle.tables.specs.Rows.{Rows, held_at, slots_at, counting}
 use Rattle.tables.specs.LookUps.{held_in, held_by, is_of}
@@ -44,30 +44,14 @@ module _ (last : ℕ) (slots : List (Option Held)) (now : Rows) (shows : ShowsSt
 pub slot_shown : (shown slots : List (Option Held)) (i : ℕ) (slot : Option Held) → shown ≡ slots → true ≡ nat_lt i (length shown) → slot ≡ get_or shown i slot → slice_get slots i ≡ Some slot
 slot_shown shown slots i slot same within at = ap (λ s. slice_get s i) (sym same) ∙ slice_get_read shown (length shown) i slot refl (ltb-true i (length shown) (sym within)) at
 
--- what an iteration gives
-pub slot_at : (shown slots : List (Option Held)) (i : ℕ) (slot : Option Held) (held : Held) → shown ≡ slots → i < length shown → slot ≡ get_or shown i slot → slot ≡ Some held
-    → option_flatten (slice_get slots i) ≡ Some held
-slot_at shown slots i slot held same within at is =
-    ap (λ s. option_flatten (slice_get s i)) (sym same) ∙ ap option_flatten (slice_get_read shown (length shown) i slot refl within at) ∙ is
-
--- ---- a client
-
-pub found_by : (t : ℕ) (client : Addr) (shown : List (Option Held)) (i : ℕ) (slot : Option Held) (held : Held) → i < length shown → slot ≡ get_or shown i slot → slot ≡ Some held
-    → t < held.allocation.end → is_same_address client held.allocation.client ≡ true → find (is_of client) (slots_at t (drop i shown)) ≡ Some (held_at t held)
-found_by t client shown i slot held l at is counts same =
-    let rest : List (Option Held) = slots_at t (drop (i + 1) shown) in
-    let own : is_of client (held_at t held) ≡ true = ap (is_of client) (held_at-counts t held (lt-ltb t held.allocation.end counts)) ∙ same in
-    at_drop_more (λ s. find (is_of client) (slots_at t s)) shown i slot l
-    ∙ ap (λ o. find (is_of client) (option_and_then (held_at t) o ∷ rest)) (sym at ∙ is)
-    ∙ cond-true (is_of client (held_at t held)) (Some (held_at t held)) (find (is_of client) rest) own
-
-pub unfound : (t : ℕ) (client : Addr) (shown : List (Option Held)) (i : ℕ) → length shown ≤ i → find (is_of client) (slots_at t (drop i shown)) ≡ None
-unfound t client shown i l = at_drop_all (λ s. find (is_of client) (slots_at t s)) shown i l
-
 -- ---- a free slot
 
 get_flat : (slots : List (Option Held)) (i : ℕ) (d : Option Held) → i < length slots → option_flatten (slice_get slots i) ≡ get_or slots i d
 get_flat slots i d l = ap option_flatten (slice_get-get_or slots i d l)
+
+none_is : (o : Option Held) → is_none o ≡ true → o ≡ None
+none_is None h = refl
+none_is (Some held) h = absurd (both_ways false refl h)
 
 pub free_at : (rows : Rows) (i : ℕ) → i < length rows.slots → ((k : ℕ) → k < i → is_none (held_in rows k) ≡ false) → held_in rows i ≡ None → first_free rows ≡ Some i
 free_at rows i l before here =
@@ -83,6 +67,12 @@ free_none rows n l before =
     let first : position_or_len is_none slots ≡ m =
     position_or_len_is is_none slots m None (omega arith) (λ k p. ap is_none (sym (get_flat slots k None p)) ∙ before k (omega (arith, p, l))) (λ p. absurd (omega (arith, p))) in
     ap (λ n. cond (nat_lt n m) (Some n) None) first ∙ cond-false (nat_lt m m) (Some m) None (le-ltb m m (omega arith))
+
+-- the lowest free slot holds nothing
+pub free_slot : (rows : Rows) (slot : ℕ) → first_free rows ≡ Some slot → held_in rows slot ≡ None
+free_slot rows slot is =
+    let r = position-Some is_none rows.slots slot None is in
+    get_flat rows.slots slot None r.0 ∙ none_is (get_or rows.slots slot None) r.1
 
 -- what is held, by what a look-up gave
 pub held_none : (t : ℕ) (r : Option (Bor Held)) (o : Option Held) → option_and_then (held_at t) (option_copied r) ≡ o → is_some r ≡ false → o ≡ None

@@ -2,6 +2,7 @@
 pub mod Moments
 pub mod MomentLaws
 pub mod Addresses
+pub mod Search
 pub mod Permissions
 pub mod Channels
 pub mod RowLists
@@ -16,3 +17,7 @@ pub mod Retained
 pub mod RetainedLaws
 pub mod RowLaws
 pub mod PermitLaws
+pub mod AddressOrder
+pub mod AddressOrderLaws
+pub mod SortedRows
+pub mod Stored

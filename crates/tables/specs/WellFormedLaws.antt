@@ -127,20 +127,20 @@ counting-well_formed t rows latest are = record {
 pub rows_at-well_formed : (t : ℕ) (rows : Rows) → AreWellFormed rows → AreWellFormed (rows_at t rows)
 rows_at-well_formed t rows are = counting-well_formed (moment_of rows.moment t) rows (moment_of-latest rows.moment t are.latest) are
 
-get-set_same : (slots : List (Option Held)) (i : ℕ) (o : Option Held) → i < length slots → option_flatten (slice_get (slice_set slots i o) i) ≡ o
+pub get-set_same : (slots : List (Option Held)) (i : ℕ) (o : Option Held) → i < length slots → option_flatten (slice_get (slice_set slots i o) i) ≡ o
 get-set_same [] i o l = absurd (omega arith)
 get-set_same (x ∷ xs) zero None l = refl
 get-set_same (x ∷ xs) zero (Some held) l = refl
 get-set_same (x ∷ xs) (suc i) o l = get-set_same xs i o (omega arith)
 
-get-set_other : (slots : List (Option Held)) (i k : ℕ) (o : Option Held) → k ≢ i → slice_get (slice_set slots i o) k ≡ slice_get slots k
+pub get-set_other : (slots : List (Option Held)) (i k : ℕ) (o : Option Held) → k ≢ i → slice_get (slice_set slots i o) k ≡ slice_get slots k
 get-set_other [] i k o differ = refl
 get-set_other (x ∷ xs) zero zero o differ = absurd (differ refl)
 get-set_other (x ∷ xs) zero (suc k) o differ = refl
 get-set_other (x ∷ xs) (suc i) zero o differ = refl
 get-set_other (x ∷ xs) (suc i) (suc k) o differ = get-set_other xs i k o (omega arith)
 
-inside : (slots : List (Option Held)) (i : ℕ) (held : Held) → option_flatten (slice_get slots i) ≡ Some held → i < length slots
+pub inside : (slots : List (Option Held)) (i : ℕ) (held : Held) → option_flatten (slice_get slots i) ≡ Some held → i < length slots
 inside [] i held there = absurd (none-some held there)
 inside (x ∷ xs) zero held there = omega arith
 inside (x ∷ xs) (suc i) held there = omega (arith, inside xs i held there)

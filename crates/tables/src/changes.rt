@@ -37,7 +37,7 @@ impl Tables {
         ensures slots { length self.new.slots ≡ length self.old.slots }
     {
         let moment = self.moment_at(now);
-        if self.held_by(&client, moment).is_some() {
+        if self.has_client(&client, moment) {
             return Err(Refused::Mismatch);
         }
         let slot = self.first_free(moment).ok_or(Refused::Capacity)?;
@@ -50,7 +50,7 @@ impl Tables {
             lifetime,
             end: moment + u64::from(lifetime),
         };
-        self.hold(
+        self.admit(
             slot,
             moment,
             Held {

@@ -1,13 +1,18 @@
 //! The channels of an allocation (RFC 8656, section 12).
 
-ghost use Rattle.std.specs.Prelude.{◌≡◌, nat_eq, position};
-ghost use Rattle.tables.specs.Addresses.{is_same_address};
+ghost use Rattle.std.specs.Prelude.{◌≡◌, ◌≤◌, length, filter, nat_lt};
+ghost use Rattle.tables.specs.Search.{has_room};
+ghost use Rattle.tables.specs.declared.channels.TheConstants.{MAX_CHANNELS};
 
-use crate::address::is_same;
+use crate::address::{compare_addresses, is_same};
 use crate::refusal::Refused;
+use crate::search::{Row, place_of, put_at, search};
 use arrayvec::ArrayVec;
 use attributes::Addr;
+use std::cmp::Ordering;
 use std::marker::Model;
+use std::sync::ledger::Ledger;
+use steps::Steps;
 
 /// The lifetime of a channel, in seconds (RFC 8656, section 12).
 pub const CHANNEL_LIFETIME: u64 = 600;
@@ -52,16 +57,38 @@ impl Default for Channel {
     }
 }
 
-/// The channels of an allocation: numbers with what they are bound to. Ended ones may still be among them. No two have one
-/// number or one peer.
+impl Row<u16> for Channel {
+    ghost use Rattle.std.specs.Ordering.{nat_cmp};
+
+    ghost order = { λ row number. nat_cmp row.number number };
+
+    fn compare(&self, number: &u16) -> Ordering {
+        self.number.cmp(number)
+    }
+}
+
+impl Row<Addr> for Channel {
+    ghost use Rattle.tables.specs.AddressOrder.{address_order};
+
+    ghost order = { λ row peer. address_order row.binding.peer peer };
+
+    fn compare(&self, peer: &Addr) -> Ordering {
+        compare_addresses(&self.binding.peer, peer)
+    }
+}
+
+/// The channels of an allocation: numbers with what they are bound to, in the order of their numbers and once more in that
+/// of their peers. Ended ones may still be among them. No two have one number or one peer.
 #[derive(Drop)]
 pub(crate) struct Channels {
     rows: ArrayVec<Channel, MAX_CHANNELS>,
+    by_peer: ArrayVec<Channel, MAX_CHANNELS>,
 }
 
 impl Model for Channels {
     ghost use Rattle.tables.specs.Channels.{ChannelMap};
-    ghost use Rattle.tables.specs.RowLists.{channels_of, AreChannels};
+    ghost use Rattle.tables.specs.RowLists.{channels_of};
+    ghost use Rattle.tables.specs.SortedRows.{AreChannelLists};
     ghost use Rattle.std.specs.Coded.{coded_ℕ};
     ghost use Rattle.std.specs.FinMap.{code};
     ghost use Rattle.tables.specs.contracts.channels.Binding as binding;
@@ -72,25 +99,35 @@ impl Model for Channels {
 
     ghost view = { λ c. channels_of c.rows.items };
 
-    ghost invariant = { λ c. AreChannels c.rows.items };
+    ghost invariant = { λ c. AreChannelLists c.rows.items c.by_peer.items };
 }
 
-/// Returns the index of the channel with a number, if there is one.
-fn index_of(rows: &[Channel], number: u16) -> Option<usize>
-    ensures { result ≡ position (λ row. nat_eq number row.number) rows.now }
+/// Returns the channels that count at a moment.
+fn counting(channels: &[Channel], moment: u64) -> ArrayVec<Channel, MAX_CHANNELS>
+    requires { length channels.now ≤ MAX_CHANNELS }
+    ensures { result.items ≡ filter (λ row. nat_lt moment row.binding.end) channels.now }
 {
-    rows.iter().position(|row| number == row.number)
+    let mut rows = ArrayVec::new();
+    for row in channels {
+        if moment < row.binding.end {
+            rows.push(*row);
+        }
+    }
+    rows
 }
 
-/// Returns the index of the channel that is bound to a peer, if there is one.
-fn index_to(rows: &[Channel], peer: &Addr) -> Option<usize>
-    ensures { result ≡ position (λ row. is_same_address peer.now row.binding.peer) rows.now }
+/// Returns whether there is room for a channel at the place of its key.
+fn has_room(rows: &[Channel], place: &Result<usize, usize>) -> bool
+    ensures { result ≡ has_room MAX_CHANNELS (length rows.now) place.now }
 {
-    rows.iter().position(|row| is_same(peer, &row.binding.peer))
+    match place {
+        Ok(_) => true,
+        Err(_) => rows.len() < MAX_CHANNELS,
+    }
 }
 
 impl Channels {
-    ghost use Rattle.std.specs.Prelude.{◌≡◌, ◌<◌, ◌≤◌, OnOk, OnErr, IfErr, IfSome, IsTrue, option_map};
+    ghost use Rattle.std.specs.Prelude.{◌≡◌, ◌+◌, ◌<◌, ◌≤◌, OnOk, OnErr, IfErr, IfSome, IsTrue, option_map};
     ghost use Rattle.std.specs.FinMap.{empty, get, insert, len};
     ghost use Rattle.tables.specs.Channels.{IsChannelNumber, channels_at, number_to, may_bind};
     ghost use Rattle.tables.specs.RowLists.{AreChannels, channels_of};
@@ -103,39 +140,59 @@ impl Channels {
     {
         Channels {
             rows: ArrayVec::new(),
+            by_peer: ArrayVec::new(),
         }
     }
 
     /// Returns what a number is bound to, if it is bound.
-    pub(crate) fn binding_of(&self, number: u16) -> Option<Binding>
+    pub(crate) fn binding_of<L: Ledger>(&self, number: u16, steps: &mut Steps<L>) -> Option<Binding>
+        ensures binding { result ≡ get self.now number }
+        ensures keys { steps.new ≤ steps.old + 7 }
+    {
+        let rows = self.rows.as_slice();
+        match search(rows, &number, steps) {
+            Ok(index) => Some(rows[index].binding),
+            Err(_) => None,
+        }
+    }
+
+    /// As [`Channels::binding_of`], for a change, which counts nothing.
+    fn bound_to(&self, number: u16) -> Option<Binding>
         ensures { result ≡ get self.now number }
     {
         let rows = self.rows.as_slice();
-        let Some(index) = index_of(rows, number) else {
-            return None;
-        };
-        Some(rows[index].binding)
+        match place_of(rows, &number) {
+            Ok(index) => Some(rows[index].binding),
+            Err(_) => None,
+        }
     }
 
     /// Returns the number that is bound to a peer, if there is one.
-    pub(crate) fn number_to(&self, peer: &Addr) -> Option<u16>
+    fn number_to(&self, peer: &Addr) -> Option<u16>
         ensures { result ≡ number_to peer.now self.now }
     {
-        let rows = self.rows.as_slice();
-        let Some(index) = index_to(rows, peer) else {
-            return None;
-        };
-        Some(rows[index].number)
+        let rows = self.by_peer.as_slice();
+        match place_of(rows, peer) {
+            Ok(index) => Some(rows[index].number),
+            Err(_) => None,
+        }
     }
 
     /// Returns the number that is bound to a peer by a channel that counts at a moment, if there is one.
-    pub(crate) fn number_at(&self, peer: &Addr, moment: u64) -> Option<u16>
+    pub(crate) fn number_at<L: Ledger>(
+        &self,
+        peer: &Addr,
+        moment: u64,
+        steps: &mut Steps<L>,
+    ) -> Option<u16>
         ensures number { result ≡ number_to peer.now (channels_at moment self.now) }
         ensures range { IfSome result IsChannelNumber }
+        ensures keys { steps.new ≤ steps.old + 7 }
     {
-        let rows = self.rows.as_slice();
-        let Some(index) = index_to(rows, peer) else {
-            return None;
+        let rows = self.by_peer.as_slice();
+        let index = match search(rows, peer, steps) {
+            Ok(index) => index,
+            Err(_) => return None,
         };
         let row = rows[index];
         if moment < row.binding.end {
@@ -145,7 +202,7 @@ impl Channels {
         }
     }
 
-    /// Returns the channels, in the order in which they were bound.
+    /// Returns the channels, in the order of their numbers.
     pub(crate) fn into_rows(self) -> ArrayVec<Channel, MAX_CHANNELS>
         ensures channels { channels_of result.items ≡ self }
         ensures distinct { AreChannels result.items }
@@ -157,20 +214,17 @@ impl Channels {
     pub(crate) fn at(&self, moment: u64) -> Channels
         ensures { result ≡ channels_at moment self.now }
     {
-        let mut rows = ArrayVec::new();
-        for row in self.rows.as_slice() {
-            if moment < row.binding.end {
-                rows.push(*row);
-            }
+        Channels {
+            rows: counting(self.rows.as_slice(), moment),
+            by_peer: counting(self.by_peer.as_slice(), moment),
         }
-        Channels { rows }
     }
 
     /// Returns whether a number is bound to no other peer, and a peer to no other number.
     pub(crate) fn may_bind(&self, number: u16, peer: &Addr) -> bool
         ensures { result ≡ may_bind self.now number peer.now }
     {
-        let is_own = match self.binding_of(number) {
+        let is_own = match self.bound_to(number) {
             Some(binding) => is_same(peer, &binding.peer),
             None => true,
         };
@@ -190,14 +244,14 @@ impl Channels {
         ensures full { OnErr result (MAX_CHANNELS < len (insert self.old number binding)) }
         ensures unchanged { OnErr result (self.new ≡ self.old) }
     {
-        if let Some(index) = index_of(self.rows.as_slice(), number) {
-            self.rows[index].binding = binding;
-            return Ok(());
-        }
-        if self.rows.is_full() {
+        let channel = Channel { number, binding };
+        let place = place_of(self.rows.as_slice(), &number);
+        if !has_room(self.rows.as_slice(), &place) {
             return Err(Refused::Capacity);
         }
-        self.rows.push(Channel { number, binding });
+        let place_by_peer = place_of(self.by_peer.as_slice(), &binding.peer);
+        put_at(&mut self.rows, place, channel);
+        put_at(&mut self.by_peer, place_by_peer, channel);
         Ok(())
     }
 }

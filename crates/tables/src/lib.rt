@@ -6,6 +6,7 @@ mod address;
 mod allocation;
 mod changes;
 mod channels;
+mod clients;
 mod held;
 mod limits;
 mod listing;
@@ -13,6 +14,7 @@ mod look_ups;
 mod moment;
 mod permissions;
 mod refusal;
+mod search;
 mod storage;
 pub mod uncounted;
 

@@ -1,15 +1,14 @@
 //! The permissions of an allocation (RFC 8656, section 9).
 
-ghost use Rattle.std.specs.Prelude.{◌≡◌, position};
-ghost use Rattle.std.specs.Ordering.{eq_by_cmp};
-ghost use Rattle.attributes.specs.Addresses.{ip_of};
-ghost use Rattle.tables.specs.Addresses.{ip_cmp};
-
-use crate::address::is_same_ip;
+use crate::address::compare_ips;
 use crate::refusal::Refused;
+use crate::search::{Row, place_of, search};
 use arrayvec::ArrayVec;
 use attributes::Addr;
+use std::cmp::Ordering;
 use std::marker::Model;
+use std::sync::ledger::Ledger;
+use steps::Steps;
 
 /// The lifetime of a permission, in seconds (RFC 8656, section 9).
 pub const PERMISSION_LIFETIME: u64 = 300;
@@ -38,7 +37,19 @@ impl Default for Permission {
     }
 }
 
-/// The permissions of an allocation: IP addresses with the ends of their permissions. Ended ones may still be among them.
+impl Row<Addr> for Permission {
+    ghost use Rattle.attributes.specs.Addresses.{ip_of};
+    ghost use Rattle.tables.specs.AddressOrder.{ip_order};
+
+    ghost order = { λ row ip. ip_order (ip_of row.ip) (ip_of ip) };
+
+    fn compare(&self, ip: &Addr) -> Ordering {
+        compare_ips(&self.ip, ip)
+    }
+}
+
+/// The permissions of an allocation: IP addresses with the ends of their permissions, in ascending order. Ended ones may
+/// still be among them.
 #[derive(Drop)]
 pub(crate) struct Permissions {
     rows: ArrayVec<Permission, MAX_PERMISSIONS>,
@@ -48,7 +59,8 @@ impl Model for Permissions {
     ghost use Rattle.tables.specs.Permissions.{PermissionMap};
     ghost use Rattle.std.specs.Coded.{coded_ℕ, coded_list};
     ghost use Rattle.std.specs.FinMap.{code};
-    ghost use Rattle.tables.specs.RowLists.{permissions_of, ArePermissions};
+    ghost use Rattle.tables.specs.RowLists.{permissions_of};
+    ghost use Rattle.tables.specs.SortedRows.{AreSortedPermissions};
 
     ghost Value = { PermissionMap };
 
@@ -56,18 +68,11 @@ impl Model for Permissions {
 
     ghost view = { λ p. permissions_of p.rows.items };
 
-    ghost invariant = { λ p. ArePermissions p.rows.items };
-}
-
-/// Returns the index of the permission of an IP address, if there is one.
-fn index_of(rows: &[Permission], ip: &Addr) -> Option<usize>
-    ensures { result ≡ position (λ row. eq_by_cmp ip_cmp (ip_of ip.now) (ip_of row.ip)) rows.now }
-{
-    rows.iter().position(|row| is_same_ip(ip, &row.ip))
+    ghost invariant = { λ p. AreSortedPermissions p.rows.items };
 }
 
 impl Permissions {
-    ghost use Rattle.std.specs.Prelude.{◌≡◌, ◌<◌, ◌≤◌, OnOk, OnErr, IfErr};
+    ghost use Rattle.std.specs.Prelude.{◌≡◌, ◌+◌, ◌<◌, ◌≤◌, OnOk, OnErr, IfErr};
     ghost use Rattle.std.specs.FinMap.{empty, get, insert, len};
     ghost use Rattle.attributes.specs.Addresses.{ip_of};
     ghost use Rattle.tables.specs.Permissions.{permissions_at, with_all};
@@ -85,17 +90,18 @@ impl Permissions {
     }
 
     /// Returns the end of the permission of an IP address, if there is one.
-    pub(crate) fn end_of(&self, ip: &Addr) -> Option<u64>
-        ensures { result ≡ get self.now (ip_of ip.now) }
+    pub(crate) fn end_of<L: Ledger>(&self, ip: &Addr, steps: &mut Steps<L>) -> Option<u64>
+        ensures end { result ≡ get self.now (ip_of ip.now) }
+        ensures keys { steps.new ≤ steps.old + 7 }
     {
         let rows = self.rows.as_slice();
-        let Some(index) = index_of(rows, ip) else {
-            return None;
-        };
-        Some(rows[index].end)
+        match search(rows, ip, steps) {
+            Ok(index) => Some(rows[index].end),
+            Err(_) => None,
+        }
     }
 
-    /// Returns the permissions, in the order in which they were first given.
+    /// Returns the permissions, in the order of their IP addresses.
     pub(crate) fn into_rows(self) -> ArrayVec<Permission, MAX_PERMISSIONS>
         ensures permissions { permissions_of result.items ≡ self }
         ensures distinct { ArePermissions result.items }
@@ -128,14 +134,17 @@ impl Permissions {
         ensures full { OnErr result (MAX_PERMISSIONS < len (insert self.old (ip_of ip) end)) }
         ensures unchanged { OnErr result (self.new ≡ self.old) }
     {
-        if let Some(index) = index_of(self.rows.as_slice(), &ip) {
-            self.rows[index].end = end;
-            return Ok(());
-        }
+        let index = match place_of(self.rows.as_slice(), &ip) {
+            Ok(index) => {
+                self.rows[index].end = end;
+                return Ok(());
+            }
+            Err(index) => index,
+        };
         if self.rows.is_full() {
             return Err(Refused::Capacity);
         }
-        self.rows.push(Permission { ip, end });
+        self.rows.insert(index, Permission { ip, end });
         Ok(())
     }
 

@@ -2,12 +2,16 @@
 
 ghost use Rattle.std.specs.Prelude.{◌≡◌};
 
-use crate::address::is_same;
+use crate::clients::{Client, sweep, with_slots};
 use crate::held::Held;
 use crate::moment::moment_of;
+use crate::search::{place_of, put_at, search};
+use arrayvec::ArrayVec;
 use attributes::Addr;
 use std::alloc::{AllocError, Global};
-use std::marker::Model;
+use std::marker::{Brand, Model};
+use std::sync::ledger::{Blank, Ledger};
+use steps::Steps;
 
 /// The greatest number of slots, each of which has one allocation or none.
 pub const MAX_ALLOCATIONS: usize = 256;
@@ -21,12 +25,14 @@ pub const MAX_ALLOCATIONS: usize = 256;
 pub struct Tables {
     pub(crate) moment: u64,
     pub(crate) slots: Vec<Option<Held>>,
+    /// The client of each slot that holds something, in the order of their addresses.
+    pub(crate) clients: ArrayVec<Client, MAX_ALLOCATIONS>,
 }
 
 impl Model for Tables {
     ghost use Rattle.tables.specs.Rows.{Rows, slots_at};
     ghost use Rattle.tables.specs.Storage.{coded_rows};
-    ghost use Rattle.tables.specs.WellFormed.{AreWellFormed};
+    ghost use Rattle.tables.specs.Stored.{AreStored};
     ghost use Rattle.tables.specs.contracts.held.Held as held;
 
     ghost Value = { Rows };
@@ -35,17 +41,18 @@ impl Model for Tables {
 
     ghost view = { λ t. record { moment = t.moment; slots = slots_at t.moment t.slots.items } };
 
-    ghost invariant = { λ t. AreWellFormed (record { moment = t.moment; slots = t.slots.items }) };
+    ghost invariant = { λ t. AreStored t.moment t.slots.items t.clients.items };
 }
 
 impl Tables {
-    ghost use Rattle.std.specs.Prelude.{◌≡◌, ◌≤◌, ◌<◌, IfOk, IfSome, length, option_and_then};
+    ghost use Rattle.std.specs.Prelude.{◌≡◌, ◌+◌, ◌≤◌, ◌<◌, IfOk, IfSome, None, Some, is_some, length, option_and_then};
     ghost use Rattle.std.specs.Option.{option_copied};
     ghost use Rattle.tables.specs.Moments.{moment_of};
     ghost use Rattle.tables.specs.Rows.{no_rows, counting, held_at};
     ghost use Rattle.tables.specs.LookUps.{held_in, held_by};
     ghost use Rattle.tables.specs.Changes.{first_free, with_held};
     ghost use Rattle.tables.specs.WellFormed.{IsHeldAt, AreWellFormed};
+    ghost use Rattle.tables.specs.Stored.{client_in};
     ghost use Rattle.tables.specs.declared.moment.TheConstants.{LATEST};
     ghost use Rattle.tables.specs.declared.storage.TheConstants.{MAX_ALLOCATIONS};
 
@@ -65,6 +72,7 @@ impl Tables {
         Ok(Tables {
             moment: 0,
             slots: rows,
+            clients: ArrayVec::new(),
         })
     }
 
@@ -114,22 +122,44 @@ impl Tables {
     }
 
     /// Returns what a client's slot holds, if its allocation counts at a moment.
-    pub(crate) fn held_by(&self, client: &Addr, moment: u64) -> Option<&Held>
+    pub(crate) fn held_by<L: Ledger>(
+        &self,
+        client: &Addr,
+        moment: u64,
+        steps: &mut Steps<L>,
+    ) -> Option<&Held>
         requires later { self.now.moment ≤ moment }
         ensures held { option_and_then (held_at moment) (option_copied result)
             ≡ held_by client.now (counting moment self.now) }
         ensures counts { IfSome result (λ held. moment < held.now.allocation.end) }
         ensures placed { IfSome result (λ held. held.now.allocation.slot < length self.now.slots) }
+        ensures keys { steps.new ≤ steps.old + 9 }
     {
-        for slot in &self.slots {
-            if let Some(held) = slot
-                && moment < held.allocation.end
-                && is_same(client, &held.allocation.client)
-            {
-                return Some(held);
-            }
+        let clients = self.clients.as_slice();
+        match search(clients, client, steps) {
+            Ok(index) => self.held(clients[index].slot, moment),
+            Err(_) => None,
         }
-        None
+    }
+
+    /// As [`Tables::has_client`], over a counter that is named by `blank`.
+    fn has_client_by<L: Ledger>(&self, client: &Addr, moment: u64, blank: Blank) -> bool
+        requires later { self.now.moment ≤ moment }
+        requires name { blank.name ≡ L.name }
+        requires parts { blank.parts ≡ L.parts }
+        requires some { 0 < L.parts }
+        ensures { result ≡ is_some (held_by client.now (counting moment self.now)) }
+    {
+        let mut steps = Steps::<L>::new(blank);
+        self.held_by(client, moment, &mut steps).is_some()
+    }
+
+    /// Returns whether a client has an allocation that counts at a moment.
+    pub(crate) fn has_client(&self, client: &Addr, moment: u64) -> bool
+        requires later { self.now.moment ≤ moment }
+        ensures { result ≡ is_some (held_by client.now (counting moment self.now)) }
+    {
+        self.has_client_by::<Brand>(client, moment, Blank::new(1))
     }
 
     /// Returns the lowest slot that holds nothing at a moment.
@@ -145,17 +175,40 @@ impl Tables {
         None
     }
 
-    /// Puts into a slot what it holds from a moment on, the greatest so far.
+    /// Puts into a slot what it holds from a moment on, the greatest so far. Its client stays.
     pub(crate) fn hold(&mut self, slot: usize, moment: u64, held: Held)
         requires inside { slot < length self.old.slots }
         requires held_at { IsHeldAt slot held }
         requires later { self.old.moment ≤ moment }
         requires latest { moment ≤ LATEST }
+        requires client { client_in (held_in (counting moment self.old) slot) ≡ Some held.allocation.client }
         ensures held { self.new ≡ with_held (counting moment self.old) slot held }
         ensures moment { self.new.moment ≡ moment }
         ensures slots { length self.new.slots ≡ length self.old.slots }
     {
         self.moment = moment;
         self.slots[slot] = Some(held);
+    }
+
+    /// Puts into a free slot what it holds for a new client from a moment on, the greatest so far.
+    pub(crate) fn admit(&mut self, slot: usize, moment: u64, held: Held)
+        requires inside { slot < length self.old.slots }
+        requires held_at { IsHeldAt slot held }
+        requires later { self.old.moment ≤ moment }
+        requires latest { moment ≤ LATEST }
+        requires free { held_in (counting moment self.old) slot ≡ None }
+        requires new_client { held_by held.allocation.client (counting moment self.old) ≡ None }
+        ensures held { self.new ≡ with_held (counting moment self.old) slot held }
+        ensures moment { self.new.moment ≡ moment }
+        ensures slots { length self.new.slots ≡ length self.old.slots }
+    {
+        let address = held.allocation.client;
+        sweep(&mut self.slots, moment);
+        let mut clients = with_slots(self.clients.as_slice(), &self.slots);
+        let place = place_of(clients.as_slice(), &address);
+        put_at(&mut clients, place, Client { address, slot });
+        self.moment = moment;
+        self.slots[slot] = Some(held);
+        self.clients = clients;
     }
 }

@@ -3,7 +3,8 @@ use Rattle.std.proofs.lemmas.Grind.{common_steps}
 use Rattle.std.specs.FinMap.{len}
 use Rattle.std.proofs.lemmas.List.{take_all, length-take}
 use Rattle.tables.specs.Permissions.{permissions_at}
-use Rattle.tables.specs.RowLists.{ArePermissions, permissions_of}
+use Rattle.tables.specs.RowLists.{permissions_of}
+use Rattle.tables.specs.SortedRows.{AreSortedPermissions}
 use Rattle.tables.specs.declared.permissions.TheConstants.{MAX_PERMISSIONS}
 use Rattle.tables.proofs.Lists.{length-filter-le}
 use Rattle.tables.proofs.PermissionRows.{filtered_are, filtered, len-filtered}
@@ -20,7 +21,7 @@ push-requires c =
     omega (arith, ap length c.loop-row.invariant, length-filter-le (λ row. nat_lt c.args.moment row.end) (take c.loop-row.row-index shown), length-take c.loop-row.row-index shown)
 
 pub invariant_of-result : goal.invariant_of-result
-invariant_of-result c = subst ArePermissions (sym (left c)) (filtered_are c.args.moment c.self.inside.rows.items c.self.invariant)
+invariant_of-result c = subst AreSortedPermissions (sym (left c)) (filtered_are c.args.moment c.self.inside.rows.items c.self.invariant)
 
 pub returns-clause-left : goal.returns-clause-left
 returns-clause-left c =

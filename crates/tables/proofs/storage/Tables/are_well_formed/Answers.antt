@@ -6,4 +6,4 @@ use Rattle.tables.proofs.storage.Tables.are_well_formed.Goals as goal
 pub returns : goal.returns
 returns c =
     let moment = c.self.inside.moment in
-    subst AreWellFormed c.self.view_is (counting-well_formed moment (record { moment = moment; slots = c.self.inside.slots.items }) c.self.invariant.latest c.self.invariant)
+    subst AreWellFormed c.self.view_is (counting-well_formed moment (record { moment = moment; slots = c.self.inside.slots.items }) c.self.invariant.rows.latest c.self.invariant.rows)

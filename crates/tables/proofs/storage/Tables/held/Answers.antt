@@ -32,4 +32,4 @@ pub returns-then-moment-held-clause-held_at : goal.returns-then-moment-held-clau
 returns-then-moment-held-clause-held_at c =
     let slots = c.self.inside.slots.items in
     let at = slot_shown c.deref.result.now slots c.args.slot c.in-Some.slot.now c.deref.ensures.value c.in-Some.ensures.lookup.0 c.in-Some.ensures.lookup.1 in
-    c.self.invariant.held c.args.slot c.in-Some-slot.held (ap option_flatten (at ∙ ap Some c.in-Some-slot.is))
+    c.self.invariant.rows.held c.args.slot c.in-Some-slot.held (ap option_flatten (at ∙ ap Some c.in-Some-slot.is))

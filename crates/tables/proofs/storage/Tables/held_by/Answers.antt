@@ -1,34 +1,41 @@
-use Rattle.std.proofs.Common.{find, length, option_and_then, ap, ◌∙◌, sym, arith}
-use Rattle.std.proofs.lemmas.List.{length-map}
+use Rattle.std.proofs.Common.{get_or, option_and_then, subst, sym, ap, ◌∙◌, arith}
 use Rattle.std.specs.Option.{option_flatten}
-use Rattle.tables.specs.Rows.{Rows, held_at, slots_at}
-use Rattle.tables.specs.LookUps.{is_of}
-use Rattle.tables.proofs.Slots.{held_by-stored, slot_at, found_by, unfound}
+use Rattle.tables.specs.Rows.{held_at}
+use Rattle.tables.specs.Stored.{stored_at}
+use Rattle.tables.proofs.Slots.{held_in-stored, held_by-stored}
+use Rattle.tables.specs.Search.{AreAscending, IsFoundAt, IsMissingAt}
+use Rattle.tables.proofs.ClientRows.{by_client, blank, searchable_by_client, held_by-missing, held_by-found}
 use Rattle.tables.proofs.storage.Tables.held_by.Goals as goal
 
-pub returns-in-loop-slot-clause-held : goal.returns-in-loop-slot-clause-held
-returns-in-loop-slot-clause-held c =
+pub search-requires : goal.search-requires
+search-requires g c =
     let client = c.args.client.now in
-    let shown = c.deref-slot-items.result.now in
-    let one = found_by c.args.moment client shown c.loop-slot.slot-index c.slot-item.result c.in-Some.held c.loop-slot-test.true c.slot-item.is c.in-Some.is c.if-moment-held.true (sym c.is_same.ensures ∙ c.if-is_same.true) in
-    sym (held_by-stored c.self.inside.moment c.self.inside.slots.items c.args.self.now c.self.view_is c.args.moment c.requires.later client
-    ∙ ap (λ s. option_flatten (find (is_of client) (slots_at c.args.moment s))) (sym c.deref-slot-items.ensures.value)
-    ∙ ap option_flatten (sym c.loop-slot.invariant ∙ one))
+    subst (AreAscending (by_client client)) (sym c.as_slice-clients.ensures.value) (searchable_by_client client c.self.inside.slots.items c.self.inside.clients.items c.self.invariant.listed)
 
-pub returns-clause-held : goal.returns-clause-held
-returns-clause-held c =
+pub returns-in-Ok-clause-held : goal.returns-in-Ok-clause-held
+returns-in-Ok-clause-held g c =
     let client = c.args.client.now in
-    let shown = c.deref-slot-items.result.now in
-    sym (held_by-stored c.self.inside.moment c.self.inside.slots.items c.args.self.now c.self.view_is c.args.moment c.requires.later client
-    ∙ ap (λ s. option_flatten (find (is_of client) (slots_at c.args.moment s))) (sym c.deref-slot-items.ensures.value)
-    ∙ ap option_flatten (sym c.loop-slot.invariant ∙ unfound c.args.moment client shown c.loop-slot.slot-index c.loop-slot-test.false))
-
-pub returns-in-loop-slot-clause-placed : goal.returns-in-loop-slot-clause-placed
-returns-in-loop-slot-clause-placed c =
     let slots = c.self.inside.slots.items in
-    let shown = c.deref-slot-items.result.now in
-    let i = c.loop-slot.slot-index in
-    let at = slot_at shown slots i c.slot-item.result c.in-Some.held c.deref-slot-items.ensures.value c.loop-slot-test.true c.slot-item.is c.in-Some.is in
-    let is = c.self.invariant.held i c.in-Some.held at in
-    let long = ap (λ (r : Rows). length r.slots) c.self.view_is in
-    omega (arith, is.at_slot, c.loop-slot-test.true, ap length c.deref-slot-items.ensures.value, long, length-map slots (option_and_then (held_at c.self.inside.moment)))
+    let clients = c.self.inside.clients.items in
+    let i = c.in-Ok.index in
+    let at = subst (λ s. IsFoundAt (by_client client) s i) c.as_slice-clients.ensures.value c.in-Ok.ensures.place in
+    c.held.ensures.held
+    ∙ held_in-stored c.self.inside.moment slots c.args.self.now c.self.view_is c.args.moment c.requires.later (get_or c.as_slice-clients.result.now i blank).slot
+    ∙ ap (λ s. option_and_then (held_at c.args.moment) (stored_at slots (get_or s i blank).slot)) c.as_slice-clients.ensures.value
+    ∙ sym (held_by-stored c.self.inside.moment slots c.args.self.now c.self.view_is c.args.moment c.requires.later client
+    ∙ held_by-found slots clients c.self.invariant.listed client i c.args.moment blank at)
+
+pub returns-in-Err-clause-held : goal.returns-in-Err-clause-held
+returns-in-Err-clause-held g c =
+    let client = c.args.client.now in
+    let slots = c.self.inside.slots.items in
+    let clients = c.self.inside.clients.items in
+    let none = subst (λ s. IsMissingAt (by_client client) s c.in-Err.field-0) c.as_slice-clients.ensures.value c.in-Err.ensures.place in
+    sym (held_by-stored c.self.inside.moment slots c.args.self.now c.self.view_is c.args.moment c.requires.later client
+    ∙ ap option_flatten (held_by-missing slots clients c.self.invariant.listed client c.in-Err.field-0 c.args.moment none))
+
+pub returns-in-Ok-clause-keys : goal.returns-in-Ok-clause-keys
+returns-in-Ok-clause-keys g c = c.search.ensures.count 9 (omega (arith, c.as_slice-clients.ensures.fits))
+
+pub returns-in-Err-clause-keys : goal.returns-in-Err-clause-keys
+returns-in-Err-clause-keys g c = c.search.ensures.count 9 (omega (arith, c.as_slice-clients.ensures.fits))

@@ -2,15 +2,15 @@ use Rattle.std.proofs.Common.{sym, ◌∙◌}
 use Rattle.tables.proofs.Found.{peer_of-unbound, peer_of-counts, peer_of-ended}
 use Rattle.tables.proofs.storage.Tables.peer_of.Goals as goal
 
-pub returns-in_err-binding : goal.returns-in_err-binding
-returns-in_err-binding g c =
+pub returns-in_err-binding-clause-peer : goal.returns-in_err-binding-clause-peer
+returns-in_err-binding-clause-peer g c =
     c.from_residual-in_err-binding.ensures
-    ∙ sym (peer_of-unbound c.args.now c.moment_at-moment.result c.args.self.now c.args.slot c.in_ok-held.held.now c.moment_at-moment.ensures.moment c.in_ok-held.ensures.held c.in_ok-held.ensures.counts c.args.number (sym c.in_err-binding.was ∙ c.binding_of.ensures))
+    ∙ sym (peer_of-unbound c.args.now c.moment_at-moment.result c.args.self.now c.args.slot c.in_ok-held.held.now c.moment_at-moment.ensures.moment c.in_ok-held.ensures.held c.in_ok-held.ensures.counts c.args.number (sym c.in_err-binding.was ∙ c.binding_of.ensures.binding))
 
-pub returns-then-moment-binding : goal.returns-then-moment-binding
-returns-then-moment-binding g c =
-    sym (peer_of-counts c.args.now c.moment_at-moment.result c.args.self.now c.args.slot c.in_ok-held.held.now c.moment_at-moment.ensures.moment c.in_ok-held.ensures.held c.in_ok-held.ensures.counts c.args.number c.in_ok-binding.binding (sym c.in_ok-binding.was ∙ c.binding_of.ensures) c.if-moment-binding.true)
+pub returns-then-moment-binding-clause-peer : goal.returns-then-moment-binding-clause-peer
+returns-then-moment-binding-clause-peer g c =
+    sym (peer_of-counts c.args.now c.moment_at-moment.result c.args.self.now c.args.slot c.in_ok-held.held.now c.moment_at-moment.ensures.moment c.in_ok-held.ensures.held c.in_ok-held.ensures.counts c.args.number c.in_ok-binding.binding (sym c.in_ok-binding.was ∙ c.binding_of.ensures.binding) c.if-moment-binding.true)
 
-pub returns-else-moment-binding : goal.returns-else-moment-binding
-returns-else-moment-binding g c =
-    sym (peer_of-ended c.args.now c.moment_at-moment.result c.args.self.now c.args.slot c.in_ok-held.held.now c.moment_at-moment.ensures.moment c.in_ok-held.ensures.held c.in_ok-held.ensures.counts c.args.number c.in_ok-binding.binding (sym c.in_ok-binding.was ∙ c.binding_of.ensures) c.if-moment-binding.false)
+pub returns-else-moment-binding-clause-peer : goal.returns-else-moment-binding-clause-peer
+returns-else-moment-binding-clause-peer g c =
+    sym (peer_of-ended c.args.now c.moment_at-moment.result c.args.self.now c.args.slot c.in_ok-held.held.now c.moment_at-moment.ensures.moment c.in_ok-held.ensures.held c.in_ok-held.ensures.counts c.args.number c.in_ok-binding.binding (sym c.in_ok-binding.was ∙ c.binding_of.ensures.binding) c.if-moment-binding.false)

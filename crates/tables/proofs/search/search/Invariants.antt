@@ -1,0 +1,16 @@
+use Rattle.std.proofs.Common.{◌-◌, ◌≡◌, ℕ, ◌+◌, ◌^◌, ◌<◌, ◌≤◌, length, get_or}
+use Rattle.std.specs.declared.cmp.Ordering.TheVariants.{Less, Greater}
+use Rattle.tables.proofs.search.search.Given as goal
+
+abbrev pub invariant-loop-low : goal.invariant-loop-low
+invariant-loop-low g l =
+    record {
+      within : l.high ≤ length l.rows;
+      apart : l.low ≤ l.high;
+      below : (k : ℕ) (d : _) → k < l.low → g.R.Row.order (get_or l.rows k d) l.key ≡ Less;
+      above : (k : ℕ) (d : _) → l.high ≤ k → k < length l.rows → g.R.Row.order (get_or l.rows k d) l.key ≡ Greater;
+      count : (k : ℕ) → length l.rows < 2 ^ k → (l.steps ≤ l.initial.steps + k) × (l.high - l.low < 2 ^ (l.initial.steps + k - l.steps));
+    }
+
+abbrev pub decreases-loop-low : goal.decreases-loop-low
+decreases-loop-low g l = l.high - l.low

@@ -1,0 +1,29 @@
+-- Internal. Rows as they are stored, in ascending order of their keys.
+use Rattle.std.specs.Prelude.{◌≡◌, List, AllPairs}
+use Rattle.std.specs.Ordering.{nat_cmp}
+use Rattle.std.specs.declared.cmp.Ordering.TheVariants.{Less}
+use Rattle.attributes.specs.Addresses.{ip_of}
+use Rattle.tables.specs.AddressOrder.{ip_order, address_order}
+use Rattle.tables.specs.RowLists.{AreChannels, channels_of}
+use Rattle.tables.specs.declared.channels.Channel.{Channel}
+use Rattle.tables.specs.declared.permissions.Permission.{Permission}
+
+-- by IP address
+abbrev pub AreSortedPermissions : List Permission → Type 0
+AreSortedPermissions rows = AllPairs (λ a b. ip_order (ip_of a.ip) (ip_of b.ip) ≡ Less) rows
+
+-- by number
+abbrev pub AreSortedByNumber : List Channel → Type 0
+AreSortedByNumber rows = AllPairs (λ a b. nat_cmp a.number b.number ≡ Less) rows
+
+-- by peer
+abbrev pub AreSortedByPeer : List Channel → Type 0
+AreSortedByPeer rows = AllPairs (λ a b. address_order a.binding.peer b.binding.peer ≡ Less) rows
+
+-- the same channels in both orders
+pub record AreChannelLists (rows by_peer : List Channel) : Type 0 where
+  pub numbers : AreSortedByNumber rows
+  pub peers : AreSortedByPeer by_peer
+  pub channels : AreChannels rows
+  pub channels_by_peer : AreChannels by_peer
+  pub same : channels_of by_peer ≡ channels_of rows

@@ -1,0 +1,30 @@
+-- Internal. What is stored: slots, and the clients that have one in ascending order of their addresses.
+use Rattle.std.specs.Prelude.{◌≡◌, ◌≢◌, ℕ, List, slice_get, Option, None, Some, All, AllPairs, nat_lt, if◌then◌else◌}
+use Rattle.std.specs.Option.{option_map, option_flatten}
+use Rattle.std.specs.declared.cmp.Ordering.TheVariants.{Less}
+use Rattle.attributes.specs.declared.address.Addr.{Addr}
+use Rattle.tables.specs.AddressOrder.{address_order}
+use Rattle.tables.specs.WellFormed.{AreWellFormed}
+use Rattle.tables.specs.declared.clients.Client.{Client}
+use Rattle.tables.specs.declared.held.Held.{Held}
+
+abbrev pub stored_at : List (Option Held) → ℕ → Option Held
+stored_at slots slot = option_flatten (slice_get slots slot)
+
+abbrev pub client_in : Option Held → Option Addr
+client_in slot = option_map (λ held. held.allocation.client) slot
+
+-- each client has the slot that its row names, and each slot that holds something has a row
+pub record AreClients (slots : List (Option Held)) (clients : List Client) : Type 0 where
+  pub ascending : AllPairs (λ a b. address_order a.address b.address ≡ Less) clients
+  pub held : All (λ row. client_in (stored_at slots row.slot) ≡ Some row.address) clients
+  pub listed : (slot : ℕ) (held : Held) → stored_at slots slot ≡ Some held → All (λ row. row.slot ≢ slot) clients → ⊥
+
+pub record AreStored (moment : ℕ) (slots : List (Option Held)) (clients : List Client) : Type 0 where
+  pub rows : AreWellFormed (record { moment = moment; slots = slots })
+  pub listed : AreClients slots clients
+
+-- what a slot holds, unless its allocation has ended
+abbrev pub left_at : ℕ → Option Held → Option Held
+left_at t None = None
+left_at t (Some held) = if nat_lt t held.allocation.end then Some held else None

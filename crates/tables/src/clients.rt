@@ -1,0 +1,96 @@
+//! The clients that have a slot.
+
+ghost use Rattle.std.specs.Prelude.{◌≡◌, ◌<◌, ◌≤◌, All, None, filter, if◌then◌else◌, is_some, length, map, slice_index_or, slice_set};
+ghost use Rattle.tables.specs.Stored.{left_at, stored_at};
+ghost use Rattle.tables.specs.declared.storage.TheConstants.{MAX_ALLOCATIONS};
+
+use crate::address::compare_addresses;
+use crate::held::Held;
+use crate::search::Row;
+use crate::storage::MAX_ALLOCATIONS;
+use arrayvec::ArrayVec;
+use attributes::Addr;
+use std::cmp::Ordering;
+
+/// A client, and the slot that it has.
+#[derive(Clone, Copy, Debug, PartialEq, Eq)]
+pub(crate) struct Client {
+    pub(crate) address: Addr,
+    pub(crate) slot: usize,
+}
+
+impl Default for Client {
+    fn default() -> Self {
+        let address = Addr::V4 {
+            ip: [0; 4],
+            port: 0,
+        };
+        Self { address, slot: 0 }
+    }
+}
+
+impl Row<Addr> for Client {
+    ghost use Rattle.tables.specs.AddressOrder.{address_order};
+
+    ghost order = { λ row client. address_order row.address client };
+
+    fn compare(&self, client: &Addr) -> Ordering {
+        compare_addresses(&self.address, client)
+    }
+}
+
+/// Returns whether a slot holds something whose allocation has ended at a moment.
+fn has_ended(slot: &Option<Held>, moment: u64) -> bool
+    ensures { left_at moment slot.now ≡ (if result then None else slot.now) }
+{
+    match slot {
+        Some(held) => held.allocation.end <= moment,
+        None => false,
+    }
+}
+
+/// Empties a slot if its allocation has ended at a moment.
+fn sweep_slot(slots: &mut Vec<Option<Held>>, slot: usize, moment: u64)
+    requires { slot < length slots.old.items }
+    ensures { slots.new.items ≡ slice_set slots.old.items slot (left_at moment (slice_index_or slots.old.items slot None)) }
+{
+    if !has_ended(&slots[slot], moment) {
+        return;
+    }
+    slots[slot] = None;
+}
+
+/// Empties each slot whose allocation has ended at a moment.
+pub(crate) fn sweep(slots: &mut Vec<Option<Held>>, moment: u64)
+    ensures { slots.new.items ≡ map (left_at moment) slots.old.items }
+{
+    for slot in 0..slots.len() {
+        sweep_slot(slots, slot, moment);
+    }
+}
+
+/// Returns whether a slot holds something.
+fn is_taken(slots: &[Option<Held>], slot: usize) -> bool
+    requires { slot < length slots.now }
+    ensures { result ≡ is_some (stored_at slots.now slot) }
+{
+    slots[slot].is_some()
+}
+
+/// Returns the clients whose slots hold something.
+pub(crate) fn with_slots(
+    clients: &[Client],
+    slots: &[Option<Held>],
+) -> ArrayVec<Client, MAX_ALLOCATIONS>
+    requires inside { All (λ row. row.slot < length slots.now) clients.now }
+    requires few { length clients.now ≤ MAX_ALLOCATIONS }
+    ensures { result.items ≡ filter (λ row. is_some (stored_at slots.now row.slot)) clients.now }
+{
+    let mut rows = ArrayVec::new();
+    for row in clients {
+        if is_taken(slots, row.slot) {
+            rows.push(*row);
+        }
+    }
+    rows
+}
