@@ -16,7 +16,8 @@ use Rattle.flat.specs.Following.{given_in}
 use Rattle.flat.specs.FlatRuns.{IsStart, IsRun}
 use Rattle.flat.specs.FlatLaws.{laid_out_is_flat, laid_out_after, rest_from_headroom}
 use Rattle.flat.specs.declared.running.Ended.{Ended}
-use Rattle.machine.specs.Contents.{Contents, HoldsDatagram, datagram_of, area_size}
+use Rattle.machine.specs.Contents.{Contents, datagram_of, area_size}
+use Rattle.machine.specs.FrameFields.{HoldsDatagram}
 use Rattle.machine.specs.Contexts.{Answers, context_of}
 use Rattle.machine.specs.Execution.{RunsFlat}
 use Rattle.machine.specs.Tracing.{environment_of, safe_run_of}
@@ -94,7 +95,6 @@ module _ (answers : Answers) (lawful : IsLawful answers) (program : List Insn) (
           long = omega (arith, run.memory.long, length-drop headroom_index left);
           short = holds.short;
           cells = holds.cells;
-          empty = λ e. absurd (no_true e);
           ready = λ e. absurd (no_true e);
           inside = window_inside ended.plan.window (subst (λ (p : Plan). IfSome p.window (IsWindow (length d))) run.plan extent.plan.window);
         }

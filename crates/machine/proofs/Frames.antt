@@ -12,8 +12,9 @@ use Rattle.semantics.specs.declared.plan.Plan.{Plan}
 use Rattle.semantics.specs.Runs.{Run}
 use Rattle.semantics.specs.Calls.{IsWindow}
 use Rattle.semantics.specs.Extents.{HasExtent, start_extent, run_extent}
-use Rattle.semantics.specs.StartLaws.{length-headroom, length-surrounded, length-empty_stack}
-use Rattle.machine.specs.Contents.{Contents, HoldsDatagram, IsFrame, area_size, datagram_of, window_of, with_room}
+use Rattle.semantics.specs.StartLaws.{length-headroom, length-surrounded}
+use Rattle.machine.specs.Contents.{Contents, area_size, datagram_of, window_of, with_room}
+use Rattle.machine.specs.FrameFields.{HoldsDatagram, IsFrame}
 use Rattle.machine.specs.declared.context.Context.{Context}
 use Rattle.machine.specs.FrameLaws.{datagram_inside}
 use Rattle.semantics.specs.Views.{memory_with}
@@ -47,9 +48,9 @@ frame_long : (a b n all : ℕ) → all ≡ a + b → a ≡ 67 + n → b ≡ 6557
 frame_long a b n all e f g short = omega arith
 
 -- a frame over such an area is one that may run
-pub is_frame : (old area : List ℕ) (stack : List (Option ℕ)) (n : ℕ) → length old ≡ 65574 → n ≤ 65507 → stack ≡ empty_stack → area ≡ surrounded (take n (drop 64 old)) ++ drop (67 + n) old
+pub is_frame : (old area : List ℕ) (stack : List (Option ℕ)) (n : ℕ) → length old ≡ 65574 → n ≤ 65507 → length stack ≡ STACK_BYTES → area ≡ surrounded (take n (drop 64 old)) ++ drop (67 + n) old
     → HoldsDatagram area stack n true None
-is_frame old area stack n long short empty e =
+is_frame old area stack n long short cells e =
     let d : List ℕ = take n (drop 64 old) in
     let rest : List ℕ = drop (67 + n) old in
     let d_long : length d ≡ n = length-take-le n (drop 64 old) (omega (arith, length-drop 64 old)) in
@@ -58,8 +59,7 @@ is_frame old area stack n long short empty e =
     record {
       long = ap length e ∙ frame_long (length (surrounded d)) (length rest) n (length (surrounded d ++ rest)) (length-append (surrounded d) rest) (length-surrounded d ∙ ap (λ (k : ℕ). 67 + k) d_long) (length-drop (67 + n) old ∙ ap (λ (k : ℕ). k - (67 + n)) long) short;
       short = short;
-      cells = ap length empty ∙ length-empty_stack;
-      empty = λ started. empty;
+      cells = cells;
       ready = λ started. front ∙ ap surrounded (sym datagram);
       inside = tt;
     }
@@ -69,10 +69,10 @@ pub datagram_length : (area : List ℕ) (n : ℕ) → length area ≡ 65574 → 
 datagram_length area n long short = length-take-le n (drop 64 area) (omega (arith, length-drop 64 area))
 
 -- the memory of a started frame is that of the start with its datagram
-memory_is : (area : List ℕ) (stack : List (Option ℕ)) (n : ℕ) (window : Option (ℕ × ℕ)) → HoldsDatagram area stack n true window → memory_with stack (take (67 + n) area) n ≡ (start (take n (drop 64 area))).memory
-memory_is area stack n window frame =
+memory_is : (area : List ℕ) (stack empty : List (Option ℕ)) (n : ℕ) (window : Option (ℕ × ℕ)) → HoldsDatagram area stack n true window → empty ≡ empty_stack → memory_with empty (take (67 + n) area) n ≡ (start (take n (drop 64 area))).memory
+memory_is area stack empty n window frame is_empty =
     let count : n ≡ length (take n (drop 64 area)) = sym (datagram_length area n frame.long frame.short) in
-    λ i. memory_with (frame.empty refl i) (frame.ready refl i) (count i)
+    λ i. memory_with (is_empty i) (frame.ready refl i) (count i)
 
 -- a frame with the bytes and the window that a run left, before what stands behind the tailroom
 pub frame_left : (f : Contents) (area : List ℕ) (plan : Plan) (r : Run) → r.state.memory.bytes ≡ take (67 + f.length) area → drop (67 + f.length) area ≡ drop (67 + f.length) f.area → r.state.plan ≡ plan
@@ -83,15 +83,16 @@ frame_left f area plan r bytes behind planned =
     λ i. record f { area = whole i; is_started = false; window = sym window i }
 
 -- a run in the memory of a started frame is the frame's run
-pub frame_run : {Log : Type 0} (Logs : Log → Visit → Log → Type 0) (program : List Insn) (answers : Answers) (f : Contents) (context : List ℕ) (stack stack' : List (Option ℕ)) (area : List ℕ) (plan : Plan) (old new : Log) (result : Result Exited Stuck)
+pub frame_run : {Log : Type 0} (Logs : Log → Visit → Log → Type 0) (program : List Insn) (answers : Answers) (f : Contents) (context : List ℕ) (stack empty stack' : List (Option ℕ)) (area : List ℕ) (plan : Plan) (old new : Log) (result : Result Exited Stuck)
     → HoldsDatagram f.area stack f.length true f.window → IsContext (context_of f.context) → context ≡ context_bytes (context_of f.context) f.length
-    → IsWholeRun Logs program answers context (memory_with stack (take (67 + f.length) f.area) f.length) (memory_with stack' (take (67 + f.length) area) f.length) plan old new result
+    → empty ≡ empty_stack
+    → IsWholeRun Logs program answers context (memory_with empty (take (67 + f.length) f.area) f.length) (memory_with stack' (take (67 + f.length) area) f.length) plan old new result
     → drop (67 + f.length) area ≡ drop (67 + f.length) f.area
     → RunsOver Logs answers program f (record f { area = area; is_started = false; window = plan.window }) plan old new result
-frame_run Logs program answers f context stack stack' area plan old new result frame real spelled walked behind =
+frame_run Logs program answers f context stack empty stack' area plan old new result frame real spelled is_empty walked behind =
     let left : Memory = memory_with stack' (take (67 + f.length) area) f.length in
     let whole : IsWholeRun Logs program answers context (start (datagram_of f)).memory left plan old new result =
-    subst (λ (m : Memory). IsWholeRun Logs program answers context m left plan old new result) (memory_is f.area stack f.length f.window frame) walked in
+    subst (λ (m : Memory). IsWholeRun Logs program answers context m left plan old new result) (memory_is f.area stack empty f.length f.window frame is_empty) walked in
     let is : IsRecordOf context (length (datagram_of f)) (context_of f.context) = record {
       is_context = real;
       spelled = spelled ∙ ap (context_bytes (context_of f.context)) (sym (datagram_length f.area f.length frame.long frame.short));
@@ -153,7 +154,6 @@ is_unstarted flat new stack new_stack n started window new_window context long c
     long = omega (arith, long, length-drop 560 new);
     short = is.holds.short;
     cells = cells;
-    empty = λ e. absurd (no_true e);
     ready = λ e. absurd (no_true e);
     inside = inside;
   };

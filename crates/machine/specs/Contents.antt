@@ -1,10 +1,7 @@
 -- Meaning. The contents of a frame: a datagram between headroom and tailroom, in one area of bytes.
-use Rattle.std.specs.Prelude.{◌≡◌, ℕ, ◌+◌, ◌≤◌, Bool, true, false, List, ◌++◌, All, length, take, drop, Option, None, IfSome}
-use Rattle.semantics.specs.Machine.{IsContext, surrounded, empty_stack}
-use Rattle.semantics.specs.declared.limits.TheConstants.{STACK_BYTES, HEADROOM, MAX_DATAGRAM, TAILROOM}
-use Rattle.flat.specs.Layout as layout
-use Rattle.flat.specs.Layout.{headroom_index}
-use Rattle.machine.specs.Contexts.{context_of}
+use Rattle.std.specs.Prelude.{◌≡◌, ℕ, ◌+◌, Bool, true, false, List, ◌++◌, All, length, take, drop, Option, None}
+use Rattle.semantics.specs.Machine.{surrounded}
+use Rattle.semantics.specs.declared.limits.TheConstants.{HEADROOM, MAX_DATAGRAM, TAILROOM}
 use Rattle.machine.specs.declared.context.Context.{Context}
 
 -- The area has 64 bytes of headroom, room for a datagram of 65,507 bytes, and three bytes more. The tailroom begins where
@@ -44,22 +41,6 @@ pub record IsStartedOver (old new : Contents) (given : Context) (n : ℕ) : Type
   pub is_started : new.is_started ≡ true
   pub context : new.context ≡ given
   pub window : new.window ≡ None
-
--- A frame's memory: an area, and a stack of 512 cells. Where the frame is started, its datagram has zeros round it, and
--- no cell holds anything. A window lies in the area.
-pub record HoldsDatagram (area : List ℕ) (stack : List (Option ℕ)) (count : ℕ) (is_started : Bool) (window : Option (ℕ × ℕ)) : Type 0 where
-  pub long : length area ≡ area_size
-  pub short : count ≤ MAX_DATAGRAM
-  pub cells : length stack ≡ STACK_BYTES
-  pub empty : is_started ≡ true → stack ≡ empty_stack
-  pub ready : is_started ≡ true → take (HEADROOM + TAILROOM + count) area ≡ surrounded (take count (drop HEADROOM area))
-  pub inside : IfSome window (λ w. w.0 + w.1 ≤ area_size)
-
--- a frame's memory, in an area that has it from headroom on, and a context of the definitions' sizes
-pub record IsFrame (flat : List ℕ) (stack : List (Option ℕ)) (count : ℕ) (is_started : Bool) (window : Option (ℕ × ℕ)) (context : Context) : Type 0 where
-  pub long : length flat ≡ layout.area_size
-  pub holds : HoldsDatagram (drop headroom_index flat) stack count is_started window
-  pub is_context : IsContext (context_of context)
 
 -- a new frame: zeros, the empty datagram, not started, no window
 pub record IsNew (f : Contents) : Type 0 where

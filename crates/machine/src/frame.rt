@@ -29,7 +29,8 @@ pub struct Frame {
 impl Model for Frame {
     ghost use Rattle.std.specs.Prelude.{drop};
     ghost use Rattle.flat.specs.Layout.{headroom_index};
-    ghost use Rattle.machine.specs.Contents.{Contents, IsFrame};
+    ghost use Rattle.machine.specs.Contents.{Contents};
+    ghost use Rattle.machine.specs.FrameFields.{IsFrame};
 
     ghost Value = { Contents };
 
@@ -97,7 +98,7 @@ fn empty_stack(alloc: Global) -> Result<Vec<Option<u8>>, AllocError>
 
 /// Clears a stack: nothing of it is set afterwards.
 #[tactic(auto, unfolding(semantics::specs::Machine::empty_stack))]
-fn clear_stack(stack: &mut [Option<u8>])
+pub(crate) fn clear_stack(stack: &mut [Option<u8>])
     requires { length stack.old ≡ STACK_BYTES }
     ensures { stack.new ≡ empty_stack }
 {
@@ -229,14 +230,13 @@ impl Frame {
         }
     }
 
-    /// Starts a run with a context: the first `n` bytes of the room become the datagram, with zeros round it, and
-    /// the stack is cleared.
+    /// Starts a run with a context: the first `n` bytes of the room become the datagram, with zeros round it. Nothing else
+    /// is cleared: a run reads no byte of the stack that it has not written.
     pub fn start(&mut self, context: &Context, n: usize)
         requires { n ≤ MAX_DATAGRAM }
         ensures { IsStartedOver self.old self.new context.now n }
     {
         is_context(context);
-        clear_stack(&mut self.stack);
         surround_in(&mut self.flat, n);
         self.length = n;
         self.context = *context;

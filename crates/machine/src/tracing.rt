@@ -18,7 +18,7 @@ ghost use Rattle.machine.specs.Tracing.{run_of, IsOutcome, left_by, IsFrameRun, 
 
 use crate::context::context_record;
 use crate::execution::{Environment, Exited, execute};
-use crate::frame::Frame;
+use crate::frame::{Frame, clear_stack};
 use crate::outcome::{Outcome, Stuck};
 use crate::sink::Sink;
 use attributes::Addr;
@@ -88,6 +88,7 @@ fn run_frame<H: Helpers, S: Sink>(
     let length = frame.datagram().len();
     let context = context_record(&frame.context, length);
     frame.is_started = false;
+    clear_stack(&mut frame.stack);
     let given = Environment {
         code,
         context: &context,

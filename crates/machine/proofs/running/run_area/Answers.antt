@@ -8,7 +8,8 @@ use Rattle.flat.specs.FlatSteps.{given_of}
 use Rattle.flat.specs.Following.{given_in}
 use Rattle.flat.specs.FlatRuns.{IsRun}
 use Rattle.flat.specs.Layout.{pointers}
-use Rattle.machine.specs.Contents.{Contents, HoldsDatagram, IsFrame, datagram_of}
+use Rattle.machine.specs.Contents.{Contents, datagram_of}
+use Rattle.machine.specs.FrameFields.{HoldsDatagram, IsFrame}
 use Rattle.machine.specs.Contexts.{Answers, context_of, side_number}
 use Rattle.machine.specs.Execution.{RunsFlat}
 use Rattle.machine.specs.Tracing.{environment_of}

@@ -11,7 +11,6 @@ invariant_of-result c = record {
     long = let zero_byte : ℕ = 0 in ap (λ (l : List ℕ). length (drop 560 l)) c.in_ok-zeros.ensures ∙ ap length (drop-replicate 560 66134 zero_byte) ∙ length-replicate 65574 zero_byte;
     short = omega arith;
     cells = ap length c.in_ok-empty_stack.ensures ∙ length-empty_stack;
-    empty = λ e. absurd cc;
     ready = λ e. absurd cc;
     inside = tt;
   };
