@@ -66,7 +66,7 @@ def slot_at_the_end(numbers, moves, budget=100_000):
 CASES = [([1, 2, 4, 8, 16], 4000, LIMIT), ([1] * 2046, 0, KEPT_LIMIT)]
 
 
-def limit_memory(limit=LIMIT):
+def limit_memory(limit):
     """Limits the current process to so many bytes."""
     resource.setrlimit(resource.RLIMIT_AS, (limit, limit))
 
