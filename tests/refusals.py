@@ -12,7 +12,8 @@ import tempfile
 from program import TOP, finish, run
 
 ROW = re.compile(r"^\| ([A-Z]\d+) \|.*\|([^|]*)\|$", re.MULTILINE)
-LINE = re.compile(r"`([^`]*)`(?: ×([\d,]+))?")
+# a line, or lines in parentheses, and how often they are repeated
+LINES = re.compile(r"(?:`([^`]*)`|\(((?:`[^`]*` ?)+)\))(?: ×([\d,]+))?")
 TESTED = re.compile(r'code: "(\w+)",\s*hex: "([^"]*)"')
 TEST = TOP / "crates" / "message_tests" / "src" / "smallest.rt"
 # the codes of memory and of room, for which no input is smallest
@@ -21,8 +22,11 @@ WITHOUT = {"L6", "E8", "V19", "S6"}
 
 def lines_of(cell):
     """Returns the lines of a cell, each as often as it is repeated."""
-    found = LINE.findall(cell)
-    return [line for line, count in found for _ in range(int(count.replace(",", "") or 1))]
+    lines = []
+    for line, group, count in LINES.findall(cell):
+        repeated = re.findall("`([^`]*)`", group) or [line]
+        lines += repeated * int(count.replace(",", "") or 1)
+    return lines
 
 
 def refused(folder, code, lines):

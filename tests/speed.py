@@ -19,21 +19,33 @@ MOV = bytes.fromhex("b700000000000000")
 EXIT = bytes.fromhex("9500000000000000")
 # a line of a long text
 LINE = "    jeq.32 r1, -123456789, +1    ; a comment\n"
-# the datagram's first byte is checked: `ldxdw r2, [r1+0]` to `mov r0, 0`
-CHECK = bytes.fromhex(
-    "7912000000000000 7913080000000000 bf24000000000000 0704000001000000 b700000000000000"
-)
-# `ldxb r5, [r2+0]`
-FIRST_BYTE = bytes.fromhex("7125000000000000")
-# `jset r5, 1, +1` and `mov r0, 0`
-FORK = bytes.fromhex("4505010001000000 b700000000000000")
+# `ldxdw r2, [r1+16]` and `mov r0, 0`
+NUMBER = bytes.fromhex("7912100000000000 b700000000000000")
+# `jset r2, 1, +1`
+JUMP = bytes.fromhex("4502010001000000")
+# `mov r3, 0`
+NEXT = bytes.fromhex("b703000000000000")
+# the jumps of a program in which no two paths come to the rest in one state
+FORKS = 5
 
 
-def forked(jumps):
-    """Returns a program in which each of these jumps goes either way, behind the check of a byte."""
-    # `jgt r4, r3` to the exit
-    over = b"\x2d\x34" + (1 + 2 * jumps).to_bytes(2, "little") + bytes(4)
-    return CHECK + over + FIRST_BYTE + FORK * jumps + EXIT
+def adding(number):
+    """Returns an addition to r0 and a jump over it, which may go either way."""
+    return JUMP + b"\x07\x00\x00\x00" + number.to_bytes(4, "little")
+
+
+def forked(moves):
+    """Returns a program of 32 paths, each of which makes so many moves, and the abstract steps that it takes."""
+    forks = b"".join(adding(2**i) for i in range(FORKS))
+    return NUMBER + forks + NEXT * moves + EXIT, 2 + 2 * (2**FORKS - 1) + 2**FORKS * (moves + 1)
+
+
+def counting(jumps):
+    """Returns a program that adds 1 or nothing so often, and the abstract steps that it takes.
+
+    A state is kept after each addition, and compared with those before it: the n-th jump is reached with n numbers.
+    """
+    return NUMBER + adding(1) * jumps + EXIT, 2 + jumps * (jumps + 1) + jumps + 1
 
 
 def best(words, relayd):
@@ -66,12 +78,13 @@ def print_figures(relayd):
             path.write_text(text, encoding="utf-8")
             return max(best(["assemble", path, target], relayd) - start, 1e-9)
 
-        for jumps in (12, 13, 14):
-            # both branches of each jump are followed to the exit: behind the first 6 steps, each jump doubles 3
-            steps = 3 * 2**jumps + 6
-            taken = timed("verify", forked(jumps))
-            rate = steps / taken / 1e6
-            print(f"verify: about {steps} abstract steps, {rate:.1f} million a second")
+        for what, programs in (
+            ("that keep few states", [forked(moves) for moves in (1000, 2000, 3000)]),
+            ("of which every second one keeps a state", [counting(jumps) for jumps in (100, 200, 300)]),
+        ):
+            for program, steps in programs:
+                rate = steps / timed("verify", program) / 1e6
+                print(f"verify: {steps} abstract steps {what}, {rate:.1f} million a second")
         for slots in (1024, 2048, 4096):
             program = MOV * (slots - 1) + EXIT
             taken = timed("verify", program)

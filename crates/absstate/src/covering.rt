@@ -1,6 +1,6 @@
 //! Whether one abstract state covers another: then each machine state that the other one describes it describes too.
 
-ghost use Rattle.std.specs.Prelude.{◌≡◌, length};
+ghost use Rattle.std.specs.Prelude.{◌≡◌, ◌&&◌, int_le, length};
 ghost use Rattle.absstate.specs.Covers.{same_int, same_anchor, covers_places, proves_less, covers_anchor, covers_value, covers_values, shared, stands_for, share_alike, covers_marks, covers};
 
 use crate::abstract_state::{AbsState, AbstractValue, Anchor};
@@ -153,14 +153,21 @@ pub(crate) fn covers_marks(marks: &[bool], others: &[bool]) -> bool
     }
 }
 
+/// Returns whether no more is proved of the datagram in a state than in the other state, and no more bytes of the stack are
+/// set.
+fn covers_memory<D: Copy>(state: &AbsState<D>, other: &AbsState<D>) -> bool
+    ensures { result ≡ (int_le state.now.proved other.now.proved && covers_marks state.now.marks.cells other.now.marks.cells) }
+{
+    state.proved <= other.proved && state.marks.covers(&other.marks)
+}
+
 /// Returns whether no more is known in a state than in the other state.
 fn covers_state<D: Domain>(state: &AbsState<D>, other: &AbsState<D>) -> bool
     ensures { result ≡ covers D.ops state.now other.now }
 {
     let values = covers_values(state, other, &state.registers, &other.registers)
         && share_alike(&state.registers, &other.registers);
-    let rest = state.proved <= other.proved && state.marks.covers(&other.marks);
-    values && rest
+    values && covers_memory(state, other)
 }
 
 /// Returns the values of the eleven registers.

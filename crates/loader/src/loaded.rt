@@ -80,8 +80,8 @@ fn verified(alloc: Global, code: &[Insn]) -> Result<Verified, Refusal>
 ///
 /// # Errors
 /// E1 to E7 where the bytes encode no program, as [`decode`] names them. Otherwise V1 to V4 where the layout of the
-/// program is faulty, V5 to V16 and V18 where a step could be stuck, and V17 where its paths have more than 100,000
-/// beginnings. E8 and V19 where memory runs out.
+/// program is faulty, V5 to V16 and V18 where a step could be stuck, and V17 where following its paths needs more than
+/// 100,000 steps. E8 and V19 where memory runs out.
 pub fn load(alloc: Global, bytes: &[u8]) -> Result<Loaded, LoadError>
     // What is loaded is the program that the bytes encode, and every run of it exits.
     ensures loaded { IfOk result (λ code. IsLoaded code bytes.now) }

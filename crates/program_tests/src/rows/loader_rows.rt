@@ -55,18 +55,22 @@ fn expect_each_repeated<R: Abort + AllocGlobal>(rt: &R, rows: &[Repeated]) -> Re
     Ok(())
 }
 
-/// Makes a program of 44 slots with 20 jumps `jset r3, 1, +1` on a byte that may be anything. Each goes over
-/// an addition of another power of two, so that no two paths reach a slot in one state.
-fn twenty_jumps<R: AllocGlobal>(rt: &R) -> Result<Vec<u8>, Fail> {
-    // `ldxdw r2, [r1+0]`, `ldxb r3, [r2-1]`, `mov r0, 0`
-    let mut file = program(rt, "7912000000000000 7123ffff00000000 b700000000000000")?;
-    let jump = program(rt, "4503010001000000")?;
+/// Makes a program of 4,013 slots with five jumps `jset r2, 1, +1` on a number that may be anything. Each goes over an
+/// addition of another power of two, so that 32 paths reach the rest, 4,000 moves and an exit, no two in one state.
+fn many_paths<R: AllocGlobal>(rt: &R) -> Result<Vec<u8>, Fail> {
+    // `ldxdw r2, [r1+16]`, `mov r0, 0`
+    let mut file = program(rt, "7912100000000000 b700000000000000")?;
+    let jump = program(rt, "4502010001000000")?;
     let mut power: u32 = 1;
-    for _ in 0..20 {
+    for _ in 0..5 {
         file.extend_from_slice(&jump)?;
         file.extend_from_slice(&[0x07, 0, 0, 0])?;
         file.extend_from_slice(&power.to_le_bytes())?;
         power = power.wrapping_mul(2);
+    }
+    let step = program(rt, "b703000000000000")?;
+    for _ in 0..4000 {
+        file.extend_from_slice(&step)?;
     }
     file.extend_from_slice(&program(rt, "9500000000000000")?)?;
     Ok(file)
@@ -81,8 +85,10 @@ fn files_are_verified_and_loaded(rt: HostRuntime) -> Result<(), Fail> {
     expect_each(&rt, "context", context::ACCEPTED.as_slice())?;
     expect_each(&rt, "calls", calls::ACCEPTED.as_slice())?;
     expect_each_repeated(&rt, REPEATED.as_slice())?;
-    // Three steps stand before the first jump, and the one that would pass 100,000 is the 99,998th from there
-    // on: the exit of the path that takes the 5th, 11th, 15th, 17th, 19th and 20th jump.
-    let file = twenty_jumps(&rt)?;
-    expect(&rt, "twenty jumps", &file, "refused V17 at 43")
+    // The first path makes 12 steps up to slot 12 and 4,001 from there on. The n-th one after it begins at the jump
+    // that was left last: it makes two steps for each time that 2 divides n, and 4,001. So 23 of them end after
+    // 4,013 + 23 * 4,001 + 2 * 19 = 96,074 steps. The 24th makes 6 steps up to slot 12, and 3,920 from there on. The
+    // step that would pass 100,000 is at slot 12 + 3,920.
+    let file = many_paths(&rt)?;
+    expect(&rt, "many paths", &file, "refused V17 at 3932")
 }
