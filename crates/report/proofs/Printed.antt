@@ -1,6 +1,7 @@
 -- The status and the text of a printed trace, from how its run ended.
-use Rattle.std.proofs.Common.{◌≡◌, ℕ, List, Option, Result, Ok, Err, IfOk, IfErr, OnOk, MatchResult, Bor, arith, inl, inr, sym, ap, ◌∙◌, subst}
+use Rattle.std.proofs.Common.{◌≡◌, ℕ, true, false, List, Option, Result, Ok, Err, IfOk, IfErr, OnOk, MatchResult, Bor, arith, inl, inr, sym, ap, ◌∙◌, subst}
 use Rattle.std.specs.Io.KnownBytes.{Appends}
+use Rattle.std.specs.Result.{is_ok}
 use Rattle.insn.specs.Encoding.{Encodes}
 use Rattle.insn.specs.declared.instruction.Insn.{Insn}
 use Rattle.semantics.specs.Runs as runs
@@ -11,7 +12,7 @@ use Rattle.machine.specs.declared.outcome.Outcome.{Outcome}
 use Rattle.machine.specs.declared.outcome.Stuck.{Stuck}
 use Rattle.report.specs.Statuses.{IsPrinted, IsWritten, PrintsRefusal, Succeeds}
 use Rattle.report.specs.Texts.{end_text, ending_text, exit_text, trace_text}
-use Rattle.report.specs.Traces.{digits_of, traced_run, EncodeDatagram, PrintsTrace, IsExit, IsStuck}
+use Rattle.report.specs.Traces.{digits_of, traced_run, EncodeDatagram, TraceEnds, PrintsTrace, IsExit, IsStuck}
 use Rattle.report.specs.declared.error.ReportError.{ReportError}
 use Rattle.report.specs.declared.reporting.Ask.{Ask}
 use Rattle.report.specs.declared.reporting.Ask.TheVariants.{Trace}
@@ -63,3 +64,30 @@ module _ (hex : Option (Bor (List ℕ))) (file : List ℕ) (code : List Insn) (d
     success = λ zero. absurd (omega (arith, status, zero));
     refusal = λ one. prints IsStuck old new (subst IsStuck (sym stuck) tt) (both old between new (Err s) is stuck steps ending);
   }
+
+-- how a trace ends, where its run is that of the code
+module _ (hex : Option (Bor (List ℕ))) (file : List ℕ) (code : List Insn) (datagram : List ℕ) (r : Run) (encodes : Encodes code file) (digits : EncodeDatagram (digits_of hex) datagram) (same : r ≡ traced_run code datagram) where
+  ends_so : (IsEnding : Ending → Type 0) → IsEnding r.ending → TraceEnds (digits_of hex) file IsEnding
+  ends_so IsEnding ended = record {
+    code = code;
+    file_encodes = encodes;
+    datagram = datagram;
+    digits_encode = digits;
+    ended = subst (λ (q : Run). IsEnding q.ending) same ended;
+  }
+
+  pub trace_exits : (ended : Result Outcome Stuck) → IfOk ended (λ o. IsOutcome o r) → IfOk ended (λ o. Succeeds (Trace hex) file)
+  trace_exits (Ok o) is = ends_so IsExit (subst IsExit (sym is.verdict) tt)
+  trace_exits (Err s) is = tt
+
+  pub trace_sticks : (ended : Result Outcome Stuck) → IfErr ended (λ s. r.ending ≡ runs.Stuck s.reason s.slot) → IfErr ended (λ s. PrintsRefusal (Trace hex) file)
+  trace_sticks (Ok o) stuck = tt
+  trace_sticks (Err s) stuck = ends_so IsStuck (subst IsStuck (sym stuck) tt)
+
+-- where a call succeeded, what holds of its success
+pub of_success : {A E : Type 0} (P : Type 0) (Q : E → Type 0) (result : Result A E) → MatchResult result (λ _. P) Q → is_ok result ≡ true → P
+of_success P Q (Ok x) h e = h
+of_success P Q (Err x) h e = absurd (no_true e)
+  where
+    no_true : false ≡ true → ⊥
+    no_true e = absurd cc

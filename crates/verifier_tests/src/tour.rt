@@ -5,6 +5,7 @@ use crate::assembly::{FOURTH_BYTE, code_of};
 use absstate::{AbsState, AbstractValue, Anchor, Next};
 use insn::{Insn, Reg};
 use interval::{Domain, Interval};
+use std::process::Abort;
 use std::test::Fail;
 
 type Known = AbstractValue<Interval>;

@@ -1,5 +1,6 @@
-use Rattle.std.proofs.Common.{rules, ◌≡◌, None, IfOk, IfErr, OnOk, ap, subst}
+use Rattle.std.proofs.Common.{rules, ◌≡◌, ◌∙◌, sym, None, Some, IfOk, IfErr, OnOk, ap, subst}
 use Rattle.std.specs.Io.KnownBytes.{Appends}
+use Rattle.std.specs.Result.{is_ok}
 use Rattle.insn.specs.Encoding.{Encodes}
 use Rattle.semantics.specs.Machine.{Context}
 use Rattle.helpers.specs.Nothing.{finds_nothing}
@@ -11,13 +12,17 @@ use Rattle.report.specs.Texts.{end_text}
 use Rattle.report.specs.Traces.{traced_run}
 use Rattle.report.specs.Statuses.{PrintsRefusal, Succeeds}
 use Rattle.report.specs.declared.reporting.Ask.TheVariants.{Trace}
-use Rattle.report.proofs.Printed.{ended_printed, trace_written}
+use Rattle.report.proofs.Printed.{ended_printed, trace_written, trace_exits, trace_sticks, of_success}
 use Rattle.report.proofs.reporting.report_trace.Goals as goal
 
 pub returns-clause-printed : goal.returns-clause-printed
 returns-clause-printed g c =
-    let exits : IfOk c.trace-ended.result (λ o. Succeeds (Trace c.args.hex) c.args.file.now) = search rules in
-    let stuck : IfErr c.trace-ended.result (λ e. PrintsRefusal (Trace c.args.hex) c.args.file.now) = search rules in
+    let code = c.deref.result.now in
+    let run = run_of code c.prepare.new.frame finds_nothing in
+    let encodes : Encodes code c.args.file.now = search rules in
+    let same : run ≡ traced_run code (datagram_of c.prepare.new.frame) = ap (λ (q : Context). run_over (around q finds_nothing) code (datagram_of c.prepare.new.frame)) c.in_ok-code.ensures.context in
+    let exits : IfOk c.trace-ended.result (λ o. Succeeds (Trace c.args.hex) c.args.file.now) = trace_exits c.args.hex c.args.file.now code (datagram_of c.prepare.new.frame) run encodes c.in_ok-code.ensures.datagram same c.trace-ended.result c.trace-ended.ensures.ok in
+    let stuck : IfErr c.trace-ended.result (λ e. PrintsRefusal (Trace c.args.hex) c.args.file.now) = trace_sticks c.args.hex c.args.file.now code (datagram_of c.prepare.new.frame) run encodes c.in_ok-code.ensures.datagram same c.trace-ended.result c.trace-ended.ensures.err in
     ended_printed (Trace c.args.hex) c.args.file.now c.trace-ended.result c.report_end.result exits stuck c.report_end.ensures.printed
 
 pub returns-clause-written : goal.returns-clause-written
@@ -25,7 +30,7 @@ returns-clause-written g c =
     let code = c.deref.result.now in
     let run = run_of code c.prepare.new.frame finds_nothing in
     let lines = lines_written _ run.path _ c.trace-ended.ensures.reported in
-    let clean : c.trace-ended.new.sink.fault ≡ None = search rules in
+    let clean : c.trace-ended.new.sink.fault ≡ None = of_success (c.trace-ended.new.sink.fault ≡ None) (λ e. c.trace-ended.new.sink.fault ≡ Some e) c.finish.result c.finish.ensures.fault (sym c.map_err-2.ensures.variant ∙ ap is_ok c.in_ok-map_err.was) in
     let steps : Appends (g.W.Write.contents c.args.out.now) (g.W.Write.contents c.trace-ended.new.sink.writer.now) (step_lines run.path) = subst (λ w. Appends (g.W.Write.contents w) (g.W.Write.contents c.trace-ended.new.sink.writer.now) (step_lines run.path)) c.new-lines.ensures.writer (lines.written clean) in
     let encodes : Encodes code c.args.file.now = search rules in
     let same : run ≡ traced_run code (datagram_of c.prepare.new.frame) = ap (λ (q : Context). run_over (around q finds_nothing) code (datagram_of c.prepare.new.frame)) c.in_ok-code.ensures.context in
