@@ -3,7 +3,7 @@
 The programs are those of verdicts.py, kernel_vectors.json and kernel_verdicts.json, the examples, and the shipped
 programs, of which each bit and seeded pairs of bits are flipped too. Each that is accepted runs over datagrams that are
 empty, short and as long as they may be, some of them ChannelData and Send indications, with contexts of both sides, and
-with helpers that find a peer or nothing.
+with helpers that look up, find nothing, or give drawn answers.
 """
 
 import pathlib

@@ -4,6 +4,7 @@ ghost use Rattle.std.specs.Prelude.{◌≡◌, ◌≤◌, true};
 ghost use Rattle.semantics.specs.declared.limits.TheConstants.{MAX_DATAGRAM};
 
 use crate::datagram::{context, write_datagram};
+use crate::drawn::Drawn;
 use crate::random::Random;
 use crate::rows::{NOW, tables};
 use anyhow::Result;
@@ -110,7 +111,8 @@ impl Comparison {
         start_both(&mut self.random, self.runs, ran, traced);
         match self.random.below(8) {
             0 => difference(program, ran, traced, &NoAllocation),
-            1 => difference(program, ran, traced, &Lookup::new(&self.tables, NOW, None)),
+            1 | 2 => difference(program, ran, traced, &Drawn::new(&mut self.random)),
+            3 => difference(program, ran, traced, &Lookup::new(&self.tables, NOW, None)),
             _ => difference(
                 program,
                 ran,

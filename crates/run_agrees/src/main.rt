@@ -4,6 +4,7 @@
 mod checking;
 mod comparison;
 mod datagram;
+mod drawn;
 mod random;
 mod rows;
 
