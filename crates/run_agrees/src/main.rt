@@ -1,4 +1,4 @@
-//! Loads the programs on standard input, and compares the run and the trace of each that is accepted, over seeded datagrams.
+//! Loads the programs on standard input, and compares the run of each that is accepted with its trace.
 #![tactic(auto)]
 
 mod checking;
