@@ -1,0 +1,143 @@
+//! What is compared of a run and a trace.
+
+ghost use Rattle.std.specs.Prelude.{◌≡◌, ◌≤◌, true};
+ghost use Rattle.semantics.specs.declared.limits.TheConstants.{MAX_DATAGRAM};
+
+use crate::datagram::{context, write_datagram};
+use crate::drawn::Drawn;
+use crate::random::Random;
+use crate::rows::{NOW, tables};
+use anyhow::Result;
+use helpers::Lookup;
+use machine::{Frame, Helpers, NoAllocation, Silent, run, trace};
+use std::alloc::Global;
+use tables::Tables;
+use verifier::Verified;
+
+/// The seed of all datagrams.
+const SEED: u64 = 20;
+
+/// Copies the first bytes of a frame's room into that of another.
+fn copy_room(from: &Frame, to: &mut Frame, length: usize)
+    requires { length ≤ MAX_DATAGRAM }
+{
+    let (bytes, _) = from.room().split_at(length);
+    let (room, _) = to.area().split_at_mut(length);
+    room.copy_from_slice(bytes);
+}
+
+/// Starts both frames over the datagram of a number, with the same context.
+fn start_both(random: &mut Random, number: u64, ran: &mut Frame, traced: &mut Frame)
+    ensures ran { ran.new.is_started ≡ true }
+    ensures traced { traced.new.is_started ≡ true }
+{
+    let length = write_datagram(random, number, ran.area());
+    copy_room(ran, traced, length);
+    let context = context(random);
+    ran.start(&context, length);
+    traced.start(&context, length);
+}
+
+/// Returns what two frames show that is not the same.
+fn difference_of(ran: &Frame, traced: &Frame) -> Option<&'static str> {
+    if ran.datagram() != traced.datagram() {
+        Some("datagram")
+    } else if ran.window() != traced.window() {
+        Some("window")
+    } else {
+        None
+    }
+}
+
+/// Runs and traces a program over two frames that are started alike, and returns what differs.
+fn difference<H: Helpers>(
+    program: &Verified,
+    ran: &mut Frame,
+    traced: &mut Frame,
+    helpers: &H,
+) -> Option<&'static str>
+    requires ran { ran.old.is_started ≡ true }
+    requires traced { traced.old.is_started ≡ true }
+{
+    let outcome = run(program, ran, helpers);
+    let ended = trace(program.code(), traced, helpers, &mut Silent);
+    if ended == Ok(outcome) {
+        difference_of(ran, traced)
+    } else {
+        Some("outcome")
+    }
+}
+
+/// A frame for runs and one for traces, which are used again for each datagram, and the tables that helpers look up in.
+#[derive(Drop)]
+pub struct Comparison {
+    random: Random,
+    tables: Tables,
+    ran: Frame,
+    traced: Frame,
+    runs: u64,
+    windows: u64,
+}
+
+impl Comparison {
+    /// Allocates the frames and the tables.
+    ///
+    /// # Errors
+    /// Where memory runs out.
+    pub fn new(alloc: Global) -> Result<Comparison> {
+        Ok(Comparison {
+            random: Random::new(SEED),
+            tables: tables(alloc)?,
+            ran: Frame::new(alloc)?,
+            traced: Frame::new(alloc)?,
+            runs: 0,
+            windows: 0,
+        })
+    }
+
+    /// Returns how many runs were compared.
+    pub fn runs(&self) -> u64 {
+        self.runs
+    }
+
+    /// Returns how many of these runs set a window.
+    pub fn windows(&self) -> u64 {
+        self.windows
+    }
+
+    /// Runs and traces a program over the next datagram, with helpers that are drawn, and returns what differs.
+    fn next_difference(&mut self, program: &Verified) -> Option<&'static str> {
+        let (ran, traced) = (&mut self.ran, &mut self.traced);
+        start_both(&mut self.random, self.runs, ran, traced);
+        match self.random.below(8) {
+            0 => difference(program, ran, traced, &NoAllocation),
+            1 | 2 => difference(program, ran, traced, &Drawn::new(&mut self.random)),
+            3 => difference(program, ran, traced, &Lookup::new(&self.tables, NOW, None)),
+            _ => difference(
+                program,
+                ran,
+                traced,
+                &Lookup::new(&self.tables, NOW, Some(0)),
+            ),
+        }
+    }
+
+    /// Runs and traces a program over some datagrams, and returns the number of the first one where the two differ, and
+    /// what differs.
+    pub fn first_difference(
+        &mut self,
+        program: &Verified,
+        count: u64,
+    ) -> Option<(u64, &'static str)> {
+        for number in 0..count {
+            if let Some(part) = self.next_difference(program) {
+                return Some((number, part));
+            }
+            self.runs = self.runs.saturating_add(1);
+            self.windows = self
+                .windows
+                .saturating_add(u64::from(self.ran.window().is_some()));
+        }
+        None
+    }
+}
