@@ -8,6 +8,7 @@ the ports of slots are free ones below the system's range, so two runs beside ea
 import contextlib
 import hashlib
 import hmac
+import itertools
 import os
 import pathlib
 import random
@@ -33,16 +34,16 @@ CHANNEL = 0x4000
 DISCARD = bytes.fromhex("b700000000000000 9500000000000000")
 # `exit`, which is refused since r0 is not set
 BAD = bytes.fromhex("9500000000000000")
-DATAGRAMS, BATCH = 20_000, 32
+CLIENTS, DATAGRAMS, BATCH = 10, 200_000, 40
 PERIOD = 1.0  # seconds: how often a server looks at what is due
 
 
-def udp_socket(port=0):
+def udp_socket(port=0, address="127.0.0.1"):
     """A socket of loopback whose receives give up after five seconds."""
     bound = socket.socket(socket.AF_INET, socket.SOCK_DGRAM)
     bound.settimeout(5)
     try:
-        bound.bind(("127.0.0.1", port))
+        bound.bind((address, port))
     except OSError:
         bound.close()
         raise
@@ -67,13 +68,13 @@ def free_ports(count):
 class Server:
     """A running server."""
 
-    def __init__(self, *words, slots=2):
+    def __init__(self, *words, slots=2, env=None):
         for _ in range(10):
             self.first_port = free_ports(slots)
             self.errors = tempfile.TemporaryFile("w+")
             self.process = subprocess.Popen(
                 [PROGRAM, "serve", "--port", "0", "--first-port", str(self.first_port), "--slots", str(slots), *USER, *words],
-                stdout=subprocess.PIPE, stderr=self.errors, text=True)
+                stdout=subprocess.PIPE, stderr=self.errors, text=True, env=env)
             line = self.process.stdout.readline()
             if line.startswith("listening 127.0.0.1:"):
                 self.port = int(line.rpartition(":")[2])
@@ -368,32 +369,36 @@ def replaced_programs():
 
 # ---- many datagrams
 
-def exchange(client, peer, relayed, batch):
-    """Sends a batch to the peer and back, and returns how many came."""
-    for data in batch:
+def exchange(pairs, batch):
+    """Sends a batch to the peers and back, each datagram by the next client, and returns how many came.
+
+    A pair is a client, its peer and the relayed address, to which the peer answers.
+    """
+    sent = list(zip(batch, itertools.cycle(pairs)))
+    for data, (client, _, _) in sent:
         client.send(channel_data(data))
-    found = {peer.recv(2000) for _ in batch}
-    for data in batch:
+    came = sum(peer.recv(2000) == data for data, (_, peer, _) in sent)
+    for data, (_, peer, relayed) in sent:
         peer.sendto(data, relayed)
-    back = {client.receive() for _ in batch}
-    return len(found & set(batch)) + len(back & {channel_data(data) for data in batch})
+    return came + sum(client.receive() == channel_data(data) for data, (client, _, _) in sent)
 
 
 def many():
-    """Yields what is lost of many datagrams, and what they leave behind in memory."""
-    with Server() as server, Client(server) as client, udp_socket() as peer:
-        client.allocate()
-        client.bind(address_of(peer))
-        relayed = ("127.0.0.1", server.first_port)
+    """Yields what is lost of many datagrams of several clients, and what they leave behind in memory."""
+    with Server(slots=CLIENTS) as server, contextlib.ExitStack() as stack:
+        pairs = []
+        for slot in range(CLIENTS):
+            client, peer = stack.enter_context(Client(server)), stack.enter_context(udp_socket())
+            client.allocate()
+            client.bind(address_of(peer))
+            pairs.append((client, peer, ("127.0.0.1", server.first_port + slot)))
         came, memory = 0, None
         for start in range(0, DATAGRAMS, BATCH):
             batch = [struct.pack(">I", number) * 40 for number in range(start, start + BATCH)]
-            came += exchange(client, peer, relayed, batch)
+            came += exchange(pairs, batch)
             memory = memory or server.memory()
         yield from wanted("datagrams there and back", came, 2 * DATAGRAMS)
-        grown = server.memory() - memory
-        if grown > 1024:
-            yield f"the memory has grown by {grown} kB"
+        yield from wanted("kB of memory in use at the end", server.memory(), memory)
 
 
 def main():
