@@ -61,6 +61,15 @@ PROGRAMS = [
     ([WORD, "mov r0, 0", "jgt.32 r2, -2, +1", "exit", "ldxb r0, [r0+0]", "exit"], "refused V18 at 4\n"),
 ]
 
+# a byte is read, and then the byte at so many places after it
+PLACE = [
+    "ldxdw r2, [r1+0]", "ldxdw r3, [r1+8]", "mov r4, r2", "add r4, 1", "mov r0, 0", "jgt r4, r3, +6", "ldxb r5, [r2+0]",
+    "add r2, r5", "mov r6, r2", "add r6, 1", "jgt r6, r3, +1", "ldxb r0, [r2+0]", "exit"]
+# a pointer into the stack isn't moved by a number of which several are possible
+STACK = ["ldxdw r2, [r1+0]", "ldxb r5, [r2-1]", "mov r3, r10", "add r3, r5", "mov r0, 0", "exit"]
+# datagrams in hexadecimal digits: the byte is there, it is one place too far, and it is far from there
+READ = [("020709", 9), ("030709", 0), ("ff", 0)]
+
 
 def bounded(number, instruction, greatest):
     """Returns a program with a fault that is met where a result is above a number."""
@@ -87,26 +96,34 @@ def rows():
         program = decided(comparison, holds)
         yield program, f"accepted {len(program)} instructions\n"
     yield from PROGRAMS
+    yield PLACE, "accepted 13 instructions\n"
+    yield STACK, "refused V11 at 3\n"
 
 
-def printed(folder, program):
-    """Returns what relayd prints of a program."""
+def printed(folder, program, *command):
+    """Returns what relayd prints of a program by a command."""
     text, file = folder / "text.s", folder / "file.bpf"
     text.write_text("".join(f"{line}\n" for line in program), encoding="utf-8")
     status, out, err = run(["assemble", text, file])
     if status:
         return out + err
-    return run(["verify", file])[1]
+    name, *options = command
+    return run([name, file, *options])[1]
 
 
 def main():
-    """Verifies every row, and returns the exit status."""
+    """Verifies every row, traces the read place, and returns the exit status."""
     failures, count = [], 0
     with tempfile.TemporaryDirectory() as name:
+        folder = pathlib.Path(name)
         for count, (program, wanted) in enumerate(rows(), 1):
-            found = printed(pathlib.Path(name), program)
+            found = printed(folder, program, "verify")
             if found != wanted:
                 failures.append(f"{'; '.join(program)}: {found!r}, not {wanted!r}")
+        for data, verdict in READ:
+            found = printed(folder, PLACE, "trace", "--data", data)
+            if f"\nexit {verdict}\n" not in found:
+                failures.append(f"the read place over {data}: {found!r}")
     return finish(failures, f"verdicts: {count} programs, {len(failures)} failures")
 
 
