@@ -25,9 +25,9 @@ def rows():
     yield "numbers", ["mov r0, 0"] * (SLOTS - 1) + ["exit"], SLOTS, SLOTS
     # each takes two slots
     yield "wide numbers", ["lddw r0, 0"] * (SLOTS // 2 - 1) + ["mov r0, 0", "exit"], SLOTS, SLOTS // 2 + 1
-    # a label for each instruction, of which each but the last jumps to the next
-    labelled = [line for i in range(1, SLOTS - 1) for line in (f"    ja label{i}", f"label{i}:")]
-    yield "labels", ["    mov r0, 0", *labelled, "    exit"], SLOTS, SLOTS
+    # a label for each instruction; all but the first and the last jump to the next
+    labelled = [line for i in range(1, SLOTS - 1) for line in (f"label{i}:", f"    ja label{i + 1}")]
+    yield "labels", ["label0:", "    mov r0, 0", *labelled, f"label{SLOTS - 1}:", "    exit"], SLOTS, SLOTS
     # each jump leaves a state pending, as either side may be taken; the datagram is traced to come from 0.0.0.0
     branches = [f"    jeq r2, {i}, end" for i in range(1, PENDING + 1)]
     yield "branches", ["    mov r0, 0", "    ldxw r2, [r1+40]", *branches, "end:", "    exit"], PENDING + 3, PENDING + 3
@@ -55,12 +55,24 @@ def failures_of(folder, name, lines, slots, steps):
         yield f"{name}: a trace of {len(printed)} lines, {status} {err}"
 
 
+def failures_of_wide_numbers(folder):
+    """Yields what is printed otherwise of the greatest number of wide numbers, which have no exit after them."""
+    text, file = folder / "text.s", folder / "program.bpf"
+    lines = text_of(["lddw r0, 0"] * (SLOTS // 2))
+    text.write_text(lines, encoding="utf-8")
+    if run(["assemble", text, file]) != (0, f"wrote {8 * SLOTS} bytes\n", ""):
+        yield "wide numbers alone: not assembled"
+    if run(["disassemble", file]) != (0, lines, ""):
+        yield "wide numbers alone: not disassembled"
+
+
 def main():
     """Runs every command on every program, and returns the exit status."""
     failures, count = [], 0
     with tempfile.TemporaryDirectory() as name:
         for count, row in enumerate(rows(), 1):
             failures += failures_of(pathlib.Path(name), *row)
+        failures += failures_of_wide_numbers(pathlib.Path(name))
     return finish(failures, f"sizes: {count} programs, {len(failures)} failures")
 
 
