@@ -13,8 +13,8 @@ import tempfile
 
 from program import TOP, build, finish
 from rules import (
-    ALLOCATE, BINDING, CREATE_PERMISSION, DATA, DATA_INDICATION, LIFETIME, REFRESH, SEND, TRANSPORT, XOR_PEER_ADDRESS, address_value,
-    message, read)
+    ALLOCATE, BINDING, CREATE_PERMISSION, DATA, DATA_INDICATION, LIFETIME, REFRESH, SEND, TRANSPORT, XOR_PEER_ADDRESS,
+    address_value, message, read)
 from serve import Client, Server, address_of, channel_data, code_of, exchange, udp_socket, wanted
 
 # the sessions, and the batches of ChannelData in each
@@ -67,7 +67,7 @@ def main():
         folder = pathlib.Path(folder_name)
         library = folder / "refuse_malloc.so"
         source = TOP / "tests" / "refuse_malloc.c"
-        subprocess.run(["gcc", "-O1", "-Wall", "-Werror", "-shared", "-fPIC", "-o", library, source, "-ldl"], check=True)
+        subprocess.run(["gcc", "-O1", "-Wall", "-shared", "-fPIC", "-o", library, source, "-ldl"], check=True)
         failures = list(failures_of_sessions(library, folder / "count"))
     return finish(failures, f"allocations while serving {SESSIONS} sessions: {len(failures)} failures")
 

@@ -1,7 +1,7 @@
-"""Runs the built relayd on files of each format that are cut after each byte, and that have one byte changed at each place.
+"""Runs the built relayd on files of each format that are cut after each byte, or have one byte changed at each place.
 
-Each run has to end by a named answer, within a second of processor time and in little memory. Of events, the lines before the first that is
-cut or changed have the answers that they have in the whole file.
+Each run has to end by a named answer, within a second of processor time and in little memory. Of events, the lines
+before the first that is cut or changed have the answers that they have in the whole file.
 """
 
 import pathlib
@@ -42,12 +42,12 @@ def changes(data):
 
 def is_named(ended, answers):
     """Whether a run has ended by one of the answers."""
-    status, out, err = ended
-    return any(status == wanted and re.fullmatch(out_form, out) and re.fullmatch(err_form, err) for wanted, out_form, err_form in answers)
+    status, *printed = ended
+    return any(status == wanted and all(map(re.fullmatch, forms, printed)) for wanted, *forms in answers)
 
 
 def inputs(folder):
-    """Returns of each format: the bytes of a file, the words of the command that reads it, and the answers that may come."""
+    """Returns of each format its name, the bytes of a file, the command that reads it, and the answers that may come."""
     events = EXAMPLES / "session.events"
     users = EXAMPLES / "users.txt"
     return [
