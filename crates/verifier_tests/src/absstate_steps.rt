@@ -37,7 +37,7 @@ const LOW: Ends = (0, 63);
 /// Reads any byte into `r5`, and the low six bits of it into `r6`.
 const TWO_BYTES: &str = "ldxdw r2, [r1+0]\nldxb r5, [r2-1]\nmov r6, r5\nand r6, 63";
 
-/// An instruction behind a program that leads on, and the numbers that it writes to `r5` and to `r6`, if any. Nothing
+/// An instruction after a program that leads on, and the numbers that it writes to `r5` and to `r6`, if any. Nothing
 /// else changes.
 #[derive(Clone, Copy)]
 pub struct Leads {
@@ -83,7 +83,7 @@ static LEADS: [Leads; 5] = [
 /// A branch that may be taken, with the numbers that are left in `r5` and in `r6` where they change.
 type Branch = Option<(Option<Ends>, Option<Ends>)>;
 
-/// A jump behind a program, and its branches.
+/// A jump after a program, and its branches.
 #[derive(Clone, Copy)]
 struct Forks {
     before: &'static str,
@@ -176,7 +176,7 @@ static FORKS: [Forks; 13] = [
     },
 ];
 
-/// A program, an instruction behind it that is refused, and the reason.
+/// A program, an instruction after it that is refused, and the reason.
 pub type Refused = (&'static str, &'static str, &'static str);
 
 static REFUSED: [Refused; 4] = [
@@ -206,7 +206,7 @@ fn state(known: [Known; 5]) -> State {
     }
 }
 
-/// Returns the state behind a program, of the branch that is not taken where there are two.
+/// Returns the state after a program, of the branch that is not taken where there are two.
 fn after<R: Abort + AllocGlobal>(rt: &R, text: &str) -> Result<State, Fail> {
     let mut state = AbsState::<Interval>::start();
     for insn in &code_of(rt, text)? {
@@ -244,7 +244,7 @@ fn with_numbers(state: &State, r5: Option<Ends>, r6: Option<Ends>) -> State {
     next
 }
 
-/// Checks what is known behind the first instructions of many rows, and at an exit.
+/// Checks what is known after the first instructions of many rows, and at an exit.
 fn check_states<R: Abort + AllocGlobal>(rt: &R) -> Result<(), Fail> {
     let rows = [
         ("ldxdw r2, [r1+0]", DATAGRAM, NOTHING, NOTHING, NOTHING),

@@ -46,7 +46,7 @@ pub static REFUSED: [Refused; 20] = [
     ),
 ];
 
-/// A call behind a program: its greatest answer, the first index of the stack's bytes that are set then, and the end of
+/// A call after a program: its greatest answer, the first index of the stack's bytes that are set then, and the end of
 /// these.
 #[derive(Clone, Copy)]
 pub struct Answer {

@@ -164,7 +164,7 @@ pub static REFUSED: [Refused; 38] = [
     ("mov r2, 0", "stxdw [r10+8], r2", "V8"),
 ];
 
-/// A program, a store behind it, and the first index of the stack's bytes that are set then, and the end of these.
+/// A program, a store after it, and the first index of the stack's bytes that are set then, and the end of these.
 pub type Stored = (&'static str, &'static str, usize, usize);
 
 pub static STORED: [Stored; 8] = [

@@ -1,9 +1,9 @@
-//! Calls of helpers: their arguments in order, and what is known behind them.
+//! Calls of helpers: their arguments in order, and what is known after them.
 
 use super::Row;
 
 pub static ROWS: [Row; 11] = [
-    // an argument is tested behind those before it
+    // an argument is tested after those before it
     Row {
         name: "a register that holds nothing",
         text: "call 3\nexit",
@@ -17,7 +17,7 @@ pub static ROWS: [Row; 11] = [
         interval: "refused V15 argument 1 at 1",
     },
     Row {
-        name: "a record behind the stack, before its bytes",
+        name: "a record after the stack, before its bytes",
         text: "mov r2, r10\ncall 3\nexit",
         known: "refused V15 argument 2 at 1",
         interval: "refused V15 argument 2 at 1",

@@ -10,7 +10,7 @@ pub static ROWS: [Row; 4] = [
         interval: "refused V1 at 0",
     },
     Row {
-        name: "a jump behind the last slot",
+        name: "a jump after the last slot",
         text: "mov r0, 0\nja +1\nexit",
         known: "refused V2 at 1",
         interval: "refused V2 at 1",

@@ -45,7 +45,7 @@ pub static ROWS: [Row; 7] = [
         interval: "refused V16 at 1",
     },
     Row {
-        name: "the context at an exit behind a byte above 255",
+        name: "the context at an exit after a byte above 255",
         text: "ldxdw r2, [r1+0]\nldxb r5, [r2-1]\nmov r0, 0\njgt r5, 255, +1\nexit\nmov r0, r1\n\
              exit",
         known: "refused V16 at 6",

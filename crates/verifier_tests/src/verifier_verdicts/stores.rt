@@ -43,7 +43,7 @@ pub static ROWS: [Row; 25] = [
         interval: "refused V8 at 0",
     },
     Row {
-        name: "behind the stack",
+        name: "after the stack",
         text: "stb [r10+0], 1\nexit",
         known: "refused V8 at 0",
         interval: "refused V8 at 0",
@@ -73,13 +73,13 @@ pub static ROWS: [Row; 25] = [
         interval: "accepted",
     },
     Row {
-        name: "behind the tailroom",
+        name: "after the tailroom",
         text: "ldxdw r3, [r1+8]\nstb [r3+3], 1\nmov r0, 0\nexit",
         known: "refused V10 at 1",
         interval: "refused V10 at 1",
     },
     Row {
-        name: "half behind the tailroom",
+        name: "half after the tailroom",
         text: "ldxdw r3, [r1+8]\nsth [r3+2], 1\nmov r0, 0\nexit",
         known: "refused V10 at 1",
         interval: "refused V10 at 1",
@@ -93,7 +93,7 @@ pub static ROWS: [Row; 25] = [
         interval: "accepted",
     },
     Row {
-        name: "a byte behind four checked bytes",
+        name: "a byte after four checked bytes",
         text: "ldxdw r2, [r1+0]\nldxdw r3, [r1+8]\nmov r4, r2\nadd r4, 4\nmov r0, 0\n\
              jgt r4, r3, +1\nstb [r2+4], 1\nexit",
         known: "refused V10 at 6",
