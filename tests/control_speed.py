@@ -1,4 +1,5 @@
-"""Prints how many requests a second `control::respond` answers on full tables, and SHA-1's part of that time.
+"""Prints how many requests a second `control::respond` answers on full tables, SHA-1's part of that time, and what calls of the
+tables alone take.
 
     tests/control_speed.py
 
@@ -16,6 +17,7 @@ FOLDER = TOP / "crates" / "control_speed"
 PROGRAM = FOLDER / "out" / "control_speed"
 ROUNDS = 20
 COUNT = 50_000
+CALLS = 1_000_000
 # each METHOD of the program that answers requests, and what they are
 REQUESTS = {
     "allocate": "Allocate, repeated",
@@ -62,6 +64,8 @@ def main():
     for method, title in REQUESTS.items():
         part = 100 * taken["sha1"] / taken[method]
         print(f"{title}: {1 / taken[method]:,.0f} requests a second, SHA-1 {part:.0f} %")
+    _, out, _ = run(["tables", str(CALLS)], PROGRAM)
+    print(out, end="")
 
 
 if __name__ == "__main__":

@@ -17,6 +17,11 @@ LINK = re.compile(r"\]\(([^)#:]*)(?:#([^)]*))?\)")
 NAMED = re.compile(r"`((?:crates|docs|tests|examples)/(?![\w./-]*\bout/)[\w./-]+)`")
 USED = re.compile(r"^use Rattle\.(\w+)\.specs\.([\w.]+?)(?:\.\{|$| as )", re.MULTILINE)
 LINES = re.compile(r"`([\w./]+\.(?:antt|rt))`(?:\]\([^)]*\))? \((\d+) lines\)")
+DECLARED = re.compile(r"^use Rattle\.(\w+)\.specs\.declared\.([\w.]+?)\.(?:The\w+|[A-Z]\w*)", re.MULTILINE)
+TABLE = re.compile(r"^\| Function \|.*\n\|[-| ]+\n((?:\|.*\n)+)", re.MULTILINE)
+FUNCTION = re.compile(r"`(?:\w+::)*([a-z]\w*[a-z0-9])(?:\(.*?\))?`")
+BELIEVED = re.compile(r"\(\.\./crates/([\w/]+/specs/[\w/]+\.antt)\)")
+SEARCH = re.compile(r"`git grep -lw (\w+) crates`")
 DECISION = re.compile(r'docs/DECISIONS\.md, "([^"]*)"')
 
 
@@ -84,6 +89,55 @@ def failures_of_pages():
             yield f"{page.relative_to(TOP)}: {name} is not there"
 
 
+def failures_of_searches():
+    """Yields the words that CONTRIBUTING.md searches for, and that few files have."""
+    texts = [path.read_text(encoding="utf-8") for path in (*specs(), *sources())]
+    for word in SEARCH.findall((TOP / "CONTRIBUTING.md").read_text(encoding="utf-8")):
+        if sum(re.search(rf"\b{word}\b", text) is not None for text in texts) < 3:
+            yield f"CONTRIBUTING.md: hardly a file has {word}"
+
+
+def failures_of_functions():
+    """Yields the functions and laws that the tables of a crate's README name, and that the crate lacks."""
+    for page in sorted(CRATES.glob("*/README.md")):
+        files = [*(page.parent / "src").rglob("*.rt"), *(page.parent / "specs").rglob("*.antt")]
+        code = "\n".join(path.read_text(encoding="utf-8") for path in files)
+        for table in TABLE.findall(page.read_text(encoding="utf-8")):
+            for name in FUNCTION.findall("\n".join(row.split("|")[1] for row in table.splitlines())):
+                if not re.search(rf"\bfn {name}\b|^ *(?:abbrev )?pub {name}\b", code, re.MULTILINE):
+                    yield f"{page.relative_to(TOP)}: no function and no law {name}"
+
+
+def declared_in(crate, module):
+    """Returns the file of code that a module of declared types comes from."""
+    path = CRATES / crate / "src" / (module.replace(".", "/") + ".rt")
+    return path if path.exists() or "." not in module else declared_in(crate, module.rpartition(".")[0])
+
+
+def named_by(path):
+    """Yields what a file of definitions names, each as the page has to name it."""
+    text = path.read_text(encoding="utf-8")
+    for crate, module in DECLARED.findall(text):
+        if (CRATES / crate).exists():
+            yield f"(../{declared_in(crate, module).relative_to(TOP)})"
+    for crate, module in USED.findall(text):
+        used = CRATES / crate / "specs" / (module.replace(".", "/") + ".antt")
+        if not (CRATES / crate).exists():
+            yield f"`{module.removeprefix('declared.')}`"
+        elif used.exists() and used.read_text(encoding="utf-8").startswith(KINDS[0]):
+            yield f"(../{used.relative_to(TOP)})"
+
+
+def failures_of_headline():
+    """Yields what docs/HEADLINE.md lacks among what must be believed, though a file that it lists names it."""
+    text = (TOP / "docs" / "HEADLINE.md").read_text(encoding="utf-8")
+    believed = text[text.index("## What must be believed\n"):]
+    for name in sorted(set(BELIEVED.findall(believed))):
+        for used in sorted(set(named_by(CRATES / name))):
+            if used not in believed:
+                yield f"docs/HEADLINE.md: {used}, which {name} names"
+
+
 def failures_of_decisions():
     """Yields the decisions that the code names and that the page lacks."""
     titles = re.findall(r"^### (.*)$", (TOP / "docs" / "DECISIONS.md").read_text(encoding="utf-8"), re.MULTILINE)
@@ -95,7 +149,8 @@ def failures_of_decisions():
 
 def main():
     """Compares all, and returns the exit status."""
-    cases = (failures_of_definitions, failures_of_meaning, failures_of_pages, failures_of_decisions)
+    cases = (failures_of_definitions, failures_of_meaning, failures_of_pages, failures_of_searches, failures_of_functions,
+             failures_of_headline, failures_of_decisions)
     failures = [found for case in cases for found in case()]
     return finish(failures, f"definitions and pages: {len(specs())} files, {len(failures)} failures")
 

@@ -8,7 +8,7 @@ import pathlib
 import sys
 import tempfile
 
-from program import SCRIPT, finish, run
+from program import PROGRAM, finish, run
 
 # `mov r0, 2` and `exit`
 GOOD = bytes.fromhex("b700000002000000 9500000000000000")
@@ -107,7 +107,7 @@ def failures_of_wrong_lines(folder):
 
 def with_closed_output(folder, words):
     """Runs relayd with standard output closed from the start."""
-    closed = ["-c", 'exec "$0" "$@" >&-', SCRIPT, *words]
+    closed = ["-c", 'exec "$0" "$@" >&-', PROGRAM, *words]
     return run(closed, "sh", cwd=folder, stdout=None)
 
 

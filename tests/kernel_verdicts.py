@@ -1,12 +1,17 @@
 """Runs relayd on programs of the Linux kernel's verifier self-tests.
 
 Each program of kernel_verdicts.json has to be accepted or refused as this profile's tables say, and where the
-kernel runs it, the low 32 bits of its verdict have to agree.
+kernel runs it, the low 32 bits of its verdict have to agree. The table of docs/LINUX.md has to list the programs on which
+the kernel and this profile differ, and no other one.
 """
 
+import re
 import sys
 
 from kernel import exit_failure, line_of_verify, opcodes, run_each, vectors_of
+from program import TOP
+
+ROW = re.compile(r"^\| `(.+?)` \| (accepts|rejects) \| `?(accepted|[EV]\d+ at \d+)`? \|", re.MULTILINE)
 
 
 def expected_line(vector):
@@ -28,5 +33,26 @@ def failure_of(vector, program):
     return exit_failure(program, vector["datagram_hex"], number)
 
 
+def failures_of_page(vectors):
+    """Prints the programs on which the page and the vectors differ, and returns how many there are."""
+    page = (TOP / "docs" / "LINUX.md").read_text(encoding="utf-8")
+    listed = set(ROW.findall(page))
+    differing = {(vector["name"], f"{vector['kernel']}s", vector["profile"]) for vector in vectors
+                 if (vector["kernel"] == "accept") != (vector["profile"] == "accepted")}
+    for row in listed ^ differing:
+        print(f"docs/LINUX.md: {row} is {'not there' if row in differing else 'no difference'}")
+    agreeing = len(vectors) - len(differing)
+    if f"{len(vectors)} programs" not in page or f"For {agreeing} of them" not in page:
+        print("docs/LINUX.md: other counts")
+        return 1
+    return len(listed ^ differing)
+
+
+def main():
+    """Runs each program, compares the page, and returns the exit status."""
+    vectors = vectors_of("kernel_verdicts.json")
+    return run_each(vectors, failure_of, "kernel verdicts") or failures_of_page(vectors) != 0
+
+
 if __name__ == "__main__":
-    sys.exit(run_each(vectors_of("kernel_verdicts.json"), failure_of, "kernel verdicts"))
+    sys.exit(main())

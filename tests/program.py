@@ -1,25 +1,30 @@
 """The built relayd, how a test runs it, and how a test ends."""
 
+import functools
 import pathlib
 import subprocess
 
 TOP = pathlib.Path(__file__).resolve().parent.parent
-# the script that builds relayd where it is not there, and starts it
+# the script that builds relayd where it is not there or too old, and starts it
 SCRIPT = TOP / "relayd"
 # the program itself, for a test that restricts the process
 PROGRAM = TOP / "crates" / "relayd" / "out" / "relayd"
 
 
+@functools.cache
 def build():
-    """Builds the program where it is not there."""
+    """Builds the program where it is not there or too old; once in a test."""
     subprocess.run([SCRIPT, "--help"], stdout=subprocess.DEVNULL, check=True)
 
 
-def run(words, program=SCRIPT, **options):
-    """Runs the program on these words, and returns its status and what it printed to each stream.
+def run(words, program=None, **options):
+    """Runs the program on these words, relayd by default, and returns its status and what it printed to each stream.
 
     A stream that `options` redirects is None.
     """
+    if program is None:
+        build()
+        program = PROGRAM
     pipes = {"stdout": subprocess.PIPE, "stderr": subprocess.PIPE, **options}
     ran = subprocess.run([program, *words], text=True, check=False, **pipes)
     return ran.returncode, ran.stdout, ran.stderr

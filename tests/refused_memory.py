@@ -2,7 +2,8 @@
 
 A run whose allocations are refused has to end as one whose are not, or with `out of memory` on standard
 error, nothing on standard output, and the status 4. Allocations are counted from a constructor of the
-preloaded library on, so all those of `main` are counted. It needs gcc.
+preloaded library on, so all those of `main` are counted. And `session_replay`, which makes a refused call once more: it has to
+print the right answers wherever memory is refused in the middle of a replay. It needs gcc.
 """
 
 import os
@@ -51,20 +52,21 @@ CASES = [
 ]
 
 
-def counted_run(words, **environment):
-    """Runs the program itself on these words, and returns how it ended and how many refusals it had.
+def counted_run(words, program=PROGRAM, events=os.devnull, **environment):
+    """Runs a program itself on these words and events, and returns how it ended and how many refusals it had.
 
     The script that builds it would be refused memory too.
     """
     read_end, write_end = os.pipe()
     given = {**os.environ, "REFUSE_REPORT": str(write_end), **environment}
-    end = run(words, PROGRAM, env=given, pass_fds=[write_end])
+    with open(events, encoding="utf-8") as stdin:
+        end = run(words, program, env=given, pass_fds=[write_end], stdin=stdin)
     os.close(write_end)
     with open(read_end, "rb") as refused:
         return end, len(refused.read())
 
 
-def refused_runs(words, library, lasting):
+def refused_runs(words, library, lasting, **options):
     """Yields each number of an allocation, with how the program ends where that one is refused.
 
     `lasting` says whether those that follow are refused too.
@@ -72,7 +74,7 @@ def refused_runs(words, library, lasting):
     for first in range(1, EVER):
         last = EVER if lasting else first
         preloaded = {"LD_PRELOAD": library, "REFUSE_FIRST": str(first), "REFUSE_LAST": str(last)}
-        end, refusals = counted_run(words, **preloaded)
+        end, refusals = counted_run(words, **preloaded, **options)
         if refusals == 0:
             return
         yield first, end
@@ -94,6 +96,22 @@ def failures_of(words, status, library):
     return failures, count
 
 
+def failures_of_repeated(library):
+    """Returns what is wrong with the runs in which a replay is refused memory once and is called again, and how many there were.
+
+    Where memory is refused before the first event or for the program's own line, it ends with the status 1.
+    """
+    folder = TOP / "crates" / "session_replay"
+    answers = (folder / "stdout").read_text(encoding="utf-8")
+    ends = dict(refused_runs([], library, False, program=folder / "out" / "session_replay", events=folder / "stdin"))
+    repeated = sum(end == (0, answers, "") for end in ends.values())
+    failures = [f"session_replay, refused at {first}: {end}" for first, end in ends.items()
+                if end != (0, answers, "") and not (end[0] == 1 and answers.startswith(end[1]))]
+    if repeated < len(answers.splitlines()):
+        failures.append(f"session_replay: only {repeated} of {len(ends)} runs ended well")
+    return failures, len(ends)
+
+
 def main():
     """Runs every case, and returns the exit status."""
     build()
@@ -107,7 +125,8 @@ def main():
             found, count = failures_of(words, status, library)
             failures += found
             runs += count
-    return finish(failures, f"refused memory: {runs} runs, {len(failures)} failures")
+        found, count = failures_of_repeated(library)
+    return finish(failures + found, f"refused memory: {runs + count} runs, {len(failures + found)} failures")
 
 
 if __name__ == "__main__":

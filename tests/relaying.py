@@ -328,6 +328,24 @@ def odd_moments():
     return [(line_of(e), answer_line(rules.answer(e))) for e in events + again + [peer]]
 
 
+def cut_datagrams():
+    """Datagrams cut to each length: ChannelData may lack its padding, and nothing else may lack anything."""
+    to_peer, sent = (XOR_PEER_ADDRESS, address_value(PEERS[0])), answer_line(("p", 0, PEERS[0], b"abc"))
+    binding = message(BINDING, bytes(12), [])
+    rules = Rules(USERS, slots=SLOTS)
+    pairs = [(line_of(e), answer_line(rules.answer(e))) for e in allocated()]
+    mapped = answer_line(rules.answer(("c", 1000, bytes(12), CLIENTS[0], binding)))
+    whole = [
+        (struct.pack(">HH", 0x4001, 3) + b"abc\0", 7, sent),
+        (message(SEND, bytes(12), [to_peer, (DATA, b"abc")]), 40, sent),
+        (binding, 20, mapped),
+    ]
+    for data, least, answer in whole:
+        for n in range(len(data) + 1):
+            pairs.append((line_of(("c", 1000, bytes(12), CLIENTS[0], data[:n])), answer if n >= least else "-"))
+    return pairs
+
+
 def texts():
     """The texts in examples/relay/ that are not those of the shipped programs."""
     for side in ("client", "peer"):
@@ -366,7 +384,7 @@ def main():
             ):
                 failures += compare(folder, f"{kind}, {program_name}", wanted, words)
                 count += len(events)
-        for program_name, events, words in (*odd_programs(folder), ("odd moments", odd_moments(), [])):
+        for program_name, events, words in (*odd_programs(folder), ("odd moments", odd_moments(), []), ("cut datagrams", cut_datagrams(), [])):
             failures += compare(folder, program_name, events, words)
             count += len(events)
     met = ", ".join(f"{kind} {number}" for kind, number in sorted(kinds_of(pairs).items()))

@@ -184,6 +184,15 @@ def wanted(what, found, expected):
         yield f"{what}: {found!r} in place of {expected!r}"
 
 
+def counters(from_clients=0, from_peers=0, to_peers=0, to_clients=0, granted=0, challenged=0, refused=0, discarded=(0, 0),
+             receive_faults=0, send_faults=0):
+    """The line of counters."""
+    return (f"received from clients {from_clients} peers {from_peers}, relayed to peers {to_peers} clients {to_clients}, "
+            f"granted {granted} challenged {challenged} refused {refused}, "
+            f"discarded from clients {discarded[0]} peers {discarded[1]}, "
+            f"receive faults {receive_faults} send faults {send_faults}\n")
+
+
 # ---- command lines and sockets
 
 def refused_lines():
@@ -229,18 +238,51 @@ def rounds():
     value = "error: invalid value '-1' for '--rounds <N>'\n"
     yield from wanted("rounds below 0", run([*words, "--rounds=-1"]), (2, "", value))
     yield from wanted("no rounds", run([*words, "--rounds", "0"]), (0, listening, ""))
-    counters = "received 0 sent 0 receive faults 0 send faults 0\n"
-    yield from wanted("rounds", run([*words, "--rounds", "3", "--stats", "60"]), (0, listening, counters))
+    yield from wanted("rounds", run([*words, "--rounds", "3", "--stats", "60"]), (0, listening, counters()))
     with open("/dev/full", "w", encoding="utf-8") as full:
         found = run([*words, "--rounds", "0"], stdout=full)
     yield from wanted("a full output", found, (3, None, "cannot write output\n"))
+
+
+def counted_rounds():
+    """Yields how many of ten waiting requests three rounds answer, where that isn't three.
+
+    The server has bound its sockets when it prints where it listens, and waits there while its output is a full pipe.
+    """
+    first, port = free_ports(1), free_ports(1)
+    words = [PROGRAM, "serve", "--port", str(port), "--first-port", str(first), "--slots", "1", *USER, "--rounds", "3", "--stats", "60"]
+    read_end, write_end = os.pipe()
+    os.set_blocking(write_end, False)
+    with contextlib.suppress(BlockingIOError):
+        while True:
+            os.write(write_end, bytes(4096))
+    os.set_blocking(write_end, True)
+    with subprocess.Popen(words, stdout=write_end, stderr=subprocess.PIPE, text=True) as process, udp_socket() as client:
+        os.close(write_end)
+        client.connect(("127.0.0.1", port))
+        for _ in range(50):
+            time.sleep(0.1)
+            with contextlib.suppress(ConnectionRefusedError):  # it is not there yet
+                for _ in range(10):
+                    client.send(message(BINDING, random.randbytes(12), []))
+                break
+        with open(read_end, "rb") as output:
+            output.read()
+        printed = process.stderr.read()
+        client.setblocking(False)
+        answers = 0
+        with contextlib.suppress(BlockingIOError, ConnectionRefusedError):
+            while True:
+                client.recv(2000)
+                answers += 1
+    yield from wanted("requests that three rounds answer", (answers, printed), (3, counters(from_clients=3, granted=3)))
 
 
 # ---- sessions
 
 def session():
     """Yields what a session is answered otherwise than the standards say."""
-    with Server() as server, Client(server) as client, udp_socket() as peer:
+    with Server("--stats", "1") as server, Client(server) as client, udp_socket() as peer:
         own, other, relayed = address_of(client.socket), address_of(peer), (LOOPBACK, server.first_port)
         answer = client.ask(BINDING, [])
         yield from wanted("Binding", address_in(answer.first(XOR_MAPPED_ADDRESS), answer.tx), own)
@@ -265,7 +307,13 @@ def session():
         answer = client.signed(REFRESH, [(LIFETIME, bytes(4))])
         yield from wanted("Refresh", (code_of(answer), answer.first(LIFETIME)), (0, bytes(4)))
         yield from wanted("Refresh again", code_of(client.signed(REFRESH, [(LIFETIME, bytes(4))])), 437)
-        yield from wanted("standard error", server.printed(), "")
+        client.send(b"no message")
+        peer.sendto(b"no permission", ("127.0.0.1", server.first_port))
+        last = counters(from_clients=11, from_peers=3, to_peers=2, to_clients=2, granted=5, challenged=2, refused=1,
+                        discarded=(1, 1))
+        if not server.awaits(last):
+            yield f"other counters: {server.printed()!r} in place of {last!r}"
+        yield from wanted("faults", [line for line in server.printed().splitlines() if not line.startswith("received from ")], [])
         yield from wanted("the status after SIGTERM", server.end(), -signal.SIGTERM)
 
 
@@ -282,7 +330,7 @@ def faults():
         if not server.awaits("send fault\n"):
             yield "a send fault is not printed"
         yield from wanted("Binding after it", client.ask(BINDING, []).kind, BINDING | 0x100)
-        if not server.awaits("received 5 sent 4 receive faults 0 send faults 1\n"):
+        if not server.awaits(counters(from_clients=5, granted=3, challenged=1, send_faults=1)):
             yield f"other counters: {server.printed()!r}"
 
 
@@ -367,6 +415,21 @@ def replaced_programs():
             yield from wanted("the allocation", code_of(client.signed(REFRESH, [])), 0)
 
 
+def turns():
+    """Yields how many requests of a client are answered before a peer's datagram, which came after all of them, gets its turn."""
+    with Server() as server, Client(server) as client, udp_socket() as peer:
+        client.allocate()
+        client.bind(address_of(peer))
+        time.sleep(0.2)  # the server finds nothing more, and waits
+        server.process.send_signal(signal.SIGSTOP)
+        for _ in range(200):
+            client.send(message(BINDING, random.randbytes(12), []))
+        peer.sendto(b"its turn", ("127.0.0.1", server.first_port))
+        server.process.send_signal(signal.SIGCONT)
+        received = [client.receive() for _ in range(201)]
+        yield from wanted("requests before the others get their turn", received.index(channel_data(b"its turn")), 64)
+
+
 # ---- many datagrams
 
 def exchange(pairs, batch):
@@ -404,7 +467,7 @@ def many():
 def main():
     """Runs every part, and returns the exit status."""
     build()
-    parts = [refused_lines, rounds, session, faults, idle, nonces, replaced_programs, many]
+    parts = [refused_lines, rounds, counted_rounds, session, faults, idle, nonces, replaced_programs, turns, many]
     failures = []
     for part in parts:
         try:

@@ -67,6 +67,17 @@ PLACE = [
     "add r2, r5", "mov r6, r2", "add r6, 1", "jgt r6, r3, +1", "ldxb r0, [r2+0]", "exit"]
 # a pointer into the stack isn't moved by a number of which several are possible
 STACK = ["ldxdw r2, [r1+0]", "ldxb r5, [r2-1]", "mov r3, r10", "add r3, r5", "mov r0, 0", "exit"]
+# the ends of what may be accessed, of how far a pointer may move, and of a jump: what is there is accepted and runs to the verdict 0
+LIMITS = [
+    (["ldxdw r2, [r1+0]", "ldxb r0, [r2-64]", "exit"], "accepted 3 instructions\n"),
+    (["ldxdw r2, [r1+0]", "ldxb r0, [r2-65]", "exit"], "refused V10 at 1\n"),
+    (["ldxdw r3, [r1+8]", "ldxb r0, [r3+2]", "exit"], "accepted 3 instructions\n"),
+    (["ldxdw r3, [r1+8]", "ldxb r0, [r3+3]", "exit"], "refused V10 at 1\n"),
+    (["ldxdw r3, [r1+8]", "ldxh r0, [r3+2]", "exit"], "refused V10 at 1\n"),
+    (["ldxdw r2, [r1+0]", "add r2, 1048576", "mov r0, 0", "exit"], "accepted 4 instructions\n"),
+    (["ldxdw r2, [r1+0]", "add r2, 1048577", "mov r0, 0", "exit"], "refused V11 at 1\n"),
+    (["ja.32 +2147483647", "exit"], "refused V2 at 0\n"),
+]
 # datagrams in hexadecimal digits: the byte is there, it is one place too far, and it is far from there
 READ = [("020709", 9), ("030709", 0), ("ff", 0)]
 
@@ -96,6 +107,7 @@ def rows():
         program = decided(comparison, holds)
         yield program, f"accepted {len(program)} instructions\n"
     yield from PROGRAMS
+    yield from LIMITS
     yield PLACE, "accepted 13 instructions\n"
     yield STACK, "refused V11 at 3\n"
 
@@ -120,6 +132,10 @@ def main():
             found = printed(folder, program, "verify")
             if found != wanted:
                 failures.append(f"{'; '.join(program)}: {found!r}, not {wanted!r}")
+        for program, wanted in LIMITS:
+            found = printed(folder, program, "trace", "--data", "616263")
+            if wanted.startswith("accepted") and "\nexit 0\n" not in found:
+                failures.append(f"{'; '.join(program)}: {found!r}")
         for data, verdict in READ:
             found = printed(folder, PLACE, "trace", "--data", data)
             if f"\nexit {verdict}\n" not in found:

@@ -34,9 +34,9 @@ abbrev pub mark : Marks → ℕ → Marks
 mark m i = record { cells = slice_set m.cells i true }
 
 -- the marks with n bytes from an index on set
-abbrev pub marked : Marks → ℕ → ℕ → Marks
-marked m i zero = m
-marked m i (suc n) = marked (mark m i) (suc i) n
+abbrev pub marks_from : Marks → ℕ → ℕ → Marks
+marks_from m i zero = m
+marks_from m i (suc n) = marks_from (mark m i) (suc i) n
 
 -- before the first instruction r1 holds the context and r10 the end of the stack
 abbrev pub first_state : {D : Type 0} → AbsState D
@@ -78,13 +78,13 @@ greatest_id [] = 0
 greatest_id (v ∷ vs) = max (id_of v) (greatest_id vs)
 
 -- what is proved of an anchor, raised to n
-abbrev pub raised : ℤ → ℤ → ℤ
-raised proved n = if (int_lt proved n && int_le n (pos 2147483647)) then n else proved
+abbrev pub proved_up_to : ℤ → ℤ → ℤ
+proved_up_to proved n = if (int_lt proved n && int_le n (pos 2147483647)) then n else proved
 
 -- more is proved of the anchor with a number
 abbrev pub raised_anchor : ℕ → ℤ → Anchor → Anchor
 raised_anchor id n First = First
-raised_anchor id n (Made other low high proved) = Made other low high (if other == id then raised proved n else proved)
+raised_anchor id n (Made other low high proved) = Made other low high (if other == id then proved_up_to proved n else proved)
 
 -- more is proved of it in a value that names it
 abbrev pub raised_value : {D : Type 0} → ℕ → ℤ → AbstractValue D → AbstractValue D
@@ -115,7 +115,7 @@ with_least a anchor (Some n) = with_reach a anchor n
 
 -- the state in which n stack bytes from an index on are set
 abbrev pub with_marks : {D : Type 0} → AbsState D → ℕ → ℕ → AbsState D
-with_marks a i n = record a { marks = marked a.marks i n }
+with_marks a i n = record a { marks = marks_from a.marks i n }
 
 -- the state after a call with an answer: r1 to r5 hold nothing
 abbrev pub with_answer : {D : Type 0} → AbsState D → D → AbsState D

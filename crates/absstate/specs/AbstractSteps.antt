@@ -23,7 +23,7 @@ use Rattle.insn.specs.declared.instruction.Operand.{Operand}
 use Rattle.insn.specs.declared.instruction.Operand.TheVariants as operand
 use Rattle.insn.specs.declared.instruction.Insn.{Insn}
 use Rattle.insn.specs.declared.instruction.Insn.TheVariants as insn
-use Rattle.semantics.specs.Fallible.{◌>>=◌, check}
+use Rattle.fallible.specs.Fallible.{◌>>=◌, check}
 use Rattle.semantics.specs.Access.{is_within, index_within, stack_first, headroom_first}
 use Rattle.semantics.specs.Loading.{field_at}
 use Rattle.semantics.specs.Calls.{helper_of, signature_of, argument_at}
@@ -32,7 +32,7 @@ use Rattle.semantics.specs.declared.helper.Argument.{Argument}
 use Rattle.semantics.specs.declared.helper.Argument.TheVariants as argument
 use Rattle.semantics.specs.declared.helper.Helper.{Helper}
 use Rattle.semantics.specs.declared.helper.TheConstants.{RECORD_BYTES}
-use Rattle.semantics.specs.LooseRuns.{Bound, AtMost, Below, data_bound, exchanged}
+use Rattle.semantics.specs.LooseRuns.{Bound, AtMost, Below, data_bound, converse}
 use Rattle.semantics.specs.declared.fetching.Branch.{Branch}
 use Rattle.semantics.specs.declared.fetching.Branch.TheVariants.{NotTaken, Taken}
 use Rattle.semantics.specs.declared.limits.TheConstants.{MAX_DATAGRAM, STACK_BYTES, TAILROOM}
@@ -60,20 +60,20 @@ use Rattle.absstate.specs.declared.memory.Region.TheVariants.{InStack, InBytes}
 
 -- ---- what is read
 
-abbrev pub held : {D : Type 0} → AbstractValue D → Result (AbstractValue D) Reason
-held Nothing = Err UninitRegister
-held (Scalar n) = Ok (Scalar n)
-held Ctx = Ok Ctx
-held (Stack k) = Ok (Stack k)
-held (Data anchor k) = Ok (Data anchor k)
-held End = Ok End
+abbrev pub content_of : {D : Type 0} → AbstractValue D → Result (AbstractValue D) Reason
+content_of Nothing = Err UninitRegister
+content_of (Scalar n) = Ok (Scalar n)
+content_of Ctx = Ok Ctx
+content_of (Stack k) = Ok (Stack k)
+content_of (Data anchor k) = Ok (Data anchor k)
+content_of End = Ok End
 
-abbrev pub read : {D : Type 0} → AbsState D → Reg → Result (AbstractValue D) Reason
-read a r = held (abstract_at a.registers r)
+abbrev pub register_value : {D : Type 0} → AbsState D → Reg → Result (AbstractValue D) Reason
+register_value a r = content_of (abstract_at a.registers r)
 
 -- a register, or the imm as a word of the instruction's width
 abbrev pub operand_abstract : {D : Type 0} → Operations D → Width → AbsState D → Operand → Result (AbstractValue D) Reason
-operand_abstract ops w a (operand.Reg r) = read a r
+operand_abstract ops w a (operand.Reg r) = register_value a r
 operand_abstract ops w a (operand.Imm n) = Ok (Scalar (ops.exact (imm_word w n)))
 
 -- ---- arithmetic
@@ -137,8 +137,8 @@ single_sum (Made id low high proved) op w k n = moved_offset op w low high k n
 abbrev pub data_sum : {D : Type 0} → AbsState D → Anchor → AluOp → Width → ℤ → Bounds → Option (AbstractValue D)
 data_sum a anchor op w k b = if b.lo == b.hi then option_map (Data anchor) (single_sum anchor op w k b.lo) else made_sum a anchor op w k b
 
-abbrev pub moved : {D : Type 0} → (ℤ → AbstractValue D) → Option ℤ → Result (AbstractValue D) Reason
-moved kind place = do
+abbrev pub pointer_to : {D : Type 0} → (ℤ → AbstractValue D) → Option ℤ → Result (AbstractValue D) Reason
+pointer_to kind place = do
   k ← ok_or place PointerArithmetic
   Ok (kind k)
 
@@ -146,7 +146,7 @@ moved kind place = do
 abbrev pub alu_result : {D : Type 0} → Operations D → AbsState D → AluOp → Width → AbstractValue D → AbstractValue D → Result (AbstractValue D) Reason
 alu_result ops state op w (Scalar a) (Scalar b) = Ok (Scalar (ops.alu op w a b))
 alu_result ops state op w (Data anchor k) (Scalar b) = ok_or (data_sum state anchor op w k (ops.bounds b)) PointerArithmetic
-alu_result ops state op w (Stack k) (Scalar b) = moved Stack (moved_by op w k (single_of ops b))
+alu_result ops state op w (Stack k) (Scalar b) = pointer_to Stack (moved_by op w k (single_of ops b))
 alu_result ops state op w _ _ = Err PointerArithmetic
 
 -- a number gives a number
@@ -163,22 +163,22 @@ unary_result ops (SignExtend e) v = number_of_one ops (SignExtend e) v
 unary_result ops (Swap op z) v = number_of_one ops (Swap op z) v
 
 -- the register has to be writable, and then there has to be a result
-abbrev pub written : {D : Type 0} → AbsState D → Reg → Result (AbstractValue D) Reason → Result (Next D) Reason
-written a dst result = do
+abbrev pub register_write : {D : Type 0} → AbsState D → Reg → Result (AbstractValue D) Reason → Result (Next D) Reason
+register_write a dst result = do
   allowed ← writable dst
   known ← result
   Ok (next.On (with_value a dst known))
 
 abbrev pub alu_step : {D : Type 0} → Operations D → AbsState D → Width → AluOp → Reg → Operand → Result (Next D) Reason
 alu_step ops a w op dst o = do
-  x ← read a dst
+  x ← register_value a dst
   y ← operand_abstract ops w a o
-  written a dst (alu_result ops a op w x y)
+  register_write a dst (alu_result ops a op w x y)
 
 abbrev pub unary_step : {D : Type 0} → Operations D → AbsState D → Width → UnaryOp → Reg → Operand → Result (Next D) Reason
 unary_step ops a w op dst o = do
   x ← operand_abstract ops w a o
-  written a dst (unary_result ops op x)
+  register_write a dst (unary_result ops op x)
 
 -- ---- conditional jumps of two numbers
 
@@ -190,12 +190,12 @@ with_operands a dst (operand.Reg src) left =
     if number_of dst == number_of src then a else with_value (with_value a dst (Scalar left.0)) src (Scalar left.1)
 
 -- no state where no pair of numbers passes the test
-abbrev pub refined : {D : Type 0} → AbsState D → Reg → Operand → Option (D × D) → Option (AbsState D)
-refined a dst o None = None
-refined a dst o (Some left) = Some (with_operands a dst o left)
+abbrev pub state_with_operands : {D : Type 0} → AbsState D → Reg → Operand → Option (D × D) → Option (AbsState D)
+state_with_operands a dst o None = None
+state_with_operands a dst o (Some left) = Some (with_operands a dst o left)
 
-abbrev pub passed : {D : Type 0} → Operations D → AbsState D → Test → Width → Reg → Operand → D → D → Option (AbsState D)
-passed ops a test w dst o x y = refined a dst o (ops.refine test w x y)
+abbrev pub state_past_test : {D : Type 0} → Operations D → AbsState D → Test → Width → Reg → Operand → D → D → Option (AbsState D)
+state_past_test ops a test w dst o x y = state_with_operands a dst o (ops.refine test w x y)
 
 -- ---- conditional jumps of a place and the end
 
@@ -238,7 +238,7 @@ at_anchor anchor implied = do
 abbrev pub places_compared : {D : Type 0} → Width → Condition → AbstractValue D → AbstractValue D → Result (Anchor × Implied) Reason
 places_compared w c (Scalar x) y = Err PointerCompare
 places_compared W64 c (Data anchor k) End = at_anchor anchor (order_implies c (data_bound c k))
-places_compared W64 c End (Data anchor k) = at_anchor anchor (order_implies c (data_bound (exchanged c) k))
+places_compared W64 c End (Data anchor k) = at_anchor anchor (order_implies c (data_bound (converse c) k))
 places_compared w c _ _ = Err PointerCompare
 
 abbrev pub places_fork : {D : Type 0} → AbsState D → Width → Condition → AbstractValue D → AbstractValue D → Result (Next D) Reason
@@ -249,12 +249,12 @@ places_fork a w c x y = do
 -- ---- conditional jumps
 
 abbrev pub fork : {D : Type 0} → Operations D → AbsState D → Width → Condition → Reg → Operand → AbstractValue D → AbstractValue D → Result (Next D) Reason
-fork ops a w c dst o (Scalar x) (Scalar y) = Ok (next.Fork (passed ops a (Fails c) w dst o x y) (passed ops a (Holds c) w dst o x y))
+fork ops a w c dst o (Scalar x) (Scalar y) = Ok (next.Fork (state_past_test ops a (Fails c) w dst o x y) (state_past_test ops a (Holds c) w dst o x y))
 fork ops a w c dst o x y = places_fork a w c x y
 
 abbrev pub branch_step : {D : Type 0} → Operations D → AbsState D → Width → Condition → Reg → Operand → Result (Next D) Reason
 branch_step ops a w c dst o = do
-  x ← read a dst
+  x ← register_value a dst
   y ← operand_abstract ops w a o
   fork ops a w c dst o x y
 
@@ -337,8 +337,8 @@ load_signed ops a base d z = load_number a base d (byte_count (unsigned_size z))
 
 abbrev pub loaded_step : {D : Type 0} → AbsState D → (AbstractValue D → Result (AbstractValue D) Reason) → Reg → Reg → Result (Next D) Reason
 loaded_step a loaded dst base = do
-  from ← read a base
-  written a dst (loaded from)
+  from ← register_value a base
+  register_write a dst (loaded from)
 
 abbrev pub load_step : {D : Type 0} → Operations D → AbsState D → Size → Reg → Reg → ℤ → Result (Next D) Reason
 load_step ops a z dst base d = loaded_step a (λ from. load ops a from d z) dst base
@@ -360,7 +360,7 @@ storable _ = Err PointerStored
 
 abbrev pub store_step : {D : Type 0} → Operations D → AbsState D → Size → Reg → Operand → ℤ → Result (Next D) Reason
 store_step ops a z base o d = do
-  to ← read a base
+  to ← register_value a base
   known ← operand_abstract ops W64 a o
   u ← pointer to
   v ← storable known
@@ -374,14 +374,14 @@ context_value r Ctx = Ok tt
 context_value r _ = Err (HelperArgument (number_of r))
 
 abbrev pub context_argument : {D : Type 0} → AbsState D → Reg → Result (Unit {0}) Reason
-context_argument a r = read a r >>= context_value r
+context_argument a r = register_value a r >>= context_value r
 
 abbrev pub number_value : {D : Type 0} → Reg → AbstractValue D → Result (Unit {0}) Reason
 number_value r (Scalar number) = Ok tt
 number_value r _ = Err (HelperArgument (number_of r))
 
 abbrev pub number_argument : {D : Type 0} → AbsState D → Reg → Result (Unit {0}) Reason
-number_argument a r = read a r >>= number_value r
+number_argument a r = register_value a r >>= number_value r
 
 -- the index, among the stack cells, of the eight bytes that a pointer points to
 abbrev pub stack_index : {D : Type 0} → AbstractValue D → Option ℕ
@@ -396,7 +396,7 @@ abbrev pub stack_value : {D : Type 0} → Reg → AbstractValue D → Result ℕ
 stack_value r v = ok_or (stack_index v) (HelperArgument (number_of r))
 
 abbrev pub stack_argument : {D : Type 0} → AbsState D → Reg → Result ℕ Reason
-stack_argument a r = read a r >>= stack_value r
+stack_argument a r = register_value a r >>= stack_value r
 
 -- the address record at an index of the stack may be read
 abbrev pub record_readable : Marks → ℕ → Result (Unit {0}) Reason
@@ -431,13 +431,13 @@ out_of a arguments = do
   with_argument a reg.R5 (argument_at arguments 4) fourth
 
 -- after a call by which the eight bytes at an index are written, if one is given
-abbrev pub answered : {D : Type 0} → Operations D → AbsState D → Helper → Option ℕ → AbsState D
-answered ops a h out = with_out (with_answer a (ops.range 0 (signature_of h).greatest)) out
+abbrev pub state_after_call : {D : Type 0} → Operations D → AbsState D → Helper → Option ℕ → AbsState D
+state_after_call ops a h out = with_out (with_answer a (ops.range 0 (signature_of h).greatest)) out
 
 abbrev pub helper_step : {D : Type 0} → Operations D → AbsState D → Helper → Result (Next D) Reason
 helper_step ops a h = do
   out ← out_of a (signature_of h).arguments
-  Ok (next.On (answered ops a h out))
+  Ok (next.On (state_after_call ops a h out))
 
 abbrev pub call_step : {D : Type 0} → Operations D → AbsState D → ℤ → Result (Next D) Reason
 call_step ops a n = ok_or (helper_of n) UnknownHelper >>= helper_step ops a
@@ -454,7 +454,7 @@ exit_with End = Err ExitNotScalar
 
 abbrev pub exit_step : {D : Type 0} → AbsState D → Result (Next D) Reason
 exit_step a = do
-  known ← read a reg.R0
+  known ← register_value a reg.R0
   exit_with known
 
 -- ---- every form
@@ -471,6 +471,6 @@ step ops a (insn.JumpIf w c dst o offset) = branch_step ops a w c dst o
 step ops a (insn.Load z dst base d) = load_step ops a z dst base d
 step ops a (insn.LoadSigned z dst base d) = load_signed_step ops a z dst base d
 step ops a (insn.Store z base o d) = store_step ops a z base o d
-step ops a (insn.LoadImm dst value) = written a dst (Ok (Scalar (ops.exact value)))
+step ops a (insn.LoadImm dst value) = register_write a dst (Ok (Scalar (ops.exact value)))
 step ops a (insn.Call n) = call_step ops a n
 step ops a insn.Exit = exit_step a

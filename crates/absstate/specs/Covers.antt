@@ -44,12 +44,12 @@ covers_values ops a b (v ∷ vs) [] = false
 covers_values ops a b (v ∷ vs) (u ∷ us) = covers_value ops a b v u && covers_values ops a b vs us
 
 -- two registers of the one state with one anchor have one in the other state too
-abbrev pub shared : {D : Type 0} → AbstractValue D → AbstractValue D → Bool
-shared (Data x k) (Data y l) = same_anchor x y
-shared _ _ = false
+abbrev pub have_one_anchor : {D : Type 0} → AbstractValue D → AbstractValue D → Bool
+have_one_anchor (Data x k) (Data y l) = same_anchor x y
+have_one_anchor _ _ = false
 
 abbrev pub stands_for : {D : Type 0} → AbstractValue D → AbstractValue D → List (AbstractValue D) → List (AbstractValue D) → Bool
-stands_for v u (w ∷ ws) (x ∷ xs) = (not (shared v w) || shared u x) && stands_for v u ws xs
+stands_for v u (w ∷ ws) (x ∷ xs) = (not (have_one_anchor v w) || have_one_anchor u x) && stands_for v u ws xs
 stands_for v u _ _ = true
 
 abbrev pub share_alike : {D : Type 0} → List (AbstractValue D) → List (AbstractValue D) → Bool
@@ -62,5 +62,9 @@ covers_marks [] others = true
 covers_marks (m ∷ ms) [] = not m && covers_marks ms []
 covers_marks (m ∷ ms) (o ∷ os) = (not m || o) && covers_marks ms os
 
+-- no more is proved of the datagram, and no more bytes of the stack are set
+abbrev pub covers_memory : {D : Type 0} → AbsState D → AbsState D → Bool
+covers_memory a b = int_le a.proved b.proved && covers_marks a.marks.cells b.marks.cells
+
 abbrev pub covers : {D : Type 0} → Operations D → AbsState D → AbsState D → Bool
-covers ops a b = (covers_values ops a b a.registers b.registers && share_alike a.registers b.registers) && (int_le a.proved b.proved && covers_marks a.marks.cells b.marks.cells)
+covers ops a b = (covers_values ops a b a.registers b.registers && share_alike a.registers b.registers) && covers_memory a b

@@ -4,7 +4,7 @@ ghost use Rattle.std.specs.Prelude.{◌≡◌, ◌+◌, ◌≤◌, map, length};
 ghost use Rattle.insn.specs.Codes.{byte_count};
 ghost use Rattle.absstate.specs.Covers.{covers_marks};
 ghost use Rattle.semantics.specs.declared.limits.TheConstants.{STACK_BYTES};
-ghost use Rattle.absstate.specs.AbstractStates.{no_marks, is_marked, are_marked, mark, marked, first_state, low_of, high_of, id_of, greatest_id, raised, raised_anchor, raised_value, proved_of, with_value, with_length, with_least, with_answer, with_out};
+ghost use Rattle.absstate.specs.AbstractStates.{no_marks, is_marked, are_marked, mark, marks_from, first_state, low_of, high_of, id_of, greatest_id, proved_up_to, raised_anchor, raised_value, proved_of, with_value, with_length, with_least, with_answer, with_out};
 
 use crate::covering::covers_marks;
 use insn::{Reg, Size};
@@ -106,7 +106,7 @@ impl Anchor {
 
 /// Returns what is proved of an anchor, raised to another number, where that fits in 32 bits.
 fn raise_proved(proved: i32, least: i64) -> i32
-    ensures { result ≡ raised proved least }
+    ensures { result ≡ proved_up_to proved least }
 {
     if i64::from(proved) < least && least <= 2_147_483_647 {
         least as i32
@@ -199,7 +199,7 @@ impl Marks {
 
     /// Sets the bytes of an access of a size, from an index on.
     pub(crate) fn set_all(&mut self, index: u16, size: Size)
-        ensures { self.new ≡ marked self.old index (byte_count size) }
+        ensures { self.new ≡ marks_from self.old index (byte_count size) }
     {
         let index = usize::from(index);
         for i in index..index + size.bytes() {

@@ -3,7 +3,7 @@
 ghost use Rattle.std.specs.Prelude.{◌≡◌, ◌≤◌};
 ghost use Rattle.std.specs.Option.{ok_or};
 ghost use Rattle.insn.specs.Encoding.{Fits};
-ghost use Rattle.absstate.specs.AbstractSteps.{read, operand_abstract, single_of, moved_by, alu_result, unary_result, written, alu_step, unary_step, exit_step, step};
+ghost use Rattle.absstate.specs.AbstractSteps.{register_value, operand_abstract, single_of, moved_by, alu_result, unary_result, register_write, alu_step, unary_step, exit_step, step};
 ghost use Rattle.absstate.specs.Changes.{answer_of};
 ghost use Rattle.absstate.specs.declared.abstract_state.AbsState.{AbsState};
 ghost use Rattle.semantics.specs.declared.reason.Reason.TheVariants.{PointerArithmetic};
@@ -14,10 +14,10 @@ use crate::calling::call_step;
 use crate::change::{Change, Transition};
 use crate::loading::{load_signed_step, load_step};
 use crate::storing::store_step;
-use crate::sums::data_sum;
+use crate::sums::{Operator, data_sum};
 use insn::{AluOp, Insn, Operand, Reg, UnaryOp, Width, imm_word};
 use interval::{Bounds, Domain};
-use semantics::{Reason, moved_place, writable};
+use semantics::{Comparison, Reason, moved_place, writable};
 use std::alloc::AllocError;
 
 /// The states after an accepted step.
@@ -48,7 +48,7 @@ impl<D: Copy> Copy for Next<D> {}
 
 /// Returns the value of a register that is read.
 pub(crate) fn read<D: Copy>(state: &AbsState<D>, reg: Reg) -> Result<AbstractValue<D>, Reason>
-    ensures { result ≡ read state.now reg }
+    ensures { result ≡ register_value state.now reg }
 {
     match state.registers[reg.number() as usize] {
         AbstractValue::Nothing => Err(Reason::UninitRegister),
@@ -107,7 +107,8 @@ fn alu_result<D: Domain>(
             op, width, a, b,
         ))),
         (AbstractValue::Data { anchor, offset }, AbstractValue::Scalar(b)) => {
-            data_sum(state, anchor, op, width, offset, b.bounds()).ok_or(Reason::PointerArithmetic)
+            let operator = Operator { op, width };
+            data_sum(state, anchor, operator, offset, b.bounds()).ok_or(Reason::PointerArithmetic)
         }
         (AbstractValue::Stack(offset), AbstractValue::Scalar(b)) => {
             let offset = moved(op, width, offset, single_of(b))?;
@@ -132,7 +133,7 @@ pub(crate) fn written<D: Copy>(
     dst: Reg,
     known: Result<AbstractValue<D>, Reason>,
 ) -> Result<Transition<D>, Reason>
-    ensures { (a : AbsState D) → answer_of a result ≡ written a dst known }
+    ensures { (a : AbsState D) → answer_of a result ≡ register_write a dst known }
 {
     writable(dst)?;
     Ok(Transition::On(Change::Register {
@@ -219,7 +220,15 @@ fn transition_of<D: Domain>(state: &AbsState<D>, insn: Insn) -> Result<Transitio
             dst,
             operand,
             ..
-        } => branch_step(state, width, condition, dst, operand),
+        } => {
+            let comparison = Comparison {
+                width,
+                condition,
+                dst,
+                operand,
+            };
+            branch_step(state, comparison)
+        }
         Insn::Load {
             size,
             dst,

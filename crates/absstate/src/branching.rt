@@ -1,23 +1,23 @@
 //! The abstract step of a conditional jump.
 
 ghost use Rattle.std.specs.Prelude.{◌≡◌};
-ghost use Rattle.semantics.specs.LooseRuns.{data_bound, exchanged};
+ghost use Rattle.semantics.specs.LooseRuns.{data_bound, converse};
 ghost use Rattle.std.specs.Option.{option_map};
-ghost use Rattle.absstate.specs.Changes.{changed, answer_of};
+ghost use Rattle.absstate.specs.Changes.{state_after_change, answer_of};
 ghost use Rattle.absstate.specs.declared.abstract_state.AbsState.{AbsState};
-ghost use Rattle.absstate.specs.AbstractSteps.{with_operands, passed, order_implies, places_compared, places_fork, fork, branch_step};
+ghost use Rattle.absstate.specs.AbstractSteps.{with_operands, state_with_operands, order_implies, places_compared, places_fork, fork, branch_step};
 
 use crate::abstract_state::{AbsState, AbstractValue, Anchor};
 use crate::abstract_step::{operand_abstract, read};
 use crate::change::{Change, Transition};
 use insn::{Condition, Operand, Reg, Width};
 use interval::{Domain, Refined, Test};
-use semantics::Reason;
+use semantics::{Comparison, Reason};
 
 /// Returns the change that narrows the operands of a passed test. An imm isn't changed, and neither is a register that is
 /// compared with itself.
 fn with_operands<D: Copy>(dst: Reg, operand: Operand, left: Refined<D>) -> Change<D>
-    ensures { (state : AbsState D) → changed state result ≡ with_operands state dst operand (left.a, left.b) }
+    ensures { (state : AbsState D) → state_after_change state result ≡ with_operands state dst operand (left.a, left.b) }
 {
     match operand {
         Operand::Imm(_) => Change::Register {
@@ -29,20 +29,14 @@ fn with_operands<D: Copy>(dst: Reg, operand: Operand, left: Refined<D>) -> Chang
     }
 }
 
-/// Returns the change after a test on two numbers that was passed, `None` where no two of them pass it.
+/// Returns the change after a test on two numbers that was passed, `None` where no two of them pass it. `left` is what
+/// the test leaves of them.
 /// See docs/DECISIONS.md, "Branches that cannot be taken".
-fn passed<D: Domain>(
-    test: Test,
-    width: Width,
-    dst: Reg,
-    operand: Operand,
-    a: D,
-    b: D,
-) -> Option<Change<D>>
-    ensures { (state : AbsState D) → option_map (changed state) result ≡ passed D.ops state test width dst operand a b }
+fn passed<D: Copy>(dst: Reg, operand: Operand, left: Option<Refined<D>>) -> Option<Change<D>>
+    ensures { (state : AbsState D) → option_map (state_after_change state) result
+        ≡ state_with_operands state dst operand (option_map (λ l. (l.a, l.b)) left) }
 {
-    let left = D::refine(test, width, a, b)?;
-    Some(with_operands(dst, operand, left))
+    Some(with_operands(dst, operand, left?))
 }
 
 /// The least length of the datagram that each branch of a jump implies, if it implies one.
@@ -82,7 +76,7 @@ fn data_implies(condition: Condition, offset: i32) -> Result<Implied, Reason>
 
 /// Returns what the branches of `End CONDITION offset` imply.
 fn end_implies(condition: Condition, offset: i32) -> Result<Implied, Reason>
-    ensures { result ≡ order_implies condition (data_bound (exchanged condition) offset) }
+    ensures { result ≡ order_implies condition (data_bound (converse condition) offset) }
 {
     match condition {
         Condition::Gt => data_implies(Condition::Lt, offset),
@@ -139,19 +133,23 @@ fn places_fork<D: Copy>(
 }
 
 fn fork<D: Domain>(
-    width: Width,
-    condition: Condition,
-    dst: Reg,
-    operand: Operand,
+    comparison: Comparison,
     a: AbstractValue<D>,
     b: AbstractValue<D>,
 ) -> Result<Transition<D>, Reason>
-    ensures { (state : AbsState D) → answer_of state result ≡ fork D.ops state width condition dst operand a b }
+    ensures { (state : AbsState D) → answer_of state result
+        ≡ fork D.ops state comparison.width comparison.condition comparison.dst comparison.operand a b }
 {
+    let Comparison {
+        width,
+        condition,
+        dst,
+        operand,
+    } = comparison;
     match (a, b) {
         (AbstractValue::Scalar(a), AbstractValue::Scalar(b)) => Ok(Transition::Fork {
-            not_taken: passed(Test::Fails(condition), width, dst, operand, a, b),
-            taken: passed(Test::Holds(condition), width, dst, operand, a, b),
+            not_taken: passed(dst, operand, D::refine(Test::Fails(condition), width, a, b)),
+            taken: passed(dst, operand, D::refine(Test::Holds(condition), width, a, b)),
         }),
         _ => places_fork(width, condition, a, b),
     }
@@ -160,14 +158,12 @@ fn fork<D: Domain>(
 /// Returns the transition of a conditional jump.
 pub(crate) fn branch_step<D: Domain>(
     state: &AbsState<D>,
-    width: Width,
-    condition: Condition,
-    dst: Reg,
-    operand: Operand,
+    comparison: Comparison,
 ) -> Result<Transition<D>, Reason>
-    ensures { answer_of state.now result ≡ branch_step D.ops state.now width condition dst operand }
+    ensures { answer_of state.now result
+        ≡ branch_step D.ops state.now comparison.width comparison.condition comparison.dst comparison.operand }
 {
-    let a = read(state, dst)?;
-    let b = operand_abstract(state, width, operand)?;
-    fork(width, condition, dst, operand, a, b)
+    let a = read(state, comparison.dst)?;
+    let b = operand_abstract(state, comparison.width, comparison.operand)?;
+    fork(comparison, a, b)
 }

@@ -1,7 +1,7 @@
 //! Whether one abstract state covers another: then each machine state that the other one describes it describes too.
 
-ghost use Rattle.std.specs.Prelude.{◌≡◌, ◌&&◌, int_le, length};
-ghost use Rattle.absstate.specs.Covers.{same_int, same_anchor, covers_places, proves_less, covers_anchor, covers_value, covers_values, shared, stands_for, share_alike, covers_marks, covers};
+ghost use Rattle.std.specs.Prelude.{◌≡◌, length};
+ghost use Rattle.absstate.specs.Covers.{same_int, same_anchor, covers_places, proves_less, covers_anchor, covers_value, covers_values, have_one_anchor, stands_for, share_alike, covers_marks, covers_memory, covers};
 
 use crate::abstract_state::{AbsState, AbstractValue, Anchor};
 use interval::Domain;
@@ -94,7 +94,7 @@ fn covers_values<D: Domain>(
 
 /// Returns whether two values of a state are places at one anchor.
 fn shared<D: Copy>(a: AbstractValue<D>, b: AbstractValue<D>) -> bool
-    ensures { result ≡ shared a b }
+    ensures { result ≡ have_one_anchor a b }
 {
     match (a, b) {
         (AbstractValue::Data { anchor, .. }, AbstractValue::Data { anchor: other, .. }) => {
@@ -156,7 +156,7 @@ pub(crate) fn covers_marks(marks: &[bool], others: &[bool]) -> bool
 /// Returns whether no more is proved of the datagram in a state than in the other state, and no more bytes of the stack are
 /// set.
 fn covers_memory<D: Copy>(state: &AbsState<D>, other: &AbsState<D>) -> bool
-    ensures { result ≡ (int_le state.now.proved other.now.proved && covers_marks state.now.marks.cells other.now.marks.cells) }
+    ensures { result ≡ covers_memory state.now other.now }
 {
     state.proved <= other.proved && state.marks.covers(&other.marks)
 }

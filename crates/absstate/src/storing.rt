@@ -2,7 +2,7 @@
 
 ghost use Rattle.std.specs.Prelude.{◌≡◌};
 ghost use Rattle.insn.specs.Codes.{byte_count};
-ghost use Rattle.absstate.specs.Changes.{changed, answer_of};
+ghost use Rattle.absstate.specs.Changes.{state_after_change, answer_of};
 ghost use Rattle.absstate.specs.AbstractSteps.{pointer, storable, IsInStack, with_region, store_step};
 ghost use Rattle.absstate.specs.declared.abstract_state.AbsState.{AbsState};
 
@@ -37,7 +37,7 @@ fn storable<D: Copy>(known: AbstractValue<D>) -> Result<(), Reason>
 /// Returns the change by which the bytes of an access to a region are set.
 fn set_bytes<D: Copy>(size: Size, to: Region) -> Change<D>
     requires { IsInStack (byte_count size) to }
-    ensures { (state : AbsState D) → changed state result ≡ with_region state (byte_count size) to }
+    ensures { (state : AbsState D) → state_after_change state result ≡ with_region state (byte_count size) to }
 {
     match to {
         Region::InStack(index) => Change::Marks {

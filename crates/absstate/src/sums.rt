@@ -10,11 +10,20 @@ use insn::{AluOp, Width};
 use interval::Bounds;
 use semantics::moved_place;
 
+/// An operator at a width.
+#[derive(Clone, Copy, Debug, PartialEq, Eq)]
+pub(crate) struct Operator {
+    /// The operator.
+    pub(crate) op: AluOp,
+    /// The width of its operands and of its result.
+    pub(crate) width: Width,
+}
+
 /// Returns a place moved by a number. `None` for an operator that moves no pointer, or where the place would lie too far.
-fn near_sum(op: AluOp, width: Width, place: i64, by: u64) -> Option<i32>
-    ensures { result ≡ moved_place op width place by }
+fn near_sum(operator: Operator, place: i64, by: u64) -> Option<i32>
+    ensures { result ≡ moved_place operator.op operator.width place by }
 {
-    let place = moved_place(op, width, place, by)?;
+    let place = moved_place(operator.op, operator.width, place, by)?;
     Some(place as i32)
 }
 
@@ -62,11 +71,11 @@ fn short_offset(offset: i64) -> Option<i32>
 /// Returns the offset from an anchor with places from `low` to `high`, moved by a single number. `None` where a place would
 /// lie too far.
 /// See docs/DECISIONS.md, "Offsets in 32 bits".
-fn moved_offset(op: AluOp, width: Width, low: i32, high: i32, offset: i32, by: u64) -> Option<i32>
-    ensures { result ≡ moved_offset op width low high offset by }
+fn moved_offset(operator: Operator, low: i32, high: i32, offset: i32, by: u64) -> Option<i32>
+    ensures { result ≡ moved_offset operator.op operator.width low high offset by }
 {
-    let least = near_sum(op, width, place_from(low, offset), by);
-    let greatest = near_sum(op, width, place_from(high, offset), by);
+    let least = near_sum(operator, place_from(low, offset), by);
+    let greatest = near_sum(operator, place_from(high, offset), by);
     match (least, greatest) {
         (Some(least), Some(_)) => short_offset(moved_from(least, low)),
         _ => None,
@@ -74,23 +83,23 @@ fn moved_offset(op: AluOp, width: Width, low: i32, high: i32, offset: i32, by: u
 }
 
 /// Returns the least place after a sum with a number within bounds.
-fn lowest(op: AluOp, width: Width, low: i64, bounds: Bounds) -> Option<i32>
-    ensures { result ≡ lowest op width low bounds }
+fn lowest(operator: Operator, low: i64, bounds: Bounds) -> Option<i32>
+    ensures { result ≡ lowest operator.op operator.width low bounds }
 {
-    match op {
-        AluOp::Add => near_sum(op, width, low, bounds.lo),
-        AluOp::Sub => near_sum(op, width, low, bounds.hi),
+    match operator.op {
+        AluOp::Add => near_sum(operator, low, bounds.lo),
+        AluOp::Sub => near_sum(operator, low, bounds.hi),
         _ => None,
     }
 }
 
 /// Returns the greatest place after a sum with a number within bounds.
-fn highest(op: AluOp, width: Width, high: i64, bounds: Bounds) -> Option<i32>
-    ensures { result ≡ highest op width high bounds }
+fn highest(operator: Operator, high: i64, bounds: Bounds) -> Option<i32>
+    ensures { result ≡ highest operator.op operator.width high bounds }
 {
-    match op {
-        AluOp::Add => near_sum(op, width, high, bounds.hi),
-        AluOp::Sub => near_sum(op, width, high, bounds.lo),
+    match operator.op {
+        AluOp::Add => near_sum(operator, high, bounds.hi),
+        AluOp::Sub => near_sum(operator, high, bounds.lo),
         _ => None,
     }
 }
@@ -163,15 +172,14 @@ fn made_between<D: Copy>(
 fn made_sum<D: Copy>(
     state: &AbsState<D>,
     anchor: Anchor,
-    op: AluOp,
-    width: Width,
+    operator: Operator,
     offset: i32,
     bounds: Bounds,
 ) -> Option<AbstractValue<D>>
-    ensures { result ≡ made_sum state.now anchor op width offset bounds }
+    ensures { result ≡ made_sum state.now anchor operator.op operator.width offset bounds }
 {
-    let low = lowest(op, width, least_place(anchor, offset), bounds);
-    let high = highest(op, width, greatest_place(anchor, offset), bounds);
+    let low = lowest(operator, least_place(anchor, offset), bounds);
+    let high = highest(operator, greatest_place(anchor, offset), bounds);
     match (low, high) {
         (Some(low), Some(high)) => made_between(state, anchor, bounds, low, high),
         _ => None,
@@ -179,12 +187,12 @@ fn made_sum<D: Copy>(
 }
 
 /// Returns the offset from an anchor, moved by a single number.
-fn single_sum(anchor: Anchor, op: AluOp, width: Width, offset: i32, by: u64) -> Option<i32>
-    ensures { result ≡ single_sum anchor op width offset by }
+fn single_sum(anchor: Anchor, operator: Operator, offset: i32, by: u64) -> Option<i32>
+    ensures { result ≡ single_sum anchor operator.op operator.width offset by }
 {
     match anchor {
-        Anchor::First => near_sum(op, width, i64::from(offset), by),
-        Anchor::Made { low, high, .. } => moved_offset(op, width, low, high, offset, by),
+        Anchor::First => near_sum(operator, i64::from(offset), by),
+        Anchor::Made { low, high, .. } => moved_offset(operator, low, high, offset, by),
     }
 }
 
@@ -192,17 +200,16 @@ fn single_sum(anchor: Anchor, op: AluOp, width: Width, offset: i32, by: u64) -> 
 pub(crate) fn data_sum<D: Copy>(
     state: &AbsState<D>,
     anchor: Anchor,
-    op: AluOp,
-    width: Width,
+    operator: Operator,
     offset: i32,
     bounds: Bounds,
 ) -> Option<AbstractValue<D>>
-    ensures { result ≡ data_sum state.now anchor op width offset bounds }
+    ensures { result ≡ data_sum state.now anchor operator.op operator.width offset bounds }
 {
     if bounds.lo != bounds.hi {
-        return made_sum(state, anchor, op, width, offset, bounds);
+        return made_sum(state, anchor, operator, offset, bounds);
     }
-    match single_sum(anchor, op, width, offset, bounds.lo) {
+    match single_sum(anchor, operator, offset, bounds.lo) {
         Some(offset) => Some(AbstractValue::Data { anchor, offset }),
         None => None,
     }

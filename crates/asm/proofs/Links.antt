@@ -11,10 +11,10 @@ use Rattle.insn.specs.declared.decoding.TheConstants.{MAX_SLOTS}
 use Rattle.insn.specs.declared.instruction.Insn.{Insn}
 use Rattle.asm.specs.Lines.{lines_of}
 use Rattle.asm.specs.Statements.{Name, Statement, Labelled, Instruction}
-use Rattle.asm.specs.Programs.{IsInRange, slots_in, slot_from, slot_of_label, linked_one, linked, LacksLabel}
+use Rattle.asm.specs.Programs.{IsInRange, slots_in, slot_from, slot_of_label, linked_one, instructions_of, LacksLabel}
 use Rattle.asm.specs.Reading.{read_line}
 use Rattle.asm.specs.Parsing.{said_in, IsUnfit, UnderstandsLine}
-use Rattle.asm.specs.Scanning.{Holds, IsTableOf, IsHalted, IsLinked, capped, lines_behind, Begins, Fails}
+use Rattle.asm.specs.Scanning.{Holds, IsTableOf, IsHalted, IsLinked, slots_up_to_limit, lines_behind, Begins, Fails}
 use Rattle.asm.specs.declared.statement.Line.{Line}
 use Rattle.asm.specs.declared.statement.Line.TheVariants as line
 use Rattle.asm.specs.declared.refusal.Fault.{Fault}
@@ -48,10 +48,10 @@ pub place_found : (table : Table) (said : List (Option Statement)) (name : Bor (
     → get same table.label_slots name ≡ Some p → (slot_of_label said name.now ≡ Some p) × (p ≤ MAX_SLOTS)
 place_found table said name p holds few is = by (slot_of_label said name.now) refl (sym (holds.label_slots name) ∙ is)
   where
-    by : (o : Option ℕ) → slot_of_label said name.now ≡ o → option_map capped o ≡ Some p → (o ≡ Some p) × (p ≤ MAX_SLOTS)
+    by : (o : Option ℕ) → slot_of_label said name.now ≡ o → option_map slots_up_to_limit o ≡ Some p → (o ≡ Some p) × (p ≤ MAX_SLOTS)
     by None at e = absurd cc
     by (Some q) at e = let within : q ≤ 0 + slots_in said = place_within 0 said name.now q at in
-        let counted : capped q ≡ p = cc in
+        let counted : slots_up_to_limit q ≡ p = cc in
         let here : q ≡ p = omega arith in (ap (λ k. Some k) here, omega arith)
 
 -- the distance of a jump within a program, as it is computed
@@ -74,23 +74,23 @@ slot_fits slot i few = omega (arith, slots_small i)
 -- the instructions of one line more
 linked_more : (label_slots : Name → Option ℕ) (slot : ℕ) (before : List (Option Statement)) (s : Option Statement)
     (code more : List Insn)
-    → linked label_slots slot before ≡ Some code → linked label_slots (slot + slots_in before) (s ∷ []) ≡ Some more
-    → linked label_slots slot (before ++ s ∷ []) ≡ Some (code ++ more)
+    → instructions_of label_slots slot before ≡ Some code → instructions_of label_slots (slot + slots_in before) (s ∷ []) ≡ Some more
+    → instructions_of label_slots slot (before ++ s ∷ []) ≡ Some (code ++ more)
 linked_more label_slots slot [] s code more is here = let none : [] ≡ code = cc in
-    ap (λ k. linked label_slots k (s ∷ [])) (omega arith) ∙ here ∙ ap (λ c. Some (c ++ more)) none
+    ap (λ k. instructions_of label_slots k (s ∷ [])) (omega arith) ∙ here ∙ ap (λ c. Some (c ++ more)) none
 linked_more label_slots slot (None ∷ before) s code more is here = linked_more label_slots slot before s code more is here
 linked_more label_slots slot (Some (Labelled n) ∷ before) s code more is here = linked_more label_slots slot before s code more
     is here
 linked_more label_slots slot (Some (Instruction i t) ∷ before) s code more is here =
-    by (linked_one label_slots slot i t) (linked label_slots (slot + slots_of i) before) refl is
+    by (linked_one label_slots slot i t) (instructions_of label_slots (slot + slots_of i) before) refl is
     (λ tail at. linked_more label_slots (slot + slots_of i) before s tail more at
-    (ap (λ k. linked label_slots k (s ∷ [])) (omega arith) ∙ here))
+    (ap (λ k. instructions_of label_slots k (s ∷ [])) (omega arith) ∙ here))
   where
-    by : (o : Option Insn) (q : Option (List Insn)) → linked label_slots (slot + slots_of i) before ≡ q
+    by : (o : Option Insn) (q : Option (List Insn)) → instructions_of label_slots (slot + slots_of i) before ≡ q
         → option_and_then (λ j. option_map (λ c. j ∷ c) q) o ≡ Some code
-        → ((tail : List Insn) → linked label_slots (slot + slots_of i) before ≡ Some tail
-        → linked label_slots (slot + slots_of i) (before ++ s ∷ []) ≡ Some (tail ++ more))
-        → option_and_then (λ j. option_map (λ c. j ∷ c) (linked label_slots (slot + slots_of i) (before ++ s ∷ [])))
+        → ((tail : List Insn) → instructions_of label_slots (slot + slots_of i) before ≡ Some tail
+        → instructions_of label_slots (slot + slots_of i) (before ++ s ∷ []) ≡ Some (tail ++ more))
+        → option_and_then (λ j. option_map (λ c. j ∷ c) (instructions_of label_slots (slot + slots_of i) (before ++ s ∷ [])))
         o ≡ Some (code ++ more)
     by None q at e behind = absurd cc
     by (Some j) None at e behind = absurd cc
@@ -129,12 +129,12 @@ pub slot_within : (lines : List (List ℕ)) (table : Table) (n slot : ℕ) (rest
 slot_within lines table n slot rest code k = omega
     (arith, k.few, k.slots, ap slots_in k.split, slots_both k.before k.after)
 
--- the code behind one line more
+-- the code after one line more
 linked_behind : (lines : List (List ℕ)) (table : Table) (n slot : ℕ) (left : Option (Bor (List ℕ)))
     (text : Bor (List ℕ)) (s : Option Statement)
     (rest : List (List ℕ)) (code more : List Insn) (k : IsLinked lines table n slot (lines_behind left) code)
     → left ≡ Some text → Begins text.now s rest
-    → linked (slot_of_label k.said) slot (s ∷ []) ≡ Some more
+    → instructions_of (slot_of_label k.said) slot (s ∷ []) ≡ Some more
     → IsLinked lines table (n + 1) (slot + slots_in (s ∷ [])) rest (code ++ more)
 linked_behind lines table n slot left text s rest code more k is first here =
     by k.after k.split (subst (λ ls. AllZip (λ line t. read_line line ≡ Some t) ls k.after)
@@ -158,7 +158,7 @@ linked_behind lines table n slot left text s rest code more k is first here =
           count = omega (arith, k.count, length_more k.before s);
           slots = omega (arith, k.slots, slots_more k.before s);
           linked = linked_more (slot_of_label k.said) 0 k.before s code more k.linked
-              (ap (λ p. linked (slot_of_label k.said) p (s ∷ [])) (omega (arith, k.slots)) ∙ here);
+              (ap (λ p. instructions_of (slot_of_label k.said) p (s ∷ [])) (omega (arith, k.slots)) ∙ here);
         }
 
 -- no line has a fault
@@ -186,7 +186,7 @@ pub linked_past : (lines : List (List ℕ)) (table : Table) (n slot : ℕ) (left
     → IsLinked lines table (n + 1) slot rest code
 linked_past lines table n slot left text l rest code k is first other = by l first other
   where
-    none : (s : Option Statement) → slots_in (s ∷ []) ≡ 0 → linked (slot_of_label k.said) slot (s ∷ []) ≡ Some []
+    none : (s : Option Statement) → slots_in (s ∷ []) ≡ 0 → instructions_of (slot_of_label k.said) slot (s ∷ []) ≡ Some []
         → Begins text.now s rest
         → IsLinked lines table (n + 1) slot rest code
     none s nowhere nothing first = subst (λ c. IsLinked lines table (n + 1) slot rest c) (append-nil code)

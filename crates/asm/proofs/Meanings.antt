@@ -7,7 +7,7 @@ use Rattle.insn.specs.declared.decoding.TheConstants.{MAX_SLOTS}
 use Rattle.insn.specs.declared.instruction.Insn.{Insn}
 use Rattle.asm.specs.Lines.{lines_of}
 use Rattle.asm.specs.Statements.{Statement, Labelled, Instruction}
-use Rattle.asm.specs.Programs.{Means, AreRead, slot_of_label, linked, Names, IsAssembled, StopsAt, IsNoLine, IsOutOfRange, IsRepeated, IsRefused}
+use Rattle.asm.specs.Programs.{Means, AreRead, slot_of_label, instructions_of, Names, IsAssembled, StopsAt, IsNoLine, IsOutOfRange, IsRepeated, IsRefused}
 use Rattle.asm.specs.Reading.{read_line}
 use Rattle.asm.specs.Parsing.{IsUnfit}
 use Rattle.asm.specs.Scanning.{AreUnderstood, Halts, IsUnread, IsTooLarge, IsOldLabel, IsHalted, IsCodeOf, IsBuilt}
@@ -171,7 +171,7 @@ names_once laws text code other a b =
     let same : a.said ≡ b.said = said_is_one (lines_of text) a.said b.said
     (is_understood laws (lines_of text) a.said a.read).each
     (is_understood laws (lines_of text) b.said b.read).each in
-    let both : Some code ≡ Some other = sym a.linked ∙ ap (λ said. linked (slot_of_label said) 0 said) same ∙ b.linked in cc
+    let both : Some code ≡ Some other = sym a.linked ∙ ap (λ said. instructions_of (slot_of_label said) 0 said) same ∙ b.linked in cc
 
 -- ---- the clauses of `assemble`, by those of `build`
 

@@ -11,7 +11,7 @@ use Rattle.asm.specs.Radices.{radix_of, is_numeral}
 use Rattle.asm.specs.declared.radix.Radix.{Radix}
 use Rattle.asm.specs.declared.radix.Radix.TheVariants.{Decimal, Hexadecimal}
 
--- what stands behind the letters is no digit
+-- what follows the letters is no digit
 no_digit : (c : ℕ) → 123 ≤ c → digit_value c ≡ 36
 no_digit c le = rw (le-ltb c 48 (omega (arith, le)), le-ltb c 58 (omega (arith, le)), le-ltb c 65 (omega (arith, le)), le-ltb c 91 (omega (arith, le)), le-ltb c 97 (omega (arith, le)), le-ltb c 123 le)
 

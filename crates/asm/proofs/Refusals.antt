@@ -8,7 +8,7 @@ use Rattle.insn.specs.declared.instruction.Insn.{Insn}
 use Rattle.insn.specs.declared.instruction.Insn.TheVariants.{Jump}
 use Rattle.asm.specs.Lines.{lines_of}
 use Rattle.asm.specs.Statements.{Name, Statement, Labelled, Instruction}
-use Rattle.asm.specs.Programs.{IsInRange, labels, IsNameAmong, AreDistinct, slots_in, slot_of_label, with_distance, linked_one, linked, LacksLabel}
+use Rattle.asm.specs.Programs.{IsInRange, labels, IsNameAmong, AreDistinct, slots_in, slot_of_label, with_distance, linked_one, instructions_of, LacksLabel}
 use Rattle.asm.specs.Reading.{read_line}
 use Rattle.asm.specs.Parsing.{IsUnfit}
 use Rattle.asm.specs.Scanning.{AreUnderstood, IsOld, IsUnread, IsTooLarge, IsOldLabel, IsHalted, IsCodeOf, Halts}
@@ -104,7 +104,7 @@ says_at (l ∷ before) line after (s ∷ all) each = let k = says_at before line
   read = k.read;
 }
 
--- the fault of one line, behind lines that say this
+-- the fault of one line, after lines that say this
 abbrev LineFault : AsmError → ℕ → List (Option Statement) → Option (Option Statement) → Type 0
 LineFault (error.Syntax m) n said s = (m ≡ n) × IsUnread said s
 LineFault (error.Range m) n said s = (m ≡ n) × IsTooLarge said s
@@ -191,7 +191,7 @@ fails_once lines e f a b = by (cuts a.before a.line a.after b.before b.line b.af
 -- an unknown label leaves no code
 unknown_is_none : (label_slots : Name → Option ℕ) (slot : ℕ) (before : List (Option Statement)) (i : Insn) (name : Name)
     (after : List (Option Statement))
-    → label_slots name ≡ None → linked label_slots slot (before ++ Some (Instruction i (Some name)) ∷ after) ≡ None
+    → label_slots name ≡ None → instructions_of label_slots slot (before ++ Some (Instruction i (Some name)) ∷ after) ≡ None
 unknown_is_none label_slots slot [] i name after unknown = rw unknown
 unknown_is_none label_slots slot (None ∷ before) i name after unknown = unknown_is_none label_slots slot before i name after
     unknown
@@ -200,10 +200,10 @@ unknown_is_none label_slots slot (Some (Labelled n) ∷ before) i name after unk
 unknown_is_none label_slots slot (Some (Instruction h t) ∷ before) i name after unknown =
     by (linked_one label_slots slot h t) (unknown_is_none label_slots (slot + slots_of h) before i name after unknown)
   where
-    by : (o : Option Insn) → linked label_slots (slot + slots_of h)
+    by : (o : Option Insn) → instructions_of label_slots (slot + slots_of h)
         (before ++ Some (Instruction i (Some name)) ∷ after) ≡ None
         → option_and_then (λ j. option_map (λ code. j ∷ code)
-        (linked label_slots (slot + slots_of h) (before ++ Some (Instruction i (Some name)) ∷ after))) o ≡ None
+        (instructions_of label_slots (slot + slots_of h) (before ++ Some (Instruction i (Some name)) ∷ after))) o ≡ None
     by None none = refl
     by (Some j) none = ap (option_map (λ code. j ∷ code)) none
 
@@ -214,12 +214,12 @@ lacks_once said n m a b = by (cuts a.before _ a.after b.before _ b.after (sym a.
     by : Cuts a.before (Some (Instruction a.insn (Some a.name))) b.before (Some (Instruction b.insn (Some b.name)))
         → n ≡ m
     by (Same fronts here) = omega (arith, a.count, b.count, ap length fronts)
-    by (Before more is) = let none : is_some (linked (slot_of_label said) 0 b.before) ≡ false = rw is
+    by (Before more is) = let none : is_some (instructions_of (slot_of_label said) 0 b.before) ≡ false = rw is
         (ap is_some (unknown_is_none (slot_of_label said) 0 a.before a.insn a.name more a.unknown)) in
-        let known : is_some (linked (slot_of_label said) 0 b.before) ≡ true = b.known in absurd cc
-    by (Behind more is) = let none : is_some (linked (slot_of_label said) 0 a.before) ≡ false = rw is
+        let known : is_some (instructions_of (slot_of_label said) 0 b.before) ≡ true = b.known in absurd cc
+    by (Behind more is) = let none : is_some (instructions_of (slot_of_label said) 0 a.before) ≡ false = rw is
         (ap is_some (unknown_is_none (slot_of_label said) 0 b.before b.insn b.name more b.unknown)) in
-        let known : is_some (linked (slot_of_label said) 0 a.before) ≡ true = a.known in absurd cc
+        let known : is_some (instructions_of (slot_of_label said) 0 a.before) ≡ true = a.known in absurd cc
 
 -- the slots of a jump stay the same with another distance
 slots_kept : (i : Insn) (distance : ℤ) → slots_of (with_distance i distance) ≡ slots_of i
@@ -239,13 +239,13 @@ slots_of_linked label_slots slot i (Some name) j is = by (label_slots name) is
 
 -- the code has the slots of the lines
 pub slots_of_code : (label_slots : Name → Option ℕ) (slot : ℕ) (said : List (Option Statement)) (code : List Insn)
-    → linked label_slots slot said ≡ Some code
+    → instructions_of label_slots slot said ≡ Some code
     → slot_count code ≡ slots_in said
 slots_of_code label_slots slot [] code is = let none : [] ≡ code = cc in ap slot_count (sym none)
 slots_of_code label_slots slot (None ∷ said) code is = slots_of_code label_slots slot said code is
 slots_of_code label_slots slot (Some (Labelled n) ∷ said) code is = slots_of_code label_slots slot said code is
 slots_of_code label_slots slot (Some (Instruction i t) ∷ said) code is =
-    by (linked_one label_slots slot i t) (linked label_slots (slot + slots_of i) said) refl is
+    by (linked_one label_slots slot i t) (instructions_of label_slots (slot + slots_of i) said) refl is
     (slots_of_code label_slots (slot + slots_of i) said)
   where
     by : (o : Option Insn) (q : Option (List Insn)) → linked_one label_slots slot i t ≡ o
@@ -337,8 +337,8 @@ halts_or_code text code e other a h = by (failing (lines_of text) e other h)
   where
     whole : (e : AsmError) → WholeFault a.said e → ⊥
     whole error.TooLong many = omega (arith, a.few, many)
-    whole (error.UnknownLabel n) (few, lacks) = let none : linked (slot_of_label a.said) 0 a.said ≡ None =
-        ap (λ said. linked (slot_of_label a.said) 0 said) lacks.split
+    whole (error.UnknownLabel n) (few, lacks) = let none : instructions_of (slot_of_label a.said) 0 a.said ≡ None =
+        ap (λ said. instructions_of (slot_of_label a.said) 0 said) lacks.split
         ∙ unknown_is_none (slot_of_label a.said) 0 lacks.before lacks.insn lacks.name lacks.after lacks.unknown in
         let both : Some code ≡ None = sym a.linked ∙ none in cc
     whole (error.Syntax n) fault = fault

@@ -87,7 +87,7 @@ scanned_none text table holds = record {
   holds = holds;
 }
 
--- what the table has behind one line more
+-- what the table has after one line more
 pub scanned_more : (lines : List (List ℕ)) (n : ℕ) (left : Option (Bor (List ℕ))) (text : Bor (List ℕ))
     (s : Option Statement) (rest : List (List ℕ))
     (table new : Table) (x : Unit {0}) → IsScanned lines n (lines_behind left) table → left ≡ Some text

@@ -11,7 +11,7 @@ use Rattle.insn.specs.declared.instruction.Insn.{Insn}
 use Rattle.asm.specs.Statements.{Name, Statement, Labelled, Instruction}
 use Rattle.asm.specs.Programs.{labels, IsNameAmong, slots_in, slot_from, slot_of_label}
 use Rattle.asm.specs.Reading.{or_else}
-use Rattle.asm.specs.Scanning.{capped, Holds}
+use Rattle.asm.specs.Scanning.{slots_up_to_limit, Holds}
 use Rattle.asm.specs.declared.table.Table.{Table}
 
 -- ---- slots and label_slots of one line more
@@ -65,7 +65,7 @@ place_unknown slot (Some (Instruction i t) ∷ said) name e among = place_unknow
 abbrev pub same : Bor (List ℕ) → Bor (List ℕ) → Bool
 same x y = pointwise nat_eq x.now y.now
 
-some_capped : (o : Option ℕ) → is_some (option_map capped o) ≡ is_some o
+some_capped : (o : Option ℕ) → is_some (option_map slots_up_to_limit o) ≡ is_some o
 some_capped None = refl
 some_capped (Some n) = refl
 
@@ -102,7 +102,7 @@ pub label_added : (table new : Table) (said : List (Option Statement)) (name : B
     → Holds new (said ++ Some (Labelled name.now) ∷ []) × (IsNameAmong name.now (labels said) → ⊥)
 label_added table new said name holds none updated slots = (
   record {
-    slots = slots ∙ holds.slots ∙ ap capped (sym (slots_more said (Some (Labelled name.now)) ∙ none_more _));
+    slots = slots ∙ holds.slots ∙ ap slots_up_to_limit (sym (slots_more said (Some (Labelled name.now)) ∙ none_more _));
     label_slots = λ q. updated q ∙ by_name q (same name q) refl;
   },
   place_unknown 0 said name.now absent,
@@ -118,24 +118,24 @@ label_added table new said name holds none updated slots = (
     no_place q e = none_of _ (subst (λ w. is_some (slot_of_label said w) ≡ false) ((bytes_eq-Decides name.now q.now).0 e) absent)
 
     by_name : (q : Bor (List ℕ)) (b : Bool) → same name q ≡ b
-        → cond b (Some table.slots) (get same table.label_slots q) ≡ option_map capped (slot_of_label (said ++ Some (Labelled name.now) ∷ []) q.now)
+        → cond b (Some table.slots) (get same table.label_slots q) ≡ option_map slots_up_to_limit (slot_of_label (said ++ Some (Labelled name.now) ∷ []) q.now)
     by_name q true e = ap (λ k. Some k) holds.slots
-        ∙ sym (ap (λ o. option_map capped o) (place_labelled said name.now q.now None true (no_place q e) e))
+        ∙ sym (ap (λ o. option_map slots_up_to_limit o) (place_labelled said name.now q.now None true (no_place q e) e))
     by_name q false e = holds.label_slots q
-        ∙ sym (ap (λ o. option_map capped o) (place_labelled said name.now q.now (slot_of_label said q.now) false refl e ∙ or_none (slot_of_label said q.now)))
+        ∙ sym (ap (λ o. option_map slots_up_to_limit o) (place_labelled said name.now q.now (slot_of_label said q.now) false refl e ∙ or_none (slot_of_label said q.now)))
 
--- the table behind an instruction
+-- the table after an instruction
 pub insn_added : (table new : Table) (said : List (Option Statement)) (i : Insn) (target : Option Name) → Holds table said
     → new.label_slots ≡ table.label_slots → new.slots ≡ min (table.slots + slots_of i) (MAX_SLOTS + 1) → Holds new (said ++ Some (Instruction i target) ∷ [])
 insn_added table new said i target holds label_slots slots = record {
   slots = omega (arith, slots, holds.slots, slots_more said (Some (Instruction i target)));
   label_slots = λ q. ap (λ m. get same m q) label_slots ∙ holds.label_slots q
-      ∙ sym (ap (λ o. option_map capped o) (place_kept said (Some (Instruction i target)) q.now (λ k. refl)));
+      ∙ sym (ap (λ o. option_map slots_up_to_limit o) (place_kept said (Some (Instruction i target)) q.now (λ k. refl)));
 }
 
--- the table behind an empty line
+-- the table after an empty line
 pub nothing_added : (table : Table) (said : List (Option Statement)) → Holds table said → Holds table (said ++ None ∷ [])
 nothing_added table said holds = record {
   slots = omega (arith, holds.slots, slots_more said None);
-  label_slots = λ q. holds.label_slots q ∙ sym (ap (λ o. option_map capped o) (place_kept said None q.now (λ k. refl)));
+  label_slots = λ q. holds.label_slots q ∙ sym (ap (λ o. option_map slots_up_to_limit o) (place_kept said None q.now (λ k. refl)));
 }

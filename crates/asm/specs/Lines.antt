@@ -5,7 +5,7 @@ use Rattle.std.specs.Char.{is_ascii_alphabetic, is_ascii_alphanumeric}
 
 -- ---- lines
 
--- The lines of a text are the parts between its line feeds. Behind a line feed at the end stands an empty one.
+-- The lines of a text are the parts between its line feeds. After a line feed at the end comes an empty one.
 abbrev pub lines_of : List ℕ → List (List ℕ)
 lines_of text = slice_split (λ c. c == 10) text
 

@@ -12,7 +12,7 @@ use Rattle.insn.specs.Spelling.{spelling, listing}
 use Rattle.insn.specs.declared.instruction.Insn.{Insn}
 use Rattle.asm.specs.Lines.{lines_of}
 use Rattle.asm.specs.Statements.{Name, Statement, Instruction}
-use Rattle.asm.specs.Programs.{Means, IsInRange, labels, AreDistinct, linked, slot_of_label, Names}
+use Rattle.asm.specs.Programs.{Means, IsInRange, labels, AreDistinct, instructions_of, slot_of_label, Names}
 use Rattle.asm.specs.GrammarLaws.{read_line_means}
 use Rattle.asm.specs.ListingLaws.Spellings.{spelling_means, spelling_has_no_feed}
 
@@ -48,7 +48,7 @@ no_label_twice (i ∷ code) = no_label_twice code
 
 -- each instruction stands as it is
 each_linked : (label_slots : Name → Option ℕ) (slot : ℕ) (code : List Insn)
-    → linked label_slots slot (statements_of code) ≡ Some code
+    → instructions_of label_slots slot (statements_of code) ≡ Some code
 each_linked label_slots slot [] = refl
 each_linked label_slots slot (i ∷ code) =
     ap (option_map (λ (more : List Insn). i ∷ more)) (each_linked label_slots (slot + slots_of i) code)

@@ -70,18 +70,18 @@ with_distance (LongJump d) distance = LongJump distance
 with_distance (JumpIf width c dst o d) distance = JumpIf width c dst o distance
 with_distance i distance = i
 
--- a distance counts from the slot behind the jump
+-- a distance counts from the slot after the jump
 abbrev pub linked_one : (Name → Option ℕ) → ℕ → Insn → Option Name → Option Insn
 linked_one label_slots slot i None = Some i
 linked_one label_slots slot i (Some name) = option_map (λ p. with_distance i (pos p -ℤ pos (slot + 1))) (label_slots name)
 
 -- the instructions, each jump to a label with its distance; none where a label is unknown
-abbrev pub linked : (Name → Option ℕ) → ℕ → List (Option Statement) → Option (List Insn)
-linked label_slots slot [] = Some []
-linked label_slots slot (None ∷ more) = linked label_slots slot more
-linked label_slots slot (Some (Labelled name) ∷ more) = linked label_slots slot more
-linked label_slots slot (Some (Instruction i target) ∷ more) = option_and_then
-    (λ j. option_map (λ code. j ∷ code) (linked label_slots (slot + slots_of i) more)) (linked_one label_slots slot i target)
+abbrev pub instructions_of : (Name → Option ℕ) → ℕ → List (Option Statement) → Option (List Insn)
+instructions_of label_slots slot [] = Some []
+instructions_of label_slots slot (None ∷ more) = instructions_of label_slots slot more
+instructions_of label_slots slot (Some (Labelled name) ∷ more) = instructions_of label_slots slot more
+instructions_of label_slots slot (Some (Instruction i target) ∷ more) = option_and_then
+    (λ j. option_map (λ code. j ∷ code) (instructions_of label_slots (slot + slots_of i) more)) (linked_one label_slots slot i target)
 
 -- ---- texts
 
@@ -89,7 +89,7 @@ linked label_slots slot (Some (Instruction i target) ∷ more) = option_and_then
 pub record Names (text : List ℕ) (code : List Insn) : Type 0 where
   pub said : List (Option Statement)
   pub read : AreRead (lines_of text) said
-  pub linked : linked (slot_of_label said) 0 said ≡ Some code
+  pub linked : instructions_of (slot_of_label said) 0 said ≡ Some code
 
 -- the bytes are the encoding of a program of at most 4,096 slots that the text names
 pub record IsAssembled (text bytes : List ℕ) : Type 0 where
@@ -131,7 +131,7 @@ pub record LacksLabel (said : List (Option Statement)) (n : ℕ) : Type 0 where
   pub after : List (Option Statement)
   pub split : said ≡ before ++ Some (Instruction insn (Some name)) ∷ after
   pub count : n ≡ length before + 1
-  pub known : is_some (linked (slot_of_label said) 0 before) ≡ true
+  pub known : is_some (instructions_of (slot_of_label said) 0 before) ≡ true
   pub unknown : slot_of_label said name ≡ None
 
 -- The faults of lines come first, in the order of the lines; then the number of slots; then the first unknown label.

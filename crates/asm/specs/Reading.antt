@@ -33,22 +33,22 @@ use Rattle.asm.specs.Statements.{Name, Statement, Labelled, Instruction}
 
 -- ---- tokens
 
-abbrev pub ended : Token → List Token → List Token
-ended [] ts = ts
-ended (c ∷ word) ts = (c ∷ word) ∷ ts
+abbrev pub with_word : Token → List Token → List Token
+with_word [] ts = ts
+with_word (c ∷ word) ts = (c ∷ word) ∷ ts
 
--- the tokens of the rest of a line, behind the beginning of a word; a character that is none of the grammar's is a token
+-- the tokens of the rest of a line, after the beginning of a word; a character that is none of the grammar's is a token
 abbrev pub tokens_behind : Token → List ℕ → List Token
-tokens_behind word [] = ended word []
+tokens_behind word [] = with_word word []
 tokens_behind word (c ∷ rest) = if is_in_words c then tokens_behind (word ++ c ∷ []) rest
-    else ended word (if c == 59 then [] else (if is_blank c then tokens_behind [] rest else (c ∷ []) ∷ tokens_behind [] rest))
+    else with_word word (if c == 59 then [] else (if is_blank c then tokens_behind [] rest else (c ∷ []) ∷ tokens_behind [] rest))
 
 abbrev pub tokens_of : List ℕ → List Token
 tokens_of line = tokens_behind [] line
 
 -- ---- readers
 
--- what was read, and the tokens behind it
+-- what was read, and the tokens after it
 pub record Read (X : Type 0) : Type 0 where
   pub value : X
   pub rest : List Token
@@ -97,14 +97,14 @@ abbrev pub is_name : Token → Bool
 is_name [] = false
 is_name (c ∷ rest) = begins_name c && (list_all is_in_names rest && nat_le (length (c ∷ rest)) MAX_NAME)
 
-abbrev pub named : Token → Option Name
-named t = if is_name t then Some t else None
+abbrev pub name_in : Token → Option Name
+name_in t = if is_name t then Some t else None
 
 abbrev pub is_hexadecimal : Token → Bool
 is_hexadecimal t = bytes_eq (take 2 t) (codes "0x")
 
-abbrev pub numbered : Token → Option ℕ
-numbered t = if is_hexadecimal t
+abbrev pub number_of_token : Token → Option ℕ
+number_of_token t = if is_hexadecimal t
     then (if is_numeral 16 (drop 2 t) then Some (digits_value 16 (drop 2 t)) else None)
     else (if is_numeral 10 t then Some (digits_value 10 t) else None)
 
@@ -112,10 +112,10 @@ abbrev pub register : List Token → Option (Read Reg)
 register ts = word register_named ts
 
 abbrev pub name : List Token → Option (Read Name)
-name ts = word named ts
+name ts = word name_in ts
 
 abbrev pub number : List Token → Option (Read ℕ)
-number ts = word numbered ts
+number ts = word number_of_token ts
 
 abbrev pub positive : Read ℕ → Read ℤ
 positive n = record { value = pos n.value; rest = n.rest }
@@ -129,7 +129,7 @@ signed_number [] = None
 signed_number (t ∷ ts) = if bytes_eq t (codes "+") then option_map positive (number ts)
     else (if bytes_eq t (codes "-") then option_map negative (number ts) else None)
 
--- a number, perhaps behind a minus
+-- a number, perhaps after a minus
 abbrev pub integer : List Token → Option (Read ℤ)
 integer [] = None
 integer (t ∷ ts) = if bytes_eq t (codes "-") then option_map negative (number ts) else option_map positive (number (t ∷ ts))
@@ -232,7 +232,7 @@ abbrev pub of_width : Width → Token → Option Mnemonic
 of_width width t = if bytes_eq t (codes "mov") then Some (Mov width) else (if bytes_eq t (codes "neg") then Some (Neg width)
     else or_else (option_map (Alu width) (operator_named t)) (option_map (JumpIf width) (condition_named t)))
 
--- `.32` behind an operator or a condition names the width
+-- `.32` after an operator or a condition names the width
 abbrev pub by_width : Token → Option Mnemonic
 by_width t = if bytes_eq (drop (length t - 3) t) (codes ".32") then of_width W32 (take (length t - 3) t) else of_width W64 t
 
@@ -353,7 +353,7 @@ instruction Exit ts = exit ts
 
 abbrev pub label : Token → List Token → Option Statement
 label t ts = do
-  n ← named t
+  n ← name_in t
   done ← end ts
   Some (Labelled n)
 

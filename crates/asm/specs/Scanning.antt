@@ -9,7 +9,7 @@ use Rattle.insn.specs.declared.decoding.TheConstants.{MAX_SLOTS}
 use Rattle.insn.specs.declared.instruction.Insn.{Insn}
 use Rattle.asm.specs.Lines.{lines_of}
 use Rattle.asm.specs.Statements.{Statement, Labelled, Instruction}
-use Rattle.asm.specs.Programs.{IsInRange, labels, IsNameAmong, AreDistinct, slots_in, slot_of_label, linked, LacksLabel}
+use Rattle.asm.specs.Programs.{IsInRange, labels, IsNameAmong, AreDistinct, slots_in, slot_of_label, instructions_of, LacksLabel}
 use Rattle.asm.specs.Reading.{read_line}
 use Rattle.asm.specs.Parsing.{IsUnfit, UnderstandsLine}
 use Rattle.asm.specs.Faults.{fault_at}
@@ -18,7 +18,7 @@ use Rattle.asm.specs.declared.refusal.AsmError.{AsmError}
 use Rattle.asm.specs.declared.refusal.AsmError.TheVariants as error
 use Rattle.asm.specs.declared.table.Table.{Table}
 
--- the lines behind a line feed, if there is one
+-- the lines after a line feed, if there is one
 abbrev pub lines_behind : Option (Bor (List ℕ)) → List (List ℕ)
 lines_behind None = []
 lines_behind (Some rest) = lines_of rest.now
@@ -51,14 +51,14 @@ pub record AreUnderstood (lines : List (List ℕ)) (said : List (Option Statemen
   pub distinct : AreDistinct (labels said)
 
 -- slots are counted up to one more than a program may have
-abbrev pub capped : ℕ → ℕ
-capped slots = min slots (MAX_SLOTS + 1)
+abbrev pub slots_up_to_limit : ℕ → ℕ
+slots_up_to_limit slots = min slots (MAX_SLOTS + 1)
 
 -- a table has the slots, and the slot of each label
 pub record Holds (table : Table) (said : List (Option Statement)) : Type 0 where
-  pub slots : table.slots ≡ capped (slots_in said)
+  pub slots : table.slots ≡ slots_up_to_limit (slots_in said)
   pub label_slots : (name : Bor (List ℕ))
-      → get (λ x y. pointwise nat_eq x.now y.now) table.label_slots name ≡ option_map capped (slot_of_label said name.now)
+      → get (λ x y. pointwise nat_eq x.now y.now) table.label_slots name ≡ option_map slots_up_to_limit (slot_of_label said name.now)
 
 -- a label is new
 abbrev pub IsNew : List (Option Statement) → Option Statement → Type 0
@@ -149,14 +149,14 @@ pub record IsLinked (lines : List (List ℕ)) (table : Table) (n slot : ℕ) (re
   pub fit : AllByRecursion IsInRange after
   pub count : n ≡ length before
   pub slots : slot ≡ slots_in before
-  pub linked : linked (slot_of_label said) 0 before ≡ Some code
+  pub linked : instructions_of (slot_of_label said) 0 before ≡ Some code
 
 -- the instructions of a text without a fault
 pub record IsCodeOf (text : List ℕ) (code : List Insn) : Type 0 where
   pub said : List (Option Statement)
   pub read : AreUnderstood (lines_of text) said
   pub few : slots_in said ≤ MAX_SLOTS
-  pub linked : linked (slot_of_label said) 0 said ≡ Some code
+  pub linked : instructions_of (slot_of_label said) 0 said ≡ Some code
 
 -- the bytes are the encoding of those instructions
 pub record IsBuilt (text bytes : List ℕ) : Type 0 where

@@ -56,13 +56,13 @@ AreWritten (a ∷ []) ts = IsWritten a ts
 AreWritten (a ∷ b ∷ more) ts = (front rest : List Token) × (ts ≡ front ++ codes "," ∷ rest) × IsWritten a front
     × AreWritten (b ∷ more) rest
 
-abbrev pub written : Option Name → Argument → Written
-written None a = Plain a
-written (Some name) (Register r) = Plain (Register r)
-written (Some name) (Integer n) = Plain (Integer n)
-written (Some name) (Natural n) = Plain (Natural n)
-written (Some name) (Address base displacement) = Plain (Address base displacement)
-written (Some name) (Distance n) = Label name
+abbrev pub spelling_of : Option Name → Argument → Written
+spelling_of None a = Plain a
+spelling_of (Some name) (Register r) = Plain (Register r)
+spelling_of (Some name) (Integer n) = Plain (Integer n)
+spelling_of (Some name) (Natural n) = Plain (Natural n)
+spelling_of (Some name) (Address base displacement) = Plain (Address base displacement)
+spelling_of (Some name) (Distance n) = Label name
 
 -- ---- statements
 
@@ -78,7 +78,7 @@ pub record IsInstruction (i : Insn) (target : Option Name) (ts : List Token) : T
   pub unlinked : IfSome target (λ _. IsUnlinked i)
   pub rest : List Token
   pub begun : ts ≡ mnemonic i ∷ rest
-  pub written : AreWritten (map (written target) (arguments i)) rest
+  pub written : AreWritten (map (spelling_of target) (arguments i)) rest
 
 -- an instruction, with the label to which it jumps, or the label of the instruction that follows
 pub data Statement : Type 0 where

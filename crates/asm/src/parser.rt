@@ -7,7 +7,7 @@ ghost use Rattle.std.specs.Str.Parse.{digits_value};
 ghost use Rattle.asm.specs.Radices.{radix_of, is_numeral};
 ghost use Rattle.asm.specs.Lines.{begins_name, is_in_names, is_in_words, is_blank};
 ghost use Rattle.asm.specs.Reading as reading;
-ghost use Rattle.asm.specs.Reading.{register_named, is_name, numbered};
+ghost use Rattle.asm.specs.Reading.{register_named, is_name, number_of_token};
 ghost use Rattle.asm.specs.Parsing.{ahead, number_value, integer_value, operand_value, address_value, goal_value, Reads, Passes, StartsUnblank};
 
 use crate::number::{Integer, Number};
@@ -119,7 +119,7 @@ fn number_of<'a>(radix: Radix, digits: &'a [u8]) -> Option<Number<'a>>
 
 /// Returns the number that a word writes: decimal digits, or `0x` and hexadecimal ones.
 fn numbered<'a>(word: &'a [u8]) -> Option<Number<'a>>
-    ensures { option_map number_value result ≡ numbered word.now }
+    ensures { option_map number_value result ≡ number_of_token word.now }
 {
     match word.strip_prefix(b"0x") {
         Some(digits) => number_of(Radix::Hexadecimal, digits),
@@ -237,7 +237,7 @@ impl<'a> Parser<'a> {
         numbered(word).ok_or(Fault::Syntax)
     }
 
-    /// Reads a number behind `+` or `-`.
+    /// Reads a number after `+` or `-`.
     fn signed_number(&mut self) -> Result<Integer<'a>, Fault>
         ensures { Reads reading.signed_number integer_value self.old result self.new }
     {

@@ -7,7 +7,7 @@ ghost use Rattle.asm.specs.Radices.{radix_of};
 #[derive(Clone, Copy)]
 pub(crate) enum Radix {
     Decimal,
-    /// Behind `0x`, with digits of either case.
+    /// After `0x`, with digits of either case.
     Hexadecimal,
 }
 

@@ -69,7 +69,7 @@ impl<'a> Goal<'a> {
 
 /// The arguments of instructions. Each method reads to the end of the line before it looks at the size of a number.
 impl<'a> Parser<'a> {
-    /// Reads a register and the comma behind it.
+    /// Reads a register and the comma after it.
     fn dst(&mut self) -> Result<Reg, Fault>
         ensures { Reads reading.dst_comma (λ r. r) self.old result self.new }
     {
@@ -304,7 +304,7 @@ impl<'a> Parser<'a> {
         }
     }
 
-    /// Reads an instruction behind its first word.
+    /// Reads an instruction after its first word.
     fn statement(self, word: &[u8]) -> Result<Line<'a>, Fault>
         ensures { Understands (reading.statement word.now (ahead self.entry)) result }
     {
@@ -312,7 +312,7 @@ impl<'a> Parser<'a> {
         self.instruction(mnemonic)
     }
 
-    /// Reads a label behind its name and the colon.
+    /// Reads a label after its name and the colon.
     fn label(mut self, name: &'a [u8]) -> Result<Line<'a>, Fault>
         ensures { Understands (reading.label name.now (ahead self.entry)) result }
     {

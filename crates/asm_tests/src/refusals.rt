@@ -287,7 +287,7 @@ fn wrong_texts_are_refused(rt: HostRuntime) -> Result<(), Fail> {
     Ok(())
 }
 
-/// Returns a text of so many lines, with another one behind them.
+/// Returns a text of so many lines, with another one after them.
 fn repeated<R: AllocGlobal>(rt: &R, line: &str, count: usize, last: &str) -> Result<String, Fail> {
     let mut text = String::new(rt.alloc());
     for _ in 0..count {

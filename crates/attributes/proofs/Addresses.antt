@@ -60,7 +60,7 @@ address_unique (V6 ip port) (V6 ip' port') tx value fit given e =
 address_unique (V4 ip port) (V6 ip' port') tx value fit given e = absurd (omega (arith, ap (λ (v : List ℕ). get_or v 1 0) (sym given.spelled ∙ e.spelled)))
 address_unique (V6 ip port) (V4 ip' port') tx value fit given e = absurd (omega (arith, ap (λ (v : List ℕ). get_or v 1 0) (sym given.spelled ∙ e.spelled)))
 
--- the bytes before an address, and the address behind them
+-- the bytes before an address, and the address after them
 pub value_written : (n number mask : ℕ) (front want rest old ip : List ℕ) → front ≡ want → rest ≡ big_bytes n (bit_xor number mask) ++ drop n old → length old ≡ n → number ≡ big_number n ip → front ++ rest ≡ want ++ masked n ip mask
 unfolding masked
 value_written n number mask front want rest old ip front_is rest_is long number_is =

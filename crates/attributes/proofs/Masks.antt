@@ -21,7 +21,7 @@ read_back n y lt = ap (big_from 0 n) (sym (append-nil (bytes_high_first n y))) �
 fit_behind : (n : ℕ) (xs : List ℕ) → ((i : ℕ) → Fits w8 (get_or xs i 0)) → (i : ℕ) → Fits w8 (get_or (drop n xs) i 0)
 fit_behind n xs fit i = subst (λ (b : ℕ). Fits w8 b) (sym (get_or-drop n xs i 0)) (fit (n + i))
 
--- of a value, the n bytes behind its first four
+-- of a value, the n bytes after its first four
 pub masked_back : (n : ℕ) (value : List ℕ) (mask number : ℕ) (ip : List ℕ) → n + 4 ≤ length value → ((i : ℕ) → Fits w8 (get_or value i 0)) → number ≡ big_number n (drop 4 value) → ip ≡ bytes_high_first n (bit_xor number mask)
     → bit_xor number mask < 256 ^ n → masked n ip mask ≡ take n (drop 4 value)
 unfolding masked
@@ -32,7 +32,7 @@ masked_back n value mask number ip long fit number_is ip_is small =
     ∙ ap (big_bytes n) number_is
     ∙ bytes_back n (drop 4 value) (omega (arith, long, length-drop 4 value)) (all_fit (drop 4 value) (fit_behind 4 value fit))
 
--- they are the bytes behind the first four, masked
+-- they are the bytes after the first four, masked
 pub masked_is : (n : ℕ) (value : List ℕ) (mask number : ℕ) (ip : List ℕ) → number ≡ big_number n (drop 4 value) → ip ≡ bytes_high_first n (bit_xor number mask) → ip ≡ masked n (drop 4 value) mask
 unfolding masked
 masked_is n value mask number ip number_is ip_is = ip_is ∙ ap (λ (y : ℕ). big_bytes n (bit_xor y mask)) number_is

@@ -10,11 +10,11 @@ abbrev pub hex_digits : ℕ → List ℕ
 hex_digits byte = digit_glyph false (byte / 16) ∷ digit_glyph false (byte % 16) ∷ []
 
 -- bytes as decimal numbers, with points between them
-abbrev pub dotted : List ℕ → List ℕ
-dotted [] = []
-dotted (byte ∷ []) = decimal byte
-dotted (byte ∷ bytes) = decimal byte ++ codes "." ++ dotted bytes
+abbrev pub dotted_decimal : List ℕ → List ℕ
+dotted_decimal [] = []
+dotted_decimal (byte ∷ []) = decimal byte
+dotted_decimal (byte ∷ bytes) = decimal byte ++ codes "." ++ dotted_decimal bytes
 
 abbrev pub address_text : Addr → List ℕ
-address_text (V4 ip port) = dotted ip ++ codes ":" ++ decimal port
+address_text (V4 ip port) = dotted_decimal ip ++ codes ":" ++ decimal port
 address_text (V6 ip port) = codes "[" ++ flat_map hex_digits ip ++ codes "]:" ++ decimal port

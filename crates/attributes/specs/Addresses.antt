@@ -43,8 +43,8 @@ abbrev pub port_of : Addr → ℕ
 port_of (V4 ip port) = port
 port_of (V6 ip port) = port
 
--- behind the first byte: the family, the port xored with half the cookie, and the address xored with the cookie, for
--- IPv6 with the transaction id behind it
+-- after the first byte: the family, the port xored with half the cookie, and the address xored with the cookie, for
+-- IPv6 with the cookie followed by the transaction id
 abbrev pub address_tail : Addr → List ℕ → List ℕ
 address_tail (V4 ip port) transaction_id = IPV4 ∷ big_bytes 2 (bit_xor port cookie_half) ++ masked 4 ip magic_cookie
 address_tail (V6 ip port) transaction_id = IPV6 ∷ big_bytes 2 (bit_xor port cookie_half) ++ masked 16 ip (ipv6_mask transaction_id)

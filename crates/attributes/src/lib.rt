@@ -4,6 +4,7 @@
 mod address;
 mod error;
 mod number;
+mod order;
 mod refusal;
 mod text;
 

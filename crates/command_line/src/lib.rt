@@ -15,6 +15,13 @@ use std::convert::AsStr;
 /// The version that `--version` prints.
 const VERSION: &str = "0.1.0";
 
+/// What `--help` says of the whole command.
+const ABOUT: &str =
+    "A TURN relay whose forwarding rules are loaded programs of the BPF instruction set
+
+The exit status is 0 for success, 1 for a refusal or a run that is stuck, 2 for a wrong command line,
+3 for a file, an output or a socket that can't be used, and 4 where memory runs out.";
+
 /// The options that set up a relay, as they are written; `None` is an option that is not given.
 #[derive(Clone, Copy, Debug)]
 pub struct Options<'a> {
@@ -333,13 +340,13 @@ fn serve<'a>(alloc: Global) -> Result<Command<'a>, AllocError>
     with_options(alloc, server(alloc)?)
 }
 
-/// Returns the command without its subcommands. With no word behind its name it answers with the help.
+/// Returns the command without its subcommands. With no word after its name it answers with the help.
 /// See docs/DECISIONS.md, "The help where no command is given".
 fn bare<'a>(alloc: Global) -> Command<'a>
     ensures { HasShape bare_command result }
 {
     Command::new(alloc, "relayd")
-        .about("A TURN relay whose forwarding rules are loaded programs of the BPF instruction set")
+        .about(ABOUT)
         .version(VERSION)
         .arg_required_else_help(true)
         .subcommand_required(true)

@@ -72,7 +72,7 @@ const GOOD: [Good; 24] = [
         words: &["relayd", "trace", "a.bpf", "--data="],
         subcommand: r#"Trace { file: "a.bpf", data: Some("") }"#,
     },
-    // a file may have the name of a subcommand, and that of an option behind `--`
+    // a file may have the name of a subcommand, and that of an option after `--`
     Good {
         words: &["relayd", "verify", "trace"],
         subcommand: r#"Verify { file: "trace" }"#,
@@ -189,7 +189,7 @@ struct Refused {
 }
 
 const REFUSED: [Refused; 49] = [
-    // no word behind the name: the help
+    // no word after the name: the help
     Refused {
         words: &[],
         status: 2,
@@ -379,7 +379,7 @@ const REFUSED: [Refused; 49] = [
         status: 2,
         parts: &["--data <HEX>", "--help"],
     },
-    // an extra word, also behind a whole line
+    // an extra word, also after a whole line
     Refused {
         words: &["relayd", "verify", "a.bpf", "b.bpf"],
         status: 2,

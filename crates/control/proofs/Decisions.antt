@@ -1,6 +1,7 @@
--- Decisions: what they grant, and the rows behind them.
+-- Decisions: what they grant, and the rows that follow.
 use Rattle.std.proofs.Common.{◌≡◌, ℕ, true, List, [], ◌∷◌, Some, None, Result, Ok, Err, is_ok, true≢false, sym, ap, ◌∙◌, refl, subst}
 use Rattle.std.specs.List.{list_all}
+use Rattle.fallible.specs.Fallible.{◌>>=◌, check}
 use Rattle.stun.specs.Attributes.{values_of}
 use Rattle.stun.specs.Messages.{Parts, message_of}
 use Rattle.stun.specs.declared.registry.attribute.TheConstants.{XOR_PEER_ADDRESS}
@@ -12,18 +13,18 @@ use Rattle.tables.specs.PermitLaws.{StandsFor, permit_alike}
 use Rattle.tables.specs.Rows.{Rows}
 use Rattle.tables.specs.declared.allocation.Allocation.{Allocation}
 use Rattle.tables.specs.declared.refusal.Refused.{Refused}
-use Rattle.control.specs.Control.{◌>>=◌, check, changed, error_of, Decision, own_allocation, peers_in, addresses_in, some_addresses, create_permission}
+use Rattle.control.specs.Control.{result_of_change, error_of, Decision, own_allocation, peers_in, addresses_in, some_addresses, create_permission}
 use Rattle.control.specs.Serving.{Gives, are_ipv4}
 use Rattle.control.specs.Peers.{peers_of}
 use Rattle.tables.specs.Addresses.{is_ipv4}
-use Rattle.control.specs.Control.{granted, rows_of}
+use Rattle.control.specs.Control.{grant_of, rows_of}
 use Rattle.control.specs.declared.reply.Grant.{Grant}
 use Rattle.control.specs.declared.reply.Grant.TheVariants.{Done}
 use Rattle.control.proofs.Peers.{all_read}
 
 -- a change that answers nothing more
 abbrev pub done : Change (Unit {0}) → Decision
-done x = changed x >>= λ made. Ok (Done, made.1)
+done x = result_of_change x >>= λ made. Ok (Done, made.1)
 
 abbrev pub permit_all : Allocation → Rows → List Addr → Decision
 permit_all a rows peers = check (list_all is_ipv4 peers) PeerAddressFamilyMismatch >>= λ _. done (permit a.slot peers rows)
@@ -52,7 +53,7 @@ pub rows_given : (x : Decision) (old new : Rows) (result : Result Grant ErrorCod
 rows_given (Ok given) old new result h = h.1
 rows_given (Err error) old new result h = h.1
 
-pub grant_given : (x : Decision) (old new : Rows) (result : Result Grant ErrorCode) → Gives x old result new → result ≡ granted x
+pub grant_given : (x : Decision) (old new : Rows) (result : Result Grant ErrorCode) → Gives x old result new → result ≡ grant_of x
 grant_given (Ok given) old new result h = h.0
 grant_given (Err error) old new result h = h.0
 

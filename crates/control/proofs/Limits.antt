@@ -4,11 +4,12 @@ use Rattle.control.specs.Configs.{fault}
 use Rattle.control.specs.ConfigLaws.{within_limits}
 use Rattle.control.specs.Serving.{IsInside}
 use Rattle.control.specs.Serving.{HasPort}
+use Rattle.control.specs.declared.config.TheConstants.{MAX_TEXT}
 use Rattle.control.specs.declared.config.Config.{Config}
 use Rattle.control.specs.declared.reply.Grant.{Grant}
 use Rattle.control.specs.declared.reply.Grant.TheVariants as grant
 
-pub realm_fits : (c : Config) → fault c ≡ None → length (string_bytes c.realm) ≤ 128
+pub realm_fits : (c : Config) → fault c ≡ None → length (string_bytes c.realm) ≤ MAX_TEXT
 realm_fits c e = (within_limits c e).realm.long.1
 
 pub ports_fit : (c : Config) → fault c ≡ None → c.first_port + c.slots ≤ 0x10000

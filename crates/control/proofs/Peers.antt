@@ -7,6 +7,7 @@ use Rattle.std.proofs.lemmas.Bool.Decides.{leb_tells}
 use Rattle.std.proofs.lemmas.Option.{none-some, same_Some}
 use Rattle.std.proofs.lemmas.Slice.Eq.{bytes_eq-Decides}
 use Rattle.std.proofs.lemmas.List.{length-append}
+use Rattle.fallible.specs.Fallible.{◌>>=◌}
 use Rattle.stun.specs.declared.registry.ErrorCode.{ErrorCode}
 use Rattle.stun.specs.declared.registry.ErrorCode.TheVariants.{BadRequest}
 use Rattle.attributes.specs.Addresses.{ip_of, address_in}
@@ -14,7 +15,7 @@ use Rattle.attributes.specs.declared.address.Addr.{Addr}
 use Rattle.tables.specs.Permissions.{PermissionMap, with_all}
 use Rattle.tables.specs.PermitLaws.{HasIp, AreDistinct, permitted_again, permitted_many, distinct_push, StandsFor}
 use Rattle.tables.specs.declared.permissions.TheConstants.{MAX_PERMISSIONS}
-use Rattle.control.specs.Control.{◌>>=◌, both, addresses_in, some_addresses}
+use Rattle.control.specs.Control.{both, addresses_in, some_addresses}
 use Rattle.control.specs.Peers.{peers_of, with_peer}
 use Rattle.control.specs.Serving.{are_ipv4}
 use Rattle.stun.specs.Attributes.{values_of}

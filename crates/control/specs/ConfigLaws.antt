@@ -9,6 +9,7 @@ use Rattle.stun.specs.Ranges.{is_between}
 use Rattle.credentials.specs.Checks.{Accounts, accounts_of}
 use Rattle.credentials.specs.declared.checking.User.{User}
 use Rattle.control.specs.Configs.{is_text, is_name, is_nonce, is_user, has_name, are_distinct, is_valid, fault}
+use Rattle.control.specs.declared.config.TheConstants.{MAX_TEXT}
 use Rattle.control.specs.declared.config.Config.{Config}
 use Rattle.control.specs.declared.config.Field.{Field}
 use Rattle.control.specs.declared.config.Field.TheVariants.{FirstPort, Slots, Realm, Nonce, Users}
@@ -26,7 +27,7 @@ pub record IsWithinLimits (c : Config) : Type 0 where
   pub first_port : 1 ≤ c.first_port
   pub slots : IsBetween 1 256 c.slots
   pub ports : c.first_port + c.slots ≤ 0x10000
-  pub realm : IsText 0x20 128 (string_bytes c.realm)
+  pub realm : IsText 0x20 MAX_TEXT (string_bytes c.realm)
   pub nonce : IsText 0x21 64 c.nonce.bytes
   pub users : IsBetween 1 64 (length c.users.items)
   pub each_user : list_all is_user c.users.items ≡ true
@@ -61,7 +62,7 @@ within_limits c e =
       first_port = leb-true _ _ first.0;
       slots = between 1 256 c.slots ports.0;
       ports = leb-true _ _ ports.1;
-      realm = is_text-text 0x20 128 (string_bytes c.realm) third.0;
+      realm = is_text-text 0x20 MAX_TEXT (string_bytes c.realm) third.0;
       nonce = is_text-text 0x21 64 c.nonce.bytes fourth.0;
       users = between 1 64 (length c.users.items) few.0;
       each_user = few.1;
@@ -80,7 +81,7 @@ pub record IsSameConfig (c d : Config) : Type 0 where
   pub users : accounts_of d.users.items ≡ accounts_of c.users.items
 
 abbrev is_account : List ℕ × List ℕ → Bool
-is_account a = is_name a.0 && is_text 0x20 128 a.1
+is_account a = is_name a.0 && is_text 0x20 MAX_TEXT a.1
 
 abbrev have_name : Accounts → List ℕ → Bool
 have_name accounts name = list_any (λ a. bytes_eq name a.0) accounts
@@ -115,4 +116,4 @@ same_config-fault c d same =
     let each = users_by_account d.users.items ∙ ap (list_all is_account) same.users ∙ sym (users_by_account c.users.items) in
     let distinct = distinct_by_account d.users.items ∙ ap differ same.users ∙ sym (distinct_by_account c.users.items) in
     λ i. fault_of (nat_le 1 (same.first_port i)) (is_between 1 256 (same.slots i) && nat_le (same.first_port i + same.slots i) 0x10000)
-    (is_text 0x20 128 (same.realm i)) (is_nonce (same.nonce i)) (is_between 1 64 (few i) && each i && distinct i)
+    (is_text 0x20 MAX_TEXT (same.realm i)) (is_nonce (same.nonce i)) (is_between 1 64 (few i) && each i && distinct i)

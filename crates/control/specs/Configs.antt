@@ -3,6 +3,7 @@ use Rattle.std.specs.Prelude.{ℕ, ◌+◌, Bool, true, not, ◌&&◌, List, [],
 use Rattle.std.specs.List.{list_all, list_any}
 use Rattle.stun.specs.Ranges.{is_between}
 use Rattle.credentials.specs.declared.checking.User.{User}
+use Rattle.control.specs.declared.config.TheConstants.{MAX_TEXT}
 use Rattle.control.specs.declared.config.Config.{Config}
 use Rattle.control.specs.declared.config.Field.{Field}
 use Rattle.control.specs.declared.config.Field.TheVariants.{FirstPort, Slots, Realm, Nonce, Users}
@@ -13,10 +14,10 @@ is_text lowest longest text = is_between 1 longest (length text) && list_all (is
 
 -- a name has no blank, and no colon, which ends it where user and password are written as one
 abbrev pub is_name : List ℕ → Bool
-is_name name = is_text 0x21 128 name && not (list_any (λ b. b == 0x3a) name)
+is_name name = is_text 0x21 MAX_TEXT name && not (list_any (λ b. b == 0x3a) name)
 
 abbrev pub is_user : User → Bool
-is_user user = is_name (string_bytes user.name) && is_text 0x20 128 (string_bytes user.password)
+is_user user = is_name (string_bytes user.name) && is_text 0x20 MAX_TEXT (string_bytes user.password)
 
 -- whether one of these users has a name
 abbrev pub has_name : List User → List ℕ → Bool
@@ -35,7 +36,7 @@ is_nonce nonce = is_text 0x21 64 nonce
 abbrev pub is_valid : Config → Field → Bool
 is_valid c FirstPort = nat_le 1 c.first_port
 is_valid c Slots = is_between 1 256 c.slots && nat_le (c.first_port + c.slots) 0x10000
-is_valid c Realm = is_text 0x20 128 (string_bytes c.realm)
+is_valid c Realm = is_text 0x20 MAX_TEXT (string_bytes c.realm)
 is_valid c Nonce = is_nonce c.nonce.bytes
 is_valid c Users = is_between 1 64 (length c.users.items) && list_all is_user c.users.items && are_distinct c.users.items
 

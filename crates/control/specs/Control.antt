@@ -3,6 +3,7 @@
 -- sections 7, 8, 10 and 12; their order is this relay's own.
 use Rattle.std.specs.Prelude.{ℕ, Bool, true, false, ◌&&◌, List, [], ◌∷◌, max, min, nat_eq, bytes_eq, Option, None, Some, Result, Ok, Err, ok_or, if◌then◌else◌}
 use Rattle.std.specs.List.{list_all}
+use Rattle.fallible.specs.Fallible.{◌>>=◌, check}
 use Rattle.stun.specs.Attributes.{values_of}
 use Rattle.stun.specs.Messages.{Parts, message_of}
 use Rattle.stun.specs.Ranges.{is_between}
@@ -28,7 +29,7 @@ use Rattle.tables.specs.declared.channels.TheConstants.{FIRST_CHANNEL, LAST_CHAN
 use Rattle.tables.specs.declared.refusal.Refused.{Refused}
 use Rattle.tables.specs.declared.refusal.Refused.TheVariants.{Mismatch, Capacity, Conflict, NoAllocation}
 use Rattle.control.specs.Unknown.{unknown_types}
-use Rattle.control.specs.Values.{optional, required}
+use Rattle.control.specs.Values.{optional, required_value}
 use Rattle.control.specs.declared.allocate.TheConstants.{UDP}
 use Rattle.control.specs.declared.lifetime.TheConstants.{MIN_LIFETIME, MAX_LIFETIME}
 use Rattle.control.specs.declared.reply.Grant.{Grant}
@@ -41,9 +42,9 @@ abbrev pub Decision : Type 0
 Decision = Result (Grant × Option Rows) ErrorCode
 
 -- what is granted, without the rows
-abbrev pub granted : Decision → Result Grant ErrorCode
-granted (Ok given) = Ok given.0
-granted (Err error) = Err error
+abbrev pub grant_of : Decision → Result Grant ErrorCode
+grant_of (Ok given) = Ok given.0
+grant_of (Err error) = Err error
 
 abbrev pub rows_after : Rows → Option Rows → Rows
 rows_after old None = old
@@ -54,15 +55,6 @@ abbrev pub rows_of : Rows → Decision → Rows
 rows_of old (Ok given) = rows_after old given.1
 rows_of old (Err error) = old
 
-infixl 10 ◌>>=◌
-abbrev pub ◌>>=◌ : {A B : Type 0} → Result A ErrorCode → (A → Result B ErrorCode) → Result B ErrorCode
-(Ok x) >>= f = f x
-(Err error) >>= f = Err error
-
--- goes on where the test passes
-abbrev pub check : Bool → ErrorCode → Result (Unit {0}) ErrorCode
-check passed error = if passed then Ok tt else Err error
-
 -- the error of a refused change
 abbrev pub error_of : Refused → ErrorCode
 error_of Mismatch = AllocationMismatch
@@ -70,9 +62,9 @@ error_of Capacity = InsufficientCapacity
 error_of Conflict = BadRequest
 error_of NoAllocation = AllocationMismatch
 
-abbrev pub changed : {A : Type 0} → Change A → Result (A × Option Rows) ErrorCode
-changed (Ok made) = Ok (made.0, Some made.1)
-changed (Err refused) = Err (error_of refused)
+abbrev pub result_of_change : {A : Type 0} → Change A → Result (A × Option Rows) ErrorCode
+result_of_change (Ok made) = Ok (made.0, Some made.1)
+result_of_change (Err refused) = Err (error_of refused)
 
 -- ---- values
 
@@ -96,7 +88,7 @@ is_repeated a user p = bytes_eq a.tx p.transaction_id && nat_eq a.user user
 -- the lifetime to give, where all values can be granted
 abbrev pub acceptable_lifetime : Parts → Result ℕ ErrorCode
 acceptable_lifetime p = do
-  transport ← required (number_of_value 1) (first_value p REQUESTED_TRANSPORT)
+  transport ← required_value (number_of_value 1) (first_value p REQUESTED_TRANSPORT)
   _ ← check (nat_eq transport UDP) UnsupportedTransport
   family ← requested_family p
   _ ← check (is_none_or (nat_eq IPV4) family) AddressFamilyNotSupported
@@ -106,7 +98,7 @@ acceptable_lifetime p = do
 abbrev pub allocate_anew : Addr → ℕ → Parts → Rows → Decision
 allocate_anew client user p rows = do
   lifetime ← acceptable_lifetime p
-  made ← changed (tables.allocate client user p.transaction_id lifetime rows)
+  made ← result_of_change (tables.allocate client user p.transaction_id lifetime rows)
   Ok (Allocated made.0 lifetime, made.1)
 
 -- where the client has no allocation, and where it has one, which a repeated request leaves as it is
@@ -139,7 +131,7 @@ refresh client user p rows = do
   family ← requested_family p
   _ ← check (is_none_or (nat_eq IPV4) family) PeerAddressFamilyMismatch
   requested ← requested_lifetime p
-  made ← changed (tables.refresh a.slot (refresh_for requested) rows)
+  made ← result_of_change (tables.refresh a.slot (refresh_for requested) rows)
   Ok (Refreshed (refresh_for requested), made.1)
 
 -- ---- CreatePermission (section 10)
@@ -169,7 +161,7 @@ create_permission client user p rows = do
   a ← own_allocation client user rows
   peers ← peers_in p
   _ ← check (list_all is_ipv4 peers) PeerAddressFamilyMismatch
-  made ← changed (tables.permit a.slot peers rows)
+  made ← result_of_change (tables.permit a.slot peers rows)
   Ok (Done, made.1)
 
 -- ---- ChannelBind (section 12)
@@ -177,11 +169,11 @@ create_permission client user p rows = do
 abbrev pub channel_bind : Addr → ℕ → Parts → Rows → Decision
 channel_bind client user p rows = do
   a ← own_allocation client user rows
-  number ← required (number_of_value 2) (first_value p CHANNEL_NUMBER)
-  peer ← required (address_in p.transaction_id) (first_value p XOR_PEER_ADDRESS)
+  number ← required_value (number_of_value 2) (first_value p CHANNEL_NUMBER)
+  peer ← required_value (address_in p.transaction_id) (first_value p XOR_PEER_ADDRESS)
   _ ← check (is_between FIRST_CHANNEL LAST_CHANNEL number) BadRequest
   _ ← check (is_ipv4 peer) PeerAddressFamilyMismatch
-  made ← changed (tables.bind a.slot number peer rows)
+  made ← result_of_change (tables.bind a.slot number peer rows)
   Ok (Done, made.1)
 
 -- ---- all requests
@@ -194,9 +186,9 @@ refused_credentials auth.StaleNonce = StaleNonce
 refused_credentials UnknownUser = Unauthenticated
 refused_credentials WrongCode = Unauthenticated
 
-abbrev pub authenticated : Result ℕ AuthError → Result ℕ ErrorCode
-authenticated (Ok user) = Ok user
-authenticated (Err e) = Err (refused_credentials e)
+abbrev pub user_or_error : Result ℕ AuthError → Result ℕ ErrorCode
+user_or_error (Ok user) = Ok user
+user_or_error (Err e) = Err (refused_credentials e)
 
 abbrev pub is_empty : List ℕ → Bool
 is_empty [] = true
@@ -210,22 +202,22 @@ abbrev pub understood : Parts → Result (Unit {0}) ErrorCode
 understood p = check (all_understood p) UnknownAttribute
 
 -- a request of TURN of a user whose credentials were accepted
-abbrev pub served : TurnRequest → Addr → ℕ → Parts → Rows → Decision
-served turn.Allocate client user p rows = allocate client user p rows
-served turn.Refresh client user p rows = refresh client user p rows
-served turn.CreatePermission client user p rows = create_permission client user p rows
-served turn.ChannelBind client user p rows = channel_bind client user p rows
+abbrev pub decision_for_user : TurnRequest → Addr → ℕ → Parts → Rows → Decision
+decision_for_user turn.Allocate client user p rows = allocate client user p rows
+decision_for_user turn.Refresh client user p rows = refresh client user p rows
+decision_for_user turn.CreatePermission client user p rows = create_permission client user p rows
+decision_for_user turn.ChannelBind client user p rows = channel_bind client user p rows
 
 -- where all attributes are understood
 abbrev pub understood_and_served : TurnRequest → Addr → ℕ → Parts → Rows → Decision
 understood_and_served r client user p rows = do
   _ ← understood p
-  served r client user p rows
+  decision_for_user r client user p rows
 
 -- with the result of the check of the credentials
 abbrev pub decision : TurnRequest → Result ℕ AuthError → Addr → Parts → Rows → Decision
 decision r checked client p rows = do
-  user ← authenticated checked
+  user ← user_or_error checked
   understood_and_served r client user p rows
 
 -- Binding (RFC 8489, section 12), which needs no credentials

@@ -4,6 +4,7 @@ pub mod ConfigLaws
 pub mod Values
 pub mod Unknown
 pub mod Replies
+pub mod Lengths
 pub mod Control
 pub mod Serving
 pub mod Peers

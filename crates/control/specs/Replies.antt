@@ -1,7 +1,7 @@
 -- Meaning. Replies: their attributes in order, and their bytes.
 use Rattle.std.specs.Prelude.{ℕ, ◌+◌, List, [], ◌∷◌, Option, None, Some, Result, Ok, Err, string_bytes}
 use Rattle.stun.specs.Endian.{big_bytes}
-use Rattle.stun.specs.Messages.{Attribute, Parts, started, with_attribute}
+use Rattle.stun.specs.Messages.{Attribute, Parts, empty_message, with_attribute}
 use Rattle.stun.specs.Types.{type_number}
 use Rattle.stun.specs.declared.registry.Class.{Class}
 use Rattle.stun.specs.declared.registry.ErrorCode.{ErrorCode}
@@ -15,7 +15,7 @@ use Rattle.attributes.specs.Addresses.{address_value}
 use Rattle.attributes.specs.Errors.{error_value, unknown_value}
 use Rattle.attributes.specs.declared.address.Addr.{Addr}
 use Rattle.attributes.specs.declared.address.Addr.TheVariants.{V4}
-use Rattle.credentials.specs.Signs.{signed}
+use Rattle.credentials.specs.Signs.{with_integrity}
 use Rattle.control.specs.Unknown.{unknown_types}
 use Rattle.control.specs.declared.config.Config.{Config}
 use Rattle.control.specs.declared.reply.Grant.{Grant}
@@ -71,7 +71,7 @@ with_attributes p (a ∷ rest) = with_attributes (with_attribute p a.kind a.valu
 -- it is signed where there is a key
 abbrev pub signed_if : Option (List ℕ) → Parts → Parts
 signed_if None p = p
-signed_if (Some key) p = signed key p
+signed_if (Some key) p = with_integrity key p
 
 abbrev pub method_of : Request → Method
 method_of request.Binding = method.Binding
@@ -89,7 +89,7 @@ kind_of r class = type_number (type_of r class)
 
 -- the reply to a request
 abbrev pub reply : Request → Class → List ℕ → List Attribute → Option (List ℕ) → Parts
-reply r class tx attributes key = signed_if key (with_attributes (started (kind_of r class) tx) attributes)
+reply r class tx attributes key = signed_if key (with_attributes (empty_message (kind_of r class) tx) attributes)
 
 -- the reply that gives a grant or an error
 abbrev pub reply_to : Config → Request → Addr → Parts → Option (List ℕ) → Result Grant ErrorCode → Parts

@@ -7,7 +7,7 @@ use Rattle.credentials.specs.Checks.{IsChecked, accounts_of, user_key}
 use Rattle.credentials.specs.declared.checking.AuthError.{AuthError}
 use Rattle.tables.specs.Addresses.{is_ipv4}
 use Rattle.tables.specs.Rows.{Rows, rows_at}
-use Rattle.control.specs.Control.{Decision, granted, rows_of, decision, binding}
+use Rattle.control.specs.Control.{Decision, grant_of, rows_of, decision, binding}
 use Rattle.control.specs.Replies.{kind_of, reply_to}
 use Rattle.control.specs.declared.config.Config.{Config}
 use Rattle.control.specs.declared.request.Request.{Request}
@@ -21,7 +21,7 @@ key_for config (Err e) = None
 
 pub record IsAnswer (config : Config) (r : Request) (client : Addr) (p : Parts) (key : Option (List ℕ)) (result : Decision) (old new : Rows) (written : List ℕ) : Type 0 where
   pub rows : new ≡ rows_of old result
-  pub bytes : written ≡ parts_bytes (reply_to config r client p key (granted result))
+  pub bytes : written ≡ parts_bytes (reply_to config r client p key (grant_of result))
 
 -- the answer to a request whose credentials are checked
 pub record IsCheckedAnswer (config : Config) (now : ℕ) (r : TurnRequest) (client : Addr) (p : Parts) (old new : Rows) (written : List ℕ) : Type 0 where

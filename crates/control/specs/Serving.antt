@@ -1,13 +1,14 @@
 -- Internal. What the functions give that `respond` calls.
 use Rattle.std.specs.Prelude.{◌≡◌, ℕ, ◌+◌, ◌<◌, ◌≤◌, Bool, List, drop, Result, Ok, Err}
 use Rattle.std.specs.List.{list_all}
+use Rattle.fallible.specs.Fallible.{◌>>=◌}
 use Rattle.stun.specs.Builders.{bytes_of, parts_of, used_of, capacity_of, SameBuffer}
 use Rattle.stun.specs.Messages.{Attribute, Parts}
 use Rattle.stun.specs.declared.building.Builder.{Builder}
 use Rattle.stun.specs.declared.registry.ErrorCode.{ErrorCode}
 use Rattle.tables.specs.Addresses.{is_ipv4}
 use Rattle.tables.specs.Rows.{Rows}
-use Rattle.control.specs.Control.{◌>>=◌, Decision, rows_after, peers_in}
+use Rattle.control.specs.Control.{Decision, rows_after, peers_in}
 use Rattle.control.specs.Replies.{with_attributes}
 use Rattle.control.specs.declared.config.Config.{Config}
 use Rattle.control.specs.declared.reply.Grant.{Grant}

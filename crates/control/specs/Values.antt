@@ -9,6 +9,6 @@ optional parse None = Ok None
 optional parse (Some value) = ok_or (option_map Some (parse value)) BadRequest
 
 -- the value of an attribute that must be there
-abbrev pub required : {A : Type 0} → (List ℕ → Option A) → Option (List ℕ) → Result A ErrorCode
-required parse None = Err BadRequest
-required parse (Some value) = ok_or (parse value) BadRequest
+abbrev pub required_value : {A : Type 0} → (List ℕ → Option A) → Option (List ℕ) → Result A ErrorCode
+required_value parse None = Err BadRequest
+required_value parse (Some value) = ok_or (parse value) BadRequest

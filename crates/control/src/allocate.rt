@@ -55,7 +55,8 @@ fn allocate_anew(
     now: u64,
 ) -> Result<Grant, ErrorCode>
     requires ipv4 { IsTrue (is_ipv4 client) }
-    ensures gives { Gives (allocate_anew client user message.now (rows_at now tables.old)) tables.old result tables.new }
+    ensures gives { Gives (allocate_anew client user message.now (rows_at now tables.old))
+        tables.old result tables.new }
     ensures inside { IfOk result (IsInside (length tables.old.slots)) }
     ensures moment { (tables.old.moment ≤ tables.new.moment)
         × (tables.new.moment ≤ moment_of tables.old.moment now) }

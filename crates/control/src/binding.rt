@@ -1,7 +1,7 @@
 //! Binding (RFC 8489, section 12).
 
 ghost use Rattle.std.specs.Prelude.{◌≡◌};
-ghost use Rattle.control.specs.Control.{binding, granted};
+ghost use Rattle.control.specs.Control.{binding, grant_of};
 
 use crate::reply::Grant;
 use crate::unknown::check_understood;
@@ -13,7 +13,7 @@ use stun::registry::ErrorCode;
 /// # Errors
 /// 420 where an attribute isn't understood.
 pub(crate) fn binding(message: &Message<'_>) -> Result<Grant, ErrorCode>
-    ensures { result ≡ granted (binding message.now) }
+    ensures { result ≡ grant_of (binding message.now) }
 {
     check_understood(message)?;
     Ok(Grant::Mapped)

@@ -9,6 +9,9 @@ use arrayvec::ArrayString;
 use credentials::User;
 use std::fmt;
 
+/// The greatest length of a realm, of a user's name and of a password, in bytes.
+pub const MAX_TEXT: usize = 128;
+
 /// The configuration of a relay.
 #[derive(Drop)]
 pub struct Config {
@@ -83,9 +86,9 @@ pub fn is_nonce(text: &str) -> bool
 fn is_user(user: &User) -> bool
     ensures { result ≡ is_user user.now }
 {
-    is_text(user.name.as_bytes(), 0x21, 128)
+    is_text(user.name.as_bytes(), 0x21, MAX_TEXT)
         && !user.name.as_bytes().contains(&b':')
-        && is_text(user.password.as_bytes(), 0x20, 128)
+        && is_text(user.password.as_bytes(), 0x20, MAX_TEXT)
 }
 
 /// Returns whether all users lie within their limits.
@@ -131,7 +134,7 @@ impl Config {
                 (1..=256).contains(&self.slots)
                     && usize::from(self.first_port) + self.slots <= 65_536
             }
-            Field::Realm => is_text(self.realm.as_bytes(), 0x20, 128),
+            Field::Realm => is_text(self.realm.as_bytes(), 0x20, MAX_TEXT),
             Field::Nonce => is_nonce(self.nonce.as_str()),
             Field::Users => {
                 (1..=64).contains(&self.users.len())

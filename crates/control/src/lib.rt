@@ -17,8 +17,9 @@ mod responding;
 mod unknown;
 mod values;
 
-pub use config::{Config, Field, is_nonce};
+pub use config::{Config, Field, MAX_TEXT, is_nonce};
 pub use lifetime::{MAX_LIFETIME, MIN_LIFETIME};
 pub use numbers::all_numbers;
+pub use reply::REPLY_BYTES;
 pub use responding::respond;
 pub use unknown::all_understood;

@@ -1,14 +1,15 @@
 //! Replies (RFC 8489, sections 6.3 and 9.2.4; RFC 8656, sections 7 to 12). There is always room for one, so none can fail.
 
-ghost use Rattle.std.specs.Prelude.{◌≡◌, ◌≤◌, ◌+◌, ◌<◌, [], ◌∷◌, take, drop, length, IfOk, option_map, string_bytes};
+ghost use Rattle.std.specs.Prelude.{◌≡◌, ◌≤◌, ◌+◌, ◌<◌, [], ◌∷◌, take, drop, length, Ok, Err, IfOk, option_map, string_bytes};
 ghost use Rattle.stun.specs.Builders.{bytes_of, parts_of, used_of, capacity_of, SameBuffer};
 ghost use Rattle.stun.specs.Messages.{parts_bytes};
-ghost use Rattle.stun.specs.declared.registry.Class.TheVariants as class;
 ghost use Rattle.credentials.specs.Keys.{key_bytes};
 ghost use Rattle.stun.specs.Endian.{big_bytes};
 ghost use Rattle.stun.specs.declared.registry.attribute.TheConstants.{LIFETIME as LIFETIME_TYPE};
 ghost use Rattle.control.specs.Serving.{HasPort, IsKeptFrom, Pushes};
-ghost use Rattle.control.specs.Replies.{attribute, signed_if, relayed_address, grant_attributes, challenge, error_details, error_attributes, reply, reply_to};
+ghost use Rattle.control.specs.Lengths.{longest_grant, grant_room, longest_details, details_room};
+ghost use Rattle.control.specs.Replies.{attribute, signed_if, relayed_address, grant_attributes, challenge, error_details, reply_to};
+ghost use Rattle.control.specs.declared.config.TheConstants.{MAX_TEXT};
 
 use crate::config::Config;
 use crate::request::Request;
@@ -18,6 +19,9 @@ use credentials::{Key, push_integrity};
 use stun::registry::attribute::{LIFETIME, NONCE, REALM, XOR_MAPPED_ADDRESS, XOR_RELAYED_ADDRESS};
 use stun::registry::{Class, ErrorCode};
 use stun::{Builder, Message, begin};
+
+/// The length of a buffer that every reply fits in, in bytes.
+pub const REPLY_BYTES: usize = 1_500;
 
 /// What a success response grants.
 #[derive(Clone, Copy, Debug, PartialEq, Eq)]
@@ -30,6 +34,21 @@ pub enum Grant {
     Refreshed { lifetime: u32 },
     /// No attributes of its own: CreatePermission and ChannelBind.
     Done,
+}
+
+/// What a reply is made from, its grant or error aside.
+#[derive(Clone, Copy)]
+pub(crate) struct Reply<'a> {
+    /// The configuration, which has the relayed address, the realm and the nonce.
+    pub(crate) config: &'a Config,
+    /// The request that is answered.
+    pub(crate) request: Request,
+    /// The client that sent the request.
+    pub(crate) client: Addr,
+    /// The message that is the request.
+    pub(crate) message: &'a Message<'a>,
+    /// The key that the reply is signed under; `None` where it is not signed.
+    pub(crate) key: Option<Key>,
 }
 
 /// Returns the relayed address of a slot.
@@ -54,9 +73,9 @@ fn push_lifetime(builder: &mut Builder<'_>, seconds: u32)
 
 /// Appends the attributes of a success response.
 fn push_grant(builder: &mut Builder<'_>, config: &Config, client: &Addr, grant: Grant)
-    requires room { used_of builder.old + 100 ≤ capacity_of builder.old }
+    requires room { used_of builder.old + grant_room ≤ capacity_of builder.old }
     requires port { HasPort config.now grant }
-    ensures { Pushes (grant_attributes config.now client.now (parts_of builder.old).transaction_id grant) 56
+    ensures { Pushes (grant_attributes config.now client.now (parts_of builder.old).transaction_id grant) longest_grant
         builder.old builder.new }
 {
     match grant {
@@ -73,9 +92,9 @@ fn push_grant(builder: &mut Builder<'_>, config: &Config, client: &Addr, grant: 
 
 /// Appends the realm and the nonce, which challenge the client to authenticate (RFC 8489, section 9.2.4).
 fn push_challenge(builder: &mut Builder<'_>, config: &Config)
-    requires room { used_of builder.old + 300 ≤ capacity_of builder.old }
-    requires realm { length (string_bytes config.now.realm) ≤ 128 }
-    ensures { Pushes (challenge config.now) 210 builder.old builder.new }
+    requires room { used_of builder.old + details_room ≤ capacity_of builder.old }
+    requires realm { length (string_bytes config.now.realm) ≤ MAX_TEXT }
+    ensures { Pushes (challenge config.now) longest_details builder.old builder.new }
 {
     builder.push(REALM, &config.realm.as_bytes());
     builder.push(NONCE, &config.nonce.as_bytes());
@@ -83,9 +102,9 @@ fn push_challenge(builder: &mut Builder<'_>, config: &Config)
 
 /// Appends what follows ERROR-CODE in an error response.
 fn push_details(builder: &mut Builder<'_>, config: &Config, message: &Message<'_>, error: ErrorCode)
-    requires room { used_of builder.old + 300 ≤ capacity_of builder.old }
-    requires realm { length (string_bytes config.now.realm) ≤ 128 }
-    ensures { Pushes (error_details config.now message.now error) 210 builder.old builder.new }
+    requires room { used_of builder.old + details_room ≤ capacity_of builder.old }
+    requires realm { length (string_bytes config.now.realm) ≤ MAX_TEXT }
+    ensures { Pushes (error_details config.now message.now error) longest_details builder.old builder.new }
 {
     match error {
         ErrorCode::Unauthenticated | ErrorCode::StaleNonce => push_challenge(builder, config),
@@ -109,77 +128,60 @@ fn sign_if(builder: &mut Builder<'_>, key: Option<Key>)
 }
 
 /// Writes the success response to a request over the first bytes of a buffer, and returns its length.
-pub(crate) fn write_grant(
-    out: &mut [u8],
-    config: &Config,
-    request: Request,
-    tx: &[u8; 12],
-    client: &Addr,
-    grant: Grant,
-    key: Option<Key>,
-) -> usize
-    requires room { 1500 ≤ length out.old }
-    requires port { HasPort config.now grant }
+fn write_grant(out: &mut [u8], reply: &Reply<'_>, grant: Grant) -> usize
+    requires room { REPLY_BYTES ≤ length out.old }
+    requires port { HasPort reply.now.config.now grant }
     ensures inside { result ≤ length out.new }
     ensures rest { drop result out.new ≡ drop result out.old }
-    ensures bytes { take result out.new ≡ parts_bytes (reply request class.Success tx.now
-        (grant_attributes config.now client.now tx.now grant) (option_map key_bytes key)) }
+    ensures bytes { take result out.new ≡ parts_bytes (reply_to reply.now.config.now reply.now.request reply.now.client
+        reply.now.message.now (option_map key_bytes reply.now.key) (Ok grant)) }
 {
-    if begin(out, request.kind(Class::Success), tx).is_err() {
+    let kind = reply.request.kind(Class::Success);
+    if begin(out, kind, &reply.message.tx()).is_err() {
         return 0;
     }
     let mut builder = Builder::resume(out);
-    push_grant(&mut builder, config, client, grant);
-    sign_if(&mut builder, key);
+    push_grant(&mut builder, reply.config, &reply.client, grant);
+    sign_if(&mut builder, reply.key);
     builder.finish()
 }
 
 /// Writes the error response to a request over the first bytes of a buffer, and returns its length.
-pub(crate) fn write_error(
-    out: &mut [u8],
-    config: &Config,
-    request: Request,
-    message: &Message<'_>,
-    error: ErrorCode,
-    key: Option<Key>,
-) -> usize
-    requires room { 1500 ≤ length out.old }
-    requires realm { length (string_bytes config.now.realm) ≤ 128 }
+fn write_error(out: &mut [u8], reply: &Reply<'_>, error: ErrorCode) -> usize
+    requires room { REPLY_BYTES ≤ length out.old }
+    requires realm { length (string_bytes reply.now.config.now.realm) ≤ MAX_TEXT }
     ensures inside { result ≤ length out.new }
     ensures rest { drop result out.new ≡ drop result out.old }
-    ensures bytes { take result out.new ≡ parts_bytes (reply request class.Error message.now.transaction_id
-        (error_attributes config.now message.now error) (option_map key_bytes key)) }
+    ensures bytes { take result out.new ≡ parts_bytes (reply_to reply.now.config.now reply.now.request reply.now.client
+        reply.now.message.now (option_map key_bytes reply.now.key) (Err error)) }
 {
-    if begin(out, request.kind(Class::Error), &message.tx()).is_err() {
+    let kind = reply.request.kind(Class::Error);
+    if begin(out, kind, &reply.message.tx()).is_err() {
         return 0;
     }
     let mut builder = Builder::resume(out);
     push_error(&mut builder, error);
-    push_details(&mut builder, config, message, error);
-    sign_if(&mut builder, key);
+    push_details(&mut builder, reply.config, reply.message, error);
+    sign_if(&mut builder, reply.key);
     builder.finish()
 }
 
 /// Writes the reply to a request over the first bytes of a buffer, and returns its length.
 pub(crate) fn write_reply(
     out: &mut [u8],
-    config: &Config,
-    request: Request,
-    client: &Addr,
-    message: &Message<'_>,
+    reply: &Reply<'_>,
     decision: Result<Grant, ErrorCode>,
-    key: Option<Key>,
 ) -> usize
-    requires room { 1500 ≤ length out.old }
-    requires realm { length (string_bytes config.now.realm) ≤ 128 }
-    requires port { IfOk decision (HasPort config.now) }
+    requires room { REPLY_BYTES ≤ length out.old }
+    requires realm { length (string_bytes reply.now.config.now.realm) ≤ MAX_TEXT }
+    requires port { IfOk decision (HasPort reply.now.config.now) }
     ensures inside { result ≤ length out.new }
     ensures rest { drop result out.new ≡ drop result out.old }
-    ensures bytes { take result out.new
-        ≡ parts_bytes (reply_to config.now request client.now message.now (option_map key_bytes key) decision) }
+    ensures bytes { take result out.new ≡ parts_bytes (reply_to reply.now.config.now reply.now.request reply.now.client
+        reply.now.message.now (option_map key_bytes reply.now.key) decision) }
 {
     match decision {
-        Ok(grant) => write_grant(out, config, request, &message.tx(), client, grant, key),
-        Err(error) => write_error(out, config, request, message, error, key),
+        Ok(grant) => write_grant(out, reply, grant),
+        Err(error) => write_error(out, reply, error),
     }
 }

@@ -10,6 +10,8 @@ ghost use Rattle.control.specs.Control.{understood_and_served, refused_credentia
 ghost use Rattle.control.specs.Serving.{Gives, IsInside};
 ghost use Rattle.tables.specs.Addresses.{is_ipv4};
 ghost use Rattle.control.specs.Responding.{IsCheckedAnswer, Responds};
+ghost use Rattle.control.specs.declared.config.TheConstants.{MAX_TEXT};
+ghost use Rattle.control.specs.declared.reply.TheConstants.{REPLY_BYTES};
 
 use crate::allocate::allocate;
 use crate::binding::binding;
@@ -17,7 +19,7 @@ use crate::channel_bind::channel_bind;
 use crate::config::Config;
 use crate::create_permission::create_permission;
 use crate::refresh::refresh;
-use crate::reply::{Grant, write_reply};
+use crate::reply::{Grant, Reply, write_reply};
 use crate::request::{Request, TurnRequest};
 use crate::unknown::check_understood;
 use attributes::Addr;
@@ -25,6 +27,17 @@ use credentials::{AuthError, Authenticated, authenticate};
 use stun::Message;
 use stun::registry::ErrorCode;
 use tables::{Tables, is_ipv4};
+
+/// A message of a client at a moment.
+#[derive(Clone, Copy)]
+struct Arrival<'a> {
+    /// The client that sent the message.
+    client: Addr,
+    /// The message.
+    message: &'a Message<'a>,
+    /// The moment, in seconds.
+    moment: u64,
+}
 
 /// Returns the error of credentials that are refused.
 fn refused_credentials(error: AuthError) -> ErrorCode
@@ -46,19 +59,18 @@ fn refused_credentials(error: AuthError) -> ErrorCode
 fn serve(
     tables: &mut Tables,
     request: TurnRequest,
-    client: Addr,
     user: usize,
-    message: &Message<'_>,
-    now: u64,
+    arrival: &Arrival<'_>,
 ) -> Result<Grant, ErrorCode>
-    requires ipv4 { IsTrue (is_ipv4 client) }
-    ensures gives { Gives (understood_and_served request client user message.now (rows_at now tables.old))
-        tables.old result tables.new }
+    requires ipv4 { IsTrue (is_ipv4 arrival.now.client) }
+    ensures gives { Gives (understood_and_served request arrival.now.client user arrival.now.message.now
+        (rows_at arrival.now.moment tables.old)) tables.old result tables.new }
     ensures inside { IfOk result (IsInside (length tables.old.slots)) }
     ensures moment { (tables.old.moment ≤ tables.new.moment)
-        × (tables.new.moment ≤ moment_of tables.old.moment now) }
+        × (tables.new.moment ≤ moment_of tables.old.moment arrival.now.moment) }
     ensures slots { length tables.new.slots ≡ length tables.old.slots }
 {
+    let (client, message, now) = (arrival.client, arrival.message, arrival.moment);
     check_understood(message)?;
     match request {
         TurnRequest::Allocate => allocate(tables, client, user, message, now),
@@ -87,36 +99,40 @@ fn check_credentials(config: &Config, message: &Message<'_>) -> Result<Authentic
 fn answer_user(
     tables: &mut Tables,
     config: &Config,
-    now: u64,
-    client: Addr,
     request: TurnRequest,
-    message: &Message<'_>,
+    arrival: &Arrival<'_>,
     out: &mut [u8],
 ) -> usize
-    requires room { 1500 ≤ length out.old }
-    requires ipv4 { IsTrue (is_ipv4 client) }
-    requires realm { length (string_bytes config.now.realm) ≤ 128 }
+    requires room { REPLY_BYTES ≤ length out.old }
+    requires ipv4 { IsTrue (is_ipv4 arrival.now.client) }
+    requires realm { length (string_bytes config.now.realm) ≤ MAX_TEXT }
     requires ports { config.now.first_port + config.now.slots ≤ 0x10000 }
     requires slots { length tables.old.slots ≡ config.now.slots }
     ensures inside { result ≤ length out.new }
     ensures rest { drop result out.new ≡ drop result out.old }
-    ensures answer { IsCheckedAnswer config.now now request client message.now tables.old tables.new
-        (take result out.new) }
+    ensures answer { IsCheckedAnswer config.now arrival.now.moment request arrival.now.client arrival.now.message.now
+        tables.old tables.new (take result out.new) }
     ensures moment { (tables.old.moment ≤ tables.new.moment)
-        × (tables.new.moment ≤ moment_of tables.old.moment now) }
+        × (tables.new.moment ≤ moment_of tables.old.moment arrival.now.moment) }
     ensures slots { length tables.new.slots ≡ length tables.old.slots }
 {
-    let reply = Request::Turn(request);
-    match check_credentials(config, message) {
+    let unsigned = Reply {
+        config,
+        request: Request::Turn(request),
+        client: arrival.client,
+        message: arrival.message,
+        key: None,
+    };
+    match check_credentials(config, arrival.message) {
         Ok(authenticated) => {
             let user = authenticated.user;
-            let decision = serve(tables, request, client, user, message, now);
+            let decision = serve(tables, request, user, arrival);
             let key = Some(authenticated.key);
-            write_reply(out, config, reply, &client, message, decision, key)
+            write_reply(out, &Reply { key, ..unsigned }, decision)
         }
         Err(error) => {
             let decision = Err(refused_credentials(error));
-            write_reply(out, config, reply, &client, message, decision, None)
+            write_reply(out, &unsigned, decision)
         }
     }
 }
@@ -126,8 +142,8 @@ fn answer_user(
 /// CreatePermission and ChannelBind are answered, and those of clients over IPv4 alone; nothing else changes anything. An
 /// error response changes no table.
 ///
-/// `out` has at least 1,500 bytes, which every reply fits in; the configuration has no fault, and the tables have its
-/// slots.
+/// `out` has at least [`REPLY_BYTES`](crate::REPLY_BYTES) bytes, which every reply fits in; the configuration has no
+/// fault, and the tables have its slots.
 pub fn respond(
     tables: &mut Tables,
     config: &Config,
@@ -136,7 +152,7 @@ pub fn respond(
     message: &Message<'_>,
     out: &mut [u8],
 ) -> usize
-    requires room { 1500 ≤ length out.old }
+    requires room { REPLY_BYTES ≤ length out.old }
     requires config { fault config.now ≡ None }
     requires slots { length tables.old.slots ≡ config.now.slots }
     ensures inside { result ≤ length out.new }
@@ -154,9 +170,22 @@ pub fn respond(
     }
     match request {
         Request::Binding => {
-            let decision = binding(message);
-            write_reply(out, config, request, &client, message, decision, None)
+            let reply = Reply {
+                config,
+                request,
+                client,
+                message,
+                key: None,
+            };
+            write_reply(out, &reply, binding(message))
         }
-        Request::Turn(turn) => answer_user(tables, config, now, client, turn, message, out),
+        Request::Turn(turn) => {
+            let arrival = Arrival {
+                client,
+                message,
+                moment: now,
+            };
+            answer_user(tables, config, turn, &arrival, out)
+        }
     }
 }

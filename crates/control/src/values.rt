@@ -5,7 +5,7 @@ ghost use Rattle.credentials.specs.Checks.{first_value};
 ghost use Rattle.stun.specs.declared.registry.attribute.TheConstants.{CHANNEL_NUMBER as CHANNEL_TYPE, LIFETIME as LIFETIME_TYPE, XOR_PEER_ADDRESS as PEER_TYPE, REQUESTED_ADDRESS_FAMILY as FAMILY_TYPE, REQUESTED_TRANSPORT as TRANSPORT_TYPE};
 ghost use Rattle.attributes.specs.Addresses.{address_in};
 ghost use Rattle.attributes.specs.Values.{number_of_value};
-ghost use Rattle.control.specs.Values.{optional, required};
+ghost use Rattle.control.specs.Values.{optional, required_value};
 
 use attributes::{
     Addr, channel_number, lifetime, read_xor_addr, requested_family, requested_transport,
@@ -18,7 +18,7 @@ use stun::registry::attribute::{
 
 /// Returns the protocol of REQUESTED-TRANSPORT, which must be there.
 pub(crate) fn transport_of(message: &Message<'_>) -> Result<u8, ErrorCode>
-    ensures { result ≡ required (number_of_value 1) (first_value message.now TRANSPORT_TYPE) }
+    ensures { result ≡ required_value (number_of_value 1) (first_value message.now TRANSPORT_TYPE) }
 {
     let value = message
         .value_of(REQUESTED_TRANSPORT)
@@ -50,7 +50,7 @@ pub(crate) fn lifetime_of(message: &Message<'_>) -> Result<Option<u32>, ErrorCod
 
 /// Returns the number of CHANNEL-NUMBER, which must be there.
 pub(crate) fn channel_of(message: &Message<'_>) -> Result<u16, ErrorCode>
-    ensures { result ≡ required (number_of_value 2) (first_value message.now CHANNEL_TYPE) }
+    ensures { result ≡ required_value (number_of_value 2) (first_value message.now CHANNEL_TYPE) }
 {
     let value = message
         .value_of(CHANNEL_NUMBER)
@@ -67,7 +67,7 @@ pub(crate) fn address_in(value: &[u8], tx: &[u8; 12]) -> Option<Addr>
 
 /// Returns the address of XOR-PEER-ADDRESS, which must be there.
 pub(crate) fn peer_of(message: &Message<'_>) -> Result<Addr, ErrorCode>
-    ensures { result ≡ required (address_in message.now.transaction_id) (first_value message.now PEER_TYPE) }
+    ensures { result ≡ required_value (address_in message.now.transaction_id) (first_value message.now PEER_TYPE) }
 {
     let value = message
         .value_of(XOR_PEER_ADDRESS)

@@ -14,7 +14,7 @@ use tables::{FIRST_CHANNEL, MAX_ALLOCATIONS, MAX_CHANNELS, Refused, Tables};
 pub const NOW: u64 = 1000;
 
 /// The lifetime of each allocation, in seconds.
-const LIFETIME: u32 = 3600;
+pub const LIFETIME: u32 = 3600;
 
 /// The transaction id of the requests that made the allocations.
 pub const TX: [u8; 12] = [1; 12];

@@ -6,7 +6,7 @@ ghost use Rattle.control.specs.Configs.{fault};
 use crate::filling::NOW;
 use crate::request::Request;
 use anyhow::{Context, Result, ensure};
-use control::{Config, respond};
+use control::{Config, REPLY_BYTES, respond};
 use credentials::hmac_sha1;
 use stun::registry::{Class, MessageType};
 use stun::{Message, read};
@@ -55,7 +55,7 @@ impl Work {
 }
 
 /// Returns whether a reply of some length is a success.
-fn is_success(reply: &[u8; 1500], length: usize) -> bool {
+fn is_success(reply: &[u8; REPLY_BYTES], length: usize) -> bool {
     let kind = u16::from_be_bytes([reply[0], reply[1]]);
     length > 0 && MessageType::from_kind(kind).is_some_and(|found| found.class == Class::Success)
 }
@@ -64,7 +64,7 @@ fn is_success(reply: &[u8; 1500], length: usize) -> bool {
 ///
 /// # Errors
 /// Where it cannot be written or read.
-fn written(request: Request, buffer: &mut [u8; 1500]) -> Result<Message<'_>> {
+fn written(request: Request, buffer: &mut [u8; REPLY_BYTES]) -> Result<Message<'_>> {
     let length = request.write(buffer)?;
     let bytes = buffer.get(..length).context("no request")?;
     Ok(read(bytes)?)
@@ -88,10 +88,10 @@ fn check(tables: &Tables, config: &Config) -> Result<()>
 
 /// Answers a request some times, and returns how many replies were successes.
 fn answer(tables: &mut Tables, config: &Config, request: Request, count: u64) -> Result<u64> {
-    let mut buffer = [0; 1500];
+    let mut buffer = [0; REPLY_BYTES];
     let message = written(request, &mut buffer)?;
     check(tables, config)?;
-    let mut out = [0; 1500];
+    let mut out = [0; REPLY_BYTES];
     let mut successes = 0;
     for _ in 0..count {
         let length = respond(tables, config, NOW, request.client(), &message, &mut out);
@@ -105,10 +105,10 @@ fn answer(tables: &mut Tables, config: &Config, request: Request, count: u64) ->
 /// Computes the codes of a ChannelBind request and of its reply some times.
 fn hash(tables: &mut Tables, config: &Config, count: u64) -> Result<()> {
     let request = Request::ChannelBind;
-    let mut buffer = [0; 1500];
+    let mut buffer = [0; REPLY_BYTES];
     let message = written(request, &mut buffer)?;
     check(tables, config)?;
-    let mut out = [0; 1500];
+    let mut out = [0; REPLY_BYTES];
     let length = respond(tables, config, NOW, request.client(), &message, &mut out);
     let reply = read(out.get(..length).context("no reply")?)?;
     let asked = message.before_integrity().context("no code")?;

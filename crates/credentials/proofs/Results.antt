@@ -5,12 +5,13 @@ use Rattle.std.specs.List.{position_from}
 use Rattle.std.proofs.lemmas.Bool.{cond-true, cond-false, false_from_ne_true}
 use Rattle.std.proofs.lemmas.Iterator.Adapters.{position_from-zero}
 use Rattle.std.proofs.lemmas.Slice.Eq.{bytes_eq-Decides}
+use Rattle.fallible.specs.Fallible.{◌>>=◌, check}
 use Rattle.stun.specs.Messages.{Parts}
 use Rattle.stun.specs.Registry.{message_integrity}
 use Rattle.stun.specs.declared.registry.attribute.TheConstants.{USERNAME, REALM, NONCE}
 use Rattle.credentials.specs.Checks.{Accounts, HasCredentials, IsChecked, IsUser, IsNoUser, first_value, user_key}
 use Rattle.credentials.specs.Integrity.{code_under}
-use Rattle.credentials.specs.Results.{◌>>=◌, check, user_of, checked}
+use Rattle.credentials.specs.Results.{user_of, check_result}
 use Rattle.credentials.specs.declared.checking.AuthError.{AuthError}
 use Rattle.credentials.specs.declared.checking.AuthError.TheVariants.{Missing, Incomplete, StaleNonce, UnknownUser, WrongCode}
 
@@ -81,17 +82,17 @@ module _ (p : Parts) (realm : List ℕ) (users : Accounts) (nonce : List ℕ) wh
   wrong_code index code (Some right) ne = ap (λ b. check b WrongCode >>= (λ _. Ok index)) (other_bytes right code (λ e. ne (ap Some e)))
 
   -- with all four attributes, the nonce is compared
-  with_all : (code name given : List ℕ) → HasCredentials p given code name → checked p realm users nonce ≡ nonce_tested code name given
+  with_all : (code name given : List ℕ) → HasCredentials p given code name → check_result p realm users nonce ≡ nonce_tested code name given
   with_all code name given has =
       λ i. all_tested (has.code_is i) (has.name_is i) (has.realm_is i) (has.nonce_is i)
 
   -- with the current nonce, the user is looked up
-  looked_up : (code name : List ℕ) → HasCredentials p nonce code name → checked p realm users nonce ≡ user_tested code (user_of users name)
+  looked_up : (code name : List ℕ) → HasCredentials p nonce code name → check_result p realm users nonce ≡ user_tested code (user_of users name)
   looked_up code name has =
       with_all code name nonce has ∙ ap (λ b. check b StaleNonce >>= (λ _. user_tested code (user_of users name))) (same_bytes nonce nonce refl)
 
   of_user : (code name : List ℕ) (index : ℕ) → HasCredentials p nonce code name → IsUser users name index
-      → checked p realm users nonce ≡ code_tested index code (code_under (user_key realm users index) p)
+      → check_result p realm users nonce ≡ code_tested index code (code_under (user_key realm users index) p)
   of_user code name index has is = looked_up code name has ∙ ap (user_tested code) (user_is users name index is)
 
   incomplete : (code : List ℕ) (a b c : Option (List ℕ)) → (a ≡ None) ⊎ (b ≡ None) ⊎ (c ≡ None) → all_tested (Some code) a b c ≡ Err Incomplete
@@ -106,7 +107,7 @@ module _ (p : Parts) (realm : List ℕ) (users : Accounts) (nonce : List ℕ) wh
   with_code None a b c some h = absurd (some refl)
   with_code (Some code) a b c some h = incomplete code a b c h
 
-  pub result_is_checked : (r : Result ℕ AuthError) → IsChecked p realm users nonce r → r ≡ checked p realm users nonce
+  pub result_is_checked : (r : Result ℕ AuthError) → IsChecked p realm users nonce r → r ≡ check_result p realm users nonce
   result_is_checked (Ok index) (code, name, has, is, right) =
       sym (of_user code name index has is ∙ ap (code_tested index code) right ∙ right_code index code)
   result_is_checked (Err Missing) none = sym (ap (λ code. all_tested code (first_value p USERNAME) (first_value p REALM) (first_value p NONCE)) none)

@@ -6,7 +6,7 @@ use Rattle.stun.specs.Messages.{Padded, Parts, attribute_of, up_to_integrity, be
 use Rattle.credentials.specs.Hmac.{hmac}
 use Rattle.credentials.specs.Checks.{Accounts, IsUser, HasCredentials, IsChecked, user_key, first_value}
 use Rattle.credentials.specs.Integrity.{covered_bytes, code_under, code_of}
-use Rattle.credentials.specs.Signs.{IsUnsigned, signed}
+use Rattle.credentials.specs.Signs.{IsUnsigned, with_integrity}
 use Rattle.credentials.proofs.Values.{value_cons}
 use Rattle.stun.specs.Attributes.{value_of}
 use Rattle.stun.specs.declared.registry.attribute.TheConstants.{USERNAME, REALM, NONCE}
@@ -18,7 +18,7 @@ none_mapped : {A B : Type 0} (f : A → B) (o : Option A) → option_map f o ≡
 none_mapped f None e = refl
 none_mapped f (Some x) e = absurd (some_is_none (f x) e)
 
--- what comes behind attributes of which none is a MESSAGE-INTEGRITY
+-- what comes after attributes of which none is a MESSAGE-INTEGRITY
 front_step : (b : Bool) (a : Padded) (attributes : List Padded) (o o' : Option (List Padded)) → (o ≡ None → o' ≡ Some attributes) → (if b then Some [] else option_map (λ front. a ∷ front) o) ≡ None → (if b then Some [] else option_map (λ front. a ∷ front) o') ≡ Some (a ∷ attributes)
 front_step true a attributes o o' on e = absurd (some_is_none [] e)
 front_step false a attributes o o' on e = ap (option_map (λ front. a ∷ front)) (on (none_mapped (λ front. a ∷ front) o e))
@@ -37,15 +37,15 @@ value_is [] value e = refl
 value_is (a ∷ attributes) value e = value_cons message_integrity (attribute_of a) (map attribute_of (if a.kind == message_integrity then [] else up_to_integrity (attributes ++ zero_padded message_integrity value ∷ []))) ∙ value_step (a.kind == message_integrity) a value (before_first attributes) (up_to_integrity (attributes ++ zero_padded message_integrity value ∷ [])) (value_is attributes value) e
 
 -- the code of a signed message is the right one
-pub sign_is_right : (key : List ℕ) (p q : Parts) → q ≡ signed key p → before_first p.attributes ≡ None → code_under key q ≡ first_value q message_integrity
+pub sign_is_right : (key : List ℕ) (p q : Parts) → q ≡ with_integrity key p → before_first p.attributes ≡ None → code_under key q ≡ first_value q message_integrity
 sign_is_right key p q is none =
     let code : List ℕ = code_of key p in
-    let right : code_under key (signed key p) ≡ first_value (signed key p) message_integrity =
+    let right : code_under key (with_integrity key p) ≡ first_value (with_integrity key p) message_integrity =
     ap (λ (o : Option (List Padded)). option_map (λ front. hmac key (covered_bytes p front)) o) (front_is p.attributes code none)
     ∙ sym (value_is p.attributes code none) in
     ap (code_under key) is ∙ right ∙ ap (λ (r : Parts). first_value r message_integrity) (sym is)
 
--- attributes without a MESSAGE-INTEGRITY have the same values with one behind them
+-- attributes without a MESSAGE-INTEGRITY have the same values with one after them
 kept_step : (b c : Bool) (a : Padded) (kind : ℕ) (x value : List ℕ) (o : Option (List Padded)) (before after : List Padded)
     → (o ≡ None → value_of kind (map attribute_of before) ≡ Some value → value_of kind (map attribute_of after) ≡ Some value) → (if b then Some [] else option_map (λ front. a ∷ front) o) ≡ None
     → (if c then Some x else value_of kind (map attribute_of (if b then [] else before))) ≡ Some value → (if c then Some x else value_of kind (map attribute_of (if b then [] else after))) ≡ Some value
@@ -61,16 +61,16 @@ kept (a ∷ attributes) kind code value e is =
     ∙ kept_step (a.kind == message_integrity) (a.kind == kind) a kind a.value value (before_first attributes) (up_to_integrity attributes) (up_to_integrity (attributes ++ zero_padded message_integrity code ∷ [])) (kept attributes kind code value) e (sym (value_cons kind (attribute_of a) (map attribute_of (if a.kind == message_integrity then [] else up_to_integrity attributes))) ∙ is)
 
 -- a message that lacks only its code, with this code
-pub sign_is_accepted : (p : Parts) (name realm nonce : List ℕ) (users : Accounts) (index : ℕ) → IsUnsigned p nonce name → IsUser users name index → IsChecked (signed (user_key realm users index) p) realm users nonce (Ok index)
+pub sign_is_accepted : (p : Parts) (name realm nonce : List ℕ) (users : Accounts) (index : ℕ) → IsUnsigned p nonce name → IsUser users name index → IsChecked (with_integrity (user_key realm users index) p) realm users nonce (Ok index)
 sign_is_accepted p name realm nonce users index is user =
     let key : List ℕ = user_key realm users index in
     let code : List ℕ = code_of key p in
-    let code_is : first_value (signed key p) message_integrity ≡ Some code = value_is p.attributes code is.no_code in
-    let fresh : HasCredentials (signed key p) nonce code name = record {
+    let code_is : first_value (with_integrity key p) message_integrity ≡ Some code = value_is p.attributes code is.no_code in
+    let fresh : HasCredentials (with_integrity key p) nonce code name = record {
       code_is = code_is;
       name_is = kept p.attributes USERNAME code name is.no_code is.name_is;
       realm = is.realm;
       realm_is = kept p.attributes REALM code is.realm is.no_code is.realm_is;
       nonce_is = kept p.attributes NONCE code nonce is.no_code is.nonce_is;
     } in
-    (code, name, fresh, user, sign_is_right key p (signed key p) refl is.no_code ∙ code_is)
+    (code, name, fresh, user, sign_is_right key p (with_integrity key p) refl is.no_code ∙ code_is)

@@ -7,8 +7,8 @@ abbrev pub block_of : List ℕ → List ℕ
 block_of key = key ++ replicate (64 - length key) 0
 
 -- each byte xored with a pad
-abbrev pub padded : ℕ → List ℕ → List ℕ
-padded pad block = map (λ b. bit_xor b pad) block
+abbrev pub block_with_pad : ℕ → List ℕ → List ℕ
+block_with_pad pad block = map (λ b. bit_xor b pad) block
 
 abbrev pub inner_pad : ℕ
 inner_pad = 0x36
@@ -18,4 +18,4 @@ outer_pad = 0x5c
 
 -- H((K xor opad) || H((K xor ipad) || m))
 unfoldable pub hmac : List ℕ → List ℕ → List ℕ
-hmac key m = sha1 (padded outer_pad (block_of key) ++ sha1 (padded inner_pad (block_of key) ++ m))
+hmac key m = sha1 (block_with_pad outer_pad (block_of key) ++ sha1 (block_with_pad inner_pad (block_of key) ++ m))

@@ -1,7 +1,8 @@
 -- Meaning. The result of the check of a request's credentials, as a function: the tests in their order, of which the
 -- first that fails gives the error.
-use Rattle.std.specs.Prelude.{ℕ, Bool, List, bytes_eq, Option, Result, Ok, Err, ok_or, if◌then◌else◌}
+use Rattle.std.specs.Prelude.{ℕ, List, bytes_eq, Option, Result, Ok, ok_or}
 use Rattle.std.specs.List.{position}
+use Rattle.fallible.specs.Fallible.{◌>>=◌, check}
 use Rattle.stun.specs.Registry.{message_integrity}
 use Rattle.stun.specs.declared.registry.attribute.TheConstants.{USERNAME, REALM, NONCE}
 use Rattle.stun.specs.Messages.{Parts}
@@ -10,22 +11,13 @@ use Rattle.credentials.specs.Integrity.{code_under}
 use Rattle.credentials.specs.declared.checking.AuthError.{AuthError}
 use Rattle.credentials.specs.declared.checking.AuthError.TheVariants.{Missing, Incomplete, StaleNonce, UnknownUser, WrongCode}
 
-infixl 10 ◌>>=◌
-abbrev pub ◌>>=◌ : {A B : Type 0} → Result A AuthError → (A → Result B AuthError) → Result B AuthError
-(Ok x) >>= f = f x
-(Err error) >>= f = Err error
-
--- goes on where the test passes
-abbrev pub check : Bool → AuthError → Result (Unit {0}) AuthError
-check passed error = if passed then Ok tt else Err error
-
 -- the index of the first user of a name, if there is one
 abbrev pub user_of : Accounts → List ℕ → Option ℕ
 user_of users name = position (λ user. bytes_eq user.0 name) users
 
 -- the index of the user whose credentials a message has, or the first test that fails
-abbrev pub checked : Parts → List ℕ → Accounts → List ℕ → Result ℕ AuthError
-checked p realm users nonce = do
+abbrev pub check_result : Parts → List ℕ → Accounts → List ℕ → Result ℕ AuthError
+check_result p realm users nonce = do
   code ← ok_or (first_value p message_integrity) Missing
   name ← ok_or (first_value p USERNAME) Incomplete
   _ ← ok_or (first_value p REALM) Incomplete

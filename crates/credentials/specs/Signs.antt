@@ -10,9 +10,9 @@ use Rattle.credentials.specs.Keys.{key_bytes}
 use Rattle.credentials.specs.Integrity.{code_of}
 use Rattle.credentials.specs.Checks.{first_value}
 
--- the message with a MESSAGE-INTEGRITY behind its attributes
-abbrev pub signed : List ℕ → Parts → Parts
-signed key p = with_attribute p message_integrity (code_of key p)
+-- the message with a MESSAGE-INTEGRITY after its attributes
+abbrev pub with_integrity : List ℕ → Parts → Parts
+with_integrity key p = with_attribute p message_integrity (code_of key p)
 
 -- the code of a builder's message
 abbrev pub code_in : Builder → Key → List ℕ

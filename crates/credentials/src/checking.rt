@@ -6,7 +6,7 @@ ghost use Rattle.stun.specs.Messages.{Parts};
 ghost use Rattle.credentials.specs.Keys.{key_of, key_bytes};
 ghost use Rattle.credentials.specs.Integrity.{code_under};
 ghost use Rattle.credentials.specs.Checks.{accounts_of, Accounts, user_key, IsUser, IsNoUser, HasCredentials, IsChecked};
-ghost use Rattle.credentials.specs.Results.{checked};
+ghost use Rattle.credentials.specs.Results.{check_result};
 ghost use Rattle.credentials.specs.declared.checking.AuthError.{AuthError};
 
 use crate::key::Key;
@@ -139,7 +139,7 @@ pub fn authenticate(
     ensures found { IfOk result
         (λ a. IsChecked message.now realm.now (accounts_of users.now) nonce.now (Ok a.user)) }
     ensures checked { result_map_both (λ a. a.user) (λ e. e) result
-        ≡ checked message.now realm.now (accounts_of users.now) nonce.now }
+        ≡ check_result message.now realm.now (accounts_of users.now) nonce.now }
     ensures key { IfOk result (λ a. key_bytes a.key ≡ user_key realm.now (accounts_of users.now) a.user) }
     ensures refused { IfErr result
         (λ e. IsChecked message.now realm.now (accounts_of users.now) nonce.now (Err e)) }
@@ -167,7 +167,7 @@ pub fn check(
     nonce: &str,
 ) -> Result<usize, AuthError>
     ensures is_checked { IsChecked message.now realm.now (accounts_of users.now) nonce.now result }
-    ensures checked { result ≡ checked message.now realm.now (accounts_of users.now) nonce.now }
+    ensures checked { result ≡ check_result message.now realm.now (accounts_of users.now) nonce.now }
 {
     let authenticated = authenticate(message, realm, users, nonce)?;
     Ok(authenticated.user)
@@ -176,7 +176,7 @@ pub fn check(
 /// States that a result of the ordered check is the one that the function of a message gives.
 pub fn results_are_checked()
     ensures { (p : Parts) (realm : List ℕ) (users : Accounts) (nonce : List ℕ) (r : Result ℕ AuthError)
-        → IsChecked p realm users nonce r → r ≡ checked p realm users nonce }
+        → IsChecked p realm users nonce r → r ≡ check_result p realm users nonce }
 {}
 
 /// States that the ordered check has at most one result for a message.

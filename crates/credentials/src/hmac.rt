@@ -3,7 +3,7 @@
 ghost use Rattle.std.specs.Prelude.{◌≡◌, ◌≤◌, ◌++◌, ℕ, List, length, map, drop};
 ghost use Rattle.std.specs.List.{concat};
 ghost use Rattle.sha1.specs.Sha1.{Holds};
-ghost use Rattle.credentials.specs.Hmac.{block_of, padded, hmac};
+ghost use Rattle.credentials.specs.Hmac.{block_of, block_with_pad, hmac};
 
 use sha1::Sha1;
 
@@ -35,7 +35,7 @@ fn block_of(key: &[u8]) -> [u8; BLOCK]
 
 /// Xors each byte with a pad.
 fn pad_bytes(bytes: &mut [u8], pad: u8)
-    ensures { bytes.new ≡ padded pad bytes.old }
+    ensures { bytes.new ≡ block_with_pad pad bytes.old }
 {
     for byte in bytes.iter_mut() {
         *byte ^= pad;
@@ -44,7 +44,7 @@ fn pad_bytes(bytes: &mut [u8], pad: u8)
 
 /// Returns a block with each byte xored with a pad.
 fn padded(pad: u8, mut block: [u8; BLOCK]) -> [u8; BLOCK]
-    ensures { result ≡ padded pad block }
+    ensures { result ≡ block_with_pad pad block }
 {
     pad_bytes(&mut block, pad);
     block

@@ -8,7 +8,7 @@ ghost use Rattle.credentials.specs.Hmac.{hmac};
 ghost use Rattle.credentials.specs.Integrity.{covered_bytes, code_under};
 ghost use Rattle.credentials.specs.Keys.{key_bytes};
 ghost use Rattle.credentials.specs.Checks.{Accounts, IsUser, IsChecked, user_key, first_value};
-ghost use Rattle.credentials.specs.Signs.{IsUnsigned, signed, code_in};
+ghost use Rattle.credentials.specs.Signs.{IsUnsigned, with_integrity, code_in};
 
 use crate::hmac::hmac_sha1;
 use crate::key::Key;
@@ -65,7 +65,7 @@ pub fn push_integrity(builder: &mut Builder<'_>, key: &Key)
 /// [`check`](crate::check) requires under that key.
 pub fn what_is_signed_is_right()
     ensures { (key : List ℕ) (p : Parts) → before_first p.attributes ≡ None
-        → code_under key (signed key p) ≡ first_value (signed key p) message_integrity }
+        → code_under key (with_integrity key p) ≡ first_value (with_integrity key p) message_integrity }
 {}
 
 /// States that a message which lacks only its code, signed under the key of the first user of its name, is
@@ -73,5 +73,5 @@ pub fn what_is_signed_is_right()
 pub fn what_is_signed_is_accepted()
     ensures { (p : Parts) (name realm nonce : List ℕ) (users : Accounts) (index : ℕ)
         → IsUnsigned p nonce name → IsUser users name index
-        → IsChecked (signed (user_key realm users index) p) realm users nonce (Ok index) }
+        → IsChecked (with_integrity (user_key realm users index) p) realm users nonce (Ok index) }
 {}

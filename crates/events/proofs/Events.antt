@@ -1,6 +1,6 @@
 -- What a line is read as, by the reader.
-use Rattle.std.proofs.Common.{◌≡◌, ℕ, zero, suc, ◌<◌, ◌^◌, Bool, true, false, List, [], ◌∷◌, length, sym, ap, ◌∙◌, inl, inr, arith}
-use Rattle.std.specs.Prelude.{◌&&◌, bytes_eq, codes, slice_index, nat_le, Option, None, Some, IfSome, IsSomeAnd, option_map}
+use Rattle.std.proofs.Common.{◌≡◌, ℕ, zero, suc, ◌<◌, ◌^◌, true, false, List, [], ◌∷◌, length, sym, ap, ◌∙◌, inl, inr, arith}
+use Rattle.std.specs.Prelude.{bytes_eq, codes, slice_index, nat_le, Option, None, Some, IfSome, IsSomeAnd, option_map}
 use Rattle.std.specs.List.{list_all}
 use Rattle.stun.specs.Ranges.{is_between}
 use Rattle.std.specs.Str.{IsUtf8}

@@ -1,6 +1,5 @@
 -- Interface. Laws of the reader: it reads an event from the event's line, and what it reads has that line.
 use Rattle.std.specs.Prelude.{◌≡◌, ◌≢◌, ℕ, zero, suc, ◌+◌, ◌-◌, ◌*◌, ◌/◌, ◌%◌, ◌^◌, ◌<◌, ◌≤◌, ◌⊎◌, ◌==◌, ◌&&◌, ◌||◌, Bool, true, false, not, List, [], ◌∷◌, ◌++◌, length, slice_index, codes, decimal, bytes_eq, nat_le, nat_lt, Option, None, Some, option_map, Result, Ok, Err, refl, if◌then◌else◌}
-use Rattle.std.specs.List.{list_any}
 use Rattle.std.specs.Result.{result_ok, result_unwrap_or}
 use Rattle.std.specs.Str.Parse.{digits_value}
 use Rattle.std.proofs.Common.{sym, ap, subst, ◌∙◌, inl, inr, arith, append_assoc, eqb-true, eq-eqb}
@@ -14,7 +13,7 @@ use Rattle.hex.specs.Hex as hex
 use Rattle.hex.specs.declared.error.FromHexError.{FromHexError}
 use Rattle.hex.proofs.HexLemmas.{length-encode_with, decode_of-encode_lower, decode_sized-twice, decode_sized-ok, decode_of-ok, decode_of-even, IsDigits-lower_digits}
 use Rattle.attributes.specs.Addresses.{HasWidth, IsIpv4Address}
-use Rattle.attributes.specs.AddressTexts.{dotted, address_text}
+use Rattle.attributes.specs.AddressTexts.{dotted_decimal, address_text}
 use Rattle.attributes.specs.declared.address.Addr.{Addr}
 use Rattle.attributes.specs.declared.address.Addr.TheVariants.{V4, V6}
 use Rattle.control.specs.Configs.{is_nonce}
@@ -25,7 +24,7 @@ use Rattle.events.specs.declared.meta.Meta.{Meta}
 use Rattle.events.specs.declared.meta.Source.{Source}
 use Rattle.events.specs.declared.meta.Source.TheVariants.{Client, Peer}
 use Rattle.events.specs.Options.{◌>>=◌}
-use Rattle.events.specs.Reading.{split_at, decimal_in, has_upper, digits_in, ipv4_in, address_in, content_in, client_in, peer_in, datagram_in, nonce_in, event_by, event_in}
+use Rattle.events.specs.Reading.{split_at, decimal_in, has_upper, digits_in, ipv4_in, address_in, content_in, client_in, peer_in, datagram_in, nonce_in, event_in}
 
 -- ---- texts without a separator
 
@@ -262,7 +261,7 @@ then_some (Some x) f y e = (x, refl, e)
 abbrev dotted_four : ℕ → ℕ → ℕ → ℕ → List ℕ
 dotted_four a b c d = decimal a ++ 0x2e ∷ (decimal b ++ 0x2e ∷ (decimal c ++ 0x2e ∷ decimal d))
 
-dotted-four : (a b c d : ℕ) → dotted (a ∷ b ∷ c ∷ d ∷ []) ≡ dotted_four a b c d
+dotted-four : (a b c d : ℕ) → dotted_decimal (a ∷ b ∷ c ∷ d ∷ []) ≡ dotted_four a b c d
 dotted-four a b c d =
     (λ i. (decimal a ++ codes ".") ++ ((decimal b ++ codes ".") ++ joined (decimal c) (decimal d) 0x2e i))
     ∙ (λ i. (decimal a ++ codes ".") ++ joined (decimal b) (decimal c ++ 0x2e ∷ decimal d) 0x2e i)

@@ -4,7 +4,7 @@ use Rattle.semantics.specs.Calls.{is_valid, no_address}
 use Rattle.semantics.specs.Machine.{AddressRecord}
 use Rattle.attributes.specs.declared.address.Addr.{Addr}
 use Rattle.tables.specs.Rows.{Rows}
-use Rattle.tables.specs.LookUps.{peer_of, channel_of, permitted}
+use Rattle.tables.specs.LookUps.{peer_of, channel_of, has_permission}
 use Rattle.helpers.specs.Records.{address_of, address_record}
 use Rattle.helpers.specs.Nothing.{finds_nothing}
 
@@ -27,7 +27,7 @@ abbrev pub slot_answer : ℕ → Rows → ℕ → ℕ → AddressRecord → ℕ 
 slot_answer slot rows id number address =
     if id == 1 then peer_answer (peer_of slot number rows)
     else (if id == 2 then number_answer (if is_valid address then channel_of slot (address_of address) rows else None)
-    else (if id == 3 then test_answer (is_valid address && permitted slot (address_of address) rows)
+    else (if id == 3 then test_answer (is_valid address && has_permission slot (address_of address) rows)
     else finds_nothing id number address))
 
 -- in a slot, if there is one

@@ -37,7 +37,7 @@ fn is_valid(bytes: &[u8; RECORD_BYTES]) -> bool
 impl<'a> Lookup<'a> {
     ghost use Rattle.std.specs.Prelude.{◌≡◌, ◌&&◌, None, if◌then◌else◌};
     ghost use Rattle.semantics.specs.Calls.{is_valid};
-    ghost use Rattle.tables.specs.LookUps.{peer_of, channel_of, permitted};
+    ghost use Rattle.tables.specs.LookUps.{peer_of, channel_of, has_permission};
     ghost use Rattle.tables.specs.Rows.{rows_at};
     ghost use Rattle.helpers.specs.LookUps.{peer_answer, number_answer, test_answer};
     ghost use Rattle.helpers.specs.Records.{address_of};
@@ -87,7 +87,7 @@ impl<'a> Lookup<'a> {
     /// Answers whether the address of a record has a permission.
     fn permits(&self, slot: usize, address: &[u8; RECORD_BYTES]) -> (u64, [u8; RECORD_BYTES])
         ensures { result ≡ test_answer (is_valid address.now
-            && permitted slot (address_of address.now) (rows_at self.now.moment self.now.tables.now)) }
+            && has_permission slot (address_of address.now) (rows_at self.now.moment self.now.tables.now)) }
     {
         let holds = is_valid(address)
             && uncounted::permitted(self.tables, slot, address_of(address), self.moment);

@@ -301,7 +301,7 @@ unused rest f room h head second has j j_is differs = (
       differs (ap fields_of same ∙ is.fields) (ap second_of same ∙ second_are),
 )
 
--- the fields of the first slot, with the bytes behind it
+-- the fields of the first slot, with the bytes after it
 module _ (bytes rest : List ℕ) (f : Fields) (long : 8 ≤ length bytes) (room : HaveRoom f) (are : slot_bytes f ≡ take 8 bytes) (rest_is : rest ≡ drop 8 bytes) where
   opcode_here : f.opcode ≡ slice_index bytes 0
   opcode_here = ap (λ (b : List ℕ). slice_index b 0) are ∙ get_or-take 8 bytes 0 0 (omega arith)

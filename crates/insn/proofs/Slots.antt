@@ -11,7 +11,7 @@ use Rattle.byteorder.specs.Endian.{little_bytes, little_number}
 use Rattle.byteorder.specs.Numbers.{little_number-reads_back}
 use Rattle.insn.specs.Fields.{HaveRoom, slot_bytes}
 use Rattle.insn.specs.Encoding.{Fits}
-use Rattle.insn.specs.Forms.{extension, moved, form}
+use Rattle.insn.specs.Forms.{extension, move_insn, form}
 use Rattle.insn.specs.declared.width.Width.{Width}
 use Rattle.insn.specs.declared.width.Width.TheVariants.{W32, W64}
 use Rattle.insn.specs.declared.operator.Extension.{Extension}
@@ -25,7 +25,7 @@ use Rattle.insn.specs.declared.opcode.Opcode.TheVariants as opcode
 halves : (b : ℕ) → b % 16 + 16 * (b / 16) ≡ b
 halves b = omega arith
 
--- the two numbers behind the register byte, as their bytes
+-- the two numbers after the register byte, as their bytes
 bytes_of_2 : (n c d : ℕ) → c < 256 → d < 256 → n ≡ c + 256 * d → little_bytes 2 n ≡ c ∷ d ∷ []
 bytes_of_2 n c d hc hd e =
     let low : n % 256 ≡ c = omega arith in
@@ -100,7 +100,7 @@ same_number n x y hx hy e =
     sym (little_number-reads_back n x [] hx) ∙ ap (λ (b : List ℕ). little_number n (b ++ [])) e ∙ little_number-reads_back n y [] hy
 
 -- an instruction made of fields fits as they do
-move_fits : (w : Width) (d s : Reg) (e : Option Extension) → Fits (moved w d s e)
+move_fits : (w : Width) (d s : Reg) (e : Option Extension) → Fits (move_insn w d s e)
 move_fits w d s (Some e) = tt
 move_fits w d s None = tt
 

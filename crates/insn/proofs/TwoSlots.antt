@@ -64,14 +64,14 @@ some_behind o rest other (Some f) g has wide_is room is =
     let same : slot_bytes f ++ [] ≡ slot_bytes g ++ [] = has.3 ∙ ap (take 8) is in
     ap Some (sym (slot_bytes-injective f g [] [] has.1 room same).0)
 
--- bytes behind the first slot begin with the second one that the opcode asks for, and with no other
+-- bytes after the first slot begin with the second one that the opcode asks for, and with no other
 pub second_is : (i : Insn) (o : Opcode) (rest other : List ℕ) (s : Option Fields) → Fits i → byte_of o ≡ (fields_of i).opcode → HasSecond o rest s → rest ≡ optional_bytes (second_of i) ++ other → second_of i ≡ s
 second_is i o rest other s fits e has is = elim (slots_in i fits) [
   | narrow isnt none ↦ none ∙ sym (none_behind o rest s has (λ load. not_both (are_of i).opcode isnt (opcode_in i o e ∙ load)))
   | wide is_load g some room ↦ some ∙ some_behind o rest other s g has (sym (opcode_in i o e) ∙ is_load) room (is ∙ ap (λ (t : Option Fields). optional_bytes t ++ other) some)
 ]
 
--- what the bytes hold behind a second slot
+-- what the bytes hold after a second slot
 pub behind_second : (o : Opcode) (rest : List ℕ) (s : Option Fields) → HasSecond o rest s → (other : List ℕ) × (rest ≡ optional_bytes s ++ other)
 behind_second o rest None has = (rest, refl)
 behind_second o rest (Some f) has = (drop 8 rest, sym (take-append-drop 8 rest) ∙ ap (λ (b : List ℕ). b ++ drop 8 rest) (sym has.3))

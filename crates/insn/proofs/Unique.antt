@@ -5,8 +5,8 @@ use Rattle.insn.specs.Register.{number_of}
 use Rattle.insn.specs.Codes.{code_of, offset_of, extension_offset, swap_bits}
 use Rattle.insn.specs.Words.{target_of}
 use Rattle.insn.specs.Opcode.{byte_of}
-use Rattle.insn.specs.Encoding.{source_of, src_of, imm_of, low_half, high_half, joined, fields_of, second_of, Fits}
-use Rattle.insn.specs.Forms.{with_source, operator, extension, swap_size, size_or_half, moved, imm_in, form}
+use Rattle.insn.specs.Encoding.{source_of, src_of, imm_of, low_half, high_half, wide_number, fields_of, second_of, Fits}
+use Rattle.insn.specs.Forms.{with_source, operator, extension, swap_size, size_or_half, move_insn, imm_in, form}
 use Rattle.insn.specs.declared.register.Reg.{Reg}
 use Rattle.insn.specs.declared.register.Reg.TheVariants as reg
 use Rattle.insn.specs.declared.width.Width.{Width}
@@ -273,7 +273,7 @@ operand_is (operand.Reg r) = refl
 operand_is (operand.Imm n) = refl
 
 -- the halves of a number, and the number of the halves
-joined_is : (value : ℕ) → value < 2 ^ 64 → joined (low_half value) (high_half value) ≡ value
+joined_is : (value : ℕ) → value < 2 ^ 64 → wide_number (low_half value) (high_half value) ≡ value
 joined_is value lt =
     let low = of_z-to_z w32 (value % 2 ^ 32) (omega arith) in
     let high = of_z-to_z w32 (value / 2 ^ 32) (omega arith) in
@@ -283,10 +283,10 @@ joined_is value lt =
 own_form : (i : Insn) → Fits i → form (are_of i).opcode (are_of i).dst (are_of i).src (fields_of i).offset (fields_of i).imm (imm_in (second_of i)) ≡ i
 unfolding are_of src_register
 own_form (Alu w op dst x) fits = λ k. Alu w (operator_is op k) dst (operand_is x k)
-own_form (Mov w dst (operand.Reg r)) fits = ap (moved w dst r) (no_extension w)
+own_form (Mov w dst (operand.Reg r)) fits = ap (move_insn w dst r) (no_extension w)
 own_form (Mov w dst (operand.Imm n)) fits = refl
 own_form (Neg w dst) fits = refl
-own_form (SignExtend e dst src) fits = ap (moved (target_of e) dst src) (extension_is e)
+own_form (SignExtend e dst src) fits = ap (move_insn (target_of e) dst src) (extension_is e)
 own_form (Swap op z dst) fits = ap (λ (size : Option SwapSize). Swap op (size_or_half size) dst) (swap_size_is z)
 own_form (Jump distance) fits = refl
 own_form (LongJump distance) fits = refl

@@ -4,7 +4,7 @@ use Rattle.std.specs.Prelude.{◌≡◌, ◌≢◌, ℕ, ◌==◌, ℤ, pos, neg
 use Rattle.insn.specs.Register.{number_of}
 use Rattle.insn.specs.Opcode.{byte_of, IsOpcode}
 use Rattle.insn.specs.Fields.{HaveRoom, slot_bytes}
-use Rattle.insn.specs.Encoding.{fields_of, second_of, optional_bytes, joined, Fits}
+use Rattle.insn.specs.Encoding.{fields_of, second_of, optional_bytes, wide_number, Fits}
 use Rattle.insn.specs.declared.width.Width.{Width}
 use Rattle.insn.specs.declared.width.Width.TheVariants.{W32, W64}
 use Rattle.insn.specs.declared.operator.AluOp.{AluOp}
@@ -64,12 +64,12 @@ abbrev pub size_or_half : Option SwapSize → SwapSize
 size_or_half (Some size) = size
 size_or_half None = sizes.Half
 
-abbrev pub moved : Width → Reg → Reg → Option Extension → Insn
-moved width dst src (Some e) = SignExtend e dst src
-moved width dst src None = Mov width dst (operand.Reg src)
+abbrev pub move_insn : Width → Reg → Reg → Option Extension → Insn
+move_insn width dst src (Some e) = SignExtend e dst src
+move_insn width dst src None = Mov width dst (operand.Reg src)
 
 abbrev pub move_form : Width → Source → Reg → Reg → ℤ → ℤ → Insn
-move_form width source.Reg dst src offset imm = moved width dst src (extension width offset)
+move_form width source.Reg dst src offset imm = move_insn width dst src (extension width offset)
 move_form width source.Imm dst src offset imm = Mov width dst (operand.Imm imm)
 
 -- the instruction of an opcode with those of the fields that it uses, and the imm of a second slot
@@ -81,7 +81,7 @@ form (opcode.Swap op) dst src offset imm high = Swap op (size_or_half (swap_size
 form (opcode.Jump W32) dst src offset imm high = LongJump imm
 form (opcode.Jump W64) dst src offset imm high = Jump offset
 form (opcode.JumpIf width condition s) dst src offset imm high = JumpIf width condition dst (with_source s src imm) offset
-form opcode.LoadImm dst src offset imm high = LoadImm dst (joined imm high)
+form opcode.LoadImm dst src offset imm high = LoadImm dst (wide_number imm high)
 form opcode.Call dst src offset imm high = Call imm
 form opcode.Exit dst src offset imm high = Exit
 form (opcode.Load size) dst src offset imm high = Load size dst src offset
@@ -101,7 +101,7 @@ LacksHead f fault.Register = IsOpcode f.opcode × ((f.dst ≤ 10) × (f.src ≤ 
 LacksHead f fault.WideCut = ⊥
 LacksHead f fault.UnusedField = ⊥
 
--- the second slot of an opcode, in the bytes behind the first
+-- the second slot of an opcode, in the bytes after the first
 abbrev pub HasSecond : Opcode → List ℕ → Option Fields → Type 0
 HasSecond o rest None = o ≢ opcode.LoadImm
 HasSecond o rest (Some f) = (o ≡ opcode.LoadImm) × HaveRoom f × (8 ≤ length rest) × (slot_bytes f ≡ take 8 rest)
@@ -110,7 +110,7 @@ abbrev pub imm_in : Option Fields → ℤ
 imm_in (Some f) = f.imm
 imm_in None = pos 0
 
--- an instruction begins with the fields, and the bytes behind them are its second slot, if it has one, and others
+-- an instruction begins with the fields, and the bytes after them are its second slot, if it has one, and others
 pub record IsForm (i : Insn) (f : Fields) (rest : List ℕ) : Type 0 where
   pub fits : Fits i
   pub fields : fields_of i ≡ f

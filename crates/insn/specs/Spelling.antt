@@ -105,7 +105,7 @@ mnemonic Exit = codes "exit"
 
 -- ---- operands
 
--- what stands behind a mnemonic: a register, a number with or without a sign, the address in a register with a
+-- what follows a mnemonic: a register, a number with or without a sign, the address in a register with a
 -- displacement, or a jump distance
 pub data Argument : Type 0 where
   Register : Reg → Argument

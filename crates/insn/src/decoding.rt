@@ -39,19 +39,19 @@ fn operand_of(source: Source, src: Reg, imm: i32) -> Operand
 }
 
 /// Returns the move or the sign extension that the offset of a slot chooses.
-fn move_of(width: Width, source: Source, dst: Reg, src: Reg, offset: i16, imm: i32) -> Insn
-    ensures { result ≡ move_form width source dst src offset imm }
+fn move_of(width: Width, source: Source, head: Head, offset: i16, imm: i32) -> Insn
+    ensures { result ≡ move_form width source head.dst head.src offset imm }
 {
     match (source, Extension::chosen(width, offset)) {
         (Source::Reg, Some(extension)) => Insn::SignExtend {
             extension,
-            dst,
-            src,
+            dst: head.dst,
+            src: head.src,
         },
         _ => Insn::Mov {
             width,
-            dst,
-            operand: operand_of(source, src, imm),
+            dst: head.dst,
+            operand: operand_of(source, head.src, imm),
         },
     }
 }
@@ -70,7 +70,7 @@ fn insn_of(head: Head, offset: i16, imm: i32, high: i32) -> Insn
             dst,
             operand: operand_of(source, src, imm),
         },
-        Opcode::Mov(width, source) => move_of(width, source, dst, src, offset, imm),
+        Opcode::Mov(width, source) => move_of(width, source, head, offset, imm),
         Opcode::Neg(width) => Insn::Neg { width, dst },
         Opcode::Swap(op) => Insn::Swap {
             op,
@@ -133,7 +133,7 @@ fn head_of(fields: Fields) -> Result<Head, SlotFault>
     Ok(Head { opcode, dst, src })
 }
 
-/// Returns the second slot, which `LDDW` alone has, if it has room in the bytes behind the first.
+/// Returns the second slot, which `LDDW` alone has, if it has room in the bytes after the first.
 fn second_slot(opcode: Opcode, rest: &[u8]) -> Result<Option<Fields>, SlotFault>
     ensures found { IfOk result (HasSecond opcode rest.now) }
     ensures refused { IfErr result (λ e. (e ≡ WideCut) × (opcode ≡ LoadImm) × (length rest.now < 8)) }
@@ -182,7 +182,7 @@ fn has_slots(insn: Insn, fields: Fields, second: Option<Fields>) -> bool
     is_second && are_same(insn.fields(), fields)
 }
 
-/// Returns the instruction of a slot's fields and of the bytes behind it, or its fault.
+/// Returns the instruction of a slot's fields and of the bytes after it, or its fault.
 fn typed(fields: Fields, head: Head, rest: &[u8]) -> Result<Insn, SlotFault>
     requires room { HaveRoom fields }
     requires head { HasHead fields head }

@@ -1,7 +1,7 @@
 //! Instructions as typed values: each value has exactly one encoding (RFC 9669, sections 3 to 5).
 
 ghost use Rattle.std.specs.Prelude.{◌≡◌, ◌<◌, IfSome};
-ghost use Rattle.insn.specs.Encoding.{source_of, src_of, imm_of, low_half, high_half, joined, fields_of, second_of, slots_of, Fits};
+ghost use Rattle.insn.specs.Encoding.{source_of, src_of, imm_of, low_half, high_half, wide_number, fields_of, second_of, slots_of, Fits};
 ghost use Rattle.insn.specs.Fields.{HaveRoom};
 ghost use Rattle.insn.specs.Opcode.{byte_of};
 
@@ -122,7 +122,7 @@ fn high_half(value: u64) -> i32
 
 /// Returns the number of two imm fields, the low one first.
 pub(crate) fn joined(low: i32, high: i32) -> u64
-    ensures { result ≡ joined low high }
+    ensures { result ≡ wide_number low high }
 {
     u64::from(low.cast_unsigned()) + 0x1_0000_0000 * u64::from(high.cast_unsigned())
 }

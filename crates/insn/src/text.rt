@@ -109,7 +109,7 @@ impl fmt::Display for SwapOp {
     }
 }
 
-/// The number of bits, behind the mnemonic of a byte swap.
+/// The number of bits, after the mnemonic of a byte swap.
 impl fmt::Display for SwapSize {
     ghost output = { λ size. Some (bits_suffix size) };
 

@@ -37,8 +37,8 @@ abbrev pub is_single : Bounds → Bool
 is_single x = x.lo == x.hi
 
 -- an operand of a width: all words of the width where it may exceed them
-abbrev pub narrowed : Width → Bounds → Bounds
-narrowed w x = if nat_lt x.hi (modulus w) then x else all w
+abbrev pub operand_bounds : Width → Bounds → Bounds
+operand_bounds w x = if nat_lt x.hi (modulus w) then x else all w
 
 -- neither operand may be negative at the width
 abbrev pub are_positive : Width → Bounds → Bounds → Bool
@@ -46,8 +46,8 @@ are_positive w x y = nat_lt x.hi (modulus w / 2) && nat_lt y.hi (modulus w / 2)
 
 -- ---- operators with two operands
 
-abbrev pub divided : Bounds → Bounds → Bounds
-divided x y = if nat_lt 0 y.lo then from_to (x.lo / y.hi) (x.hi / y.lo) else from_to 0 x.hi
+abbrev pub quotient_bounds : Bounds → Bounds → Bounds
+quotient_bounds x y = if nat_lt 0 y.lo then from_to (x.lo / y.hi) (x.hi / y.lo) else from_to 0 x.hi
 
 abbrev pub remainder : Bounds → Bounds → Bounds
 remainder x y = if nat_lt 0 y.lo then from_to 0 (min x.hi (y.hi - 1)) else from_to 0 x.hi
@@ -61,24 +61,24 @@ abbrev pub shifted_right : Width → Bounds → Bounds → Bounds
 shifted_right w x y = if is_single y then from_to (x.lo / 2 ^ (y.lo % bit_count w)) (x.hi / 2 ^ (y.lo % bit_count w)) else from_to 0 x.hi
 
 -- operands of the width that aren't both single
-abbrev pub ranged : AluOp → Width → Bounds → Bounds → Bounds
-ranged Add w x y = if nat_lt (x.hi + y.hi) (modulus w) then from_to (x.lo + y.lo) (x.hi + y.hi) else all w
-ranged Sub w x y = if nat_le y.hi x.lo then from_to (x.lo - y.hi) (x.hi - y.lo) else all w
-ranged Mul w x y = if nat_lt (x.hi * y.hi) (modulus w) then from_to (x.lo * y.lo) (x.hi * y.hi) else all w
-ranged Div w x y = divided x y
-ranged SignedDiv w x y = if are_positive w x y then divided x y else all w
-ranged Or w x y = from_to 0 (ones (max x.hi y.hi))
-ranged And w x y = from_to 0 (min x.hi y.hi)
-ranged Lsh w x y = if is_single y && nat_lt (x.hi * 2 ^ (y.lo % bit_count w)) (modulus w) then from_to (x.lo * 2 ^ (y.lo % bit_count w)) (x.hi * 2 ^ (y.lo % bit_count w)) else all w
-ranged Rsh w x y = shifted_right w x y
-ranged Mod w x y = remainder x y
-ranged SignedMod w x y = if are_positive w x y then remainder x y else all w
-ranged Xor w x y = from_to 0 (ones (max x.hi y.hi))
-ranged Arsh w x y = if nat_lt x.hi (modulus w / 2) then shifted_right w x y else all w
+abbrev pub result_bounds : AluOp → Width → Bounds → Bounds → Bounds
+result_bounds Add w x y = if nat_lt (x.hi + y.hi) (modulus w) then from_to (x.lo + y.lo) (x.hi + y.hi) else all w
+result_bounds Sub w x y = if nat_le y.hi x.lo then from_to (x.lo - y.hi) (x.hi - y.lo) else all w
+result_bounds Mul w x y = if nat_lt (x.hi * y.hi) (modulus w) then from_to (x.lo * y.lo) (x.hi * y.hi) else all w
+result_bounds Div w x y = quotient_bounds x y
+result_bounds SignedDiv w x y = if are_positive w x y then quotient_bounds x y else all w
+result_bounds Or w x y = from_to 0 (ones (max x.hi y.hi))
+result_bounds And w x y = from_to 0 (min x.hi y.hi)
+result_bounds Lsh w x y = if is_single y && nat_lt (x.hi * 2 ^ (y.lo % bit_count w)) (modulus w) then from_to (x.lo * 2 ^ (y.lo % bit_count w)) (x.hi * 2 ^ (y.lo % bit_count w)) else all w
+result_bounds Rsh w x y = shifted_right w x y
+result_bounds Mod w x y = remainder x y
+result_bounds SignedMod w x y = if are_positive w x y then remainder x y else all w
+result_bounds Xor w x y = from_to 0 (ones (max x.hi y.hi))
+result_bounds Arsh w x y = if nat_lt x.hi (modulus w / 2) then shifted_right w x y else all w
 
 -- exact on single numbers; else each operand is first cut to the width
 abbrev pub interval_alu : AluOp → Width → Bounds → Bounds → Bounds
-interval_alu op w x y = if is_single x && is_single y then single (alu op w x.lo y.lo) else ranged op w (narrowed w x) (narrowed w y)
+interval_alu op w x y = if is_single x && is_single y then single (alu op w x.lo y.lo) else result_bounds op w (operand_bounds w x) (operand_bounds w y)
 
 -- ---- operators with one operand
 
@@ -102,7 +102,7 @@ operand_width (SignExtend e) = target_of e
 operand_width (Swap op z) = W64
 
 abbrev pub interval_unary : UnaryOp → Bounds → Bounds
-interval_unary op x = if is_single x then single (unary op x.lo) else ranged_unary op (narrowed (operand_width op) x)
+interval_unary op x = if is_single x then single (unary op x.lo) else ranged_unary op (operand_bounds (operand_width op) x)
 
 -- ---- refinement
 
@@ -115,9 +115,9 @@ both (Some x) (Some y) = Some (x, y)
 both (Some x) None = None
 both None y = None
 
-abbrev pub exchanged : Option (Bounds × Bounds) → Option (Bounds × Bounds)
-exchanged (Some pair) = Some (pair.1, pair.0)
-exchanged None = None
+abbrev pub exchanged_pair : Option (Bounds × Bounds) → Option (Bounds × Bounds)
+exchanged_pair (Some pair) = Some (pair.1, pair.0)
+exchanged_pair None = None
 
 -- x > y: where y.lo + 1 is no word, or x.hi is 0, no pair is left
 abbrev pub greater : Bounds → Bounds → Option (Bounds × Bounds)
@@ -154,20 +154,20 @@ where_it_holds Set x y = Some (x, y)
 where_it_holds Ne x y = Some (x, y)
 where_it_holds SignedGt x y = greater x y
 where_it_holds SignedGe x y = at_least x y
-where_it_holds Lt x y = exchanged (greater y x)
-where_it_holds Le x y = exchanged (at_least y x)
-where_it_holds SignedLt x y = exchanged (greater y x)
-where_it_holds SignedLe x y = exchanged (at_least y x)
+where_it_holds Lt x y = exchanged_pair (greater y x)
+where_it_holds Le x y = exchanged_pair (at_least y x)
+where_it_holds SignedLt x y = exchanged_pair (greater y x)
+where_it_holds SignedLe x y = exchanged_pair (at_least y x)
 
 -- where a condition doesn't hold, its opposite does; a common bit has none among the conditions
 abbrev pub where_it_fails : Condition → Bounds → Bounds → Option (Bounds × Bounds)
 where_it_fails Eq x y = Some (x, y)
-where_it_fails Gt x y = exchanged (at_least y x)
-where_it_fails Ge x y = exchanged (greater y x)
+where_it_fails Gt x y = exchanged_pair (at_least y x)
+where_it_fails Ge x y = exchanged_pair (greater y x)
 where_it_fails Set x y = Some (x, y)
 where_it_fails Ne x y = equal x y
-where_it_fails SignedGt x y = exchanged (at_least y x)
-where_it_fails SignedGe x y = exchanged (greater y x)
+where_it_fails SignedGt x y = exchanged_pair (at_least y x)
+where_it_fails SignedGe x y = exchanged_pair (greater y x)
 where_it_fails Lt x y = at_least x y
 where_it_fails Le x y = greater x y
 where_it_fails SignedLt x y = at_least x y
@@ -177,9 +177,9 @@ abbrev pub condition_of : Test → Condition
 condition_of (Holds c) = c
 condition_of (Fails c) = c
 
-abbrev pub left : Test → Bounds → Bounds → Option (Bounds × Bounds)
-left (Holds c) x y = where_it_holds c x y
-left (Fails c) x y = where_it_fails c x y
+abbrev pub pair_where : Test → Bounds → Bounds → Option (Bounds × Bounds)
+pair_where (Holds c) x y = where_it_holds c x y
+pair_where (Fails c) x y = where_it_fails c x y
 
 -- both operands are words of the width, and not negative where the test reads a sign
 abbrev pub can_refine : Test → Width → Bounds → Bounds → Bool
@@ -188,7 +188,7 @@ can_refine test w x y = if is_signed (condition_of test) then are_positive w x y
 abbrev pub interval_refine : Test → Width → Bounds → Bounds → Option (Bounds × Bounds)
 interval_refine test w x y =
     if is_single x && is_single y then (if passes test w x.lo y.lo then Some (x, y) else None)
-    else (if can_refine test w x y then left test x y else Some (x, y))
+    else (if can_refine test w x y then pair_where test x y else Some (x, y))
 
 -- ---- all operations
 

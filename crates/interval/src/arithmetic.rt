@@ -3,7 +3,7 @@
 ghost use Rattle.std.specs.Prelude.{◌≡◌, ◌+◌, ◌/◌, ◌%◌, ◌^◌, nat_lt, Some, None, if◌then◌else◌};
 ghost use Rattle.insn.specs.Words.{modulus, bit_count, swap_width, signed_width};
 ghost use Rattle.insn.specs.declared.operator.AluOp.TheVariants.{Add, Sub, Mul, Lsh};
-ghost use Rattle.interval.specs.Intervals.{is_single, narrowed, are_positive, divided, remainder, ones, shifted_right, ranged, interval_alu, ranged_unary, operand_width, interval_unary};
+ghost use Rattle.interval.specs.Intervals.{is_single, operand_bounds, are_positive, quotient_bounds, remainder, ones, shifted_right, result_bounds, interval_alu, ranged_unary, operand_width, interval_unary};
 ghost use mir.Val.{bits};
 
 use crate::interval::Interval;
@@ -38,7 +38,7 @@ pub(crate) fn are_positive(width: Width, a: Interval, b: Interval) -> bool
 
 /// Returns an operand of a width: all words of the width where it may exceed them.
 fn narrowed(width: Width, a: Interval) -> Interval
-    ensures { result ≡ narrowed width a }
+    ensures { result ≡ operand_bounds width a }
 {
     if is_word(width, a.ends().hi) {
         a
@@ -49,7 +49,7 @@ fn narrowed(width: Width, a: Interval) -> Interval
 
 /// Adds where no sum wraps.
 fn added(width: Width, a: Interval, b: Interval) -> Interval
-    ensures { result ≡ ranged Add width a b }
+    ensures { result ≡ result_bounds Add width a b }
 {
     let a = a.ends();
     let b = b.ends();
@@ -61,7 +61,7 @@ fn added(width: Width, a: Interval, b: Interval) -> Interval
 
 /// Subtracts where no difference wraps.
 fn subtracted(width: Width, a: Interval, b: Interval) -> Interval
-    ensures { result ≡ ranged Sub width a b }
+    ensures { result ≡ result_bounds Sub width a b }
 {
     let a = a.ends();
     let b = b.ends();
@@ -74,7 +74,7 @@ fn subtracted(width: Width, a: Interval, b: Interval) -> Interval
 
 /// Multiplies where no product wraps.
 fn multiplied(width: Width, a: Interval, b: Interval) -> Interval
-    ensures { result ≡ ranged Mul width a b }
+    ensures { result ≡ result_bounds Mul width a b }
 {
     let a = a.ends();
     let b = b.ends();
@@ -86,7 +86,7 @@ fn multiplied(width: Width, a: Interval, b: Interval) -> Interval
 
 /// Divides; by 0 the quotient is 0.
 fn divided(a: Interval, b: Interval) -> Interval
-    ensures { result ≡ divided a b }
+    ensures { result ≡ quotient_bounds a b }
 {
     let a = a.ends();
     let b = b.ends();
@@ -130,7 +130,7 @@ fn single_count(width: Width, b: Interval) -> Option<u32>
 
 /// Shifts to the left by an exact count, where no bit is lost.
 fn shifted_left(width: Width, a: Interval, b: Interval) -> Interval
-    ensures { result ≡ ranged Lsh width a b }
+    ensures { result ≡ result_bounds Lsh width a b }
 {
     match single_count(width, b) {
         Some(count) => multiplied(width, a, Interval::single(1 << count)),
@@ -151,7 +151,7 @@ fn shifted_right(width: Width, a: Interval, b: Interval) -> Interval
 
 /// Applies an operator to operands of the width that aren't both single.
 fn ranged(op: AluOp, width: Width, a: Interval, b: Interval) -> Interval
-    ensures { result ≡ ranged op width a b }
+    ensures { result ≡ result_bounds op width a b }
 {
     let positive = are_positive(width, a, b);
     match op {

@@ -2,7 +2,7 @@
 
 ghost use Rattle.std.specs.Prelude.{◌≡◌};
 ghost use Rattle.interval.specs.Domains.{passes};
-ghost use Rattle.interval.specs.Intervals.{if_any, from_to, greater, at_least, equal, exchanged, is_signed, condition_of, where_it_holds, where_it_fails, left, can_refine, interval_refine};
+ghost use Rattle.interval.specs.Intervals.{if_any, from_to, greater, at_least, equal, exchanged_pair, is_signed, condition_of, where_it_holds, where_it_fails, pair_where, can_refine, interval_refine};
 
 use crate::arithmetic::{are_positive, is_word};
 use crate::domain::Test;
@@ -58,7 +58,7 @@ fn equal(a: Interval, b: Interval) -> Option<(Interval, Interval)>
 
 /// Exchanges the numbers of the pairs.
 fn exchanged(pairs: Option<(Interval, Interval)>) -> Option<(Interval, Interval)>
-    ensures { result ≡ exchanged pairs }
+    ensures { result ≡ exchanged_pair pairs }
 {
     let (a, b) = pairs?;
     Some((b, a))
@@ -120,7 +120,7 @@ fn condition_of(test: Test) -> Condition
 
 /// Returns the pairs that may pass a test, on numbers of one sign.
 fn left(test: Test, a: Interval, b: Interval) -> Option<(Interval, Interval)>
-    ensures { result ≡ left test a b }
+    ensures { result ≡ pair_where test a b }
 {
     match test {
         Test::Holds(condition) => where_it_holds(condition, a, b),

@@ -8,7 +8,7 @@ use Rattle.semantics.specs.declared.plan.Plan.{Plan}
 use Rattle.semantics.specs.Slots.{fetch, last_slot, IsAt}
 use Rattle.semantics.specs.SlotLaws.{at_start}
 use Rattle.semantics.specs.Runs as runs
-use Rattle.semantics.specs.Runs.{Run, applied, stepped, visited, after, onwards, run}
+use Rattle.semantics.specs.Runs.{Run, step_by_effect, step_of_fetched, visits_of, after, onwards, run}
 use Rattle.semantics.specs.declared.value.Value.{Value}
 use Rattle.semantics.specs.declared.reason.Reason.{Reason}
 use Rattle.semantics.specs.declared.reason.Reason.TheVariants.{JumpIntoWide, FallsOffEnd}
@@ -37,7 +37,7 @@ one_more n steps index p q = omega arith
 less_one : (n steps : ℕ) → n - steps ≡ n + 1 - (steps + 1)
 less_one n steps = omega arith
 
--- The loop is at a position behind a path, and what is left of the run goes on from there, in the memory that the steps
+-- The loop is at a position after a path, and what is left of the run goes on from there, in the memory that the steps
 -- so far have made of the first one.
 pub record HasRun {Log : Type 0} (Logs : Log → Visit → Log → Type 0) (program : List Insn) (answers : Answers) (context : List ℕ) (first memory : Memory) (plan : Plan) (at : Position) (registers : List Value) (steps : ℕ) (old new : Log) : Type 0 where
   pub is_at : IsAt program at
@@ -72,20 +72,20 @@ end_count path v steps e = omega (arith, length-append (path ++ v ∷ []) [], le
 -- the result of a step that makes these registers, this memory and this plan of those before it
 abbrev StepsTo : List Insn → Answers → List ℕ → ℕ → ℕ → List Value → Memory → Plan → Insn → List Value → Memory → Plan → StepResult → Type 0
 StepsTo program answers context size slot registers memory plan i registers' memory' plan' result =
-    (c : Context) → IsRecordOf context size c → result_of slot registers' memory' plan' result ≡ applied (around c answers) program (state_at slot registers memory plan) i (effect c memory registers i)
+    (c : Context) → IsRecordOf context size c → result_of slot registers' memory' plan' result ≡ step_by_effect (around c answers) program (state_at slot registers memory plan) i (effect c memory registers i)
 
 module _ {Log : Type 0} (Logs : Log → Visit → Log → Type 0) (program : List Insn) (answers : Answers) (context : List ℕ) (first memory : Memory) (plan : Plan) (at : Position) (registers : List Value) (steps : ℕ) (old new : Log) (has : HasRun Logs program answers context first memory plan at registers steps old new) where
   turned : (f : Fetched) → fetch program at.slot ≡ f → (c : Context) → IsRecordOf context first.length c
-      → whole_run (around c answers) program first ≡ turned_to (around c answers) program memory plan at.slot registers steps has.path (visited at.slot f) (stepped (around c answers) program (state_at at.slot registers memory plan) f)
+      → whole_run (around c answers) program first ≡ turned_to (around c answers) program memory plan at.slot registers steps has.path (visits_of at.slot f) (step_of_fetched (around c answers) program (state_at at.slot registers memory plan) f)
   turned f here c is =
       let s : State = state_at at.slot registers memory plan in
       let fuel : length program + 1 - steps ≡ suc (length program - steps) = one_more (length program) steps at.index has.early has.is_at.inside in
       has.so_far c is
       ∙ ap (λ (k : ℕ). after has.path (run (around c answers) program k s)) fuel
-      ∙ ap (λ (q : Fetched). after has.path (after (visited at.slot q) (onwards s (stepped (around c answers) program s q) (λ next. run (around c answers) program (length program - steps) next)))) here
-      ∙ after_after has.path (visited at.slot f) (onwards s (stepped (around c answers) program s f) (λ next. run (around c answers) program (length program - steps) next))
+      ∙ ap (λ (q : Fetched). after has.path (after (visits_of at.slot q) (onwards s (step_of_fetched (around c answers) program s q) (λ next. run (around c answers) program (length program - steps) next)))) here
+      ∙ after_after has.path (visits_of at.slot f) (onwards s (step_of_fetched (around c answers) program s f) (λ next. run (around c answers) program (length program - steps) next))
 
-  -- a step behind the run so far
+  -- a step after the run so far
   stepped_to : (i : Insn) (r : StepResult) (registers' : List Value) (memory' : Memory) (plan' : Plan) → fetch program at.slot ≡ Begins i → StepsTo program answers context first.length at.slot registers memory plan i registers' memory' plan' r
       → (c : Context) → IsRecordOf context first.length c
       → whole_run (around c answers) program first ≡ turned_to (around c answers) program memory plan at.slot registers steps has.path (visit at.slot i ∷ []) (result_of at.slot registers' memory' plan' r)
@@ -129,7 +129,7 @@ module _ {Log : Type 0} (Logs : Log → Visit → Log → Type 0) (program : Lis
         logged = λ c is. logged_whole last (has.path ++ visit at.slot i ∷ []) (whole_run (around c answers) program first) (logged_more last (visit at.slot i) logs) (ap (λ (r : Run). r.path) (whole c is));
       }
 
-  -- a run that is stuck behind a path
+  -- a run that is stuck after a path
   stuck_behind : (more : List Visit) (left : Memory) (plan' : Plan) (last : Log) (reason : Reason) (slot : ℕ) → left ≡ memory → plan' ≡ plan → Reports Logs old (has.path ++ more) last
       → ((c : Context) → IsRecordOf context first.length c → whole_run (around c answers) program first ≡ turned_to (around c answers) program memory plan at.slot registers steps has.path more (runs.Sticks reason slot))
       → IsWholeRun Logs program answers context first left plan' old last (Err (record { reason = reason; slot = slot }))

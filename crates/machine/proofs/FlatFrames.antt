@@ -6,7 +6,7 @@ use Rattle.insn.specs.declared.instruction.Insn.{Insn}
 use Rattle.semantics.specs.Access.{put}
 use Rattle.semantics.specs.Calls.{IsWindow}
 use Rattle.semantics.specs.Extents.{start_extent, run_extent}
-use Rattle.semantics.specs.Machine.{IsContext, Environment, context_bytes, start, surrounded}
+use Rattle.semantics.specs.Machine.{IsContext, Environment, context_bytes, start, datagram_area}
 use Rattle.semantics.specs.Runs.{IsDatagram, IsLawful}
 use Rattle.semantics.specs.declared.limits.TheConstants.{STACK_BYTES, HEADROOM, TAILROOM}
 use Rattle.semantics.specs.declared.plan.Plan.{Plan}
@@ -38,7 +38,7 @@ module _ (answers : Answers) (lawful : IsLawful answers) (program : List Insn) (
   flat_long = omega (arith, holds.long, ap length area_is, length-drop headroom_index flat)
 
   -- headroom, datagram and tailroom in the area
-  held : take (HEADROOM + length d + TAILROOM) (drop headroom_index flat) ≡ surrounded d
+  held : take (HEADROOM + length d + TAILROOM) (drop headroom_index flat) ≡ datagram_area d
   held =
       let same : HEADROOM + length d + TAILROOM ≡ HEADROOM + TAILROOM + f.length = omega (arith, size_is) in
       (λ i. take (same i) (sym area_is i)) ∙ holds.ready refl

@@ -6,7 +6,7 @@ use Rattle.std.proofs.lemmas.Slice.{drop-append-drop, between-put_mid, drop-put_
 use borrow.Rule.Slice.PartMut.{put_mid}
 use Rattle.std.proofs.Math.Seq.{take-append-add, take-add}
 use Rattle.insn.specs.declared.instruction.Insn.{Insn}
-use Rattle.semantics.specs.Machine.{IsContext, Memory, context_bytes, headroom, surrounded, empty_stack, start}
+use Rattle.semantics.specs.Machine.{IsContext, Memory, context_bytes, headroom, datagram_area, empty_stack, start}
 use Rattle.semantics.specs.declared.limits.TheConstants.{STACK_BYTES}
 use Rattle.semantics.specs.declared.plan.Plan.{Plan}
 use Rattle.semantics.specs.Runs.{Run}
@@ -27,7 +27,7 @@ use Rattle.attributes.specs.declared.address.Addr.{Addr}
 use Rattle.machine.specs.declared.execution.Exited.{Exited}
 use Rattle.machine.specs.declared.outcome.Stuck.{Stuck}
 
--- zeros before the datagram, and then behind it
+-- zeros before the datagram, and then after it
 surround_is : (h z old middle new : List ℕ) (n : ℕ) → length h ≡ 64 → length z ≡ 3 → 67 + n ≤ length old → middle ≡ take 0 old ++ h ++ drop (0 + 64) old → new ≡ take (64 + n) middle ++ z ++ drop (64 + n + 3) middle
     → new ≡ (h ++ take n (drop 64 old) ++ z) ++ drop (67 + n) old
 surround_is h z old middle new n lh lz long e f =
@@ -40,7 +40,7 @@ surround_is h z old middle new n lh lz long e f =
     f ∙ (λ i. taken i ++ z ++ dropped i)
 
 pub surrounded_is : (old middle new : List ℕ) (n : ℕ) → 67 + n ≤ length old → middle ≡ take 0 old ++ replicate 64 0 ++ drop (0 + 64) old → new ≡ take (64 + n) middle ++ replicate 3 0 ++ drop (64 + n + 3) middle
-    → new ≡ surrounded (take n (drop 64 old)) ++ drop (67 + n) old
+    → new ≡ datagram_area (take n (drop 64 old)) ++ drop (67 + n) old
 unfolding headroom
 surrounded_is old middle new n long e f = surround_is headroom (0 ∷ 0 ∷ 0 ∷ []) old middle new n length-headroom refl long e f
 
@@ -48,19 +48,19 @@ frame_long : (a b n all : ℕ) → all ≡ a + b → a ≡ 67 + n → b ≡ 6557
 frame_long a b n all e f g short = omega arith
 
 -- a frame over such an area is one that may run
-pub is_frame : (old area : List ℕ) (stack : List (Option ℕ)) (n : ℕ) → length old ≡ 65574 → n ≤ 65507 → length stack ≡ STACK_BYTES → area ≡ surrounded (take n (drop 64 old)) ++ drop (67 + n) old
+pub is_frame : (old area : List ℕ) (stack : List (Option ℕ)) (n : ℕ) → length old ≡ 65574 → n ≤ 65507 → length stack ≡ STACK_BYTES → area ≡ datagram_area (take n (drop 64 old)) ++ drop (67 + n) old
     → HoldsDatagram area stack n true None
 is_frame old area stack n long short cells e =
     let d : List ℕ = take n (drop 64 old) in
     let rest : List ℕ = drop (67 + n) old in
     let d_long : length d ≡ n = length-take-le n (drop 64 old) (omega (arith, length-drop 64 old)) in
-    let front : take (67 + n) area ≡ surrounded d = ap (take (67 + n)) e ∙ take_at (surrounded d) rest (67 + n) (length-surrounded d ∙ ap (λ (k : ℕ). 67 + k) d_long) in
+    let front : take (67 + n) area ≡ datagram_area d = ap (take (67 + n)) e ∙ take_at (datagram_area d) rest (67 + n) (length-surrounded d ∙ ap (λ (k : ℕ). 67 + k) d_long) in
     let datagram : take n (drop 64 area) ≡ d = datagram_inside d rest area n d_long e in
     record {
-      long = ap length e ∙ frame_long (length (surrounded d)) (length rest) n (length (surrounded d ++ rest)) (length-append (surrounded d) rest) (length-surrounded d ∙ ap (λ (k : ℕ). 67 + k) d_long) (length-drop (67 + n) old ∙ ap (λ (k : ℕ). k - (67 + n)) long) short;
+      long = ap length e ∙ frame_long (length (datagram_area d)) (length rest) n (length (datagram_area d ++ rest)) (length-append (datagram_area d) rest) (length-surrounded d ∙ ap (λ (k : ℕ). 67 + k) d_long) (length-drop (67 + n) old ∙ ap (λ (k : ℕ). k - (67 + n)) long) short;
       short = short;
       cells = cells;
-      ready = λ started. front ∙ ap surrounded (sym datagram);
+      ready = λ started. front ∙ ap datagram_area (sym datagram);
       inside = tt;
     }
 
@@ -74,7 +74,7 @@ memory_is area stack empty n window frame is_empty =
     let count : n ≡ length (take n (drop 64 area)) = sym (datagram_length area n frame.long frame.short) in
     λ i. memory_with (is_empty i) (frame.ready refl i) (count i)
 
--- a frame with the bytes and the window that a run left, before what stands behind the tailroom
+-- a frame with the bytes and the window that a run left, before what follows the tailroom
 pub frame_left : (f : Contents) (area : List ℕ) (plan : Plan) (r : Run) → r.state.memory.bytes ≡ take (67 + f.length) area → drop (67 + f.length) area ≡ drop (67 + f.length) f.area → r.state.plan ≡ plan
     → record f { area = area; is_started = false; window = plan.window } ≡ left_by f r
 frame_left f area plan r bytes behind planned =
@@ -123,7 +123,7 @@ pub sticks_with : {Log : Type 0} (Logs : Log → Visit → Log → Type 0) (answ
     → RunsOver Logs answers program before after plan old new (Err stuck) → IsFrameRun Logs answers program before after old new (Err stuck)
 sticks_with Logs answers program before after plan old new stuck runs = record { ending = runs.ending; left = runs.left; logged = runs.logged }
 
--- a vector's items behind a slice of all of them
+-- a vector's items, underlying a slice of all of them
 pub written : {X : Type 0} (new old : List X) (len : ℕ) → length new ≡ len → take len (new ++ drop (length new) old) ≡ new
 written new old len e = take_at new (drop (length new) old) len e
 

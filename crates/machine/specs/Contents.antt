@@ -1,6 +1,6 @@
 -- Meaning. The contents of a frame: a datagram between headroom and tailroom, in one area of bytes.
 use Rattle.std.specs.Prelude.{◌≡◌, ℕ, ◌+◌, Bool, true, false, List, ◌++◌, All, length, take, drop, Option, None}
-use Rattle.semantics.specs.Machine.{surrounded}
+use Rattle.semantics.specs.Machine.{datagram_area}
 use Rattle.semantics.specs.declared.limits.TheConstants.{HEADROOM, MAX_DATAGRAM, TAILROOM}
 use Rattle.machine.specs.declared.context.Context.{Context}
 
@@ -36,7 +36,7 @@ window_of f w = take w.1 (drop w.0 f.area)
 
 -- a started frame: the first n bytes of its room are the datagram, with zeros round it
 pub record IsStartedOver (old new : Contents) (given : Context) (n : ℕ) : Type 0 where
-  pub area : new.area ≡ surrounded (take n (drop HEADROOM old.area)) ++ drop (HEADROOM + TAILROOM + n) old.area
+  pub area : new.area ≡ datagram_area (take n (drop HEADROOM old.area)) ++ drop (HEADROOM + TAILROOM + n) old.area
   pub length : new.length ≡ n
   pub is_started : new.is_started ≡ true
   pub context : new.context ≡ given

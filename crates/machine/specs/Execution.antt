@@ -43,7 +43,7 @@ result_of slot registers memory plan (code.Goes to) = Goes (state_at to.slot reg
 result_of slot registers memory plan (code.Exits verdict) = Exits verdict
 result_of slot registers memory plan (code.Sticks reason) = Sticks reason slot
 
--- behind every effect but a jump and an exit the run goes on to the next instruction
+-- after every effect but a jump and an exit the run goes on to the next instruction
 abbrev pub GoesStraight : Effect → Type 0
 GoesStraight (effects.Jump offset) = ⊥
 GoesStraight (effects.Exit verdict) = ⊥

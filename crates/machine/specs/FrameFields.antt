@@ -1,6 +1,6 @@
 -- Internal. What the fields of a frame hold.
 use Rattle.std.specs.Prelude.{◌≡◌, ℕ, ◌+◌, ◌≤◌, Bool, true, List, length, take, drop, Option, IfSome}
-use Rattle.semantics.specs.Machine.{IsContext, surrounded}
+use Rattle.semantics.specs.Machine.{IsContext, datagram_area}
 use Rattle.semantics.specs.declared.limits.TheConstants.{STACK_BYTES, HEADROOM, MAX_DATAGRAM, TAILROOM}
 use Rattle.flat.specs.Layout as layout
 use Rattle.flat.specs.Layout.{headroom_index}
@@ -14,7 +14,7 @@ pub record HoldsDatagram (area : List ℕ) (stack : List (Option ℕ)) (count : 
   pub long : length area ≡ area_size
   pub short : count ≤ MAX_DATAGRAM
   pub cells : length stack ≡ STACK_BYTES
-  pub ready : is_started ≡ true → take (HEADROOM + TAILROOM + count) area ≡ surrounded (take count (drop HEADROOM area))
+  pub ready : is_started ≡ true → take (HEADROOM + TAILROOM + count) area ≡ datagram_area (take count (drop HEADROOM area))
   pub inside : IfSome window (λ w. w.0 + w.1 ≤ area_size)
 
 -- a frame's memory, in an area that has it from headroom on, and a context of the definitions' sizes

@@ -1,14 +1,14 @@
 -- Interface. Laws of a frame whose room was written, and that was started.
 use Rattle.std.proofs.Common.{◌≡◌, ℕ, ◌+◌, ◌≤◌, List, [], ◌∷◌, ◌++◌, length, take, drop, sym, ap, ◌∙◌, arith, append_assoc}
 use Rattle.std.proofs.lemmas.List.{length-append, length-take-le, length-drop, length-take, take_at, drop_at, take_all, take-take}
-use Rattle.semantics.specs.Machine.{headroom, surrounded}
+use Rattle.semantics.specs.Machine.{headroom, datagram_area}
 use Rattle.semantics.specs.declared.limits.TheConstants.{HEADROOM, MAX_DATAGRAM, TAILROOM}
 use Rattle.semantics.specs.StartLaws.{length-headroom}
 use Rattle.machine.specs.Contents.{Contents, IsStartedOver, datagram_of, room_of, with_room}
 use Rattle.machine.specs.declared.context.Context.{Context}
 
 -- the datagram of an area that begins with its surroundings
-pub datagram_inside : (datagram rest area : List ℕ) (n : ℕ) → length datagram ≡ n → area ≡ surrounded datagram ++ rest → take n (drop HEADROOM area) ≡ datagram
+pub datagram_inside : (datagram rest area : List ℕ) (n : ℕ) → length datagram ≡ n → area ≡ datagram_area datagram ++ rest → take n (drop HEADROOM area) ≡ datagram
 datagram_inside datagram rest area n long e =
     let zeros : List ℕ = 0 ∷ 0 ∷ 0 ∷ [] in
     let regrouped : area ≡ headroom ++ (datagram ++ (zeros ++ rest)) = e ∙ append_assoc (headroom ++ datagram) zeros rest ∙ append_assoc headroom datagram (zeros ++ rest) in

@@ -6,7 +6,7 @@ ghost use Rattle.insn.specs.Encoding.{slot_count, slots_of};
 ghost use Rattle.insn.specs.declared.decoding.TheConstants.{MAX_SLOTS};
 ghost use Rattle.semantics.specs.Effects.{effect, StaysInside};
 ghost use Rattle.semantics.specs.Machine.{Context, first_registers, no_plan};
-ghost use Rattle.semantics.specs.Runs.{Goes, applied, called, answered_at, plan_answer, with_window, with_destination};
+ghost use Rattle.semantics.specs.Runs.{Goes, step_by_effect, registers_after_call, answered_at, plan_answer, with_window, with_destination};
 ghost use Rattle.semantics.specs.Slots.{fetch, IsAt};
 ghost use Rattle.semantics.specs.declared.fetching.Fetched.TheVariants.{Begins};
 ghost use Rattle.semantics.specs.declared.limits.TheConstants.{STACK_BYTES, HEADROOM, MAX_DATAGRAM, TAILROOM};
@@ -92,7 +92,7 @@ fn next_effect<H>(
 
 /// Writes the answer of a call to `r0`. `r1` to `r5` hold nothing afterwards.
 fn answer(registers: &mut Registers, n: u64)
-    ensures { registers.new ≡ called registers.old n }
+    ensures { registers.new ≡ registers_after_call registers.old n }
 {
     registers[0] = Value::Scalar(n);
     registers[1] = Value::Nothing;
@@ -124,7 +124,7 @@ fn ask<H: Helpers>(
 )
     requires { IfSome out (λ i. i + RECORD_BYTES ≤ count stack.old) }
     ensures registers { let answer = H.answers helpers.now question.helper question.number question.address in
-        registers.new ≡ called registers.old answer.0 }
+        registers.new ≡ registers_after_call registers.old answer.0 }
     ensures stack { let answer = H.answers helpers.now question.helper question.number question.address in
         (bytes : List ℕ) (length : ℕ)
         → memory_with stack.new bytes length ≡ answered_at (memory_with stack.old bytes length) out answer.1 }
@@ -136,7 +136,7 @@ fn ask<H: Helpers>(
 
 /// Writes the answer of a call that changes the plan: 0 if `value` is `Some`, else 1.
 fn answer_change<T>(registers: &mut Registers, value: &Option<T>)
-    ensures { registers.new ≡ called registers.old (plan_answer value.now) }
+    ensures { registers.new ≡ registers_after_call registers.old (plan_answer value.now) }
 {
     match value {
         Some(_) => answer(registers, 0),
@@ -148,7 +148,7 @@ fn answer_change<T>(registers: &mut Registers, value: &Option<T>)
 /// See docs/DECISIONS.md, "A refused window leaves the plan".
 fn set_window(plan: &mut Plan, registers: &mut Registers, window: Option<(usize, usize)>)
     ensures plan { plan.new ≡ with_window plan.old window }
-    ensures registers { registers.new ≡ called registers.old (plan_answer window) }
+    ensures registers { registers.new ≡ registers_after_call registers.old (plan_answer window) }
 {
     if let Some(window) = window {
         plan.window = Some(window);
@@ -159,7 +159,7 @@ fn set_window(plan: &mut Plan, registers: &mut Registers, window: Option<(usize,
 /// Sets the destination of the plan if `destination` is `Some`, and writes the answer.
 fn set_destination(plan: &mut Plan, registers: &mut Registers, destination: Option<[u8; 8]>)
     ensures plan { plan.new ≡ with_destination plan.old destination }
-    ensures registers { registers.new ≡ called registers.old (plan_answer destination) }
+    ensures registers { registers.new ≡ registers_after_call registers.old (plan_answer destination) }
 {
     if let Some(destination) = destination {
         plan.destination = Some(destination);
@@ -167,79 +167,145 @@ fn set_destination(plan: &mut Plan, registers: &mut Registers, destination: Opti
     answer_change(registers, &destination);
 }
 
-/// Applies an effect to registers, memory and plan, after which the run goes on to the next instruction.
+/// What a run changes besides memory.
+#[derive(Clone, Copy, Debug, PartialEq, Eq)]
+struct RunState {
+    /// The registers `r0` to `r10`.
+    registers: Registers,
+    /// What the run has planned so far.
+    plan: Plan,
+    /// Where the next instruction begins.
+    at: Position,
+}
+
+/// Applies an effect to memory, registers and plan, after which the run goes on to the next instruction.
 fn apply<H: Helpers>(
     given: &Environment<H>,
     stack: &mut [Option<u8>],
     bytes: &mut [u8],
-    registers: &mut Registers,
-    plan: &mut Plan,
+    state: &mut RunState,
     effect: Effect,
 )
     requires straight { GoesStraight effect }
     requires inside { StaysInside (memory_with stack.old bytes.old given.now.length) effect }
-    requires planned { IsInside given.now.length plan.old }
+    requires planned { IsInside given.now.length state.old.plan }
     ensures applied { (c : Context) (program : List Insn) (slot : ℕ) (i : Insn)
-        → Goes (state_at (slot + slots_of i) registers.new (memory_with stack.new bytes.new given.now.length) plan.new)
-        ≡ applied (around c (H.answers given.now.helpers.now)) program
-        (state_at slot registers.old (memory_with stack.old bytes.old given.now.length) plan.old) i (Ok effect) }
-    ensures inside { IsInside given.now.length plan.new }
+        → Goes (state_at (slot + slots_of i) state.new.registers (memory_with stack.new bytes.new given.now.length)
+        state.new.plan)
+        ≡ step_by_effect (around c (H.answers given.now.helpers.now)) program
+        (state_at slot state.old.registers (memory_with stack.old bytes.old given.now.length) state.old.plan) i
+        (Ok effect) }
+    ensures inside { IsInside given.now.length state.new.plan }
 {
     match effect {
-        Effect::Write { dst, value } => registers[dst.number() as usize] = value,
+        Effect::Write { dst, value } => state.registers[dst.number() as usize] = value,
         Effect::Store {
             at: location,
             size,
             value,
         } => store(stack, bytes, location, size, value),
-        Effect::Ask { question, out } => ask(given.helpers, stack, registers, question, out),
-        Effect::SetWindow(window) => set_window(plan, registers, window),
-        Effect::SetDestination(destination) => set_destination(plan, registers, destination),
+        Effect::Ask { question, out } => {
+            ask(given.helpers, stack, &mut state.registers, question, out)
+        }
+        Effect::SetWindow(window) => set_window(&mut state.plan, &mut state.registers, window),
+        Effect::SetDestination(destination) => {
+            set_destination(&mut state.plan, &mut state.registers, destination)
+        }
         Effect::Jump { .. } | Effect::Pass | Effect::Exit { .. } => {}
     }
 }
 
-/// Makes the step of the instruction at a position. A step that ends the run changes neither memory nor plan.
+/// Makes the step of the instruction at the position of a state, which the caller moves on. A step that ends the run
+/// changes neither memory nor plan.
 fn execute_step<H: Helpers>(
     given: &Environment<H>,
     stack: &mut [Option<u8>],
     bytes: &mut [u8],
-    registers: &mut Registers,
-    plan: &mut Plan,
-    at: Position,
+    state: &mut RunState,
     insn: &Insn,
 ) -> StepResult
-    requires here { at.index < count given.now.code.now }
-    requires at { IsAt given.now.code.now at }
+    requires here { state.old.at.index < count given.now.code.now }
+    requires at { IsAt given.now.code.now state.old.at }
     requires few { slot_count given.now.code.now ≤ MAX_SLOTS }
-    requires insn { fetch given.now.code.now at.slot ≡ Begins insn.now }
+    requires insn { fetch given.now.code.now state.old.at.slot ≡ Begins insn.now }
     requires context { IsContextRecord given.now.context.now given.now.length }
     requires cells { count stack.old ≡ STACK_BYTES }
     requires surrounded { count bytes.old ≡ HEADROOM + given.now.length + TAILROOM }
     requires short { given.now.length ≤ MAX_DATAGRAM }
-    requires inside { IsInside given.now.length plan.old }
+    requires inside { IsInside given.now.length state.old.plan }
     ensures result { (c : Context) → IsRecordOf given.now.context.now given.now.length c
-        → result_of at.slot registers.new (memory_with stack.new bytes.new given.now.length) plan.new result
-        ≡ applied (around c (H.answers given.now.helpers.now)) given.now.code.now
-        (state_at at.slot registers.old (memory_with stack.old bytes.old given.now.length) plan.old) insn.now
-        (effect c (memory_with stack.old bytes.old given.now.length) registers.old insn.now) }
-    ensures ahead { IfGoes result (GoesAhead given.now.code.now at) }
-    ensures inside { IsInside given.now.length plan.new }
+        → result_of state.old.at.slot state.new.registers (memory_with stack.new bytes.new given.now.length)
+        state.new.plan result
+        ≡ step_by_effect (around c (H.answers given.now.helpers.now)) given.now.code.now
+        (state_at state.old.at.slot state.old.registers (memory_with stack.old bytes.old given.now.length)
+        state.old.plan) insn.now
+        (effect c (memory_with stack.old bytes.old given.now.length) state.old.registers insn.now) }
+    ensures ahead { IfGoes result (GoesAhead given.now.code.now state.old.at) }
+    ensures inside { IsInside given.now.length state.new.plan }
     ensures kept { IfEnds result
         (memory_with stack.new bytes.new given.now.length ≡ memory_with stack.old bytes.old given.now.length) }
-    ensures planned { IfEnds result (plan.new ≡ plan.old) }
+    ensures planned { IfEnds result (state.new.plan ≡ state.old.plan) }
 {
-    match next_effect(given, stack, bytes, registers, insn) {
+    let at = state.at;
+    match next_effect(given, stack, bytes, &state.registers, insn) {
         Ok(Effect::Jump { offset }) => match target(given.code, at, offset) {
             Ok(to) => StepResult::Goes(to),
             Err(reason) => StepResult::Sticks(reason),
         },
         Ok(Effect::Exit { verdict }) => StepResult::Exits(verdict),
         Ok(effect) => {
-            apply(given, stack, bytes, registers, plan, effect);
+            apply(given, stack, bytes, state, effect);
             StepResult::Goes(at.next(given.code))
         }
         Err(reason) => StepResult::Sticks(reason),
+    }
+}
+
+/// Runs the code from the state at the start to its end, and reports each step to the sink.
+///
+/// # Errors
+/// The step that is stuck.
+fn execute_from<H: Helpers, S: Sink>(
+    given: &Environment<H>,
+    stack: &mut [Option<u8>],
+    bytes: &mut [u8],
+    state: &mut RunState,
+    sink: &mut S,
+) -> Result<Exited, Stuck>
+    requires few { slot_count given.now.code.now ≤ MAX_SLOTS }
+    requires context { IsContextRecord given.now.context.now given.now.length }
+    requires cells { count stack.old ≡ STACK_BYTES }
+    requires surrounded { count bytes.old ≡ HEADROOM + given.now.length + TAILROOM }
+    requires short { given.now.length ≤ MAX_DATAGRAM }
+    requires registers { state.old.registers ≡ first_registers }
+    requires planless { state.old.plan ≡ no_plan }
+    requires start { state.old.at ≡ record { slot = 0; index = 0 } }
+    ensures run { IsWholeRun S.Logs given.now.code.now (H.answers given.now.helpers.now) given.now.context.now
+        (memory_with stack.old bytes.old given.now.length) (memory_with stack.new bytes.new given.now.length)
+        state.new.plan (S.log sink.old) (S.log sink.new) result }
+    ensures inside { IsInside given.now.length state.new.plan }
+{
+    let mut steps = 0;
+    loop {
+        let slot = state.at.slot;
+        let insn = match fetch(given.code, state.at) {
+            Fetched::Begins(insn) => insn,
+            Fetched::Inside => {
+                let reason = Reason::JumpIntoWide;
+                return Err(Stuck { reason, slot });
+            }
+            Fetched::Past => {
+                let (reason, slot) = (Reason::FallsOffEnd, last(given.code).slot);
+                return Err(Stuck { reason, slot });
+            }
+        };
+        sink.step(slot, &insn);
+        steps += 1;
+        match execute_step(given, stack, bytes, state, &insn) {
+            StepResult::Goes(to) => state.at = to,
+            StepResult::Exits(verdict) => return Ok(Exited { verdict, steps }),
+            StepResult::Sticks(reason) => return Err(Stuck { reason, slot }),
+        }
     }
 }
 
@@ -266,28 +332,12 @@ pub fn execute<H: Helpers, S: Sink>(
         (S.log sink.old) (S.log sink.new) result }
     ensures inside { IsInside given.now.length plan.new }
 {
-    let mut registers = first_registers();
-    let mut at = Position { slot: 0, index: 0 };
-    let mut steps = 0;
-    loop {
-        let slot = at.slot;
-        let insn = match fetch(given.code, at) {
-            Fetched::Begins(insn) => insn,
-            Fetched::Inside => {
-                let reason = Reason::JumpIntoWide;
-                return Err(Stuck { reason, slot });
-            }
-            Fetched::Past => {
-                let (reason, slot) = (Reason::FallsOffEnd, last(given.code).slot);
-                return Err(Stuck { reason, slot });
-            }
-        };
-        sink.step(slot, &insn);
-        steps += 1;
-        match execute_step(given, stack, bytes, &mut registers, plan, at, &insn) {
-            StepResult::Goes(to) => at = to,
-            StepResult::Exits(verdict) => return Ok(Exited { verdict, steps }),
-            StepResult::Sticks(reason) => return Err(Stuck { reason, slot }),
-        }
-    }
+    let mut state = RunState {
+        registers: first_registers(),
+        plan: *plan,
+        at: Position { slot: 0, index: 0 },
+    };
+    let ended = execute_from(given, stack, bytes, &mut state, sink);
+    *plan = state.plan;
+    ended
 }

@@ -1,7 +1,7 @@
 //! The frame of a run.
 
 ghost use Rattle.std.specs.Prelude.{◌≡◌, ◌≤◌, ◌+◌, ◌++◌, None, length, take, drop, replicate, IfOk, All, ◌<◌};
-ghost use Rattle.semantics.specs.Machine.{AreBytes, IsContext, empty_stack, surrounded};
+ghost use Rattle.semantics.specs.Machine.{AreBytes, IsContext, empty_stack, datagram_area};
 ghost use Rattle.semantics.specs.declared.limits.TheConstants.{STACK_BYTES, HEADROOM, TAILROOM};
 ghost use Rattle.flat.specs.Layout.{headroom_index};
 ghost use Rattle.machine.specs.Contexts.{context_of};
@@ -116,7 +116,7 @@ fn write_zeros(bytes: &mut [u8], from: usize, n: usize)
 /// Writes headroom and tailroom round a datagram of `n` bytes.
 fn surround(bytes: &mut [u8], n: usize)
     requires { HEADROOM + TAILROOM + n ≤ length bytes.old }
-    ensures { bytes.new ≡ surrounded (take n (drop HEADROOM bytes.old)) ++ drop (HEADROOM + TAILROOM + n) bytes.old }
+    ensures { bytes.new ≡ datagram_area (take n (drop HEADROOM bytes.old)) ++ drop (HEADROOM + TAILROOM + n) bytes.old }
 {
     write_zeros(bytes, 0, HEADROOM);
     write_zeros(bytes, HEADROOM + n, TAILROOM);
@@ -134,7 +134,7 @@ fn from_headroom(flat: &[u8]) -> &[u8]
 /// Writes headroom and tailroom round a datagram of `n` bytes, in an area.
 fn surround_in(flat: &mut [u8], n: usize)
     requires { headroom_index + (HEADROOM + TAILROOM + n) ≤ length flat.old }
-    ensures { drop headroom_index flat.new ≡ surrounded (take n (drop HEADROOM (drop headroom_index flat.old)))
+    ensures { drop headroom_index flat.new ≡ datagram_area (take n (drop HEADROOM (drop headroom_index flat.old)))
         ++ drop (HEADROOM + TAILROOM + n) (drop headroom_index flat.old) }
 {
     surround(&mut flat[HEADROOM_INDEX..], n);

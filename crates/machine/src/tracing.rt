@@ -56,7 +56,7 @@ fn execute_in<H: Helpers, S: Sink>(
         (memory_with stack.new (take size (drop headroom_index flat.new)) given.now.length)
         plan.new (S.log sink.old) (S.log sink.new) result }
     ensures inside { IsInside given.now.length plan.new }
-    ensures behind { let size = HEADROOM + TAILROOM + given.now.length in
+    ensures beyond { let size = HEADROOM + TAILROOM + given.now.length in
         drop size (drop headroom_index flat.new) ≡ drop size (drop headroom_index flat.old) }
 {
     let end = HEADROOM_INDEX + HEADROOM + TAILROOM + given.length;

@@ -1,14 +1,14 @@
 //! Replies, byte for byte, and what contracts say of replies that can't fail.
 
 ghost use Rattle.std.specs.Prelude.{◌≡◌, ◌<◌, ◌≤◌, length, take};
-ghost use Rattle.stun.specs.Messages.{parts_bytes, started, with_attribute};
+ghost use Rattle.stun.specs.Messages.{parts_bytes, empty_message, with_attribute};
 ghost use Rattle.stun.specs.declared.registry.attribute.TheConstants.{ERROR_CODE, REALM as REALM_TYPE, NONCE as NONCE_TYPE, XOR_RELAYED_ADDRESS as RELAYED_TYPE, LIFETIME as LIFETIME_TYPE};
 ghost use Rattle.stun.specs.declared.registry.ErrorCode.TheVariants.{Unauthenticated};
 ghost use Rattle.stun.specs.Endian.{big_bytes};
 ghost use Rattle.attributes.specs.Errors.{error_value};
 ghost use Rattle.attributes.specs.Addresses.{address_value};
 ghost use Rattle.credentials.specs.Keys.{key_bytes};
-ghost use Rattle.credentials.specs.Signs.{signed};
+ghost use Rattle.credentials.specs.Signs.{with_integrity};
 
 use attributes::{Addr, push_error, push_xor_addr, write_error, write_unknown, write_xor_addr};
 use credentials::{Key, push_integrity};
@@ -35,7 +35,7 @@ fn demand(out: &mut [u8], tx: &[u8; 12], realm: &[u8], nonce: &[u8]) -> usize
     requires nonce { length nonce.now ≤ 64 }
     ensures inside { result ≤ length out.new }
     ensures bytes { take result out.new ≡ parts_bytes
-        (with_attribute (with_attribute (with_attribute (started 0x0113 tx.now)
+        (with_attribute (with_attribute (with_attribute (empty_message 0x0113 tx.now)
         ERROR_CODE (error_value Unauthenticated))
         REALM_TYPE realm.now)
         NONCE_TYPE nonce.now) }
@@ -54,8 +54,8 @@ fn demand(out: &mut [u8], tx: &[u8; 12], realm: &[u8], nonce: &[u8]) -> usize
 fn grant(out: &mut [u8], tx: &[u8; 12], relayed: &Addr, seconds: u32, key: &Key) -> usize
     requires room { 1500 ≤ length out.old }
     ensures inside { result ≤ length out.new }
-    ensures bytes { take result out.new ≡ parts_bytes (signed (key_bytes key.now)
-        (with_attribute (with_attribute (started 0x0103 tx.now)
+    ensures bytes { take result out.new ≡ parts_bytes (with_integrity (key_bytes key.now)
+        (with_attribute (with_attribute (empty_message 0x0103 tx.now)
         RELAYED_TYPE (address_value relayed.now tx.now))
         LIFETIME_TYPE (big_bytes 4 seconds))) }
 {

@@ -43,18 +43,27 @@ pub fn reported<R: AllocGlobal>(rt: &R, ask: Ask<'_>, file: &[u8]) -> Printed {
     Printed { status, out, err }
 }
 
+/// What a report should print to each stream, and its status.
+#[derive(Clone, Copy)]
+pub struct Expected<'a> {
+    /// The text on the standard output.
+    pub out: &'a str,
+    /// The text on the standard error.
+    pub err: &'a str,
+    /// The exit status.
+    pub status: u8,
+}
+
 /// Compares what the report of a row prints to each stream, and its status.
 pub fn expect_printed<R: Abort + AllocGlobal>(
     rt: &R,
     row: &str,
     report: &Printed,
-    out: &str,
-    err: &str,
-    status: u8,
+    expected: Expected<'_>,
 ) {
-    assert_eq!(rt; report.out.as_slice(), out.as_bytes(), "{row}");
-    assert_eq!(rt; report.err.as_slice(), err.as_bytes(), "{row}");
-    assert_eq!(rt; report.status, status, "{row}");
+    assert_eq!(rt; report.out.as_slice(), expected.out.as_bytes(), "{row}");
+    assert_eq!(rt; report.err.as_slice(), expected.err.as_bytes(), "{row}");
+    assert_eq!(rt; report.status, expected.status, "{row}");
 }
 
 /// A program file and data, what `trace` prints of them in the end, and the status.
@@ -108,7 +117,12 @@ pub fn expect_faults<R: Abort + AllocGlobal>(
         let file = program(rt, slots)?;
         let refused = format!(in rt.alloc(); "refused {fault}\n")?;
         let row = format!(in rt.alloc(); "{table} {i}: {slots}")?;
-        expect_printed(rt, &row, &reported(rt, Ask::Verify, &file), &refused, "", 1);
+        let expected = Expected {
+            out: &refused,
+            err: "",
+            status: 1,
+        };
+        expect_printed(rt, &row, &reported(rt, Ask::Verify, &file), expected);
         let stuck = format!(in rt.alloc(); "\nstuck {fault}\n")?;
         let report = reported(rt, Ask::Trace { hex: None }, &file);
         let is_stuck = report.out.ends_with(stuck.as_bytes());

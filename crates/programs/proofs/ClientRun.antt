@@ -23,14 +23,14 @@ use Rattle.helpers.specs.Records.{address_record, address_of}
 use Rattle.semantics.specs.Access.{part, put, cells_bytes}
 use Rattle.semantics.specs.Calls.{is_valid, no_address}
 use Rattle.semantics.specs.ContextLaws.{length_field}
-use Rattle.semantics.specs.Machine.{AreBytes, AddressRecord, State, Environment, start, surrounded, empty_stack}
+use Rattle.semantics.specs.Machine.{AreBytes, AddressRecord, State, Environment, start, datagram_area, empty_stack}
 use Rattle.semantics.specs.Runs.{IsDatagram}
 use Rattle.semantics.specs.StartLaws.{part_datagram}
 use Rattle.semantics.specs.SwapLaws.{swapped_word}
 use Rattle.semantics.specs.declared.value.Value.TheVariants.{Nothing, Scalar, Ctx, Stack, Data, End}
 use Rattle.programs.specs.Client.{client_program}
 use Rattle.events.specs.Options.{◌>>=◌, guard}
-use Rattle.programs.specs.PlainSends.{padded, IsSendHeader, IsAddressFirst, IsDataFirst}
+use Rattle.programs.specs.PlainSends.{padded_length, IsSendHeader, IsAddressFirst, IsDataFirst}
 use Rattle.programs.specs.Rules.{channel_data}
 use Rattle.programs.specs.Runs.{datagram_in, window_in, destination_in}
 use Rattle.programs.specs.declared.verdict.TheConstants.{PASSES, SENDS}
@@ -62,7 +62,7 @@ of_send permits tx value content = address_in tx value >>= λ to. guard (permits
 pub record IsClientEnd (peer : ℕ → Option Addr) (permitted : Addr → Bool) (tx d : List ℕ) (verdict : ℕ) (s : State) : Type 0 where
   pub channel : 1 ≤ length d → 64 ≤ slice_index d 0 → slice_index d 0 < 128 → (verdict ≢ PASSES) × (window_sent verdict s ≡ channel_data peer d)
   pub address_first : IsAddressFirst d → (verdict ≢ PASSES) × (window_sent verdict s ≡ of_send permitted tx (part 8 24 d) (part (big_number 2 (drop 34 d)) 36 d))
-  pub data_first : IsDataFirst d → (verdict ≢ PASSES) × (window_sent verdict s ≡ of_send permitted tx (part 8 (padded (big_number 2 (drop 22 d)) + 28) d) (part (big_number 2 (drop 22 d)) 24 d))
+  pub data_first : IsDataFirst d → (verdict ≢ PASSES) × (window_sent verdict s ≡ of_send permitted tx (part 8 (padded_length (big_number 2 (drop 22 d)) + 28) d) (part (big_number 2 (drop 22 d)) 24 d))
   pub passed : 1 ≤ length d → slice_index d 0 < 64 → (IsAddressFirst d → ⊥) → (IsDataFirst d → ⊥) → (verdict ≡ PASSES) × (datagram_in (length d) s ≡ d)
   pub other : (length d ≡ 0) ⊎ (128 ≤ slice_index d 0) → verdict ≡ 0
 
@@ -138,13 +138,13 @@ module _ (d : List ℕ) (fit : IsDatagram d) (k : ℕ) (inside : k + 8 ≤ lengt
 
   -- the pieces that are stored are the record of the address
   pieces : (b1 b2 b3 : List ℕ) (v v1 v2 v3 u u1 u2 u3 : ℕ) → b1 ≡ 0 ∷ 1 ∷ []
-      → v ≡ little_number 2 (part 2 (k + 2 + 64) (surrounded d)) → v1 ≡ unary (Swap ToBig swap.Half) v → v2 ≡ alu Xor W64 v1 8466 → v3 ≡ unary (Swap ToBig swap.Half) v2 → b2 ≡ little_bytes 2 v3
-      → u ≡ little_number 4 (part 4 (k + 4 + 64) (surrounded d)) → u1 ≡ unary (Swap ToBig swap.Word) u → u2 ≡ alu Xor W64 u1 554869826 → u3 ≡ unary (Swap ToBig swap.Word) u2 → b3 ≡ little_bytes 4 u3
+      → v ≡ little_number 2 (part 2 (k + 2 + 64) (datagram_area d)) → v1 ≡ unary (Swap ToBig swap.Half) v → v2 ≡ alu Xor W64 v1 8466 → v3 ≡ unary (Swap ToBig swap.Half) v2 → b2 ≡ little_bytes 2 v3
+      → u ≡ little_number 4 (part 4 (k + 4 + 64) (datagram_area d)) → u1 ≡ unary (Swap ToBig swap.Word) u → u2 ≡ alu Xor W64 u1 554869826 → u3 ≡ unary (Swap ToBig swap.Word) u2 → b3 ≡ little_bytes 4 u3
       → b1 ++ b2 ++ b3 ≡ address_record (address_of_value value)
   pieces b1 b2 b3 v v1 v2 v3 u u1 u2 u3 is1 is_v is_v1 is_v2 is_v3 is2 is_u is_u1 is_u2 is_u3 is3 =
       let turned : k + 2 + 64 ≡ 64 + (k + 2) = omega arith in
       let turned' : k + 4 + 64 ≡ 64 + (k + 4) = omega arith in
-      let v1_is : v1 ≡ big_number 2 (drop 2 value) = half_in (k + 2) v v1 d fit (omega (arith, inside)) (is_v ∙ ap (λ (i : ℕ). little_number 2 (part 2 i (surrounded d))) turned) is_v1 ∙ sym port_at in
+      let v1_is : v1 ≡ big_number 2 (drop 2 value) = half_in (k + 2) v v1 d fit (omega (arith, inside)) (is_v ∙ ap (λ (i : ℕ). little_number 2 (part 2 i (datagram_area d))) turned) is_v1 ∙ sym port_at in
       let b2_is : b2 ≡ big_bytes 2 (port_in value) = port_bytes (big_number 2 (drop 2 value)) v1 v2 v3 b2 (omega (arith, port_at, port_small)) v1_is is_v2 is_v3 is2 in
       let u1_is : u1 ≡ big_number 4 (part 4 (k + 4) d) = swapped_word (part 4 (k + 4) d) u u1 ip_fits (is_u ∙ ap (little_number 4) (part_place 4 (k + 4 + 64) (k + 4) d turned' (omega (arith, inside)))) is_u1 in
       let b3_is : b3 ≡ masked 4 (drop 4 value) magic_cookie = ip_bytes_are (part 4 (k + 4) d) ip_fits u1 u2 u3 b3 u1_is is_u2 is_u3 is3 ∙ ap (λ (l : List ℕ). masked 4 l magic_cookie) (sym ip_at) in
@@ -163,7 +163,7 @@ module _ (w : Environment) (d : List ℕ) (peer : ℕ → Option Addr) (permitte
   at_send stack v f n total = record (start d) {
     slot = 91;
     registers = Scalar v ∷ Nothing ∷ Nothing ∷ Nothing ∷ Nothing ∷ Nothing ∷ Ctx ∷ Scalar f ∷ Scalar n ∷ Scalar total ∷ Stack (pos 0) ∷ [];
-    memory = record { stack = stack; bytes = surrounded d; length = length d };
+    memory = record { stack = stack; bytes = datagram_area d; length = length d };
   }
 
   send_exits_meet : (stack : List (Option ℕ)) (v f n total k : ℕ) (bytes : AddressRecord) → ((found : List ℕ) → cells_bytes (part 8 504 stack) ≡ Some found → found ≡ bytes) → is_valid bytes ≡ true → f ≡ 64 + k → k + n ≤ length d
@@ -219,8 +219,8 @@ module _ (w : Environment) (d : List ℕ) (peer : ℕ → Option Addr) (permitte
       family_small : slice_index d (k + 1) < 256
       family_small = fit.bytes_fit (k + 1) 0 (omega (arith, inside))
 
-      family_is : (v : ℕ) → v ≡ little_number 1 (part 1 (k + 1 + 64) (surrounded d)) → v ≡ slice_index d (k + 1)
-      family_is v e = let turned : k + 1 + 64 ≡ 64 + (k + 1) = omega arith in byte_in (k + 1) v d (omega (arith, inside)) (e ∙ ap (λ (i : ℕ). little_number 1 (part 1 i (surrounded d))) turned)
+      family_is : (v : ℕ) → v ≡ little_number 1 (part 1 (k + 1 + 64) (datagram_area d)) → v ≡ slice_index d (k + 1)
+      family_is v e = let turned : k + 1 + 64 ≡ 64 + (k + 1) = omega arith in byte_in (k + 1) v d (omega (arith, inside)) (e ∙ ap (λ (i : ℕ). little_number 1 (part 1 i (datagram_area d))) turned)
 
       refused : (v : ℕ) (s : State) → v ≡ 0 → slice_index (part 8 k d) 1 ≡ 1 → permitted (address_of_value (part 8 k d)) ≡ false → window_sent v s ≡ of_send permitted tx (part 8 k d) (part n at d)
       refused v s e is_ipv4 denied = rw (e, wellformed tx (part 8 k d) size is_ipv4, denied) refl
@@ -257,7 +257,7 @@ module _ (w : Environment) (d : List ℕ) (peer : ℕ → Option Addr) (permitte
       neither h (inl le) = omega (arith, header_byte h, le)
       neither h (inr lt) = omega (arith, h.long, lt)
 
-  unchanged : part (length d) 64 (surrounded d) ≡ d
+  unchanged : part (length d) 64 (datagram_area d) ≡ d
   unchanged = part_datagram (length d) 0 d (omega arith) ∙ take_all (length d) d (omega arith)
 
   pass : (s : State) → 1 ≤ length d → slice_index d 0 < 64 → (IsAddressFirst d → ⊥) → (IsDataFirst d → ⊥) → part (length d) 64 s.memory.bytes ≡ d → IsEnd 1 s
@@ -296,7 +296,7 @@ module _ (w : Environment) (d : List ℕ) (peer : ℕ → Option Addr) (permitte
       neither (inl e) = omega (arith, e, is.header.long)
       neither (inr le) = omega (arith, le, header_byte is.header)
 
-  data_end : IsDataFirst d → (v : ℕ) (s : State) → v ≢ 1 → window_sent v s ≡ of_send permitted tx (part 8 (padded (big_number 2 (drop 22 d)) + 28) d) (part (big_number 2 (drop 22 d)) 24 d) → IsEnd v s
+  data_end : IsDataFirst d → (v : ℕ) (s : State) → v ≢ 1 → window_sent v s ≡ of_send permitted tx (part 8 (padded_length (big_number 2 (drop 22 d)) + 28) d) (part (big_number 2 (drop 22 d)) 24 d) → IsEnd v s
   data_end is v s alone same = record {
     channel = λ p from to. absurd (omega (arith, header_byte is.header, from));
     address_first = λ x. absurd (both_orders x is);
@@ -323,9 +323,9 @@ module _ (w : Environment) (d : List ℕ) (peer : ℕ → Option Addr) (permitte
         λ other. not_data _ refl (λ is. other (omega (arith, big_is_half 20 y d 0 0x13 kind_half (omega arith) (omega arith) is.data_kind))),
         λ kind. λ in1 g is_g. λ n is_n. let n_is : n ≡ big_number 2 (drop 22 d) = half_in 22 g n d fit (omega (arith, long)) is_g is_n in
             let n_small : n < 65536 = omega (arith, n_is, half_small 22 d fit) in
-            λ a is_a. λ b is_b. λ p is_p. let p_is : p ≡ padded n = padded_so n a b p n_small is_a is_b is_p in
+            λ a is_a. λ b is_b. λ p is_p. let p_is : p ≡ padded_length n = padded_so n a b p n_small is_a is_b is_p in
             let p_small : p ≤ 65538 = omega (arith, p_is, n_small) in
-            let p_of : p ≡ padded (big_number 2 (drop 22 d)) = p_is ∙ ap padded n_is in
+            let p_of : p ≡ padded_length (big_number 2 (drop 22 d)) = p_is ∙ ap padded_length n_is in
             λ t is_t. let t_is : t ≡ p + 36 = omega (arith, is_t, p_small) in (
               λ other. not_data _ refl (λ is. other (omega (arith, t_is, total_is, is.whole, p_of))),
               λ fits_so. let all : p + 36 ≡ length d = omega (arith, fits_so, t_is, total_is, p_small, fit.short) in (
@@ -334,8 +334,8 @@ module _ (w : Environment) (d : List ℕ) (peer : ℕ → Option Addr) (permitte
                   λ beyond. wrong 1 _ (omega (arith, beyond, q_is, all)),
                   λ within. λ in2 z is_z. let word : IsWord (q + 24) z d = word_at (q + 24 + 64) (q + 24) z d fit (omega arith) (omega (arith, q_is, all)) is_z in
                       let z_small : z < 2 ^ 32 = omega (arith, word.b0, word.b1, word.b2, word.b3, word.is) in
-                      let at_value : q + 28 ≡ padded (big_number 2 (drop 22 d)) + 28 = omega (arith, q_is, p_of) in
-                      let place : q + 24 ≡ padded (big_number 2 (drop 22 d)) + 24 = omega (arith, q_is, p_of) in (
+                      let at_value : q + 28 ≡ padded_length (big_number 2 (drop 22 d)) + 28 = omega (arith, q_is, p_of) in
+                      let place : q + 24 ≡ padded_length (big_number 2 (drop 22 d)) + 24 = omega (arith, q_is, p_of) in (
                         λ other. not_data _ refl (λ is. other (omega (arith, big_is_word (q + 24) z d 0 0x12 0 8 word (omega arith) (omega arith) (omega arith) (ap (λ (k : ℕ). big_number 4 (drop k d)) place ∙ is.address)))),
                         λ address. let is : IsDataFirst d = record {
                           header = header;
@@ -354,10 +354,10 @@ module _ (w : Environment) (d : List ℕ) (peer : ℕ → Option Addr) (permitte
       long : 36 ≤ length d
       long = header.long
 
-      not_data : (s : State) → s.memory.bytes ≡ surrounded d → (IsDataFirst d → ⊥) → IsEnd 1 s
+      not_data : (s : State) → s.memory.bytes ≡ datagram_area d → (IsDataFirst d → ⊥) → IsEnd 1 s
       not_data s same second = pass s (omega (arith, long)) low not_first second (ap (part (length d) 64) same ∙ unchanged)
 
-      padded_so : (n a b p : ℕ) → n < 65536 → a ≡ alu Add W64 n 3 → b ≡ alu Rsh W64 a 2 → p ≡ alu Lsh W64 b 2 → p ≡ padded n
+      padded_so : (n a b p : ℕ) → n < 65536 → a ≡ alu Add W64 n 3 → b ≡ alu Rsh W64 a 2 → p ≡ alu Lsh W64 b 2 → p ≡ padded_length n
       padded_so n a b p lt e f g = padded_is n a b p (omega (arith, lt)) e f g
 
   -- ---- the bits 00
@@ -396,9 +396,9 @@ module _ (w : Environment) (d : List ℕ) (peer : ℕ → Option Addr) (permitte
                               λ other. not_address _ refl long address_is (λ is. other (omega (arith, big_is_half 32 y d 0 0x13 data_half (omega arith) (omega arith) is.data_kind))),
                               λ data_kind. λ in5 g is_g. λ n is_n. let n_is : n ≡ big_number 2 (drop 34 d) = half_in 34 g n d fit (omega (arith, long)) is_g is_n in
                                   let n_small : n < 65536 = omega (arith, n_is, half_small 34 d fit) in
-                                  λ u is_u. λ v is_v. λ p is_p. let p_is : p ≡ padded n = padded_is n u v p (omega (arith, n_small)) is_u is_v is_p in
+                                  λ u is_u. λ v is_v. λ p is_p. let p_is : p ≡ padded_length n = padded_is n u v p (omega (arith, n_small)) is_u is_v is_p in
                                   let p_small : p ≤ 65538 = omega (arith, p_is, n_small) in
-                                  let p_of : p ≡ padded (big_number 2 (drop 34 d)) = p_is ∙ ap padded n_is in
+                                  let p_of : p ≡ padded_length (big_number 2 (drop 34 d)) = p_is ∙ ap padded_length n_is in
                                   λ t is_t. let t_is : t ≡ p + 36 = omega (arith, is_t, p_small) in (
                                     λ other. not_address _ refl long address_is (λ is. other (omega (arith, t_is, total_is, is.whole, p_of))),
                                     λ fits_so. let all : p + 36 ≡ length d = omega (arith, fits_so, t_is, total_is, p_small, fit.short) in
@@ -418,7 +418,7 @@ module _ (w : Environment) (d : List ℕ) (peer : ℕ → Option Addr) (permitte
     ),
   )
     where
-      no_header_at : (s : State) → s.memory.bytes ≡ surrounded d → (IsSendHeader d → ⊥) → IsEnd 1 s
+      no_header_at : (s : State) → s.memory.bytes ≡ datagram_area d → (IsSendHeader d → ⊥) → IsEnd 1 s
       no_header_at s same none = pass s some low (λ is. none is.header) (λ is. none is.header) (ap (part (length d) 64) same ∙ unchanged)
 
       not_second : 36 ≤ length d → big_number 4 (drop 20 d) ≡ 0x00120008 → IsDataFirst d → ⊥
@@ -429,7 +429,7 @@ module _ (w : Environment) (d : List ℕ) (peer : ℕ → Option Addr) (permitte
           let b3 : slice_index (drop 20 d) 3 < 256 = byte_from d fit 20 3 in
           omega (arith, address, is.data_kind, b0, b1, b2, b3)
 
-      not_address : (s : State) → s.memory.bytes ≡ surrounded d → 36 ≤ length d → big_number 4 (drop 20 d) ≡ 0x00120008 → (IsAddressFirst d → ⊥) → IsEnd 1 s
+      not_address : (s : State) → s.memory.bytes ≡ datagram_area d → 36 ≤ length d → big_number 4 (drop 20 d) ≡ 0x00120008 → (IsAddressFirst d → ⊥) → IsEnd 1 s
       not_address s same long address none = pass s some low none (not_second long address) (ap (part (length d) 64) same ∙ unchanged)
 
   -- ---- the whole

@@ -11,7 +11,7 @@ use Rattle.semantics.specs.Access.{part}
 use Rattle.attributes.specs.AddressLaws.{ipv4-is_address}
 use Rattle.attributes.specs.Addresses.{IsIpv4Address}
 use Rattle.attributes.specs.declared.address.Addr.{Addr}
-use Rattle.tables.specs.LookUps.{peer_of, permitted}
+use Rattle.tables.specs.LookUps.{peer_of, has_permission}
 use Rattle.tables.specs.Rows.{Rows}
 use Rattle.tables.specs.WellFormed.{AreWellFormed}
 use Rattle.tables.specs.WellFormedLaws.{peer_of-address}
@@ -24,7 +24,7 @@ use Rattle.events.specs.declared.meta.Source.TheVariants.{Client}
 use Rattle.programs.specs.Client.{client_program}
 use Rattle.programs.specs.FastPart.{begins_as_stun, begins_as_channel_data, is_plain_send}
 use Rattle.events.specs.Options.{◌>>=◌}
-use Rattle.programs.specs.PlainSends.{padded, PassesTests}
+use Rattle.programs.specs.PlainSends.{padded_length, PassesTests}
 use Rattle.programs.specs.Relaying.{IsStart, Relays, ServesClient}
 use Rattle.programs.specs.Rules.{client_slot, channel_data, send, send_from, to_peer}
 use Rattle.programs.specs.declared.verdict.TheConstants.{PASSES}
@@ -85,7 +85,7 @@ peers_are_ipv4 (Some slot) rows formed number = if_some IsIpv4Address (peer_of s
 -- the permissions of a slot, if there is one
 abbrev permitted_in : Option ℕ → Rows → Addr → Bool
 permitted_in None rows address = false
-permitted_in (Some slot) rows address = permitted slot address rows
+permitted_in (Some slot) rows address = has_permission slot address rows
 
 looks_up_permissions : (slot : Option ℕ) (rows : Rows) → LooksUpPermissions (look_up slot rows) (permitted_in slot rows)
 looks_up_permissions None rows ip port fits = refl
@@ -117,7 +117,7 @@ by_the_rules None rows datagram sent e = refl
 by_the_rules (Some at) rows datagram sent e = ap (option_map (to_peer at)) e
 
 by_the_rules_of_send : (slot : Option ℕ) (rows : Rows) (p : Parts) (sent : Option (Addr × List ℕ)) → sent ≡ send (permitted_in slot rows) p
-    → (slot >>= λ at. option_map (to_peer at) sent) ≡ (slot >>= λ at. option_map (to_peer at) (send (λ to. permitted at to rows) p))
+    → (slot >>= λ at. option_map (to_peer at) sent) ≡ (slot >>= λ at. option_map (to_peer at) (send (λ to. has_permission at to rows) p))
 by_the_rules_of_send None rows p sent e = refl
 by_the_rules_of_send (Some at) rows p sent e = ap (option_map (to_peer at)) e
 
@@ -161,7 +161,7 @@ module _ (found : (p : Parts) (bytes : List ℕ) → message_in bytes ≡ Some p
       let end = ends p.transaction_id in
       let owed = end.holds.data_first is in
       let n : ℕ = big_number 2 (drop 22 datagram) in
-      let place : padded n + 28 ≡ 28 + n + padding_count n = omega arith in
+      let place : padded_length n + 28 ≡ 28 + n + padding_count n = omega arith in
       relays_send p end.verdict end.exits owed.0
       (owed.1 ∙ ap (λ (k : ℕ). of_send (permitted_in slot rows) p.transaction_id (part 8 k datagram) (part n 24 datagram)) place ∙ sym (data_first_sends found every datagram start.is_datagram is (permitted_in slot rows) p message))
 

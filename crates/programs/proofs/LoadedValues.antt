@@ -13,7 +13,7 @@ use Rattle.semantics.specs.Access.{part, put, cells_bytes, cells_number}
 use Rattle.std.proofs.lemmas.List.{length-append}
 use Rattle.semantics.specs.AccessLaws.{put_after_put}
 use Rattle.semantics.specs.CallLaws.{length-cells, cells_read_back, cells_number_inside}
-use Rattle.semantics.specs.Machine.{surrounded, empty_stack}
+use Rattle.semantics.specs.Machine.{datagram_area, empty_stack}
 use Rattle.semantics.specs.Runs.{IsDatagram}
 use Rattle.semantics.specs.StartLaws.{length-empty_stack, part_datagram}
 use Rattle.semantics.specs.SwapLaws.{swapped_half}
@@ -38,9 +38,9 @@ part_at : (n k i : ℕ) (d : List ℕ) → i < n → slice_index (part n k d) i 
 part_at n k i d lt = get_or-take n (drop k d) i 0 lt ∙ get_or-drop k d i 0
 
 -- a byte
-pub byte_in : (k v : ℕ) (d : List ℕ) → k + 1 ≤ length d → v ≡ little_number 1 (part 1 (64 + k) (surrounded d)) → v ≡ slice_index d k
+pub byte_in : (k v : ℕ) (d : List ℕ) → k + 1 ≤ length d → v ≡ little_number 1 (part 1 (64 + k) (datagram_area d)) → v ≡ slice_index d k
 byte_in k v d le e =
-    let same : little_number 1 (part 1 (64 + k) (surrounded d)) ≡ little_number 1 (part 1 k d) = ap (little_number 1) (part_datagram 1 k d le) in
+    let same : little_number 1 (part 1 (64 + k) (datagram_area d)) ≡ little_number 1 (part 1 k d) = ap (little_number 1) (part_datagram 1 k d le) in
     let here : k + 0 ≡ k = omega arith in
     let first : slice_index (part 1 k d) 0 ≡ slice_index d k = part_at 1 k 0 d (omega arith) ∙ ap (slice_index d) here in
     omega (arith, e, same, first)
@@ -49,7 +49,7 @@ pub byte_from : (d : List ℕ) → IsDatagram d → (k i : ℕ) → slice_index 
 byte_from d fit k i = let below = byte_below d fit.bytes_fit (k + i) in omega (arith, below, get_or-drop k d i 0)
 
 -- two bytes, swapped: a number in network byte order
-pub half_in : (k v u : ℕ) (d : List ℕ) → IsDatagram d → k + 2 ≤ length d → v ≡ little_number 2 (part 2 (64 + k) (surrounded d)) → u ≡ unary (Swap ToBig swap.Half) v → u ≡ big_number 2 (drop k d)
+pub half_in : (k v u : ℕ) (d : List ℕ) → IsDatagram d → k + 2 ≤ length d → v ≡ little_number 2 (part 2 (64 + k) (datagram_area d)) → u ≡ unary (Swap ToBig swap.Half) v → u ≡ big_number 2 (drop k d)
 half_in k v u d fit le e is =
     let rest : List ℕ = drop k d in
     let first : slice_index (part 2 k d) 0 ≡ slice_index rest 0 = get_or-take 2 rest 0 0 (omega arith) in
@@ -83,15 +83,15 @@ stack_number k j v bytes size le e =
 -- ---- numbers of the datagram as they are in memory
 
 -- a part of the datagram, at an index of memory
-pub part_place : (n j k : ℕ) (d : List ℕ) → j ≡ 64 + k → k + n ≤ length d → part n j (surrounded d) ≡ part n k d
-part_place n j k d e le = ap (λ (i : ℕ). part n i (surrounded d)) e ∙ part_datagram n k d le
+pub part_place : (n j k : ℕ) (d : List ℕ) → j ≡ 64 + k → k + n ≤ length d → part n j (datagram_area d) ≡ part n k d
+part_place n j k d e le = ap (λ (i : ℕ). part n i (datagram_area d)) e ∙ part_datagram n k d le
 
 pub record IsHalf (k v : ℕ) (d : List ℕ) : Type 0 where
   pub low : slice_index (drop k d) 0 < 256
   pub high : slice_index (drop k d) 1 < 256
   pub is : v ≡ slice_index (drop k d) 0 + 256 * slice_index (drop k d) 1
 
-pub half_at : (j k v : ℕ) (d : List ℕ) → IsDatagram d → j ≡ 64 + k → k + 2 ≤ length d → v ≡ little_number 2 (part 2 j (surrounded d)) → IsHalf k v d
+pub half_at : (j k v : ℕ) (d : List ℕ) → IsDatagram d → j ≡ 64 + k → k + 2 ≤ length d → v ≡ little_number 2 (part 2 j (datagram_area d)) → IsHalf k v d
 half_at j k v d fit at le e =
     let number : v ≡ little_number 2 (take 2 (drop k d)) = e ∙ ap (little_number 2) (part_place 2 j k d at le) in
     let first = get_or-take 2 (drop k d) 0 0 (omega arith) in
@@ -105,7 +105,7 @@ pub record IsWord (k v : ℕ) (d : List ℕ) : Type 0 where
   pub b3 : slice_index (drop k d) 3 < 256
   pub is : v ≡ slice_index (drop k d) 0 + 256 * slice_index (drop k d) 1 + 65536 * slice_index (drop k d) 2 + 16777216 * slice_index (drop k d) 3
 
-pub word_at : (j k v : ℕ) (d : List ℕ) → IsDatagram d → j ≡ 64 + k → k + 4 ≤ length d → v ≡ little_number 4 (part 4 j (surrounded d)) → IsWord k v d
+pub word_at : (j k v : ℕ) (d : List ℕ) → IsDatagram d → j ≡ 64 + k → k + 4 ≤ length d → v ≡ little_number 4 (part 4 j (datagram_area d)) → IsWord k v d
 word_at j k v d fit at le e =
     let number : v ≡ little_number 4 (take 4 (drop k d)) = e ∙ ap (little_number 4) (part_place 4 j k d at le) in
     let at0 = get_or-take 4 (drop k d) 0 0 (omega arith) in

@@ -7,7 +7,7 @@ use Rattle.attributes.specs.Addresses.{HasWidth}
 use Rattle.attributes.specs.declared.address.Addr.{Addr}
 use Rattle.attributes.specs.declared.address.Addr.TheVariants.{V4, V6}
 use Rattle.insn.specs.declared.instruction.Insn.{Insn}
-use Rattle.tables.specs.LookUps.{permitted, channel_of}
+use Rattle.tables.specs.LookUps.{has_permission, channel_of}
 use Rattle.tables.specs.Rows.{Rows}
 use Rattle.tables.specs.WellFormed.{AreWellFormed}
 use Rattle.tables.specs.WellFormedLaws.{channel_of-number}
@@ -33,7 +33,7 @@ if_some P None each = tt
 if_some P (Some x) each = each x refl
 
 answers_peer : (slot : ℕ) (ip : List ℕ) (port : ℕ) (rows : Rows) → HasWidth 4 ip port → AreWellFormed rows
-    → AnswersPeer (look_up (Some slot) rows) (V4 ip port) (permitted slot (V4 ip port) rows) (channel_of slot (V4 ip port) rows)
+    → AnswersPeer (look_up (Some slot) rows) (V4 ip port) (has_permission slot (V4 ip port) rows) (channel_of slot (V4 ip port) rows)
 answers_peer slot ip port rows fits formed = record {
   permits = refl;
   numbers = ap (λ (n : ℕ). (number_answer (channel_of slot (V4 ip n) rows)).0) (port_back port fits.small);
@@ -66,7 +66,7 @@ pub peer_program_serves : ServesIfSafe peer_program
 peer_program_serves safe slot (V6 ip port) tx rows datagram start = absurd start.is_ipv4
 peer_program_serves safe slot (V4 ip port) tx rows datagram start =
     let w : Environment = environment_for tx (Peer slot (V4 ip port)) rows in
-    let allowed : Bool = permitted slot (V4 ip port) rows in
+    let allowed : Bool = has_permission slot (V4 ip port) rows in
     let number : Option ℕ = channel_of slot (V4 ip port) rows in
     let possible : IsPossible w = is_possible slot (V4 ip port) tx rows datagram start in
     let keeps = peer_exits_meet w datagram ip port start.is_ipv4 allowed number refl (answers_peer slot ip port rows start.is_ipv4 start.well_formed) possible.context start.is_datagram in

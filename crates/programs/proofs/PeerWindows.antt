@@ -12,7 +12,7 @@ use Rattle.insn.specs.declared.operator.UnaryOp.TheVariants.{Swap}
 use Rattle.insn.specs.declared.operator.SwapOp.TheVariants.{ToBig}
 use Rattle.insn.specs.declared.size.SwapSize.TheVariants as swap
 use Rattle.stun.specs.Channels.{channel_bytes}
-use Rattle.stun.specs.Messages.{Parts, parts_bytes, attributes_bytes, padding_count, started, with_attribute}
+use Rattle.stun.specs.Messages.{Parts, parts_bytes, attributes_bytes, padding_count, empty_message, with_attribute}
 use Rattle.stun.specs.Registry.{magic_cookie}
 use Rattle.stun.specs.declared.registry.attribute.TheConstants.{XOR_PEER_ADDRESS, DATA}
 use Rattle.attributes.specs.Addresses.{address_value, masked, cookie_half}
@@ -20,7 +20,7 @@ use Rattle.attributes.specs.declared.address.Addr.TheVariants.{V4}
 use Rattle.helpers.specs.Records.{address_record}
 use Rattle.semantics.specs.Access.{part, put}
 use Rattle.semantics.specs.AccessLaws.{put_after_put}
-use Rattle.semantics.specs.Machine.{AreBytes, surrounded}
+use Rattle.semantics.specs.Machine.{AreBytes, datagram_area}
 use Rattle.semantics.specs.StartLaws.{part_datagram, part_of_header, datagram_and_zeros}
 use Rattle.semantics.specs.SwapLaws.{swapped_half, stored_half, swapped_word, stored_word, xor_of_words}
 use Rattle.programs.specs.Rules.{data_indication}
@@ -29,18 +29,18 @@ use Rattle.programs.proofs.LoadedValues.{byte_below}
 -- ---- ChannelData
 
 pub channel_window : (b1 b2 d : List ℕ) (n t : ℕ) → b1 ≡ big_bytes 2 n → b2 ≡ big_bytes 2 (length d) → t ≡ length d + 4
-    → part t 60 (put 62 b2 (put 60 b1 (surrounded d))) ≡ channel_bytes (record { number = n; bytes = d })
+    → part t 60 (put 62 b2 (put 60 b1 (datagram_area d))) ≡ channel_bytes (record { number = n; bytes = d })
 channel_window b1 b2 d n t e f is =
     let long1 : length b1 ≡ 2 = ap length e in
     let long2 : length b2 ≡ 2 = ap length f in
-    ap (part t 60) (put_after_put 60 62 b1 b2 (surrounded d) (omega (arith, long1)))
+    ap (part t 60) (put_after_put 60 62 b1 b2 (datagram_area d) (omega (arith, long1)))
     ∙ part_of_header 4 t (length d) 60 (b1 ++ b2) d (omega (arith, length-append b1 b2, long1, long2)) (omega arith) (omega (arith, is))
     ∙ ap₂ (λ (a b : List ℕ). a ++ b) (ap₂ (λ (a b : List ℕ). a ++ b) e f) (part_datagram (length d) 0 d (omega arith) ∙ take_all (length d) d (omega arith))
 
 -- ---- a Data indication
 
 abbrev pub indication : List ℕ → ℕ → List ℕ → List ℕ → Parts
-indication ip port tx d = with_attribute (with_attribute (started data_indication tx) XOR_PEER_ADDRESS (address_value (V4 ip port) tx)) DATA d
+indication ip port tx d = with_attribute (with_attribute (empty_message data_indication tx) XOR_PEER_ADDRESS (address_value (V4 ip port) tx)) DATA d
 
 -- the sixteen bytes attributes_front the header, and the data
 abbrev pub after_header : List ℕ → ℕ → ℕ → List ℕ
@@ -102,9 +102,9 @@ padding_is_short n = omega arith
 
 pub indication_window : (ip d tx : List ℕ) (port p t : ℕ) (b1 b2 b3 b4 b5 b6 b7 b8 b9 b10 b11 : List ℕ) → length tx ≡ 12 → AreHeader ip tx port (length d) p b1 b2 b3 b4 b5 b6 b7 b8 b9 b10 b11
     → p ≡ length d + padding_count (length d) → t ≡ 36 + p
-    → part t 28 (put 62 b11 (put 60 b10 (put 56 b9 (put 54 b8 (put 52 b7 (put 48 b6 (put 44 b5 (put 36 b4 (put 32 b3 (put 30 b2 (put 28 b1 (surrounded d)))))))))))) ≡ parts_bytes (indication ip port tx d)
+    → part t 28 (put 62 b11 (put 60 b10 (put 56 b9 (put 54 b8 (put 52 b7 (put 48 b6 (put 44 b5 (put 36 b4 (put 32 b3 (put 30 b2 (put 28 b1 (datagram_area d)))))))))))) ≡ parts_bytes (indication ip port tx d)
 indication_window ip d tx port p t b1 b2 b3 b4 b5 b6 b7 b8 b9 b10 b11 id are is_p is_t =
-    let s : List ℕ = surrounded d in
+    let s : List ℕ = datagram_area d in
     let l1 : length b1 ≡ 2 = ap length are.kind in
     let l2 : length b2 ≡ 2 = ap length are.rest in
     let l3 : length b3 ≡ 4 = ap length are.cookie in

@@ -21,14 +21,14 @@ use Rattle.insn.specs.declared.operator.UnaryOp.TheVariants.{Mov, Neg, SignExten
 use Rattle.insn.specs.declared.condition.Condition.{Condition}
 use Rattle.insn.specs.declared.instruction.Operand.{Operand}
 use Rattle.insn.specs.declared.instruction.Insn.{Insn}
-use Rattle.semantics.specs.Fallible.{◌>>=◌}
+use Rattle.fallible.specs.Fallible.{◌>>=◌}
 use Rattle.semantics.specs.Access.{location, number_in, cells_number, cells_bytes, part, headroom_first, written_at}
 use Rattle.semantics.specs.Calls.{helper_of, no_address, is_valid, record_at}
 use Rattle.semantics.specs.Loading.{load, load_field, load_signed, read_number}
 use Rattle.semantics.specs.Machine.{State, AddressRecord, Environment, context_bytes, start}
-use Rattle.semantics.specs.Effects.{unary_effect, load_effect, jump_if_effect, read, operand_value, writable, written, moved, alu_result, unary_result, compared, ordered, pointer, stored_number, store_effect, context_argument, number_argument, stack_argument, record_argument, helper_effect, verdict_of, effect}
+use Rattle.semantics.specs.Effects.{unary_effect, load_effect, jump_if_effect, register_value, operand_value, writable, register_write, pointer_to, alu_result, unary_result, comparison_result, comparison_of_places, pointer, stored_number, store_effect, context_argument, number_argument, stack_argument, record_argument, helper_effect, verdict_of, effect}
 use Rattle.semantics.specs.Slots.{fetch, target}
-use Rattle.semantics.specs.Runs.{StepResult, Goes, Exits, Sticks, Ending, Exited, Stuck, Running, applied, Run, landed, stepped, step, onwards, run, write_register, IsSafe, IsPossible, IsDatagram, answered, planned, with_window, with_destination}
+use Rattle.semantics.specs.Runs.{StepResult, Goes, Exits, Sticks, Ending, Exited, Stuck, Running, step_by_effect, Run, step_to, step_of_fetched, step, onwards, run, write_register, IsSafe, IsPossible, IsDatagram, state_after_answer, state_with_plan, with_window, with_destination}
 use Rattle.semantics.specs.RunLaws.{exits_the_same}
 use Rattle.machine.specs.Tracing.{run_over}
 use Rattle.semantics.specs.declared.access.Location.{Location}
@@ -145,7 +145,7 @@ module _ (w : Environment) (code : List Insn) (cuts : ℕ → Bool) (Post : ℕ 
   computes s i op w dst o a b k = IfOk (alu_result op w a b) (λ v. writes_named s i dst v k)
 
   abbrev of_alu : State → Insn → Width → AluOp → Reg → Operand → (State → Type 0) → Type 0
-  of_alu s i w' op dst o k = IfOk (read s.registers dst) (λ a. IfOk (operand_value w' s.registers o) (λ b. IfOk (writable dst) (λ u. computes s i op w' dst o a b k)))
+  of_alu s i w' op dst o k = IfOk (register_value s.registers dst) (λ a. IfOk (operand_value w' s.registers o) (λ b. IfOk (writable dst) (λ u. computes s i op w' dst o a b k)))
 
   -- a move of 64 bits names nothing
   abbrev of_mov : State → Insn → Reg → Operand → (State → Type 0) → Type 0
@@ -175,7 +175,7 @@ module _ (w : Environment) (code : List Insn) (cuts : ℕ → Bool) (Post : ℕ 
   compares_with s i offset w c a b k = ⊤
 
   abbrev of_jump_if : State → Insn → ℤ → Width → Condition → Reg → Operand → (State → Type 0) → Type 0
-  of_jump_if s i offset w' c dst o k = IfOk (read s.registers dst) (λ a. IfOk (operand_value w' s.registers o) (λ b. compares_with s i offset w' c a b k))
+  of_jump_if s i offset w' c dst o k = IfOk (register_value s.registers dst) (λ a. IfOk (operand_value w' s.registers o) (λ b. compares_with s i offset w' c a b k))
 
   -- ---- loads and stores
 
@@ -197,7 +197,7 @@ module _ (w : Environment) (code : List Insn) (cuts : ℕ → Bool) (Post : ℕ 
   reads s i z dst base d k = IfOk (location s.memory.length base d (byte_count z)) (λ at. reads_at s i z dst at k)
 
   abbrev of_load : State → Insn → Size → Reg → Reg → ℤ → (State → Type 0) → Type 0
-  of_load s i z dst base d k = IfOk (read s.registers base) (λ from. IfOk (writable dst) (λ u. reads s i z dst from d k))
+  of_load s i z dst base d k = IfOk (register_value s.registers base) (λ from. IfOk (writable dst) (λ u. reads s i z dst from d k))
 
   -- the bytes that are stored get a name and an equation
   abbrev writes_bytes : State → Insn → Size → ℕ → Location → (State → Type 0) → Type 0
@@ -219,14 +219,14 @@ module _ (w : Environment) (code : List Insn) (cuts : ℕ → Bool) (Post : ℕ 
 
   abbrev of_store : State → Insn → Size → Reg → Operand → ℤ → (State → Type 0) → Type 0
   of_store s i z base o d k =
-      IfOk (read s.registers base)
+      IfOk (register_value s.registers base)
       (λ to. IfOk (operand_value W64 s.registers o) (λ v. IfOk (pointer to) (λ u. IfOk (stored_number v) (λ n. writes_to s i z n to d k))))
 
   -- ---- calls
 
   -- a helper's answer is a number and a record, which get names and equations
   abbrev asks : State → Insn → ℕ → ℕ → AddressRecord → Option ℕ → (State → Type 0) → Type 0
-  asks s i id n address out k = (v : ℕ) (bytes : AddressRecord) → v ≡ (w.answer id n address).0 → bytes ≡ (w.answer id n address).1 → k (answered s (after_insn s i) out (v, bytes))
+  asks s i id n address out k = (v : ℕ) (bytes : AddressRecord) → v ≡ (w.answer id n address).0 → bytes ≡ (w.answer id n address).1 → k (state_after_answer s (after_insn s i) out (v, bytes))
 
   -- the record in stack cells
   abbrev reads_record : State → Reg → (AddressRecord → Type 0) → Type 0
@@ -234,13 +234,13 @@ module _ (w : Environment) (code : List Insn) (cuts : ℕ → Bool) (Post : ℕ 
 
   abbrev sets_window : State → Insn → ℕ → ℕ → (State → Type 0) → Type 0
   sets_window s i front n k =
-      ((front + n ≤ HEADROOM + s.memory.length + TAILROOM) × (n ≤ MAX_DATAGRAM) → k (planned s (after_insn s i) 0 (with_window s.plan (Some (front, n)))))
-      × ((HEADROOM + s.memory.length + TAILROOM < front + n) ⊎ (MAX_DATAGRAM < n) → k (planned s (after_insn s i) 1 s.plan))
+      ((front + n ≤ HEADROOM + s.memory.length + TAILROOM) × (n ≤ MAX_DATAGRAM) → k (state_with_plan s (after_insn s i) 0 (with_window s.plan (Some (front, n)))))
+      × ((HEADROOM + s.memory.length + TAILROOM < front + n) ⊎ (MAX_DATAGRAM < n) → k (state_with_plan s (after_insn s i) 1 s.plan))
 
   abbrev sets_destination : State → Insn → AddressRecord → (State → Type 0) → Type 0
   sets_destination s i bytes k =
-      ((w.context.side ≡ 0) × (is_valid bytes ≡ true) → k (planned s (after_insn s i) 0 (with_destination s.plan (Some bytes))))
-      × ((w.context.side ≢ 0) ⊎ (is_valid bytes ≡ false) → k (planned s (after_insn s i) 1 s.plan))
+      ((w.context.side ≡ 0) × (is_valid bytes ≡ true) → k (state_with_plan s (after_insn s i) 0 (with_destination s.plan (Some bytes))))
+      × ((w.context.side ≢ 0) ⊎ (is_valid bytes ≡ false) → k (state_with_plan s (after_insn s i) 1 s.plan))
 
   abbrev of_helper : State → Insn → Helper → (State → Type 0) → Type 0
   of_helper s i helper.ChannelPeer k = IfOk (number_argument s.registers reg.R2) (λ n. IfOk (stack_argument s.registers reg.R3) (λ out. asks s i 1 n no_address (Some out) k))
@@ -265,11 +265,11 @@ module _ (w : Environment) (code : List Insn) (cuts : ℕ → Bool) (Post : ℕ 
   of_insn s (insn.LongJump offset) k = jumps_to s offset k
   of_insn s (insn.JumpIf w c dst o offset) k = of_jump_if s (insn.JumpIf w c dst o offset) offset w c dst o k
   of_insn s (insn.Load z dst base d) k = of_load s (insn.Load z dst base d) z dst base d k
-  of_insn s (insn.LoadSigned z dst base d) k = IfOk (read s.registers base) (λ from. IfOk (writable dst) (λ u. IfOk (load_signed s.memory from d z) (λ v. writes_named s (insn.LoadSigned z dst base d) dst v k)))
+  of_insn s (insn.LoadSigned z dst base d) k = IfOk (register_value s.registers base) (λ from. IfOk (writable dst) (λ u. IfOk (load_signed s.memory from d z) (λ v. writes_named s (insn.LoadSigned z dst base d) dst v k)))
   of_insn s (insn.Store z base o d) k = of_store s (insn.Store z base o d) z base o d k
   of_insn s (insn.LoadImm dst value) k = IfOk (writable dst) (λ u. writes_register s (insn.LoadImm dst value) dst (Scalar value) k)
   of_insn s (insn.Call n) k = of_call s (insn.Call n) n k
-  of_insn s insn.Exit k = IfOk (read s.registers reg.R0) (λ v. IfOk (verdict_of v) (λ verdict. Post verdict s))
+  of_insn s insn.Exit k = IfOk (register_value s.registers reg.R0) (λ v. IfOk (verdict_of v) (λ verdict. Post verdict s))
 
   abbrev pub of_fetched : State → Fetched → (State → Type 0) → Type 0
   of_fetched s (Begins i) k = of_insn s i k
@@ -295,7 +295,7 @@ module _ (w : Environment) (code : List Insn) (cuts : ℕ → Bool) (Post : ℕ 
 
   -- what an effect may come to
   abbrev EffectMeets : State → Insn → (State → Type 0) → Result Effect Reason → Type 0
-  EffectMeets s i k e = StepMeets s (applied w code s i e) k
+  EffectMeets s i k e = StepMeets s (step_by_effect w code s i e) k
 
   module _ (s : State) (i : Insn) (k : State → Type 0) where
     -- the first of two steps
@@ -310,7 +310,7 @@ module _ (w : Environment) (code : List Insn) (cuts : ℕ → Bool) (Post : ℕ 
     abbrev Landing : ℤ → Type 0
     Landing offset = jumps_to s offset k
 
-    jumps_to_meets : (t : Result ℕ Reason) → IfOk t (λ slot. k (record s { slot = slot })) → StepMeets s (landed s t) k
+    jumps_to_meets : (t : Result ℕ Reason) → IfOk t (λ slot. k (record s { slot = slot })) → StepMeets s (step_to s t) k
     jumps_to_meets (Ok slot) h = h
     jumps_to_meets (Err reason) h = h
 
@@ -321,7 +321,7 @@ module _ (w : Environment) (code : List Insn) (cuts : ℕ → Bool) (Post : ℕ 
     -- ---- arithmetic
 
     near_meets : (dst : Reg) (place : ℤ) (t : Bool) → writes_register s i dst (Data place) k
-        → EffectMeets s i k (moved Data (if t then Some place else None) >>= λ v. Ok (effects.Write dst v))
+        → EffectMeets s i k (pointer_to Data (if t then Some place else None) >>= λ v. Ok (effects.Write dst v))
     near_meets dst place true h = h
     near_meets dst place false h = tt
 
@@ -344,7 +344,7 @@ module _ (w : Environment) (code : List Insn) (cuts : ℕ → Bool) (Post : ℕ 
     branches_on_meets offset false Yes No so not_so h = h.1 (not_so refl)
 
     compares_places_meets : (offset : ℤ) (c : Condition) (p n : ℕ) → compares_places s i offset c p n k
-        → EffectMeets s i k (ordered c (pos p) (pos n) >>= λ taken. Ok (if taken then effects.Jump offset else effects.Pass))
+        → EffectMeets s i k (comparison_of_places c (pos p) (pos n) >>= λ taken. Ok (if taken then effects.Jump offset else effects.Pass))
     compares_places_meets offset condition.Gt p n h = branches_on_meets offset (nat_lt n p) (n < p) (p ≤ n) (less_than n p) (no_less n p) h
     compares_places_meets offset condition.Ge p n h = branches_on_meets offset (nat_le n p) (n ≤ p) (p < n) (at_most n p) (more_than n p) h
     compares_places_meets offset condition.Lt p n h = branches_on_meets offset (nat_lt p n) (p < n) (n ≤ p) (less_than p n) (no_less p n) h
@@ -352,7 +352,7 @@ module _ (w : Environment) (code : List Insn) (cuts : ℕ → Bool) (Post : ℕ 
     compares_places_meets offset c p n h = tt
 
     compares_with_meets : (offset : ℤ) (w' : Width) (c : Condition) (a b : Value) → compares_with s i offset w' c a b k
-        → EffectMeets s i k (compared s.memory.length w' c a b >>= λ taken. Ok (if taken then effects.Jump offset else effects.Pass))
+        → EffectMeets s i k (comparison_result s.memory.length w' c a b >>= λ taken. Ok (if taken then effects.Jump offset else effects.Pass))
     compares_with_meets offset w' c (Scalar a) (Scalar b) h =
         branches_on_meets offset (holds c w' a b) _ _ (branch_fact c (int_width w') (cut w' a) (cut w' b) true) (branch_fact c (int_width w') (cut w' a) (cut w' b) false) h
     compares_with_meets offset W64 c (Data (pos p)) End h = compares_places_meets offset c p s.memory.length h
@@ -490,26 +490,26 @@ module _ (w : Environment) (code : List Insn) (cuts : ℕ → Bool) (Post : ℕ 
 
     -- ---- every form
 
-    written_meets : (dst : Reg) (r : Result Value Reason) → IfOk (writable dst) (λ u. IfOk r (λ v. writes_named s i dst v k)) → EffectMeets s i k (written dst r)
+    written_meets : (dst : Reg) (r : Result Value Reason) → IfOk (writable dst) (λ u. IfOk r (λ v. writes_named s i dst v k)) → EffectMeets s i k (register_write dst r)
     written_meets dst r h = after_result (writable dst) _ _ (λ u x. after_result r (λ v. writes_named s i dst v k) (λ v. Ok (effects.Write dst v)) (λ v y. writes_named_meets dst v y) x) h
 
     of_unary_meets : (w' : Width) (op : UnaryOp) (dst : Reg) (o : Operand) → of_unary s i w' op dst o k → EffectMeets s i k (unary_effect s.registers w' op dst o)
     of_unary_meets w' op dst o h = after_result (operand_value w' s.registers o) _ _ (λ a x. written_meets dst (unary_result op a) x) h
 
     of_load_meets : (z : Size) (dst base : Reg) (d : ℤ) → of_load s i z dst base d k → EffectMeets s i k (load_effect w.context s.memory s.registers z dst base d)
-    of_load_meets z dst base d h = after_result (read s.registers base) _ _ (λ from x. after_result (writable dst) _ _ (λ u y. reads_meets z dst from d y) x) h
+    of_load_meets z dst base d h = after_result (register_value s.registers base) _ _ (λ from x. after_result (writable dst) _ _ (λ u y. reads_meets z dst from d y) x) h
 
     of_store_meets : (z : Size) (base : Reg) (o : Operand) (d : ℤ) → of_store s i z base o d k → EffectMeets s i k (store_effect s.registers s.memory.length z base o d)
     of_store_meets z base o d h =
-        after_result (read s.registers base) _ _
+        after_result (register_value s.registers base) _ _
         (λ to x. after_result (operand_value W64 s.registers o) _ _ (λ v y. after_result (pointer to) _ _ (λ u p. after_result (stored_number v) _ _ (λ n q. writes_to_meets z n to d q) p) y) x) h
 
     of_jump_if_meets : (offset : ℤ) (w' : Width) (c : Condition) (dst : Reg) (o : Operand) → of_jump_if s i offset w' c dst o k → EffectMeets s i k (jump_if_effect s.registers s.memory.length w' c dst o offset)
-    of_jump_if_meets offset w' c dst o h = after_result (read s.registers dst) _ _ (λ a x. after_result (operand_value w' s.registers o) _ _ (λ b y. compares_with_meets offset w' c a b y) x) h
+    of_jump_if_meets offset w' c dst o h = after_result (register_value s.registers dst) _ _ (λ a x. after_result (operand_value w' s.registers o) _ _ (λ b y. compares_with_meets offset w' c a b y) x) h
 
   of_insn_meets : (s : State) (i : Insn) (k : State → Type 0) → of_insn s i k → EffectMeets s i k (effect w.context s.memory s.registers i)
   of_insn_meets s (insn.Alu w' op dst o) k h =
-      after_result s (insn.Alu w' op dst o) k (read s.registers dst) _ _
+      after_result s (insn.Alu w' op dst o) k (register_value s.registers dst) _ _
       (λ a x. after_result s (insn.Alu w' op dst o) k (operand_value w' s.registers o) _ _ (λ b y. after_result s (insn.Alu w' op dst o) k (writable dst) _ _ (λ u z. computes_meets s (insn.Alu w' op dst o) k op w' dst o a b z) y) x) h
   of_insn_meets s (insn.Mov W64 dst o) k h =
       after_result s (insn.Mov W64 dst o) k (operand_value W64 s.registers o) _ _ (λ a x. after_result s (insn.Mov W64 dst o) k (writable dst) _ _ (λ u y. y) x) h
@@ -522,13 +522,13 @@ module _ (w : Environment) (code : List Insn) (cuts : ℕ → Bool) (Post : ℕ 
   of_insn_meets s (insn.JumpIf w' c dst o offset) k h = of_jump_if_meets s (insn.JumpIf w' c dst o offset) k offset w' c dst o h
   of_insn_meets s (insn.Load z dst base d) k h = of_load_meets s (insn.Load z dst base d) k z dst base d h
   of_insn_meets s (insn.LoadSigned z dst base d) k h =
-      after_result s (insn.LoadSigned z dst base d) k (read s.registers base) _ _ (λ from x. written_meets s (insn.LoadSigned z dst base d) k dst (load_signed s.memory from d z) x) h
+      after_result s (insn.LoadSigned z dst base d) k (register_value s.registers base) _ _ (λ from x. written_meets s (insn.LoadSigned z dst base d) k dst (load_signed s.memory from d z) x) h
   of_insn_meets s (insn.Store z base o d) k h = of_store_meets s (insn.Store z base o d) k z base o d h
   of_insn_meets s (insn.LoadImm dst value) k h = after_result s (insn.LoadImm dst value) k (writable dst) _ _ (λ u x. x) h
   of_insn_meets s (insn.Call n) k h = of_call_meets s (insn.Call n) k n h
-  of_insn_meets s insn.Exit k h = after_result s insn.Exit k (read s.registers reg.R0) _ _ (λ v x. after_result s insn.Exit k (verdict_of v) _ _ (λ verdict y. y) x) h
+  of_insn_meets s insn.Exit k h = after_result s insn.Exit k (register_value s.registers reg.R0) _ _ (λ v x. after_result s insn.Exit k (verdict_of v) _ _ (λ verdict y. y) x) h
 
-  of_fetched_meets : (s : State) (p : Fetched) (k : State → Type 0) → of_fetched s p k → StepMeets s (stepped w code s p) k
+  of_fetched_meets : (s : State) (p : Fetched) (k : State → Type 0) → of_fetched s p k → StepMeets s (step_of_fetched w code s p) k
   of_fetched_meets s (Begins i) k h = of_insn_meets s i k h
   of_fetched_meets s Inside k h = tt
   of_fetched_meets s Past k h = tt

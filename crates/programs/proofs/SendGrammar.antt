@@ -10,7 +10,7 @@ use Rattle.stun.specs.Messages.{Parts, Padded, AreParts, parts_bytes, attributes
 use Rattle.semantics.specs.Access.{part}
 use Rattle.semantics.specs.AccessLaws.{part_more}
 use Rattle.semantics.specs.Runs.{IsDatagram}
-use Rattle.programs.specs.PlainSends.{padded, IsSendHeader, IsAddressFirst, IsDataFirst}
+use Rattle.programs.specs.PlainSends.{padded_length, IsSendHeader, IsAddressFirst, IsDataFirst}
 use Rattle.programs.proofs.LoadedValues.{byte_below}
 
 module _ (d : List ℕ) (fit : IsDatagram d) where
@@ -52,7 +52,7 @@ module _ (d : List ℕ) (fit : IsDatagram d) where
     z = padding_count n
 
     size : length d ≡ 36 + (n + z)
-    size = omega (arith, is.whole, n_is, ap padded n_is)
+    size = omega (arith, is.whole, n_is, ap padded_length n_is)
 
     first_attribute : part 12 20 d ≡ big_bytes 2 0x0012 ++ big_bytes 2 (length (part 8 24 d)) ++ part 8 24 d
     first_attribute =
@@ -114,7 +114,7 @@ module _ (d : List ℕ) (fit : IsDatagram d) where
     y = padding_count n
 
     other_size : length d ≡ 36 + (n + y)
-    other_size = omega (arith, is.whole, n_is, ap padded n_is)
+    other_size = omega (arith, is.whole, n_is, ap padded_length n_is)
 
     data_attribute : part 4 20 d ≡ big_bytes 2 0x0013 ++ big_bytes 2 (length (part n 24 d))
     data_attribute =
@@ -122,7 +122,7 @@ module _ (d : List ℕ) (fit : IsDatagram d) where
 
     address_attribute : part 12 (24 + n + y) d ≡ big_bytes 2 0x0012 ++ big_bytes 2 (length (part 8 (28 + n + y) d)) ++ part 8 (28 + n + y) d
     address_attribute =
-        let place : 24 + n + y ≡ padded (big_number 2 (drop 22 d)) + 24 = omega (arith, n_is, ap padded n_is) in
+        let place : 24 + n + y ≡ padded_length (big_number 2 (drop 22 d)) + 24 = omega (arith, n_is, ap padded_length n_is) in
         let value_place : 24 + n + y + 4 ≡ 28 + n + y = omega arith in
         let types : part 4 (24 + n + y) d ≡ big_bytes 4 0x00120008 = four (24 + n + y) (omega (arith, other_size)) ∙ ap (λ (k : ℕ). big_bytes 4 (big_number 4 (drop k d))) place ∙ ap (big_bytes 4) is.address in
         part_more 4 8 (24 + n + y) d
@@ -228,7 +228,7 @@ module _ (d tx v x pad : List ℕ) (id : length tx ≡ 12) (eight : length v ≡
       let from : drop 20 d ≡ all = from_attributes attributes is in
       let total : length d ≡ 20 + length all = size_is attributes is in
       let n : big_number 2 (drop 22 d) ≡ length x = ap (big_number 2) (sym (drop-drop 2 20 d) ∙ ap (drop 2) from) ∙ small (length x) (omega (arith, total, size, short)) in
-      let place : padded (big_number 2 (drop 22 d)) + 24 ≡ 24 + (length x + length pad) = omega (arith, n, ap padding_count n, padding) in
+      let place : padded_length (big_number 2 (drop 22 d)) + 24 ≡ 24 + (length x + length pad) = omega (arith, n, ap padding_count n, padding) in
       let behind : drop (24 + (length x + length pad)) d ≡ address_bytes =
       sym (drop-drop (length x + length pad) 24 d) ∙ ap (drop (length x + length pad)) (sym (drop-drop 4 20 d) ∙ ap (drop 4) from) ∙ drop_at (x ++ pad) address_bytes (length x + length pad) value_long in
       record {

@@ -7,8 +7,8 @@ use Rattle.stun.specs.Registry.{magic_cookie}
 use Rattle.programs.specs.Rules.{send_indication}
 
 -- n, filled up to a multiple of four
-abbrev pub padded : ℕ → ℕ
-padded n = n + padding_count n
+abbrev pub padded_length : ℕ → ℕ
+padded_length n = n + padding_count n
 
 -- the header of a Send indication, of a datagram that has room for two attributes
 pub record IsSendHeader (datagram : List ℕ) : Type 0 where
@@ -22,14 +22,14 @@ pub record IsAddressFirst (datagram : List ℕ) : Type 0 where
   pub header : IsSendHeader datagram
   pub address : big_number 4 (drop 20 datagram) ≡ 0x00120008
   pub data_kind : big_number 2 (drop 32 datagram) ≡ 0x0013
-  pub whole : padded (big_number 2 (drop 34 datagram)) + 36 ≡ length datagram
+  pub whole : padded_length (big_number 2 (drop 34 datagram)) + 36 ≡ length datagram
 
 -- DATA, then XOR-PEER-ADDRESS of 8 bytes, and no more
 pub record IsDataFirst (datagram : List ℕ) : Type 0 where
   pub header : IsSendHeader datagram
   pub data_kind : big_number 2 (drop 20 datagram) ≡ 0x0013
-  pub whole : padded (big_number 2 (drop 22 datagram)) + 36 ≡ length datagram
-  pub address : big_number 4 (drop (padded (big_number 2 (drop 22 datagram)) + 24) datagram) ≡ 0x00120008
+  pub whole : padded_length (big_number 2 (drop 22 datagram)) + 36 ≡ length datagram
+  pub address : big_number 4 (drop (padded_length (big_number 2 (drop 22 datagram)) + 24) datagram) ≡ 0x00120008
 
 abbrev pub PassesTests : List ℕ → Type 0
 PassesTests datagram = IsAddressFirst datagram ⊎ IsDataFirst datagram

@@ -3,7 +3,7 @@
 use Rattle.std.specs.Prelude.{ℕ, List, Bool, length, nat_le, Option, Some, None, option_map}
 use Rattle.stun.specs.Channels.{channel_bytes}
 use Rattle.stun.specs.Datagrams.{channel_in}
-use Rattle.stun.specs.Messages.{Parts, parts_bytes, started, with_attribute}
+use Rattle.stun.specs.Messages.{Parts, parts_bytes, empty_message, with_attribute}
 use Rattle.stun.specs.Types.{type_number}
 use Rattle.stun.specs.declared.registry.Class.TheVariants as class
 use Rattle.stun.specs.declared.registry.Method.TheVariants as method
@@ -13,7 +13,7 @@ use Rattle.attributes.specs.declared.address.Addr.{Addr}
 use Rattle.credentials.specs.Checks.{first_value}
 use Rattle.control.specs.Control.{all_understood}
 use Rattle.tables.specs.Rows.{Rows}
-use Rattle.tables.specs.LookUps.{allocation_of, allocation_at, peer_of, channel_of, permitted}
+use Rattle.tables.specs.LookUps.{allocation_of, allocation_at, peer_of, channel_of, has_permission}
 use Rattle.semantics.specs.declared.limits.TheConstants.{MAX_DATAGRAM}
 use Rattle.events.specs.Events.{Sending, ToPeer, ToClient}
 use Rattle.events.specs.Options.{◌>>=◌, guard}
@@ -47,16 +47,16 @@ send permits p = do
 -- ---- from a peer, over look-ups in the slot that it sent to: the bytes for the client
 
 -- ChannelData where a channel is bound to exactly this peer, and else a Data indication
-abbrev pub carried : Option ℕ → Addr → List ℕ → List ℕ → List ℕ
-carried (Some number) peer tx content = channel_bytes (record { number = number; bytes = content })
-carried None peer tx content = parts_bytes (with_attribute (with_attribute (started data_indication tx) XOR_PEER_ADDRESS (address_value peer tx)) DATA content)
+abbrev pub message_to_client : Option ℕ → Addr → List ℕ → List ℕ → List ℕ
+message_to_client (Some number) peer tx content = channel_bytes (record { number = number; bytes = content })
+message_to_client None peer tx content = parts_bytes (with_attribute (with_attribute (empty_message data_indication tx) XOR_PEER_ADDRESS (address_value peer tx)) DATA content)
 
 -- the data of a peer that has a permission, if what carries it is no longer than a datagram may be
 abbrev pub peer_data : Bool → Option ℕ → Addr → List ℕ → List ℕ → Option (List ℕ)
 peer_data permits number peer tx content = do
   _ ← guard permits
-  _ ← guard (nat_le (length (carried number peer tx content)) MAX_DATAGRAM)
-  Some (carried number peer tx content)
+  _ ← guard (nat_le (length (message_to_client number peer tx content)) MAX_DATAGRAM)
+  Some (message_to_client number peer tx content)
 
 -- ---- over the rows that count
 
@@ -79,9 +79,9 @@ channel_data_from client rows datagram = do
 abbrev pub send_from : Addr → Rows → Parts → Option Sending
 send_from client rows p = do
   slot ← client_slot client rows
-  option_map (to_peer slot) (send (λ to. permitted slot to rows) p)
+  option_map (to_peer slot) (send (λ to. has_permission slot to rows) p)
 
 abbrev pub peer_data_to : ℕ → Addr → List ℕ → Rows → List ℕ → Option Sending
 peer_data_to slot peer tx rows content = do
   client ← client_at slot rows
-  option_map (ToClient client) (peer_data (permitted slot peer rows) (channel_of slot peer rows) peer tx content)
+  option_map (ToClient client) (peer_data (has_permission slot peer rows) (channel_of slot peer rows) peer tx content)

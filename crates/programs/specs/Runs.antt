@@ -52,17 +52,17 @@ destination_in s = option_map address_of s.plan.destination
 
 -- What verdict 2 sends: of a client's datagram the window to the destination, where both are set and the client has an
 -- allocation; of a peer's the window to the client of the slot's allocation.
-abbrev pub planned : Source → Rows → Option Addr → Option (List ℕ) → Option Sending
-planned (Client client) rows destination window = do
+abbrev pub planned_sending : Source → Rows → Option Addr → Option (List ℕ) → Option Sending
+planned_sending (Client client) rows destination window = do
   bytes ← window
   slot ← client_slot client rows
   peer ← destination
   Some (ToPeer slot peer bytes)
-planned (Peer slot peer) rows destination window = do
+planned_sending (Peer slot peer) rows destination window = do
   bytes ← window
   client ← client_at slot rows
   Some (ToClient client bytes)
 
 -- what is sent where a run exits with a verdict
 abbrev pub sent_by : Source → Rows → ℕ → State → Option Sending
-sent_by from rows verdict s = if verdict == SENDS then planned from rows (destination_in s) (window_in s) else None
+sent_by from rows verdict s = if verdict == SENDS then planned_sending from rows (destination_in s) (window_in s) else None

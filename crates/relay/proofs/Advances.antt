@@ -12,14 +12,14 @@ use Rattle.tables.specs.Rows.{rows_at}
 use Rattle.events.specs.declared.meta.Meta.{Meta}
 use Rattle.events.specs.declared.meta.Source.{Source}
 use Rattle.events.specs.declared.meta.Source.TheVariants.{Client, Peer}
-use Rattle.programs.specs.Runs.{planned, datagram_in, destination_in, window_in}
+use Rattle.programs.specs.Runs.{planned_sending, datagram_in, destination_in, window_in}
 use Rattle.programs.specs.declared.verdict.TheConstants.{PASSES, SENDS}
 use Rattle.relay.specs.ByPrograms.{by_programs, by_run, by_ending, by_verdict, is_there}
 use Rattle.relay.specs.ByRules.{from_client}
 use Rattle.relay.specs.Found.{HasRun, run_at, passed_on, window_shown}
 use Rattle.relay.specs.Relays.{Contents, state_of, datagram_at}
 use Rattle.relay.specs.Steps.{HasStepped, outcome_of}
-use Rattle.relay.specs.Systems.{Reply, silent, relayed, stepped_at, if_ipv4, with_nonce, address_of_source}
+use Rattle.relay.specs.Systems.{Reply, silent, reply_of_relaying, stepped_at, if_ipv4, with_nonce, address_of_source}
 use Rattle.relay.proofs.SameNonce.{from_client_same}
 
 module _ (old : Contents) (given : Meta) (n moment : ℕ) where
@@ -94,15 +94,15 @@ module _ (old : Contents) (given : Meta) (n moment : ℕ) where
         ∙ ap (λ (s : Source). by_verdict config moment s old.rows (length (datagram_at old n)) r PASSES) from
 
     -- the plan is sent
-    pub sends : o.verdict ≡ SENDS → reply_at ≡ relayed old.rows (planned given.from (rows_at moment old.rows) o.destination (window_shown shown.frame))
+    pub sends : o.verdict ≡ SENDS → reply_at ≡ reply_of_relaying old.rows (planned_sending given.from (rows_at moment old.rows) o.destination (window_shown shown.frame))
     sends verdict =
         by_its_verdict
         ∙ ap (λ (v : ℕ). by_verdict config moment given.from old.rows (length (datagram_at old n)) r v) verdict
-        ∙ (λ i. relayed old.rows (planned given.from (rows_at moment old.rows) (sym ran.outcome.destination i) (sym ran.window i)))
+        ∙ (λ i. reply_of_relaying old.rows (planned_sending given.from (rows_at moment old.rows) (sym ran.outcome.destination i) (sym ran.window i)))
 
     -- every other verdict discards
     pub discards : (o.verdict == PASSES) ≡ false → (o.verdict == SENDS) ≡ false → reply_at ≡ silent old.rows
     discards no_pass no_send =
         by_its_verdict
         ∙ cond-false (o.verdict == PASSES) _ _ no_pass
-        ∙ ap (λ (b : Bool). relayed old.rows (if b then planned given.from (rows_at moment old.rows) (destination_in r.state) (window_in r.state) else None)) no_send
+        ∙ ap (λ (b : Bool). reply_of_relaying old.rows (if b then planned_sending given.from (rows_at moment old.rows) (destination_in r.state) (window_in r.state) else None)) no_send

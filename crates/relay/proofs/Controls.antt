@@ -8,7 +8,7 @@ use Rattle.stun.specs.Messages.{Parts}
 use Rattle.stun.specs.declared.registry.Class.TheVariants as class
 use Rattle.attributes.specs.declared.address.Addr.{Addr}
 use Rattle.credentials.specs.Checks.{Accounts, accounts_of, IsChecked}
-use Rattle.credentials.specs.Results.{checked}
+use Rattle.credentials.specs.Results.{check_result}
 use Rattle.credentials.specs.declared.checking.AuthError.{AuthError}
 use Rattle.control.specs.Control.{Decision, decision, binding}
 use Rattle.control.specs.Replies.{kind_of}
@@ -22,9 +22,9 @@ use Rattle.tables.specs.Rows.{Rows, rows_at}
 use Rattle.programs.specs.FastPart.{begins_as_stun}
 use Rattle.programs.specs.Rules.{send_indication, send_from, channel_data_from}
 use Rattle.events.specs.Events.{ToClient}
-use Rattle.relay.specs.ByRules.{requests, request_among, request_of, decided, reply_with, answered, control, message, from_client}
+use Rattle.relay.specs.ByRules.{requests, request_among, request_of, decision_and_key, reply_with, reply_to_request, control, message, from_client}
 use Rattle.relay.specs.Found.{reply_sent}
-use Rattle.relay.specs.Systems.{Reply, silent, relayed}
+use Rattle.relay.specs.Systems.{Reply, silent, reply_of_relaying}
 
 -- ---- the request of a type
 
@@ -68,7 +68,7 @@ all_requests (request.Turn turn.ChannelBind) = inr (inr (inr (inr (inl refl))))
 -- a result of the check is the one that the function of a message gives
 abbrev pub AreChecked : Type 0
 AreChecked = (p : Parts) (realm : List ℕ) (users : Accounts) (nonce : List ℕ) (r : Result ℕ AuthError)
-    → IsChecked p realm users nonce r → r ≡ checked p realm users nonce
+    → IsChecked p realm users nonce r → r ≡ check_result p realm users nonce
 
 module _ (are_checked : AreChecked) (config : Config) (now : ℕ) (client : Addr) (p : Parts) (old new : Rows) (written : List ℕ) where
   abbrev reply_of : Reply
@@ -77,7 +77,7 @@ module _ (are_checked : AreChecked) (config : Config) (now : ℕ) (client : Addr
   with_decision : (r : Request) (key : Option (List ℕ)) (d : Decision) → IsAnswer config r client p key d old new written → reply_with config r client p old (d, key) ≡ reply_of
   with_decision r key d is = λ i. record { answer = reply_sent client (sym is.bytes i); rows = sym is.rows i }
 
-  with_request : (r : Request) → Answers config now r client p old new written → reply_with config r client p old (decided config now r client p old) ≡ reply_of
+  with_request : (r : Request) → Answers config now r client p old new written → reply_with config r client p old (decision_and_key config now r client p old) ≡ reply_of
   with_request request.Binding is = with_decision request.Binding None (binding p) is
   with_request (request.Turn r) is =
       subst (λ c. reply_with config (request.Turn r) client p old (decision r c client p (rows_at now old), key_for config c) ≡ reply_of)
@@ -87,7 +87,7 @@ module _ (are_checked : AreChecked) (config : Config) (now : ℕ) (client : Addr
   silent_is : IsSilent old new written → silent old ≡ reply_of
   silent_is is = λ i. record { answer = reply_sent client (sym is.bytes i); rows = sym is.rows i }
 
-  by_request : is_ipv4 client ≡ true → Responds config now client p old new written → (o : Option Request) → request_of p.kind ≡ o → answered config now client p old o ≡ reply_of
+  by_request : is_ipv4 client ≡ true → Responds config now client p old new written → (o : Option Request) → request_of p.kind ≡ o → reply_to_request config now client p old o ≡ reply_of
   by_request ipv4 responds None e = silent_is (responds.other (λ r same. none_among p.kind requests r (all_requests r) same e))
   by_request ipv4 responds (Some r) e = with_request r (responds.answered r (found_among p.kind requests r e) ipv4)
 
@@ -108,7 +108,7 @@ module _ (config : Config) (now : ℕ) (client : Addr) (rows : Rows) (datagram :
   by_message m = message config now client rows m
 
   -- ChannelData
-  pub is_relayed : begins_as_stun datagram ≡ false → from_client config now client rows datagram ≡ relayed rows (channel_data_from client (rows_at now rows) datagram)
+  pub is_relayed : begins_as_stun datagram ≡ false → from_client config now client rows datagram ≡ reply_of_relaying rows (channel_data_from client (rows_at now rows) datagram)
   is_relayed other = cond-false (begins_as_stun datagram) (by_message (message_in datagram)) _ other
 
   is_message : (m : Option Parts) → begins_as_stun datagram ≡ true → message_in datagram ≡ m → from_client config now client rows datagram ≡ by_message m
@@ -120,9 +120,9 @@ module _ (config : Config) (now : ℕ) (client : Addr) (rows : Rows) (datagram :
 
   module _ (p : Parts) (stun : begins_as_stun datagram ≡ true) (is : message_in datagram ≡ Some p) where
     -- a Send indication
-    pub is_sent : (p.kind == send_indication) ≡ true → from_client config now client rows datagram ≡ relayed rows (send_from client (rows_at now rows) p)
-    is_sent same = is_message (Some p) stun is ∙ cond-true (p.kind == send_indication) (relayed rows (send_from client (rows_at now rows) p)) (control config now client p rows) same
+    pub is_sent : (p.kind == send_indication) ≡ true → from_client config now client rows datagram ≡ reply_of_relaying rows (send_from client (rows_at now rows) p)
+    is_sent same = is_message (Some p) stun is ∙ cond-true (p.kind == send_indication) (reply_of_relaying rows (send_from client (rows_at now rows) p)) (control config now client p rows) same
 
     -- any other message
     pub is_handled : (p.kind == send_indication) ≡ false → from_client config now client rows datagram ≡ control config now client p rows
-    is_handled other = is_message (Some p) stun is ∙ cond-false (p.kind == send_indication) (relayed rows (send_from client (rows_at now rows) p)) (control config now client p rows) other
+    is_handled other = is_message (Some p) stun is ∙ cond-false (p.kind == send_indication) (reply_of_relaying rows (send_from client (rows_at now rows) p)) (control config now client p rows) other

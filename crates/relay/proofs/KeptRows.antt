@@ -26,8 +26,9 @@ use Rattle.attributes.specs.declared.address.Addr.TheVariants.{V4, V6}
 use Rattle.attributes.specs.Values.{number_of_value}
 use Rattle.credentials.specs.Checks.{first_value}
 use Rattle.credentials.specs.declared.checking.AuthError.{AuthError}
-use Rattle.control.specs.Control.{Decision, rows_of, ◌>>=◌, check, changed, acceptable_lifetime, allocate_beside, allocate, own_allocation, refresh, refresh_for, requested_family, requested_lifetime, create_permission, peers_in, channel_bind, is_repeated, authenticated, understood, served, decision, binding}
-use Rattle.control.specs.Values.{required}
+use Rattle.fallible.specs.Fallible.{◌>>=◌, check}
+use Rattle.control.specs.Control.{Decision, rows_of, result_of_change, acceptable_lifetime, allocate_beside, allocate, own_allocation, refresh, refresh_for, requested_family, requested_lifetime, create_permission, peers_in, channel_bind, is_repeated, user_or_error, understood, decision_for_user, decision, binding}
+use Rattle.control.specs.Values.{required_value}
 use Rattle.control.specs.declared.config.Config.{Config}
 use Rattle.control.specs.declared.reply.Grant.{Grant}
 use Rattle.control.specs.declared.reply.Grant.TheVariants.{Allocated, Refreshed, Done}
@@ -49,8 +50,8 @@ use Rattle.events.specs.declared.meta.Source.{Source}
 use Rattle.events.specs.declared.meta.Source.TheVariants.{Client, Peer}
 use Rattle.programs.specs.FastPart.{begins_as_stun}
 use Rattle.programs.specs.Rules.{send_indication, send_from, channel_data_from}
-use Rattle.relay.specs.ByRules.{by_rules, from_client, message, control, answered, check_of, request_of}
-use Rattle.relay.specs.Systems.{relayed, address_of_source}
+use Rattle.relay.specs.ByRules.{by_rules, from_client, message, control, reply_to_request, check_of, request_of}
+use Rattle.relay.specs.Systems.{reply_of_relaying, address_of_source}
 
 -- ---- the bytes of values
 
@@ -139,11 +140,11 @@ module _ {A : Type 0} where
   after (Ok x) f each = each x refl
   after (Err e) f each = tt
 
-  change : (c : Change A) (f : A → Grant) → IfOk c (λ made. AreWellFormed made.1) → Keeps (changed c >>= λ made. Ok (f made.0, made.1))
+  change : (c : Change A) (f : A → Grant) → IfOk c (λ made. AreWellFormed made.1) → Keeps (result_of_change c >>= λ made. Ok (f made.0, made.1))
   change (Ok made) f are = are
   change (Err refused) f are = tt
 
-  value_there : (parse : List ℕ → Option A) (o : Option (List ℕ)) (x : A) → required parse o ≡ Ok x → (value : List ℕ) × (o ≡ Some value) × (parse value ≡ Some x)
+  value_there : (parse : List ℕ → Option A) (o : Option (List ℕ)) (x : A) → required_value parse o ≡ Ok x → (value : List ℕ) × (o ≡ Some value) × (parse value ≡ Some x)
   value_there parse None x e = absurd cc
   value_there parse (Some value) x e = (value, refl, parsed (parse value) e) where
     parsed : (o : Option A) → ok_or o BadRequest ≡ Ok x → o ≡ Some x
@@ -180,8 +181,8 @@ module _ (client : Addr) (user : ℕ) (p : Parts) (rows : Rows) (are : AreWellFo
   keeps_bind : ((value : List ℕ) → first_value p XOR_PEER_ADDRESS ≡ Some value → AreFit value) → Keeps (channel_bind client user p rows)
   keeps_bind fit =
       after (own_allocation client user rows) _ (λ a _.
-      after (required (number_of_value 2) (first_value p CHANNEL_NUMBER)) _ (λ number _.
-      after (required (address_in p.transaction_id) (first_value p XOR_PEER_ADDRESS)) _ (λ peer found.
+      after (required_value (number_of_value 2) (first_value p CHANNEL_NUMBER)) _ (λ number _.
+      after (required_value (address_in p.transaction_id) (first_value p XOR_PEER_ADDRESS)) _ (λ peer found.
       after (check (is_between FIRST_CHANNEL LAST_CHANNEL number) _) _ (λ u between.
       after (check (is_ipv4 peer) _) _ (λ v ipv4.
       change (tables.bind a.slot number peer rows) (λ _. Done) (bind-well_formed a.slot number peer rows are (in_range number (passed _ _ u between)) (is_peer peer found (passed _ _ v ipv4))))))))
@@ -191,12 +192,12 @@ module _ (client : Addr) (user : ℕ) (p : Parts) (rows : Rows) (are : AreWellFo
           let both = and_parts (nat_le FIRST_CHANNEL number) (nat_le number LAST_CHANNEL) between in
           (leb-true _ _ both.0, leb-true _ _ both.1)
 
-      is_peer : (peer : Addr) → required (address_in p.transaction_id) (first_value p XOR_PEER_ADDRESS) ≡ Ok peer → is_ipv4 peer ≡ true → IsIpv4Address peer
+      is_peer : (peer : Addr) → required_value (address_in p.transaction_id) (first_value p XOR_PEER_ADDRESS) ≡ Ok peer → is_ipv4 peer ≡ true → IsIpv4Address peer
       is_peer peer found ipv4 =
           let (value, there, is) = value_there (address_in p.transaction_id) (first_value p XOR_PEER_ADDRESS) peer found in
           of_ipv4 peer (address_fits p.transaction_id value peer (fit value there) is) ipv4
 
-  keeps_served : IsIpv4Address client → ((value : List ℕ) → first_value p XOR_PEER_ADDRESS ≡ Some value → AreFit value) → (r : TurnRequest) → Keeps (served r client user p rows)
+  keeps_served : IsIpv4Address client → ((value : List ℕ) → first_value p XOR_PEER_ADDRESS ≡ Some value → AreFit value) → (r : TurnRequest) → Keeps (decision_for_user r client user p rows)
   keeps_served ipv4 fit turn.Allocate = keeps_allocate ipv4
   keeps_served ipv4 fit turn.Refresh = keeps_refresh
   keeps_served ipv4 fit turn.CreatePermission = keeps_permissions
@@ -213,11 +214,11 @@ module _ (config : Config) (now : ℕ) (client : Addr) (rows : Rows) (datagram :
     (are : AreWellFormed rows) (ipv4 : IsIpv4Address client) (is : IsDatagram datagram) where
   keeps_decision : (p : Parts) → message_in datagram ≡ Some p → (r : TurnRequest) (checked : Result ℕ AuthError) → Keeps (decision r checked client p (rows_at now rows))
   keeps_decision p there r checked =
-      after (authenticated checked) _ (λ user _.
+      after (user_or_error checked) _ (λ user _.
       after (understood p) _ (λ _ _.
       keeps_served client user p (rows_at now rows) (rows_at-well_formed now rows are) ipv4 (λ value found. in_message p XOR_PEER_ADDRESS datagram value is.bytes_fit there found) r))
 
-  keeps_control : (p : Parts) → message_in datagram ≡ Some p → (o : Option Request) → AreWellFormed (answered config now client p rows o).rows
+  keeps_control : (p : Parts) → message_in datagram ≡ Some p → (o : Option Request) → AreWellFormed (reply_to_request config now client p rows o).rows
   keeps_control p there None = are
   keeps_control p there (Some request.Binding) = kept rows (binding p) are (after (understood p) _ (λ _ _. tt))
   keeps_control p there (Some (request.Turn r)) = kept rows (decision r (check_of config p) client p (rows_at now rows)) are (keeps_decision p there r (check_of config p))
@@ -225,13 +226,13 @@ module _ (config : Config) (now : ℕ) (client : Addr) (rows : Rows) (datagram :
   keeps_message : (o : Option Parts) → message_in datagram ≡ o → AreWellFormed (message config now client rows o).rows
   keeps_message None there = are
   keeps_message (Some p) there = of (p.kind == send_indication) where
-    of : (b : Bool) → AreWellFormed (if b then relayed rows (send_from client (rows_at now rows) p) else control config now client p rows).rows
+    of : (b : Bool) → AreWellFormed (if b then reply_of_relaying rows (send_from client (rows_at now rows) p) else control config now client p rows).rows
     of true = are
     of false = keeps_control p there (request_of p.kind)
 
   keeps_client : AreWellFormed (from_client config now client rows datagram).rows
   keeps_client = of (begins_as_stun datagram) where
-    of : (b : Bool) → AreWellFormed (if b then message config now client rows (message_in datagram) else relayed rows (channel_data_from client (rows_at now rows) datagram)).rows
+    of : (b : Bool) → AreWellFormed (if b then message config now client rows (message_in datagram) else reply_of_relaying rows (channel_data_from client (rows_at now rows) datagram)).rows
     of true = keeps_message (message_in datagram) refl
     of false = are
 

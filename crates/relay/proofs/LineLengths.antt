@@ -8,7 +8,7 @@ use Rattle.hex.specs.Hex.{encode_lower, lower_digits}
 use Rattle.hex.proofs.HexLemmas.{length-encode_with}
 use Rattle.stun.specs.Ranges.{is_between}
 use Rattle.attributes.specs.Addresses.{IsIpv4Address}
-use Rattle.attributes.specs.AddressTexts.{dotted, address_text}
+use Rattle.attributes.specs.AddressTexts.{dotted_decimal, address_text}
 use Rattle.attributes.specs.declared.address.Addr.{Addr}
 use Rattle.attributes.specs.declared.address.Addr.TheVariants.{V4, V6}
 use Rattle.semantics.specs.declared.limits.TheConstants.{MAX_DATAGRAM}
@@ -34,7 +34,7 @@ pointed front back = omega (arith, length-append (front ++ codes ".") back, leng
 colon : (front back : List ℕ) → length (front ++ codes ":" ++ back) ≡ length front + 1 + length back
 colon front back = omega (arith, length-append (front ++ codes ":") back, length-append front (codes ":"))
 
-dotted_short : (ip : List ℕ) → length ip ≡ 4 → ((i : ℕ) → slice_index ip i < 256) → length (dotted ip) ≤ 15
+dotted_short : (ip : List ℕ) → length ip ≡ 4 → ((i : ℕ) → slice_index ip i < 256) → length (dotted_decimal ip) ≤ 15
 dotted_short (a ∷ b ∷ c ∷ d ∷ []) long fit =
     let first : length (decimal a) ≤ 3 = byte_short a (fit 0) in
     let second : length (decimal b) ≤ 3 = byte_short b (fit 1) in
@@ -57,7 +57,7 @@ dotted_short (a ∷ b ∷ c ∷ []) long fit = absurd (omega (arith, long))
 dotted_short (a ∷ b ∷ c ∷ d ∷ e ∷ rest) long fit = absurd (omega (arith, long))
 
 address_short : (a : Addr) → IsIpv4Address a → length (address_text a) ≤ 21
-address_short (V4 ip port) is = omega (arith, colon (dotted ip) (decimal port), dotted_short ip is.long is.bytes, port_short port is.small)
+address_short (V4 ip port) is = omega (arith, colon (dotted_decimal ip) (decimal port), dotted_short ip is.long is.bytes, port_short port is.small)
 address_short (V6 ip port) is = absurd is
 
 source_short : (slots : ℕ) (from : Source) → slots < 2 ^ 64 → IsSource slots from → length (source_text from) ≤ 42

@@ -7,7 +7,7 @@ use Rattle.stun.specs.declared.registry.ErrorCode.{ErrorCode}
 use Rattle.stun.specs.declared.registry.ErrorCode.TheVariants as error
 use Rattle.attributes.specs.declared.address.Addr.{Addr}
 use Rattle.credentials.specs.declared.checking.AuthError.{AuthError}
-use Rattle.control.specs.Control.{Decision, granted, rows_of, decision, binding}
+use Rattle.control.specs.Control.{Decision, grant_of, rows_of, decision, binding}
 use Rattle.control.specs.Replies.{reply_to}
 use Rattle.control.specs.Responding.{key_for}
 use Rattle.control.specs.declared.config.Config.{Config}
@@ -19,8 +19,8 @@ use Rattle.tables.specs.Rows.{Rows, rows_at}
 use Rattle.events.specs.Events.{ToClient}
 use Rattle.programs.specs.FastPart.{begins_as_stun}
 use Rattle.programs.specs.Rules.{send_indication, send_from, channel_data_from}
-use Rattle.relay.specs.ByRules.{check_of, reply_with, answered, message, from_client, request_of}
-use Rattle.relay.specs.Systems.{Reply, relayed, with_nonce}
+use Rattle.relay.specs.ByRules.{check_of, reply_with, reply_to_request, message, from_client, request_of}
+use Rattle.relay.specs.Systems.{Reply, reply_of_relaying, with_nonce}
 
 module _ (c : Config) where
   abbrev d : Config
@@ -48,9 +48,9 @@ module _ (c : Config) where
 
   module _ (now : ℕ) (client : Addr) (rows : Rows) where
     with_same : (r : Request) (p : Parts) (x : Decision) (key : Option (List ℕ)) → reply_with d r client p rows (x, key) ≡ reply_with c r client p rows (x, key)
-    with_same r p x key = λ i. record { answer = Some (ToClient client (parts_bytes (reply_same r client p key (granted x) i))); rows = rows_of rows x }
+    with_same r p x key = λ i. record { answer = Some (ToClient client (parts_bytes (reply_same r client p key (grant_of x) i))); rows = rows_of rows x }
 
-    answered_same : (p : Parts) (r : Option Request) → answered d now client p rows r ≡ answered c now client p rows r
+    answered_same : (p : Parts) (r : Option Request) → reply_to_request d now client p rows r ≡ reply_to_request c now client p rows r
     answered_same p None = refl
     answered_same p (Some request.Binding) = with_same request.Binding p (binding p) None
     answered_same p (Some (request.Turn t)) =
@@ -60,7 +60,7 @@ module _ (c : Config) where
 
     message_same : (m : Option Parts) → message d now client rows m ≡ message c now client rows m
     message_same None = refl
-    message_same (Some p) = ap (λ (reply : Reply). if p.kind == send_indication then relayed rows (send_from client (rows_at now rows) p) else reply) (answered_same p (request_of p.kind))
+    message_same (Some p) = ap (λ (reply : Reply). if p.kind == send_indication then reply_of_relaying rows (send_from client (rows_at now rows) p) else reply) (answered_same p (request_of p.kind))
 
     pub from_client_same : (bytes : List ℕ) → from_client d now client rows bytes ≡ from_client c now client rows bytes
-    from_client_same bytes = ap (λ (reply : Reply). if begins_as_stun bytes then reply else relayed rows (channel_data_from client (rows_at now rows) bytes)) (message_same (message_in bytes))
+    from_client_same bytes = ap (λ (reply : Reply). if begins_as_stun bytes then reply else reply_of_relaying rows (channel_data_from client (rows_at now rows) bytes)) (message_same (message_in bytes))

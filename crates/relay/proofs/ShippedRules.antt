@@ -20,7 +20,7 @@ use Rattle.attributes.specs.Addresses.{IsAddress, IsIpv4Address}
 use Rattle.attributes.specs.declared.address.Addr.{Addr}
 use Rattle.control.specs.declared.config.Config.{Config}
 use Rattle.tables.specs.Addresses.{is_ipv4}
-use Rattle.tables.specs.LookUps.{peer_of, permitted, channel_of}
+use Rattle.tables.specs.LookUps.{peer_of, has_permission, channel_of}
 use Rattle.tables.specs.Moments.{moment_of}
 use Rattle.tables.specs.Rows.{Rows, held_at, rows_at}
 use Rattle.tables.specs.WellFormed.{AreWellFormed}
@@ -40,7 +40,7 @@ use Rattle.programs.specs.declared.verdict.TheConstants.{PASSES}
 use Rattle.relay.specs.ByPrograms.{Programs, by_programs, by_run, by_ending, is_there}
 use Rattle.relay.specs.ByRules.{by_rules, from_client}
 use Rattle.relay.specs.Shipped.{AreShipped}
-use Rattle.relay.specs.Systems.{Reply, silent, relayed, address_of_source, if_ipv4}
+use Rattle.relay.specs.Systems.{Reply, silent, reply_of_relaying, address_of_source, if_ipv4}
 use Rattle.relay.proofs.Controls.{is_relayed, is_sent}
 
 module _ (config : Config) (now : ℕ) (tx : List ℕ) (rows : Rows) (datagram : List ℕ) (code : List Insn) where
@@ -61,11 +61,11 @@ module _ (config : Config) (now : ℕ) (tx : List ℕ) (rows : Rows) (datagram :
   ]
 
   -- what is relayed by the program alone
-  gives_relayed : (from : Source) (sends : Option Sending) → Relays code tx from counting datagram sends → given from ≡ relayed rows sends
+  gives_relayed : (from : Source) (sends : Option Sending) → Relays code tx from counting datagram sends → given from ≡ reply_of_relaying rows sends
   gives_relayed from sends is =
       ap (λ (e : Ending). by_ending config now from rows (length datagram) (run_from from) e) is.exits
       ∙ cond-false (is.verdict == PASSES) _ _ (differs is.verdict is.alone)
-      ∙ ap (relayed rows) is.sent
+      ∙ ap (reply_of_relaying rows) is.sent
 
   -- what is passed on as it came goes by the rules
   gives_passed : (client : Addr) → PassesOn code tx (Client client) counting datagram → given (Client client) ≡ from_client config now client rows datagram
@@ -106,7 +106,7 @@ module _ (config : Config) (now : ℕ) (tx : List ℕ) (rows : Rows) (datagram :
       | inl channel ↦ gives_relayed (Client client) _ (serves.channel_data channel) ∙ sym (is_relayed config now client rows datagram other)
       | inr neither ↦
           gives_relayed (Client client) None (serves.other neither other)
-          ∙ ap (relayed rows) (sym (not_relayed client (no_channel_data datagram is.bytes_fit neither)))
+          ∙ ap (reply_of_relaying rows) (sym (not_relayed client (no_channel_data datagram is.bytes_fit neither)))
           ∙ sym (is_relayed config now client rows datagram other)
     ]
   ] where
@@ -137,7 +137,7 @@ module _ (config : Config) (now : ℕ) (tx : List ℕ) (rows : Rows) (datagram :
     | inl there ↦ cond-true (is_there (Peer slot peer) rows) (given (Peer slot peer)) (silent rows) there ∙ gives_relayed (Peer slot peer) _ serves
     | inr past ↦
         cond-false (is_there (Peer slot peer) rows) (given (Peer slot peer)) (silent rows) past
-        ∙ ap (λ (client : Option Addr). relayed rows (client >>= λ c. option_map (ToClient c) (peer_data (permitted slot peer counting) (channel_of slot peer counting) peer tx datagram))) (sym (no_client slot past))
+        ∙ ap (λ (client : Option Addr). reply_of_relaying rows (client >>= λ c. option_map (ToClient c) (peer_data (has_permission slot peer counting) (channel_of slot peer counting) peer tx datagram))) (sym (no_client slot past))
   ]
 
 -- ---- both sides

@@ -5,10 +5,10 @@ use Rattle.stun.specs.Datagrams.{message_in}
 use Rattle.stun.specs.Messages.{Parts, parts_bytes}
 use Rattle.stun.specs.declared.registry.Class.TheVariants as class
 use Rattle.attributes.specs.declared.address.Addr.{Addr}
-use Rattle.credentials.specs.Results.{checked}
+use Rattle.credentials.specs.Results.{check_result}
 use Rattle.credentials.specs.Checks.{accounts_of}
 use Rattle.credentials.specs.declared.checking.AuthError.{AuthError}
-use Rattle.control.specs.Control.{Decision, granted, rows_of, decision, binding}
+use Rattle.control.specs.Control.{Decision, grant_of, rows_of, decision, binding}
 use Rattle.control.specs.Replies.{kind_of, reply_to}
 use Rattle.control.specs.Responding.{key_for}
 use Rattle.control.specs.declared.config.Config.{Config}
@@ -20,7 +20,7 @@ use Rattle.events.specs.Events.{ToClient}
 use Rattle.events.specs.declared.meta.Source.TheVariants.{Client, Peer}
 use Rattle.programs.specs.FastPart.{begins_as_stun}
 use Rattle.programs.specs.Rules.{send_indication, channel_data_from, send_from, peer_data_to}
-use Rattle.relay.specs.Systems.{Reply, silent, relayed, System}
+use Rattle.relay.specs.Systems.{Reply, silent, reply_of_relaying, System}
 
 -- ---- requests
 
@@ -43,27 +43,27 @@ abbrev pub request_of : ℕ → Option Request
 request_of kind = request_among kind requests
 
 abbrev pub check_of : Config → Parts → Result ℕ AuthError
-check_of config p = checked p (string_bytes config.realm) (accounts_of config.users.items) config.nonce.bytes
+check_of config p = check_result p (string_bytes config.realm) (accounts_of config.users.items) config.nonce.bytes
 
 -- what is decided, and the key that the reply is signed under; that to Binding is not signed
-abbrev pub decided : Config → ℕ → Request → Addr → Parts → Rows → Decision × Option (List ℕ)
-decided config now request.Binding client p rows = (binding p, None)
-decided config now (request.Turn r) client p rows =
+abbrev pub decision_and_key : Config → ℕ → Request → Addr → Parts → Rows → Decision × Option (List ℕ)
+decision_and_key config now request.Binding client p rows = (binding p, None)
+decision_and_key config now (request.Turn r) client p rows =
     (decision r (check_of config p) client p (rows_at now rows), key_for config (check_of config p))
 
 abbrev pub reply_with : Config → Request → Addr → Parts → Rows → Decision × Option (List ℕ) → Reply
 reply_with config r client p rows d = record {
-  answer = Some (ToClient client (parts_bytes (reply_to config r client p d.1 (granted d.0))));
+  answer = Some (ToClient client (parts_bytes (reply_to config r client p d.1 (grant_of d.0))));
   rows = rows_of rows d.0;
 }
 
-abbrev pub answered : Config → ℕ → Addr → Parts → Rows → Option Request → Reply
-answered config now client p rows None = silent rows
-answered config now client p rows (Some r) = reply_with config r client p rows (decided config now r client p rows)
+abbrev pub reply_to_request : Config → ℕ → Addr → Parts → Rows → Option Request → Reply
+reply_to_request config now client p rows None = silent rows
+reply_to_request config now client p rows (Some r) = reply_with config r client p rows (decision_and_key config now r client p rows)
 
 -- the answer to a message of a client: a message that is no request gets none
 abbrev pub control : Config → ℕ → Addr → Parts → Rows → Reply
-control config now client p rows = answered config now client p rows (request_of p.kind)
+control config now client p rows = reply_to_request config now client p rows (request_of p.kind)
 
 -- ---- datagrams
 
@@ -71,14 +71,14 @@ control config now client p rows = answered config now client p rows (request_of
 abbrev pub message : Config → ℕ → Addr → Rows → Option Parts → Reply
 message config now client rows None = silent rows
 message config now client rows (Some p) =
-    if p.kind == send_indication then relayed rows (send_from client (rows_at now rows) p) else control config now client p rows
+    if p.kind == send_indication then reply_of_relaying rows (send_from client (rows_at now rows) p) else control config now client p rows
 
 -- the first two bits 00 begin a STUN message, and 01 ChannelData
 abbrev pub from_client : Config → ℕ → Addr → Rows → List ℕ → Reply
 from_client config now client rows bytes =
     if begins_as_stun bytes then message config now client rows (message_in bytes)
-    else relayed rows (channel_data_from client (rows_at now rows) bytes)
+    else reply_of_relaying rows (channel_data_from client (rows_at now rows) bytes)
 
 abbrev pub by_rules : System
 by_rules config now tx (Client client) rows bytes = from_client config now client rows bytes
-by_rules config now tx (Peer slot peer) rows bytes = relayed rows (peer_data_to slot peer tx (rows_at now rows) bytes)
+by_rules config now tx (Peer slot peer) rows bytes = reply_of_relaying rows (peer_data_to slot peer tx (rows_at now rows) bytes)

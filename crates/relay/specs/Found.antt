@@ -13,7 +13,7 @@ use Rattle.machine.specs.Contexts.{Answers}
 use Rattle.tables.specs.Rows.{Rows, rows_at}
 use Rattle.events.specs.Events.{Sending, ToClient}
 use Rattle.programs.specs.Rules.{channel_data_from, send_from}
-use Rattle.programs.specs.Runs.{planned, run_for, datagram_in, window_in}
+use Rattle.programs.specs.Runs.{planned_sending, run_for, datagram_in, window_in}
 use Rattle.events.specs.declared.meta.Meta.{Meta}
 use Rattle.semantics.specs.Runs.{Run}
 use Rattle.relay.specs.ByPrograms.{program_for}
@@ -57,7 +57,7 @@ send_in client rows (Some p) = send_from client rows p
 
 abbrev pub lent : Contents → Found → Option Sending
 lent r found.Nothing = None
-lent r (found.Window from destination) = planned from (rows_at r.greatest r.rows) destination (window_shown r.frame)
+lent r (found.Window from destination) = planned_sending from (rows_at r.greatest r.rows) destination (window_shown r.frame)
 lent r (found.ChannelData client) = channel_data_from client (rows_at r.greatest r.rows) (datagram_of r.frame)
 lent r (found.Send client) = send_in client (rows_at r.greatest r.rows) (message_in (datagram_of r.frame))
 lent r (found.Reply client count) = reply_sent client (take count r.reply)

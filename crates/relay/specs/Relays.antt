@@ -10,7 +10,7 @@ use Rattle.machine.specs.Contents as machine
 use Rattle.machine.specs.Contents.{room_of}
 use Rattle.relay.specs.ByPrograms.{Programs}
 use Rattle.relay.specs.Systems.{State}
-use Rattle.relay.specs.declared.handling.TheConstants.{REPLY_BYTES}
+use Rattle.control.specs.declared.reply.TheConstants.{REPLY_BYTES}
 
 -- the configuration with the current nonce, the programs, the rows, the greatest moment that was seen, the frame of runs,
 -- and the room for replies

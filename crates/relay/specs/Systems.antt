@@ -31,8 +31,8 @@ abbrev pub silent : Rows → Reply
 silent rows = record { answer = None; rows = rows }
 
 -- relaying changes no rows
-abbrev pub relayed : Rows → Option Sending → Reply
-relayed rows answer = record { answer = answer; rows = rows }
+abbrev pub reply_of_relaying : Rows → Option Sending → Reply
+reply_of_relaying rows answer = record { answer = answer; rows = rows }
 
 -- A system: the reply to a datagram of a source over IPv4, under a configuration, at a moment, with a transaction id.
 abbrev pub System : Type 0

@@ -3,7 +3,6 @@
 
 mod error;
 mod found;
-mod handling;
 mod reading;
 mod relay;
 mod replaying;

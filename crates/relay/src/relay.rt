@@ -7,12 +7,12 @@ ghost use Rattle.relay.specs.ByPrograms.{is_there};
 
 use crate::error::RelayError;
 use crate::found::{Found, reply_found};
-use crate::handling::{REPLY_BYTES, control};
 use crate::rules::{begins_as_stun, channel_data, planned, send};
 use crate::running::{context_for, program_for, run_over, slot_for};
 use arrayvec::ArrayString;
 use attributes::Addr;
-use control::{Config, Field, is_nonce};
+use control::{Config, Field, REPLY_BYTES, is_nonce, respond};
+use credentials::results_are_checked;
 use events::{Action, Meta, Source};
 use helpers::Lookup;
 use loader::Loaded;
@@ -293,8 +293,9 @@ impl Relay {
         if message.kind() == SEND.kind() {
             return Found::Send(client);
         }
+        results_are_checked();
         let (tables, out) = (&mut self.tables, &mut self.reply);
-        let count = control(tables, &self.config, self.greatest, client, &message, out);
+        let count = respond(tables, &self.config, self.greatest, client, &message, out);
         reply_found(client, count)
     }
 }

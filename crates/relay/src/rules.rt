@@ -6,7 +6,7 @@ ghost use Rattle.stun.specs.Datagrams.{message_in};
 ghost use Rattle.tables.specs.Rows.{rows_at};
 ghost use Rattle.programs.specs.FastPart.{begins_as_stun};
 ghost use Rattle.programs.specs.Rules.{client_slot, client_at, channel_data_from, send_from};
-ghost use Rattle.programs.specs.Runs.{planned};
+ghost use Rattle.programs.specs.Runs.{planned_sending};
 ghost use Rattle.relay.specs.Found.{send_in};
 
 use attributes::{Addr, read_xor_addr};
@@ -110,7 +110,7 @@ pub(crate) fn planned<'a>(
     destination: Option<Addr>,
     window: Option<&'a [u8]>,
 ) -> Action<'a>
-    ensures { sending_of result ≡ planned from (rows_at moment tables.now) destination (option_copied window.entry) }
+    ensures { sending_of result ≡ planned_sending from (rows_at moment tables.now) destination (option_copied window.entry) }
 {
     let Some(bytes) = window else {
         return Action::Nothing;

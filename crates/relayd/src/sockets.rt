@@ -1,10 +1,10 @@
 //! The sockets of a server: one for clients, and one for the peers of each slot.
 
+use crate::counters::Counters;
 use attributes::Addr;
 use mio::net::UdpSocket;
 use mio::{Interest, Poll, Token};
 use serving::{Link, LinkFault, Place};
-use std::fmt;
 use std::io::{self, ErrorKind};
 use std::net::{Ipv4Addr, Net, SocketAddr, SocketAddrV4};
 
@@ -28,25 +28,6 @@ pub(crate) enum BindFault {
     Address(SocketAddrV4),
     /// Memory ran out.
     Memory,
-}
-
-/// What was received and sent since the start. Displays as a line of counters.
-#[derive(Clone, Copy)]
-struct Counters {
-    received: u64,
-    sent: u64,
-    receive_faults: u64,
-    send_faults: u64,
-}
-
-impl fmt::Display for Counters {
-    fn fmt<W: fmt::Write>(&self, f: &mut fmt::Formatter<W>) -> fmt::Result {
-        write!(
-            f,
-            "received {} sent {} receive faults {} send faults {}",
-            self.received, self.sent, self.receive_faults, self.send_faults
-        )
-    }
 }
 
 /// The sockets of a server. No call on them waits.
@@ -88,12 +69,7 @@ impl Sockets {
                 return Err(BindFault::Memory);
             }
         }
-        let counters = Counters {
-            received: 0,
-            sent: 0,
-            receive_faults: 0,
-            send_faults: 0,
-        };
+        let counters = Counters::new();
         Ok(Sockets {
             client,
             slots,
@@ -167,22 +143,20 @@ impl Link for Sockets {
         into: &mut [u8],
     ) -> Result<Option<(usize, Addr)>, LinkFault> {
         let result = self.take(place, into);
-        let counter = match &result {
-            Ok(None) => return result,
-            Ok(Some(_)) => &mut self.counters.received,
-            Err(_) => &mut self.counters.receive_faults,
-        };
-        *counter = counter.saturating_add(1);
+        match &result {
+            Ok(None) => {}
+            Ok(Some(_)) => self.counters.received(place),
+            Err(_) => self.counters.receive_failed(),
+        }
         result
     }
 
     fn send(&mut self, place: Place, to: Addr, bytes: &[u8]) -> Result<(), LinkFault> {
         let result = self.put(place, to, bytes);
-        let counter = match &result {
-            Ok(()) => &mut self.counters.sent,
-            Err(_) => &mut self.counters.send_faults,
-        };
-        *counter = counter.saturating_add(1);
+        match &result {
+            Ok(()) => self.counters.sent(place, bytes),
+            Err(_) => self.counters.send_failed(),
+        }
         result
     }
 }

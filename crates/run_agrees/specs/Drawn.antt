@@ -9,8 +9,8 @@ no_record = replicate 8 0
 abbrev pub drawn_record : Bool → AddressRecord
 drawn_record valid = if valid then 0 ∷ 1 ∷ 0x17 ∷ 0x70 ∷ 203 ∷ 0 ∷ 113 ∷ 9 ∷ [] else 0 ∷ 2 ∷ 9 ∷ 9 ∷ 9 ∷ 9 ∷ 9 ∷ 9 ∷ []
 
-abbrev pub drawn : Bool → Bool → ℕ → ℕ → ℕ → AddressRecord → ℕ × AddressRecord
-drawn found valid channel id number address =
+abbrev pub drawn_answer : Bool → Bool → ℕ → ℕ → ℕ → AddressRecord → ℕ × AddressRecord
+drawn_answer found valid channel id number address =
     if id == 1 then (if found then (1, drawn_record valid) else (0, no_record))
     else (if id == 2 then (channel % 0x5000, no_record)
     else (if found then (1, no_record) else (0, no_record)))

@@ -4,7 +4,7 @@ use Rattle.std.proofs.Common.{refl, arith}
 use Rattle.std.proofs.lemmas.List.Elements.{All-from_recursion, All-replicate}
 use Rattle.semantics.specs.Machine.{AddressRecord, AreBytes}
 use Rattle.semantics.specs.Runs.{IsLawful}
-use Rattle.run_agrees.specs.Drawn.{no_record, drawn_record, drawn}
+use Rattle.run_agrees.specs.Drawn.{no_record, drawn_record, drawn_answer}
 
 zeros : AreBytes 8 no_record
 zeros = record { count = refl; fit = All-replicate (λ (b : ℕ). b < 256) 8 0 (omega arith) }
@@ -39,7 +39,7 @@ allowed false = omega arith
 channel_fits : (channel : ℕ) → channel % 0x5000 ≤ 0x4fff
 channel_fits channel = omega arith
 
-pub drawn_is_lawful : (found : Bool) (valid : Bool) (channel : ℕ) → IsLawful (drawn found valid channel)
+pub drawn_is_lawful : (found : Bool) (valid : Bool) (channel : ℕ) → IsLawful (drawn_answer found valid channel)
 drawn_is_lawful found valid channel = record {
   channel_peer = λ n address word bytes. peer found valid;
   channel_to = λ n address word bytes. channel_fits channel;

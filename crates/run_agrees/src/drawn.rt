@@ -1,6 +1,6 @@
 //! Helpers whose answers are drawn.
 
-ghost use Rattle.run_agrees.specs.Drawn.{drawn};
+ghost use Rattle.run_agrees.specs.Drawn.{drawn_answer};
 ghost use Rattle.run_agrees.specs.DrawnLaws.{drawn_is_lawful};
 
 use crate::random::Random;
@@ -29,7 +29,7 @@ impl Drawn {
 }
 
 impl Helpers for Drawn {
-    ghost answers = { λ h. drawn h.found h.valid h.channel };
+    ghost answers = { λ h. drawn_answer h.found h.valid h.channel };
 
     ghost lawful = { λ h. drawn_is_lawful h.found h.valid h.channel };
 

@@ -1,5 +1,4 @@
 -- Internal. The modules of this folder.
-pub mod Fallible
 pub mod Machine
 pub mod StartLaws
 pub mod Access

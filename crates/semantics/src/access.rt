@@ -39,23 +39,26 @@ pub fn is_within(base: i64, displacement: i16, n: usize, low: i64, high: i64) ->
     low <= place && end <= high
 }
 
-/// Returns the index of the `n` items from the place `base + displacement` on, in a list that begins at the place
-/// `first`, or `None` where they don't lie at the places `low..high`.
-fn index_of(
-    base: i64,
-    displacement: i16,
-    n: usize,
-    first: i64,
+/// The places `low..high`.
+#[derive(Clone, Copy, Debug, PartialEq, Eq)]
+struct Places {
+    /// The first of them.
     low: i64,
+    /// The place after the last of them.
     high: i64,
-) -> Option<usize>
+}
+
+/// Returns the index of the `n` items from the place `base + displacement` on, in a list that begins at the place
+/// `first`, or `None` where they don't lie at the given places.
+fn index_of(base: i64, displacement: i16, n: usize, first: i64, places: Places) -> Option<usize>
     requires small { n ≤ 8 }
-    requires first { first ≤ℤ low }
+    requires first { first ≤ℤ places.low }
     requires low { negsuc 65535 ≤ℤ first }
-    requires lower { negsuc 65535 ≤ℤ high }
-    requires high { high ≤ℤ pos 131072 }
-    ensures { result ≡ index_within (base +ℤ displacement) n first low high }
+    requires lower { negsuc 65535 ≤ℤ places.high }
+    requires high { places.high ≤ℤ pos 131072 }
+    ensures { result ≡ index_within (base +ℤ displacement) n first places.low places.high }
 {
+    let Places { low, high } = places;
     let place = base.checked_add(i64::from(displacement))?;
     if low <= place && place <= high - n as i64 {
         Some((place - first) as usize)
@@ -70,7 +73,11 @@ pub fn index_in_stack(base: i64, displacement: i16, n: usize) -> Option<usize>
     requires { n ≤ 8 }
     ensures { result ≡ index_within (base +ℤ displacement) n stack_first stack_first (pos 0) }
 {
-    index_of(base, displacement, n, STACK_FIRST, STACK_FIRST, 0)
+    let places = Places {
+        low: STACK_FIRST,
+        high: 0,
+    };
+    index_of(base, displacement, n, STACK_FIRST, places)
 }
 
 /// Returns where the `n` bytes from the place `base + displacement` on lie in the stack.
@@ -90,7 +97,8 @@ fn in_bytes(base: i64, displacement: i16, n: usize, low: i64, high: i64) -> Resu
     requires high { high ≤ℤ pos 131072 }
     ensures { result ≡ in_bytes (base +ℤ displacement) n low high }
 {
-    let index = index_of(base, displacement, n, HEADROOM_FIRST, low, high).ok_or(
+    let places = Places { low, high };
+    let index = index_of(base, displacement, n, HEADROOM_FIRST, places).ok_or(
         Reason::DatagramBounds,
     )?;
     Ok(Location::InBytes(index))

@@ -2,7 +2,7 @@
 
 ghost use Rattle.std.specs.Prelude.{◌≡◌, ◌≤◌};
 ghost use Rattle.std.specs.Int.{w64, cast_signed};
-ghost use Rattle.semantics.specs.Effects.{held, value_at, read, operand_value, is_writable, writable, near_place, moved_place, alu_result, unary_result, written, alu_effect, unary_effect, ordered, compared, jump_if_effect, load_effect, load_signed_effect, pointer, stored_number, store_effect, verdict_of, exit_effect, effect};
+ghost use Rattle.semantics.specs.Effects.{content_of, value_at, register_value, operand_value, is_writable, writable, near_place, moved_place, alu_result, unary_result, register_write, alu_effect, unary_effect, comparison_of_places, comparison_result, jump_if_effect, load_effect, load_signed_effect, pointer, stored_number, store_effect, verdict_of, exit_effect, effect};
 ghost use Rattle.semantics.specs.Loading.{load, load_signed};
 ghost use Rattle.semantics.specs.Machine.{Context, IsContext, context_bytes};
 ghost use Rattle.semantics.specs.Views.{memory_of};
@@ -63,7 +63,7 @@ pub enum Effect {
 }
 
 pub(crate) fn read(registers: &Registers, reg: Reg) -> Result<Value, Reason>
-    ensures { result ≡ read registers.now reg }
+    ensures { result ≡ register_value registers.now reg }
 {
     match registers[reg.number() as usize] {
         Value::Nothing => Err(Reason::UninitRegister),
@@ -147,7 +147,7 @@ fn unary_result(op: UnaryOp, a: Value) -> Result<Value, Reason>
 
 /// Returns the effect of writing a result, if the register may be written and there is a result.
 fn written(dst: Reg, value: Result<Value, Reason>) -> Result<Effect, Reason>
-    ensures { result ≡ written dst value }
+    ensures { result ≡ register_write dst value }
 {
     writable(dst)?;
     Ok(Effect::Write { dst, value: value? })
@@ -185,7 +185,7 @@ fn unary_effect(
 /// # Errors
 /// `PointerCompare` for a condition that is not one of the four unsigned orders.
 fn ordered(condition: Condition, a: i64, b: i64) -> Result<bool, Reason>
-    ensures { result ≡ ordered condition a b }
+    ensures { result ≡ comparison_of_places condition a b }
 {
     match condition {
         Condition::Gt => Ok(a > b),
@@ -204,7 +204,7 @@ fn compared(
     b: Value,
 ) -> Result<bool, Reason>
     requires { length ≤ MAX_DATAGRAM }
-    ensures { result ≡ compared length width condition a b }
+    ensures { result ≡ comparison_result length width condition a b }
 {
     let end = length as i64;
     match (width, a, b) {
@@ -215,21 +215,33 @@ fn compared(
     }
 }
 
+/// What a conditional jump compares.
+#[derive(Clone, Copy, Debug, PartialEq, Eq)]
+pub struct Comparison {
+    /// The width of both numbers.
+    pub width: Width,
+    /// The condition for which the jump is taken.
+    pub condition: Condition,
+    /// The register on the left.
+    pub dst: Reg,
+    /// The register or the number on the right.
+    pub operand: Operand,
+}
+
 fn jump_if_effect(
     registers: &Registers,
     length: usize,
-    width: Width,
-    condition: Condition,
-    dst: Reg,
-    operand: Operand,
+    comparison: Comparison,
     offset: i16,
 ) -> Result<Effect, Reason>
     requires { length ≤ MAX_DATAGRAM }
-    ensures { result ≡ jump_if_effect registers.now length width condition dst operand offset }
+    ensures { result ≡ jump_if_effect registers.now length comparison.width comparison.condition comparison.dst
+        comparison.operand offset }
 {
-    let a = read(registers, dst)?;
-    let b = operand_value(registers, width, operand)?;
-    if compared(length, width, condition, a, b)? {
+    let width = comparison.width;
+    let a = read(registers, comparison.dst)?;
+    let b = operand_value(registers, width, comparison.operand)?;
+    if compared(length, width, comparison.condition, a, b)? {
         Ok(Effect::Jump {
             offset: i32::from(offset),
         })
@@ -238,34 +250,46 @@ fn jump_if_effect(
     }
 }
 
+/// What an instruction reads.
+#[derive(Clone, Copy)]
+struct MachineView<'a> {
+    /// The context record.
+    context: &'a [u8; CONTEXT_BYTES],
+    /// Stack and datagram.
+    memory: &'a Memory<'a>,
+    /// The registers `r0` to `r10`.
+    registers: &'a Registers,
+}
+
 fn load_effect(
-    context: &[u8; CONTEXT_BYTES],
-    memory: &Memory<'_>,
-    registers: &Registers,
+    view: &MachineView<'_>,
     size: Size,
     dst: Reg,
     base: Reg,
     displacement: i16,
 ) -> Result<Effect, Reason>
-    ensures { (c : Context) → context.now ≡ context_bytes c (memory.now).length
-        → result ≡ load_effect c (memory_of memory.now) registers.now size dst base displacement }
+    ensures { (c : Context) → view.now.context.now ≡ context_bytes c (view.now.memory.now).length
+        → result ≡ load_effect c (memory_of view.now.memory.now) view.now.registers.now size dst base displacement }
 {
-    let from = read(registers, base)?;
-    written(dst, load(context, memory, from, displacement, size))
+    let from = read(view.registers, base)?;
+    written(
+        dst,
+        load(view.context, view.memory, from, displacement, size),
+    )
 }
 
 fn load_signed_effect(
-    memory: &Memory<'_>,
-    registers: &Registers,
+    view: &MachineView<'_>,
     size: SignedSize,
     dst: Reg,
     base: Reg,
     displacement: i16,
 ) -> Result<Effect, Reason>
-    ensures { result ≡ load_signed_effect (memory_of memory.now) registers.now size dst base displacement }
+    ensures { result ≡ load_signed_effect (memory_of view.now.memory.now) view.now.registers.now size dst base
+        displacement }
 {
-    let from = read(registers, base)?;
-    written(dst, load_signed(memory, from, displacement, size))
+    let from = read(view.registers, base)?;
+    written(dst, load_signed(view.memory, from, displacement, size))
 }
 
 /// Tests whether a base is a pointer, and not a number.
@@ -292,20 +316,19 @@ fn stored_number(value: Value) -> Result<u64, Reason>
 }
 
 fn store_effect(
-    memory: &Memory<'_>,
-    registers: &Registers,
+    view: &MachineView<'_>,
     size: Size,
     base: Reg,
     operand: Operand,
     displacement: i16,
 ) -> Result<Effect, Reason>
-    ensures { result ≡ store_effect registers.now (memory.now).length size base operand displacement }
+    ensures { result ≡ store_effect view.now.registers.now (view.now.memory.now).length size base operand displacement }
 {
-    let to = read(registers, base)?;
-    let value = operand_value(registers, Width::W64, operand)?;
+    let to = read(view.registers, base)?;
+    let value = operand_value(view.registers, Width::W64, operand)?;
     pointer(to)?;
     let value = stored_number(value)?;
-    let at = locate(memory, to, displacement, size.bytes())?;
+    let at = locate(view.memory, to, displacement, size.bytes())?;
     Ok(Effect::Store { at, size, value })
 }
 
@@ -331,6 +354,11 @@ pub fn effect_of(
     ensures { (c : Context) → IsContext c → context.now ≡ context_bytes c (memory.now).length
         → result ≡ effect c (memory_of memory.now) registers.now insn.now }
 {
+    let view = MachineView {
+        context,
+        memory,
+        registers,
+    };
     match *insn {
         Insn::Alu {
             width,
@@ -377,33 +405,33 @@ pub fn effect_of(
             dst,
             operand,
             offset,
-        } => jump_if_effect(
-            registers,
-            memory.length,
-            width,
-            condition,
-            dst,
-            operand,
-            offset,
-        ),
+        } => {
+            let comparison = Comparison {
+                width,
+                condition,
+                dst,
+                operand,
+            };
+            jump_if_effect(registers, memory.length, comparison, offset)
+        }
         Insn::Load {
             size,
             dst,
             base,
             offset,
-        } => load_effect(context, memory, registers, size, dst, base, offset),
+        } => load_effect(&view, size, dst, base, offset),
         Insn::LoadSigned {
             size,
             dst,
             base,
             offset,
-        } => load_signed_effect(memory, registers, size, dst, base, offset),
+        } => load_signed_effect(&view, size, dst, base, offset),
         Insn::Store {
             size,
             base,
             operand,
             offset,
-        } => store_effect(memory, registers, size, base, operand, offset),
+        } => store_effect(&view, size, base, operand, offset),
         Insn::LoadImm { dst, value } => written(dst, Ok(Value::Scalar(value))),
         Insn::Call { helper } => call_effect(context, memory, registers, helper),
         Insn::Exit => exit_effect(registers),

@@ -17,7 +17,7 @@ mod storing;
 mod value;
 
 pub use access::{HEADROOM_FIRST, Location, index_in_stack, is_within};
-pub use effect::{Effect, Registers, effect_of, moved_place, writable};
+pub use effect::{Comparison, Effect, Registers, effect_of, moved_place, writable};
 pub use fetching::{Branch, Fetched, Position, Visit, fetch, last, target};
 pub use helper::{
     Argument, Helper, Inputs, Question, RECORD_BYTES, Signature, destination_at, window_within,

@@ -12,7 +12,7 @@ pub const HEADROOM: usize = 64;
 /// The greatest length of a datagram: what UDP over IPv4 can carry.
 pub const MAX_DATAGRAM: usize = 65_507;
 
-/// The number of bytes that may be written behind a datagram.
+/// The number of bytes that may be written after a datagram.
 pub const TAILROOM: usize = 3;
 
 /// The greatest offset of a pointer, to either side.

@@ -1,4 +1,5 @@
-//! Replays the events on standard input with the shipped programs, and prints the line of each answer.
+//! Replays the events on standard input with the shipped programs, a call for each line, and prints the line of each answer. A
+//! call that is refused memory is made once more over the same line.
 #![tactic(auto)]
 
 use anyhow::{Context, Result};
@@ -7,9 +8,9 @@ use control::Config;
 use credentials::User;
 use loader::load;
 use programs::{CLIENT, PEER};
-use relay::Relay;
+use relay::{Relay, ReplayError};
 use std::alloc::{AllocError, Global};
-use std::io::{self, BufReader};
+use std::io::{self, BufRead, BufReader, Write};
 
 /// Returns the configuration of the relay of the session.
 fn config(alloc: Global) -> Result<Config, AllocError> {
@@ -30,6 +31,24 @@ fn config(alloc: Global) -> Result<Config, AllocError> {
     })
 }
 
+/// Replays the event of a line, and returns its answer.
+///
+/// # Errors
+/// Where memory is refused twice, and where the line is no event's.
+fn play(alloc: Global, relay: &mut Relay, line: &[u8]) -> Result<Vec<u8>> {
+    let mut answer = Vec::new(alloc);
+    let mut reader = line;
+    let first = relay.replay(alloc, &mut reader, &mut answer);
+    if !matches!(first, Err(ReplayError::Memory | ReplayError::Write)) {
+        first?;
+        return Ok(answer);
+    }
+    answer.clear();
+    let mut reader = line;
+    relay.replay(alloc, &mut reader, &mut answer)?;
+    Ok(answer)
+}
+
 fn run<R: Input + Print + AllocGlobal>(rt: &R) -> Result<()> {
     let alloc = rt.alloc();
     let client = load(alloc, CLIENT).context("the program of the client's side")?;
@@ -37,7 +56,14 @@ fn run<R: Input + Print + AllocGlobal>(rt: &R) -> Result<()> {
     let mut relay = Relay::new(alloc, config(alloc)?, client, peer)?;
     let mut reader = BufReader::new(alloc, rt.reader())?;
     let mut writer = io::writer(rt);
-    relay.replay(alloc, &mut reader, &mut writer)?;
+    let mut line = Vec::new(alloc);
+    for _ in 0..u64::MAX {
+        line.clear();
+        if reader.read_until(b'\n', &mut line)? == 0 {
+            break;
+        }
+        writer.write_all(&play(alloc, &mut relay, &line)?)?;
+    }
     Ok(())
 }
 

@@ -4,8 +4,8 @@
 use std::marker::Model;
 use std::sync::ledger::{Blank, Book, Ledger, Share};
 
-/// How many steps were made: abstract steps of the verifier, and, once look-ups count, keys that they compare. It has no
-/// bytes at run time, and only `tick` changes it.
+/// How many steps were made: abstract steps of the verifier, and keys that look-ups of the tables compare. It has no bytes
+/// at run time, and only `tick` changes it.
 /// See docs/DECISIONS.md, "One count".
 #[derive(Drop)]
 pub struct Steps<L: Ledger> {

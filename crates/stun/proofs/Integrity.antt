@@ -119,11 +119,11 @@ scanned_all bytes rest at scanned none =
 -- attributes begin with those before the first MESSAGE-INTEGRITY
 front_step : (test : Bool) (a : Padded) (list : List Padded) (o : Option (List Padded)) (f : List Padded) → ((g : List Padded) → o ≡ Some g → (r : List Padded) × (list ≡ g ++ r))
     → (if test then Some [] else option_map (λ g. a ∷ g) o) ≡ Some f → (r : List Padded) × (a ∷ list ≡ f ++ r)
-front_step true a list o f behind e = let none : [] ≡ f = cc in (a ∷ list, ap (λ g. g ++ a ∷ list) none)
-front_step false a list None f behind e = absurd cc
-front_step false a list (Some g) f behind e =
+front_step true a list o f following e = let none : [] ≡ f = cc in (a ∷ list, ap (λ g. g ++ a ∷ list) none)
+front_step false a list None f following e = absurd cc
+front_step false a list (Some g) f following e =
     let is : a ∷ g ≡ f = cc in
-    let rest = behind g refl in
+    let rest = following g refl in
     (rest.0, ap (λ l. a ∷ l) rest.1 ∙ ap (λ l. l ++ rest.0) is)
 
 behind_front : (list f : List Padded) → before_first list ≡ Some f → (r : List Padded) × (list ≡ f ++ r)

@@ -4,51 +4,51 @@ use Rattle.std.proofs.lemmas.List.{length-append, length-drop, length-take-le, t
 use Rattle.byteorder.specs.Endian.{big_bytes}
 use Rattle.byteorder.specs.Numbers.{big_number-reads_back}
 use Rattle.stun.specs.Registry.{magic_cookie}
-use Rattle.stun.specs.Messages.{Parts, AreParts, padding_count, attribute_bytes, attributes_bytes, header, parts_bytes, zero_padded, with_attribute, started, attribute_length}
+use Rattle.stun.specs.Messages.{Parts, AreParts, padding_count, attribute_bytes, attributes_bytes, header, parts_bytes, zero_padded, with_attribute, empty_message, attribute_length}
 use Rattle.stun.specs.Refusals.{number_at}
-use Rattle.stun.specs.Building.{IsBuilding, message_bytes, built, used_in, room_in, over, patched, Begins, IsAppended}
+use Rattle.stun.specs.Building.{IsBuilding, message_bytes, built, used_in, room_in, over, with_piece, Begins, IsAppended}
 use Rattle.stun.proofs.Grammar.{piece_take, piece_drop, push_bytes, push_all}
 use Rattle.stun.proofs.Datagrams.{parts_are, fours, length_of_parts}
 
 -- ---- pieces written one after the other
 
-pub patched_on : (f r x : List ℕ) (at : ℕ) → at ≡ length f → patched at x (f ++ r) ≡ f ++ (x ++ drop (length x) r)
+pub patched_on : (f r x : List ℕ) (at : ℕ) → at ≡ length f → with_piece at x (f ++ r) ≡ f ++ (x ++ drop (length x) r)
 patched_on f r x at e =
     let front = piece_take f r at e in
-    let behind : drop (at + length x) (f ++ r) ≡ drop (length x) r = sym (drop-drop (length x) at (f ++ r)) ∙ ap (drop (length x)) (piece_drop f r at e) in
-    λ i. front i ++ (x ++ behind i)
+    let following : drop (at + length x) (f ++ r) ≡ drop (length x) r = sym (drop-drop (length x) at (f ++ r)) ∙ ap (drop (length x)) (piece_drop f r at e) in
+    λ i. front i ++ (x ++ following i)
 
--- a second piece right behind the first is one longer piece
-pub patched_twice : (b x y : List ℕ) (at next : ℕ) → next ≡ at + length x → next ≤ length b → patched next y (patched at x b) ≡ patched at (x ++ y) b
+-- a second piece right after the first is one longer piece
+pub patched_twice : (b x y : List ℕ) (at next : ℕ) → next ≡ at + length x → next ≤ length b → with_piece next y (with_piece at x b) ≡ with_piece at (x ++ y) b
 patched_twice b x y at next is room =
     let f : List ℕ = take at b in
     let r : List ℕ = drop at b in
     let f_length : at ≡ length f = sym (length-take-le at b (omega (arith, is, room))) in
     let whole : b ≡ f ++ r = sym (take-append-drop at b) in
-    let one : patched at x b ≡ (f ++ x) ++ drop (length x) r = ap (patched at x) whole ∙ patched_on f r x at f_length ∙ sym (append_assoc f x (drop (length x) r)) in
-    let two : patched next y (patched at x b) ≡ (f ++ x) ++ (y ++ drop (length y) (drop (length x) r)) =
-    ap (patched next y) one ∙ patched_on (f ++ x) (drop (length x) r) y next (omega (arith, is, f_length, length-append f x)) in
-    let behind : drop (length y) (drop (length x) r) ≡ drop (length (x ++ y)) r = drop-drop (length y) (length x) r ∙ ap (λ n. drop n r) (sym (length-append x y)) in
-    let both : patched at (x ++ y) b ≡ f ++ ((x ++ y) ++ drop (length (x ++ y)) r) = ap (patched at (x ++ y)) whole ∙ patched_on f r (x ++ y) at f_length in
-    two ∙ append_assoc f x (y ++ drop (length y) (drop (length x) r)) ∙ ap (λ l. f ++ l) (sym (append_assoc x y (drop (length y) (drop (length x) r))) ∙ ap (λ l. (x ++ y) ++ l) behind) ∙ sym both
+    let one : with_piece at x b ≡ (f ++ x) ++ drop (length x) r = ap (with_piece at x) whole ∙ patched_on f r x at f_length ∙ sym (append_assoc f x (drop (length x) r)) in
+    let two : with_piece next y (with_piece at x b) ≡ (f ++ x) ++ (y ++ drop (length y) (drop (length x) r)) =
+    ap (with_piece next y) one ∙ patched_on (f ++ x) (drop (length x) r) y next (omega (arith, is, f_length, length-append f x)) in
+    let following : drop (length y) (drop (length x) r) ≡ drop (length (x ++ y)) r = drop-drop (length y) (length x) r ∙ ap (λ n. drop n r) (sym (length-append x y)) in
+    let both : with_piece at (x ++ y) b ≡ f ++ ((x ++ y) ++ drop (length (x ++ y)) r) = ap (with_piece at (x ++ y)) whole ∙ patched_on f r (x ++ y) at f_length in
+    two ∙ append_assoc f x (y ++ drop (length y) (drop (length x) r)) ∙ ap (λ l. f ++ l) (sym (append_assoc x y (drop (length y) (drop (length x) r))) ∙ ap (λ l. (x ++ y) ++ l) following) ∙ sym both
 
 -- four pieces
-pub patched_four : (b b1 b2 b3 b4 x y z w : List ℕ) (at at2 at3 at4 : ℕ) → b1 ≡ patched at x b → b2 ≡ patched at2 y b1 → b3 ≡ patched at3 z b2 → b4 ≡ patched at4 w b3
+pub patched_four : (b b1 b2 b3 b4 x y z w : List ℕ) (at at2 at3 at4 : ℕ) → b1 ≡ with_piece at x b → b2 ≡ with_piece at2 y b1 → b3 ≡ with_piece at3 z b2 → b4 ≡ with_piece at4 w b3
     → at2 ≡ at + length x → at3 ≡ at2 + length y → at4 ≡ at3 + length z → at4 + length w ≤ length b
-    → b4 ≡ patched at (x ++ (y ++ (z ++ w))) b
+    → b4 ≡ with_piece at (x ++ (y ++ (z ++ w))) b
 patched_four b b1 b2 b3 b4 x y z w at at2 at3 at4 e1 e2 e3 e4 n2 n3 n4 room =
-    let two : b2 ≡ patched at (x ++ y) b = e2 ∙ ap (patched at2 y) e1 ∙ patched_twice b x y at at2 n2 (omega (arith, room, n3, n4)) in
-    let three : b3 ≡ patched at ((x ++ y) ++ z) b = e3 ∙ ap (patched at3 z) two ∙ patched_twice b (x ++ y) z at at3 (omega (arith, n2, n3, length-append x y)) (omega (arith, room, n4)) in
-    let four : b4 ≡ patched at (((x ++ y) ++ z) ++ w) b = e4 ∙ ap (patched at4 w) three ∙ patched_twice b ((x ++ y) ++ z) w at at4 (omega (arith, n2, n3, n4, length-append x y, length-append (x ++ y) z)) (omega (arith, room)) in
-    four ∙ ap (λ p. patched at p b) (append_assoc (x ++ y) z w ∙ append_assoc x y (z ++ w))
+    let two : b2 ≡ with_piece at (x ++ y) b = e2 ∙ ap (with_piece at2 y) e1 ∙ patched_twice b x y at at2 n2 (omega (arith, room, n3, n4)) in
+    let three : b3 ≡ with_piece at ((x ++ y) ++ z) b = e3 ∙ ap (with_piece at3 z) two ∙ patched_twice b (x ++ y) z at at3 (omega (arith, n2, n3, length-append x y)) (omega (arith, room, n4)) in
+    let four : b4 ≡ with_piece at (((x ++ y) ++ z) ++ w) b = e4 ∙ ap (with_piece at4 w) three ∙ patched_twice b ((x ++ y) ++ z) w at at4 (omega (arith, n2, n3, n4, length-append x y, length-append (x ++ y) z)) (omega (arith, room)) in
+    four ∙ ap (λ p. with_piece at p b) (append_assoc (x ++ y) z w ∙ append_assoc x y (z ++ w))
 
 -- the pieces of an attribute
-pub attribute_written : (b b1 b2 b3 b4 value zeros : List ℕ) (kind n at at2 at3 at4 : ℕ) → b1 ≡ patched at (big_bytes 2 kind) b → b2 ≡ patched at2 (big_bytes 2 n) b1 → b3 ≡ patched at3 value b2 → b4 ≡ patched at4 zeros b3
+pub attribute_written : (b b1 b2 b3 b4 value zeros : List ℕ) (kind n at at2 at3 at4 : ℕ) → b1 ≡ with_piece at (big_bytes 2 kind) b → b2 ≡ with_piece at2 (big_bytes 2 n) b1 → b3 ≡ with_piece at3 value b2 → b4 ≡ with_piece at4 zeros b3
     → n ≡ length value → zeros ≡ replicate (padding_count (length value)) 0 → at2 ≡ at + 2 → at3 ≡ at + 4 → at4 ≡ at3 + length value → at4 + length zeros ≤ length b
-    → b4 ≡ patched at (attribute_bytes (zero_padded kind value)) b
+    → b4 ≡ with_piece at (attribute_bytes (zero_padded kind value)) b
 attribute_written b b1 b2 b3 b4 value zeros kind n at at2 at3 at4 e1 e2 e3 e4 n_is zeros_are n2 n3 n4 room =
     patched_four b b1 b2 b3 b4 (big_bytes 2 kind) (big_bytes 2 n) value zeros at at2 at3 at4 e1 e2 e3 e4 n2 (omega (arith, n2, n3)) n4 room
-    ∙ (λ i. patched at (big_bytes 2 kind ++ (big_bytes 2 (n_is i) ++ (value ++ zeros_are i))) b)
+    ∙ (λ i. with_piece at (big_bytes 2 kind ++ (big_bytes 2 (n_is i) ++ (value ++ zeros_are i))) b)
 
 -- ---- what stands in a buffer
 
@@ -56,7 +56,7 @@ pub record Stands (p : Parts) (r b : List ℕ) : Type 0 where
   pub building : IsBuilding b
   pub message : message_bytes b ≡ parts_bytes p
   pub parts : built b ≡ p
-  pub behind : drop (length (parts_bytes p)) b ≡ r
+  pub following : drop (length (parts_bytes p)) b ≡ r
 
 pub stands : (b : List ℕ) (p : Parts) (r : List ℕ) → AreParts p → b ≡ parts_bytes p ++ r → Stands p r b
 unfolding built
@@ -77,7 +77,7 @@ stands b p r are spelled =
       };
       message = front;
       parts = parts_is;
-      behind = ap (drop (length whole)) spelled ∙ piece_drop whole r (length whole) refl;
+      following = ap (drop (length whole)) spelled ∙ piece_drop whole r (length whole) refl;
     }
 
 -- a buffer that is being built stands as its message and the rest
@@ -114,8 +114,8 @@ with_are p kind value are small short = record {
 length_of_with : (p : Parts) (kind : ℕ) (value : List ℕ) → AreParts p → length (parts_bytes (with_attribute p kind value)) ≡ 20 + length (attributes_bytes (with_attribute p kind value).attributes)
 length_of_with p kind value are = omega (arith, length-append p.transaction_id (attributes_bytes (with_attribute p kind value).attributes), are.transaction_id)
 
--- an attribute is written behind the message, and the header's length after it
-pushed : (b b1 b2 : List ℕ) (kind : ℕ) (value : List ℕ) (at total : ℕ) → IsBuilding b → b1 ≡ patched at (attribute_bytes (zero_padded kind value)) b → b2 ≡ patched 2 (big_bytes 2 total) b1
+-- an attribute is written after the message, and the header's length after it
+pushed : (b b1 b2 : List ℕ) (kind : ℕ) (value : List ℕ) (at total : ℕ) → IsBuilding b → b1 ≡ with_piece at (attribute_bytes (zero_padded kind value)) b → b2 ≡ with_piece 2 (big_bytes 2 total) b1
     → at ≡ 20 + number_at 2 2 b → total ≡ number_at 2 2 b + (4 + length value + padding_count (length value))
     → b2 ≡ over (with_attribute (built b) kind value) b
 unfolding built
@@ -127,7 +127,7 @@ pushed b b1 b2 kind value at total is e1 e2 at_is total_is =
     let r = drop (length (parts_bytes p)) b in
     let split = split_building b is in
     let one : b1 ≡ parts_bytes p ++ (attribute_bytes a ++ drop (length (attribute_bytes a)) r) =
-    e1 ∙ ap (patched at (attribute_bytes a)) split.0 ∙ patched_on (parts_bytes p) r (attribute_bytes a) at (omega (arith, at_is, split.1)) in
+    e1 ∙ ap (with_piece at (attribute_bytes a)) split.0 ∙ patched_on (parts_bytes p) r (attribute_bytes a) at (omega (arith, at_is, split.1)) in
     let ends : length (parts_bytes p) + length (attribute_bytes a) ≡ length (parts_bytes q) = omega (arith, length_of_with p kind value is.message.are_parts, length_with p kind value, length_zero_padded kind value, split.1, split.2) in
     let rest : drop (length (attribute_bytes a)) r ≡ drop (length (parts_bytes q)) b =
     drop-drop (length (attribute_bytes a)) (length (parts_bytes p)) b ∙ ap (λ n. drop n b) ends in
@@ -135,7 +135,7 @@ pushed b b1 b2 kind value at total is e1 e2 at_is total_is =
     append_assoc (header p.kind (length x) p.transaction_id) x (attribute_bytes a ++ drop (length (attribute_bytes a)) r)
     ∙ ap (λ l. header p.kind (length x) p.transaction_id ++ l) (sym (append_assoc x (attribute_bytes a) (drop (length (attribute_bytes a)) r)) ∙ (λ i. sym (push_bytes p.attributes a) i ++ rest i)) in
     let total_there : total ≡ length (attributes_bytes q.attributes) = omega (arith, total_is, length_with p kind value, split.2) in
-    e2 ∙ ap (patched 2 (big_bytes 2 total)) (one ∙ joined)
+    e2 ∙ ap (with_piece 2 (big_bytes 2 total)) (one ∙ joined)
     ∙ (λ i. header p.kind (total_there i) p.transaction_id ++ (attributes_bytes q.attributes ++ drop (length (parts_bytes q)) b))
     ∙ sym (append_assoc (header p.kind (length (attributes_bytes q.attributes)) p.transaction_id) (attributes_bytes q.attributes) (drop (length (parts_bytes q)) b))
 
@@ -195,7 +195,7 @@ with_length b kind value is =
 
 -- the attribute that was pushed, in the numbers that the code has: its length, its padding, the length before and after
 pub appended : (b b1 new : List ℕ) (kind : ℕ) (value : List ℕ) (n padding before total : ℕ) → IsBuilding b → kind < 0x10000 → n ≡ length value → padding ≡ padding_count n → before ≡ number_at 2 2 b
-    → b1 ≡ patched (20 + before) (attribute_bytes (zero_padded kind value)) b → new ≡ patched 2 (big_bytes 2 total) b1 → total ≡ before + (4 + n + padding) → used_in b + attribute_length value ≤ room_in b
+    → b1 ≡ with_piece (20 + before) (attribute_bytes (zero_padded kind value)) b → new ≡ with_piece 2 (big_bytes 2 total) b1 → total ≡ before + (4 + n + padding) → used_in b + attribute_length value ≤ room_in b
     → IsBuilding new × IsAppended kind value b new
 unfolding used_in
 appended b b1 new kind value n padding before total is small n_is padding_is before_is e1 e2 total_is room =
@@ -211,28 +211,28 @@ appended b b1 new kind value n padding before total is small n_is padding_is bef
 
 -- ---- a message with no attributes
 
-pub started_are : (kind : ℕ) (id : List ℕ) → kind < 0x4000 → length id ≡ 12 → AreParts (started kind id)
+pub started_are : (kind : ℕ) (id : List ℕ) → kind < 0x4000 → length id ≡ 12 → AreParts (empty_message kind id)
 started_are kind id small long = record { kind = small; transaction_id = long; attributes = tt; short = omega arith }
 
 zero_first : (n : ℕ) → 0 + n ≡ n
 zero_first n = omega arith
 
-pub started_over : (b new : List ℕ) (kind : ℕ) (id : List ℕ) → new ≡ patched 0 (parts_bytes (started kind id)) b → new ≡ over (started kind id) b
-started_over b new kind id e = e ∙ ap (λ n. parts_bytes (started kind id) ++ drop n b) (zero_first (length (parts_bytes (started kind id))))
+pub started_over : (b new : List ℕ) (kind : ℕ) (id : List ℕ) → new ≡ with_piece 0 (parts_bytes (empty_message kind id)) b → new ≡ over (empty_message kind id) b
+started_over b new kind id e = e ∙ ap (λ n. parts_bytes (empty_message kind id) ++ drop n b) (zero_first (length (parts_bytes (empty_message kind id))))
 
-pub begun : (b new : List ℕ) (kind : ℕ) (id : List ℕ) → kind < 0x4000 → length id ≡ 12 → 20 ≤ length b → new ≡ patched 0 (parts_bytes (started kind id)) b → IsBuilding new × Begins kind id b new
+pub begun : (b new : List ℕ) (kind : ℕ) (id : List ℕ) → kind < 0x4000 → length id ≡ 12 → 20 ≤ length b → new ≡ with_piece 0 (parts_bytes (empty_message kind id)) b → IsBuilding new × Begins kind id b new
 unfolding used_in
 begun b new kind id small long room e =
     let are = started_are kind id small long in
     let spelled = started_over b new kind id e in
-    let stand = stands new (started kind id) _ are spelled in
-    let twenty : length (parts_bytes (started kind id)) ≡ 20 = omega (arith, length_of_parts (started kind id) are) in (
+    let stand = stands new (empty_message kind id) _ are spelled in
+    let twenty : length (parts_bytes (empty_message kind id)) ≡ 20 = omega (arith, length_of_parts (empty_message kind id) are) in (
       stand.building,
       record {
         parts = stand.parts;
         bytes = spelled;
         used = ap (λ p. length (parts_bytes p)) stand.parts ∙ twenty;
-        room = room_of_length new ∙ ap (λ n. min n 65552) (ap length spelled ∙ length_over (started kind id) b (omega (arith, twenty, room)));
+        room = room_of_length new ∙ ap (λ n. min n 65552) (ap length spelled ∙ length_over (empty_message kind id) b (omega (arith, twenty, room)));
         fits = room;
       },
     )

@@ -1,6 +1,6 @@
 -- Interface. A buffer that begins with a message, of the length that its header has.
 use Rattle.std.specs.Prelude.{◌≡◌, ℕ, ◌+◌, ◌≤◌, min, List, ◌++◌, length, take, drop}
-use Rattle.stun.specs.Messages.{Parts, parts_bytes, started, with_attribute, attribute_length}
+use Rattle.stun.specs.Messages.{Parts, parts_bytes, empty_message, with_attribute, attribute_length}
 use Rattle.stun.specs.Refusals.{number_at}
 use Rattle.stun.specs.Reading.{parts_in, EncodesParts}
 
@@ -30,15 +30,15 @@ abbrev pub over : Parts → List ℕ → List ℕ
 over p bytes = parts_bytes p ++ drop (length (parts_bytes p)) bytes
 
 -- bytes with others over them from an index on
-abbrev pub patched : ℕ → List ℕ → List ℕ → List ℕ
-patched at piece bytes = take at bytes ++ (piece ++ drop (at + length piece) bytes)
+abbrev pub with_piece : ℕ → List ℕ → List ℕ → List ℕ
+with_piece at piece bytes = take at bytes ++ (piece ++ drop (at + length piece) bytes)
 
 -- ---- what is written into a buffer
 
 -- a message with no attributes stands over the first bytes, and the others are as they were
 pub record Begins (kind : ℕ) (transaction_id old new : List ℕ) : Type 0 where
-  pub parts : built new ≡ started kind transaction_id
-  pub bytes : new ≡ over (started kind transaction_id) old
+  pub parts : built new ≡ empty_message kind transaction_id
+  pub bytes : new ≡ over (empty_message kind transaction_id) old
   pub used : used_in new ≡ 20
   pub room : room_in new ≡ min (length old) 65552
   pub fits : 20 ≤ length old

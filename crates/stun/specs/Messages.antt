@@ -97,8 +97,8 @@ zero_padded kind value = record { kind = kind; value = value; padding = replicat
 abbrev pub with_attribute : Parts → ℕ → List ℕ → Parts
 with_attribute p kind value = record p { attributes = p.attributes ++ zero_padded kind value ∷ [] }
 
-abbrev pub started : ℕ → List ℕ → Parts
-started kind transaction_id = record { kind = kind; transaction_id = transaction_id; attributes = [] }
+abbrev pub empty_message : ℕ → List ℕ → Parts
+empty_message kind transaction_id = record { kind = kind; transaction_id = transaction_id; attributes = [] }
 
 -- how many bytes an attribute with a value takes
 abbrev pub attribute_length : List ℕ → ℕ

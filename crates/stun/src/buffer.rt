@@ -2,10 +2,10 @@
 
 ghost use Rattle.std.specs.Prelude.{◌≡◌, ◌+◌, ◌<◌, ◌≤◌, length, replicate, Decides, OnOk, OnErr};
 ghost use Rattle.byteorder.specs.Endian.{big_bytes};
-ghost use Rattle.stun.specs.Messages.{attribute_bytes, zero_padded, parts_bytes, started, attribute_length};
+ghost use Rattle.stun.specs.Messages.{attribute_bytes, zero_padded, parts_bytes, empty_message, attribute_length};
 ghost use Rattle.stun.specs.Registry.{magic_cookie};
 ghost use Rattle.stun.specs.Refusals.{number_at};
-ghost use Rattle.stun.specs.Building.{IsBuilding, used_in, room_in, patched, Begins, IsAppended};
+ghost use Rattle.stun.specs.Building.{IsBuilding, used_in, room_in, with_piece, Begins, IsAppended};
 
 use crate::attributes::{ATTRIBUTE_HEADER_BYTES, padding_bytes};
 use crate::reading::HEADER_BYTES;
@@ -21,7 +21,7 @@ const MAX_MESSAGE: usize = 65_552;
 /// Overwrites bytes of a buffer, from an index on.
 fn overwrite(buffer: &mut [u8], at: usize, bytes: &[u8])
     requires { at + length bytes.now ≤ length buffer.old }
-    ensures { buffer.new ≡ patched at bytes.now buffer.old }
+    ensures { buffer.new ≡ with_piece at bytes.now buffer.old }
 {
     buffer[at..at + bytes.len()].copy_from_slice(bytes);
 }
@@ -29,7 +29,7 @@ fn overwrite(buffer: &mut [u8], at: usize, bytes: &[u8])
 /// Writes a number over two bytes of a buffer, from an index on, high byte first.
 fn write_number(buffer: &mut [u8], at: usize, n: u16)
     requires { at + 2 ≤ length buffer.old }
-    ensures { buffer.new ≡ patched at (big_bytes 2 n) buffer.old }
+    ensures { buffer.new ≡ with_piece at (big_bytes 2 n) buffer.old }
 {
     let mut bytes = [0; 2];
     BigEndian::write_u16(&mut bytes, n);
@@ -39,7 +39,7 @@ fn write_number(buffer: &mut [u8], at: usize, n: u16)
 /// Writes the magic cookie over the bytes 4 to 7.
 fn write_cookie(buffer: &mut [u8])
     requires { 8 ≤ length buffer.old }
-    ensures { buffer.new ≡ patched 4 (big_bytes 4 magic_cookie) buffer.old }
+    ensures { buffer.new ≡ with_piece 4 (big_bytes 4 magic_cookie) buffer.old }
 {
     let mut bytes = [0; 4];
     BigEndian::write_u32(&mut bytes, MAGIC_COOKIE);
@@ -49,7 +49,7 @@ fn write_cookie(buffer: &mut [u8])
 /// Writes `n` zeros from an index on.
 fn write_zeros(buffer: &mut [u8], at: usize, n: usize)
     requires { at + n ≤ length buffer.old }
-    ensures { buffer.new ≡ patched at (replicate n 0) buffer.old }
+    ensures { buffer.new ≡ with_piece at (replicate n 0) buffer.old }
 {
     buffer[at..at + n].fill(0);
 }
@@ -57,7 +57,7 @@ fn write_zeros(buffer: &mut [u8], at: usize, n: usize)
 /// Writes the header of a message with no attributes.
 pub(crate) fn write_header(buffer: &mut [u8], kind: u16, tx: &[u8; 12])
     requires { 20 ≤ length buffer.old }
-    ensures { buffer.new ≡ patched 0 (parts_bytes (started kind tx.now)) buffer.old }
+    ensures { buffer.new ≡ with_piece 0 (parts_bytes (empty_message kind tx.now)) buffer.old }
 {
     write_number(buffer, 0, kind);
     write_number(buffer, 2, 0);
@@ -68,7 +68,7 @@ pub(crate) fn write_header(buffer: &mut [u8], kind: u16, tx: &[u8; 12])
 /// Writes a value from an index on.
 fn write_value<V: AttributeValue>(buffer: &mut [u8], at: usize, value: &V)
     requires { at + length (V.bytes value.now) ≤ length buffer.old }
-    ensures { buffer.new ≡ patched at (V.bytes value.now) buffer.old }
+    ensures { buffer.new ≡ with_piece at (V.bytes value.now) buffer.old }
 {
     value.write(&mut buffer[at..at + value.len()]);
 }
@@ -77,7 +77,7 @@ fn write_value<V: AttributeValue>(buffer: &mut [u8], at: usize, value: &V)
 fn write_attribute<V: AttributeValue>(buffer: &mut [u8], at: usize, kind: u16, value: &V)
     requires room { at + attribute_length (V.bytes value.now) ≤ length buffer.old }
     requires short { length (V.bytes value.now) < 0x10000 }
-    ensures { buffer.new ≡ patched at (attribute_bytes (zero_padded kind (V.bytes value.now))) buffer.old }
+    ensures { buffer.new ≡ with_piece at (attribute_bytes (zero_padded kind (V.bytes value.now))) buffer.old }
 {
     let length = value.len();
     write_number(buffer, at, kind);

@@ -12,18 +12,18 @@ use Rattle.std.proofs.lemmas.List.Elements.{All-filter, All-set}
 use Rattle.std.proofs.lemmas.List.Kept.{AllPairs-filter}
 use Rattle.attributes.specs.declared.address.Addr.{Addr}
 use Rattle.attributes.specs.declared.address.Addr.TheVariants.{V4}
-use Rattle.tables.specs.AddressOrder.{parts_of, address_order}
-use Rattle.tables.specs.AddressOrderLaws.{parts_order-total, parts_order-antisymmetric}
-use Rattle.tables.specs.Addresses.{is_same_address}
+use Rattle.attributes.specs.AddressOrder.{parts_of, order_by_parts, is_same_address}
+use Rattle.attributes.specs.AddressOrderLaws.{parts_order-total, parts_order-antisymmetric}
 use Rattle.tables.specs.Channels.{channels_at, number_to, may_bind, is_none_or}
 use Rattle.tables.specs.RowLists.{channels_of, AreChannels}
-use Rattle.tables.specs.Retained.{kept}
+use Rattle.tables.specs.Retained.{value_if}
 use Rattle.tables.specs.RetainedLaws.{get-kept_of, kept_from}
 use Rattle.tables.specs.RowLaws.{binding_counts}
 use Rattle.tables.specs.Search.{AreAscending, IsFoundAt, IsMissingAt, IsPlace, with_row, has_room}
 use Rattle.tables.specs.SortedRows.{AreSortedByNumber, AreSortedByPeer, AreChannelLists}
 use Rattle.tables.specs.declared.channels.Binding.{Binding}
 use Rattle.tables.specs.declared.channels.Channel.{Channel}
+use Rattle.tables.specs.declared.channels.TheConstants.{FIRST_CHANNEL, LAST_CHANNEL}
 use Rattle.tables.proofs.Ascending.{searchable, Ascending-filter, Ascending-put, missing_key, found_key}
 use Rattle.tables.proofs.Lists.{AllPairs-set, AllPairs-insert, All-insert}
 use Rattle.tables.proofs.Maps.{from_entries-filter, from_entries-set, from_entries-insert, len-from_entries, find_at, find_row, find-absent, Distinct-set, PassesOnce, key_where-None, key_where-Some}
@@ -38,7 +38,7 @@ is_to peer row = is_same_address peer row.binding.peer
 abbrev pub bound_to : Addr → Binding → Bool
 bound_to peer binding = is_same_address peer binding.peer
 
--- what is read behind the last row
+-- what is read beyond the last row
 abbrev pub blank : Channel
 blank = record { number = 0; binding = record { peer = V4 [] 0; end = 0 } }
 
@@ -53,7 +53,7 @@ abbrev pub by_number : ℕ → Channel → Ordering
 by_number number row = nat_cmp row.number number
 
 abbrev pub by_peer : Addr → Channel → Ordering
-by_peer peer row = address_order row.binding.peer peer
+by_peer peer row = order_by_parts row.binding.peer peer
 
 pub searchable_by_number : (number : ℕ) (rows : List Channel) → AreSortedByNumber rows → AreAscending (by_number number) rows
 searchable_by_number number rows sorted = searchable nat_cmp_total number_in rows number sorted
@@ -79,8 +79,8 @@ filtered_are t rows are =
     record {
       distinct = AllPairs-filter (λ a b. a.number ≢ b.number) test rows are.distinct;
       peers = AllPairs-filter (λ a b. is_same_address a.binding.peer b.binding.peer ≡ false) test rows are.peers;
-      low = All-filter test (λ row. 0x4000 ≤ row.number) rows are.low;
-      high = All-filter test (λ row. row.number ≤ 0x4fff) rows are.high;
+      low = All-filter test (λ row. FIRST_CHANNEL ≤ row.number) rows are.low;
+      high = All-filter test (λ row. row.number ≤ LAST_CHANNEL) rows are.high;
     }
 
 pub filtered : (t : ℕ) (rows : List Channel) → AreChannels rows → channels_of (filter (λ row. nat_lt t row.binding.end) rows) ≡ channels_at t (channels_of rows)
@@ -162,7 +162,7 @@ module _ (rows : List Channel) where
         let to : is_to peer (get_or rows i d) ≡ true = is_to-found peer rows i d at in
         let row = get_or rows i d in
         let left : get (channels_at t (channels_of rows)) row.number ≡ Some row.binding =
-        get-kept_of nat_cmp_total (binding_counts t) (channels_of rows) row.number ∙ ap (kept (binding_counts t)) (at_row are i d at.inside)
+        get-kept_of nat_cmp_total (binding_counts t) (channels_of rows) row.number ∙ ap (value_if (binding_counts t)) (at_row are i d at.inside)
         ∙ cond-true (nat_lt t row.binding.end) (Some row.binding) None (lt-ltb t row.binding.end counts) in
         key_where-Some nat_cmp_total nat_cmp-IsAntisymmetric (bound_to peer) (channels_at t (channels_of rows)) row.number row.binding
         (λ k l v w at_k at_l. once are peer k l v w (stored t k v at_k).0 (stored t l w at_l).0) left to
@@ -202,14 +202,14 @@ module _ (number : ℕ) (binding : Binding) (rows : List Channel) (are : AreChan
           (λ n e p. is_same-symmetric (get_or rows n e).binding.peer binding.peer
           ∙ free_of n e (omega (arith, l, p)) (λ s. are.distinct n i e p l (sym s ∙ is ∙ ap (λ (r : Channel). r.number) (get_or_default rows i d e l))))
           (λ n e p q. free_of n e q (λ s. are.distinct i n e p q (ap (λ (r : Channel). r.number) (get_or_default rows i e d l) ∙ sym is ∙ s)));
-      low = All-set (λ r. 0x4000 ≤ r.number) rows i row (subst (λ n. 0x4000 ≤ n) (sym is) (are.low i d l)) are.low;
-      high = All-set (λ r. r.number ≤ 0x4fff) rows i row (subst (λ n. n ≤ 0x4fff) (sym is) (are.high i d l)) are.high;
+      low = All-set (λ r. FIRST_CHANNEL ≤ r.number) rows i row (subst (λ n. FIRST_CHANNEL ≤ n) (sym is) (are.low i d l)) are.low;
+      high = All-set (λ r. r.number ≤ LAST_CHANNEL) rows i row (subst (λ n. n ≤ LAST_CHANNEL) (sym is) (are.high i d l)) are.high;
     }
 
     renewed : channels_of (set rows i row) ≡ insert (channels_of rows) number binding
     renewed = from_entries-set nat_cmp_total nat_cmp-IsAntisymmetric entry_of rows i row d are.distinct l is
 
-  module _ (low : 0x4000 ≤ number) (high : number ≤ 0x4fff) (i : ℕ) (within : i ≤ length rows) (new_key : All (λ x. number ≢ x.number) rows) where
+  module _ (low : FIRST_CHANNEL ≤ number) (high : number ≤ LAST_CHANNEL) (i : ℕ) (within : i ≤ length rows) (new_key : All (λ x. number ≢ x.number) rows) where
     inserted_are : AreChannels (insert_at rows i row)
     inserted_are = record {
       distinct = AllPairs-insert (λ a b. a.number ≢ b.number) rows i row within are.distinct
@@ -217,8 +217,8 @@ module _ (number : ℕ) (binding : Binding) (rows : List Channel) (are : AreChan
       peers = AllPairs-insert (λ a b. is_same_address a.binding.peer b.binding.peer ≡ false) rows i row within are.peers
           (λ n e p. let l : n < length rows = omega (arith, p, within) in is_same-symmetric (get_or rows n e).binding.peer binding.peer ∙ free_of n e l (new_key n e l))
           (λ n e p l. free_of n e l (new_key n e l));
-      low = All-insert (λ r. 0x4000 ≤ r.number) rows i row within are.low low;
-      high = All-insert (λ r. r.number ≤ 0x4fff) rows i row within are.high high;
+      low = All-insert (λ r. FIRST_CHANNEL ≤ r.number) rows i row within are.low low;
+      high = All-insert (λ r. r.number ≤ LAST_CHANNEL) rows i row within are.high high;
     }
 
     inserted : channels_of (insert_at rows i row) ≡ insert (channels_of rows) number binding
@@ -229,7 +229,7 @@ module _ (number : ℕ) (binding : Binding) (rows : List Channel) (are : AreChan
   Fits (Ok i) = (i < length rows) × ((d : Channel) → number ≡ (get_or rows i d).number)
   Fits (Err i) = (i ≤ length rows) × All (λ x. number ≢ x.number) rows
 
-  pub put_are : (place : Result ℕ ℕ) → 0x4000 ≤ number → number ≤ 0x4fff → Fits place → AreChannels (with_row place row rows)
+  pub put_are : (place : Result ℕ ℕ) → FIRST_CHANNEL ≤ number → number ≤ LAST_CHANNEL → Fits place → AreChannels (with_row place row rows)
   put_are (Ok i) low high fits = renewed_are i row fits.0 (fits.1 row)
   put_are (Err i) low high fits = inserted_are low high i fits.0 fits.1
 
@@ -254,7 +254,7 @@ module _ (number : ℕ) (binding : Binding) (rows : List Channel) (are : AreChan
 -- ---- both lists
 
 module _ (number : ℕ) (binding : Binding) (rows others : List Channel) (are : AreChannelLists rows others) (free : IsTrue (may_bind (channels_of rows) number binding.peer))
-    (low : 0x4000 ≤ number) (high : number ≤ 0x4fff) (place place_by_peer : Result ℕ ℕ) (at : IsPlace (by_number number) rows place) (at_peer : IsPlace (by_peer binding.peer) others place_by_peer) where
+    (low : FIRST_CHANNEL ≤ number) (high : number ≤ LAST_CHANNEL) (place place_by_peer : Result ℕ ℕ) (at : IsPlace (by_number number) rows place) (at_peer : IsPlace (by_peer binding.peer) others place_by_peer) where
   abbrev pub new : Channel
   new = record { number = number; binding = binding }
 
@@ -308,14 +308,14 @@ full_after rows row order most (Ok i) at full = absurd (both_ways true full refl
 full_after rows row order most (Err i) none full = omega (arith, length-insert rows i row none.inside, ltb-false (length rows) most full)
 
 module _ (number : ℕ) (binding : Binding) (rows others : List Channel) (are : AreChannelLists rows others) (free : IsTrue (may_bind (channels_of rows) number binding.peer))
-    (low : 0x4000 ≤ number) (high : number ≤ 0x4fff) (place place_by_peer : Result ℕ ℕ) (at : IsPlace (by_number number) rows place) (at_peer : IsPlace (by_peer binding.peer) others place_by_peer) (most : ℕ) where
+    (low : FIRST_CHANNEL ≤ number) (high : number ≤ LAST_CHANNEL) (place place_by_peer : Result ℕ ℕ) (at : IsPlace (by_number number) rows place) (at_peer : IsPlace (by_peer binding.peer) others place_by_peer) (most : ℕ) where
   pub room_for_peer : has_room most (length rows) place ≡ true → IfErr place_by_peer (λ i. (i ≤ length others) × (length others < most))
   room_for_peer room =
       room_by_peer (by_peer binding.peer) rows others most place place_by_peer (same_length number binding rows others are free low high place place_by_peer at at_peer) at_peer room
       (peer_is_new number binding rows others are free low high place place_by_peer at at_peer)
 
 module _ (number : ℕ) (binding : Binding) (rows : List Channel) (are : AreChannels rows) (free : IsTrue (may_bind (channels_of rows) number binding.peer))
-    (low : 0x4000 ≤ number) (high : number ≤ 0x4fff) (place : Result ℕ ℕ) (at : IsPlace (by_number number) rows place) (most : ℕ) where
+    (low : FIRST_CHANNEL ≤ number) (high : number ≤ LAST_CHANNEL) (place : Result ℕ ℕ) (at : IsPlace (by_number number) rows place) (most : ℕ) where
   len-put : len (insert (channels_of rows) number binding) ≡ length (with_row place (row number binding rows are free) rows)
   len-put =
       let fits = fits_by_number number binding rows are free place at in

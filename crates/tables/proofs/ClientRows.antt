@@ -12,9 +12,8 @@ use Rattle.std.proofs.lemmas.Map.Steps.{length-le_from_distinct_below}
 use Rattle.std.proofs.lemmas.List.Edits.{get_or-insert_below, get_or-insert_at, get_or-insert_above, length-insert}
 use Rattle.attributes.specs.declared.address.Addr.{Addr}
 use Rattle.attributes.specs.declared.address.Addr.TheVariants.{V4}
-use Rattle.tables.specs.AddressOrder.{parts_of, address_order}
-use Rattle.tables.specs.AddressOrderLaws.{parts_order-total, parts_order-antisymmetric, address_order-total}
-use Rattle.tables.specs.Addresses.{is_same_address}
+use Rattle.attributes.specs.AddressOrder.{parts_of, order_by_parts, is_same_address}
+use Rattle.attributes.specs.AddressOrderLaws.{parts_order-total, parts_order-antisymmetric, order_by_parts-total}
 use Rattle.tables.specs.LookUps.{is_of}
 use Rattle.tables.specs.RowLaws.{held_at-counts, held_at-ended}
 use Rattle.tables.specs.Rows.{held_at, slots_at}
@@ -34,7 +33,7 @@ key_in row = parts_of row.address
 
 -- how a row compares with a client
 abbrev pub by_client : Addr → Client → Ordering
-by_client client row = address_order row.address client
+by_client client row = order_by_parts row.address client
 
 -- what is read after the last row
 abbrev pub blank : Client
@@ -94,18 +93,18 @@ module _ (slots : List (Option Held)) (clients : List Client) (are : AreClients 
   held_by-missing t none = none_in t client slots (not_listed none)
 
   -- two rows of one client are one
-  tied_rows : (j k : ℕ) (d : Client) → j < k → k < length clients → address_order (get_or clients j d).address client ≡ Equal → address_order (get_or clients k d).address client ≡ Equal → ⊥
+  tied_rows : (j k : ℕ) (d : Client) → j < k → k < length clients → order_by_parts (get_or clients j d).address client ≡ Equal → order_by_parts (get_or clients k d).address client ≡ Equal → ⊥
   tied_rows j k d p l one other =
       let a = (get_or clients j d).address in
       let b = (get_or clients k d).address in
-      let tie : address_order a b ≡ Equal = IsTotalOrder.congr address_order-total a client b one ∙ tied_back address_order-total b client other in
-      both_ways (is_equal (address_order a b)) (ap is_equal (are.ascending j k d p l)) (ap is_equal tie)
+      let tie : order_by_parts a b ≡ Equal = IsTotalOrder.congr order_by_parts-total a client b one ∙ tied_back order_by_parts-total b client other in
+      both_ways (is_equal (order_by_parts a b)) (ap is_equal (are.ascending j k d p l)) (ap is_equal tie)
 
   only_row : (d : Client) → IsFoundAt (by_client client) clients i → (k : ℕ) (held : Held) → stored_at slots k ≡ Some held → is_same_address client held.allocation.client ≡ true → k ≡ (get_or clients i d).slot
   only_row d at k held is same = elim (cases_eq k (get_or clients i d).slot) [
     | inl e ↦ e
     | inr differ ↦ absurd (are.listed k held is (λ j c l slot.
-        let tie : address_order (get_or clients j c).address client ≡ Equal = tied_when_same client (get_or clients j c).address (ap (is_same_address client) (row_held j k c held l is slot) ∙ same) in
+        let tie : order_by_parts (get_or clients j c).address client ≡ Equal = tied_when_same client (get_or clients j c).address (ap (is_same_address client) (row_held j k c held l is slot) ∙ same) in
         elim (cases_order j i) [
           | inl e ↦ differ (sym slot ∙ ap (λ n. (get_or clients n c).slot) e ∙ ap (λ (r : Client). r.slot) (get_or_default clients i c d at.inside))
           | inr o ↦ elim o [
@@ -300,7 +299,7 @@ module _ (slots : List (Option Held)) (clients : List Client) (are : AreClients 
       let a = (get_or clients i blank).address in
       let b = (get_or clients j blank).address in
       let same : a ≡ b = same_Some _ _ (sym (are.held i blank (omega (arith, p, l))) ∙ ap (λ n. client_in (stored_at slots n)) s ∙ are.held j blank l) in
-      both_ways (is_equal (address_order a b)) (ap is_equal (are.ascending i j blank p l)) (ap is_equal (subst (λ (c : Addr). address_order a c ≡ Equal) same (tied_itself address_order-total a)))
+      both_ways (is_equal (order_by_parts a b)) (ap is_equal (are.ascending i j blank p l)) (ap is_equal (subst (λ (c : Addr). order_by_parts a c ≡ Equal) same (tied_itself order_by_parts-total a)))
 
   numbers_apart : (i j d : ℕ) → i < j → j < length numbers → eqb (get_or numbers i d) (get_or numbers j d) ≡ false
   numbers_apart zero zero d p l = absurd (omega (arith, p))

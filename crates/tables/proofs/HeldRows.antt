@@ -6,7 +6,7 @@ use Rattle.tables.specs.Channels.{ChannelMap, channels_at}
 use Rattle.tables.specs.Permissions.{PermissionMap, permissions_at}
 use Rattle.tables.specs.WellFormed.{IsChannel, IsHeldAt}
 use Rattle.tables.specs.WellFormedLaws.{counted-held_at, fresh-held_at, refreshed-held_at, permitted-held_at, bound-held_at}
-use Rattle.tables.specs.RowLaws.{counted}
+use Rattle.tables.specs.RowLaws.{held_counting}
 use Rattle.tables.specs.declared.allocation.Allocation.{Allocation}
 use Rattle.tables.specs.declared.channels.Binding.{Binding}
 use Rattle.tables.specs.declared.channels.TheConstants.{MAX_CHANNELS}
@@ -26,12 +26,12 @@ module _ (slot t : ℕ) (held : Held) (is : IsHeldAt slot held) where
       → IsHeldAt slot (held_of (record held.allocation { end = end }) permissions channels)
   refreshed end permissions channels same_permissions same_channels =
       subst (IsHeldAt slot) (λ i. held_of (record held.allocation { end = end }) (sym same_permissions i) (sym same_channels i))
-      (refreshed-held_at slot end (counted t held) (counted-held_at t slot held is))
+      (refreshed-held_at slot end (held_counting t held) (counted-held_at t slot held is))
 
   pub permitted : (permissions : PermissionMap) (channels : ChannelMap) → len permissions ≤ MAX_PERMISSIONS → channels ≡ channels_at t held.channels
       → IsHeldAt slot (held_of held.allocation permissions channels)
   permitted permissions channels few same_channels =
-      subst (IsHeldAt slot) (λ i. held_of held.allocation permissions (sym same_channels i)) (permitted-held_at slot permissions (counted t held) few (counted-held_at t slot held is))
+      subst (IsHeldAt slot) (λ i. held_of held.allocation permissions (sym same_channels i)) (permitted-held_at slot permissions (held_counting t held) few (counted-held_at t slot held is))
 
   pub bound : (number : ℕ) (binding : Binding) (permissions : PermissionMap) (before channels : ChannelMap) → IsChannel number binding → before ≡ channels_at t held.channels
       → channels ≡ insert before number binding → len channels ≤ MAX_CHANNELS → len permissions ≤ MAX_PERMISSIONS
@@ -39,4 +39,4 @@ module _ (slot t : ℕ) (held : Held) (is : IsHeldAt slot held) where
   bound number binding permissions before channels new same_before made few_channels few_permissions =
       let whole : channels ≡ insert (channels_at t held.channels) number binding = made ∙ ap (λ (m : ChannelMap). insert m number binding) same_before in
       subst (IsHeldAt slot) (λ i. held_of held.allocation permissions (sym whole i))
-      (bound-held_at slot number binding permissions (counted t held) new (subst (λ (m : ChannelMap). len m ≤ MAX_CHANNELS) whole few_channels) few_permissions (counted-held_at t slot held is))
+      (bound-held_at slot number binding permissions (held_counting t held) new (subst (λ (m : ChannelMap). len m ≤ MAX_CHANNELS) whole few_channels) few_permissions (counted-held_at t slot held is))

@@ -4,10 +4,8 @@ use Rattle.std.specs.Cmp.{eq_by_cmp_equiv, nat_eq_equiv, tied_back, Equal-is}
 use Rattle.std.proofs.lemmas.Bool.{and_parts, and_from, cases_lt}
 use Rattle.attributes.specs.Addresses.{ip_of, port_of}
 use Rattle.attributes.specs.declared.address.Addr.{Addr}
-use Rattle.tables.specs.AddressOrder.{address_order}
-use Rattle.tables.specs.AddressOrderLaws.{address_order-total, address_order-same}
-use Rattle.tables.specs.Addresses.{is_same_address}
-use Rattle.tables.specs.RowLaws.{ip_total}
+use Rattle.attributes.specs.AddressOrder.{order_by_parts, is_same_address}
+use Rattle.attributes.specs.AddressOrderLaws.{order_by_parts-total, order_by_parts-same, ip_total}
 use Rattle.tables.specs.Search.{IsFoundAt, IsMissingAt}
 
 pub is_same-symmetric : (a b : Addr) → is_same_address a b ≡ is_same_address b a
@@ -22,21 +20,21 @@ is_same-joined peer a b p q =
 
 -- ---- the order of addresses
 
-pub tied_when_same : (a b : Addr) → is_same_address a b ≡ true → address_order b a ≡ Equal
-tied_when_same a b same = tied_back address_order-total a b ((Equal-is (address_order a b)).0 (address_order-same a b ∙ same))
+pub tied_when_same : (a b : Addr) → is_same_address a b ≡ true → order_by_parts b a ≡ Equal
+tied_when_same a b same = tied_back order_by_parts-total a b ((Equal-is (order_by_parts a b)).0 (order_by_parts-same a b ∙ same))
 
-pub same_when_tied : (a b : Addr) → address_order b a ≡ Equal → is_same_address a b ≡ true
-same_when_tied a b tie = sym (address_order-same a b) ∙ ap is_eq (tied_back address_order-total b a tie)
+pub same_when_tied : (a b : Addr) → order_by_parts b a ≡ Equal → is_same_address a b ≡ true
+same_when_tied a b tie = sym (order_by_parts-same a b) ∙ ap is_eq (tied_back order_by_parts-total b a tie)
 
-less_apart : (a b : Addr) (r : Ordering) → address_order b a ≡ r → is_eq r ≡ false → is_same_address a b ≡ false
-less_apart a b r is differs = sym (address_order-same a b) ∙ (eq_by_cmp_equiv address_order-total).symm a b ∙ ap is_eq is ∙ differs
+less_apart : (a b : Addr) (r : Ordering) → order_by_parts b a ≡ r → is_eq r ≡ false → is_same_address a b ≡ false
+less_apart a b r is differs = sym (order_by_parts-same a b) ∙ (eq_by_cmp_equiv order_by_parts-total).symm a b ∙ ap is_eq is ∙ differs
 
 -- what a search for an address gives
 module _ {Row : Type 0} (address : Row → Addr) (a : Addr) (rows : List Row) (i : ℕ) where
-  pub same-found : (d : Row) → IsFoundAt (λ row. address_order (address row) a) rows i → is_same_address a (address (get_or rows i d)) ≡ true
+  pub same-found : (d : Row) → IsFoundAt (λ row. order_by_parts (address row) a) rows i → is_same_address a (address (get_or rows i d)) ≡ true
   same-found d at = same_when_tied a (address (get_or rows i d)) (at.equal d)
 
-  pub same-missing : IsMissingAt (λ row. address_order (address row) a) rows i → All (λ row. is_same_address a (address row) ≡ false) rows
+  pub same-missing : IsMissingAt (λ row. order_by_parts (address row) a) rows i → All (λ row. is_same_address a (address row) ≡ false) rows
   same-missing none = λ k d l. elim (cases_lt k i) [
     | inl p ↦ less_apart a (address (get_or rows k d)) Less (none.below k d p) refl
     | inr p ↦ less_apart a (address (get_or rows k d)) Greater (none.above k d p l) refl

@@ -11,11 +11,10 @@ use Rattle.attributes.specs.declared.address.Addr.TheVariants.{V4}
 use Rattle.tables.specs.Moments.{counts_at}
 use Rattle.tables.specs.Permissions.{PermissionMap, permissions_at, with_all}
 use Rattle.tables.specs.RowLists.{permissions_of, ArePermissions}
-use Rattle.tables.specs.RowLaws.{ip_total, ip_antisymmetric}
 use Rattle.tables.specs.declared.permissions.Permission.{Permission}
 use Rattle.tables.proofs.Lists.{length-filter-le}
-use Rattle.tables.specs.AddressOrder.{ip_order}
-use Rattle.tables.specs.AddressOrderLaws.{ip_order-total, ip_order-antisymmetric}
+use Rattle.attributes.specs.AddressOrder.{ip_order}
+use Rattle.attributes.specs.AddressOrderLaws.{ip_order-total, ip_order-antisymmetric, ip_total, ip_antisymmetric}
 use Rattle.tables.specs.Search.{AreAscending, IsFoundAt, IsMissingAt}
 use Rattle.tables.specs.SortedRows.{AreSortedPermissions}
 use Rattle.tables.proofs.Ascending.{searchable, Ascending-distinct, Ascending-filter, Ascending-set, Ascending-insert, missing_key, found_key}
@@ -31,7 +30,7 @@ ip_in row = ip_of row.ip
 abbrev pub by_ip : List ℕ → Permission → Ordering
 by_ip ip row = ip_order (ip_of row.ip) ip
 
--- what is read behind the last row
+-- what is read beyond the last row
 abbrev pub blank : Permission
 blank = record { ip = V4 [] 0; end = 0 }
 

@@ -1,6 +1,7 @@
 -- Meaning. Changes of the rows that count at the moment of the change, or the first refusal that applies.
-use Rattle.std.specs.Prelude.{◌≡◌, ℕ, ◌+◌, Bool, List, Option, Result, Ok, Err, ok_or, slice_set, position, nat_le, is_none, if◌then◌else◌}
+use Rattle.std.specs.Prelude.{◌≡◌, ℕ, ◌+◌, List, Option, Result, Ok, Err, ok_or, slice_set, position, nat_le, is_none}
 use Rattle.std.specs.FinMap.{insert, empty, len}
+use Rattle.fallible.specs.Fallible.{◌>>=◌, check}
 use Rattle.attributes.specs.Addresses.{ip_of}
 use Rattle.attributes.specs.declared.address.Addr.{Addr}
 use Rattle.tables.specs.Permissions.{PermissionMap, with_all}
@@ -17,15 +18,6 @@ use Rattle.tables.specs.declared.refusal.Refused.TheVariants.{Mismatch, Capacity
 -- an answer with the new rows, or a refusal
 abbrev pub Change : Type 0 → Type 0
 Change A = Result (A × Rows) Refused
-
-infixl 10 ◌>>=◌
-abbrev pub ◌>>=◌ : {A B : Type 0} → Result A Refused → (A → Result B Refused) → Result B Refused
-(Ok x) >>= f = f x
-(Err refused) >>= f = Err refused
-
--- goes on where the test passes
-abbrev pub check : Bool → Refused → Result (Unit {0}) Refused
-check passed refused = if passed then Ok tt else Err refused
 
 -- A change that is made gives its answer and leaves its rows; a refused one leaves the rows as they were.
 abbrev pub Follows : {A : Type 0} → Change A → Rows → Result A Refused → Rows → Type 0

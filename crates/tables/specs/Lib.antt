@@ -17,7 +17,5 @@ pub mod Retained
 pub mod RetainedLaws
 pub mod RowLaws
 pub mod PermitLaws
-pub mod AddressOrder
-pub mod AddressOrderLaws
 pub mod SortedRows
 pub mod Stored

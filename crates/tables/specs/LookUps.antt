@@ -3,8 +3,8 @@ use Rattle.std.specs.Prelude.{ℕ, Bool, false, Option, None, Some, slice_get, i
 use Rattle.std.specs.Option.{option_map, option_and_then, option_flatten}
 use Rattle.std.specs.FinMap.{empty, get}
 use Rattle.attributes.specs.Addresses.{ip_of}
+use Rattle.attributes.specs.AddressOrder.{is_same_address}
 use Rattle.attributes.specs.declared.address.Addr.{Addr}
-use Rattle.tables.specs.Addresses.{is_same_address}
 use Rattle.tables.specs.Channels.{ChannelMap, number_to}
 use Rattle.tables.specs.Permissions.{PermissionMap}
 use Rattle.tables.specs.Rows.{Rows}
@@ -40,8 +40,8 @@ abbrev pub channel_of : ℕ → Addr → Rows → Option ℕ
 channel_of slot peer rows = option_and_then (λ held. number_to peer held.channels) (held_in rows slot)
 
 -- whether an IP address has a permission at a slot
-abbrev pub permitted : ℕ → Addr → Rows → Bool
-permitted slot ip rows = is_some (option_and_then (λ held. get held.permissions (ip_of ip)) (held_in rows slot))
+abbrev pub has_permission : ℕ → Addr → Rows → Bool
+has_permission slot ip rows = is_some (option_and_then (λ held. get held.permissions (ip_of ip)) (held_in rows slot))
 
 -- the permissions and the channels of what a slot holds
 abbrev pub permissions_held : Option Held → PermissionMap

@@ -2,8 +2,8 @@
 use Rattle.std.specs.Prelude.{ℕ, List, [], ◌∷◌}
 use Rattle.std.specs.FinMap.{FinMap, get, insert, retain_keys}
 use Rattle.attributes.specs.Addresses.{ip_of}
+use Rattle.attributes.specs.AddressOrder.{ip_cmp}
 use Rattle.attributes.specs.declared.address.Addr.{Addr}
-use Rattle.tables.specs.Addresses.{ip_cmp}
 use Rattle.tables.specs.Moments.{counts_at}
 
 -- the end of the permission of each IP address that has one

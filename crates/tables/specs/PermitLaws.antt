@@ -6,13 +6,14 @@ use Rattle.std.specs.FinMap.{get, insert, remove, len, contains_key, get-insert,
 use Rattle.std.proofs.Common.{sym, ap, subst, ◌∙◌, inl, inr, arith, is_some, is_eq}
 use Rattle.std.proofs.lemmas.Bool.{cases_Bool, cond-true, cond-false, false_from_ne_true, leb-true}
 use Rattle.std.proofs.lemmas.Option.{none-some}
+use Rattle.fallible.specs.Fallible.{◌>>=◌, check}
 use Rattle.attributes.specs.Addresses.{ip_of}
+use Rattle.attributes.specs.AddressOrder.{ip_cmp}
+use Rattle.attributes.specs.AddressOrderLaws.{ip_total, ip_antisymmetric}
 use Rattle.attributes.specs.declared.address.Addr.{Addr}
-use Rattle.tables.specs.Addresses.{ip_cmp}
-use Rattle.tables.specs.Changes.{◌>>=◌, Change, check, permit, permission_end, with_held}
+use Rattle.tables.specs.Changes.{Change, permit, permission_end, with_held}
 use Rattle.tables.specs.LookUps.{held_in}
 use Rattle.tables.specs.Permissions.{PermissionMap, with_all}
-use Rattle.tables.specs.RowLaws.{ip_total, ip_antisymmetric}
 use Rattle.tables.specs.Rows.{Rows}
 use Rattle.tables.specs.declared.held.Held.{Held}
 use Rattle.tables.specs.declared.permissions.TheConstants.{MAX_PERMISSIONS}

@@ -1,30 +1,23 @@
 -- Interface. Laws of the rows that count.
 use Rattle.std.specs.Prelude.{◌≡◌, ℕ, ◌≤◌, Bool, true, false, cond, nat_lt, List, [], ◌∷◌, slice_get, Option, None, Some, is_some, refl}
 use Rattle.std.specs.Option.{option_map, option_and_then, option_flatten}
-use Rattle.std.specs.Cmp.{IsTotalOrder, nat_cmp_total}
-use Rattle.std.specs.Cmp.Lexicographic.{nat_list_cmp_total}
-use Rattle.std.specs.FinMap.{IsAntisymmetric, get, nat_cmp-IsAntisymmetric, slice_cmp-IsAntisymmetric}
+use Rattle.std.specs.Cmp.{nat_cmp_total}
+use Rattle.std.specs.FinMap.{get, nat_cmp-IsAntisymmetric}
 use Rattle.std.proofs.Common.{sym, ap, ◌∙◌, inl, inr, arith}
 use Rattle.std.proofs.lemmas.Bool.{cases_Bool, cond-true, cond-false, both_ways, ltb-true, lt-ltb}
 use Rattle.std.proofs.lemmas.Option.{none-some, slice_get-map}
 use Rattle.attributes.specs.Addresses.{ip_of}
+use Rattle.attributes.specs.AddressOrderLaws.{ip_total, ip_antisymmetric}
 use Rattle.attributes.specs.declared.address.Addr.{Addr}
-use Rattle.tables.specs.Addresses.{ip_cmp}
 use Rattle.tables.specs.Moments.{counts_at}
 use Rattle.tables.specs.Permissions.{PermissionMap, permissions_at}
 use Rattle.tables.specs.Channels.{ChannelMap, channels_at}
 use Rattle.tables.specs.Rows.{Rows, held_at, slots_at, counting}
-use Rattle.tables.specs.LookUps.{held_in, allocation_at, peer_of, permitted}
+use Rattle.tables.specs.LookUps.{held_in, allocation_at, peer_of, has_permission}
 use Rattle.tables.specs.RetainedLaws.{get-kept_of, kept_before, kept_of_again}
 use Rattle.tables.specs.declared.allocation.Allocation.{Allocation}
 use Rattle.tables.specs.declared.channels.Binding.{Binding}
 use Rattle.tables.specs.declared.held.Held.{Held}
-
-pub ip_total : IsTotalOrder ip_cmp
-ip_total = nat_list_cmp_total
-
-pub ip_antisymmetric : IsAntisymmetric ip_cmp
-ip_antisymmetric = slice_cmp-IsAntisymmetric nat_cmp-IsAntisymmetric
 
 -- what has not ended at a moment had not ended before
 pub counts_before : (t u end : ℕ) → t ≤ u → nat_lt u end ≡ true → nat_lt t end ≡ true
@@ -46,14 +39,14 @@ channels_again t u m le = kept_of_again (binding_counts t) (binding_counts u) (�
 -- ---- what a slot holds
 
 -- what is left of what a slot holds
-abbrev pub counted : ℕ → Held → Held
-counted t held = record held { permissions = permissions_at t held.permissions; channels = channels_at t held.channels }
+abbrev pub held_counting : ℕ → Held → Held
+held_counting t held = record held { permissions = permissions_at t held.permissions; channels = channels_at t held.channels }
 
-pub held_at-counts : (t : ℕ) (held : Held) → nat_lt t held.allocation.end ≡ true → held_at t held ≡ Some (counted t held)
-held_at-counts t held h = cond-true (nat_lt t held.allocation.end) (Some (counted t held)) None h
+pub held_at-counts : (t : ℕ) (held : Held) → nat_lt t held.allocation.end ≡ true → held_at t held ≡ Some (held_counting t held)
+held_at-counts t held h = cond-true (nat_lt t held.allocation.end) (Some (held_counting t held)) None h
 
 pub held_at-ended : (t : ℕ) (held : Held) → nat_lt t held.allocation.end ≡ false → held_at t held ≡ None
-held_at-ended t held e = cond-false (nat_lt t held.allocation.end) (Some (counted t held)) None e
+held_at-ended t held e = cond-false (nat_lt t held.allocation.end) (Some (held_counting t held)) None e
 
 held_again : (t u : ℕ) (held : Held) → t ≤ u → option_and_then (held_at u) (held_at t held) ≡ held_at u held
 held_again t u held le = elim (cases_Bool (nat_lt t held.allocation.end)) [
@@ -85,7 +78,7 @@ held_in-counting t slot rows = ap option_flatten (slice_get-map (option_and_then
 -- ---- a greater moment never brings a row back
 
 -- what holds of what is left at a moment holds of what was left before
-before : {A : Type 0} (t u : ℕ) (f : Held → Option A) → t ≤ u → ((held : Held) (a : A) → f (counted u held) ≡ Some a → f (counted t held) ≡ Some a)
+before : {A : Type 0} (t u : ℕ) (f : Held → Option A) → t ≤ u → ((held : Held) (a : A) → f (held_counting u held) ≡ Some a → f (held_counting t held) ≡ Some a)
     → (slot : Option Held) (a : A) → option_and_then f (option_and_then (held_at u) slot) ≡ Some a → option_and_then f (option_and_then (held_at t) slot) ≡ Some a
 before t u f le each None a h = h
 before t u f le each (Some held) a h = elim (cases_Bool (nat_lt u held.allocation.end)) [
@@ -93,7 +86,7 @@ before t u f le each (Some held) a h = elim (cases_Bool (nat_lt u held.allocatio
   | inr e ↦ absurd (none-some a (sym (ap (option_and_then f) (held_at-ended u held e)) ∙ h))
 ]
 
-before_in : {A : Type 0} (t u slot : ℕ) (rows : Rows) (f : Held → Option A) → t ≤ u → ((held : Held) (a : A) → f (counted u held) ≡ Some a → f (counted t held) ≡ Some a)
+before_in : {A : Type 0} (t u slot : ℕ) (rows : Rows) (f : Held → Option A) → t ≤ u → ((held : Held) (a : A) → f (held_counting u held) ≡ Some a → f (held_counting t held) ≡ Some a)
     → (a : A) → option_and_then f (held_in (counting u rows) slot) ≡ Some a → option_and_then f (held_in (counting t rows) slot) ≡ Some a
 before_in t u slot rows f le each a h =
     ap (option_and_then f) (held_in-counting t slot rows)
@@ -121,7 +114,7 @@ permission_before t u ip le held end h =
       | inr same ↦ at_t ∙ sym (at_u ∙ same) ∙ h
     ]
 
-pub permission_counted : (t u slot : ℕ) (ip : Addr) (rows : Rows) → t ≤ u → permitted slot ip (counting u rows) ≡ true → permitted slot ip (counting t rows) ≡ true
+pub permission_counted : (t u slot : ℕ) (ip : Addr) (rows : Rows) → t ≤ u → has_permission slot ip (counting u rows) ≡ true → has_permission slot ip (counting t rows) ≡ true
 permission_counted t u slot ip rows le h =
     let found = some_of (option_and_then (λ held. get held.permissions (ip_of ip)) (held_in (counting u rows) slot)) h in
     ap is_some (before_in t u slot rows (λ held. get held.permissions (ip_of ip)) le (permission_before t u ip le) found.0 found.1)

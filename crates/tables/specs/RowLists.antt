@@ -2,7 +2,7 @@
 use Rattle.std.specs.Prelude.{◌≢◌, ◌≤◌, IsFalse, List, map, All, AllPairs}
 use Rattle.std.specs.FinMap.{from_entries}
 use Rattle.attributes.specs.Addresses.{ip_of}
-use Rattle.tables.specs.Addresses.{is_same_address}
+use Rattle.attributes.specs.AddressOrder.{is_same_address}
 use Rattle.tables.specs.Channels.{ChannelMap}
 use Rattle.tables.specs.Permissions.{PermissionMap}
 use Rattle.tables.specs.declared.channels.Channel.{Channel}

@@ -3,7 +3,7 @@ use Rattle.std.specs.Prelude.{◌≡◌, List, AllPairs}
 use Rattle.std.specs.Ordering.{nat_cmp}
 use Rattle.std.specs.declared.cmp.Ordering.TheVariants.{Less}
 use Rattle.attributes.specs.Addresses.{ip_of}
-use Rattle.tables.specs.AddressOrder.{ip_order, address_order}
+use Rattle.attributes.specs.AddressOrder.{ip_order, order_by_parts}
 use Rattle.tables.specs.RowLists.{AreChannels, channels_of}
 use Rattle.tables.specs.declared.channels.Channel.{Channel}
 use Rattle.tables.specs.declared.permissions.Permission.{Permission}
@@ -18,7 +18,7 @@ AreSortedByNumber rows = AllPairs (λ a b. nat_cmp a.number b.number ≡ Less) r
 
 -- by peer
 abbrev pub AreSortedByPeer : List Channel → Type 0
-AreSortedByPeer rows = AllPairs (λ a b. address_order a.binding.peer b.binding.peer ≡ Less) rows
+AreSortedByPeer rows = AllPairs (λ a b. order_by_parts a.binding.peer b.binding.peer ≡ Less) rows
 
 -- the same channels in both orders
 pub record AreChannelLists (rows by_peer : List Channel) : Type 0 where

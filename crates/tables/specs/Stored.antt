@@ -3,7 +3,7 @@ use Rattle.std.specs.Prelude.{◌≡◌, ◌≢◌, ℕ, List, slice_get, Option
 use Rattle.std.specs.Option.{option_map, option_flatten}
 use Rattle.std.specs.declared.cmp.Ordering.TheVariants.{Less}
 use Rattle.attributes.specs.declared.address.Addr.{Addr}
-use Rattle.tables.specs.AddressOrder.{address_order}
+use Rattle.attributes.specs.AddressOrder.{order_by_parts}
 use Rattle.tables.specs.WellFormed.{AreWellFormed}
 use Rattle.tables.specs.declared.clients.Client.{Client}
 use Rattle.tables.specs.declared.held.Held.{Held}
@@ -16,7 +16,7 @@ client_in slot = option_map (λ held. held.allocation.client) slot
 
 -- each client has the slot that its row names, and each slot that holds something has a row
 pub record AreClients (slots : List (Option Held)) (clients : List Client) : Type 0 where
-  pub ascending : AllPairs (λ a b. address_order a.address b.address ≡ Less) clients
+  pub ascending : AllPairs (λ a b. order_by_parts a.address b.address ≡ Less) clients
   pub held : All (λ row. client_in (stored_at slots row.slot) ≡ Some row.address) clients
   pub listed : (slot : ℕ) (held : Held) → stored_at slots slot ≡ Some held → All (λ row. row.slot ≢ slot) clients → ⊥
 

@@ -8,11 +8,14 @@ use Rattle.std.proofs.Common.{sym, ap, subst, ◌∙◌, inl, inr, arith}
 use Rattle.std.proofs.lemmas.Bool.{cases_Bool, cases_eq, cond-true, cond-false, leb-true}
 use Rattle.std.proofs.lemmas.List.{length-map, length-replicate, length-set}
 use Rattle.std.proofs.lemmas.Option.{none-some, same_Some}
+use Rattle.fallible.specs.Fallible.{◌>>=◌, check}
 use Rattle.attributes.specs.Addresses.{IsAddress, IsIpv4Address}
+use Rattle.attributes.specs.AddressOrder.{ip_cmp, is_same_address}
+use Rattle.attributes.specs.AddressOrderLaws.{ip_total}
 use Rattle.attributes.specs.declared.address.Addr.{Addr}
 use Rattle.attributes.specs.declared.address.Addr.TheVariants.{V4, V6}
-use Rattle.tables.specs.Addresses.{ip_cmp, is_ipv4, is_same_address}
-use Rattle.tables.specs.Changes.{◌>>=◌, Change, Follows, check, with_held, fresh, first_free, allocate, refresh, permit, bind, permission_end, with_peer}
+use Rattle.tables.specs.Addresses.{is_ipv4}
+use Rattle.tables.specs.Changes.{Change, Follows, with_held, fresh, first_free, allocate, refresh, permit, bind, permission_end, with_peer}
 use Rattle.tables.specs.Channels.{ChannelMap, IsChannelNumber, may_bind, number_to}
 use Rattle.tables.specs.LookUps.{held_in, is_of, allocation_of, allocation_at, peer_of, channel_of}
 use Rattle.tables.specs.MapLaws.{entry_found}
@@ -20,7 +23,7 @@ use Rattle.tables.specs.MomentLaws.{moment_of-latest}
 use Rattle.tables.specs.Moments.{moment_of, counts_at}
 use Rattle.tables.specs.Permissions.{PermissionMap, with_all}
 use Rattle.tables.specs.RetainedLaws.{get-kept_of, kept_from, len-kept_of}
-use Rattle.tables.specs.RowLaws.{ip_total, binding_counts, counted, held_at-counts, held_at-ended, held_in-counting}
+use Rattle.tables.specs.RowLaws.{binding_counts, held_counting, held_at-counts, held_at-ended, held_in-counting}
 use Rattle.tables.specs.Rows.{Rows, held_at, counting, rows_at, no_rows}
 use Rattle.tables.specs.WellFormed.{IsChannel, IsHeldAt, AreWellFormed}
 use Rattle.tables.specs.declared.allocation.Allocation.{Allocation}
@@ -42,7 +45,7 @@ of_ipv4 (V6 ip port) is ipv4 = absurd cc
 -- ---- what a slot holds
 
 -- what counts at a moment
-pub counted-held_at : (t slot : ℕ) (held : Held) → IsHeldAt slot held → IsHeldAt slot (counted t held)
+pub counted-held_at : (t slot : ℕ) (held : Held) → IsHeldAt slot held → IsHeldAt slot (held_counting t held)
 counted-held_at t slot held is = record {
   at_slot = is.at_slot;
   client = is.client;

@@ -4,11 +4,11 @@ ghost use Rattle.std.specs.Prelude.{◌≡◌, ◌≤◌, length, filter, nat_lt
 ghost use Rattle.tables.specs.Search.{has_room};
 ghost use Rattle.tables.specs.declared.channels.TheConstants.{MAX_CHANNELS};
 
-use crate::address::{compare_addresses, is_same};
+use crate::address::is_same;
 use crate::refusal::Refused;
 use crate::search::{Row, place_of, put_at, search};
 use arrayvec::ArrayVec;
-use attributes::Addr;
+use attributes::{Addr, is_address};
 use std::cmp::Ordering;
 use std::marker::Model;
 use std::sync::ledger::Ledger;
@@ -68,12 +68,14 @@ impl Row<u16> for Channel {
 }
 
 impl Row<Addr> for Channel {
-    ghost use Rattle.tables.specs.AddressOrder.{address_order};
+    ghost use Rattle.attributes.specs.AddressOrder.{order_by_parts};
 
-    ghost order = { λ row peer. address_order row.binding.peer peer };
+    ghost order = { λ row peer. order_by_parts row.binding.peer peer };
 
     fn compare(&self, peer: &Addr) -> Ordering {
-        compare_addresses(&self.binding.peer, peer)
+        is_address(&self.binding.peer);
+        is_address(peer);
+        self.binding.peer.cmp(peer)
     }
 }
 

@@ -4,12 +4,11 @@ ghost use Rattle.std.specs.Prelude.{◌≡◌, ◌<◌, ◌≤◌, All, None, fi
 ghost use Rattle.tables.specs.Stored.{left_at, stored_at};
 ghost use Rattle.tables.specs.declared.storage.TheConstants.{MAX_ALLOCATIONS};
 
-use crate::address::compare_addresses;
 use crate::held::Held;
 use crate::search::Row;
 use crate::storage::MAX_ALLOCATIONS;
 use arrayvec::ArrayVec;
-use attributes::Addr;
+use attributes::{Addr, is_address};
 use std::cmp::Ordering;
 
 /// A client, and the slot that it has.
@@ -30,12 +29,14 @@ impl Default for Client {
 }
 
 impl Row<Addr> for Client {
-    ghost use Rattle.tables.specs.AddressOrder.{address_order};
+    ghost use Rattle.attributes.specs.AddressOrder.{order_by_parts};
 
-    ghost order = { λ row client. address_order row.address client };
+    ghost order = { λ row client. order_by_parts row.address client };
 
     fn compare(&self, client: &Addr) -> Ordering {
-        compare_addresses(&self.address, client)
+        is_address(&self.address);
+        is_address(client);
+        self.address.cmp(client)
     }
 }
 
@@ -52,7 +53,8 @@ fn has_ended(slot: &Option<Held>, moment: u64) -> bool
 /// Empties a slot if its allocation has ended at a moment.
 fn sweep_slot(slots: &mut Vec<Option<Held>>, slot: usize, moment: u64)
     requires { slot < length slots.old.items }
-    ensures { slots.new.items ≡ slice_set slots.old.items slot (left_at moment (slice_index_or slots.old.items slot None)) }
+    ensures { slots.new.items
+        ≡ slice_set slots.old.items slot (left_at moment (slice_index_or slots.old.items slot None)) }
 {
     if !has_ended(&slots[slot], moment) {
         return;

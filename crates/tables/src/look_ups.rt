@@ -11,7 +11,7 @@ impl Tables {
     ghost use Rattle.std.specs.Option.{option_copied};
     ghost use Rattle.tables.specs.Channels.{IsChannelNumber};
     ghost use Rattle.tables.specs.Rows.{rows_at};
-    ghost use Rattle.tables.specs.LookUps.{allocation_of, allocation_at, peer_of, channel_of, permitted};
+    ghost use Rattle.tables.specs.LookUps.{allocation_of, allocation_at, peer_of, channel_of, has_permission};
 
     /// Returns the allocation of a client at a moment. At most 9 of the clients' addresses are compared.
     pub fn allocation_of<L: Ledger>(
@@ -93,7 +93,7 @@ impl Tables {
         now: u64,
         steps: &mut Steps<L>,
     ) -> bool
-        ensures permitted { result ≡ permitted slot ip (rows_at now self.now) }
+        ensures permitted { result ≡ has_permission slot ip (rows_at now self.now) }
         ensures keys { steps.new ≤ steps.old + 7 }
     {
         let moment = self.moment_at(now);

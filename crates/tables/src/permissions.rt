@@ -1,6 +1,5 @@
 //! The permissions of an allocation (RFC 8656, section 9).
 
-use crate::address::compare_ips;
 use crate::refusal::Refused;
 use crate::search::{Row, place_of, search};
 use arrayvec::ArrayVec;
@@ -39,12 +38,12 @@ impl Default for Permission {
 
 impl Row<Addr> for Permission {
     ghost use Rattle.attributes.specs.Addresses.{ip_of};
-    ghost use Rattle.tables.specs.AddressOrder.{ip_order};
+    ghost use Rattle.attributes.specs.AddressOrder.{ip_order};
 
     ghost order = { λ row ip. ip_order (ip_of row.ip) (ip_of ip) };
 
     fn compare(&self, ip: &Addr) -> Ordering {
-        compare_ips(&self.ip, ip)
+        self.ip.cmp_ip(ip)
     }
 }
 

@@ -4,7 +4,7 @@
 ghost use Rattle.std.specs.Prelude.{◌≡◌, ◌<◌, IfSome, length};
 ghost use Rattle.tables.specs.Channels.{IsChannelNumber};
 ghost use Rattle.tables.specs.Rows.{rows_at};
-ghost use Rattle.tables.specs.LookUps.{allocation_of, allocation_at, peer_of, channel_of, permitted};
+ghost use Rattle.tables.specs.LookUps.{allocation_of, allocation_at, peer_of, channel_of, has_permission};
 
 use crate::allocation::Allocation;
 use crate::storage::Tables;
@@ -116,7 +116,7 @@ fn permitted_by<L: Ledger>(tables: &Tables, slot: usize, ip: Addr, now: u64, bla
     requires name { blank.name ≡ L.name }
     requires parts { blank.parts ≡ L.parts }
     requires some { 0 < L.parts }
-    ensures { result ≡ permitted slot ip (rows_at now tables.now) }
+    ensures { result ≡ has_permission slot ip (rows_at now tables.now) }
 {
     let mut steps = Steps::<L>::new(blank);
     tables.permitted(slot, ip, now, &mut steps)
@@ -124,7 +124,7 @@ fn permitted_by<L: Ledger>(tables: &Tables, slot: usize, ip: Addr, now: u64, bla
 
 /// Returns whether an IP address has a permission at a slot at a moment. The port is not looked at.
 pub fn permitted(tables: &Tables, slot: usize, ip: Addr, now: u64) -> bool
-    ensures { result ≡ permitted slot ip (rows_at now tables.now) }
+    ensures { result ≡ has_permission slot ip (rows_at now tables.now) }
 {
     permitted_by::<Brand>(tables, slot, ip, now, Blank::new(1))
 }

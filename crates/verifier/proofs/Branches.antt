@@ -4,7 +4,7 @@ use Rattle.std.specs.Prelude.{ℤ, pos, Some, ◌+ℤ◌, ◌<ℤ◌, int_le, un
 use Rattle.std.proofs.lemmas.Int.{ints}
 use Rattle.insn.specs.Encoding.{slots_of}
 use Rattle.insn.specs.declared.instruction.Insn.{Insn}
-use Rattle.semantics.specs.Fallible.{◌>>=◌}
+use Rattle.fallible.specs.Fallible.{◌>>=◌}
 use Rattle.semantics.specs.Slots.{fetch, target, landing}
 use Rattle.semantics.specs.SlotLaws.{some_slots}
 use Rattle.semantics.specs.Flow.{Flow, Straight, Jumps, Forks, flow_of, flow_distance, flow_slot, branch_slot}

@@ -50,7 +50,7 @@ more_fuel code (suc m) (suc n) slot le = paths_length code slot (fetch code slot
 pub counted_at : (code : List Insn) (slot m : ℕ) (i : Insn) → fetch code slot ≡ Begins i → length (beginnings_from code (suc m) slot) ≡ suc (length (flat_map (λ branch. path_onwards branch (branch_slot code slot i branch) (λ next. beginnings_from code m next)) (branches i)))
 counted_at code slot m i here = ap (λ (p : Fetched). length (paths_at code slot p (λ next. beginnings_from code m next))) here
 
--- an instruction and those behind it
+-- an instruction and those after it
 pub fuel_is : (code : List Insn) (slot : ℕ) (i : Insn) → fetch code slot ≡ Begins i → ahead code slot ≡ suc (ahead code slot - 1)
 fuel_is code slot i begins = omega (arith, ahead_falls code slot (slot + 1) i begins (next_rises slot)) where
   next_rises : (n : ℕ) → n < n + 1
@@ -125,7 +125,7 @@ module _ {D : Type 0} (code : List Insn) (slot : ℕ) (i : Insn) (begins : fetch
       let one : counts_from code left ≡ 0 + count_from code is.0 = ap (counts_from code) is.2 in
       omega (arith, one, branch_counts code slot i begins branch state is.0 is.1)
 
-  -- where no state is behind a branch, nothing is followed or left
+  -- where no state follows a branch, nothing is followed or left
   no_next : (on : Option (Pending D)) → IsNext code slot i NotTaken None on → count_next code on ≡ 0
   no_next None is = refl
   no_next (Some p) is = absurd is

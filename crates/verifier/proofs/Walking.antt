@@ -31,7 +31,7 @@ use Rattle.verifier.specs.Layout.{IsLaidOut, StartsAt}
 use Rattle.verifier.specs.declared.kept.Kept.{Kept}
 use Rattle.verifier.specs.PendingStates.{AllRunsExit, IsReached, count_from, counts_from}
 use Rattle.verifier.specs.Refusing.{IsReal, MayRefuseOver}
-use Rattle.verifier.specs.Walk.{first_pending, IsInside, LeadsTo, IsNext, IsLeft, GoesOn, Advances, IsStepRefusal, IsCovered, Skips, Settles, MakesStep, waiting, followed}
+use Rattle.verifier.specs.Walk.{first_pending, IsInside, LeadsTo, IsNext, IsLeft, GoesOn, Advances, IsStepRefusal, IsCovered, Skips, Settles, MakesStep, waiting, state_to_follow}
 use Rattle.verifier.specs.declared.refusal.Refusal.{Refusal}
 use Rattle.verifier.specs.declared.refusal.Refusal.TheVariants as refusal
 use Rattle.verifier.specs.declared.walk.Path.{Path}
@@ -136,15 +136,15 @@ module _ {D : Type 0} (ops : Operations D) (Member : D → ℕ → Type 0) (kept
   }
 
   -- a path that continues from a state that is not covered, and from one that is
-  pub settles_here : (path : Path) (here : Pending D) (old : List (Pending D)) → path ≡ Continues → is_covered ops kept here ≡ false → Settles ops Member kept (followed path here) old (Some here) old
-  settles_here path here old is uncovered = subst (λ (p : Path). Settles ops Member kept (followed p here) old (Some here) old) (sym is) (record { skips = skips_none (waiting (Some here) old) (waiting (Some here) old) refl; uncovered = uncovered; ended = tt })
+  pub settles_here : (path : Path) (here : Pending D) (old : List (Pending D)) → path ≡ Continues → is_covered ops kept here ≡ false → Settles ops Member kept (state_to_follow path here) old (Some here) old
+  settles_here path here old is uncovered = subst (λ (p : Path). Settles ops Member kept (state_to_follow p here) old (Some here) old) (sym is) (record { skips = skips_none (waiting (Some here) old) (waiting (Some here) old) refl; uncovered = uncovered; ended = tt })
 
-  pub settles_past : (path : Path) (here : Pending D) (old : List (Pending D)) (picked : Option (Pending D)) (new : List (Pending D)) → path ≡ Continues → IsCovered ops Member kept here → Settles ops Member kept None old picked new → Settles ops Member kept (followed path here) old picked new
-  settles_past path here old picked new is covered settles = subst (λ (p : Path). Settles ops Member kept (followed p here) old picked new) (sym is) (record { skips = skips_after old here (waiting picked new) covered settles.skips; uncovered = settles.uncovered; ended = settles.ended })
+  pub settles_past : (path : Path) (here : Pending D) (old : List (Pending D)) (picked : Option (Pending D)) (new : List (Pending D)) → path ≡ Continues → IsCovered ops Member kept here → Settles ops Member kept None old picked new → Settles ops Member kept (state_to_follow path here) old picked new
+  settles_past path here old picked new is covered settles = subst (λ (p : Path). Settles ops Member kept (state_to_follow p here) old picked new) (sym is) (record { skips = skips_after old here (waiting picked new) covered settles.skips; uncovered = settles.uncovered; ended = settles.ended })
 
 -- a step, where it is known how its path ends
-pub made_so : {D : Type 0} (ops : Operations D) (Member : D → ℕ → Type 0) (code : List Insn) (here : Pending D) (old : List (Pending D)) (kept : Kept D) (next : Pending D) (new : List (Pending D)) (more : Kept D) (path other : Path) → path ≡ other → MakesStep ops Member code here old kept (followed path next) new more → MakesStep ops Member code here old kept (followed other next) new more
-made_so ops Member code here old kept next new more path other is step = subst (λ (p : Path). MakesStep ops Member code here old kept (followed p next) new more) is step
+pub made_so : {D : Type 0} (ops : Operations D) (Member : D → ℕ → Type 0) (code : List Insn) (here : Pending D) (old : List (Pending D)) (kept : Kept D) (next : Pending D) (new : List (Pending D)) (more : Kept D) (path other : Path) → path ≡ other → MakesStep ops Member code here old kept (state_to_follow path next) new more → MakesStep ops Member code here old kept (state_to_follow other next) new more
+made_so ops Member code here old kept next new more path other is step = subst (λ (p : Path). MakesStep ops Member code here old kept (state_to_follow p next) new more) is step
 
 pub makes_step : {D : Type 0} (ops : Operations D) (Member : D → ℕ → Type 0) (code : List Insn) (here : Pending D) (old : List (Pending D)) (kept : Kept D) (picked : Option (Pending D)) (new : List (Pending D)) (more : Kept D) (next : Option (Pending D)) (pending : List (Pending D)) → Keeps here kept more → Advances ops code here old next pending → Settles ops Member (kept_at more) next pending picked new → MakesStep ops Member code here old kept picked new more
 makes_step ops Member code here old kept picked new more next pending keeps advances settles = record { next = next; pending = pending; keeps = keeps; advances = advances; settles = settles }

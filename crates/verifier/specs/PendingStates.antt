@@ -51,7 +51,7 @@ pub record IsReachedOver {D : Type 0} (Member : D → ℕ → Type 0) (code : Li
   pub size : loosened.memory.length ≡ n
   pub member : IsMember Member Strict p.state loosened
 
--- Over each datagram of some length on, a loose run reaches the pending state: one that reaches behind every pointer of it.
+-- Over each datagram of some length on, a loose run reaches the pending state: one that reaches beyond every pointer of it.
 -- Where no register is added to another one or subtracted from it, that is each datagram that has the bytes that are proved.
 pub record IsReached {D : Type 0} (Member : D → ℕ → Type 0) (code : List Insn) (p : Pending D) : Type 0 where
   pub not_negative : pos 0 ≤ℤ p.state.proved

@@ -33,9 +33,9 @@ pub record LeadsTo {D : Type 0} (code : List Insn) (here : ℕ) (i : Insn) (bran
   pub state_is : p.state ≡ state
 
 -- the pending state to follow, where the path continues
-abbrev pub followed : {D : Type 0} → Path → Pending D → Option (Pending D)
-followed Continues p = Some p
-followed Ended p = None
+abbrev pub state_to_follow : {D : Type 0} → Path → Pending D → Option (Pending D)
+state_to_follow Continues p = Some p
+state_to_follow Ended p = None
 
 -- the state of a branch is followed next where the branch is feasible
 abbrev pub IsNext : {D : Type 0} → List Insn → ℕ → Insn → Branch → Option (AbsState D) → Option (Pending D) → Type 0

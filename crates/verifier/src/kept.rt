@@ -18,6 +18,7 @@ use std::alloc::{AllocError, Global};
 
 /// The states that the walk has kept, by slot: `None` at each slot that no jump leads to. The list ends at the last slot that
 /// one does.
+/// See docs/DECISIONS.md, "Covered states are skipped".
 #[derive(Drop)]
 pub struct Kept<D> {
     by_slot: Vec<Option<Vec<AbsState<D>>>>,

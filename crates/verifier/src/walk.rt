@@ -7,11 +7,11 @@ ghost use Rattle.insn.specs.Encoding.{slot_count};
 ghost use Rattle.insn.specs.declared.decoding.TheConstants.{MAX_SLOTS};
 ghost use Rattle.semantics.specs.Runs.{IsSafe};
 ghost use Rattle.semantics.specs.Flow.{branch_slot};
-ghost use Rattle.absstate.specs.Changes.{changed};
+ghost use Rattle.absstate.specs.Changes.{state_after_change};
 ghost use Rattle.verifier.specs.Layout.{IsLaidOut};
 ghost use Rattle.verifier.specs.Refusing.{MayRefuseOver, IsVerdict, IsVerdictOver, CountsSteps};
 ghost use Rattle.verifier.specs.Keeping.{kept_at};
-ghost use Rattle.verifier.specs.Walk.{IsStepRefusal, IsInside, IsNext, IsOutOfMemory, Leaves, Advances, Settles, MakesStep, followed};
+ghost use Rattle.verifier.specs.Walk.{IsStepRefusal, IsInside, IsNext, IsOutOfMemory, Leaves, Advances, Settles, MakesStep, state_to_follow};
 ghost use Rattle.verifier.specs.Walks.{EndsWalk};
 ghost use Rattle.interval.specs.Intervals.{IsMember, interval_ops};
 ghost use Rattle.semantics.specs.declared.fetching.Branch.TheVariants.{NotTaken, Taken};
@@ -126,8 +126,8 @@ fn go_on<D: Copy>(
     requires few { slot_count program.now ≤ MAX_SLOTS }
     requires inside { here.old.slot < slot_count program.now }
     requires good { IsOk (branch_slot program.now here.old.slot insn NotTaken) }
-    ensures { IsNext program.now here.old.slot insn NotTaken (option_map (changed here.old.state) change)
-        (followed result here.new) }
+    ensures { IsNext program.now here.old.slot insn NotTaken (option_map (state_after_change here.old.state) change)
+        (state_to_follow result here.new) }
 {
     let Some(change) = change else {
         return Path::Ended;
@@ -148,8 +148,8 @@ fn leave<D: Copy>(
     requires few { slot_count program.now ≤ MAX_SLOTS }
     requires inside { here.now.slot < slot_count program.now }
     requires good { IsOk (branch_slot program.now here.now.slot insn Taken) }
-    ensures left { OnOk result (Leaves program.now here.now.slot insn (option_map (changed here.now.state) change)
-        pending.old.items pending.new.items) }
+    ensures left { OnOk result (Leaves program.now here.now.slot insn
+        (option_map (state_after_change here.now.state) change) pending.old.items pending.new.items) }
     ensures memory { IfErr result (IsOutOfMemory here.now.slot) }
 {
     if let Some(change) = change {
@@ -174,7 +174,7 @@ fn advance<D: Domain>(
     requires laid_out { IsLaidOut program.now }
     requires inside { IsInside program.now here.old }
     ensures advanced { IfOk result (λ path. Advances D.ops program.now here.old pending.old.items
-        (followed path here.new) pending.new.items) }
+        (state_to_follow path here.new) pending.new.items) }
     ensures refused { IfErr result (IsStepRefusal D.ops program.now here.old) }
 {
     let slot = here.slot;
@@ -203,7 +203,7 @@ fn pop_uncovered<D: Domain>(
     pending: &mut Vec<Pending<D>>,
 ) -> Path
     ensures { Settles D.ops D.Member (kept_at kept.now) None pending.old.items
-        (followed result here.new) pending.new.items }
+        (state_to_follow result here.new) pending.new.items }
 {
     while let Some(last) = pending.pop() {
         if !kept.covers(&last) {
@@ -222,8 +222,8 @@ fn settle<D: Domain>(
     here: &mut Pending<D>,
     pending: &mut Vec<Pending<D>>,
 ) -> Path
-    ensures { Settles D.ops D.Member (kept_at kept.now) (followed path here.old) pending.old.items
-        (followed result here.new) pending.new.items }
+    ensures { Settles D.ops D.Member (kept_at kept.now) (state_to_follow path here.old) pending.old.items
+        (state_to_follow result here.new) pending.new.items }
 {
     match path {
         Path::Ended => pop_uncovered(kept, here, pending),
@@ -251,7 +251,7 @@ fn make_step<D: Domain>(
     requires laid_out { IsLaidOut program.now }
     requires inside { IsInside program.now here.old }
     ensures made { IfOk result (λ path. MakesStep D.ops D.Member program.now here.old pending.old.items kept.old
-        (followed path here.new) pending.new.items kept.new) }
+        (state_to_follow path here.new) pending.new.items kept.new) }
     ensures refused { IfErr result (IsStepRefusal D.ops program.now here.old) }
 {
     let Ok(()) = kept.keep(here) else {

@@ -8,7 +8,7 @@ use Rattle.std.proofs.lemmas.Int.{ints, to_z_pos}
 use mir.Val.{sel}
 use lib.Dec.{T, ltb}
 use lib.Arith.{le→nltb}
-use Rattle.absstate.specs.AbstractStates.{id_of, greatest_id, raised}
+use Rattle.absstate.specs.AbstractStates.{id_of, greatest_id, proved_up_to}
 use Rattle.absstate.specs.AbstractSteps.{proved_within}
 use Rattle.absstate.specs.Membership.{Places, IsPlace}
 use Rattle.absstate.specs.declared.abstract_state.AbstractValue.{AbstractValue}
@@ -152,7 +152,7 @@ raised_cases proved n true P p q = q
 raised_cases proved n false P p q = p
 
 -- what is raised to a reach that holds holds
-pub raised_reaches : (place proved n : ℤ) (size : ℕ) → (place +ℤ proved) ≤ℤ pos size → (place +ℤ n) ≤ℤ pos size → (place +ℤ raised proved n) ≤ℤ pos size
+pub raised_reaches : (place proved n : ℤ) (size : ℕ) → (place +ℤ proved) ≤ℤ pos size → (place +ℤ n) ≤ℤ pos size → (place +ℤ proved_up_to proved n) ≤ℤ pos size
 raised_reaches place proved n size p q = raised_cases proved n (int_lt proved n && int_le n (pos 2147483647)) (λ (z : ℤ). (place +ℤ z) ≤ℤ pos size) p q
 
 -- what is proved of an anchor after a sum, from a place that is near

@@ -17,7 +17,7 @@ use Rattle.insn.specs.declared.instruction.Operand.{Operand}
 use Rattle.insn.specs.declared.instruction.Operand.TheVariants as operand
 use Rattle.insn.specs.declared.instruction.Insn.{Insn}
 use Rattle.insn.specs.declared.instruction.Insn.TheVariants as insn
-use Rattle.semantics.specs.Fallible.{◌>>=◌, check}
+use Rattle.fallible.specs.Fallible.{◌>>=◌, check}
 use Rattle.semantics.specs.Access.{is_within, index_within, stack_first, headroom_first}
 use Rattle.semantics.specs.Loading.{field_at}
 use Rattle.semantics.specs.Calls.{helper_of, signature_of, argument_at}
@@ -26,7 +26,7 @@ use Rattle.semantics.specs.declared.helper.Argument.TheVariants as argument
 use Rattle.semantics.specs.declared.helper.Helper.{Helper}
 use Rattle.insn.specs.Register.{number_of}
 use Rattle.semantics.specs.Effects.{is_writable, writable}
-use Rattle.semantics.specs.LooseRuns.{Bound, data_bound, exchanged}
+use Rattle.semantics.specs.LooseRuns.{Bound, data_bound, converse}
 use Rattle.semantics.specs.declared.fetching.Branch.{Branch}
 use Rattle.semantics.specs.declared.limits.TheConstants.{TAILROOM}
 use Rattle.semantics.specs.declared.reason.Reason.{Reason}
@@ -62,7 +62,7 @@ module _ {D : Type 0} (ops : Operations D) where
   HasTwo : Next D → Type 0
   HasTwo answer = successors_in answer ≡ Two
 
-  goes_straight : (a : AbsState D) (dst : Reg) (known : Result (AbstractValue D) Reason) → IfOk (abstract.written a dst known) HasOne
+  goes_straight : (a : AbsState D) (dst : Reg) (known : Result (AbstractValue D) Reason) → IfOk (abstract.register_write a dst known) HasOne
   unfolding HasOne
   goes_straight a dst known = every HasOne (writable dst) _ (λ u. every HasOne known _ (λ k. refl))
 
@@ -70,7 +70,7 @@ module _ {D : Type 0} (ops : Operations D) where
   unary_straight a w op dst o = every HasOne (abstract.operand_abstract ops w a o) _ (λ x. goes_straight a dst (abstract.unary_result ops op x))
 
   load_straight : (a : AbsState D) (loaded : AbstractValue D → Result (AbstractValue D) Reason) (dst base : Reg) → IfOk (abstract.loaded_step a loaded dst base) HasOne
-  load_straight a loaded dst base = every HasOne (abstract.read a base) _ (λ x. goes_straight a dst (loaded x))
+  load_straight a loaded dst base = every HasOne (abstract.register_value a base) _ (λ x. goes_straight a dst (loaded x))
 
   places_forks : (a : AbsState D) (w : Width) (c : Condition) (x y : AbstractValue D) → IfOk (abstract.places_fork a w c x y) HasTwo
   unfolding HasTwo
@@ -92,21 +92,21 @@ module _ {D : Type 0} (ops : Operations D) where
   -- an accepted step has the successors of its instruction
   pub step_successors : (a : AbsState D) (i : Insn) → IfOk (abstract.step ops a i) (λ answer. successors_in answer ≡ successors_of i)
   unfolding HasOne HasTwo
-  step_successors a (insn.Alu w op dst o) = every HasOne (abstract.read a dst) _ (λ x. every HasOne (abstract.operand_abstract ops w a o) _ (λ y. goes_straight a dst (abstract.alu_result ops a op w x y)))
+  step_successors a (insn.Alu w op dst o) = every HasOne (abstract.register_value a dst) _ (λ x. every HasOne (abstract.operand_abstract ops w a o) _ (λ y. goes_straight a dst (abstract.alu_result ops a op w x y)))
   step_successors a (insn.Mov w dst o) = unary_straight a w (Mov w) dst o
   step_successors a (insn.Neg w dst) = unary_straight a w (Neg w) dst (operand.Reg dst)
   step_successors a (insn.SignExtend e dst src) = unary_straight a (target_of e) (SignExtend e) dst (operand.Reg src)
   step_successors a (insn.Swap op z dst) = unary_straight a W64 (Swap op z) dst (operand.Reg dst)
   step_successors a (insn.Jump offset) = refl
   step_successors a (insn.LongJump offset) = refl
-  step_successors a (insn.JumpIf w c dst o offset) = every HasTwo (abstract.read a dst) _ (λ x. every HasTwo (abstract.operand_abstract ops w a o) _ (λ y. forks a w c dst o x y))
+  step_successors a (insn.JumpIf w c dst o offset) = every HasTwo (abstract.register_value a dst) _ (λ x. every HasTwo (abstract.operand_abstract ops w a o) _ (λ y. forks a w c dst o x y))
   step_successors a (insn.Load z dst base d) = load_straight a (λ pointer. abstract.load ops a pointer d z) dst base
   step_successors a (insn.LoadSigned z dst base d) = load_straight a (λ pointer. abstract.load_signed ops a pointer d z) dst base
   step_successors a (insn.Store z base o d) =
-      every HasOne (abstract.read a base) _ (λ to. every HasOne (abstract.operand_abstract ops W64 a o) _ (λ known. every HasOne (abstract.pointer to) _ (λ u. every HasOne (abstract.storable known) _ (λ v. every HasOne (abstract.located a to d (byte_count z)) _ (λ r. refl)))))
+      every HasOne (abstract.register_value a base) _ (λ to. every HasOne (abstract.operand_abstract ops W64 a o) _ (λ known. every HasOne (abstract.pointer to) _ (λ u. every HasOne (abstract.storable known) _ (λ v. every HasOne (abstract.located a to d (byte_count z)) _ (λ r. refl)))))
   step_successors a (insn.LoadImm dst value) = goes_straight a dst (Ok (known.Scalar (ops.exact value)))
   step_successors a (insn.Call n) = every HasOne (ok_or (helper_of n) reasons.UnknownHelper) _ (λ h. helper_straight a h)
-  step_successors a insn.Exit = every (λ (answer : Next D). successors_in answer ≡ successors_of insn.Exit) (abstract.read a reg.R0) _ exits
+  step_successors a insn.Exit = every (λ (answer : Next D). successors_in answer ≡ successors_of insn.Exit) (abstract.register_value a reg.R0) _ exits
 
   -- ---- refused steps
 
@@ -118,7 +118,7 @@ module _ {D : Type 0} (ops : Operations D) where
   found None r h = h
   found (Some x) r h = tt
 
-  held_reasons : (k : AbstractValue D) → IfErr (abstract.held k) IsStepReason
+  held_reasons : (k : AbstractValue D) → IfErr (abstract.content_of k) IsStepReason
   held_reasons known.Nothing = tt
   held_reasons k = tt
 
@@ -126,7 +126,7 @@ module _ {D : Type 0} (ops : Operations D) where
   operand_reasons w a (operand.Reg r) = held_reasons (abstract_at a.registers r)
   operand_reasons w a (operand.Imm n) = tt
 
-  moved_reasons : (kind : ℤ → AbstractValue D) (o : Option ℤ) → IfErr (abstract.moved kind o) IsStepReason
+  moved_reasons : (kind : ℤ → AbstractValue D) (o : Option ℤ) → IfErr (abstract.pointer_to kind o) IsStepReason
   moved_reasons kind None = tt
   moved_reasons kind (Some place) = tt
 
@@ -153,7 +153,7 @@ module _ {D : Type 0} (ops : Operations D) where
   compared_reasons : (w : Width) (c : Condition) (x y : AbstractValue D) → IfErr (abstract.places_compared w c x y) IsStepReason
   compared_reasons w c (known.Scalar x) y = tt
   compared_reasons W64 c (known.Data anchor k) known.End = faults IsStepReason (abstract.order_implies c (data_bound c k)) _ (order_reasons c (data_bound c k)) (λ i. tt)
-  compared_reasons W64 c known.End (known.Data anchor k) = faults IsStepReason (abstract.order_implies c (data_bound (exchanged c) k)) _ (order_reasons c (data_bound (exchanged c) k)) (λ i. tt)
+  compared_reasons W64 c known.End (known.Data anchor k) = faults IsStepReason (abstract.order_implies c (data_bound (converse c) k)) _ (order_reasons c (data_bound (converse c) k)) (λ i. tt)
   compared_reasons w c x y = tt
 
   places_reasons : (a : AbsState D) (w : Width) (c : Condition) (x y : AbstractValue D) → IfErr (abstract.places_fork a w c x y) IsStepReason
@@ -207,7 +207,7 @@ module _ {D : Type 0} (ops : Operations D) where
 
   store_reasons : (a : AbsState D) (z : Size) (base : Reg) (o : Operand) (d : ℤ) → IfErr (abstract.store_step ops a z base o d) IsStepReason
   store_reasons a z base o d =
-      faults IsStepReason (abstract.read a base) _ (held_reasons (abstract_at a.registers base)) (λ to. faults IsStepReason (abstract.operand_abstract ops W64 a o) _ (operand_reasons W64 a o)
+      faults IsStepReason (abstract.register_value a base) _ (held_reasons (abstract_at a.registers base)) (λ to. faults IsStepReason (abstract.operand_abstract ops W64 a o) _ (operand_reasons W64 a o)
       (λ known. faults IsStepReason (abstract.pointer to) _ (pointer_reasons to) (λ u. faults IsStepReason (abstract.storable known) _ (storable_reasons known)
       (λ v. faults IsStepReason (abstract.located a to d (byte_count z)) _ (region_reasons a to d (byte_count z)) (λ r. tt)))))
 
@@ -216,17 +216,17 @@ module _ {D : Type 0} (ops : Operations D) where
   context_value_reasons r x = tt
 
   context_reasons : (a : AbsState D) (r : Reg) → IfErr (abstract.context_argument a r) IsStepReason
-  context_reasons a r = faults IsStepReason (abstract.read a r) _ (held_reasons (abstract_at a.registers r)) (context_value_reasons r)
+  context_reasons a r = faults IsStepReason (abstract.register_value a r) _ (held_reasons (abstract_at a.registers r)) (context_value_reasons r)
 
   number_value_reasons : (r : Reg) (x : AbstractValue D) → IfErr (abstract.number_value r x) IsStepReason
   number_value_reasons r (known.Scalar n) = tt
   number_value_reasons r x = tt
 
   argument_reasons : (a : AbsState D) (r : Reg) → IfErr (abstract.number_argument a r) IsStepReason
-  argument_reasons a r = faults IsStepReason (abstract.read a r) _ (held_reasons (abstract_at a.registers r)) (number_value_reasons r)
+  argument_reasons a r = faults IsStepReason (abstract.register_value a r) _ (held_reasons (abstract_at a.registers r)) (number_value_reasons r)
 
   pointer_argument_reasons : (a : AbsState D) (r : Reg) → IfErr (abstract.stack_argument a r) IsStepReason
-  pointer_argument_reasons a r = faults IsStepReason (abstract.read a r) _ (held_reasons (abstract_at a.registers r)) (λ x. found (abstract.stack_index x) (reasons.HelperArgument (number_of r)) tt)
+  pointer_argument_reasons a r = faults IsStepReason (abstract.register_value a r) _ (held_reasons (abstract_at a.registers r)) (λ x. found (abstract.stack_index x) (reasons.HelperArgument (number_of r)) tt)
 
   record_argument_reasons : (a : AbsState D) (r : Reg) → IfErr (abstract.record_argument a r) IsStepReason
   record_argument_reasons a r = faults IsStepReason (abstract.stack_argument a r) _ (pointer_argument_reasons a r) (λ i. checked (are_marked a.marks i 8) reasons.UninitStack tt)
@@ -256,19 +256,19 @@ module _ {D : Type 0} (ops : Operations D) where
   may_write : (r : Reg) → IfErr (writable r) IsStepReason
   may_write r = checked (is_writable r) reasons.WritesFramePointer tt
 
-  written_reasons : (a : AbsState D) (dst : Reg) (known : Result (AbstractValue D) Reason) → IfErr known IsStepReason → IfErr (abstract.written a dst known) IsStepReason
+  written_reasons : (a : AbsState D) (dst : Reg) (known : Result (AbstractValue D) Reason) → IfErr known IsStepReason → IfErr (abstract.register_write a dst known) IsStepReason
   written_reasons a dst known h = faults IsStepReason (writable dst) _ (may_write dst) (λ u. faults IsStepReason known _ h (λ k. tt))
 
   one_step_reasons : (a : AbsState D) (w : Width) (op : UnaryOp) (dst : Reg) (o : Operand) → IfErr (abstract.unary_step ops a w op dst o) IsStepReason
   one_step_reasons a w op dst o = faults IsStepReason (abstract.operand_abstract ops w a o) _ (operand_reasons w a o) (λ x. written_reasons a dst (abstract.unary_result ops op x) (unary_reasons op x))
 
   load_step_reasons : (a : AbsState D) (loaded : AbstractValue D → Result (AbstractValue D) Reason) (dst base : Reg) → ((x : AbstractValue D) → IfErr (loaded x) IsStepReason) → IfErr (abstract.loaded_step a loaded dst base) IsStepReason
-  load_step_reasons a loaded dst base h = faults IsStepReason (abstract.read a base) _ (held_reasons (abstract_at a.registers base)) (λ x. written_reasons a dst (loaded x) (h x))
+  load_step_reasons a loaded dst base h = faults IsStepReason (abstract.register_value a base) _ (held_reasons (abstract_at a.registers base)) (λ x. written_reasons a dst (loaded x) (h x))
 
   -- a refused step has one of the reasons of steps
   pub step_reasons : (a : AbsState D) (i : Insn) → IfErr (abstract.step ops a i) IsStepReason
   step_reasons a (insn.Alu w op dst o) =
-      faults IsStepReason (abstract.read a dst) _ (held_reasons (abstract_at a.registers dst)) (λ x. faults IsStepReason (abstract.operand_abstract ops w a o) _ (operand_reasons w a o)
+      faults IsStepReason (abstract.register_value a dst) _ (held_reasons (abstract_at a.registers dst)) (λ x. faults IsStepReason (abstract.operand_abstract ops w a o) _ (operand_reasons w a o)
       (λ y. written_reasons a dst (abstract.alu_result ops a op w x y) (alu_reasons a op w x y)))
   step_reasons a (insn.Mov w dst o) = one_step_reasons a w (Mov w) dst o
   step_reasons a (insn.Neg w dst) = one_step_reasons a w (Neg w) dst (operand.Reg dst)
@@ -277,11 +277,11 @@ module _ {D : Type 0} (ops : Operations D) where
   step_reasons a (insn.Jump offset) = tt
   step_reasons a (insn.LongJump offset) = tt
   step_reasons a (insn.JumpIf w c dst o offset) =
-      faults IsStepReason (abstract.read a dst) _ (held_reasons (abstract_at a.registers dst)) (λ x. faults IsStepReason (abstract.operand_abstract ops w a o) _ (operand_reasons w a o)
+      faults IsStepReason (abstract.register_value a dst) _ (held_reasons (abstract_at a.registers dst)) (λ x. faults IsStepReason (abstract.operand_abstract ops w a o) _ (operand_reasons w a o)
       (λ y. fork_reasons a w c dst o x y))
   step_reasons a (insn.Load z dst base d) = load_step_reasons a (λ pointer. abstract.load ops a pointer d z) dst base (λ x. load_reasons a x d z)
   step_reasons a (insn.LoadSigned z dst base d) = load_step_reasons a (λ pointer. abstract.load_signed ops a pointer d z) dst base (λ x. number_reasons a x d (byte_count (unsigned_size z)) ops.top)
   step_reasons a (insn.Store z base o d) = store_reasons a z base o d
   step_reasons a (insn.LoadImm dst value) = written_reasons a dst (Ok (known.Scalar (ops.exact value))) tt
   step_reasons a (insn.Call n) = faults IsStepReason (ok_or (helper_of n) reasons.UnknownHelper) _ (found (helper_of n) reasons.UnknownHelper tt) (λ h. helper_reasons a h)
-  step_reasons a insn.Exit = faults IsStepReason (abstract.read a reg.R0) _ (held_reasons (abstract_at a.registers reg.R0)) exit_reasons
+  step_reasons a insn.Exit = faults IsStepReason (abstract.register_value a reg.R0) _ (held_reasons (abstract_at a.registers reg.R0)) exit_reasons

@@ -50,7 +50,7 @@ no_data k e = absurd cc
 no_end : value.End ≡ value.Nothing → ⊥
 no_end e = absurd cc
 
-pub held_is : (v u : Value) → effects.held v ≡ Ok u → v ≡ u
+pub held_is : (v u : Value) → effects.content_of v ≡ Ok u → v ≡ u
 held_is value.Nothing u e = absurd cc
 held_is (value.Scalar n) u e = cc
 held_is value.Ctx u e = cc
@@ -61,7 +61,7 @@ held_is value.End u e = cc
 module _ {D : Type 0} (ops : Operations D) (Member : D → ℕ → Type 0) (sound : AreSound ops Member) where
   -- ---- registers and operands
 
-  pub held_known : (k x : AbstractValue D) → abstract.held k ≡ Ok x → k ≡ x
+  pub held_known : (k x : AbstractValue D) → abstract.content_of k ≡ Ok x → k ≡ x
   held_known known.Nothing x e = absurd cc
   held_known (known.Scalar n) x e = cc
   held_known known.Ctx x e = cc
@@ -73,21 +73,21 @@ module _ {D : Type 0} (ops : Operations D) (Member : D → ℕ → Type 0) (soun
   ok_is x y e = cc
 
   module _ (claimed : Reason → Type 0) (mode : Mode) (places : Places) (size : ℕ) (uninit : claimed UninitRegister → mode ≡ Strict) where
-    held_agrees : (k : AbstractValue D) (v : Value) → IsValue Member mode places size k v → Agree claimed (IsHeld Member places size) (abstract.held k) (effects.held v)
+    held_agrees : (k : AbstractValue D) (v : Value) → IsValue Member mode places size k v → Agree claimed (IsHeld Member places size) (abstract.content_of k) (effects.content_of v)
     held_agrees known.Nothing value.Nothing h = λ c. refl
     held_agrees known.Nothing (value.Scalar n) h = λ c. no_scalar n (h (uninit c))
     held_agrees known.Nothing value.Ctx h = λ c. no_ctx (h (uninit c))
     held_agrees known.Nothing (value.Stack k) h = λ c. no_stack k (h (uninit c))
     held_agrees known.Nothing (value.Data k) h = λ c. no_data k (h (uninit c))
     held_agrees known.Nothing value.End h = λ c. no_end (h (uninit c))
-    held_agrees (known.Scalar number) v h = subst (λ (u : Value). Agree claimed (IsHeld Member places size) (Ok (known.Scalar number)) (effects.held u)) (sym h.2) (h.0, h.1, refl)
-    held_agrees known.Ctx v h = subst (λ (u : Value). Agree claimed (IsHeld Member places size) (Ok known.Ctx) (effects.held u)) (sym h.2) (h.0, h.1, refl)
-    held_agrees (known.Stack k) v h = subst (λ (u : Value). Agree claimed (IsHeld Member places size) (Ok (known.Stack k)) (effects.held u)) (sym h.2) (h.0, h.1, refl)
-    held_agrees (known.Data anchor k) v h = subst (λ (u : Value). Agree claimed (IsHeld Member places size) (Ok (known.Data anchor k)) (effects.held u)) (sym h.2) (h.0, h.1, refl)
-    held_agrees known.End v h = subst (λ (u : Value). Agree claimed (IsHeld Member places size) (Ok known.End) (effects.held u)) (sym h.2) (h.0, h.1, refl)
+    held_agrees (known.Scalar number) v h = subst (λ (u : Value). Agree claimed (IsHeld Member places size) (Ok (known.Scalar number)) (effects.content_of u)) (sym h.2) (h.0, h.1, refl)
+    held_agrees known.Ctx v h = subst (λ (u : Value). Agree claimed (IsHeld Member places size) (Ok known.Ctx) (effects.content_of u)) (sym h.2) (h.0, h.1, refl)
+    held_agrees (known.Stack k) v h = subst (λ (u : Value). Agree claimed (IsHeld Member places size) (Ok (known.Stack k)) (effects.content_of u)) (sym h.2) (h.0, h.1, refl)
+    held_agrees (known.Data anchor k) v h = subst (λ (u : Value). Agree claimed (IsHeld Member places size) (Ok (known.Data anchor k)) (effects.content_of u)) (sym h.2) (h.0, h.1, refl)
+    held_agrees known.End v h = subst (λ (u : Value). Agree claimed (IsHeld Member places size) (Ok known.End) (effects.content_of u)) (sym h.2) (h.0, h.1, refl)
 
   module _ (claimed : Reason → Type 0) (mode : Mode) (places : Places) (uninit : claimed UninitRegister → mode ≡ Strict) where
-    pub read_agrees : (a : AbsState D) (s : State) → IsMemberAt Member mode places a s → (r : Reg) → Agree claimed (IsHeld Member places s.memory.length) (abstract.read a r) (effects.read s.registers r)
+    pub read_agrees : (a : AbsState D) (s : State) → IsMemberAt Member mode places a s → (r : Reg) → Agree claimed (IsHeld Member places s.memory.length) (abstract.register_value a r) (effects.register_value s.registers r)
     read_agrees a s member r = held_agrees claimed mode places s.memory.length uninit (abstract_at a.registers r) (value_at s.registers r) (member.registers r)
 
     pub operand_agrees : (a : AbsState D) (s : State) → IsMemberAt Member mode places a s → (w : Width) (o : Operand) → OperandFits o → Agree claimed (IsHeld Member places s.memory.length) (abstract.operand_abstract ops w a o) (effects.operand_value w s.registers o)
@@ -127,14 +127,14 @@ module _ {D : Type 0} (ops : Operations D) (Member : D → ℕ → Type 0) (soun
   held_before places size a k v h = record { more = places; extends = extends_itself (greatest_id a.registers) places; held = h }
 
   module _ (claimed : Reason → Type 0) (places : Places) (size : ℕ) (a : AbsState D) (reaches : a.proved ≤ℤ pos size) where
-    stack_moved : (o : Option ℤ) → Agree claimed (IsHeldAnew places size a) (abstract.moved known.Stack o) (effects.moved value.Stack o)
+    stack_moved : (o : Option ℤ) → Agree claimed (IsHeldAnew places size a) (abstract.pointer_to known.Stack o) (effects.pointer_to value.Stack o)
     stack_moved None = λ c. refl
     stack_moved (Some place) = held_before places size a (known.Stack place) (value.Stack place) (0, tt, refl)
 
     module _ (op : AluOp) (w : Width) where
       sum_held : (anchor : Anchor) (k : ℤ) (n : ℕ) (made : Anchor) (l : ℤ) → IsSum places size a op w (place_of places anchor +ℤ k) n made l → Agree claimed (IsHeldAnew places size a) (Ok (known.Data made l)) (effects.alu_result op w (value.Data (place_of places anchor +ℤ k)) (value.Scalar n))
       sum_held anchor k n made l is =
-          subst (λ (o : Option ℤ). Agree claimed (IsHeldAnew places size a) (Ok (known.Data made l)) (effects.moved value.Data o)) (sym is.moved)
+          subst (λ (o : Option ℤ). Agree claimed (IsHeldAnew places size a) (Ok (known.Data made l)) (effects.pointer_to value.Data o)) (sym is.moved)
           (record { more = is.more; extends = is.extends; held = (0, is.anchored, refl) })
 
       -- what a sum gives is a place of the datagram
@@ -151,10 +151,10 @@ module _ {D : Type 0} (ops : Operations D) (Member : D → ℕ → Type 0) (soun
       data_by anchor k y n is h (Some known.End) e stray = absurd (no_other a anchor op w k (ops.bounds y) known.End tt e)
 
       stack_by : (k : ℤ) (n : ℕ) (single : Option ℕ) → ((q : ℕ) → single ≡ Some q → n ≡ q) → (claimed PointerArithmetic → single ≡ None → effects.alu_result op w (value.Stack k) (value.Scalar n) ≡ Err PointerArithmetic)
-          → Agree claimed (IsHeldAnew places size a) (abstract.moved known.Stack (abstract.moved_by op w k single)) (effects.alu_result op w (value.Stack k) (value.Scalar n))
+          → Agree claimed (IsHeldAnew places size a) (abstract.pointer_to known.Stack (abstract.moved_by op w k single)) (effects.alu_result op w (value.Stack k) (value.Scalar n))
       stack_by k n None is stray = refused_alike claimed (IsHeldAnew places size a) PointerArithmetic (effects.alu_result op w (value.Stack k) (value.Scalar n)) (λ c. stray c refl)
       stack_by k n (Some q) is stray =
-          subst (λ (z : ℕ). Agree claimed (IsHeldAnew places size a) (abstract.moved known.Stack (moved_place op w k q)) (effects.alu_result op w (value.Stack k) (value.Scalar z))) (sym (is q refl)) (stack_moved (moved_place op w k q))
+          subst (λ (z : ℕ). Agree claimed (IsHeldAnew places size a) (abstract.pointer_to known.Stack (moved_place op w k q)) (effects.alu_result op w (value.Stack k) (value.Scalar z))) (sym (is q refl)) (stack_moved (moved_place op w k q))
 
       results_agree : (x y : AbstractValue D) (m n : ℕ) → IsNumberOf Member places size x m → IsNumberOf Member places size y n → (claimed PointerArithmetic → StraysBy a op w x y (value_of places x m) (value_of places y n)) → Agree claimed (IsHeldAnew places size a) (abstract.alu_result ops a op w x y) (effects.alu_result op w (value_of places x m) (value_of places y n))
       results_agree (known.Scalar x) (known.Scalar y) m n hx hy stray = held_before places size a (known.Scalar (ops.alu op w x y)) (value.Scalar (alu op w m n)) (alu op w m n, sound.alu op w x y m n hx hy, refl)
@@ -187,7 +187,7 @@ module _ {D : Type 0} (ops : Operations D) (Member : D → ℕ → Type 0) (soun
   -- a sum that is refused is one at which the machine is stuck
   abbrev pub Strays : AbsState D → State → Insn → Type 0
   Strays a s (insn.Alu w op dst o) =
-      (x y : AbstractValue D) (u v : Value) → abstract.read a dst ≡ Ok x → abstract.operand_abstract ops w a o ≡ Ok y → effects.read s.registers dst ≡ Ok u → effects.operand_value w s.registers o ≡ Ok v → StraysBy a op w x y u v
+      (x y : AbstractValue D) (u v : Value) → abstract.register_value a dst ≡ Ok x → abstract.operand_abstract ops w a o ≡ Ok y → effects.register_value s.registers dst ≡ Ok u → effects.operand_value w s.registers o ≡ Ok v → StraysBy a op w x y u v
   Strays a s i = Unit {0}
 
   -- what of the refusals is claimed to be the machine's own

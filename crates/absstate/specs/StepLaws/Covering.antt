@@ -11,7 +11,7 @@ use Rattle.semantics.specs.declared.value.Value.{Value}
 use Rattle.semantics.specs.declared.value.Value.TheVariants as value
 use Rattle.interval.specs.Domains.{Operations, AreSound}
 use Rattle.absstate.specs.AbstractStates.{low_of, high_of, proved_of, abstract_at, is_marked}
-use Rattle.absstate.specs.Covers.{same_int, covers_anchor, covers_value, covers_values, shared, stands_for, share_alike, covers_marks, covers}
+use Rattle.absstate.specs.Covers.{same_int, covers_anchor, covers_value, covers_values, have_one_anchor, stands_for, share_alike, covers_marks, covers}
 use Rattle.absstate.specs.Membership.{Loose, Strict, Places, place_of, IsPlace, IsAnchored, IsHeld, IsValue, IsMember}
 use Rattle.absstate.specs.declared.abstract_state.Anchor.{Anchor}
 use Rattle.absstate.specs.declared.abstract_state.Anchor.TheVariants.{First, Made}
@@ -49,12 +49,12 @@ places_for places (v ∷ vs) (u ∷ us) id = if names v id then place_in places 
 places_for places (v ∷ vs) [] id = pos 0
 places_for places [] us id = pos 0
 
-same_places : {D : Type 0} (places : Places) (u x : AbstractValue D) → shared u x ≡ true → place_in places u ≡ place_in places x
+same_places : {D : Type 0} (places : Places) (u x : AbstractValue D) → have_one_anchor u x ≡ true → place_in places u ≡ place_in places x
 same_places places (known.Data First k) (known.Data First l) e = refl
 same_places places (known.Data (Made id low high proved) k) (known.Data (Made other low' high' proved') l) e = ap places (eqb-true id other e)
 same_places places u x e = absurd cc
 
-named_shared : {D : Type 0} (id : ℕ) (v w : AbstractValue D) → names v id ≡ true → names w id ≡ true → shared v w ≡ true
+named_shared : {D : Type 0} (id : ℕ) (v w : AbstractValue D) → names v id ≡ true → names w id ≡ true → have_one_anchor v w ≡ true
 named_shared id (known.Data (Made i low high proved) k) (known.Data (Made j low' high' proved') l) e f =
     let p : i ≡ id = eqb-true i id e in
     let q : j ≡ id = eqb-true j id f in
@@ -68,11 +68,11 @@ implied : (x y : Bool) → (not x || y) ≡ true → x ≡ true → y ≡ true
 implied true y e f = e
 implied false y e f = absurd cc
 
-stands_at : {D : Type 0} (v u : AbstractValue D) (vs us : List (AbstractValue D)) (n : ℕ) → stands_for v u vs us ≡ true → n < length vs → n < length us → shared v (slice_index_or vs n known.Nothing) ≡ true → shared u (slice_index_or us n known.Nothing) ≡ true
+stands_at : {D : Type 0} (v u : AbstractValue D) (vs us : List (AbstractValue D)) (n : ℕ) → stands_for v u vs us ≡ true → n < length vs → n < length us → have_one_anchor v (slice_index_or vs n known.Nothing) ≡ true → have_one_anchor u (slice_index_or us n known.Nothing) ≡ true
 stands_at v u [] us n e lt lt' f = absurd (omega (arith, lt))
 stands_at v u (w ∷ ws) [] n e lt lt' f = absurd (omega (arith, lt'))
-stands_at v u (w ∷ ws) (x ∷ xs) zero e lt lt' f = implied (shared v w) (shared u x) (first_of_and (not (shared v w) || shared u x) (stands_for v u ws xs) e) f
-stands_at v u (w ∷ ws) (x ∷ xs) (suc n) e lt lt' f = stands_at v u ws xs n (rest_of_and (not (shared v w) || shared u x) (stands_for v u ws xs) e) (omega (arith, lt)) (omega (arith, lt')) f
+stands_at v u (w ∷ ws) (x ∷ xs) zero e lt lt' f = implied (have_one_anchor v w) (have_one_anchor u x) (first_of_and (not (have_one_anchor v w) || have_one_anchor u x) (stands_for v u ws xs) e) f
+stands_at v u (w ∷ ws) (x ∷ xs) (suc n) e lt lt' f = stands_at v u ws xs n (rest_of_and (not (have_one_anchor v w) || have_one_anchor u x) (stands_for v u ws xs) e) (omega (arith, lt)) (omega (arith, lt')) f
 
 place_stands : {D : Type 0} (places : Places) (id : ℕ) (vs us : List (AbstractValue D)) (n : ℕ) → share_alike vs us ≡ true → n < length vs → n < length us → names (slice_index_or vs n known.Nothing) id ≡ true → places_for places vs us id ≡ place_in places (slice_index_or us n known.Nothing)
 place_stands places id [] us n e lt lt' f = absurd (omega (arith, lt))

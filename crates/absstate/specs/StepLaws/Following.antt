@@ -18,7 +18,7 @@ use Rattle.semantics.specs.declared.access.Location.TheVariants.{InStack, InByte
 use Rattle.semantics.specs.declared.limits.TheConstants.{MAX_DATAGRAM}
 use Rattle.semantics.specs.Effects as effects
 use Rattle.semantics.specs.Slots.{fetch, target}
-use Rattle.semantics.specs.Runs.{Goes, IsPossible, called, answered_at, answered, plan_answer, with_window, with_destination, planned, applied, landed, stepped, step, write_register}
+use Rattle.semantics.specs.Runs.{Goes, IsPossible, registers_after_call, answered_at, state_after_answer, plan_answer, with_window, with_destination, state_with_plan, step_by_effect, step_to, step_of_fetched, step, write_register}
 use Rattle.semantics.specs.Flow.{Flow, flow_of, flow_slot, branch_slot}
 use Rattle.semantics.specs.Flow as flow
 use Rattle.semantics.specs.LooseRuns.{effect_of_branch}
@@ -64,8 +64,8 @@ small_answer None = omega arith
 small_answer (Some x) = omega arith
 
 -- the step at an instruction is its effect applied
-pub step_is : (w : Environment) (code : List Insn) (s : State) (i : Insn) (r : Result Effect Reason) → fetch code s.slot ≡ Begins i → effects.effect w.context s.memory s.registers i ≡ r → step w code s ≡ applied w code s i r
-step_is w code s i r here e = ap (stepped w code s) here ∙ ap (applied w code s i) e
+pub step_is : (w : Environment) (code : List Insn) (s : State) (i : Insn) (r : Result Effect Reason) → fetch code s.slot ≡ Begins i → effects.effect w.context s.memory s.registers i ≡ r → step w code s ≡ step_by_effect w code s i r
+step_is w code s i r here e = ap (step_of_fetched w code s) here ∙ ap (step_by_effect w code s i) e
 
 ok_of : (r : Result ℕ Reason) → IsOk r → (n : ℕ) × (r ≡ Ok n)
 ok_of (Ok n) ok = (n, refl)
@@ -74,7 +74,7 @@ ok_of (Err e) ok = absurd cc
 same_slot : (m n : ℕ) → ◌≡◌ {A = Result ℕ Reason} (Ok m) (Ok n) → m ≡ n
 same_slot m n e = cc
 
-landed_at : (s : State) (r : Result ℕ Reason) (n : ℕ) → r ≡ Ok n → landed s r ≡ Goes (record s { slot = n })
+landed_at : (s : State) (r : Result ℕ Reason) (n : ℕ) → r ≡ Ok n → step_to s r ≡ Goes (record s { slot = n })
 landed_at s (Ok m) n e = ap (λ (k : ℕ). Goes (record s { slot = k })) (same_slot m n e)
 landed_at s (Err f) n e = absurd cc
 
@@ -83,10 +83,10 @@ slot_by : (code : List Insn) (slot n : ℕ) (i : Insn) (branch : Branch) (f : Fl
 slot_by code slot n i branch f is leads = sym (ap (λ (g : Flow). flow_slot code slot (slots_of i) g branch) is) ∙ leads
 
 -- a jump, and either branch of a conditional one, go on at the slot that they lead to
-pub jump_goes : (w : Environment) (code : List Insn) (s : State) (i : Insn) (offset : ℤ) (branch : Branch) (n : ℕ) → flow_of i ≡ flow.Jumps offset → branch_slot code s.slot i branch ≡ Ok n → applied w code s i (Ok (effect.Jump offset)) ≡ Goes (record s { slot = n })
+pub jump_goes : (w : Environment) (code : List Insn) (s : State) (i : Insn) (offset : ℤ) (branch : Branch) (n : ℕ) → flow_of i ≡ flow.Jumps offset → branch_slot code s.slot i branch ≡ Ok n → step_by_effect w code s i (Ok (effect.Jump offset)) ≡ Goes (record s { slot = n })
 jump_goes w code s i offset branch n is leads = landed_at s (target code s.slot offset) n (slot_by code s.slot n i branch (flow.Jumps offset) is leads)
 
-pub branch_goes : (w : Environment) (code : List Insn) (s : State) (i : Insn) (offset : ℤ) (branch : Branch) (n : ℕ) → flow_of i ≡ flow.Forks offset → branch_slot code s.slot i branch ≡ Ok n → applied w code s i (Ok (effect_of_branch offset branch)) ≡ Goes (record s { slot = n })
+pub branch_goes : (w : Environment) (code : List Insn) (s : State) (i : Insn) (offset : ℤ) (branch : Branch) (n : ℕ) → flow_of i ≡ flow.Forks offset → branch_slot code s.slot i branch ≡ Ok n → step_by_effect w code s i (Ok (effect_of_branch offset branch)) ≡ Goes (record s { slot = n })
 branch_goes w code s i offset Taken n is leads = landed_at s (target code s.slot offset) n (slot_by code s.slot n i Taken (flow.Forks offset) is leads)
 branch_goes w code s i offset NotTaken n is leads = ap (λ (k : ℕ). Goes (record s { slot = k })) (same_slot (s.slot + slots_of i) n (slot_by code s.slot n i NotTaken (flow.Forks offset) is leads))
 
@@ -124,18 +124,18 @@ module _ {D : Type 0} (ops : Operations D) (Member : D → ℕ → Type 0) (soun
   both_of (Some j) record_is room are = (room, are)
 
   pub asked_member : (w : Environment) (code : List Insn) (mode : Mode) (places : Places) (a : AbsState D) (s : State) → IsMemberAt Member mode places a s → (i : Insn) → IsPossible w → (b : AbsState D) (q : Question) (out : Option ℕ) → IsAsked ops Member sound a i b q out
-      → IsMemberAt Member mode places b (answered s (s.slot + slots_of i) out (w.answer q.helper q.number q.address))
+      → IsMemberAt Member mode places b (state_after_answer s (s.slot + slots_of i) out (w.answer q.helper q.number q.address))
   asked_member w code mode places a s member i real b q out is =
       let answer = w.answer q.helper q.number q.address in
       let lawful = is.lawful w.answer real.helpers in
-      subst (λ (x : AbsState D). IsMemberAt Member mode places x (answered s (s.slot + slots_of i) out answer)) (sym is.behind)
+      subst (λ (x : AbsState D). IsMemberAt Member mode places x (state_after_answer s (s.slot + slots_of i) out answer)) (sym is.behind)
       (member_answered Member sound.words mode places a s (ops.range 0 (signature_of is.asked).greatest) (s.slot + slots_of i) out answer member (in_range answer.0 (signature_of is.asked).greatest (bounded is.asked) lawful.0) (both_of out answer.1 is.room lawful.1))
 
-  pub planned_member : (mode : Mode) (places : Places) (a : AbsState D) (s : State) → IsMemberAt Member mode places a s → (i : Insn) (b : AbsState D) (h : Helper) (n : ℕ) (plan : Plan) → b ≡ abstract.answered ops a h None → n ≤ 1 → (signature_of h).greatest ≡ 1
-      → IsMemberAt Member mode places b (planned s (s.slot + slots_of i) n plan)
+  pub planned_member : (mode : Mode) (places : Places) (a : AbsState D) (s : State) → IsMemberAt Member mode places a s → (i : Insn) (b : AbsState D) (h : Helper) (n : ℕ) (plan : Plan) → b ≡ abstract.state_after_call ops a h None → n ≤ 1 → (signature_of h).greatest ≡ 1
+      → IsMemberAt Member mode places b (state_with_plan s (s.slot + slots_of i) n plan)
   planned_member mode places a s member i b h n plan is small one =
-      subst (λ (x : AbsState D). IsMemberAt Member mode places x (planned s (s.slot + slots_of i) n plan)) (sym is)
-      (member_planned Member mode places (with_answer a (ops.range 0 (signature_of h).greatest)) (record s { slot = s.slot + slots_of i; registers = called s.registers n })
+      subst (λ (x : AbsState D). IsMemberAt Member mode places x (state_with_plan s (s.slot + slots_of i) n plan)) (sym is)
+      (member_planned Member mode places (with_answer a (ops.range 0 (signature_of h).greatest)) (record s { slot = s.slot + slots_of i; registers = registers_after_call s.registers n })
       (member_called Member sound.words mode places a s (ops.range 0 (signature_of h).greatest) n (s.slot + slots_of i) member (in_range n (signature_of h).greatest (bounded h) (omega (arith, small, one)))) plan)
 
   module _ (w : Environment) (code : List Insn) (mode : Mode) (places : Places) (a : AbsState D) (s : State) (member : IsMemberAt Member mode places a s) (i : Insn) (fit : Fits i) (real : IsPossible w) (here : fetch code s.slot ≡ Begins i) (good : (branch : Branch) → IsOk (branch_slot code s.slot i branch)) where
@@ -149,7 +149,7 @@ module _ {D : Type 0} (ops : Operations D) (Member : D → ℕ → Type 0) (soun
     taken_by : (r : Result Effect Reason) (f : Flow) (branch : Branch) → effects.effect w.context s.memory s.registers i ≡ r → flow_of i ≡ f → IsTakenBy f r branch → IsTaken w s i branch
     taken_by r f branch is flows h = subst (λ (x : Flow). IsTakenBy x (effects.effect w.context s.memory s.registers i) branch) (sym flows) (subst (λ (x : Result Effect Reason). IsTakenBy f x branch) (sym is) h)
 
-    effect_follows : s.memory.length ≤ MAX_DATAGRAM → (answer : Next D) (e : Effect) → effects.effect w.context s.memory s.registers i ≡ Ok e → IsEffectOf ops Member sound mode places a s i answer e → Follows Member w code mode s i answer (applied w code s i (Ok e))
+    effect_follows : s.memory.length ≤ MAX_DATAGRAM → (answer : Next D) (e : Effect) → effects.effect w.context s.memory s.registers i ≡ Ok e → IsEffectOf ops Member sound mode places a s i answer e → Follows Member w code mode s i answer (step_by_effect w code s i (Ok e))
     effect_follows short (next.On b) (effect.Write r v) has is = (
       NotTaken,
       taken_by (Ok (effect.Write r v)) flow.Straight NotTaken has is.3 tt,
@@ -209,7 +209,7 @@ module _ {D : Type 0} (ops : Operations D) (Member : D → ℕ → Type 0) (soun
     effect_follows short (next.On b) (effect.Exit verdict) has is = absurd is
     effect_follows short (next.Fork not_taken taken) e has f =
         let to = ok_of (branch_slot code s.slot i f.branch) (good f.branch) in
-        subst (Follows Member w code mode s i (next.Fork not_taken taken)) (sym (ap (λ (x : Effect). applied w code s i (Ok x)) f.effect_is ∙ branch_goes w code s i f.offset f.branch to.0 (ap flow_of f.jump) to.1))
+        subst (Follows Member w code mode s i (next.Fork not_taken taken)) (sym (ap (λ (x : Effect). step_by_effect w code s i (Ok x)) f.effect_is ∙ branch_goes w code s i f.offset f.branch to.0 (ap flow_of f.jump) to.1))
         (f.branch, taken_by (Ok e) (flow.Forks f.offset) f.branch has (ap flow_of f.jump) (ap Ok f.effect_is), subst (λ (o : Option (AbsState D)). IsBehindSome Member code mode s i f.branch o (record s { slot = to.0 })) (sym f.behind_is) (behind f.branch f.behind f.member to.0 to.1))
     effect_follows short next.Exit (effect.Exit verdict) has is = tt
     effect_follows short next.Exit (effect.Write r v) has is = absurd is

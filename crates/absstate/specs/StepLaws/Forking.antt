@@ -37,7 +37,7 @@ use Rattle.absstate.specs.declared.branching.Implied.{Implied}
 use Rattle.absstate.specs.declared.abstract_step.Next.TheVariants as next
 use Rattle.absstate.specs.declared.abstract_state.Anchor.{Anchor}
 use Rattle.absstate.specs.declared.abstract_state.Anchor.TheVariants.{First, Made}
-use Rattle.absstate.specs.StepLaws.Bounds.{shifted, lt_of, not_lt, IsLeast, Implies, branch_if, least_from_bound, bound_from_least}
+use Rattle.absstate.specs.StepLaws.Bounds.{bound_on_places, lt_of, not_lt, IsLeast, Implies, branch_if, least_from_bound, bound_from_least}
 use Rattle.absstate.specs.StepLaws.Members.{member_written, member_known, member_moved, member_least, members_loosen, loosens_itself}
 use Rattle.absstate.specs.StepLaws.Anchors.{reach_of, reach_positive}
 use Rattle.absstate.specs.StepLaws.Arithmetic.{held_is}
@@ -175,21 +175,21 @@ module _ {D : Type 0} (ops : Operations D) (Member : D → ℕ → Type 0) (soun
   module _ (mode : Mode) (places : Places) (a : AbsState D) (s : State) (member : IsMemberAt Member mode places a s) (w : Width) (c : Condition) (dst : Reg) (o : Operand) (offset : ℤ) where
     -- two numbers
     module _ (x y : D) (m n : ℕ) (h : Member x m) (g : Member y n) (dst_is : value_at s.registers dst ≡ value.Scalar m) (o_is : effects.operand_value w s.registers o ≡ Ok (value.Scalar n)) where
-      passed_by : (r : Option (D × D)) → Keeps Member r m n → (behind : AbsState D) × (abstract.refined a dst o r ≡ Some behind) × ((to : ℕ) → IsMemberAt Member mode places behind (record s { slot = to }))
+      passed_by : (r : Option (D × D)) → Keeps Member r m n → (behind : AbsState D) × (abstract.state_with_operands a dst o r ≡ Some behind) × ((to : ℕ) → IsMemberAt Member mode places behind (record s { slot = to }))
       passed_by None kept = absurd kept
       passed_by (Some left) kept = (abstract.with_operands a dst o left, refl, λ to. operands_known mode places a s member dst w o left m n to dst_is o_is kept.0 kept.1)
 
-      refined_rises : (r : Option (D × D)) (b : AbsState D) → abstract.refined a dst o r ≡ Some b → a.proved ≤ℤ b.proved
+      refined_rises : (r : Option (D × D)) (b : AbsState D) → abstract.state_with_operands a dst o r ≡ Some b → a.proved ≤ℤ b.proved
       refined_rises None b e = absurd cc
       refined_rises (Some left) b e = subst (λ (z : AbsState D). a.proved ≤ℤ z.proved) (some_is (abstract.with_operands a dst o left) b e) (operands_proved a dst o left)
 
-      refined_opens : (strict : IsMemberAt Member Strict places a s) (r : Option (D × D)) → ((left : D × D) → r ≡ Some left → HasMembers Member left) → (b : AbsState D) → abstract.refined a dst o r ≡ Some b → (to : ℕ) → IsOpened Member places b s to
+      refined_opens : (strict : IsMemberAt Member Strict places a s) (r : Option (D × D)) → ((left : D × D) → r ≡ Some left → HasMembers Member left) → (b : AbsState D) → abstract.state_with_operands a dst o r ≡ Some b → (to : ℕ) → IsOpened Member places b s to
       refined_opens strict None has b e to = absurd cc
       refined_opens strict (Some left) has b e to = subst (λ (z : AbsState D). IsOpened Member places z s to) (some_is (abstract.with_operands a dst o left) b e) (operands_opened places a s strict dst w o x y left m n to h g dst_is o_is (has left refl))
 
       numbers_fork : (test : Test) (branch : Branch) (e : Effect) → e ≡ effect_of_branch offset branch → passes test w m n ≡ true
-          → state_after (next.Fork (abstract.passed ops a (Fails c) w dst o x y) (abstract.passed ops a (Holds c) w dst o x y)) branch ≡ abstract.passed ops a test w dst o x y
-          → Forks mode places a s (insn.JumpIf w c dst o offset) (abstract.passed ops a (Fails c) w dst o x y) (abstract.passed ops a (Holds c) w dst o x y) e
+          → state_after (next.Fork (abstract.state_past_test ops a (Fails c) w dst o x y) (abstract.state_past_test ops a (Holds c) w dst o x y)) branch ≡ abstract.state_past_test ops a test w dst o x y
+          → Forks mode places a s (insn.JumpIf w c dst o offset) (abstract.state_past_test ops a (Fails c) w dst o x y) (abstract.state_past_test ops a (Holds c) w dst o x y) e
       numbers_fork test branch e e_is passed way_is =
           let behind = passed_by (ops.refine test w x y) (sound.refine test w x y m n h g passed) in
           record {
@@ -212,22 +212,22 @@ module _ {D : Type 0} (ops : Operations D) (Member : D → ℕ → Type 0) (soun
             holds_of = λ way b f le le'. subst (λ (v : Value). HoldsOf (bound_of c v (value.Scalar n) way) s.memory.length) (sym dst_is) tt;
             opens = opens;
           } where
-            rises : (way : Branch) (b : AbsState D) → state_after (next.Fork (abstract.passed ops a (Fails c) w dst o x y) (abstract.passed ops a (Holds c) w dst o x y)) way ≡ Some b → a.proved ≤ℤ b.proved
+            rises : (way : Branch) (b : AbsState D) → state_after (next.Fork (abstract.state_past_test ops a (Fails c) w dst o x y) (abstract.state_past_test ops a (Holds c) w dst o x y)) way ≡ Some b → a.proved ≤ℤ b.proved
             rises NotTaken b f = refined_rises (ops.refine (Fails c) w x y) b f
             rises Taken b f = refined_rises (ops.refine (Holds c) w x y) b f
 
-            opens : ArePrecise ops Member → mode ≡ Strict → (way : Branch) (b : AbsState D) → state_after (next.Fork (abstract.passed ops a (Fails c) w dst o x y) (abstract.passed ops a (Holds c) w dst o x y)) way ≡ Some b → b.proved ≤ℤ pos s.memory.length → pos 0 ≤ℤ pos s.memory.length → (to : ℕ) → IsOpened Member places b s to
+            opens : ArePrecise ops Member → mode ≡ Strict → (way : Branch) (b : AbsState D) → state_after (next.Fork (abstract.state_past_test ops a (Fails c) w dst o x y) (abstract.state_past_test ops a (Holds c) w dst o x y)) way ≡ Some b → b.proved ≤ℤ pos s.memory.length → pos 0 ≤ℤ pos s.memory.length → (to : ℕ) → IsOpened Member places b s to
             opens precise strict NotTaken b f le le' to = refined_opens (subst (λ (k : Mode). IsMemberAt Member k places a s) strict member) (ops.refine (Fails c) w x y) (λ left. precise.refine (Fails c) w x y m n left h g) b f to
             opens precise strict Taken b f le le' to = refined_opens (subst (λ (k : Mode). IsMemberAt Member k places a s) strict member) (ops.refine (Holds c) w x y) (λ left. precise.refine (Holds c) w x y m n left h g) b f to
 
-      pub fork_by : (t : Bool) → holds c w m n ≡ t → Forks mode places a s (insn.JumpIf w c dst o offset) (abstract.passed ops a (Fails c) w dst o x y) (abstract.passed ops a (Holds c) w dst o x y) (if t then effect.Jump offset else effect.Pass)
+      pub fork_by : (t : Bool) → holds c w m n ≡ t → Forks mode places a s (insn.JumpIf w c dst o offset) (abstract.state_past_test ops a (Fails c) w dst o x y) (abstract.state_past_test ops a (Holds c) w dst o x y) (if t then effect.Jump offset else effect.Pass)
       fork_by true e = numbers_fork (Holds c) Taken (effect.Jump offset) refl e refl
       fork_by false e = numbers_fork (Fails c) NotTaken effect.Pass refl (ap not e) refl
 
     -- a place and the end
     module _ (anchor : Anchor) (bound : Branch → Option Bound) (extra : ℤ) (within : extra ≤ℤ reach_of a.registers)
         (enough : (way : Branch) → (with_least a anchor (abstract.least_of (bound way))).proved ≤ℤ pos s.memory.length → extra ≤ℤ pos s.memory.length → IsLeast (place_of places anchor) (abstract.least_of (bound way)) s.memory.length)
-        (second : Value) (o_is : effects.operand_value w s.registers o ≡ Ok second) (bound_is : (way : Branch) → bound_of c (value_at s.registers dst) second way ≡ shifted (place_of places anchor) (bound way)) where
+        (second : Value) (o_is : effects.operand_value w s.registers o ≡ Ok second) (bound_is : (way : Branch) → bound_of c (value_at s.registers dst) second way ≡ bound_on_places (place_of places anchor) (bound way)) where
       way_is : (way : Branch) → state_after (next.Fork (Some (with_least a anchor (abstract.implied_by bound).not_taken)) (Some (with_least a anchor (abstract.implied_by bound).taken))) way ≡ Some (with_least a anchor (abstract.least_of (bound way)))
       way_is NotTaken = refl
       way_is Taken = refl
@@ -249,7 +249,7 @@ module _ {D : Type 0} (ops : Operations D) (Member : D → ℕ → Type 0) (soun
             member = known_more;
           })
 
-      places_forked : (taken : Bool) → HoldsOf (shifted (place_of places anchor) (bound (branch_if taken))) s.memory.length
+      places_forked : (taken : Bool) → HoldsOf (bound_on_places (place_of places anchor) (bound (branch_if taken))) s.memory.length
           → Forks mode places a s (insn.JumpIf w c dst o offset) (Some (with_least a anchor (abstract.implied_by bound).not_taken)) (Some (with_least a anchor (abstract.implied_by bound).taken)) (if taken then effect.Jump offset else effect.Pass)
       places_forked taken true_of = record {
         width = w;
@@ -272,7 +272,7 @@ module _ {D : Type 0} (ops : Operations D) (Member : D → ℕ → Type 0) (soun
         opens = λ precise strict way b e le le' to. least_opens (subst (λ (k : Mode). IsMemberAt Member k places a s) strict member) (abstract.least_of (bound way)) (least_holds way b e le le') b (least_is way b e) to;
       }
 
-      pub forked : (t : Implied) (taken : Bool) → Implies bound (λ way. shifted (place_of places anchor) (bound way)) s.memory.length t taken
+      pub forked : (t : Implied) (taken : Bool) → Implies bound (λ way. bound_on_places (place_of places anchor) (bound way)) s.memory.length t taken
           → Forks mode places a s (insn.JumpIf w c dst o offset) (Some (with_least a anchor t.not_taken)) (Some (with_least a anchor t.taken)) (if taken then effect.Jump offset else effect.Pass)
       forked t taken implies =
           subst (λ (z : Implied). Forks mode places a s (insn.JumpIf w c dst o offset) (Some (with_least a anchor z.not_taken)) (Some (with_least a anchor z.taken)) (if taken then effect.Jump offset else effect.Pass)) (sym implies.0)

@@ -3,7 +3,7 @@ use Rattle.std.proofs.Common.{◌≡◌, ℕ, zero, suc, ◌+◌, ◌<◌, ◌�
 use Rattle.std.proofs.lemmas.Bool.{cases_eq, cases_lt}
 use Rattle.std.proofs.lemmas.List.{get_or-set_same, get_or-set_other, length-set}
 use Rattle.semantics.specs.declared.limits.TheConstants.{STACK_BYTES}
-use Rattle.absstate.specs.AbstractStates.{is_marked, mark, marked}
+use Rattle.absstate.specs.AbstractStates.{is_marked, mark, marks_from}
 use Rattle.absstate.specs.declared.abstract_state.Marks.{Marks}
 
 -- ---- one byte
@@ -20,23 +20,23 @@ module _ (m : Marks) (i : ℕ) where
 
 -- ---- several bytes
 
-pub length-marked : (n i : ℕ) (m : Marks) → length (marked m i n).cells ≡ length m.cells
+pub length-marked : (n i : ℕ) (m : Marks) → length (marks_from m i n).cells ≡ length m.cells
 length-marked zero i m = refl
 length-marked (suc n) i m = length-marked n (suc i) (mark m i) ∙ length-mark m i
 
-pub marked_before : (n i k : ℕ) (m : Marks) → length m.cells ≡ STACK_BYTES → i + n ≤ STACK_BYTES → k < i → is_marked (marked m i n) k ≡ is_marked m k
+pub marked_before : (n i k : ℕ) (m : Marks) → length m.cells ≡ STACK_BYTES → i + n ≤ STACK_BYTES → k < i → is_marked (marks_from m i n) k ≡ is_marked m k
 marked_before zero i k m count le lt = refl
 marked_before (suc n) i k m count le lt = marked_before n (suc i) k (mark m i) (length-mark m i ∙ count) (omega (arith, le)) (omega (arith, lt)) ∙ mark_other m i k (λ e. omega (arith, e, lt))
 
-pub marked_behind : (n i k : ℕ) (m : Marks) → length m.cells ≡ STACK_BYTES → i + n ≤ STACK_BYTES → i + n ≤ k → is_marked (marked m i n) k ≡ is_marked m k
+pub marked_behind : (n i k : ℕ) (m : Marks) → length m.cells ≡ STACK_BYTES → i + n ≤ STACK_BYTES → i + n ≤ k → is_marked (marks_from m i n) k ≡ is_marked m k
 marked_behind zero i k m count le lt = refl
 marked_behind (suc n) i k m count le lt = marked_behind n (suc i) k (mark m i) (length-mark m i ∙ count) (omega (arith, le)) (omega (arith, lt)) ∙ mark_other m i k (λ e. omega (arith, e, lt))
 
-pub marked_at : (n i k : ℕ) (m : Marks) → length m.cells ≡ STACK_BYTES → i + n ≤ STACK_BYTES → i ≤ k → k < i + n → is_marked (marked m i n) k ≡ true
+pub marked_at : (n i k : ℕ) (m : Marks) → length m.cells ≡ STACK_BYTES → i + n ≤ STACK_BYTES → i ≤ k → k < i + n → is_marked (marks_from m i n) k ≡ true
 marked_at zero i k m count le low high = absurd (omega (arith, low, high))
 marked_at (suc n) i k m count le low high = elim (cases_eq k i) [
   | inl same ↦
-      ap (is_marked (marked (mark m i) (suc i) n)) same
+      ap (is_marked (marks_from (mark m i) (suc i) n)) same
       ∙ marked_before n (suc i) i (mark m i) (length-mark m i ∙ count) (omega (arith, le)) (omega arith)
       ∙ mark_same m i count (omega (arith, le))
   | inr other ↦ marked_at n (suc i) k (mark m i) (length-mark m i ∙ count) (omega (arith, le)) (above i k low other) (omega (arith, high))

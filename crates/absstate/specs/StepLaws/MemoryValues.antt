@@ -3,7 +3,7 @@ use Rattle.std.proofs.Common.{◌≡◌, ℕ, zero, suc, ◌+◌, ◌*◌, ◌<�
 use Rattle.std.specs.Prelude.{is_some, int_le, slice_index_or, unsigned_abs, if◌then◌else◌}
 use Rattle.std.specs.Option.{ok_or, option_map}
 use Rattle.std.proofs.lemmas.Int.{ints}
-use Rattle.semantics.specs.Fallible.{◌>>=◌, check}
+use Rattle.fallible.specs.Fallible.{◌>>=◌, check}
 use Rattle.semantics.specs.Access.{is_within, index_within, part, cells_number, number_in, stack_first, headroom_first}
 use Rattle.semantics.specs.Access as access
 use Rattle.semantics.specs.AccessLaws.{index_short}

@@ -1,4 +1,4 @@
--- Interface. Behind an accepted step, a loose step leads from each strict member to a member of the state of each
+-- Interface. After an accepted step, a loose step leads from each strict member to a member of the state of each
 -- branch that can be taken.
 use Rattle.std.proofs.Common.{◌≡◌, ℕ, ℤ, pos, ◌≤ℤ◌, List, Option, Some, None, Result, Ok, refl, sym, ap, ◌∙◌, subst, arith, inl, inr}
 use Rattle.std.specs.Prelude.{◌⊎◌, ◌+◌}
@@ -15,7 +15,7 @@ use Rattle.semantics.specs.Calls.{signature_of}
 use Rattle.semantics.specs.Machine.{Memory, State, Environment}
 use Rattle.semantics.specs.Effects as effects
 use Rattle.semantics.specs.Slots.{fetch}
-use Rattle.semantics.specs.Runs.{Goes, IsPossible, answered, plan_answer, with_window, with_destination, planned, applied, step, write_register}
+use Rattle.semantics.specs.Runs.{Goes, IsPossible, state_after_answer, plan_answer, with_window, with_destination, state_with_plan, step_by_effect, step, write_register}
 use Rattle.semantics.specs.declared.helper.Helper.TheVariants as helper
 use Rattle.semantics.specs.Flow.{flow_of, branch_slot}
 use Rattle.semantics.specs.Flow as flow
@@ -125,7 +125,7 @@ module _ {D : Type 0} (ops : Operations D) (Member : D → ℕ → Type 0) (soun
       itself : (t : State) → step w code s ≡ Goes t → t.slot ≡ n → t.memory.length ≡ s.memory.length → IsMemberAt Member Strict places b t → Opens Member w code s n b
       itself t goes slot_is size now = opens_to t t goes (loosens_itself Member sound.words places b t now) slot_is size places now
 
-      effect_opens : (e : Effect) → IsEffectOf ops Member sound Strict places a s i (next.On b) e → step w code s ≡ applied w code s i (Ok e) → Opens Member w code s n b
+      effect_opens : (e : Effect) → IsEffectOf ops Member sound Strict places a s i (next.On b) e → step w code s ≡ step_by_effect w code s i (Ok e) → Opens Member w code s n b
       effect_opens (effect.Write r v) is goes = write_opens r v is.0 is.1 is.2 is.3 goes
       effect_opens (effect.Store at z k) is goes =
           let bytes = little_bytes (byte_count z) k in
@@ -134,12 +134,12 @@ module _ {D : Type 0} (ops : Operations D) (Member : D → ℕ → Type 0) (soun
           (member_stored Member Strict places a s member (byte_count z) is.0 at bytes (s.slot + slots_of i) is.2 (length-little_bytes (byte_count z) k) (little_bytes_fit (byte_count z) k)))
       effect_opens (effect.Ask q out) is goes =
           let answer = w.answer q.helper q.number q.address in
-          itself (answered s (s.slot + slots_of i) out answer) goes (straight_slot n is.past leads) (size_answered s.memory out answer.1) (asked_member ops Member sound w code Strict places a s member i real b q out is)
+          itself (state_after_answer s (s.slot + slots_of i) out answer) goes (straight_slot n is.past leads) (size_answered s.memory out answer.1) (asked_member ops Member sound w code Strict places a s member i real b q out is)
       effect_opens (effect.SetWindow window) is goes =
-          itself (planned s (s.slot + slots_of i) (plan_answer window) (with_window s.plan window)) goes (straight_slot n is.1 leads) refl
+          itself (state_with_plan s (s.slot + slots_of i) (plan_answer window) (with_window s.plan window)) goes (straight_slot n is.1 leads) refl
           (planned_member ops Member sound Strict places a s member i b helper.Window (plan_answer window) (with_window s.plan window) is.0 (small_answer window) refl)
       effect_opens (effect.SetDestination destination) is goes =
-          itself (planned s (s.slot + slots_of i) (plan_answer destination) (with_destination s.plan destination)) goes (straight_slot n is.1 leads) refl
+          itself (state_with_plan s (s.slot + slots_of i) (plan_answer destination) (with_destination s.plan destination)) goes (straight_slot n is.1 leads) refl
           (planned_member ops Member sound Strict places a s member i b helper.Destination (plan_answer destination) (with_destination s.plan destination) is.0 (small_answer destination) refl)
       effect_opens (effect.Jump offset) is goes =
           itself (record s { slot = n }) (goes ∙ jump_goes w code s i offset NotTaken n is.1 leads) refl refl
@@ -168,7 +168,7 @@ module _ {D : Type 0} (ops : Operations D) (Member : D → ℕ → Type 0) (soun
               not_stuck = ap (effects.effect w.context s.memory s.registers) (sym f.jump) ∙ effect_is;
               operand_is = f.operand_is;
               is_open = f.holds_of branch b behind le extra;
-              goes = ap (λ (j : Insn). applied w code s j (Ok (effect_of_branch f.offset branch))) (sym f.jump) ∙ branch_goes w code s i f.offset branch n (ap flow_of f.jump) leads;
+              goes = ap (λ (j : Insn). step_by_effect w code s j (Ok (effect_of_branch f.offset branch))) (sym f.jump) ∙ branch_goes w code s i f.offset branch n (ap flow_of f.jump) leads;
             },
           );
           loosened = opened.state;

@@ -23,9 +23,9 @@ use Rattle.insn.specs.declared.instruction.Insn.{Insn}
 use Rattle.insn.specs.declared.instruction.Insn.TheVariants as insn
 use Rattle.semantics.specs.Calls.{helper_of, signature_of}
 use Rattle.semantics.specs.Effects.{writable, moved_place}
-use Rattle.semantics.specs.Fallible.{◌>>=◌}
+use Rattle.fallible.specs.Fallible.{◌>>=◌}
 use Rattle.semantics.specs.Loading.{field_at}
-use Rattle.semantics.specs.LooseRuns.{data_bound, exchanged}
+use Rattle.semantics.specs.LooseRuns.{data_bound, converse}
 use Rattle.semantics.specs.NumberLaws.{imm_below}
 use Rattle.semantics.specs.declared.helper.Helper.{Helper}
 use Rattle.semantics.specs.declared.loading.ContextField.{ContextField}
@@ -112,7 +112,7 @@ module _ {D : Type 0} (ops : Operations D) (Member : D → ℕ → Type 0) (soun
   abbrev stack_at : ℤ → AbstractValue D
   stack_at k = known.Stack k
 
-  held_plain : (v : AbstractValue D) → Plain v → IfOk (abstract.held v) Plain
+  held_plain : (v : AbstractValue D) → Plain v → IfOk (abstract.content_of v) Plain
   held_plain known.Nothing h = tt
   held_plain (known.Scalar n) h = h
   held_plain known.Ctx h = h
@@ -145,14 +145,14 @@ module _ {D : Type 0} (ops : Operations D) (Member : D → ℕ → Type 0) (soun
     with_plain : (r : Reg) (v : AbstractValue D) → Plain v → ArePlain (with_value a r v).registers
     with_plain r v h = plain_set a.registers plain (number_of r) v h
 
-    read_plain : (r : Reg) → IfOk (abstract.read a r) Plain
+    read_plain : (r : Reg) → IfOk (abstract.register_value a r) Plain
     read_plain r = held_plain (abstract_at a.registers r) (plain (number_of r))
 
     operand_plain : (w : Width) (o : Operand) → IfOk (abstract.operand_abstract ops w a o) Plain
     operand_plain w (operand.Reg r) = read_plain r
     operand_plain w (operand.Imm n) = λ h. h
 
-    written_stays : (dst : Reg) (r : Result (AbstractValue D) Reason) → IfOk r Plain → IfOk (abstract.written a dst r) Stays
+    written_stays : (dst : Reg) (r : Result (AbstractValue D) Reason) → IfOk r Plain → IfOk (abstract.register_write a dst r) Stays
     written_stays dst r h = every Stays (writable dst) _ (λ u. with_each Plain Stays r _ h (λ v is. on_stays (with_value a dst v) (with_plain dst v is)))
 
     -- ---- arithmetic
@@ -162,7 +162,7 @@ module _ {D : Type 0} (ops : Operations D) (Member : D → ℕ → Type 0) (soun
     mapped_plain First k h (Some z) = h
     mapped_plain (Made id low high proved) k h (Some z) = h
 
-    moved_plain : (o : Option ℤ) → IfOk (abstract.moved stack_at o) Plain
+    moved_plain : (o : Option ℤ) → IfOk (abstract.pointer_to stack_at o) Plain
     moved_plain None = tt
     moved_plain (Some k) = λ h. h
 
@@ -182,9 +182,9 @@ module _ {D : Type 0} (ops : Operations D) (Member : D → ℕ → Type 0) (soun
 
     alu_stays : (w : Width) (o : AluOp) (dst : Reg) (second : Operand) → OperandFits second → (IsRegisterSum (insn.Alu w o dst second) → ⊥) → IfOk (abstract.alu_step ops a w o dst second) Stays
     alu_stays w o dst (operand.Imm n) fit bar =
-        with_each Plain Stays (abstract.read a dst) _ (read_plain dst) (λ x h. written_stays dst (abstract.alu_result ops a o w x (known.Scalar (ops.exact (imm_word w n)))) (imm_plain w o (imm_word w n) (imm_below w n fit) x h))
+        with_each Plain Stays (abstract.register_value a dst) _ (read_plain dst) (λ x h. written_stays dst (abstract.alu_result ops a o w x (known.Scalar (ops.exact (imm_word w n)))) (imm_plain w o (imm_word w n) (imm_below w n fit) x h))
     alu_stays w o dst (operand.Reg r) fit bar =
-        every Stays (abstract.read a dst) _ (λ x. every Stays (abstract.read a r) _ (λ y. written_stays dst (abstract.alu_result ops a o w x y) (other_plain w o (not_sum w o bar) x y))) where
+        every Stays (abstract.register_value a dst) _ (λ x. every Stays (abstract.register_value a r) _ (λ y. written_stays dst (abstract.alu_result ops a o w x y) (other_plain w o (not_sum w o bar) x y))) where
           not_sum : (w : Width) (o : AluOp) → (IsRegisterSum (insn.Alu w o dst (operand.Reg r)) → ⊥) → IsSumOf w o → ⊥
           not_sum W64 op.Add bar h = bar tt
           not_sum W64 op.Sub bar h = bar tt
@@ -212,7 +212,7 @@ module _ {D : Type 0} (ops : Operations D) (Member : D → ℕ → Type 0) (soun
         cond_both (number_of dst == number_of src) a (with_value (with_value a dst (known.Scalar left.0)) src (known.Scalar left.1)) (λ b. ArePlain b.registers) (λ e. plain)
         (λ e. plain_set (with_value a dst (known.Scalar left.0)).registers (with_plain dst (known.Scalar left.0) (λ h. h)) (number_of src) (known.Scalar left.1) (λ h. h))
 
-    refined_plain : (dst : Reg) (o : Operand) (r : Option (D × D)) → PlainBranch (abstract.refined a dst o r)
+    refined_plain : (dst : Reg) (o : Operand) (r : Option (D × D)) → PlainBranch (abstract.state_with_operands a dst o r)
     refined_plain dst o None b e = absurd cc
     refined_plain dst o (Some left) b e = subst (λ (x : AbsState D). ArePlain x.registers) (some_is (abstract.with_operands a dst o left) b e) (kept_plain dst o left)
 
@@ -228,17 +228,17 @@ module _ {D : Type 0} (ops : Operations D) (Member : D → ℕ → Type 0) (soun
     places_stay w c (known.Scalar x) y p q = tt
     places_stay W64 c (known.Data First k) known.End p q = at_first (abstract.order_implies c (data_bound c k))
     places_stay W64 c (known.Data (Made id low high proved) k) known.End p q = absurd (p tt)
-    places_stay W64 c known.End (known.Data First k) p q = at_first (abstract.order_implies c (data_bound (exchanged c) k))
+    places_stay W64 c known.End (known.Data First k) p q = at_first (abstract.order_implies c (data_bound (converse c) k))
     places_stay W64 c known.End (known.Data (Made id low high proved) k) p q = absurd (q tt)
     places_stay w c x y p q = tt
 
     fork_plain : (w : Width) (c : Condition) (dst : Reg) (o : Operand) (x y : AbstractValue D) → Plain x → Plain y → IfOk (abstract.fork ops a w c dst o x y) Stays
     fork_plain w c dst o (known.Scalar x) (known.Scalar y) p q =
-        fork_stays (abstract.passed ops a (Fails c) w dst o x y) (abstract.passed ops a (Holds c) w dst o x y) (refined_plain dst o (ops.refine (Fails c) w x y)) (refined_plain dst o (ops.refine (Holds c) w x y))
+        fork_stays (abstract.state_past_test ops a (Fails c) w dst o x y) (abstract.state_past_test ops a (Holds c) w dst o x y) (refined_plain dst o (ops.refine (Fails c) w x y)) (refined_plain dst o (ops.refine (Holds c) w x y))
     fork_plain w c dst o x y p q = places_stay w c x y p q
 
     branch_stays : (w : Width) (c : Condition) (dst : Reg) (o : Operand) → IfOk (abstract.branch_step ops a w c dst o) Stays
-    branch_stays w c dst o = with_each Plain Stays (abstract.read a dst) _ (read_plain dst) (λ x p. with_each Plain Stays (abstract.operand_abstract ops w a o) _ (operand_plain w o) (λ y q. fork_plain w c dst o x y p q))
+    branch_stays w c dst o = with_each Plain Stays (abstract.register_value a dst) _ (read_plain dst) (λ x p. with_each Plain Stays (abstract.operand_abstract ops w a o) _ (operand_plain w o) (λ y q. fork_plain w c dst o x y p q))
 
     -- ---- memory
 
@@ -263,7 +263,7 @@ module _ {D : Type 0} (ops : Operations D) (Member : D → ℕ → Type 0) (soun
     load_plain known.End d z = number_plain known.End d (byte_count z) (abstract.number_of_size ops z)
 
     loaded_stays : (loaded : AbstractValue D → Result (AbstractValue D) Reason) (dst base : Reg) → ((x : AbstractValue D) → IfOk (loaded x) Plain) → IfOk (abstract.loaded_step a loaded dst base) Stays
-    loaded_stays loaded dst base h = every Stays (abstract.read a base) _ (λ x. written_stays dst (loaded x) (h x))
+    loaded_stays loaded dst base h = every Stays (abstract.register_value a base) _ (λ x. written_stays dst (loaded x) (h x))
 
     region_plain : (n : ℕ) (r : Region) → ArePlain (abstract.with_region a n r).registers
     region_plain n (regions.InStack i) = plain
@@ -271,7 +271,7 @@ module _ {D : Type 0} (ops : Operations D) (Member : D → ℕ → Type 0) (soun
 
     store_stays : (z : Size) (base : Reg) (o : Operand) (d : ℤ) → IfOk (abstract.store_step ops a z base o d) Stays
     store_stays z base o d =
-        every Stays (abstract.read a base) _ (λ to. every Stays (abstract.operand_abstract ops W64 a o) _ (λ v. every Stays (abstract.pointer to) _ (λ u. every Stays (abstract.storable v) _
+        every Stays (abstract.register_value a base) _ (λ to. every Stays (abstract.operand_abstract ops W64 a o) _ (λ v. every Stays (abstract.pointer to) _ (λ u. every Stays (abstract.storable v) _
         (λ t. every Stays (abstract.located a to d (byte_count z)) _ (λ r. on_stays (abstract.with_region a (byte_count z) r) (region_plain (byte_count z) r))))))
 
     -- ---- calls
@@ -290,7 +290,7 @@ module _ {D : Type 0} (ops : Operations D) (Member : D → ℕ → Type 0) (soun
     out_plain x (Some i) = answer_plain x
 
     helper_stays : (h : Helper) → IfOk (abstract.helper_step ops a h) Stays
-    helper_stays h = every Stays (abstract.out_of a (signature_of h).arguments) _ (λ out. on_stays (abstract.answered ops a h out) (out_plain (ops.range 0 (signature_of h).greatest) out))
+    helper_stays h = every Stays (abstract.out_of a (signature_of h).arguments) _ (λ out. on_stays (abstract.state_after_call ops a h out) (out_plain (ops.range 0 (signature_of h).greatest) out))
 
     exits_stay : (v : AbstractValue D) → IfOk (abstract.exit_with v) Stays
     exits_stay (known.Scalar n) = exit_stays
@@ -312,7 +312,7 @@ module _ {D : Type 0} (ops : Operations D) (Member : D → ℕ → Type 0) (soun
     stays (insn.Store z base o d) fit bar = store_stays z base o d
     stays (insn.LoadImm dst n) fit bar = written_stays dst (Ok (known.Scalar (ops.exact n))) (λ h. h)
     stays (insn.Call n) fit bar = every Stays (ok_or (helper_of n) UnknownHelper) _ (λ h. helper_stays h)
-    stays insn.Exit fit bar = every Stays (abstract.read a reg.R0) _ exits_stay
+    stays insn.Exit fit bar = every Stays (abstract.register_value a reg.R0) _ exits_stay
 
     accepted : (r : Result (Next D) Reason) (answer : Next D) → IfOk r Stays → r ≡ Ok answer → Stays answer
     accepted (Ok x) answer h e = subst Stays (let is : x ≡ answer = cc in is) h

@@ -13,7 +13,7 @@ use Rattle.insn.specs.declared.register.Reg.TheVariants as reg
 use Rattle.insn.specs.declared.size.Size.{Size}
 use Rattle.insn.specs.declared.size.Size.TheVariants as size
 use Rattle.insn.specs.declared.instruction.Insn.{Insn}
-use Rattle.semantics.specs.Fallible.{◌>>=◌}
+use Rattle.fallible.specs.Fallible.{◌>>=◌}
 use Rattle.semantics.specs.Access.{index_within, stack_first, location}
 use Rattle.semantics.specs.AccessLaws.{index_short}
 use Rattle.semantics.specs.Calls.{argument_at, context_value, number_value, stack_value, record_at, no_inputs}
@@ -127,7 +127,7 @@ module _ {D : Type 0} (ops : Operations D) (Member : D → ℕ → Type 0) (soun
 
   context_agrees_at : (r : Reg) → Agree claimed (λ (u v : Unit {0}). Unit {0}) (abstract.context_argument a r) (effects.context_argument s.registers r)
   context_agrees_at r =
-      and_then claimed (IsHeld Member places s.memory.length) (λ (u v : Unit {0}). Unit {0}) (abstract.read a r) (effects.read s.registers r) _ _ (read_agrees ops Member sound claimed mode places claims.registers a s member r)
+      and_then claimed (IsHeld Member places s.memory.length) (λ (u v : Unit {0}). Unit {0}) (abstract.register_value a r) (effects.register_value s.registers r) _ _ (read_agrees ops Member sound claimed mode places claims.registers a s member r)
       (λ x u p q held. subst (λ (v : Value). Agree claimed (λ (u v : Unit {0}). Unit {0}) (abstract.context_value r x) (context_value r v)) (sym held.2) (contexts r x held.0 held.1)) where
         contexts : (r : Reg) (x : AbstractValue D) (m : ℕ) → IsNumberOf Member places s.memory.length x m → Agree claimed (λ (u v : Unit {0}). Unit {0}) (abstract.context_value r x) (context_value r (value_of places x m))
         contexts r known.Ctx m h = tt
@@ -139,7 +139,7 @@ module _ {D : Type 0} (ops : Operations D) (Member : D → ℕ → Type 0) (soun
 
   number_agrees_at : (r : Reg) → Agree claimed IsWord (abstract.number_argument a r) (effects.number_argument s.registers r)
   number_agrees_at r =
-      and_then claimed (IsHeld Member places s.memory.length) IsWord (abstract.read a r) (effects.read s.registers r) _ _ (read_agrees ops Member sound claimed mode places claims.registers a s member r)
+      and_then claimed (IsHeld Member places s.memory.length) IsWord (abstract.register_value a r) (effects.register_value s.registers r) _ _ (read_agrees ops Member sound claimed mode places claims.registers a s member r)
       (λ x u p q held. subst (λ (v : Value). Agree claimed IsWord (abstract.number_value r x) (number_value r v)) (sym held.2) (numbers r x held.0 held.1)) where
         numbers : (r : Reg) (x : AbstractValue D) (m : ℕ) → IsNumberOf Member places s.memory.length x m → Agree claimed IsWord (abstract.number_value r x) (number_value r (value_of places x m))
         numbers r (known.Scalar n) m h = sound.words n m h
@@ -155,7 +155,7 @@ module _ {D : Type 0} (ops : Operations D) (Member : D → ℕ → Type 0) (soun
 
   stack_agrees_at : (r : Reg) → Agree claimed IsSameIndex (abstract.stack_argument a r) (effects.stack_argument s.registers r)
   stack_agrees_at r =
-      and_then claimed (IsHeld Member places s.memory.length) IsSameIndex (abstract.read a r) (effects.read s.registers r) _ _ (read_agrees ops Member sound claimed mode places claims.registers a s member r)
+      and_then claimed (IsHeld Member places s.memory.length) IsSameIndex (abstract.register_value a r) (effects.register_value s.registers r) _ _ (read_agrees ops Member sound claimed mode places claims.registers a s member r)
       (λ x u p q held. subst (λ (v : Value). Agree claimed IsSameIndex (abstract.stack_value r x) (stack_value r v)) (sym held.2) (indices r x held.0 held.1)) where
         indices : (r : Reg) (x : AbstractValue D) (m : ℕ) → IsNumberOf Member places s.memory.length x m → Agree claimed IsSameIndex (abstract.stack_value r x) (stack_value r (value_of places x m))
         indices r (known.Stack k) m h = found_index r (index_within (k +ℤ pos 0) 8 stack_first stack_first (pos 0)) (λ n e. index_short (k +ℤ pos 0) 8 n e)

@@ -20,7 +20,7 @@ use Rattle.insn.specs.declared.operator.AluOp.TheVariants.{Add, Sub}
 use Rattle.insn.specs.declared.instruction.Operand.TheVariants as operand
 use Rattle.insn.specs.declared.instruction.Insn.{Insn}
 use Rattle.insn.specs.declared.instruction.Insn.TheVariants as insn
-use Rattle.semantics.specs.Fallible.{◌>>=◌}
+use Rattle.fallible.specs.Fallible.{◌>>=◌}
 use Rattle.semantics.specs.KeptLaws.{in_eleven}
 use Rattle.semantics.specs.Machine.{Context, IsContext, State}
 use Rattle.semantics.specs.Effects as effects
@@ -95,10 +95,10 @@ moves_off Sub W64 k = (strays_off k (is_near k) refl).1
 moves_off op w k = refl
 
 data_strays : (op : AluOp) (w : Width) (k : ℤ) → effects.alu_result op w (value.Data k) (value.Scalar (stray_if (is_near k))) ≡ Err PointerArithmetic
-data_strays op w k = ap (effects.moved value.Data) (moves_off op w k)
+data_strays op w k = ap (effects.pointer_to value.Data) (moves_off op w k)
 
 stack_strays : (op : AluOp) (w : Width) (k : ℤ) → effects.alu_result op w (value.Stack k) (value.Scalar (stray_if (is_near k))) ≡ Err PointerArithmetic
-stack_strays op w k = ap (effects.moved value.Stack) (moves_off op w k)
+stack_strays op w k = ap (effects.pointer_to value.Stack) (moves_off op w k)
 
 refused : {A B : Type 0} (claimed : Reason → Type 0) (F : A → B → Type 0) (x : Result A Reason) (y : Result B Reason) (e : Reason) → Agree claimed F x y → x ≡ Err e → claimed e → y ≡ Err e
 refused claimed F (Ok a) y e agree is c = absurd cc
@@ -172,7 +172,7 @@ module _ {D : Type 0} (ops : Operations D) (Member : D → ℕ → Type 0) (soun
         imm_first k u is none =
             let stays : moved_place op w k n ≡ None = none_mapped (moved_place op w k n) First (sym (exact_sum a First op w k n fits) ∙ none) in
             let place : (pos 0 +ℤ k) ≡ k = omega (arith, ints) in
-            ap (λ (v : Value). effects.alu_result op w v (value.Scalar n)) is ∙ ap (effects.moved value.Data) (ap (λ (z : ℤ). moved_place op w z n) place ∙ stays)
+            ap (λ (v : Value). effects.alu_result op w v (value.Scalar n)) is ∙ ap (effects.pointer_to value.Data) (ap (λ (z : ℤ). moved_place op w z n) place ∙ stays)
 
         imm_stack : (k : ℤ) (u : Value) → abstract.single_of ops (ops.exact n) ≡ None → effects.alu_result op w u (value.Scalar n) ≡ Err PointerArithmetic
         imm_stack k u none = let bad : Some n ≡ None = sym (exact_single n fits) ∙ none in absurd cc
@@ -199,21 +199,21 @@ module _ {D : Type 0} (ops : Operations D) (Member : D → ℕ → Type 0) (soun
         sum = insn.Alu w op dst (operand.Reg r)
 
         -- the step, where both registers are known
-        step_at : (x y : AbstractValue D) → abstract_at a.registers dst ≡ x → abstract_at a.registers r ≡ y → abstract.held x ≡ Ok x → abstract.held y ≡ Ok y → abstract.step ops a sum ≡ abstract.written a dst (abstract.alu_result ops a op w x y)
+        step_at : (x y : AbstractValue D) → abstract_at a.registers dst ≡ x → abstract_at a.registers r ≡ y → abstract.content_of x ≡ Ok x → abstract.content_of y ≡ Ok y → abstract.step ops a sum ≡ abstract.register_write a dst (abstract.alu_result ops a op w x y)
         unfolding sum
         step_at x y p q e f =
-            (λ i. abstract.held (p i) >>= λ x'. abstract.held (q i) >>= λ y'. abstract.written a dst (abstract.alu_result ops a op w x' y'))
-            ∙ (λ i. e i >>= λ x'. f i >>= λ y'. abstract.written a dst (abstract.alu_result ops a op w x' y'))
+            (λ i. abstract.content_of (p i) >>= λ x'. abstract.content_of (q i) >>= λ y'. abstract.register_write a dst (abstract.alu_result ops a op w x' y'))
+            ∙ (λ i. e i >>= λ x'. f i >>= λ y'. abstract.register_write a dst (abstract.alu_result ops a op w x' y'))
 
-        effect_at : (t : State) (u v : Value) → effects.value_at t.registers dst ≡ u → effects.value_at t.registers r ≡ v → effects.held u ≡ Ok u → effects.held v ≡ Ok v → (c : Context) → effects.effect c t.memory t.registers sum ≡ effects.written dst (effects.alu_result op w u v)
+        effect_at : (t : State) (u v : Value) → effects.value_at t.registers dst ≡ u → effects.value_at t.registers r ≡ v → effects.content_of u ≡ Ok u → effects.content_of v ≡ Ok v → (c : Context) → effects.effect c t.memory t.registers sum ≡ effects.register_write dst (effects.alu_result op w u v)
         unfolding sum
         effect_at t u v p q e f c =
-            (λ i. effects.held (p i) >>= λ u'. effects.held (q i) >>= λ v'. effects.written dst (effects.alu_result op w u' v'))
-            ∙ (λ i. e i >>= λ u'. f i >>= λ v'. effects.written dst (effects.alu_result op w u' v'))
+            (λ i. effects.content_of (p i) >>= λ u'. effects.content_of (q i) >>= λ v'. effects.register_write dst (effects.alu_result op w u' v'))
+            ∙ (λ i. e i >>= λ u'. f i >>= λ v'. effects.register_write dst (effects.alu_result op w u' v'))
 
         -- the number of the second register is replaced by one that leads out of range
         stuck_off : (x : AbstractValue D) (y : D) (u : Value) (n : ℕ) → abstract_at a.registers dst ≡ x → abstract_at a.registers r ≡ known.Scalar y → (x ≡ known.Scalar y → ⊥) → effects.value_at s.registers dst ≡ u → n < 2 ^ 64
-            → abstract.held x ≡ Ok x → effects.held u ≡ Ok u → abstract.alu_result ops a op w x (known.Scalar y) ≡ Err PointerArithmetic → effects.alu_result op w u (value.Scalar n) ≡ Err PointerArithmetic → abstract.step ops a sum ≡ Err reason → IsStuckFrom s sum reason
+            → abstract.content_of x ≡ Ok x → effects.content_of u ≡ Ok u → abstract.alu_result ops a op w x (known.Scalar y) ≡ Err PointerArithmetic → effects.alu_result op w u (value.Scalar n) ≡ Err PointerArithmetic → abstract.step ops a sum ≡ Err reason → IsStuckFrom s sum reason
         stuck_off x y u n p q other u_is fits held held_u none strays is =
             let apart : number_of dst ≡ number_of r → ⊥ = λ same. other (sym p ∙ ap (λ (k : ℕ). slice_index_or a.registers k known.Nothing) same ∙ q) in
             let number : IsHeld Member places s.memory.length (known.Scalar y) (effects.value_at s.registers r) = subst (λ (k : AbstractValue D). IsValue Member Strict places s.memory.length k (effects.value_at s.registers r)) q (member.registers r) in
@@ -222,11 +222,11 @@ module _ {D : Type 0} (ops : Operations D) (Member : D → ℕ → Type 0) (soun
             let dst_is : effects.value_at new.registers dst ≡ u = get_or-set_other s.registers (number_of r) (number_of dst) (value.Scalar n) value.Nothing apart ∙ u_is in
             let r_is : effects.value_at new.registers r ≡ value.Scalar n = get_or-set_at s.registers (number_of r) (number_of r) (value.Scalar n) value.Nothing refl (omega (arith, in_eleven r, member.tagged.count)) in
             let abstract_is : ◌≡◌ {A = Result (Next D) Reason} (writable dst >>= λ t. Err PointerArithmetic) (Err reason) =
-            sym (step_at x (known.Scalar y) p q held refl ∙ ap (abstract.written a dst) none) ∙ is in
+            sym (step_at x (known.Scalar y) p q held refl ∙ ap (abstract.register_write a dst) none) ∙ is in
             record {
               state = new;
               loosens = opened.loosens;
-              stuck = λ c real. effect_at new u (value.Scalar n) dst_is r_is held_u refl c ∙ ap (effects.written dst) strays ∙ refused_alike (writable dst) reason abstract_is;
+              stuck = λ c real. effect_at new u (value.Scalar n) dst_is r_is held_u refl c ∙ ap (effects.register_write dst) strays ∙ refused_alike (writable dst) reason abstract_is;
             }
 
         -- no sum, or one that is accepted
@@ -245,7 +245,7 @@ module _ {D : Type 0} (ops : Operations D) (Member : D → ℕ → Type 0) (soun
         stack_stuck : (k : ℤ) (y : D) (o : Option ℕ) → abstract.single_of ops y ≡ o → abstract_at a.registers dst ≡ known.Stack k → abstract_at a.registers r ≡ known.Scalar y → Fits sum → abstract.step ops a sum ≡ Err reason → IsStuckFrom s sum reason
         stack_stuck k y None e p q fit is =
             let held : IsHeld Member places s.memory.length (known.Stack k) (effects.value_at s.registers dst) = subst (λ (x : AbstractValue D). IsValue Member Strict places s.memory.length x (effects.value_at s.registers dst)) p (member.registers dst) in
-            stuck_off (known.Stack k) y (value.Stack k) (stray_if (is_near k)) p q (λ f. absurd cc) held.2 (stray_fits (is_near k)) refl refl (ap (λ (o : Option ℕ). abstract.moved known.Stack (abstract.moved_by op w k o)) e) (stack_strays op w k) is
+            stuck_off (known.Stack k) y (value.Stack k) (stray_if (is_near k)) p q (λ f. absurd cc) held.2 (stray_fits (is_near k)) refl refl (ap (λ (o : Option ℕ). abstract.pointer_to known.Stack (abstract.moved_by op w k o)) e) (stack_strays op w k) is
         stack_stuck k y (Some n) e p q fit is = no_stray (known.Stack k) (known.Scalar y) p q fit (λ u v none. absurd (let bad : Some n ≡ None = sym e ∙ none in cc)) is
 
         sum_stuck : (x y : AbstractValue D) → abstract_at a.registers dst ≡ x → abstract_at a.registers r ≡ y → Fits sum → abstract.step ops a sum ≡ Err reason → IsStuckFrom s sum reason

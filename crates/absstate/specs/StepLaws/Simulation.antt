@@ -19,7 +19,7 @@ use Rattle.insn.specs.declared.instruction.Operand.{Operand}
 use Rattle.insn.specs.declared.instruction.Operand.TheVariants as operand
 use Rattle.insn.specs.declared.instruction.Insn.{Insn}
 use Rattle.insn.specs.declared.instruction.Insn.TheVariants as insn
-use Rattle.semantics.specs.Fallible.{◌>>=◌}
+use Rattle.fallible.specs.Fallible.{◌>>=◌}
 use Rattle.semantics.specs.Access.{location}
 use Rattle.semantics.specs.Calls.{helper_of, helper_number, signature_of, question}
 use Rattle.semantics.specs.Machine.{AddressRecord, AreBytes, Context, IsContext, State}
@@ -32,7 +32,7 @@ use Rattle.semantics.specs.Loading as loading
 use Rattle.semantics.specs.Effects.{value_at, writable}
 use Rattle.semantics.specs.Runs.{IsLawful}
 use Rattle.semantics.specs.Flow.{Straight, Jumps, flow_of}
-use Rattle.semantics.specs.LooseRuns.{Bound, AtMost, Below, HoldsOf, data_bound, exchanged, bound_of}
+use Rattle.semantics.specs.LooseRuns.{Bound, AtMost, Below, HoldsOf, data_bound, converse, bound_of}
 use Rattle.semantics.specs.declared.reason.Reason.{Reason}
 use Rattle.semantics.specs.declared.reason.Reason.TheVariants.{DatagramBounds, PointerArithmetic, UnknownHelper}
 use Rattle.semantics.specs.declared.value.Value.{Value}
@@ -57,7 +57,7 @@ use Rattle.absstate.specs.declared.memory.Region.{Region}
 use Rattle.absstate.specs.declared.abstract_step.Next.{Next}
 use Rattle.absstate.specs.declared.abstract_step.Next.TheVariants as next
 use Rattle.absstate.specs.StepLaws.Agreement.{Agree, and_then, same_test}
-use Rattle.absstate.specs.StepLaws.Bounds.{Implies, IsLeast, IsNearBound, near_bound, shifted, data_shifts, branch_if, first_agree, second_agree}
+use Rattle.absstate.specs.StepLaws.Bounds.{Implies, IsLeast, IsNearBound, near_bound, bound_on_places, data_shifts, branch_if, first_agree, second_agree}
 use Rattle.absstate.specs.StepLaws.MemoryValues.{IsRegionOf}
 use Rattle.absstate.specs.StepLaws.Anchors.{IsMade, reach_at, reach_of, reach_positive, reach_at_most}
 use Rattle.absstate.specs.StepLaws.Arithmetic.{IsHeldAnew, held_is, held_known, ok_is, read_agrees, operand_agrees, StraysBy, result_held, unary_held, AreClaims}
@@ -75,7 +75,7 @@ module _ {D : Type 0} (ops : Operations D) (Member : D → ℕ → Type 0) (soun
   -- a question to lawful helpers: the answer lies within its bound, and the record that is written has eight bytes
   pub record IsAsked (a : AbsState D) (i : Insn) (b : AbsState D) (q : Question) (out : Option ℕ) : Type 0 where
     pub asked : Helper
-    pub behind : b ≡ abstract.answered ops a asked out
+    pub behind : b ≡ abstract.state_after_call ops a asked out
     pub past : GoesPast i
     pub room : IfSome out (λ j. j + 8 ≤ 512)
     pub lawful : (answer : ℕ → ℕ → AddressRecord → ℕ × AddressRecord) → IsLawful answer → ((answer q.helper q.number q.address).0 ≤ (signature_of asked).greatest) × IfSome out (λ j. AreBytes 8 (answer q.helper q.number q.address).1)
@@ -91,8 +91,8 @@ module _ {D : Type 0} (ops : Operations D) (Member : D → ℕ → Type 0) (soun
   IsEffectOf mode places a s i (next.On b) (effect.Write r v) = (known : AbstractValue D) × (b ≡ with_value a r known) × IsResultAnew places s.memory.length a known v × GoesPast i
   IsEffectOf mode places a s i (next.On b) (effect.Store at z n) = (r : Region) × (b ≡ abstract.with_region a (byte_count z) r) × IsRegionOf (byte_count z) r at × GoesPast i
   IsEffectOf mode places a s i (next.On b) (effect.Ask q out) = IsAsked a i b q out
-  IsEffectOf mode places a s i (next.On b) (effect.SetWindow window) = (b ≡ abstract.answered ops a helper.Window None) × GoesPast i
-  IsEffectOf mode places a s i (next.On b) (effect.SetDestination destination) = (b ≡ abstract.answered ops a helper.Destination None) × GoesPast i
+  IsEffectOf mode places a s i (next.On b) (effect.SetWindow window) = (b ≡ abstract.state_after_call ops a helper.Window None) × GoesPast i
+  IsEffectOf mode places a s i (next.On b) (effect.SetDestination destination) = (b ≡ abstract.state_after_call ops a helper.Destination None) × GoesPast i
   IsEffectOf mode places a s i (next.On b) (effect.Jump offset) = (b ≡ a) × (flow_of i ≡ Jumps offset)
   IsEffectOf mode places a s i (next.On b) effect.Pass = ⊥
   IsEffectOf mode places a s i (next.On b) (effect.Exit verdict) = ⊥
@@ -111,12 +111,12 @@ module _ {D : Type 0} (ops : Operations D) (Member : D → ℕ → Type 0) (soun
     abbrev Claims : Insn → Type 0
     Claims i = AreClaims ops Member sound claimed mode a s i
 
-    strays_if : (w : Width) (op : AluOp) (o : Operand) (dst : Reg) → OperandFits o → Claims (insn.Alu w op dst o) → (x y : AbstractValue D) (u v : Value) → abstract.read a dst ≡ Ok x → abstract.operand_abstract ops w a o ≡ Ok y
-        → effects.read s.registers dst ≡ Ok u → effects.operand_value w s.registers o ≡ Ok v → claimed PointerArithmetic → StraysBy ops Member sound a op w x y u v
+    strays_if : (w : Width) (op : AluOp) (o : Operand) (dst : Reg) → OperandFits o → Claims (insn.Alu w op dst o) → (x y : AbstractValue D) (u v : Value) → abstract.register_value a dst ≡ Ok x → abstract.operand_abstract ops w a o ≡ Ok y
+        → effects.register_value s.registers dst ≡ Ok u → effects.operand_value w s.registers o ≡ Ok v → claimed PointerArithmetic → StraysBy ops Member sound a op w x y u v
     strays_if w op o dst fit claims x y u v p p' q q' c = claims.arithmetic c x y u v p p' q q'
 
     -- a result is written
-    anew_written : (i : Insn) (dst : Reg) (r : Result (AbstractValue D) Reason) (r' : Result Value Reason) → GoesPast i → Agree claimed (IsResultAnew places s.memory.length a) r r' → Agree claimed (IsEffectOf mode places a s i) (abstract.written a dst r) (effects.written dst r')
+    anew_written : (i : Insn) (dst : Reg) (r : Result (AbstractValue D) Reason) (r' : Result Value Reason) → GoesPast i → Agree claimed (IsResultAnew places s.memory.length a) r r' → Agree claimed (IsEffectOf mode places a s i) (abstract.register_write a dst r) (effects.register_write dst r')
     anew_written i dst r r' past agree =
         same_test claimed (IsEffectOf mode places a s i) (writable dst) _ _
         (and_then claimed (IsResultAnew places s.memory.length a) (IsEffectOf mode places a s i) r r' _ _ agree (λ k v p q result. (k, refl, result, past)))
@@ -133,16 +133,16 @@ module _ {D : Type 0} (ops : Operations D) (Member : D → ℕ → Type 0) (soun
     held_anew (Err e) (Ok v) h = h
     held_anew (Err e) (Err f) h = h
 
-    result_written : (i : Insn) (dst : Reg) (r : Result (AbstractValue D) Reason) (r' : Result Value Reason) → GoesPast i → Agree claimed (IsResult Member places s.memory.length) r r' → Agree claimed (IsEffectOf mode places a s i) (abstract.written a dst r) (effects.written dst r')
+    result_written : (i : Insn) (dst : Reg) (r : Result (AbstractValue D) Reason) (r' : Result Value Reason) → GoesPast i → Agree claimed (IsResult Member places s.memory.length) r r' → Agree claimed (IsEffectOf mode places a s i) (abstract.register_write a dst r) (effects.register_write dst r')
     result_written i dst r r' past agree = anew_written i dst r r' past (anew r r' agree)
 
-    written_agrees : (i : Insn) (dst : Reg) (r : Result (AbstractValue D) Reason) (r' : Result Value Reason) → GoesPast i → Agree claimed (IsHeld Member places s.memory.length) r r' → Agree claimed (IsEffectOf mode places a s i) (abstract.written a dst r) (effects.written dst r')
+    written_agrees : (i : Insn) (dst : Reg) (r : Result (AbstractValue D) Reason) (r' : Result Value Reason) → GoesPast i → Agree claimed (IsHeld Member places s.memory.length) r r' → Agree claimed (IsEffectOf mode places a s i) (abstract.register_write a dst r) (effects.register_write dst r')
     written_agrees i dst r r' past agree = result_written i dst r r' past (held_results claimed Member places s.memory.length r r' agree)
 
     alu_agrees : (w : Width) (op : AluOp) (dst : Reg) (o : Operand) → OperandFits o → Claims (insn.Alu w op dst o)
         → Agree claimed (IsEffectOf mode places a s (insn.Alu w op dst o)) (abstract.alu_step ops a w op dst o) (effects.alu_effect s.registers w op dst o)
     alu_agrees w op dst o fit claims =
-        and_then claimed (IsHeld Member places s.memory.length) (IsEffectOf mode places a s (insn.Alu w op dst o)) (abstract.read a dst) (effects.read s.registers dst) _ _
+        and_then claimed (IsHeld Member places s.memory.length) (IsEffectOf mode places a s (insn.Alu w op dst o)) (abstract.register_value a dst) (effects.register_value s.registers dst) _ _
         (read_agrees ops Member sound claimed mode places claims.registers a s member dst)
         (λ x u p q held_x. and_then claimed (IsHeld Member places s.memory.length) (IsEffectOf mode places a s (insn.Alu w op dst o)) (abstract.operand_abstract ops w a o) (effects.operand_value w s.registers o) _ _
         (operand_agrees ops Member sound claimed mode places claims.registers a s member w o fit)
@@ -158,7 +158,7 @@ module _ {D : Type 0} (ops : Operations D) (Member : D → ℕ → Type 0) (soun
 
     module _ (w : Width) (c : Condition) (dst : Reg) (o : Operand) (offset : ℤ) where
       abbrev ForksAgree : AbstractValue D → AbstractValue D → Value → Value → Type 0
-      ForksAgree x y u v = Agree claimed (IsEffectOf mode places a s (insn.JumpIf w c dst o offset)) (abstract.fork ops a w c dst o x y) (effects.compared s.memory.length w c u v >>= λ taken. Ok (if taken then effect.Jump offset else effect.Pass))
+      ForksAgree x y u v = Agree claimed (IsEffectOf mode places a s (insn.JumpIf w c dst o offset)) (abstract.fork ops a w c dst o x y) (effects.comparison_result s.memory.length w c u v >>= λ taken. Ok (if taken then effect.Jump offset else effect.Pass))
 
     at_agrees : (anchor : Anchor) (bound real : Branch → Option Bound) (w : Width) (c : Condition) (dst : Reg) (o : Operand) (offset : ℤ) (r : Result Implied Reason) (r' : Result Bool Reason) → Agree claimed (Implies bound real s.memory.length) r r'
         → ((t : Implied) (taken : Bool) → Implies bound real s.memory.length t taken → IsEffectOf mode places a s (insn.JumpIf w c dst o offset) (next.Fork (Some (with_least a anchor t.not_taken)) (Some (with_least a anchor t.taken))) (if taken then effect.Jump offset else effect.Pass))
@@ -175,7 +175,7 @@ module _ {D : Type 0} (ops : Operations D) (Member : D → ℕ → Type 0) (soun
     abbrev IsWithin : AbstractValue D → Type 0
     IsWithin x = reach_at x ≤ℤ reach_of a.registers
 
-    read_within : (r : Reg) (x : AbstractValue D) → abstract.read a r ≡ Ok x → IsWithin x
+    read_within : (r : Reg) (x : AbstractValue D) → abstract.register_value a r ≡ Ok x → IsWithin x
     read_within r x p = subst IsWithin (held_known ops Member sound (abstract_at a.registers r) x p) (reach_at_most a.registers (number_of r))
 
     operand_within : (w : Width) (o : Operand) (y : AbstractValue D) → abstract.operand_abstract ops w a o ≡ Ok y → IsWithin y
@@ -191,22 +191,22 @@ module _ {D : Type 0} (ops : Operations D) (Member : D → ℕ → Type 0) (soun
     bound_enough First k b near is le le' = length_within ops Member sound a (abstract.least_of b) s.memory.length le
     bound_enough (Made id low high proved) k b near is le le' = made_enough id low high proved k b near is le'
 
-    implies_shifted : (bound real : Branch → Option Bound) (place : ℤ) (t : Implied) (taken : Bool) → ((way : Branch) → real way ≡ shifted place (bound way)) → Implies bound real s.memory.length t taken → Implies bound (λ way. shifted place (bound way)) s.memory.length t taken
+    implies_shifted : (bound real : Branch → Option Bound) (place : ℤ) (t : Implied) (taken : Bool) → ((way : Branch) → real way ≡ bound_on_places place (bound way)) → Implies bound real s.memory.length t taken → Implies bound (λ way. bound_on_places place (bound way)) s.memory.length t taken
     implies_shifted bound real place t taken is h = (h.0, subst (λ (b : Option Bound). HoldsOf b s.memory.length) (is (branch_if taken)) h.1)
 
     data_fork : (c : Condition) (dst : Reg) (o : Operand) (offset : ℤ) (anchor : Anchor) (k : ℤ) → IsWithin (known.Data anchor k) → IsAnchored places s.memory.length anchor → value_at s.registers dst ≡ value.Data (place_of places anchor +ℤ k) → effects.operand_value W64 s.registers o ≡ Ok value.End → ForksAgree W64 c dst o offset (known.Data anchor k) known.End (value.Data (place_of places anchor +ℤ k)) value.End
     data_fork c dst o offset anchor k within h dst_is o_is =
-        at_agrees anchor (data_bound c k) (data_bound c (place_of places anchor +ℤ k)) W64 c dst o offset (abstract.order_implies c (data_bound c k)) (effects.ordered c (place_of places anchor +ℤ k) (pos s.memory.length)) (first_agree claimed k (place_of places anchor +ℤ k) s.memory.length c)
+        at_agrees anchor (data_bound c k) (data_bound c (place_of places anchor +ℤ k)) W64 c dst o offset (abstract.order_implies c (data_bound c k)) (effects.comparison_of_places c (place_of places anchor +ℤ k) (pos s.memory.length)) (first_agree claimed k (place_of places anchor +ℤ k) s.memory.length c)
         (λ t taken implies. forked ops Member sound mode places a s member W64 c dst o offset anchor (data_bound c k) (extra_of anchor k) within (λ way. bound_enough anchor k (data_bound c k way) (near_bound k c way) h) value.End o_is
         (λ way. ap (λ (v : Value). bound_of c v value.End way) dst_is ∙ data_shifts (place_of places anchor) k c way) t taken
         (implies_shifted (data_bound c k) (data_bound c (place_of places anchor +ℤ k)) (place_of places anchor) t taken (data_shifts (place_of places anchor) k c) implies))
 
     end_fork : (c : Condition) (dst : Reg) (o : Operand) (offset : ℤ) (anchor : Anchor) (k : ℤ) → IsWithin (known.Data anchor k) → IsAnchored places s.memory.length anchor → value_at s.registers dst ≡ value.End → effects.operand_value W64 s.registers o ≡ Ok (value.Data (place_of places anchor +ℤ k)) → ForksAgree W64 c dst o offset known.End (known.Data anchor k) value.End (value.Data (place_of places anchor +ℤ k))
     end_fork c dst o offset anchor k within h dst_is o_is =
-        at_agrees anchor (data_bound (exchanged c) k) (data_bound (exchanged c) (place_of places anchor +ℤ k)) W64 c dst o offset (abstract.order_implies c (data_bound (exchanged c) k)) (effects.ordered c (pos s.memory.length) (place_of places anchor +ℤ k)) (second_agree claimed k (place_of places anchor +ℤ k) s.memory.length c)
-        (λ t taken implies. forked ops Member sound mode places a s member W64 c dst o offset anchor (data_bound (exchanged c) k) (extra_of anchor k) within (λ way. bound_enough anchor k (data_bound (exchanged c) k way) (near_bound k (exchanged c) way) h) (value.Data (place_of places anchor +ℤ k)) o_is
-        (λ way. ap (λ (v : Value). bound_of c v (value.Data (place_of places anchor +ℤ k)) way) dst_is ∙ data_shifts (place_of places anchor) k (exchanged c) way) t taken
-        (implies_shifted (data_bound (exchanged c) k) (data_bound (exchanged c) (place_of places anchor +ℤ k)) (place_of places anchor) t taken (data_shifts (place_of places anchor) k (exchanged c)) implies))
+        at_agrees anchor (data_bound (converse c) k) (data_bound (converse c) (place_of places anchor +ℤ k)) W64 c dst o offset (abstract.order_implies c (data_bound (converse c) k)) (effects.comparison_of_places c (pos s.memory.length) (place_of places anchor +ℤ k)) (second_agree claimed k (place_of places anchor +ℤ k) s.memory.length c)
+        (λ t taken implies. forked ops Member sound mode places a s member W64 c dst o offset anchor (data_bound (converse c) k) (extra_of anchor k) within (λ way. bound_enough anchor k (data_bound (converse c) k way) (near_bound k (converse c) way) h) (value.Data (place_of places anchor +ℤ k)) o_is
+        (λ way. ap (λ (v : Value). bound_of c v (value.Data (place_of places anchor +ℤ k)) way) dst_is ∙ data_shifts (place_of places anchor) k (converse c) way) t taken
+        (implies_shifted (data_bound (converse c) k) (data_bound (converse c) (place_of places anchor +ℤ k)) (place_of places anchor) t taken (data_shifts (place_of places anchor) k (converse c)) implies))
 
     forks_agree : (w : Width) (c : Condition) (dst : Reg) (o : Operand) (offset : ℤ) (x y : AbstractValue D) (m n : ℕ) → IsWithin x → IsWithin y → IsNumberOf Member places s.memory.length x m → IsNumberOf Member places s.memory.length y n → value_at s.registers dst ≡ value_of places x m → effects.operand_value w s.registers o ≡ Ok (value_of places y n)
         → ForksAgree w c dst o offset x y (value_of places x m) (value_of places y n)
@@ -215,7 +215,7 @@ module _ {D : Type 0} (ops : Operations D) (Member : D → ℕ → Type 0) (soun
     forks_agree W64 c dst o offset known.End (known.Data anchor k) m n wx wy h g dst_is o_is = end_fork c dst o offset anchor k wy g dst_is o_is
     forks_agree w c dst o offset x y m n wx wy h g dst_is o_is = λ claim. refl
 
-    fork_held : (w : Width) (c : Condition) (dst : Reg) (o : Operand) (offset : ℤ) (x y : AbstractValue D) (u v : Value) → IsWithin x → IsWithin y → IsHeld Member places s.memory.length x u → IsHeld Member places s.memory.length y v → effects.read s.registers dst ≡ Ok u → effects.operand_value w s.registers o ≡ Ok v → ForksAgree w c dst o offset x y u v
+    fork_held : (w : Width) (c : Condition) (dst : Reg) (o : Operand) (offset : ℤ) (x y : AbstractValue D) (u v : Value) → IsWithin x → IsWithin y → IsHeld Member places s.memory.length x u → IsHeld Member places s.memory.length y v → effects.register_value s.registers dst ≡ Ok u → effects.operand_value w s.registers o ≡ Ok v → ForksAgree w c dst o offset x y u v
     fork_held w c dst o offset x y u v wx wy hx hy p q =
         subst (λ (u' : Value). ForksAgree w c dst o offset x y u' v) (sym hx.2) (subst (λ (v' : Value). ForksAgree w c dst o offset x y (value_of places x hx.0) v') (sym hy.2)
         (forks_agree w c dst o offset x y hx.0 hy.0 wx wy hx.1 hy.1 (held_is (value_at s.registers dst) u p ∙ hx.2) (q ∙ ap Ok hy.2)))
@@ -223,20 +223,20 @@ module _ {D : Type 0} (ops : Operations D) (Member : D → ℕ → Type 0) (soun
     jumps_agree : (w : Width) (c : Condition) (dst : Reg) (o : Operand) (offset : ℤ) → OperandFits o → Claims (insn.JumpIf w c dst o offset)
         → Agree claimed (IsEffectOf mode places a s (insn.JumpIf w c dst o offset)) (abstract.branch_step ops a w c dst o) (effects.jump_if_effect s.registers s.memory.length w c dst o offset)
     jumps_agree w c dst o offset fit claims =
-        and_then claimed (IsHeld Member places s.memory.length) (IsEffectOf mode places a s (insn.JumpIf w c dst o offset)) (abstract.read a dst) (effects.read s.registers dst) _ _
+        and_then claimed (IsHeld Member places s.memory.length) (IsEffectOf mode places a s (insn.JumpIf w c dst o offset)) (abstract.register_value a dst) (effects.register_value s.registers dst) _ _
         (read_agrees ops Member sound claimed mode places claims.registers a s member dst)
         (λ x u p q held_x. and_then claimed (IsHeld Member places s.memory.length) (IsEffectOf mode places a s (insn.JumpIf w c dst o offset)) (abstract.operand_abstract ops w a o) (effects.operand_value w s.registers o) _ _
         (operand_agrees ops Member sound claimed mode places claims.registers a s member w o fit)
         (λ y v p' q' held_y. fork_held w c dst o offset x y u v (read_within dst x p) (operand_within w o y p') held_x held_y q q'))
 
-    plain_at : (i : Insn) → Claims i → (r : Reg) (x : AbstractValue D) → abstract.read a r ≡ Ok x → claimed DatagramBounds → IsMade x → ⊥
+    plain_at : (i : Insn) → Claims i → (r : Reg) (x : AbstractValue D) → abstract.register_value a r ≡ Ok x → claimed DatagramBounds → IsMade x → ⊥
     plain_at i claims r x p c is = claims.plain c r (subst IsMade (sym (held_known ops Member sound (abstract_at a.registers r) x p)) is)
 
     loads_agree : (i : Insn) (known_of : AbstractValue D → Result (AbstractValue D) Reason) (loaded : Value → Result Value Reason) (dst base : Reg) → GoesPast i → Claims i
         → ((x : AbstractValue D) → (claimed DatagramBounds → IsMade x → ⊥) → (m : ℕ) → IsNumberOf Member places s.memory.length x m → Agree claimed (IsResult Member places s.memory.length) (known_of x) (loaded (value_of places x m)))
         → Agree claimed (IsEffectOf mode places a s i) (abstract.loaded_step a known_of dst base) (effects.loaded_effect s.registers loaded dst base)
     loads_agree i known_of loaded dst base past claims agree =
-        and_then claimed (IsHeld Member places s.memory.length) (IsEffectOf mode places a s i) (abstract.read a base) (effects.read s.registers base) _ _
+        and_then claimed (IsHeld Member places s.memory.length) (IsEffectOf mode places a s i) (abstract.register_value a base) (effects.register_value s.registers base) _ _
         (read_agrees ops Member sound claimed mode places claims.registers a s member base)
         (λ x u p q held. result_written i dst (known_of x) (loaded u) past
         (subst (λ (u' : Value). Agree claimed (IsResult Member places s.memory.length) (known_of x) (loaded u')) (sym held.2) (agree x (plain_at i claims base x p) held.0 held.1)))
@@ -246,7 +246,7 @@ module _ {D : Type 0} (ops : Operations D) (Member : D → ℕ → Type 0) (soun
     stores_agree : (z : Size) (base : Reg) (o : Operand) (d : ℤ) → OperandFits o → Claims (insn.Store z base o d)
         → Agree claimed (IsEffectOf mode places a s (insn.Store z base o d)) (abstract.store_step ops a z base o d) (effects.store_effect s.registers s.memory.length z base o d)
     stores_agree z base o d fit claims =
-        and_then claimed (IsHeld Member places s.memory.length) (IsEffectOf mode places a s (insn.Store z base o d)) (abstract.read a base) (effects.read s.registers base) _ _
+        and_then claimed (IsHeld Member places s.memory.length) (IsEffectOf mode places a s (insn.Store z base o d)) (abstract.register_value a base) (effects.register_value s.registers base) _ _
         (read_agrees ops Member sound claimed mode places claims.registers a s member base)
         (λ x u p q held_x. and_then claimed (IsHeld Member places s.memory.length) (IsEffectOf mode places a s (insn.Store z base o d)) (abstract.operand_abstract ops W64 a o) (effects.operand_value W64 s.registers o) _ _
         (operand_agrees ops Member sound claimed mode places claims.registers a s member W64 o fit)
@@ -292,7 +292,7 @@ module _ {D : Type 0} (ops : Operations D) (Member : D → ℕ → Type 0) (soun
               (store_numbers z base o d claims x plain y hx.0 hy.0 hx.1 hy.1))
 
     asks : (i : Insn) (h : Helper) (q : Question) (out : Option ℕ) → GoesPast i → IfSome out (λ j. j + 8 ≤ 512) → ((answer : ℕ → ℕ → AddressRecord → ℕ × AddressRecord) → IsLawful answer → ((answer q.helper q.number q.address).0 ≤ (signature_of h).greatest) × IfSome out (λ j. AreBytes 8 (answer q.helper q.number q.address).1))
-        → IsAsked a i (abstract.answered ops a h out) q out
+        → IsAsked a i (abstract.state_after_call ops a h out) q out
     asks i h q out past room lawful = record { asked = h; behind = refl; past = past; room = room; lawful = lawful }
 
     -- helpers that write no record
@@ -313,15 +313,15 @@ module _ {D : Type 0} (ops : Operations D) (Member : D → ℕ → Type 0) (soun
     -- the answer to a question without a record to write
     looks_up : (i : Insn) (h : Helper) (out : Option ℕ) (given : Inputs) → GoesPast i → out ≡ None → IsGiven out given
         → ((answer : ℕ → ℕ → AddressRecord → ℕ × AddressRecord) → IsLawful answer → (answer (helper_number h) given.number given.address).0 ≤ (signature_of h).greatest)
-        → IsAsked a i (abstract.answered ops a h out) (question h given.number given.address) given.out
+        → IsAsked a i (abstract.state_after_call ops a h out) (question h given.number given.address) given.out
     looks_up i h None given past e is lawful =
-        subst (λ (o : Option ℕ). IsAsked a i (abstract.answered ops a h None) (question h given.number given.address) o) is.2 (asks i h (question h given.number given.address) None past tt (λ answer lawful_answer. (lawful answer lawful_answer, tt)))
+        subst (λ (o : Option ℕ). IsAsked a i (abstract.state_after_call ops a h None) (question h given.number given.address) o) is.2 (asks i h (question h given.number given.address) None past tt (λ answer lawful_answer. (lawful answer lawful_answer, tt)))
     looks_up i h (Some j) given past e is lawful = absurd cc
 
     helped : (c : Context) (n : ℤ) (h : Helper) (out : Option ℕ) (given : Inputs) → abstract.out_of a (signature_of h).arguments ≡ Ok out → IsGiven out given
-        → IsEffectOf mode places a s (insn.Call n) (next.On (abstract.answered ops a h out)) (effects.effect_with c s.memory h given)
+        → IsEffectOf mode places a s (insn.Call n) (next.On (abstract.state_after_call ops a h out)) (effects.effect_with c s.memory h given)
     helped c n helper.ChannelPeer out given e is =
-        subst (λ (o : Option ℕ). IsAsked a (insn.Call n) (abstract.answered ops a helper.ChannelPeer out) (question helper.ChannelPeer given.number given.address) o) is.2
+        subst (λ (o : Option ℕ). IsAsked a (insn.Call n) (abstract.state_after_call ops a helper.ChannelPeer out) (question helper.ChannelPeer given.number given.address) o) is.2
         (asks (insn.Call n) helper.ChannelPeer (question helper.ChannelPeer given.number given.address) out refl is.3 (λ answer lawful. let peer = lawful.channel_peer given.number given.address is.0 is.1 in (peer.0, of_out out (answer 1 given.number given.address).1 peer.1))) where
           of_out : (out : Option ℕ) (bytes : AddressRecord) → AreBytes 8 bytes → IfSome out (λ j. AreBytes 8 bytes)
           of_out None bytes are = tt
@@ -329,8 +329,8 @@ module _ {D : Type 0} (ops : Operations D) (Member : D → ℕ → Type 0) (soun
     helped c n helper.ChannelTo out given e is = looks_up (insn.Call n) helper.ChannelTo out given refl (by_address out e) is (λ answer lawful. lawful.channel_to given.number given.address is.0 is.1)
     helped c n helper.Permitted out given e is = looks_up (insn.Call n) helper.Permitted out given refl (by_address out e) is (λ answer lawful. lawful.permitted given.number given.address is.0 is.1)
     helped c n helper.Window out given e is =
-        (ap (λ (o : Option ℕ). abstract.answered ops a helper.Window o) (three_read (abstract.context_argument a reg.R1) (abstract.number_argument a reg.R2) (abstract.number_argument a reg.R3) out e), refl)
-    helped c n helper.Destination out given e is = (ap (λ (o : Option ℕ). abstract.answered ops a helper.Destination o) (by_address out e), refl)
+        (ap (λ (o : Option ℕ). abstract.state_after_call ops a helper.Window o) (three_read (abstract.context_argument a reg.R1) (abstract.number_argument a reg.R2) (abstract.number_argument a reg.R3) out e), refl)
+    helped c n helper.Destination out given e is = (ap (λ (o : Option ℕ). abstract.state_after_call ops a helper.Destination o) (by_address out e), refl)
 
     helpers_agree : (c : Context) (n : ℤ) (h : Helper) → Claims (insn.Call n) → Agree claimed (IsEffectOf mode places a s (insn.Call n)) (abstract.helper_step ops a h) (effects.helper_effect c s.memory s.registers h)
     helpers_agree c n h claims =
@@ -369,6 +369,6 @@ module _ {D : Type 0} (ops : Operations D) (Member : D → ℕ → Type 0) (soun
     steps_agree c real (insn.LoadImm dst n) fit claims = written_agrees (insn.LoadImm dst n) dst (Ok (known.Scalar (ops.exact n))) (Ok (value.Scalar n)) refl (n, sound.exact n fit, refl)
     steps_agree c real (insn.Call n) fit claims = calls_agree c n claims
     steps_agree c real insn.Exit fit claims =
-        and_then claimed (IsHeld Member places s.memory.length) (IsEffectOf mode places a s insn.Exit) (abstract.read a reg.R0) (effects.read s.registers reg.R0) _ _
+        and_then claimed (IsHeld Member places s.memory.length) (IsEffectOf mode places a s insn.Exit) (abstract.register_value a reg.R0) (effects.register_value s.registers reg.R0) _ _
         (read_agrees ops Member sound claimed mode places claims.registers a s member reg.R0)
         (λ x u p q held. exit_held x u held)

@@ -8,8 +8,8 @@ use Rattle.insn.specs.declared.register.Reg.{Reg}
 use Rattle.insn.specs.declared.instruction.Operand.{Operand}
 use Rattle.insn.specs.declared.instruction.Operand.TheVariants as operand
 use Rattle.asm.specs.Lines.{Token}
-use Rattle.asm.specs.Statements.{Name, IsNumber, IsSigned, IsInteger, Plain, Label, IsWritten, written}
-use Rattle.asm.specs.Reading.{Read, sign, word, register_named, named, numbered, register, name, number, signed_number, integer, register_or, operand_in, as_imm, Target, as_distance, name_or, target, MemoryOperand, address}
+use Rattle.asm.specs.Statements.{Name, IsNumber, IsSigned, IsInteger, Plain, Label, IsWritten, spelling_of}
+use Rattle.asm.specs.Reading.{Read, sign, word, register_named, name_in, number_of_token, register, name, number, signed_number, integer, register_or, operand_in, as_imm, Target, as_distance, name_or, target, MemoryOperand, address}
 use Rattle.asm.specs.GrammarLaws.Steps.{bound, mapped, onward}
 use Rattle.asm.specs.GrammarLaws.Words.{same_text, register_is_named, named_register, name_is_named, named_name}
 use Rattle.asm.specs.GrammarLaws.Numbers.{number_is_numbered, numbered_number, number_is_no_register, number_is_no_minus}
@@ -20,7 +20,7 @@ use Rattle.asm.specs.GrammarLaws.Numbers.{number_is_numbered, numbered_number, n
 abbrev pub Reader : Type 0 → Type 0
 Reader X = List Token → Option (Read X)
 
--- a value, and the tokens behind it
+-- a value, and the tokens after it
 abbrev pub before : {X : Type 0} → X → List Token → Option (Read X)
 before x rest = Some (record { value = x; rest = rest })
 
@@ -63,27 +63,27 @@ register_reads = record {
 pub name_reads : IsReader name (λ n ts. IsWritten (Label n) ts)
 name_reads = record {
   takes = λ ts r e.
-      let found = word_taken named ts r e in
+      let found = word_taken name_in ts r e in
       let is = named_name found.0 r.value found.2 in
       (found.0 ∷ [], found.1, (ap (λ (t : Token). t ∷ []) is.0, is.1));
   gives = λ n front rest h.
-      ap (λ (ts : List Token). name (ts ++ rest)) h.0 ∙ word_given named n n rest (name_is_named n h.1);
+      ap (λ (ts : List Token). name (ts ++ rest)) h.0 ∙ word_given name_in n n rest (name_is_named n h.1);
 }
 
 -- the reader of a number reads its digits
 pub number_reads : IsReader number (λ n ts. IsWritten (Plain (Natural n)) ts)
 number_reads = record {
   takes = λ ts r e.
-      let found = word_taken numbered ts r e in
+      let found = word_taken number_of_token ts r e in
       (found.0 ∷ [], found.1, (found.0, refl, numbered_number found.0 r.value found.2));
   gives = λ n front rest h.
       ap (λ (ts : List Token). number (ts ++ rest)) h.1
-      ∙ word_given numbered h.0 n rest (number_is_numbered n h.0 h.2);
+      ∙ word_given number_of_token h.0 n rest (number_is_numbered n h.0 h.2);
 }
 
 -- ---- numbers with a sign
 
--- the integer of a number behind a minus
+-- the integer of a number after a minus
 abbrev minus : ℕ → ℤ
 minus n = neg_ℤ (pos n)
 
@@ -96,7 +96,7 @@ number_taken : (made : ℕ → ℤ) (ts : List Token) (r : Read ℤ) → option_
     → (m : ℕ) × (t : Token) × IsNumber m t × (ts ≡ t ∷ r.rest) × (r.value ≡ made m)
 number_taken made ts r e =
     let read = mapped (signed_by made) (number ts) r e in
-    let found = word_taken numbered ts read.0 read.1 in
+    let found = word_taken number_of_token ts read.0 read.1 in
     let split : ts ≡ found.0 ∷ r.rest = found.1 ∙ ap (λ (q : Read ℤ). found.0 ∷ q.rest) (sym read.2) in
     (read.0.value, found.0, numbered_number found.0 read.0.value found.2, split, ap (λ (q : Read ℤ). q.value) read.2)
 
@@ -104,7 +104,7 @@ number_taken made ts r e =
 number_given : (made : ℕ → ℤ) (m : ℕ) (t : Token) (n : ℤ) (rest : List Token) → IsNumber m t → n ≡ made m
     → option_map (signed_by made) (number (t ∷ rest)) ≡ before n rest
 number_given made m t n rest h is =
-    ap (option_map (signed_by made)) (word_given numbered t m rest (number_is_numbered m t h))
+    ap (option_map (signed_by made)) (word_given number_of_token t m rest (number_is_numbered m t h))
     ∙ ap (λ (k : ℤ). before k rest) (sym is)
 
 -- an integer that is read of a sign and a number: both stand first
@@ -166,7 +166,7 @@ integer_given n front rest (m, t, h, inl plain) =
 integer_given n front rest (m, t, h, inr dash) =
     ap (λ (ts : List Token). integer (ts ++ rest)) dash.0 ∙ number_given minus m t n rest h dash.1
 
--- the reader of an integer reads a number, perhaps behind a minus
+-- the reader of an integer reads a number, perhaps after a minus
 pub integer_reads : IsReader integer IsInteger
 integer_reads = record { takes = integer_taken; gives = integer_given }
 
@@ -212,7 +212,7 @@ operand_reads = record {
 
 -- a distance, or a label and the distance 0
 abbrev pub SpellsTarget : Target → List Token → Type 0
-SpellsTarget t ts = IfSome t.label (λ _. t.distance ≡ pos 0) × IsWritten (written t.label (Distance t.distance)) ts
+SpellsTarget t ts = IfSome t.label (λ _. t.distance ≡ pos 0) × IsWritten (spelling_of t.label (Distance t.distance)) ts
 
 -- a target that is read stands first
 name_or_taken : (ts : List Token) (o : Option (Read Name)) (p : Option (Read ℤ)) → name ts ≡ o → signed_number ts ≡ p
@@ -266,7 +266,7 @@ sign_taken s (t ∷ ts) rest e =
 abbrev pub SpellsAddress : MemoryOperand → List Token → Type 0
 SpellsAddress p ts = IsWritten (Plain (Address p.base p.displacement)) ts
 
--- the parts of an address, one behind the other
+-- the parts of an address, one after the other
 address_split : (ts opened : List Token) (base : Read Reg) (displacement : Read ℤ) (closed : List Token)
     → ts ≡ codes "[" ∷ opened → BeginsWith (λ r front. IsWritten (Plain (Register r)) front) opened base
     → BeginsWith IsSigned base.rest displacement → displacement.rest ≡ codes "]" ∷ closed

@@ -15,7 +15,7 @@ use Rattle.insn.specs.declared.instruction.Insn.TheVariants as insn
 use Rattle.asm.specs.declared.mnemonic.Mnemonic.{Mnemonic}
 use Rattle.asm.specs.declared.mnemonic.Mnemonic.TheVariants.{Alu, Mov, Neg, SignExtend, Swap, Jump, LongJump, JumpIf, Load, LoadSigned, StoreImm, StoreReg, LoadImm, Call, Exit}
 use Rattle.asm.specs.Lines.{Token}
-use Rattle.asm.specs.Statements.{Name, Written, Plain, AreWritten, written, IsUnlinked, Statement, Instruction}
+use Rattle.asm.specs.Statements.{Name, Written, Plain, AreWritten, spelling_of, IsUnlinked, Statement, Instruction}
 use Rattle.asm.specs.Reading.{Read, ◌>>=◌, end, register, number, integer, operand_in, Target, target, MemoryOperand, address, name_of, only_goal, one, jump, jump_if, store_imm, store_register, exit, instruction}
 use Rattle.asm.specs.GrammarLaws.Steps.{bound, onward}
 use Rattle.asm.specs.GrammarLaws.Arguments.{register_reads, number_reads, integer_reads, operand_reads, target_reads, address_reads, SpellsTarget}
@@ -25,7 +25,7 @@ use Rattle.asm.specs.GrammarLaws.Shapes.{last, last_taken, last_given, pair, pai
 
 -- these tokens are an instruction's arguments; a jump to a label has no distance yet
 abbrev pub HasArguments : Insn → Option Name → List Token → Type 0
-HasArguments i label ts = IfSome label (λ _. IsUnlinked i) × AreWritten (map (written label) (arguments i)) ts
+HasArguments i label ts = IfSome label (λ _. IsUnlinked i) × AreWritten (map (spelling_of label) (arguments i)) ts
 
 -- a statement is an instruction of a mnemonic, with these arguments
 abbrev pub IsInstructionOf : Mnemonic → List Token → Statement → Type 0
@@ -119,23 +119,23 @@ store_register_is size ts = comma_first (address ts) (λ at. last register (stor
 -- a register, an operand and a target
 abbrev JumpIfArguments : Reg → Operand → Target → List Token → Type 0
 JumpIfArguments dst o t ts =
-    AreWritten (Plain (Register dst) ∷ Plain (argument_of o) ∷ written t.label (Distance t.distance) ∷ []) ts
+    AreWritten (Plain (Register dst) ∷ Plain (argument_of o) ∷ spelling_of t.label (Distance t.distance) ∷ []) ts
 
 -- a label stands in the place of the distance alone
 jump_if_arguments : (dst : Reg) (o : Operand) (t : Target)
-    → map (written t.label) (Register dst ∷ argument_of o ∷ Distance t.distance ∷ [])
-    ≡ Plain (Register dst) ∷ Plain (argument_of o) ∷ written t.label (Distance t.distance) ∷ []
+    → map (spelling_of t.label) (Register dst ∷ argument_of o ∷ Distance t.distance ∷ [])
+    ≡ Plain (Register dst) ∷ Plain (argument_of o) ∷ spelling_of t.label (Distance t.distance) ∷ []
 jump_if_arguments dst o t = go o t.label
   where
     go : (o : Operand) (label : Option Name)
-        → map (written label) (Register dst ∷ argument_of o ∷ Distance t.distance ∷ [])
-        ≡ Plain (Register dst) ∷ Plain (argument_of o) ∷ written label (Distance t.distance) ∷ []
+        → map (spelling_of label) (Register dst ∷ argument_of o ∷ Distance t.distance ∷ [])
+        ≡ Plain (Register dst) ∷ Plain (argument_of o) ∷ spelling_of label (Distance t.distance) ∷ []
     go (operand.Reg r) None = refl
     go (operand.Imm n) None = refl
     go (operand.Reg r) (Some name) = refl
     go (operand.Imm n) (Some name) = refl
 
--- the target behind two commas
+-- the target after two commas
 abbrev jump_if_behind : Width → Condition → Reg → Read Operand → Option Statement
 jump_if_behind width c dst o = only_goal o.rest >>= (λ t. Some (jump_if_of width c dst o.value t))
 

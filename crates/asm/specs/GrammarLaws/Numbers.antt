@@ -11,7 +11,7 @@ use Rattle.std.proofs.lemmas.Option.{cond_some, none-some}
 use Rattle.asm.specs.Radices.{is_numeral}
 use Rattle.asm.specs.Lines.{Token, is_in_words, IsWord}
 use Rattle.asm.specs.Statements.{IsNumber}
-use Rattle.asm.specs.Reading.{register_named, is_hexadecimal, numbered}
+use Rattle.asm.specs.Reading.{register_named, is_hexadecimal, number_of_token}
 use Rattle.asm.specs.GrammarLaws.Steps.{none_unless}
 use Rattle.asm.specs.GrammarLaws.Words.{same_text, register_has_no_number, named_register}
 
@@ -75,12 +75,12 @@ decimal_begins_plain t h =
     false_from_ne_true (is_hexadecimal t) (λ e. decimal_is_not_hexadecimal t h (same_text (take 2 t) (codes "0x") e))
 
 -- a word that spells a number is read as that number
-pub number_is_numbered : (n : ℕ) (t : Token) → IsNumber n t → numbered t ≡ Some n
+pub number_is_numbered : (n : ℕ) (t : Token) → IsNumber n t → number_of_token t ≡ Some n
 number_is_numbered n t (inl h) =
     cond-false (is_hexadecimal t) _ _ (decimal_begins_plain t h.0.1)
     ∙ cond-true (is_numeral 10 t) _ _ (numeral_passes 10 t h.0) ∙ ap Some (sym h.1)
 number_is_numbered n t (inr h) =
-    ap numbered h.1 ∙ cond-true (is_numeral 16 h.0) _ _ (numeral_passes 16 h.0 h.2) ∙ ap Some (sym h.3)
+    ap number_of_token h.1 ∙ cond-true (is_numeral 16 h.0) _ _ (numeral_passes 16 h.0 h.2) ∙ ap Some (sym h.3)
 
 -- a word that begins with `0x` is that and digits
 hexadecimal_split : (t : Token) → is_hexadecimal t ≡ true → t ≡ codes "0x" ++ drop 2 t
@@ -88,7 +88,7 @@ hexadecimal_split t e =
     sym (take-append-drop 2 t) ∙ ap (λ (front : Token). front ++ drop 2 t) (same_text (take 2 t) (codes "0x") e)
 
 -- a word that is read as a number spells it
-pub numbered_number : (t : Token) (n : ℕ) → numbered t ≡ Some n → IsNumber n t
+pub numbered_number : (t : Token) (n : ℕ) → number_of_token t ≡ Some n → IsNumber n t
 numbered_number t n e = elim (cases_Bool (is_hexadecimal t)) [
   | inl long ↦
       let value = digits_value 16 (drop 2 t) in
@@ -125,10 +125,10 @@ number_is_word n t (inr h) =
 pub number_is_no_register : (n : ℕ) (t : Token) → IsNumber n t → register_named t ≡ None
 number_is_no_register n t h =
     none_unless (register_named t) (λ r e. none-some n
-    (sym (register_has_no_number r) ∙ ap numbered (sym (named_register t r e)) ∙ number_is_numbered n t h))
+    (sym (register_has_no_number r) ∙ ap number_of_token (sym (named_register t r e)) ∙ number_is_numbered n t h))
 
 -- a number is no minus
 pub number_is_no_minus : (n : ℕ) (t : Token) → IsNumber n t → bytes_eq t (codes "-") ≡ false
 number_is_no_minus n t h =
     false_from_ne_true (bytes_eq t (codes "-"))
-    (λ e. none-some n (ap numbered (sym (same_text t (codes "-") e)) ∙ number_is_numbered n t h))
+    (λ e. none-some n (ap number_of_token (sym (same_text t (codes "-") e)) ∙ number_is_numbered n t h))

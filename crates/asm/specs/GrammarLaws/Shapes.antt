@@ -36,7 +36,7 @@ Separated A B x y ts = (front rest : List Token) × (ts ≡ front ++ codes "," �
 
 -- ---- one value
 
--- behind the last value are no tokens
+-- after the last value are no tokens
 pub no_more : (ts : List Token) → end ts ≡ Some tt → ts ≡ []
 no_more [] e = refl
 no_more (t ∷ ts) e = absurd (none-some tt e)

@@ -6,8 +6,8 @@ use Rattle.std.proofs.lemmas.Option.{same_Some}
 use Rattle.insn.specs.Spelling.{mnemonic, arguments}
 use Rattle.insn.specs.declared.instruction.Insn.{Insn}
 use Rattle.asm.specs.Lines.{Token}
-use Rattle.asm.specs.Statements.{Name, written, Statement, Labelled, Instruction, IsInstruction, Says}
-use Rattle.asm.specs.Reading.{sign, end, named, mnemonic_named, instruction, label, statement, label_or, said_by}
+use Rattle.asm.specs.Statements.{Name, spelling_of, Statement, Labelled, Instruction, IsInstruction, Says}
+use Rattle.asm.specs.Reading.{sign, end, name_in, mnemonic_named, instruction, label, statement, label_or, said_by}
 use Rattle.asm.specs.GrammarLaws.Steps.{bound, mapped, onward}
 use Rattle.asm.specs.GrammarLaws.Words.{named_name, name_is_named}
 use Rattle.asm.specs.GrammarLaws.Mnemonics.{named_mnemonic, mnemonic_is_named}
@@ -32,7 +32,7 @@ statement_taken t ts s e =
 label_taken : (t : Token) (ts rest : List Token) (s : Statement) → ts ≡ codes ":" ∷ rest → label t rest ≡ Some s
     → Says (Some s) (t ∷ ts)
 label_taken t ts rest s colon e =
-    let n = bound (named t) _ s e in
+    let n = bound (name_in t) _ s e in
     let done = bound (end rest) _ s n.2 in
     let name = named_name t n.0 n.1 in
     let behind : ts ≡ codes ":" ∷ [] = colon ∙ ap (λ (us : List Token). codes ":" ∷ us) (no_more rest done.1) in
@@ -73,9 +73,9 @@ statement_given i target ts h =
 pub said_is_read : (s : Option Statement) (ts : List Token) → Says s ts → said_by ts ≡ Some s
 said_is_read None ts h = ap said_by h
 said_is_read (Some (Labelled name)) ts h =
-    ap said_by h.0 ∙ ap (option_map Some) (onward (named name) _ name _ (name_is_named name h.1) refl)
+    ap said_by h.0 ∙ ap (option_map Some) (onward (name_in name) _ name _ (name_is_named name h.1) refl)
 said_is_read (Some (Instruction i target)) ts h =
     ap said_by h.begun
     ∙ ap (λ (o : Option (List Token)). option_map Some (label_or o (mnemonic i) h.rest))
-    (no_label h.rest (arguments_tokens (map (written target) (arguments i)) h.rest h.written))
+    (no_label h.rest (arguments_tokens (map (spelling_of target) (arguments i)) h.rest h.written))
     ∙ ap (option_map Some) (statement_given i target ts h)

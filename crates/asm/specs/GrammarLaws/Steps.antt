@@ -79,7 +79,7 @@ pub each_also : {A : Type 0} {P Q : A → Type 0} → ((x : A) → P x → Q x) 
 each_also f [] h = tt
 each_also f (x ∷ xs) h = (f x h.0, each_also f xs h.1)
 
--- a fact on each element of two lists, one behind the other
+-- a fact on each element of two lists, one after the other
 pub each_append : {A : Type 0} (P : A → Type 0) (xs ys : List A) → AllByRecursion P xs → AllByRecursion P ys
     → AllByRecursion P (xs ++ ys)
 each_append P [] ys h k = k

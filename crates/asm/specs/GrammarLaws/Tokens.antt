@@ -5,7 +5,7 @@ use Rattle.std.specs.List.{AllByRecursion}
 use Rattle.std.proofs.lemmas.Bool.{cases_Bool, cond-true, cond-false, eqb-true, false≢true}
 use Rattle.std.proofs.lemmas.Bool.Decides.{nat_tests}
 use Rattle.asm.specs.Lines.{Token, is_blank, is_in_words, is_sign, IsWord, IsSign, Piece, Blank, Lexeme, piece_text, IsPiece, AreApart, tokens_in, IsComment, HasTokens}
-use Rattle.asm.specs.Reading.{ended, tokens_behind, tokens_of}
+use Rattle.asm.specs.Reading.{with_word, tokens_behind, tokens_of}
 use Rattle.asm.specs.GrammarLaws.Steps.{each_append}
 use Rattle.asm.specs.GrammarLaws.StatementTokens.{AreProper}
 
@@ -72,13 +72,13 @@ word_on front (c ∷ word) rest h =
     ∙ ap (λ (w : List ℕ). tokens_behind w rest) (append_assoc front (c ∷ []) word)
 
 -- a word that ends is a token, if it has a character
-word_ended : (word line : List ℕ) → EndsWord line → tokens_behind word line ≡ ended word (tokens_of line)
+word_ended : (word line : List ℕ) → EndsWord line → tokens_behind word line ≡ with_word word (tokens_of line)
 word_ended word [] h = refl
 word_ended word (c ∷ rest) h =
-    cond-false (is_in_words c) _ _ h ∙ ap (ended word) (sym (cond-false (is_in_words c) _ _ h))
+    cond-false (is_in_words c) _ _ h ∙ ap (with_word word) (sym (cond-false (is_in_words c) _ _ h))
 
 -- as a word has
-ended_word : (t : Token) (ts : List Token) → t ≢ [] → ended t ts ≡ t ∷ ts
+ended_word : (t : Token) (ts : List Token) → t ≢ [] → with_word t ts ≡ t ∷ ts
 ended_word [] ts h = absurd (h refl)
 ended_word (c ∷ t) ts h = refl
 
@@ -88,7 +88,7 @@ word_read t line h k = word_on [] t line h.1 ∙ word_ended t line k ∙ ended_w
 
 -- ---- from the pieces of a line to its tokens
 
--- what stands behind a piece stands apart
+-- what follows a piece stands apart
 apart_behind : (t : Token) (more : List Piece) → AreApart (Lexeme t ∷ more) → AreApart more
 apart_behind t [] h = tt
 apart_behind t (Blank c ∷ more) h = h
@@ -99,7 +99,7 @@ ends_at_comment : (comment : List ℕ) → IsComment comment → EndsWord commen
 ends_at_comment [] h = tt
 ends_at_comment (c ∷ rest) h = subst (λ (x : ℕ). is_in_words x ≡ false) (sym h) refl
 
--- a word ends before the pieces that stand behind it
+-- a word ends before the pieces that follow it
 ends_at_pieces : (t : Token) (more : List Piece) (comment : List ℕ) → IsWord t → AllByRecursion IsPiece more
     → AreApart (Lexeme t ∷ more) → IsComment comment → EndsWord (flat_map piece_text more ++ comment)
 ends_at_pieces t [] comment word proper apart ends = ends_at_comment comment ends
@@ -209,7 +209,7 @@ sign_first c line ts e sign h =
 
 -- a word, if it has a character, before a line that begins with none
 word_first : (word line : List ℕ) (ts : List Token) → AreOfWords word → HasOther line ts
-    → HasTokens (word ++ line) (ended word ts)
+    → HasTokens (word ++ line) (with_word word ts)
 word_first [] line ts h has = has.0
 word_first (c ∷ word) line ts h has = record {
   pieces = Lexeme (c ∷ word) ∷ has.0.pieces;
@@ -222,8 +222,8 @@ word_first (c ∷ word) line ts h has = record {
   listed = ap (λ (us : List Token). (c ∷ word) ∷ us) has.0.listed;
 }
 
--- the grammar has the tokens behind a word
-proper_behind : (word : Token) (ts : List Token) → AreProper (ended word ts) → AreProper ts
+-- the grammar has the tokens after a word
+proper_behind : (word : Token) (ts : List Token) → AreProper (with_word word ts) → AreProper ts
 proper_behind [] ts h = h
 proper_behind (c ∷ word) ts h = h.1
 
@@ -251,7 +251,7 @@ other_first c rest e proper had = elim (cases_Bool (c == 59)) [
   ]
 ]
 
--- the tokens behind the beginning of a word, the word and the rest of the line have
+-- the tokens after the beginning of a word, the word and the rest of the line have
 found_behind : (word line : List ℕ) → AreOfWords word → AreProper (tokens_behind word line)
     → HasTokens (word ++ line) (tokens_behind word line)
 found_behind word [] h proper = word_first word [] [] h (only_comment [] tt)
@@ -263,7 +263,7 @@ found_behind word (c ∷ rest) h proper = elim (cases_Bool (is_in_words c)) [
       let has = found_behind (word ++ c ∷ []) rest all (subst AreProper is proper) in
       subst₂ HasTokens (append_assoc word (c ∷ []) rest) (sym is) has
   | inr other ↦
-      let is : tokens_behind word (c ∷ rest) ≡ ended word (tokens_at c rest) = cond-false (is_in_words c) _ _ other in
+      let is : tokens_behind word (c ∷ rest) ≡ with_word word (tokens_at c rest) = cond-false (is_in_words c) _ _ other in
       let behind : AreProper (tokens_at c rest) = proper_behind word (tokens_at c rest) (subst AreProper is proper) in
       let has = other_first c rest other behind (λ good. found_behind [] rest tt good) in
       subst (HasTokens (word ++ c ∷ rest)) (sym is) (word_first word (c ∷ rest) (tokens_at c rest) h has)

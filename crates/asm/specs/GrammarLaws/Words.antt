@@ -13,7 +13,7 @@ use Rattle.insn.specs.declared.register.Reg.TheVariants.{R0}
 use Rattle.asm.specs.declared.parser.TheConstants.{MAX_NAME}
 use Rattle.asm.specs.Lines.{Token, begins_name, is_in_names, is_in_words, IsWord}
 use Rattle.asm.specs.Statements.{Name, IsName}
-use Rattle.asm.specs.Reading.{register_text, register_named, all_registers, is_name, named, numbered}
+use Rattle.asm.specs.Reading.{register_text, register_named, all_registers, is_name, name_in, number_of_token}
 use Rattle.asm.specs.GrammarLaws.Steps.{found_passes, each_passes, all_pass, each_also}
 
 -- ---- texts
@@ -36,7 +36,7 @@ word_by_test (c ∷ rest) e = ((λ same. absurd cc), each_passes is_in_words (c 
 
 -- a register's name is that of the register and a word, and no number
 register_facts : (r : Reg) → (register_named (register_name r) ≡ Some r) × (is_word (register_name r) ≡ true)
-    × (numbered (register_name r) ≡ None)
+    × (number_of_token (register_name r) ≡ None)
 unfolding digits
 register_facts R0 = (refl, refl, refl)
 register_facts _ = (refl, refl, refl)
@@ -46,7 +46,7 @@ pub register_is_named : (r : Reg) → register_named (register_name r) ≡ Some 
 register_is_named r = (register_facts r).0
 
 -- the name of a register is no number
-pub register_has_no_number : (r : Reg) → numbered (register_name r) ≡ None
+pub register_has_no_number : (r : Reg) → number_of_token (register_name r) ≡ None
 register_has_no_number r = (register_facts r).2
 
 -- the name of a register is a word
@@ -66,7 +66,7 @@ named_register t r e = sym (text_is_name r ∙ same_text (register_text r) t (fo
 -- ---- names
 
 -- a name passes the test
-pub name_is_named : (n : Name) → IsName n → named n ≡ Some n
+pub name_is_named : (n : Name) → IsName n → name_in n ≡ Some n
 name_is_named [] h = absurd h
 name_is_named (c ∷ rest) h = cond-true (is_name (c ∷ rest)) (Some (c ∷ rest)) None
     (and_from _ _ h.0 (and_from _ _ (all_pass is_in_names rest h.1) (le-leb _ _ h.2)))
@@ -80,7 +80,7 @@ name_by_test (c ∷ rest) e =
     (first.0, each_passes is_in_names rest others.0, leb-true _ _ others.1)
 
 -- a word that is read as a name is that name
-pub named_name : (t : Token) (n : Name) → named t ≡ Some n → (t ≡ n) × IsName n
+pub named_name : (t : Token) (n : Name) → name_in t ≡ Some n → (t ≡ n) × IsName n
 named_name t n e =
     let parts = cond_some (is_name t) t n e in
     (parts.1, subst IsName parts.1 (name_by_test t parts.0))

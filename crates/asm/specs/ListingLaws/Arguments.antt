@@ -6,7 +6,7 @@ use Rattle.std.specs.List.{AllByRecursion}
 use Rattle.insn.specs.Spelling.{Argument, Register, Integer, Natural, Address, Distance, register_name, with_sign, argument_text, arguments_behind}
 use Rattle.insn.specs.declared.register.Reg.{Reg}
 use Rattle.asm.specs.Lines.{Token, IsWord}
-use Rattle.asm.specs.Statements.{IsSigned, IsInteger, Plain, IsWritten, AreWritten, written}
+use Rattle.asm.specs.Statements.{IsSigned, IsInteger, Plain, IsWritten, AreWritten, spelling_of}
 use Rattle.asm.specs.Reading.{tokens_of}
 use Rattle.asm.specs.GrammarLaws.Steps.{each_append}
 use Rattle.asm.specs.GrammarLaws.Words.{register_is_word}
@@ -23,7 +23,7 @@ IsSmall (Natural n) = n < 2 ^ 64
 IsSmall (Address base displacement) = IsShort displacement
 IsSmall (Distance n) = IsShort n
 
--- a text has these tokens, where no word goes on behind it
+-- a text has these tokens, where no word goes on after it
 abbrev Gives : List ℕ → List Token → Type 0
 Gives text front = (line : List ℕ) → EndsWord line → tokens_of (text ++ line) ≡ front ++ tokens_of line
 
@@ -115,11 +115,11 @@ argument_given (Distance n) h = signed_given n h
 abbrev AreFurther : List Argument → List Token → Type 0
 AreFurther [] ts = ts ≡ []
 AreFurther (a ∷ more) ts = (rest : List Token) × (ts ≡ codes "," ∷ rest)
-    × AreWritten (map (written None) (a ∷ more)) rest
+    × AreWritten (map (spelling_of None) (a ∷ more)) rest
 
 -- an argument, and the further ones
 with_first : (a : Argument) (more : List Argument) (front ts : List Token) → IsWritten (Plain a) front
-    → AreFurther more ts → AreWritten (map (written None) (a ∷ more)) (front ++ ts)
+    → AreFurther more ts → AreWritten (map (spelling_of None) (a ∷ more)) (front ++ ts)
 with_first a [] front ts h k =
     let all : front ++ ts ≡ front = ap (λ (us : List Token). front ++ us) k ∙ append-nil front in
     subst (IsWritten (Plain a)) (sym all) h
@@ -133,11 +133,11 @@ ends_at_comma (a ∷ more) = refl
 -- the tokens of an argument and of the further ones
 first_written : (a : Argument) (more : List Argument) → IsSmall a
     → AreFurther more (tokens_of (arguments_behind (codes ", ") more))
-    → AreWritten (map (written None) (a ∷ more)) (tokens_of (argument_text a ++ arguments_behind (codes ", ") more))
+    → AreWritten (map (spelling_of None) (a ∷ more)) (tokens_of (argument_text a ++ arguments_behind (codes ", ") more))
 first_written a more small h =
     let text : List ℕ = arguments_behind (codes ", ") more in
     let first = argument_given a small in
-    subst (AreWritten (map (written None) (a ∷ more))) (sym (first.1 text (ends_at_comma more)))
+    subst (AreWritten (map (spelling_of None) (a ∷ more))) (sym (first.1 text (ends_at_comma more)))
     (with_first a more first.0 (tokens_of text) first.2 h)
 
 -- the tokens of the further arguments
@@ -150,9 +150,9 @@ further_written (a ∷ more) small = (
   first_written a more small.0 (further_written more small.1),
 )
 
--- the tokens of the arguments behind a mnemonic
+-- the tokens of the arguments after a mnemonic
 pub arguments_written : (all : List Argument) → AllByRecursion IsSmall all
-    → AreWritten (map (written None) all) (tokens_of (arguments_behind (codes " ") all))
+    → AreWritten (map (spelling_of None) all) (tokens_of (arguments_behind (codes " ") all))
 arguments_written [] small = refl
 arguments_written (a ∷ more) small = first_written a more small.0 (further_written more small.1)
 

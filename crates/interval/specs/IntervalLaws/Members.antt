@@ -8,7 +8,7 @@ use Rattle.insn.specs.Words.{modulus, cut}
 use Rattle.insn.specs.declared.width.Width.{Width}
 use Rattle.insn.specs.declared.width.Width.TheVariants.{W32, W64}
 use Rattle.interval.specs.declared.domain.Bounds.{Bounds}
-use Rattle.interval.specs.Intervals.{IsMember, from_to, all, narrowed, is_single}
+use Rattle.interval.specs.Intervals.{IsMember, from_to, all, operand_bounds, is_single}
 
 -- a member of an interval whose ends are below M
 pub record IsWithin (M : ℕ) (x : Bounds) (n : ℕ) : Type 0 where
@@ -68,7 +68,7 @@ pub chosen : (b : Bool) (x y : Bounds) (n : ℕ) → (b ≡ true → LiesInWords
 chosen b x y n p q = cond_both b x y (λ z. LiesInWords z n) p q
 
 -- an operand that is narrowed to a width
-pub narrowed_within : (w : Width) (x : Bounds) (n : ℕ) → IsMember x n → IsWithin (modulus w) (narrowed w x) (cut w n)
+pub narrowed_within : (w : Width) (x : Bounds) (n : ℕ) → IsMember x n → IsWithin (modulus w) (operand_bounds w x) (cut w n)
 narrowed_within w x n h =
     cond_both (nat_lt x.hi (modulus w)) x (all w) (λ z. IsWithin (modulus w) z (cut w n))
     (λ e.

@@ -14,7 +14,7 @@ use Rattle.insn.specs.declared.operator.SwapOp.TheVariants.{ToLittle, ToBig, Rev
 use Rattle.insn.specs.declared.operator.AluOp.{AluOp}
 use Rattle.insn.specs.declared.operator.AluOp.TheVariants.{Add, Sub, Mul, Div, SignedDiv, Or, And, Lsh, Rsh, Mod, SignedMod, Xor, Arsh}
 use Rattle.interval.specs.declared.domain.Bounds.{Bounds}
-use Rattle.interval.specs.Intervals.{from_to, single, all, narrowed, is_single, are_positive, divided, remainder, ones, shifted_right, ranged, interval_alu, ranged_unary, operand_width, interval_unary}
+use Rattle.interval.specs.Intervals.{from_to, single, all, operand_bounds, is_single, are_positive, quotient_bounds, remainder, ones, shifted_right, result_bounds, interval_alu, ranged_unary, operand_width, interval_unary}
 use Rattle.interval.specs.Narrowness.{AreWords, ArePositive, IsResult, AreResults, IsExact, IsRemainder, IsUpper, IsUnchanged, result_modulus}
 use Rattle.interval.specs.IntervalLaws.Members.{IsWithin, modulus_fits, modulus_positive, cut_small, cut_below}
 use Rattle.interval.specs.IntervalLaws.OneOperand.{extended_is, low_below, reversed_below}
@@ -28,7 +28,7 @@ pub positive_is : (w : Width) (x y : Bounds) → ArePositive w x y → are_posit
 positive_is w x y p = and_from (nat_lt x.hi (modulus w / 2)) (nat_lt y.hi (modulus w / 2)) (lt-ltb x.hi (modulus w / 2) p.left) (lt-ltb y.hi (modulus w / 2) p.right)
 
 -- an operand of words of the width is computed on as it is
-narrowed_same : (w : Width) (x : Bounds) → AreWords w x → narrowed w x ≡ x
+narrowed_same : (w : Width) (x : Bounds) → AreWords w x → operand_bounds w x ≡ x
 narrowed_same w x a = taken (nat_lt x.hi (modulus w)) x (all w) (λ z. z ≡ x) (lt-ltb x.hi (modulus w) a.words) refl
 
 -- a number below a power is at least half of no greater one
@@ -60,7 +60,7 @@ module _ (w : Width) (x y : Bounds) (a : AreWords w x) (b : AreWords w y) where
         gives = (λ i. cut w (whole op w (left i) (right i))) ∙ e;
       }
 
-  row_add : x.hi + y.hi < modulus w → AreResults Add w x y (ranged Add w x y)
+  row_add : x.hi + y.hi < modulus w → AreResults Add w x y (result_bounds Add w x y)
   row_add lt =
       let p = a.order in
       let q = b.order in
@@ -77,7 +77,7 @@ module _ (w : Width) (x y : Bounds) (a : AreWords w x) (b : AreWords w y) where
       let same : m + (modulus w - n) ≡ modulus w + (m - n) = omega arith in
       ap (cut w) same ∙ add-mod_left (modulus w) (m - n) ∙ cut_small w (m - n) (omega arith)
 
-  row_sub : y.hi ≤ x.lo → AreResults Sub w x y (ranged Sub w x y)
+  row_sub : y.hi ≤ x.lo → AreResults Sub w x y (result_bounds Sub w x y)
   row_sub le =
       let p = a.order in
       let q = b.order in
@@ -87,7 +87,7 @@ module _ (w : Width) (x y : Bounds) (a : AreWords w x) (b : AreWords w y) where
         hi = reaches Sub x.hi y.lo (x.hi - y.lo) p (omega arith) (omega arith) q (difference x.hi y.lo (omega arith) (omega arith) q);
       })
 
-  row_mul : x.hi * y.hi < modulus w → AreResults Mul w x y (ranged Mul w x y)
+  row_mul : x.hi * y.hi < modulus w → AreResults Mul w x y (result_bounds Mul w x y)
   row_mul lt =
       let p = a.order in
       let q = b.order in
@@ -105,7 +105,7 @@ module _ (w : Width) (x y : Bounds) (a : AreWords w x) (b : AreWords w y) where
       (λ z. cut_small w (m / n) (omega (arith, div-le_self m n)))
 
   -- the quotients of the ends, whichever form divides
-  quotients : (op : AluOp) → 0 < y.lo → ((m n : ℕ) → x.lo ≤ m → m ≤ x.hi → y.lo ≤ n → n ≤ y.hi → whole op w m n ≡ whole Div w m n) → AreResults op w x y (divided x y)
+  quotients : (op : AluOp) → 0 < y.lo → ((m n : ℕ) → x.lo ≤ m → m ≤ x.hi → y.lo ≤ n → n ≤ y.hi → whole op w m n ≡ whole Div w m n) → AreResults op w x y (quotient_bounds x y)
   quotients op lt same =
       let p = a.order in
       let q = b.order in
@@ -115,13 +115,13 @@ module _ (w : Width) (x y : Bounds) (a : AreWords w x) (b : AreWords w y) where
         hi = reaches op x.hi y.lo (x.hi / y.lo) p (omega arith) (omega arith) q (ap (cut w) (same x.hi y.lo p (omega arith) (omega arith) q) ∙ quotient x.hi y.lo (omega arith) lt);
       })
 
-  row_signed_div : 0 < y.lo → ArePositive w x y → AreResults SignedDiv w x y (ranged SignedDiv w x y)
+  row_signed_div : 0 < y.lo → ArePositive w x y → AreResults SignedDiv w x y (result_bounds SignedDiv w x y)
   row_signed_div lt positive =
       let is = positive_is w x y positive in
-      taken (are_positive w x y) (divided x y) (all w) (AreResults SignedDiv w x y) is
+      taken (are_positive w x y) (quotient_bounds x y) (all w) (AreResults SignedDiv w x y) is
       (quotients SignedDiv lt (λ m n p q r s. signed_div_is w x y m n (within_left m p q) (within_right n r s) is))
 
-  row_lsh : y.lo ≡ y.hi → x.hi * 2 ^ (y.lo % bit_count w) < modulus w → AreResults Lsh w x y (ranged Lsh w x y)
+  row_lsh : y.lo ≡ y.hi → x.hi * 2 ^ (y.lo % bit_count w) < modulus w → AreResults Lsh w x y (result_bounds Lsh w x y)
   row_lsh e lt =
       let p = a.order in
       let q = b.order in
@@ -146,13 +146,13 @@ module _ (w : Width) (x y : Bounds) (a : AreWords w x) (b : AreWords w y) where
         hi = reaches op x.hi y.lo (x.hi / power) p (omega arith) (omega arith) q (ap (cut w) (same x.hi y.lo p (omega arith) (omega arith) q) ∙ cut_small w (x.hi / power) (omega (arith, div-le_self x.hi power)));
       })
 
-  row_arsh : y.lo ≡ y.hi → x.hi < modulus w / 2 → AreResults Arsh w x y (ranged Arsh w x y)
+  row_arsh : y.lo ≡ y.hi → x.hi < modulus w / 2 → AreResults Arsh w x y (result_bounds Arsh w x y)
   row_arsh e lt =
       let is = lt-ltb x.hi (modulus w / 2) lt in
       taken (nat_lt x.hi (modulus w / 2)) (shifted_right w x y) (all w) (AreResults Arsh w x y) is
       (shifts Arsh e (λ m n p q r s. arsh_is w x y m n (within_left m p q) (within_right n r s) is))
 
-  ranged_ends : (op : AluOp) → IsExact op w x y → AreResults op w x y (ranged op w x y)
+  ranged_ends : (op : AluOp) → IsExact op w x y → AreResults op w x y (result_bounds op w x y)
   ranged_ends Add exact = row_add exact
   ranged_ends Sub exact = row_sub exact
   ranged_ends Mul exact = row_mul exact
@@ -167,13 +167,13 @@ module _ (w : Width) (x y : Bounds) (a : AreWords w x) (b : AreWords w y) where
   ranged_ends Xor exact = absurd exact
   ranged_ends Arsh exact = row_arsh exact.0 exact.1
 
-  narrowed_are : (op : AluOp) → ranged op w (narrowed w x) (narrowed w y) ≡ ranged op w x y
-  narrowed_are op i = ranged op w (narrowed_same w x a i) (narrowed_same w y b i)
+  narrowed_are : (op : AluOp) → result_bounds op w (operand_bounds w x) (operand_bounds w y) ≡ result_bounds op w x y
+  narrowed_are op i = result_bounds op w (narrowed_same w x a i) (narrowed_same w y b i)
 
   -- where the table is exact, both ends are results of members
   pub ends_are_results : (op : AluOp) → IsExact op w x y → AreResults op w x y (interval_alu op w x y)
   ends_are_results op exact =
-      cond_both (is_single x && is_single y) (single (alu op w x.lo y.lo)) (ranged op w (narrowed w x) (narrowed w y)) (AreResults op w x y)
+      cond_both (is_single x && is_single y) (single (alu op w x.lo y.lo)) (result_bounds op w (operand_bounds w x) (operand_bounds w y)) (AreResults op w x y)
       (λ e.
       let result : IsResult op w x y (alu op w x.lo y.lo) = record {
         m = x.lo;
@@ -194,7 +194,7 @@ module _ (w : Width) (x y : Bounds) (a : AreWords w x) (b : AreWords w y) where
   chosen_end : (c : Bool) (u v : Bounds) (P : ℕ → Type 0) → (c ≡ true → P u.hi) → (c ≡ false → P v.hi) → P (if c then u else v).hi
   chosen_end c u v P p q = cond_both c u v (λ z. P z.hi) p q
 
-  divided_end : (divided x y).hi ≤ x.hi
+  divided_end : (quotient_bounds x y).hi ≤ x.hi
   divided_end = chosen_end (nat_lt 0 y.lo) (from_to (x.lo / y.hi) (x.hi / y.lo)) (from_to 0 x.hi) (λ k. k ≤ x.hi) (λ e. div-le_self x.hi y.lo) (λ e. omega arith)
 
   remainder_end : IsRemainder x y (remainder x y).hi
@@ -219,12 +219,12 @@ module _ (w : Width) (x y : Bounds) (a : AreWords w x) (b : AreWords w y) where
       let least : 2 ^ bits ≤ 2 * top + 1 = subst (λ (j : ℕ). 2 ^ j ≤ 2 * top + 1) same found.3 in
       omega (arith, power_fits top bits k least (omega (arith, p, q)))
 
-  ranged_upper : (op : AluOp) → IsUpper op w x y (ranged op w x y).hi
+  ranged_upper : (op : AluOp) → IsUpper op w x y (result_bounds op w x y).hi
   ranged_upper Add = chosen_end (nat_lt (x.hi + y.hi) (modulus w)) (from_to (x.lo + y.lo) (x.hi + y.hi)) (all w) (λ k. k < modulus w) (λ e. ltb-true (x.hi + y.hi) (modulus w) e) (λ e. small_all)
   ranged_upper Sub = chosen_end (nat_le y.hi x.lo) (from_to (x.lo - y.hi) (x.hi - y.lo)) (all w) (λ k. k < modulus w) (λ e. omega (arith, a.words)) (λ e. small_all)
   ranged_upper Mul = chosen_end (nat_lt (x.hi * y.hi) (modulus w)) (from_to (x.lo * y.lo) (x.hi * y.hi)) (all w) (λ k. k < modulus w) (λ e. ltb-true (x.hi * y.hi) (modulus w) e) (λ e. small_all)
   ranged_upper Div = divided_end
-  ranged_upper SignedDiv = λ positive. taken (are_positive w x y) (divided x y) (all w) (λ z. z.hi ≤ x.hi) (positive_is w x y positive) divided_end
+  ranged_upper SignedDiv = λ positive. taken (are_positive w x y) (quotient_bounds x y) (all w) (λ z. z.hi ≤ x.hi) (positive_is w x y positive) divided_end
   ranged_upper Or = ones_end
   ranged_upper And = (omega arith, omega arith)
   ranged_upper Lsh =
@@ -256,7 +256,7 @@ smaller Arsh w x y j k le h = λ p. omega (arith, le, h p)
 -- the upper end is at most what the table says
 pub end_is_upper : (op : AluOp) (w : Width) (x y : Bounds) → AreWords w x → AreWords w y → IsUpper op w x y (interval_alu op w x y).hi
 end_is_upper op w x y a b =
-    cond_both (is_single x && is_single y) (single (alu op w x.lo y.lo)) (ranged op w (narrowed w x) (narrowed w y)) (λ z. IsUpper op w x y z.hi)
+    cond_both (is_single x && is_single y) (single (alu op w x.lo y.lo)) (result_bounds op w (operand_bounds w x) (operand_bounds w y)) (λ z. IsUpper op w x y z.hi)
     (λ e.
     let left : IsWithin (modulus w) x x.lo = record { small = a.words; above = omega arith; below = a.order } in
     let right : IsWithin (modulus w) y y.lo = record { small = b.words; above = omega arith; below = b.order } in
@@ -264,7 +264,7 @@ end_is_upper op w x y a b =
     let second : cut w y.lo ≡ y.lo = cut_small w y.lo (omega (arith, b.words, b.order)) in
     let is : alu op w x.lo y.lo ≡ cut w (whole op w x.lo y.lo) = λ i. cut w (whole op w (first i) (second i)) in
     let lies = row w x y x.lo y.lo left right op in
-    smaller op w x y (alu op w x.lo y.lo) (ranged op w x y).hi (omega (arith, is, lies.below)) (ranged_upper w x y a b op))
+    smaller op w x y (alu op w x.lo y.lo) (result_bounds op w x y).hi (omega (arith, is, lies.below)) (ranged_upper w x y a b op))
     (λ e. subst (λ (z : Bounds). IsUpper op w x y z.hi) (sym (narrowed_are w x y a b op)) (ranged_upper w x y a b op))
 
 -- ---- operators with one operand
@@ -293,7 +293,7 @@ unchanged_ranged (Swap Reverse z) x h = absurd h
 -- an operand that the operator leaves as it is is the result
 pub unchanged_operand : (op : UnaryOp) (x : Bounds) → AreWords (operand_width op) x → IsUnchanged op x → interval_unary op x ≡ x
 unchanged_operand op x a h =
-    cond_both (is_single x) (single (unary op x.lo)) (ranged_unary op (narrowed (operand_width op) x)) (λ z. z ≡ x)
+    cond_both (is_single x) (single (unary op x.lo)) (ranged_unary op (operand_bounds (operand_width op) x)) (λ z. z ≡ x)
     (λ e.
     let same = unchanged_number op x x.lo a a.order h in
     let ends = eqb-true x.lo x.hi e in
@@ -322,6 +322,6 @@ ranged_below (Swap Reverse z) x a = omega (arith, pow_pos (bits (swap_width z)))
 -- no result is claimed beyond the size of the operator's results
 pub unary_below : (op : UnaryOp) (x : Bounds) → AreWords (operand_width op) x → (interval_unary op x).hi < result_modulus op
 unary_below op x a =
-    cond_both (is_single x) (single (unary op x.lo)) (ranged_unary op (narrowed (operand_width op) x)) (λ z. z.hi < result_modulus op)
+    cond_both (is_single x) (single (unary op x.lo)) (ranged_unary op (operand_bounds (operand_width op) x)) (λ z. z.hi < result_modulus op)
     (λ e. number_below op x.lo)
     (λ e. subst (λ (z : Bounds). (ranged_unary op z).hi < result_modulus op) (sym (narrowed_same (operand_width op) x a)) (ranged_below op x a))

@@ -20,7 +20,7 @@ use Rattle.insn.specs.declared.operator.Extension.{Extension}
 use Rattle.insn.specs.declared.operator.Extension.TheVariants.{ByteTo32, HalfTo32, ByteTo64, HalfTo64, WordTo64}
 use Rattle.insn.specs.declared.operator.SwapOp.TheVariants.{ToLittle, ToBig, Reverse}
 use Rattle.interval.specs.declared.domain.Bounds.{Bounds}
-use Rattle.interval.specs.Intervals.{IsMember, from_to, single, all, narrowed, is_single, low, ranged_unary, operand_width, interval_unary}
+use Rattle.interval.specs.Intervals.{IsMember, from_to, single, all, operand_bounds, is_single, low, ranged_unary, operand_width, interval_unary}
 use Rattle.interval.specs.IntervalLaws.Members.{IsWithin, LiesInWords, modulus_fits, number_small, cut_small, cut_below, cut_cut, between, cut_any, chosen, narrowed_within, only_member}
 
 -- ---- byte swaps
@@ -129,9 +129,9 @@ pub unary_sound : (op : UnaryOp) (x : Bounds) (n : ℕ) → IsMember x n → Lie
 unary_sound op x n h =
     let w = operand_width op in
     let is : unary op (cut w n) ≡ unary op n = cut_unary op n h.word in
-    chosen (is_single x) (single (unary op x.lo)) (ranged_unary op (narrowed w x)) (unary op n)
+    chosen (is_single x) (single (unary op x.lo)) (ranged_unary op (operand_bounds w x)) (unary op n)
     (λ e.
     let same : unary op x.lo ≡ unary op n = ap (unary op) (only_member x n e h) in
     let fits = unary_fits op n in
     record { word = omega (arith, same, fits); above = omega (arith, same); below = omega (arith, same) })
-    (λ e. subst (λ (k : ℕ). LiesInWords (ranged_unary op (narrowed w x)) k) is (row_unary op (narrowed w x) (cut w n) (narrowed_within w x n h)))
+    (λ e. subst (λ (k : ℕ). LiesInWords (ranged_unary op (operand_bounds w x)) k) is (row_unary op (operand_bounds w x) (cut w n) (narrowed_within w x n h)))

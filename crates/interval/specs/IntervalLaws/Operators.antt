@@ -13,7 +13,7 @@ use Rattle.insn.specs.declared.width.Width.TheVariants.{W32, W64}
 use Rattle.insn.specs.declared.operator.AluOp.{AluOp}
 use Rattle.insn.specs.declared.operator.AluOp.TheVariants.{Add, Sub, Mul, Div, SignedDiv, Or, And, Lsh, Rsh, Mod, SignedMod, Xor, Arsh}
 use Rattle.interval.specs.declared.domain.Bounds.{Bounds}
-use Rattle.interval.specs.Intervals.{IsMember, from_to, single, all, narrowed, is_single, are_positive, divided, remainder, ones, shifted_right, ranged, interval_alu}
+use Rattle.interval.specs.Intervals.{IsMember, from_to, single, all, operand_bounds, is_single, are_positive, quotient_bounds, remainder, ones, shifted_right, result_bounds, interval_alu}
 use Rattle.interval.specs.IntervalLaws.Members.{IsWithin, LiesInWords, modulus_fits, number_small, cut_below, cut_between, cut_up_to, cut_any, chosen, narrowed_within, the_member, only_member}
 
 -- ---- plain numbers
@@ -51,7 +51,7 @@ module _ (w : Width) (x y : Bounds) (m n : ℕ) (a : IsWithin (modulus w) x m) (
   word : (k : ℕ) → k < modulus w → k < 2 ^ 64
   word k lt = omega (arith, modulus_fits w)
 
-  row_add : LiesInWords (ranged Add w x y) (cut w (whole Add w m n))
+  row_add : LiesInWords (result_bounds Add w x y) (cut w (whole Add w m n))
   row_add =
       chosen (nat_lt (x.hi + y.hi) (modulus w)) (from_to (x.lo + y.lo) (x.hi + y.hi)) (all w) (cut w (m + n))
       (λ e.
@@ -59,7 +59,7 @@ module _ (w : Width) (x y : Bounds) (m n : ℕ) (a : IsWithin (modulus w) x m) (
       cut_between w (x.lo + y.lo) (x.hi + y.hi) (m + n) (word (x.hi + y.hi) lt) (omega (arith, a.below, b.below)) (omega (arith, a.above, b.above)) (omega (arith, a.below, b.below)))
       (λ e. cut_any w (m + n))
 
-  row_sub : LiesInWords (ranged Sub w x y) (cut w (whole Sub w m n))
+  row_sub : LiesInWords (result_bounds Sub w x y) (cut w (whole Sub w m n))
   row_sub =
       chosen (nat_le y.hi x.lo) (from_to (x.lo - y.hi) (x.hi - y.lo)) (all w) (cut w (m + (modulus w - n)))
       (λ e.
@@ -76,13 +76,13 @@ module _ (w : Width) (x y : Bounds) (m n : ℕ) (a : IsWithin (modulus w) x m) (
       let up = mul-le m p x.hi k a.below below in
       cut_between w (x.lo * l) (x.hi * k) (m * p) (word (x.hi * k) lt) (omega (arith, up, lt)) (mul-le x.lo l m p a.above above) up
 
-  row_mul : LiesInWords (ranged Mul w x y) (cut w (whole Mul w m n))
+  row_mul : LiesInWords (result_bounds Mul w x y) (cut w (whole Mul w m n))
   row_mul =
       chosen (nat_lt (x.hi * y.hi) (modulus w)) (from_to (x.lo * y.lo) (x.hi * y.hi)) (all w) (cut w (m * n))
       (λ e. product y.hi y.lo n (ltb-true (x.hi * y.hi) (modulus w) e) b.above b.below)
       (λ e. cut_any w (m * n))
 
-  row_div : LiesInWords (divided x y) (cut w (whole Div w m n))
+  row_div : LiesInWords (quotient_bounds x y) (cut w (whole Div w m n))
   row_div =
       chosen (nat_lt 0 y.lo) (from_to (x.lo / y.hi) (x.hi / y.lo)) (from_to 0 x.hi) (cut w (whole Div w m n))
       (λ e.
@@ -115,7 +115,7 @@ module _ (w : Width) (x y : Bounds) (m n : ℕ) (a : IsWithin (modulus w) x m) (
       (λ z. cut_up_to w x.hi m (word x.hi a.small) a.below)
       (λ z. cut_up_to w x.hi (m % n) (word x.hi a.small) (omega (arith, mod-le m n, a.below))))
 
-  row_and : LiesInWords (ranged And w x y) (cut w (whole And w m n))
+  row_and : LiesInWords (result_bounds And w x y) (cut w (whole And w m n))
   row_and = cut_up_to w (min x.hi y.hi) (bit_and m n) (word (min x.hi y.hi) (omega (arith, a.small))) (omega (arith, and_le_l m n, and_le_r m n, a.below, b.below))
 
   row_ones : (k : ℕ) → ((j : ℕ) → m < 2 ^ j → n < 2 ^ j → k < 2 ^ j) → LiesInWords (from_to 0 (ones (max x.hi y.hi))) (cut w k)
@@ -128,7 +128,7 @@ module _ (w : Width) (x y : Bounds) (m n : ℕ) (a : IsWithin (modulus w) x m) (
       let lt = below bits (omega (arith, found.0, a.below)) (omega (arith, found.0, b.below)) in
       cut_up_to w (2 ^ bits - 1) k (omega (arith, found.1, pow_pos bits)) (omega (arith, lt))
 
-  row_lsh : LiesInWords (ranged Lsh w x y) (cut w (whole Lsh w m n))
+  row_lsh : LiesInWords (result_bounds Lsh w x y) (cut w (whole Lsh w m n))
   row_lsh =
       let power = 2 ^ (y.lo % bit_count w) in
       chosen (is_single y && nat_lt (x.hi * power) (modulus w)) (from_to (x.lo * power) (x.hi * power)) (all w) (cut w (m * 2 ^ (n % bit_count w)))
@@ -168,14 +168,14 @@ module _ (w : Width) (x y : Bounds) (m n : ℕ) (a : IsWithin (modulus w) x m) (
       let lt = ltb-true x.hi (modulus w / 2) e in
       ap (λ (z : ℤ). cast_unsigned (int_width w) (int_shr z (n % bit_count w))) (positive w m (omega (arith, lt, a.below)))
 
-  pub row : (op : AluOp) → LiesInWords (ranged op w x y) (cut w (whole op w m n))
+  pub row : (op : AluOp) → LiesInWords (result_bounds op w x y) (cut w (whole op w m n))
   row Add = row_add
   row Sub = row_sub
   row Mul = row_mul
   row Div = row_div
   row SignedDiv =
-      chosen (are_positive w x y) (divided x y) (all w) (cut w (whole SignedDiv w m n))
-      (λ e. subst (λ (k : ℕ). LiesInWords (divided x y) (cut w k)) (sym (signed_div_is e)) row_div)
+      chosen (are_positive w x y) (quotient_bounds x y) (all w) (cut w (whole SignedDiv w m n))
+      (λ e. subst (λ (k : ℕ). LiesInWords (quotient_bounds x y) (cut w k)) (sym (signed_div_is e)) row_div)
       (λ e. cut_any w (whole SignedDiv w m n))
   row Or = row_ones (bit_or m n) (λ j. or_lt j m n)
   row And = row_and
@@ -198,7 +198,7 @@ alu_fits op w m n = omega (arith, cut_below w (whole op w (cut w m) (cut w n)), 
 -- operands that are both single are computed on
 pub alu_sound : (op : AluOp) (w : Width) (x y : Bounds) (m n : ℕ) → IsMember x m → IsMember y n → LiesInWords (interval_alu op w x y) (alu op w m n)
 alu_sound op w x y m n h k =
-    chosen (is_single x && is_single y) (single (alu op w x.lo y.lo)) (ranged op w (narrowed w x) (narrowed w y)) (alu op w m n)
+    chosen (is_single x && is_single y) (single (alu op w x.lo y.lo)) (result_bounds op w (operand_bounds w x) (operand_bounds w y)) (alu op w m n)
     (λ e.
     let both = and_parts (is_single x) (is_single y) e in
     let left : x.lo ≡ m = only_member x m both.0 h in
@@ -206,4 +206,4 @@ alu_sound op w x y m n h k =
     let same : alu op w x.lo y.lo ≡ alu op w m n = λ i. alu op w (left i) (right i) in
     let fits = alu_fits op w m n in
     record { word = omega (arith, same, fits); above = omega (arith, same); below = omega (arith, same) })
-    (λ e. row w (narrowed w x) (narrowed w y) (cut w m) (cut w n) (narrowed_within w x m h) (narrowed_within w y n k) op)
+    (λ e. row w (operand_bounds w x) (operand_bounds w y) (cut w m) (cut w n) (narrowed_within w x m h) (narrowed_within w y n k) op)

@@ -11,7 +11,7 @@ use Rattle.interval.specs.Domains.{passes}
 use Rattle.interval.specs.declared.domain.Bounds.{Bounds}
 use Rattle.interval.specs.declared.domain.Test.{Test}
 use Rattle.interval.specs.declared.domain.Test.TheVariants.{Holds, Fails}
-use Rattle.interval.specs.Intervals.{IsMember, from_to, is_single, if_any, both, exchanged, greater, at_least, equal, left, can_refine, interval_refine}
+use Rattle.interval.specs.Intervals.{IsMember, from_to, is_single, if_any, both, exchanged_pair, greater, at_least, equal, pair_where, can_refine, interval_refine}
 use Rattle.interval.specs.Narrowness.{AreWords, ArePositive, ArePassing, OnLeft, Refines}
 use Rattle.interval.specs.IntervalLaws.Members.{cut_small, modulus_fits, only_member}
 use Rattle.interval.specs.IntervalLaws.Operators.{positive}
@@ -29,7 +29,7 @@ pub record ArePaired (R : ℕ → ℕ → Type 0) (x y : Bounds) (left : Bounds 
   pub first : (m : ℕ) → IsMember left.0 m → IsPaired R x y m
   pub second : (n : ℕ) → IsMember left.1 n → IsPaired (λ n m. R m n) y x n
 
-exchanged_paired : (R : ℕ → ℕ → Type 0) (x y : Bounds) (pairs : Option (Bounds × Bounds)) → OnLeft pairs (ArePaired R x y) → OnLeft (exchanged pairs) (ArePaired (λ n m. R m n) y x)
+exchanged_paired : (R : ℕ → ℕ → Type 0) (x y : Bounds) (pairs : Option (Bounds × Bounds)) → OnLeft pairs (ArePaired R x y) → OnLeft (exchanged_pair pairs) (ArePaired (λ n m. R m n) y x)
 exchanged_paired R x y None h = tt
 exchanged_paired R x y (Some pair) h = record { first = h.second; second = h.first }
 
@@ -76,10 +76,10 @@ module _ (w : Width) (x y : Bounds) (a : AreWords w x) (b : AreWords w y) where
       })
 
 module _ (w : Width) (x y : Bounds) (a : AreWords w x) (b : AreWords w y) where
-  less_paired : OnLeft (exchanged (greater y x)) (ArePaired (λ m n. m < n) x y)
+  less_paired : OnLeft (exchanged_pair (greater y x)) (ArePaired (λ m n. m < n) x y)
   less_paired = exchanged_paired (λ n m. m < n) y x (greater y x) (greater_paired w y x b a)
 
-  at_most_paired : OnLeft (exchanged (at_least y x)) (ArePaired (λ m n. m ≤ n) x y)
+  at_most_paired : OnLeft (exchanged_pair (at_least y x)) (ArePaired (λ m n. m ≤ n) x y)
   at_most_paired = exchanged_paired (λ n m. m ≤ n) y x (at_least y x) (at_least_paired w y x b a)
 
   -- words are compared as they are
@@ -110,7 +110,7 @@ module _ (w : Width) (x y : Bounds) (a : AreWords w x) (b : AreWords w y) where
   unfolding Suffices
   failing c R is m n p q r = not_from_false (holds c w m n) (held c m n false p q (is m n p q r))
 
-  left_passes : (test : Test) → Refines test w x y → OnLeft (left test x y) (ArePassing test w x y)
+  left_passes : (test : Test) → Refines test w x y → OnLeft (pair_where test x y) (ArePassing test w x y)
   left_passes (Holds Eq) s = passing (Holds Eq) (λ m n. m ≡ n) (equal x y) (holding Eq (λ m n. m ≡ n) (λ m n p q r. eq-eqb m n r)) (equal_paired w x y a b)
   left_passes (Holds Gt) s = passing (Holds Gt) (λ m n. n < m) (greater x y) (holding Gt (λ m n. n < m) (λ m n p q r. lt-ltb n m r)) (greater_paired w x y a b)
   left_passes (Holds Ge) s = passing (Holds Ge) (λ m n. n ≤ m) (at_least x y) (holding Ge (λ m n. n ≤ m) (λ m n p q r. le-leb n m r)) (at_least_paired w x y a b)
@@ -118,17 +118,17 @@ module _ (w : Width) (x y : Bounds) (a : AreWords w x) (b : AreWords w y) where
   left_passes (Holds Ne) s = absurd s
   left_passes (Holds SignedGt) s = passing (Holds SignedGt) (λ m n. n < m) (greater x y) (holding SignedGt (λ m n. n < m) (λ m n p q r. signed_held s (λ i j. int_lt j i) m n true p q (lt-ltb n m r))) (greater_paired w x y a b)
   left_passes (Holds SignedGe) s = passing (Holds SignedGe) (λ m n. n ≤ m) (at_least x y) (holding SignedGe (λ m n. n ≤ m) (λ m n p q r. signed_held s (λ i j. int_le j i) m n true p q (le-leb n m r))) (at_least_paired w x y a b)
-  left_passes (Holds Lt) s = passing (Holds Lt) (λ m n. m < n) (exchanged (greater y x)) (holding Lt (λ m n. m < n) (λ m n p q r. lt-ltb m n r)) less_paired
-  left_passes (Holds Le) s = passing (Holds Le) (λ m n. m ≤ n) (exchanged (at_least y x)) (holding Le (λ m n. m ≤ n) (λ m n p q r. le-leb m n r)) at_most_paired
-  left_passes (Holds SignedLt) s = passing (Holds SignedLt) (λ m n. m < n) (exchanged (greater y x)) (holding SignedLt (λ m n. m < n) (λ m n p q r. signed_held s int_lt m n true p q (lt-ltb m n r))) less_paired
-  left_passes (Holds SignedLe) s = passing (Holds SignedLe) (λ m n. m ≤ n) (exchanged (at_least y x)) (holding SignedLe (λ m n. m ≤ n) (λ m n p q r. signed_held s int_le m n true p q (le-leb m n r))) at_most_paired
+  left_passes (Holds Lt) s = passing (Holds Lt) (λ m n. m < n) (exchanged_pair (greater y x)) (holding Lt (λ m n. m < n) (λ m n p q r. lt-ltb m n r)) less_paired
+  left_passes (Holds Le) s = passing (Holds Le) (λ m n. m ≤ n) (exchanged_pair (at_least y x)) (holding Le (λ m n. m ≤ n) (λ m n p q r. le-leb m n r)) at_most_paired
+  left_passes (Holds SignedLt) s = passing (Holds SignedLt) (λ m n. m < n) (exchanged_pair (greater y x)) (holding SignedLt (λ m n. m < n) (λ m n p q r. signed_held s int_lt m n true p q (lt-ltb m n r))) less_paired
+  left_passes (Holds SignedLe) s = passing (Holds SignedLe) (λ m n. m ≤ n) (exchanged_pair (at_least y x)) (holding SignedLe (λ m n. m ≤ n) (λ m n p q r. signed_held s int_le m n true p q (le-leb m n r))) at_most_paired
   left_passes (Fails Eq) s = absurd s
-  left_passes (Fails Gt) s = passing (Fails Gt) (λ m n. m ≤ n) (exchanged (at_least y x)) (failing Gt (λ m n. m ≤ n) (λ m n p q r. le-ltb n m r)) at_most_paired
-  left_passes (Fails Ge) s = passing (Fails Ge) (λ m n. m < n) (exchanged (greater y x)) (failing Ge (λ m n. m < n) (λ m n p q r. lt-leb n m r)) less_paired
+  left_passes (Fails Gt) s = passing (Fails Gt) (λ m n. m ≤ n) (exchanged_pair (at_least y x)) (failing Gt (λ m n. m ≤ n) (λ m n p q r. le-ltb n m r)) at_most_paired
+  left_passes (Fails Ge) s = passing (Fails Ge) (λ m n. m < n) (exchanged_pair (greater y x)) (failing Ge (λ m n. m < n) (λ m n p q r. lt-leb n m r)) less_paired
   left_passes (Fails Set) s = absurd s
   left_passes (Fails Ne) s = passing (Fails Ne) (λ m n. m ≡ n) (equal x y) (failing Ne (λ m n. m ≡ n) (λ m n p q r. ap not (eq-eqb m n r))) (equal_paired w x y a b)
-  left_passes (Fails SignedGt) s = passing (Fails SignedGt) (λ m n. m ≤ n) (exchanged (at_least y x)) (failing SignedGt (λ m n. m ≤ n) (λ m n p q r. signed_held s (λ i j. int_lt j i) m n false p q (le-ltb n m r))) at_most_paired
-  left_passes (Fails SignedGe) s = passing (Fails SignedGe) (λ m n. m < n) (exchanged (greater y x)) (failing SignedGe (λ m n. m < n) (λ m n p q r. signed_held s (λ i j. int_le j i) m n false p q (lt-leb n m r))) less_paired
+  left_passes (Fails SignedGt) s = passing (Fails SignedGt) (λ m n. m ≤ n) (exchanged_pair (at_least y x)) (failing SignedGt (λ m n. m ≤ n) (λ m n p q r. signed_held s (λ i j. int_lt j i) m n false p q (le-ltb n m r))) at_most_paired
+  left_passes (Fails SignedGe) s = passing (Fails SignedGe) (λ m n. m < n) (exchanged_pair (greater y x)) (failing SignedGe (λ m n. m < n) (λ m n p q r. signed_held s (λ i j. int_le j i) m n false p q (lt-leb n m r))) less_paired
   left_passes (Fails Lt) s = passing (Fails Lt) (λ m n. n ≤ m) (at_least x y) (failing Lt (λ m n. n ≤ m) (λ m n p q r. le-ltb m n r)) (at_least_paired w x y a b)
   left_passes (Fails Le) s = passing (Fails Le) (λ m n. n < m) (greater x y) (failing Le (λ m n. n < m) (λ m n p q r. lt-leb m n r)) (greater_paired w x y a b)
   left_passes (Fails SignedLt) s = passing (Fails SignedLt) (λ m n. n ≤ m) (at_least x y) (failing SignedLt (λ m n. n ≤ m) (λ m n p q r. signed_held s int_lt m n false p q (le-ltb m n r))) (at_least_paired w x y a b)
@@ -174,6 +174,6 @@ module _ (w : Width) (x y : Bounds) (a : AreWords w x) (b : AreWords w y) where
   -- an order, or equality, leaves only members that pass with a member of the other operand
   pub refinement_passes : (test : Test) → Refines test w x y → OnLeft (interval_refine test w x y) (ArePassing test w x y)
   refinement_passes test s =
-      cond_both (is_single x && is_single y) (if passes test w x.lo y.lo then Some (x, y) else None) (if can_refine test w x y then left test x y else Some (x, y)) (λ r. OnLeft r (ArePassing test w x y))
+      cond_both (is_single x && is_single y) (if passes test w x.lo y.lo then Some (x, y) else None) (if can_refine test w x y then pair_where test x y else Some (x, y)) (λ r. OnLeft r (ArePassing test w x y))
       (λ e. cond_both (passes test w x.lo y.lo) (Some (x, y)) None (λ r. OnLeft r (ArePassing test w x y)) (λ t. singles test e t) (λ t. tt))
-      (λ e. cond_both (can_refine test w x y) (left test x y) (Some (x, y)) (λ r. OnLeft r (ArePassing test w x y)) (λ t. left_passes test s) (λ t. absurd (true≢false (sym (refined test s) ∙ t))))
+      (λ e. cond_both (can_refine test w x y) (pair_where test x y) (Some (x, y)) (λ r. OnLeft r (ArePassing test w x y)) (λ t. left_passes test s) (λ t. absurd (true≢false (sym (refined test s) ∙ t))))

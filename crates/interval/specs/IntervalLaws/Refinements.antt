@@ -12,7 +12,7 @@ use Rattle.interval.specs.Domains.{passes, Keeps, HasMembers}
 use Rattle.interval.specs.declared.domain.Bounds.{Bounds}
 use Rattle.interval.specs.declared.domain.Test.{Test}
 use Rattle.interval.specs.declared.domain.Test.TheVariants.{Holds, Fails}
-use Rattle.interval.specs.Intervals.{IsMember, from_to, is_single, are_positive, if_any, both, exchanged, greater, at_least, equal, is_signed, where_it_holds, where_it_fails, condition_of, left, can_refine, interval_refine}
+use Rattle.interval.specs.Intervals.{IsMember, from_to, is_single, are_positive, if_any, both, exchanged_pair, greater, at_least, equal, is_signed, where_it_holds, where_it_fails, condition_of, pair_where, can_refine, interval_refine}
 use Rattle.interval.specs.IntervalLaws.Members.{LiesInWords, is_member, only_member, cut_small, modulus_fits}
 use Rattle.interval.specs.IntervalLaws.Operators.{positive}
 
@@ -29,7 +29,7 @@ both_kept lo hi lo' hi' m n p a b q c d =
     (λ f. let no = leb-false lo' hi' f in absurd (omega arith)))
     (λ e. let no = leb-false lo hi e in absurd (omega arith))
 
-exchanged_kept : (pairs : Option (Bounds × Bounds)) (m n : ℕ) → AreKept pairs n m → AreKept (exchanged pairs) m n
+exchanged_kept : (pairs : Option (Bounds × Bounds)) (m n : ℕ) → AreKept pairs n m → AreKept (exchanged_pair pairs) m n
 exchanged_kept None m n h = h
 exchanged_kept (Some pair) m n h = (h.1, h.0)
 
@@ -53,10 +53,10 @@ module _ (x y : Bounds) (m n : ℕ) (a : LiesInWords x m) (b : LiesInWords y n) 
       (omega (arith, a.word)) (omega (arith, a.above, b.above)) (omega (arith, a.below, b.below))
 
 module _ (x y : Bounds) (m n : ℕ) (a : LiesInWords x m) (b : LiesInWords y n) where
-  keeps_less : m < n → AreKept (exchanged (greater y x)) m n
+  keeps_less : m < n → AreKept (exchanged_pair (greater y x)) m n
   keeps_less lt = exchanged_kept (greater y x) m n (keeps_greater y x n m b a lt)
 
-  keeps_at_most : m ≤ n → AreKept (exchanged (at_least y x)) m n
+  keeps_at_most : m ≤ n → AreKept (exchanged_pair (at_least y x)) m n
   keeps_at_most le = exchanged_kept (at_least y x) m n (keeps_at_least y x n m b a le)
 
   -- operands below half are their own signed numbers, where the condition reads signs
@@ -98,7 +98,7 @@ module _ (x y : Bounds) (m n : ℕ) (a : LiesInWords x m) (b : LiesInWords y n) 
     same_holds : (c : Condition) → m < modulus w → n < modulus w → holds c w m n ≡ compares c (int_width w) m n
     same_holds c small_m small_n = λ i. compares c (int_width w) (cut_small w m small_m i) (cut_small w n small_n i)
 
-    passing : (test : Test) → AreOwn (condition_of test) → m < modulus w → n < modulus w → passes test w m n ≡ true → AreKept (left test x y) m n
+    passing : (test : Test) → AreOwn (condition_of test) → m < modulus w → n < modulus w → passes test w m n ≡ true → AreKept (pair_where test x y) m n
     passing (Holds c) own small_m small_n h = holding c own (sym (same_holds c small_m small_n) ∙ h)
     passing (Fails c) own small_m small_n h = failing c own (sym (same_holds c small_m small_n) ∙ not-true (holds c w m n) h)
 
@@ -145,24 +145,24 @@ module _ (x y : Bounds) (m n : ℕ) (h : IsMember x m) (k : IsMember y n) (w : W
   member_of : (z : Bounds) (i : ℕ) → z.hi < modulus w → IsMember z i → LiesInWords z i
   member_of z i lt j = record { word = omega (arith, modulus_fits w); above = j.above; below = j.below }
 
-  refined : (test : Test) → can_refine test w x y ≡ true → passes test w m n ≡ true → Keeps IsMember (left test x y) m n
+  refined : (test : Test) → can_refine test w x y ≡ true → passes test w m n ≡ true → Keeps IsMember (pair_where test x y) m n
   unfolding AreOwn
   refined test e passed =
       let known = readable (is_signed (condition_of test)) (condition_of test) refl e in
       let a = member_of x m known.first_small first_lies in
       let b = member_of y n known.second_small second_lies in
-      kept_as (left test x y) m n (passing x y m n a b w test known.own (omega (arith, known.first_small, a.below)) (omega (arith, known.second_small, b.below)) passed)
+      kept_as (pair_where test x y) m n (passing x y m n a b w test known.own (omega (arith, known.first_small, a.below)) (omega (arith, known.second_small, b.below)) passed)
 
   pub refine_sound : (test : Test) → passes test w m n ≡ true → Keeps IsMember (interval_refine test w x y) m n
   refine_sound test passed =
-      cond_both (is_single x && is_single y) (if passes test w x.lo y.lo then Some (x, y) else None) (if can_refine test w x y then left test x y else Some (x, y)) (λ r. Keeps IsMember r m n)
+      cond_both (is_single x && is_single y) (if passes test w x.lo y.lo then Some (x, y) else None) (if can_refine test w x y then pair_where test x y else Some (x, y)) (λ r. Keeps IsMember r m n)
       (λ e.
       let both = and_parts (is_single x) (is_single y) e in
       let first : x.lo ≡ m = only_member x m both.0 first_lies in
       let second : y.lo ≡ n = only_member y n both.1 second_lies in
       let same : passes test w x.lo y.lo ≡ true = (λ i. passes test w (first i) (second i)) ∙ passed in
       cond_both (passes test w x.lo y.lo) (Some (x, y)) None (λ r. Keeps IsMember r m n) (λ t. (h, k)) (λ t. absurd (true≢false (sym same ∙ t))))
-      (λ e. cond_both (can_refine test w x y) (left test x y) (Some (x, y)) (λ r. Keeps IsMember r m n) (λ t. refined test t passed) (λ t. (h, k)))
+      (λ e. cond_both (can_refine test w x y) (pair_where test x y) (Some (x, y)) (λ r. Keeps IsMember r m n) (λ t. refined test t passed) (λ t. (h, k)))
 
 -- ---- what is left has members
 
@@ -184,7 +184,7 @@ if_left x y p q =
     (λ f. tt))
     (λ e. tt)
 
-exchanged_left : (pairs : Option (Bounds × Bounds)) → AreLeft pairs → AreLeft (exchanged pairs)
+exchanged_left : (pairs : Option (Bounds × Bounds)) → AreLeft pairs → AreLeft (exchanged_pair pairs)
 exchanged_left None h = h
 exchanged_left (Some pair) h = (h.1, h.0)
 
@@ -226,7 +226,7 @@ module _ (x y : Bounds) (p : x.hi < 2 ^ 64) (q : y.hi < 2 ^ 64) (as_they_are : A
   failing_left SignedLt = at_least_left x y p q
   failing_left SignedLe = greater_left x y p q
 
-  passing_left : (test : Test) → AreLeft (left test x y)
+  passing_left : (test : Test) → AreLeft (pair_where test x y)
   passing_left (Holds c) = holding_left c
   passing_left (Fails c) = failing_left c
 
@@ -236,10 +236,10 @@ module _ (test : Test) (w : Width) (x y : Bounds) (m n : ℕ) (h : IsMember x m)
 
   all_left : AreLeft (interval_refine test w x y)
   all_left =
-      cond_both (is_single x && is_single y) (if passes test w x.lo y.lo then Some (x, y) else None) (if can_refine test w x y then left test x y else Some (x, y)) AreLeft
+      cond_both (is_single x && is_single y) (if passes test w x.lo y.lo then Some (x, y) else None) (if can_refine test w x y then pair_where test x y else Some (x, y)) AreLeft
       (λ e. cond_both (passes test w x.lo y.lo) (Some (x, y)) None AreLeft (λ t. as_they_are) (λ t. tt))
       (λ e.
-      cond_both (can_refine test w x y) (left test x y) (Some (x, y)) AreLeft
+      cond_both (can_refine test w x y) (pair_where test x y) (Some (x, y)) AreLeft
       (λ t.
       let known = readable x y m n h k w (is_signed (condition_of test)) (condition_of test) refl t in
       passing_left x y (omega (arith, known.first_small, modulus_fits w)) (omega (arith, known.second_small, modulus_fits w)) as_they_are test)

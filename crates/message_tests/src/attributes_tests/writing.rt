@@ -9,7 +9,7 @@ use stun::registry::ErrorCode;
 use stun::registry::attribute::XOR_RELAYED_ADDRESS;
 use stun::{Builder, NoRoom};
 
-/// Returns the bytes behind the header.
+/// Returns the bytes after the header.
 fn attributes<'b>(builder: &'b Builder<'_>) -> &'b [u8] {
     match builder.written().split_at_checked(20) {
         Some((_, attributes)) => attributes,

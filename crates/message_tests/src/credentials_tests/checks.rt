@@ -67,7 +67,7 @@ static SAMPLES: [Sample; 5] = [
     },
 ];
 
-/// Checks the sample request against the user of a row, behind another user.
+/// Checks the sample request against the user of a row, which follows another user.
 fn sample_result(alloc: Global, sample: &Sample) -> Result<Result<usize, AuthError>, Fail> {
     let message = read(&LONG_TERM_REQUEST)?;
     let users = [
@@ -193,7 +193,7 @@ const LONGER: Attribute = Attribute {
     value: b"n1x",
 };
 
-/// The attributes of a message, its code, the attributes behind it, and the answer for the realm `relay`, the nonce
+/// The attributes of a message, its code, the attributes after it, and the answer for the realm `relay`, the nonce
 /// `n1`, and two users `user` with the passwords `pass` and `word`.
 #[derive(Clone, Copy)]
 struct Case {

@@ -111,7 +111,7 @@ fn check_codes_under_the_long_key(rt: &impl Abort) {
 /// The password of the first three sample messages of RFC 5769, which is the key of their codes.
 const SAMPLE_PASSWORD: &[u8] = b"VOkJxbRl1RmTxUk/WvJxBt";
 
-/// These messages, with a FINGERPRINT behind the code (RFC 5769, sections 2.1 to 2.3).
+/// These messages, with a FINGERPRINT after the code (RFC 5769, sections 2.1 to 2.3).
 const SAMPLES: [&[u8]; 3] = [&REQUEST, &IPV4_RESPONSE, &IPV6_RESPONSE];
 
 /// Returns the code of a message under a key, by the formula of the standard, and the code that it carries.

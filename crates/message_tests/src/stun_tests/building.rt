@@ -1,7 +1,7 @@
 //! Messages that are built.
 
 ghost use Rattle.std.specs.Prelude.{◌≡◌, ◌<◌, take};
-ghost use Rattle.stun.specs.Messages.{parts_bytes, started, with_attribute};
+ghost use Rattle.stun.specs.Messages.{parts_bytes, empty_message, with_attribute};
 
 use std::alloc::Global;
 use std::process::Abort;
@@ -10,7 +10,8 @@ use stun::{Builder, NoRoom, begin, read_back};
 
 /// Builds a reply in the caller's buffer, whose bytes the contract describes.
 fn reply(out: &mut [u8], tx: [u8; 12], value: &[u8]) -> usize
-    ensures { 0 < result → take result out.new ≡ parts_bytes (with_attribute (started 0x0101 tx) 0x0020 value.now) }
+    ensures { 0 < result → take result out.new
+        ≡ parts_bytes (with_attribute (empty_message 0x0101 tx) 0x0020 value.now) }
 {
     if begin(out, 0x0101, &tx).is_err() {
         return 0;

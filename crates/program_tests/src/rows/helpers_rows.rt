@@ -73,7 +73,7 @@ static ASKED: [Asked; 15] = [
              79a000fe00000000 9500000000000000",
         verdict: 0x0702_00c0_8813_0100,
     },
-    // the byte behind the record stays: `stb [r10-1], 7`, `mov r2, 16385`, `mov r3, r10`, `add r3, -9`,
+    // the byte after the record stays: `stb [r10-1], 7`, `mov r2, 16385`, `mov r3, r10`, `add r3, -9`,
     // `call 1`, `ldxb r0, [r10-1]`
     Asked {
         slots: "720affff07000000 b702000001400000 bfa3000000000000 07030000f7ffffff \

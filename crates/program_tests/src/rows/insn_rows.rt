@@ -217,7 +217,7 @@ static SPELLED: [Spelled; 25] = [
     },
 ];
 
-/// Compares the lines of a trace with those of the text, each behind its slot.
+/// Compares the lines of a trace with those of the text, each after its slot.
 fn expect_traced<R: Abort + AllocGlobal>(rt: &R, code: &[Insn], text: &str) -> Result<(), Fail> {
     let mut traced = Vec::new(rt.alloc());
     let mut lines = Lines::new(&mut traced);
@@ -283,7 +283,7 @@ pub static UNDECODED: [(&str, &str); 70] = [
     ("95b0000001000000", "refused E5 at 0"),
     // a fault of the encoding before any of the program
     ("b70a000000000000 8d00000000000000", "refused E4 at 1"),
-    // the second slot is missing: before unused fields, behind the registers
+    // the second slot is missing: before unused fields, after the registers
     ("1800000000000000", "refused E7 at 0"),
     ("1810010000000000", "refused E7 at 0"),
     ("180b000000000000", "refused E5 at 0"),
@@ -317,7 +317,7 @@ pub static UNDECODED: [(&str, &str); 70] = [
     ("8410000000000000", "refused E6 at 0"),
     ("0600010000000000", "refused E6 at 0"),
     ("0500000001000000", "refused E6 at 0"),
-    // unused fields of stores and of calls, behind the registers
+    // unused fields of stores and of calls, after the registers
     ("7210000000000000", "refused E6 at 0"),
     ("7a2af8ff01000000", "refused E6 at 0"),
     ("7300000001000000", "refused E6 at 0"),

@@ -3,7 +3,7 @@
 use super::insn_rows::UNDECODED;
 use super::semantics_rows::{calls, context, memory};
 use super::verifier_rows::{PROGRAMS, REPEATED, Repeated};
-use super::{expect_printed, program, reported};
+use super::{Expected, expect_printed, program, reported};
 use loader::load;
 use report::Ask;
 use std::process::Abort;
@@ -14,7 +14,12 @@ fn expect<R: Abort + AllocGlobal>(rt: &R, row: &str, file: &[u8], line: &str) ->
     let printed = format!(in rt.alloc(); "{line}\n")?;
     let status = u8::from(!line.starts_with("accepted"));
     let report = reported(rt, Ask::Verify, file);
-    expect_printed(rt, row, &report, &printed, "", status);
+    let expected = Expected {
+        out: &printed,
+        err: "",
+        status,
+    };
+    expect_printed(rt, row, &report, expected);
     let loaded = match load(rt.alloc(), file) {
         Ok(loaded) => {
             let count = loaded.program().code().len();

@@ -1,14 +1,14 @@
 //! What a trace prints, what a run has in common with it, and frames, sinks and addresses.
 
-ghost use Rattle.std.specs.Prelude.{◌≤◌, length};
+ghost use Rattle.std.specs.Prelude.{◌≡◌, ◌≤◌, true, length};
 
 mod memory;
 
 use super::semantics_rows::{calls, context, memory as stores};
 use super::verifier_rows::PROGRAMS;
 use super::{
-    CLIENT, FIFTH_BYTE, FIFTH_BYTE_CHECKED, FOURTH_BYTE, PEER, Traced, expect_ends, expect_printed,
-    program, reported, start_on,
+    CLIENT, Expected, FIFTH_BYTE, FIFTH_BYTE_CHECKED, FOURTH_BYTE, PEER, Traced, expect_ends,
+    expect_printed, program, reported, start_on,
 };
 use insn::Insn;
 use loader::load;
@@ -159,7 +159,7 @@ static TRACED: [Traced; 24] = [
         end: "exit 0\nwindow none\ndestination none\n",
         status: 0,
     },
-    // `ldxsb r0, [r2+0]` and `ldxsh r0, [r2+0]` behind a check of two bytes
+    // `ldxsb r0, [r2+0]` and `ldxsh r0, [r2+0]` after a check of two bytes
     Traced {
         slots: "7912000000000000 7913080000000000 bf24000000000000 0704000002000000 \
              b700000000000000 2d34010000000000 9120000000000000 9500000000000000",
@@ -202,7 +202,12 @@ fn a_trace_prints_each_step_and_its_end(rt: HostRuntime) -> Result<(), Fail> {
     expect_ends(&rt, "traced", TRACED.as_slice())?;
     let lines = numbered_lines(&rt)?;
     let report = reported(&rt, Ask::Trace { hex: None }, &numbered(&rt)?);
-    expect_printed(&rt, "4,096 steps", &report, &lines, "", 0);
+    let expected = Expected {
+        out: &lines,
+        err: "",
+        status: 0,
+    };
+    expect_printed(&rt, "4,096 steps", &report, expected);
     Ok(())
 }
 
@@ -358,27 +363,33 @@ static SEEDED: [(u64, usize, Context); 12] = [
     (12, 65_507, CLIENT),
 ];
 
-/// Runs and traces a program over a datagram, and compares how the two end.
-fn expect_same_end<R: Abort>(
-    rt: &R,
-    name: &str,
-    program: &Verified,
-    context: &Context,
-    datagram: &[u8],
-    ran: &mut Frame,
-    traced: &mut Frame,
-)
-    requires { length datagram.now ≤ 65507 }
+/// The frame of a run and that of a trace.
+#[derive(Drop)]
+struct Frames {
+    /// The frame that a program runs in.
+    ran: Frame,
+    /// The frame that it is traced in.
+    traced: Frame,
+}
+
+/// Runs and traces a program in frames that are started on one datagram, and compares how the two end.
+fn expect_same_end<R: Abort>(rt: &R, name: &str, program: &Verified, frames: &mut Frames)
+    requires ran { frames.old.ran.is_started ≡ true }
+    requires traced { frames.old.traced.is_started ≡ true }
 {
-    start_on(ran, context, datagram);
-    start_on(traced, context, datagram);
-    let outcome = run(program, ran, &NoAllocation);
-    let ended = trace(program.code(), traced, &NoAllocation, &mut Silent);
+    let outcome = run(program, &mut frames.ran, &NoAllocation);
+    let ended = trace(
+        program.code(),
+        &mut frames.traced,
+        &NoAllocation,
+        &mut Silent,
+    );
     assert_eq!(rt; ended, Ok(outcome), "{name}");
 }
 
-/// Compares what two frames show after a run and a trace over datagrams of a length.
-fn expect_same_frames<R: Abort>(rt: &R, name: &str, ran: &Frame, traced: &Frame, count: usize) {
+/// Compares what both frames show after a run and a trace over datagrams of a length.
+fn expect_same_frames<R: Abort>(rt: &R, name: &str, frames: &Frames, count: usize) {
+    let (ran, traced) = (&frames.ran, &frames.traced);
     assert_eq!(rt; ran.datagram().len(), count, "{name}");
     assert_eq!(rt; traced.datagram(), ran.datagram(), "{name}");
     assert_eq!(rt; traced.window(), ran.window(), "{name}");
@@ -387,31 +398,34 @@ fn expect_same_frames<R: Abort>(rt: &R, name: &str, ran: &Frame, traced: &Frame,
 
 /// Runs and traces a program over seeded datagrams from either side, each in a frame of its own, and compares
 /// the two.
-fn agree<R: Abort + AllocGlobal>(
-    rt: &R,
-    slots: &str,
-    ran: &mut Frame,
-    traced: &mut Frame,
-) -> Result<(), Fail> {
+fn agree<R: Abort + AllocGlobal>(rt: &R, slots: &str, frames: &mut Frames) -> Result<(), Fail> {
     let file = program(rt, slots)?;
     let loaded = load(rt.alloc(), &file)?;
     for (seed, count, context) in SEEDED.iter() {
         let datagram = seeded(rt.alloc(), *seed, *count)?;
         assert!(rt; datagram.len() <= MAX_DATAGRAM);
         let name = format!(in rt.alloc(); "{slots} seed {seed}")?;
-        expect_same_end(rt, &name, loaded.program(), context, &datagram, ran, traced);
-        expect_same_frames(rt, &name, ran, traced, *count);
+        start_on(&mut frames.ran, context, &datagram);
+        start_on(&mut frames.traced, context, &datagram);
+        expect_same_end(rt, &name, loaded.program(), frames);
+        expect_same_frames(rt, &name, frames, *count);
     }
     Ok(())
 }
 
+/// Makes both frames.
+fn make_frames<R: AllocGlobal>(rt: &R) -> Result<Frames, Fail> {
+    let ran = Frame::new(rt.alloc())?;
+    let traced = Frame::new(rt.alloc())?;
+    Ok(Frames { ran, traced })
+}
+
 /// Does so with each row that is accepted.
 fn agree_on_verified<R: Abort + AllocGlobal>(rt: &R, rows: &[(&str, &str)]) -> Result<(), Fail> {
-    let mut ran = Frame::new(rt.alloc())?;
-    let mut traced = Frame::new(rt.alloc())?;
+    let mut frames = make_frames(rt)?;
     for &(slots, line) in rows {
         if line.starts_with("accepted") {
-            agree(rt, slots, &mut ran, &mut traced)?;
+            agree(rt, slots, &mut frames)?;
         }
     }
     Ok(())
@@ -419,10 +433,9 @@ fn agree_on_verified<R: Abort + AllocGlobal>(rt: &R, rows: &[(&str, &str)]) -> R
 
 /// Does so with each row, of which each is accepted.
 fn agree_on_traced<R: Abort + AllocGlobal>(rt: &R, rows: &[Traced]) -> Result<(), Fail> {
-    let mut ran = Frame::new(rt.alloc())?;
-    let mut traced = Frame::new(rt.alloc())?;
+    let mut frames = make_frames(rt)?;
     for row in rows {
-        agree(rt, row.slots, &mut ran, &mut traced)?;
+        agree(rt, row.slots, &mut frames)?;
     }
     Ok(())
 }

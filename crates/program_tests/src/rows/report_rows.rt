@@ -1,6 +1,6 @@
 //! Bad data, bad files, outputs that fail, and outputs that keep their bytes until they are flushed.
 
-use super::{expect_printed, program, reported};
+use super::{Expected, expect_printed, program, reported};
 use insn::Insn;
 use machine::{Lines, Sink};
 use report::{Ask, report};
@@ -241,7 +241,12 @@ fn expect_reports<R: Abort + AllocGlobal>(rt: &R, rows: &[Report]) -> Result<(),
         let name = format!(in rt.alloc(); "{i}: {ask:?} {slots}")?;
         let file = program(rt, slots)?;
         let report = reported(rt, ask, &file);
-        expect_printed(rt, &name, &report, row.out, row.err, row.status);
+        let expected = Expected {
+            out: row.out,
+            err: row.err,
+            status: row.status,
+        };
+        expect_printed(rt, &name, &report, expected);
         let flushed = flushed(rt.alloc(), ask, &file);
         assert_eq!(rt; flushed.as_slice(), row.out.as_bytes(), "{name}");
     }
@@ -317,7 +322,12 @@ fn expect_long<R: Abort + AllocGlobal>(rt: &R, rows: &[Long]) -> Result<(), Fail
         let digits = digits_of(rt, row)?;
         let hex = Some(digits.as_str());
         let report = reported(rt, Ask::Trace { hex }, &file);
-        expect_printed(rt, &name, &report, row.out, row.err, row.status);
+        let expected = Expected {
+            out: row.out,
+            err: row.err,
+            status: row.status,
+        };
+        expect_printed(rt, &name, &report, expected);
     }
     Ok(())
 }

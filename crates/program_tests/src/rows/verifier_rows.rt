@@ -39,7 +39,7 @@ pub static PROGRAMS: [(&str, &str); 70] = [
     // `add r1, 1` and `jeq r1, 0, +0`
     ("0701000001000000 9500000000000000", "refused V11 at 0"),
     ("1501000000000000 9500000000000000", "refused V12 at 0"),
-    // `ldxb r0, [r0+0]` behind `mov r0, 0`
+    // `ldxb r0, [r0+0]` after `mov r0, 0`
     (
         "b700000000000000 7100000000000000 9500000000000000",
         "refused V18 at 1",
@@ -80,7 +80,7 @@ pub static PROGRAMS: [(&str, &str); 70] = [
         "refused V10 at 9",
     ),
     // `mov r5, 1`, `mov r6, 2` and `add r5, r6` between the check and the load; two read bytes in their place;
-    // and the first of these behind a check of three bytes
+    // and the first of these after a check of three bytes
     (
         "7912000000000000 7913080000000000 bf24000000000000 0704000004000000 b700000000000000 \
              2d34040000000000 b705000001000000 b706000002000000 0f65000000000000 7120030000000000 \

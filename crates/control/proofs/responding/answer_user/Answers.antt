@@ -11,11 +11,11 @@ use Rattle.control.proofs.responding.answer_user.Goals as goal
 pub returns-in-Ok-clause-answer : goal.returns-in-Ok-clause-answer
 returns-in-Ok-clause-answer c =
     let config = c.args.config.now in
-    let p = c.args.message.now in
+    let p = c.args.arrival.now.message.now in
     let old = c.args.tables.now in
     let user = c.in-Ok.authenticated.user in
     let key = user_key (string_bytes config.realm) (accounts_of config.users.items) user in
-    let served = understood_and_served c.args.request c.args.client user p (rows_at c.args.now old) in
+    let served = understood_and_served c.args.request c.args.arrival.now.client user p (rows_at c.args.arrival.now.moment old) in
     record {
       checked = Ok user;
       is_checked = c.in-Ok.ensures.found;
@@ -23,8 +23,8 @@ returns-in-Ok-clause-answer c =
         rows = rows_given served old c.serve-decision.new.tables c.serve-decision.result c.serve-decision.ensures.gives;
         bytes =
             c.write_reply.ensures.bytes
-            ∙ ap (λ k. parts_bytes (reply_to config (request.Turn c.args.request) c.args.client p (Some k) c.serve-decision.result)) c.in-Ok.ensures.key
-            ∙ ap (λ result. parts_bytes (reply_to config (request.Turn c.args.request) c.args.client p (Some key) result)) (grant_given served old c.serve-decision.new.tables c.serve-decision.result c.serve-decision.ensures.gives);
+            ∙ ap (λ k. parts_bytes (reply_to config (request.Turn c.args.request) c.args.arrival.now.client p (Some k) c.serve-decision.result)) c.in-Ok.ensures.key
+            ∙ ap (λ result. parts_bytes (reply_to config (request.Turn c.args.request) c.args.arrival.now.client p (Some key) result)) (grant_given served old c.serve-decision.new.tables c.serve-decision.result c.serve-decision.ensures.gives);
       };
     }
 
@@ -34,6 +34,6 @@ returns-in-Err-clause-answer c = record {
   is_checked = c.in-Err.ensures.refused;
   answer = record {
     rows = refl;
-    bytes = c.write_reply-in-Err.ensures.bytes ∙ ap (λ error. parts_bytes (reply_to c.args.config.now (request.Turn c.args.request) c.args.client c.args.message.now None (Err error))) c.refused_credentials.ensures;
+    bytes = c.write_reply-in-Err.ensures.bytes ∙ ap (λ error. parts_bytes (reply_to c.args.config.now (request.Turn c.args.request) c.args.arrival.now.client c.args.arrival.now.message.now None (Err error))) c.refused_credentials.ensures;
   };
 }

@@ -1,5 +1,5 @@
-use Rattle.std.proofs.Common.{◌≡◌, ℕ, true, ◌^◌, ◌<◌, List, rules, sym, ap, ◌∙◌}
-use Rattle.std.specs.Prelude.{Result, Ok, decimal, bytes_eq}
+use Rattle.std.proofs.Common.{◌≡◌, ◌^◌, rules, sym, ap, ◌∙◌}
+use Rattle.std.specs.Prelude.{decimal}
 use Rattle.std.proofs.lemmas.Bool.{both_ways}
 use Rattle.std.proofs.lemmas.Slice.Eq.{bytes_eq-Decides}
 use Rattle.events.proofs.Numbers.{is_number, is_none, not_utf8, parsed}

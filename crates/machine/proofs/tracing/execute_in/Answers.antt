@@ -21,7 +21,7 @@ returns-clause-run g c =
     subst (λ (left : List ℕ). Walks (take (67 + n) (drop 560 flat)) left) (sym (part_is_new n flat new c.requires.room long))
     (subst (λ (k : ℕ). Walks (take k (drop 560 flat)) new) (part_end n flat new c.requires.room long) c.execute.ensures.run)
 
-pub returns-clause-behind : goal.returns-clause-behind
-returns-clause-behind g c =
+pub returns-clause-beyond : goal.returns-clause-beyond
+returns-clause-beyond g c =
     let n : ℕ = c.args.given.now.length in
     rest_is_old n c.args.flat.now c.execute.new.bytes c.requires.room (c.execute.auto.bytes ∙ part_length n c.args.flat.now c.requires.room)

@@ -217,7 +217,7 @@ static LEFT: [Left; 19] = [
         ),
         after: "aa55",
     },
-    // the datagram and a byte behind it: `ldxdw r3, [r1+8]`, `stb [r3+0], 1`, `mov r2, 64`,
+    // the datagram and a byte after it: `ldxdw r3, [r1+8]`, `stb [r3+0], 1`, `mov r2, 64`,
     // `ldxdw r3, [r1+16]`, `add r3, 1`, `call 4`
     Left {
         slots: "7913080000000000 7203000001000000 b702000040000000 7913100000000000 \

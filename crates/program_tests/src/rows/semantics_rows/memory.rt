@@ -63,7 +63,7 @@ pub static FAULTS: [(&str, &str); 35] = [
         "b702000005000000 63212c0000000000 9500000000000000",
         "V9 at 1",
     ),
-    // below the stack, behind it, and across either end: `stb [r10-513], 0`
+    // below the stack, beyond it, and across either end: `stb [r10-513], 0`
     ("720afffd00000000 9500000000000000", "V8 at 0"),
     // `stb [r10+0], 0`
     ("720a000000000000 9500000000000000", "V8 at 0"),
@@ -98,7 +98,7 @@ pub static FAULTS: [(&str, &str); 35] = [
         "7912000000000000 7a02bfff00000000 9500000000000000",
         "V10 at 1",
     ),
-    // behind the tailroom, across its end, and before it: `ldxdw r3, [r1+8]`, `stb [r3+3], 0`
+    // beyond the tailroom, across its end, and before it: `ldxdw r3, [r1+8]`, `stb [r3+3], 0`
     (
         "7913080000000000 7203030000000000 9500000000000000",
         "V10 at 1",
@@ -196,7 +196,7 @@ pub static ACCEPTED: [(&str, &str); 10] = [
 
 /// Programs that are refused for what only a trace over some datagram shows, and the line of `verify` on each.
 pub static REFUSED: [(&str, &str); 3] = [
-    // the fifth byte behind a check of four: `ldxdw r2, [r1+0]`, `ldxdw r3, [r1+8]`, `mov r4, r2`,
+    // the fifth byte after a check of four: `ldxdw r2, [r1+0]`, `ldxdw r3, [r1+8]`, `mov r4, r2`,
     // `add r4, 4`, `mov r0, 0`, `jgt r4, r3, +1`, `stb [r2+4], 1`
     (
         "7912000000000000 7913080000000000 bf24000000000000 0704000004000000 \

@@ -1,7 +1,7 @@
 use Rattle.std.proofs.Common.{◌∙◌}
 use Rattle.std.specs.Ordering.{eq_by_cmp}
 use Rattle.std.specs.Cmp.Lexicographic.{texts_ties}
-use Rattle.tables.specs.Addresses.{ip_cmp}
+use Rattle.attributes.specs.AddressOrder.{ip_cmp}
 use Rattle.tables.proofs.address.is_same_ip.Goals as goal
 
 pub returns : goal.returns

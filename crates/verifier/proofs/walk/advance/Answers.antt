@@ -6,7 +6,7 @@ use denote.Memory.{lone}
 use Rattle.absstate.specs.AbstractSteps.{step}
 use Rattle.absstate.specs.Changes.{next_of}
 use Rattle.absstate.specs.declared.change.Transition.{Transition}
-use Rattle.verifier.specs.Walk.{GoesOn, followed}
+use Rattle.verifier.specs.Walk.{GoesOn, state_to_follow}
 use Rattle.verifier.proofs.Branches.{branch_is_good}
 use Rattle.verifier.proofs.Walking.{advances}
 use Rattle.verifier.proofs.Sizes.{state_fits, pending_fits}
@@ -67,13 +67,13 @@ pub returns-in-On-clause-advanced : goal.returns-in-On-clause-advanced
 returns-in-On-clause-advanced g c =
     let fits : Fits c.in-Begins.insn = c.transition.ensures.fits in
     let step_is : step g.D.Domain.ops c.args.here.now.state c.in-Begins.insn ≡ Ok (next_of c.args.here.now.state c.in_ok-transition.transition) = search rules in
-    advances g.D.Domain.ops c.args.program.now c.args.here.now c.args.pending.now.items c.args.pending.now.items c.in-Begins.insn (sym c.fetch.ensures ∙ c.in-Begins.is) fits (next_of c.args.here.now.state c.in_ok-transition.transition) step_is (followed c.go_on.result c.go_on.new.here) [] (sym (append-nil c.args.pending.now.items))
-    (subst (λ (e : Transition g.row.D.Denot). GoesOn c.args.program.now c.args.here.now.slot c.in-Begins.insn (next_of c.args.here.now.state e) (followed c.go_on.result c.go_on.new.here) []) (sym c.in-On.is) (c.go_on.ensures, refl))
+    advances g.D.Domain.ops c.args.program.now c.args.here.now c.args.pending.now.items c.args.pending.now.items c.in-Begins.insn (sym c.fetch.ensures ∙ c.in-Begins.is) fits (next_of c.args.here.now.state c.in_ok-transition.transition) step_is (state_to_follow c.go_on.result c.go_on.new.here) [] (sym (append-nil c.args.pending.now.items))
+    (subst (λ (e : Transition g.row.D.Denot). GoesOn c.args.program.now c.args.here.now.slot c.in-Begins.insn (next_of c.args.here.now.state e) (state_to_follow c.go_on.result c.go_on.new.here) []) (sym c.in-On.is) (c.go_on.ensures, refl))
 
 pub returns-in_ok-leave-in-Fork-clause-advanced : goal.returns-in_ok-leave-in-Fork-clause-advanced
 returns-in_ok-leave-in-Fork-clause-advanced g c =
     let fits : Fits c.in-Begins.insn = c.transition.ensures.fits in
     let step_is : step g.D.Domain.ops c.args.here.now.state c.in-Begins.insn ≡ Ok (next_of c.args.here.now.state c.in_ok-transition.transition) = search rules in
     let left = c.in_ok-leave-in-Fork.ensures.left in
-    advances g.D.Domain.ops c.args.program.now c.args.here.now c.args.pending.now.items c.leave.new.pending.items c.in-Begins.insn (sym c.fetch.ensures ∙ c.in-Begins.is) fits (next_of c.args.here.now.state c.in_ok-transition.transition) step_is (followed c.go_on-in-Fork.result c.go_on-in-Fork.new.here) left.0 left.1
-    (subst (λ (e : Transition g.row.D.Denot). GoesOn c.args.program.now c.args.here.now.slot c.in-Begins.insn (next_of c.args.here.now.state e) (followed c.go_on-in-Fork.result c.go_on-in-Fork.new.here) left.0) (sym c.in-Fork.is) (c.go_on-in-Fork.ensures, left.2))
+    advances g.D.Domain.ops c.args.program.now c.args.here.now c.args.pending.now.items c.leave.new.pending.items c.in-Begins.insn (sym c.fetch.ensures ∙ c.in-Begins.is) fits (next_of c.args.here.now.state c.in_ok-transition.transition) step_is (state_to_follow c.go_on-in-Fork.result c.go_on-in-Fork.new.here) left.0 left.1
+    (subst (λ (e : Transition g.row.D.Denot). GoesOn c.args.program.now c.args.here.now.slot c.in-Begins.insn (next_of c.args.here.now.state e) (state_to_follow c.go_on-in-Fork.result c.go_on-in-Fork.new.here) left.0) (sym c.in-Fork.is) (c.go_on-in-Fork.ensures, left.2))

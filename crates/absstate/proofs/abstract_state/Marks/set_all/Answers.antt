@@ -1,5 +1,5 @@
 use Rattle.std.proofs.Common.{◌≡◌, ℕ, suc, ◌+◌, ◌-◌, ◌<◌, sym, ap, ◌∙◌, arith}
-use Rattle.absstate.specs.AbstractStates.{mark, marked}
+use Rattle.absstate.specs.AbstractStates.{mark, marks_from}
 use Rattle.absstate.specs.declared.abstract_state.Marks.{Marks}
 use Rattle.absstate.proofs.abstract_state.Marks.set_all.Goals as goal
 
@@ -10,11 +10,11 @@ next : (i : ℕ) → suc i ≡ i + 1
 next i = omega arith
 
 -- one byte more is set
-turn : (m : Marks) (i end : ℕ) → i < end → marked m i (end - i) ≡ marked (mark m i) (i + 1) (end - (i + 1))
-turn m i end lt = ap (marked m i) (one_more i end lt) ∙ ap (λ (k : ℕ). marked (mark m i) k (end - (i + 1))) (next i)
+turn : (m : Marks) (i end : ℕ) → i < end → marks_from m i (end - i) ≡ marks_from (mark m i) (i + 1) (end - (i + 1))
+turn m i end lt = ap (marks_from m i) (one_more i end lt) ∙ ap (λ (k : ℕ). marks_from (mark m i) k (end - (i + 1))) (next i)
 
 pub loop-i-preserved : goal.loop-i-preserved
 loop-i-preserved c =
     let end : ℕ = c.from-index.result + c.bytes.result in
-    ap (λ (m : Marks). marked m (c.loop-i.i + 1) (end - (c.loop-i.i + 1))) c.set.ensures
+    ap (λ (m : Marks). marks_from m (c.loop-i.i + 1) (end - (c.loop-i.i + 1))) c.set.ensures
     ∙ sym (turn c.loop-i.self c.loop-i.i end c.loop-i-test.true) ∙ c.loop-i.invariant

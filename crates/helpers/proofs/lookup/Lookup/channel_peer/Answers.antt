@@ -1,6 +1,5 @@
 -- A number of more than 16 bits is that of no channel.
-use Rattle.std.proofs.Common.{◌≡◌, ℕ, ◌<◌, ◌^◌, Option, None, Some, refl, ap, arith}
-use Rattle.attributes.specs.declared.address.Addr.{Addr}
+use Rattle.std.proofs.Common.{◌≡◌, ℕ, ◌<◌, ◌^◌, None, Some, refl, ap, arith}
 use Rattle.tables.specs.LookUps.{peer_of}
 use Rattle.tables.specs.Rows.{Rows, rows_at}
 use Rattle.tables.specs.WellFormed.{AreWellFormed}

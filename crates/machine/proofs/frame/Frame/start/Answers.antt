@@ -1,5 +1,5 @@
 use Rattle.std.proofs.Common.{◌≡◌, ◌+◌, ◌++◌, List, ℕ, length, take, drop, sym, ap, ◌∙◌, subst, true, refl, None}
-use Rattle.semantics.specs.Machine.{surrounded}
+use Rattle.semantics.specs.Machine.{datagram_area}
 use Rattle.machine.specs.Contents.{Contents}
 use Rattle.machine.specs.FrameFields.{HoldsDatagram}
 use Rattle.machine.proofs.Frames.{written, is_frame}
@@ -23,7 +23,7 @@ returns c =
     let area = written c.surround_in.new.flat c.self.inside.flat.items c.self.inside.flat.len (c.surround_in.auto.flat ∙ c.deref_mut.ensures.len) in
     let old_is : drop 560 c.deref_mut.result.now ≡ c.args.self.now.area = ap (drop 560) c.deref_mut.ensures.value ∙ ap (λ (f : Contents). f.area) c.self.view_is in
     record {
-      area = ap (drop 560) area ∙ c.surround_in.ensures ∙ ap (λ (o : List ℕ). surrounded (take c.args.n (drop 64 o)) ++ drop (67 + c.args.n) o) old_is;
+      area = ap (drop 560) area ∙ c.surround_in.ensures ∙ ap (λ (o : List ℕ). datagram_area (take c.args.n (drop 64 o)) ++ drop (67 + c.args.n) o) old_is;
       length = refl;
       is_started = refl;
       context = refl;

@@ -1,10 +1,10 @@
 use Rattle.std.proofs.Common.{◌≡◌, rules, sym, ap, subst, ◌∙◌}
 use Rattle.tables.specs.Rows.{rows_at}
-use Rattle.programs.specs.Runs.{planned}
+use Rattle.programs.specs.Runs.{planned_sending}
 use Rattle.relay.specs.Found.{passed_on, window_shown}
 use Rattle.relay.specs.Relays.{Contents}
 use Rattle.relay.specs.Steps.{HasStepped, outcome_of}
-use Rattle.relay.specs.Systems.{Reply, silent, relayed}
+use Rattle.relay.specs.Systems.{Reply, silent, reply_of_relaying}
 use Rattle.relay.specs.contracts.relay.Relay.{the_view}
 use Rattle.relay.proofs.Advances.{reply_at, steps, stays, answers, passes_client, passes_peer, sends, discards}
 use Rattle.relay.proofs.relay.Relay.advance.Goals as goal
@@ -51,7 +51,7 @@ returns-in-Peer-clause-stepped c =
 -- ---- where the plan is sent
 
 plan_reply : (c : goal.After-result-1) → reply_at (the_view c.self.inside) c.args.meta.now c.args.n c.moment_of-self-inside.result
-    ≡ relayed c.self.inside.tables (planned c.args.meta.now.from (rows_at c.moment_of-self-inside.result c.self.inside.tables) c.run-outcome.result.destination (window_shown c.run-outcome.new.self.frame))
+    ≡ reply_of_relaying c.self.inside.tables (planned_sending c.args.meta.now.from (rows_at c.moment_of-self-inside.result c.self.inside.tables) c.run-outcome.result.destination (window_shown c.run-outcome.new.self.frame))
 plan_reply c =
     sends (the_view c.self.inside) c.args.meta.now c.args.n c.moment_of-self-inside.result c.run-outcome.result c.run-outcome.new.self
     (search rules) c.run-outcome.ensures.run c.in-2.is
@@ -66,7 +66,7 @@ returns-in-2-clause-stepped c =
 pub returns-in-2-clause-found : goal.returns-in-2-clause-found
 returns-in-2-clause-found c =
     let kept = c.run-outcome.ensures.rest in
-    (λ i. planned c.args.meta.now.from (rows_at (kept i).greatest (kept i).rows) c.run-outcome.result.destination (window_shown c.run-outcome.new.self.frame))
+    (λ i. planned_sending c.args.meta.now.from (rows_at (kept i).greatest (kept i).rows) c.run-outcome.result.destination (window_shown c.run-outcome.new.self.frame))
     ∙ sym (ap (λ (r : Reply). r.answer) (plan_reply c))
     ∙ answers (the_view c.self.inside) c.args.meta.now c.args.n c.moment_of-self-inside.result c.moment_of-self-inside.ensures
     ∙ (λ i. (outcome_of (c.self.view_is i) c.args.meta.now c.args.n).answer)

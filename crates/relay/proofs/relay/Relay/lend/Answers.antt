@@ -2,7 +2,7 @@ use Rattle.std.proofs.Common.{◌≡◌, ◌≤◌, length, sym, ap, subst, ◌�
 use Rattle.stun.specs.Datagrams.{message_in}
 use Rattle.tables.specs.Rows.{rows_at}
 use Rattle.programs.specs.Rules.{channel_data_from}
-use Rattle.programs.specs.Runs.{planned}
+use Rattle.programs.specs.Runs.{planned_sending}
 use Rattle.relay.specs.Found.{lent, send_in, reply_sent, HasRoomFor}
 use Rattle.relay.specs.Relays.{Contents}
 use Rattle.relay.specs.declared.found.Found.{Found}
@@ -25,7 +25,7 @@ slice_bounds-result-end c = sym (length-take-le c.in-Reply.count c.deref.result.
 pub returns-in-Window : goal.returns-in-Window
 returns-in-Window c =
     c.planned.ensures
-    ∙ ap (λ window. planned c.in-Window.from (rows_at c.self.inside.greatest c.self.inside.tables) c.in-Window.destination window) c.window.ensures
+    ∙ ap (λ window. planned_sending c.in-Window.from (rows_at c.self.inside.greatest c.self.inside.tables) c.in-Window.destination window) c.window.ensures
     ∙ (λ i. lent (c.self.view_is i) (sym c.in-Window.is i))
 
 pub returns-in-ChannelData : goal.returns-in-ChannelData

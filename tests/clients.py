@@ -1,0 +1,203 @@
+"""Runs TURN clients that others wrote, unchanged, through the built relayd's `serve` over loopback.
+
+Installs nothing: a client that isn't there is passed over, and the last line says so. docs/CLIENTS.md names the packages. Where
+tshark may capture, what the clients and the server sent each other must have no malformed packet.
+"""
+
+import contextlib
+import os
+import pathlib
+import re
+import shutil
+import signal
+import subprocess
+import sys
+import tempfile
+import threading
+import time
+
+from program import TOP, build, finish
+from serve import Server, udp_socket, wanted
+
+HERE = TOP / "tests" / "clients"
+sys.path.append(str(HERE))
+MESSAGES = 1_000
+SLOTS = 256
+# Half of turnutils_uclient's allocations ask for an even port and three quarters of its channels are above 0x4FFF, by chance;
+# both are refused. So a client that isn't refused is waited for, this often.
+TRIES = 400
+PASSED_OVER = "not installed"
+
+
+def ran(words, seconds=60):
+    """Runs a client, and returns its status and what it printed."""
+    process = subprocess.run(
+        [str(word) for word in words], stdout=subprocess.PIPE, stderr=subprocess.STDOUT, text=True, check=False, timeout=seconds)
+    return process.returncode, process.stdout
+
+
+@contextlib.contextmanager
+def echo():
+    """A peer that sends each datagram back; its port."""
+    with udp_socket() as peer:
+        peer.settimeout(0.2)
+        done = threading.Event()
+
+        def serve():
+            while not done.is_set():
+                with contextlib.suppress(TimeoutError):
+                    peer.sendto(*peer.recvfrom(65_535))
+
+        thread = threading.Thread(target=serve)
+        thread.start()
+        try:
+            yield peer.getsockname()[1]
+        finally:
+            done.set()
+            thread.join()
+
+
+# ---- the clients: each yields what is otherwise than it should be, or what it lacks
+
+def stunclient(server):
+    """coturn's client of STUN: a Binding."""
+    program = shutil.which("turnutils_stunclient")
+    if program is None:
+        return PASSED_OVER
+    _, printed = ran([program, "-p", server.port, "127.0.0.1"])
+    return [] if re.search(r"reflexive addr: 127\.0\.0\.1:\d+", printed) else [printed]
+
+
+def uclient(*mode):
+    """coturn's client of TURN, in a mode: messages to a peer or to each other, by indications or over channels."""
+
+    def exchanges(server):
+        program = shutil.which("turnutils_uclient")
+        if program is None:
+            return PASSED_OVER
+        with echo() as peer:
+            words = [program, "-c", "-u", "u", "-w", "p", "-n", 50, "-l", 160, "-z", 2, "-p", server.port, *mode]
+            words += [] if "-y" in mode else ["-e", "127.0.0.1", "-r", peer]
+            for _ in range(TRIES):
+                status, printed = ran([*words, "127.0.0.1"])
+                if "error 420" not in printed and "channel bind: error 400" not in printed:
+                    break
+        lost = re.search(r"Total lost packets (\d+)", printed)
+        return [] if status == 0 and lost and lost[1] == "0" else [printed]
+
+    return exchanges
+
+
+def aioice(server):
+    """The client of aioice, a library of Python: messages over a channel."""
+    for python in (sys.executable, "/usr/bin/python3"):
+        with contextlib.suppress(OSError):
+            if ran([python, "-c", "import aioice"])[0] == 0:
+                return wanted("messages", ran([python, HERE / "aioice_client.py", server.port, MESSAGES]), (0, f"{MESSAGES}\n"))
+    return PASSED_OVER
+
+
+def pion(server):
+    """The client of pion, a library of Go: a Binding, indications, and messages over a channel."""
+    go, library = shutil.which("go"), pathlib.Path("/usr/share/gocode")
+    if go is None or not (library / "src" / "github.com" / "pion" / "turn").exists():
+        return PASSED_OVER
+    with tempfile.TemporaryDirectory() as name:
+        environment = {**os.environ, "GO111MODULE": "off", "GOPATH": str(library), "GOCACHE": f"{name}/cache"}
+        program = f"{name}/client"
+        subprocess.run([go, "build", "-o", program, HERE / "pion_client.go"], env=environment, check=True)
+        return wanted("messages", ran([program, f"127.0.0.1:{server.port}", MESSAGES]), (0, f"{MESSAGES}\n"))
+
+
+def chromium(server):
+    """A page in Chromium: two peer connections that may use relayed candidates alone, and a data channel."""
+    program = shutil.which("chromium") or shutil.which("chromium-browser") or shutil.which("google-chrome")
+    if program is None:
+        return PASSED_OVER
+    from chromium import exchange
+    found = exchange(program, f"turn:127.0.0.1:{server.port}", MESSAGES)
+    return wanted("messages", found, {"returned": MESSAGES, "relayed": True})
+
+
+CLIENTS = [
+    ("turnutils_stunclient", stunclient),
+    ("turnutils_uclient by indications", uclient("-s")),
+    ("turnutils_uclient over channels", uclient()),
+    ("turnutils_uclient to each other", uclient("-y", "-s")),
+    ("aioice", aioice),
+    ("pion", pion),
+    ("chromium", chromium),
+]
+
+
+# ---- the capture
+
+class Capture:
+    """A capture of the datagrams between a client and a server, where tshark is there and may capture."""
+
+    def __init__(self, port, folder):
+        self.port, self.file, self.process = port, f"{folder}/{port}.pcapng", None
+        program = shutil.which("tshark")
+        if program is None:
+            return
+        words = [program, "-i", "lo", "-f", f"udp port {port}", "-w", self.file]
+        self.process = subprocess.Popen(words, stdout=subprocess.DEVNULL, stderr=subprocess.DEVNULL)
+        end = time.monotonic() + 10
+        while time.monotonic() < end and self.process.poll() is None:
+            if os.path.exists(self.file) and os.path.getsize(self.file) > 0:
+                time.sleep(0.3)
+                return
+            time.sleep(0.05)
+        self.process.kill()
+        self.process.wait()
+        self.process = None
+
+    def failures(self):
+        """What is malformed among the datagrams of the capture, and whether there are any."""
+        if self.process is None:
+            return PASSED_OVER
+        time.sleep(0.3)
+        self.process.send_signal(signal.SIGINT)
+        self.process.wait(10)
+        words = ["tshark", "-r", self.file, "-d", f"udp.port=={self.port},stun", "-T", "fields", "-e", "frame.number", "-Y"]
+        _, messages = ran([*words, "stun"])
+        _, malformed = ran([*words, "_ws.malformed"])
+        numbers = [line for line in malformed.splitlines() if line.isdigit()]
+        if not any(line.isdigit() for line in messages.splitlines()):
+            return ["no message was captured"]
+        return [f"packet {number} is malformed" for number in numbers]
+
+
+def tried(name, client, folder):
+    """What a client finds wrong with a server of its own, and what the capture does; each is `PASSED_OVER` where it can't be."""
+    with Server(slots=SLOTS) as server:
+        capture = Capture(server.port, folder)
+        try:
+            found = client(server)
+            found = found if found == PASSED_OVER else list(found)
+        except (OSError, EOFError, subprocess.SubprocessError) as error:
+            found = [repr(error)]
+        captured = capture.failures()
+        if found == PASSED_OVER:
+            return [(name, found)]
+        found += wanted("standard error of the server", server.printed(), "")
+    return [(name, found), ("a capture by tshark", captured)]
+
+
+def main():
+    """Runs every client that is there, and returns the exit status."""
+    build()
+    failures, absent = [], []
+    with tempfile.TemporaryDirectory() as folder:
+        for name, client in CLIENTS:
+            for part, found in tried(name, client, folder):
+                if found == PASSED_OVER:
+                    absent.append(part)
+                else:
+                    failures += [f"{name}, {part}: {failure}" for failure in found]
+    passed_over = f"; passed over: {', '.join(dict.fromkeys(absent))}" if absent else ""
+    return finish(failures, f"clients: {len(CLIENTS)} clients, {len(failures)} failures{passed_over}")
+
+
+if __name__ == "__main__":
+    sys.exit(main())

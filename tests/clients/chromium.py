@@ -1,0 +1,72 @@
+"""A page in headless Chromium, driven through DevTools by a pipe: `peers.html` exchanges messages with itself over a relay."""
+
+import fcntl
+import json
+import os
+import pathlib
+import subprocess
+import sys
+import tempfile
+
+PAGE = pathlib.Path(__file__).with_name("peers.html")
+FLAGS = ["--headless=new", "--no-sandbox", "--disable-gpu", "--remote-debugging-pipe", "--allow-loopback-in-peer-connection"]
+ABOVE = 10  # the pipe's ends are moved here before they become the descriptors 3 and 4
+
+
+class Browser:
+    """A running browser. DevTools read requests from descriptor 3 and write answers to descriptor 4, each ended by a zero."""
+
+    def __init__(self, program, profile):
+        read_requests, self.requests = os.pipe()
+        self.answers, write_answers = os.pipe()
+
+        def set_descriptors():
+            ends = [fcntl.fcntl(end, fcntl.F_DUPFD, ABOVE) for end in (read_requests, write_answers)]
+            for end, descriptor in zip(ends, (3, 4)):
+                os.dup2(end, descriptor)
+
+        self.process = subprocess.Popen(
+            [program, *FLAGS, f"--user-data-dir={profile}", "about:blank"], preexec_fn=set_descriptors, close_fds=False,
+            stdout=subprocess.DEVNULL, stderr=subprocess.DEVNULL)
+        os.close(read_requests)
+        os.close(write_answers)
+        self.rest, self.count = b"", 0
+
+    def ask(self, method, session=None, **params):
+        """Sends a request, and returns its result. Events that come before it are passed over."""
+        self.count += 1
+        request = {"id": self.count, "method": method, "params": params}
+        if session:
+            request["sessionId"] = session
+        os.write(self.requests, json.dumps(request).encode() + b"\0")
+        while True:
+            while b"\0" not in self.rest:
+                piece = os.read(self.answers, 1 << 16)
+                if not piece:
+                    raise EOFError("the browser ended")
+                self.rest += piece
+            line, _, self.rest = self.rest.partition(b"\0")
+            answer = json.loads(line)
+            if answer.get("id") == self.count:
+                return answer["result"]
+
+
+def exchange(program, url, count):
+    """Returns what the page saw of messages over the relay with this URL."""
+    with tempfile.TemporaryDirectory(ignore_cleanup_errors=True) as profile:
+        browser = Browser(program, profile)
+        try:
+            target = browser.ask("Target.createTarget", url="about:blank")["targetId"]
+            session = browser.ask("Target.attachToTarget", targetId=target, flatten=True)["sessionId"]
+            browser.ask("Page.enable", session)
+            browser.ask("Page.navigate", session, url=PAGE.as_uri())
+            call = f'(async () => {{ while (!self.exchange) await new Promise((go) => setTimeout(go, 10)); return exchange("{url}", "u", "p", {count}); }})()'
+            found = browser.ask("Runtime.evaluate", session, expression=call, awaitPromise=True, returnByValue=True)
+            return found["result"].get("value")
+        finally:
+            browser.process.terminate()
+            browser.process.wait(10)
+
+
+if __name__ == "__main__":
+    print(json.dumps(exchange(sys.argv[1], sys.argv[2], int(sys.argv[3]))))

@@ -1,0 +1,154 @@
+"""Prints how many round trips a second `relayd serve` relays over a channel, beside a forwarder in C, coturn, and no relay.
+
+    tests/serve_speed.py
+
+A round trip is ChannelData from a client through the server to a peer, which sends it back, and on to the client. All run in
+turn, several times, and the figures are medians; a machine that does other work makes them smaller and less alike. No time is
+asserted. coturn is left out where `turnserver` isn't there. Needs gcc.
+"""
+
+import contextlib
+import pathlib
+import shutil
+import socket
+import statistics
+import subprocess
+import sys
+import tempfile
+import time
+
+from program import TOP, build
+from serve import Client, Server, code_of, free_ports
+
+SOURCE = TOP / "tests" / "serve_speed.c"
+ROUNDS = 5
+SIZES = [160, 1_200]
+FLIGHTS = {1: 20_000, 32: 60_000}  # datagrams in flight, and how many round trips are timed with them
+IDLE_SECONDS = 5
+TICK = 0.01  # seconds of a clock tick of /proc
+
+
+def ticks(pid):
+    """The processor time of a process so far, in clock ticks."""
+    fields = pathlib.Path(f"/proc/{pid}/stat").read_text().rpartition(")")[2].split()
+    return int(fields[11]) + int(fields[12])
+
+
+class Subject:
+    """What is measured: a connected socket that has the channel, and the process that serves it."""
+
+    def __init__(self, connected, pid):
+        self.socket, self.pid = connected, pid
+
+    def measure(self, tool, flight, count, size):
+        """Returns the round trips a second, and the server's microseconds of processor time for each."""
+        before = ticks(self.pid)
+        words = [tool, "load", str(self.socket.fileno()), str(count), str(flight), str(size)]
+        ran = subprocess.run(words, pass_fds=[self.socket.fileno()], stdout=subprocess.PIPE, text=True, check=True)
+        return count / float(ran.stdout), (ticks(self.pid) - before) * TICK * 1e6 / count
+
+
+class Process:
+    """A process that prints its port."""
+
+    def __init__(self, *words):
+        self.process = subprocess.Popen(words, stdout=subprocess.PIPE, text=True)
+        self.port = int(self.process.stdout.readline())
+
+    def __enter__(self):
+        return self
+
+    def __exit__(self, *_):
+        self.process.kill()
+        self.process.wait()
+        self.process.stdout.close()
+
+
+class Coturn:
+    """coturn's server, with one user."""
+
+    def __init__(self, folder):
+        self.port, first = free_ports(1), free_ports(8)
+        words = ["turnserver", "-n", "--log-file", "stdout", "--pidfile", f"{folder}/pid", "--userdb", f"{folder}/db",
+                 "-L", "127.0.0.1", "-E", "127.0.0.1", "-p", str(self.port), "--min-port", str(first), "--max-port", str(first + 7),
+                 "-a", "-u", "u:p", "-r", "relay", "--no-tls", "--no-dtls", "--no-tcp", "--no-cli", "--allow-loopback-peers",
+                 "--relay-threads", "1"]
+        self.process = subprocess.Popen(words, stdout=subprocess.DEVNULL, stderr=subprocess.DEVNULL, cwd=folder)
+        time.sleep(1)
+
+    def __enter__(self):
+        return self
+
+    def __exit__(self, *_):
+        self.process.kill()
+        self.process.wait()
+
+
+def plain(port, stack):
+    """A connected socket without a session."""
+    connected = stack.enter_context(socket.socket(socket.AF_INET, socket.SOCK_DGRAM))
+    connected.connect(("127.0.0.1", port))
+    return connected
+
+
+def session(server, peer, stack):
+    """A connected socket of a client that has an allocation, and the channel bound to the peer."""
+    client = stack.enter_context(Client(server))
+    for answer in (client.allocate(), client.bind((bytes([127, 0, 0, 1]), peer))):
+        if code_of(answer) != 0:
+            raise ValueError(f"refused by {code_of(answer)}")
+    client.socket.connect(client.server)
+    client.socket.settimeout(None)
+    return client.socket
+
+
+def idle(stack):
+    """The share of a core that a server uses in a while, with 16 allocations."""
+    server = stack.enter_context(Server(slots=16))
+    for _ in range(16):
+        stack.enter_context(Client(server)).allocate()
+    before = ticks(server.process.pid)
+    time.sleep(IDLE_SECONDS)
+    return (ticks(server.process.pid) - before) * TICK / IDLE_SECONDS
+
+
+def subjects(tool, folder, stack):
+    """What is measured, by name."""
+    echo = stack.enter_context(Process(tool, "echo"))
+    forwarder = stack.enter_context(Process(tool, "forward", str(echo.port)))
+    server = stack.enter_context(Server())
+    found = {
+        "relayd": Subject(session(server, echo.port, stack), server.process.pid),
+        "forwarder": Subject(plain(forwarder.port, stack), forwarder.process.pid),
+        "no relay": Subject(plain(echo.port, stack), echo.process.pid),
+    }
+    if shutil.which("turnserver"):
+        coturn = stack.enter_context(Coturn(folder))
+        found["coturn"] = Subject(session(coturn, echo.port, stack), coturn.process.pid)
+    return found
+
+
+def main():
+    """Measures, prints, and returns the exit status."""
+    build()
+    with tempfile.TemporaryDirectory() as folder, contextlib.ExitStack() as stack:
+        tool = f"{folder}/serve_speed"
+        subprocess.run(["gcc", "-O2", "-o", tool, SOURCE], check=True)
+        measured = subjects(tool, folder, stack)
+        for size in SIZES:
+            for flight, count in FLIGHTS.items():
+                rounds = {name: [] for name in measured}
+                for _ in range(ROUNDS):
+                    for name, subject in measured.items():
+                        rounds[name].append(subject.measure(tool, flight, count, size))
+                print(f"{size} bytes, {flight} in flight:")
+                medians = {name: [statistics.median(figures) for figures in zip(*found)] for name, found in rounds.items()}
+                for name, (trips, processor) in medians.items():
+                    ratio = medians["relayd"][0] / trips
+                    print(f"  {name:10} {trips:9,.0f} round trips a second, {processor:5.1f} us of processor time each; relayd {ratio:.2f} of it")
+        print(f"idle, 16 allocations: {100 * idle(stack):.1f} % of a core")
+    return 0
+
+
+if __name__ == "__main__":
+    sys.exit(main())
