@@ -1,6 +1,7 @@
 """Runs TURN clients that others wrote, unchanged, through the built relayd's `serve` over loopback.
 
-Installs nothing: a client that isn't there is passed over, and the last line says so. docs/CLIENTS.md names the packages. Where
+Installs nothing: a client that isn't there is passed over, and the last line says so. docs/CLIENTS.md names the packages
+(docs/DECISIONS.md, "Clients are run where they are installed"). Where
 tshark may capture, what the clients and the server sent each other must have no malformed packet.
 """
 

@@ -139,12 +139,17 @@ def failures_of_headline():
 
 
 def failures_of_decisions():
-    """Yields the decisions that the code names and that the page lacks."""
+    """Yields the decisions that the code names and that the page lacks, and those of the page that no code names."""
     titles = re.findall(r"^### (.*)$", (TOP / "docs" / "DECISIONS.md").read_text(encoding="utf-8"), re.MULTILINE)
-    for source in sources():
-        for title in DECISION.findall(source.read_text(encoding="utf-8")):
-            if title not in titles:
-                yield f"{source.relative_to(TOP)}: no decision {title}"
+    scripts = [path for folder in ("tests", "examples") for path in sorted((TOP / folder).glob("*.py"))]
+    named = {title: source for source in [*sources(), *scripts]
+             for title in DECISION.findall(source.read_text(encoding="utf-8"))}
+    for title, source in named.items():
+        if title not in titles:
+            yield f"{source.relative_to(TOP)}: no decision {title}"
+    for title in titles:
+        if title not in named:
+            yield f"docs/DECISIONS.md: no code names {title}"
 
 
 def main():

@@ -184,12 +184,16 @@ def wanted(what, found, expected):
         yield f"{what}: {found!r} in place of {expected!r}"
 
 
-def counters(from_clients=0, from_peers=0, to_peers=0, to_clients=0, granted=0, challenged=0, refused=0, discarded=(0, 0),
-             receive_faults=0, send_faults=0):
-    """The line of counters."""
+def counters(from_clients=0, from_peers=0, to_peers=0, to_clients=0, granted=0, challenged=0, refused=0,
+             discarded=(0, 0, 0, 0), receive_faults=0, send_faults=0):
+    """The line of counters.
+
+    What is discarded is ChannelData, messages and others of clients, and what comes from peers.
+    """
+    of_channels, messages, others, of_peers = discarded
     return (f"received from clients {from_clients} peers {from_peers}, relayed to peers {to_peers} clients {to_clients}, "
             f"granted {granted} challenged {challenged} refused {refused}, "
-            f"discarded from clients {discarded[0]} peers {discarded[1]}, "
+            f"discarded channel data {of_channels} messages {messages} others {others} from peers {of_peers}, "
             f"receive faults {receive_faults} send faults {send_faults}\n")
 
 
@@ -307,10 +311,16 @@ def session():
         answer = client.signed(REFRESH, [(LIFETIME, bytes(4))])
         yield from wanted("Refresh", (code_of(answer), answer.first(LIFETIME)), (0, bytes(4)))
         yield from wanted("Refresh again", code_of(client.signed(REFRESH, [(LIFETIME, bytes(4))])), 437)
-        client.send(b"no message")
-        peer.sendto(b"no permission", ("127.0.0.1", server.first_port))
-        last = counters(from_clients=11, from_peers=3, to_peers=2, to_clients=2, granted=5, challenged=2, refused=1,
-                        discarded=(1, 1))
+        # the allocation has ended
+        client.send(channel_data(b"no channel"))
+        for _ in range(2):
+            client.send(message(SEND, random.randbytes(12), [*given, (DATA, b"no permission")]))
+        for _ in range(3):
+            client.send(b"no message")
+        for _ in range(4):
+            peer.sendto(b"no permission", ("127.0.0.1", server.first_port))
+        last = counters(from_clients=16, from_peers=6, to_peers=2, to_clients=2, granted=5, challenged=2, refused=1,
+                        discarded=(1, 2, 3, 4))
         if not server.awaits(last):
             yield f"other counters: {server.printed()!r} in place of {last!r}"
         yield from wanted("faults", [line for line in server.printed().splitlines() if not line.startswith("received from ")], [])

@@ -1,7 +1,7 @@
 """Assembles and disassembles programs with the built relayd.
 
-Each example's text has to give its bytes. Each program of the kernel's tests is disassembled, and its
-text has to give the same bytes. Wrong texts and files have to be refused as the cases say.
+Each example's text has to give its bytes. Each program of the kernel's tests is disassembled, without slots
+and with them, and both texts have to give the same bytes. Wrong texts and files have to be refused as the cases say.
 """
 
 import json
@@ -22,6 +22,11 @@ REFUSED = [
     ("ja x\nmov r0\n", "refused L1 at line 2\n"),
 ]
 KEPT = b"what stood there"
+
+# a program whose first instruction takes two slots, its text, and its text with the slot of each instruction
+WIDE = bytes.fromhex("1801000001000000 0000000000000000 9500000000000000")
+WIDE_TEXT = "lddw r1, 1\nexit\n"
+WIDE_WITH_SLOTS = "lddw r1, 1 ; 0\nexit ; 2\n"
 
 
 def assembled(folder, text):
@@ -57,15 +62,26 @@ def programs():
 
 
 def failures_of_round_trips(folder, listed):
-    """Yields the programs whose text does not give the same bytes."""
+    """Yields the programs whose text, without slots or with them, does not give the same bytes."""
     file = folder / "listed.bpf"
     for number, program in enumerate(listed):
         file.write_bytes(program)
-        status, text, err = run(["disassemble", file])
-        if status:
-            yield f"program {number} is not disassembled: {err}"
-        elif assembled(folder, text.encode()) != program:
-            yield f"program {number} is not assembled again"
+        for words in (["disassemble"], ["disassemble", "--slots"]):
+            status, text, err = run([*words, file])
+            if status:
+                yield f"program {number}, {' '.join(words)}: {err}"
+            elif assembled(folder, text.encode()) != program:
+                yield f"program {number}, {' '.join(words)}: the text gives other bytes"
+
+
+def failures_of_slots(folder):
+    """Yields the texts of the program with a wide instruction that are not the worked ones."""
+    file = folder / "wide.bpf"
+    file.write_bytes(WIDE)
+    for words, wanted in [(["disassemble"], WIDE_TEXT), (["disassemble", "--slots"], WIDE_WITH_SLOTS)]:
+        got = run([*words, file])
+        if got != (0, wanted, ""):
+            yield f"{' '.join(words)}: {got}"
 
 
 def failures_of_refusals(folder):
@@ -111,6 +127,7 @@ def main():
         failures = [
             *failures_of_examples(folder),
             *failures_of_round_trips(folder, listed),
+            *failures_of_slots(folder),
             *failures_of_refusals(folder),
             *failures_of_files(folder),
         ]

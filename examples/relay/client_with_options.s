@@ -99,7 +99,7 @@ data_first:
     mov r5, r4
     add r5, 36
     jne r5, r9, pass        ; there are more than two attributes
-    add r2, r4              ; the second attribute is as far behind as the data is long
+    add r2, r4              ; the second attribute is as far on as the data is long
     mov r5, r2
     add r5, 36
     jgt r5, r3, pass        ; never taken; the verifier learns that 36 bytes follow

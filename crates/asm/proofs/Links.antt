@@ -14,7 +14,7 @@ use Rattle.asm.specs.Statements.{Name, Statement, Labelled, Instruction}
 use Rattle.asm.specs.Programs.{IsInRange, slots_in, slot_from, slot_of_label, linked_one, instructions_of, LacksLabel}
 use Rattle.asm.specs.Reading.{read_line}
 use Rattle.asm.specs.Parsing.{said_in, IsUnfit, UnderstandsLine}
-use Rattle.asm.specs.Scanning.{Holds, IsTableOf, IsHalted, IsLinked, slots_up_to_limit, lines_behind, Begins, Fails}
+use Rattle.asm.specs.Scanning.{Holds, IsTableOf, IsHalted, IsLinked, slots_up_to_limit, following_lines, Begins, Fails}
 use Rattle.asm.specs.declared.statement.Line.{Line}
 use Rattle.asm.specs.declared.statement.Line.TheVariants as line
 use Rattle.asm.specs.declared.refusal.Fault.{Fault}
@@ -37,8 +37,8 @@ place_within slot (Some (Labelled n) ∷ said) name p at = by (bytes_eq n name) 
     by : (b : Bool) → cond b (Some slot) (slot_from slot said name) ≡ Some p
         → (slot_from slot said name ≡ Some p → p ≤ slot + slots_in said)
         → p ≤ slot + slots_in said
-    by true at behind = let here : slot ≡ p = cc in omega arith
-    by false at behind = behind at
+    by true at following = let here : slot ≡ p = cc in omega arith
+    by false at following = following at
 place_within slot (Some (Instruction i t) ∷ said) name p at = omega
     (arith, place_within (slot + slots_of i) said name p at)
 
@@ -92,10 +92,10 @@ linked_more label_slots slot (Some (Instruction i t) ∷ before) s code more is 
         → instructions_of label_slots (slot + slots_of i) (before ++ s ∷ []) ≡ Some (tail ++ more))
         → option_and_then (λ j. option_map (λ c. j ∷ c) (instructions_of label_slots (slot + slots_of i) (before ++ s ∷ [])))
         o ≡ Some (code ++ more)
-    by None q at e behind = absurd cc
-    by (Some j) None at e behind = absurd cc
-    by (Some j) (Some tail) at e behind = let first : j ∷ tail ≡ code = cc in
-        ap (option_map (λ c. j ∷ c)) (behind tail at) ∙ ap (λ c. Some (c ++ more)) first
+    by None q at e following = absurd cc
+    by (Some j) None at e following = absurd cc
+    by (Some j) (Some tail) at e following = let first : j ∷ tail ≡ code = cc in
+        ap (option_map (λ c. j ∷ c)) (following tail at) ∙ ap (λ c. Some (c ++ more)) first
 
 slots_both : (before after : List (Option Statement)) → slots_in (before ++ after) ≡ slots_in before + slots_in after
 slots_both [] after = omega arith
@@ -130,15 +130,15 @@ slot_within lines table n slot rest code k = omega
     (arith, k.few, k.slots, ap slots_in k.split, slots_both k.before k.after)
 
 -- the code after one line more
-linked_behind : (lines : List (List ℕ)) (table : Table) (n slot : ℕ) (left : Option (Bor (List ℕ)))
+linked_after : (lines : List (List ℕ)) (table : Table) (n slot : ℕ) (left : Option (Bor (List ℕ)))
     (text : Bor (List ℕ)) (s : Option Statement)
-    (rest : List (List ℕ)) (code more : List Insn) (k : IsLinked lines table n slot (lines_behind left) code)
+    (rest : List (List ℕ)) (code more : List Insn) (k : IsLinked lines table n slot (following_lines left) code)
     → left ≡ Some text → Begins text.now s rest
     → instructions_of (slot_of_label k.said) slot (s ∷ []) ≡ Some more
     → IsLinked lines table (n + 1) (slot + slots_in (s ∷ [])) rest (code ++ more)
-linked_behind lines table n slot left text s rest code more k is first here =
+linked_after lines table n slot left text s rest code more k is first here =
     by k.after k.split (subst (λ ls. AllZip (λ line t. read_line line ≡ Some t) ls k.after)
-    (ap lines_behind is ∙ first.split) k.ahead) k.fit
+    (ap following_lines is ∙ first.split) k.ahead) k.fit
   where
     by : (after : List (Option Statement)) → k.said ≡ k.before ++ after
         → AllZip (λ line t. read_line line ≡ Some t) (first.line ∷ rest) after
@@ -164,10 +164,10 @@ linked_behind lines table n slot left text s rest code more k is first here =
 -- no line has a fault
 pub no_fault : (lines : List (List ℕ)) (table : Table) (n slot : ℕ) (left : Option (Bor (List ℕ)))
     (text : Bor (List ℕ)) (code : List Insn) (m : ℕ) (e : AsmError)
-    → IsLinked lines table n slot (lines_behind left) code → left ≡ Some text → Fails text.now m e → ⊥
+    → IsLinked lines table n slot (following_lines left) code → left ≡ Some text → Fails text.now m e → ⊥
 no_fault lines table n slot left text code m e k is first =
     by k.after (subst (λ ls. AllZip (λ line t. read_line line ≡ Some t) ls k.after)
-    (ap lines_behind is ∙ first.split) k.ahead) k.fit first.fault first.fails
+    (ap following_lines is ∙ first.split) k.ahead) k.fit first.fault first.fails
   where
     by : (after : List (Option Statement)) → AllZip (λ line t. read_line line ≡ Some t) (first.line ∷ first.rest) after
         → AllByRecursion IsInRange after
@@ -180,7 +180,7 @@ no_fault lines table n slot left text code m e k is first =
 -- a line that is no instruction adds no code
 pub linked_past : (lines : List (List ℕ)) (table : Table) (n slot : ℕ) (left : Option (Bor (List ℕ)))
     (text : Bor (List ℕ)) (l : Line)
-    (rest : List (List ℕ)) (code : List Insn) → IsLinked lines table n slot (lines_behind left) code → left ≡ Some text
+    (rest : List (List ℕ)) (code : List Insn) → IsLinked lines table n slot (following_lines left) code → left ≡ Some text
     → Begins text.now (said_in l) rest
     → ((i : Insn) (label : Option (Bor (List ℕ))) → l ≡ line.Insn i label → ⊥)
     → IsLinked lines table (n + 1) slot rest code
@@ -191,7 +191,7 @@ linked_past lines table n slot left text l rest code k is first other = by l fir
         → IsLinked lines table (n + 1) slot rest code
     none s nowhere nothing first = subst (λ c. IsLinked lines table (n + 1) slot rest c) (append-nil code)
         (subst (λ p. IsLinked lines table (n + 1) p rest (code ++ [])) (omega (arith, nowhere))
-        (linked_behind lines table n slot left text s rest code [] k is first nothing))
+        (linked_after lines table n slot left text s rest code [] k is first nothing))
 
     by : (l : Line) → Begins text.now (said_in l) rest
         → ((i : Insn) (label : Option (Bor (List ℕ))) → l ≡ line.Insn i label → ⊥)
@@ -203,19 +203,19 @@ linked_past lines table n slot left text l rest code k is first other = by l fir
 -- an instruction adds itself with the distance to its label
 pub linked_insn : (lines : List (List ℕ)) (table : Table) (n slot : ℕ) (left : Option (Bor (List ℕ)))
     (text : Bor (List ℕ)) (i : Insn) (target : Option Name)
-    (rest : List (List ℕ)) (code : List Insn) (j : Insn) (k : IsLinked lines table n slot (lines_behind left) code)
+    (rest : List (List ℕ)) (code : List Insn) (j : Insn) (k : IsLinked lines table n slot (following_lines left) code)
     → left ≡ Some text
     → Begins text.now (Some (Instruction i target)) rest → Some j ≡ linked_one (slot_of_label k.said) slot i target
     → IsLinked lines table (n + 1) (slot + slots_of i) rest (code ++ j ∷ [])
 linked_insn lines table n slot left text i target rest code j k is first one = subst
     (λ p. IsLinked lines table (n + 1) p rest (code ++ j ∷ [])) (omega arith)
-    (linked_behind lines table n slot left text (Some (Instruction i target)) rest code (j ∷ []) k is first
+    (linked_after lines table n slot left text (Some (Instruction i target)) rest code (j ∷ []) k is first
     (ap (λ o. option_and_then (λ h. option_map (λ c. h ∷ c) (Some [])) o) (sym one)))
 
 -- an unknown label halts the pass
 pub unknown_label : (lines : List (List ℕ)) (table : Table) (n slot : ℕ) (left : Option (Bor (List ℕ)))
     (text : Bor (List ℕ)) (i : Insn) (target : Option Name)
-    (rest : List (List ℕ)) (code : List Insn) (k : IsLinked lines table n slot (lines_behind left) code)
+    (rest : List (List ℕ)) (code : List Insn) (k : IsLinked lines table n slot (following_lines left) code)
     → left ≡ Some text
     → Begins text.now (Some (Instruction i target)) rest → None ≡ linked_one (slot_of_label k.said) slot i target
     → IsHalted lines (error.UnknownLabel (n + 1))
@@ -253,5 +253,5 @@ unknown_label lines table n slot left text i target rest code k is first none = 
       k.few,
       lacks name (missing _ _ none) k.after k.split
           (subst (λ ls. AllZip (λ line t. read_line line ≡ Some t) ls k.after)
-          (ap lines_behind is ∙ first.split) k.ahead) read,
+          (ap following_lines is ∙ first.split) k.ahead) read,
     )

@@ -20,13 +20,13 @@ use Rattle.asm.specs.declared.refusal.AsmError.TheVariants as error
 data Cuts {X : Type 0} (front : List X) (x : X) (other : List X) (y : X) : Type 0 where
   Same : front ≡ other → x ≡ y → Cuts front x other y
   Before : (more : List X) → other ≡ front ++ x ∷ more → Cuts front x other y
-  Behind : (more : List X) → front ≡ other ++ y ∷ more → Cuts front x other y
+  After : (more : List X) → front ≡ other ++ y ∷ more → Cuts front x other y
 
 cuts : {X : Type 0} (front : List X) (x : X) (back other : List X) (y : X) (rest : List X)
     → front ++ x ∷ back ≡ other ++ y ∷ rest → Cuts front x other y
 cuts [] x back [] y rest e = Same refl (cc)
 cuts [] x back (z ∷ other) y rest e = let first : x ≡ z = cc in Before other (ap (λ w. w ∷ other) (sym first))
-cuts (z ∷ front) x back [] y rest e = let first : z ≡ y = cc in Behind front (ap (λ w. w ∷ front) first)
+cuts (z ∷ front) x back [] y rest e = let first : z ≡ y = cc in After front (ap (λ w. w ∷ front) first)
 cuts (z ∷ front) x back (w ∷ other) y rest e = by (cuts front x back other y rest cc)
   where
     first : z ≡ w
@@ -35,7 +35,7 @@ cuts (z ∷ front) x back (w ∷ other) y rest e = by (cuts front x back other y
     by : Cuts front x other y → Cuts (z ∷ front) x (w ∷ other) y
     by (Same fronts here) = Same (cc) here
     by (Before more is) = Before more (cc)
-    by (Behind more is) = Behind more (cc)
+    by (After more is) = After more (cc)
 
 -- ---- lines are read in one way
 
@@ -183,7 +183,7 @@ fails_once lines e f a b = by (cuts a.before a.line a.after b.before b.line b.af
         one_fault e f (length a.before + 1) a.said (read_line a.line) a.fault moved
     by (Before more is) = absurd (not_understood a.before a.line more a.said b.said e _ a.read a.fault
         (subst (λ ls. AreUnderstood ls b.said) is b.read))
-    by (Behind more is) = absurd (not_understood b.before b.line more b.said a.said f _ b.read b.fault
+    by (After more is) = absurd (not_understood b.before b.line more b.said a.said f _ b.read b.fault
         (subst (λ ls. AreUnderstood ls a.said) is a.read))
 
 -- ---- texts without a fault of a line
@@ -217,7 +217,7 @@ lacks_once said n m a b = by (cuts a.before _ a.after b.before _ b.after (sym a.
     by (Before more is) = let none : is_some (instructions_of (slot_of_label said) 0 b.before) ≡ false = rw is
         (ap is_some (unknown_is_none (slot_of_label said) 0 a.before a.insn a.name more a.unknown)) in
         let known : is_some (instructions_of (slot_of_label said) 0 b.before) ≡ true = b.known in absurd cc
-    by (Behind more is) = let none : is_some (instructions_of (slot_of_label said) 0 a.before) ≡ false = rw is
+    by (After more is) = let none : is_some (instructions_of (slot_of_label said) 0 a.before) ≡ false = rw is
         (ap is_some (unknown_is_none (slot_of_label said) 0 b.before b.insn b.name more b.unknown)) in
         let known : is_some (instructions_of (slot_of_label said) 0 a.before) ≡ true = a.known in absurd cc
 
@@ -252,10 +252,10 @@ slots_of_code label_slots slot (Some (Instruction i t) ∷ said) code is =
         → option_and_then (λ j. option_map (λ c. j ∷ c) q) o ≡ Some code
         → ((tail : List Insn) → q ≡ Some tail → slot_count tail ≡ slots_in said)
         → slot_count code ≡ slots_of i + slots_in said
-    by None q one is behind = absurd cc
-    by (Some j) None one is behind = absurd cc
-    by (Some j) (Some tail) one is behind = let first : j ∷ tail ≡ code = cc in
-        omega (arith, ap slot_count first, slots_of_linked label_slots slot i t j one, behind tail refl)
+    by None q one is following = absurd cc
+    by (Some j) None one is following = absurd cc
+    by (Some j) (Some tail) one is following = let first : j ∷ tail ≡ code = cc in
+        omega (arith, ap slot_count first, slots_of_linked label_slots slot i t j one, following tail refl)
 
 -- ---- a text has one program or one refusal
 

@@ -10,7 +10,7 @@ use Rattle.asm.specs.Programs.{IsInRange, labels, IsNameAmong, AreDistinct}
 use Rattle.asm.specs.Reading.{read_line}
 use Rattle.asm.specs.Parsing.{UnderstandsLine}
 use Rattle.asm.specs.Faults.{fault_at}
-use Rattle.asm.specs.Scanning.{AreUnderstood, Holds, IsNew, Adds, IsScanned, IsHalted, lines_behind, Begins, Fails, Halts, IsUnread, IsTooLarge}
+use Rattle.asm.specs.Scanning.{AreUnderstood, Holds, IsNew, Adds, IsScanned, IsHalted, following_lines, Begins, Fails, Halts, IsUnread, IsTooLarge}
 use Rattle.asm.specs.declared.refusal.Fault.{Fault}
 use Rattle.asm.specs.declared.refusal.Fault.TheVariants as fault
 use Rattle.asm.specs.declared.refusal.AsmError.{AsmError}
@@ -90,14 +90,14 @@ scanned_none text table holds = record {
 -- what the table has after one line more
 pub scanned_more : (lines : List (List ℕ)) (n : ℕ) (left : Option (Bor (List ℕ))) (text : Bor (List ℕ))
     (s : Option Statement) (rest : List (List ℕ))
-    (table new : Table) (x : Unit {0}) → IsScanned lines n (lines_behind left) table → left ≡ Some text
+    (table new : Table) (x : Unit {0}) → IsScanned lines n (following_lines left) table → left ≡ Some text
     → Begins text.now s rest
     → ((said : List (Option Statement)) → Holds table said → Adds said s (n + 1) new (Ok x))
     → IsScanned lines (n + 1) rest new
 scanned_more lines n left text s rest table new x scanned is first added = record {
   before = scanned.before ++ first.line ∷ [];
   said = scanned.said ++ s ∷ [];
-  split = scanned.split ∙ ap (λ ls. scanned.before ++ ls) (ap lines_behind is ∙ first.split)
+  split = scanned.split ∙ ap (λ ls. scanned.before ++ ls) (ap following_lines is ∙ first.split)
       ∙ sym (append_assoc scanned.before (first.line ∷ []) rest);
   count = omega (arith, scanned.count, length_more scanned.before first.line);
   read = understood_more scanned.before scanned.said first.line s scanned.read first.read first.fit
@@ -108,7 +108,7 @@ scanned_more lines n left text s rest table new x scanned is first added = recor
 -- a line with a fault of its own halts the pass
 pub halted_at_fault : (lines : List (List ℕ)) (n : ℕ) (left : Option (Bor (List ℕ))) (text : Bor (List ℕ))
     (table : Table) (e : AsmError)
-    → IsScanned lines n (lines_behind left) table → left ≡ Some text → Fails text.now (n + 1) e → IsHalted lines e
+    → IsScanned lines n (following_lines left) table → left ≡ Some text → Fails text.now (n + 1) e → IsHalted lines e
 halted_at_fault lines n left text table e scanned is fails = rw fails.named (by fails.fault fails.fails)
   where
     halted : (F : List (Option Statement) → Option (Option Statement) → Type 0) → F scanned.said (read_line fails.line)
@@ -117,7 +117,7 @@ halted_at_fault lines n left text table e scanned is fails = rw fails.named (by 
       before = scanned.before;
       line = fails.line;
       after = fails.rest;
-      split = scanned.split ∙ ap (λ ls. scanned.before ++ ls) (ap lines_behind is ∙ fails.split);
+      split = scanned.split ∙ ap (λ ls. scanned.before ++ ls) (ap following_lines is ∙ fails.split);
       count = omega (arith, scanned.count);
       said = scanned.said;
       read = scanned.read;
@@ -131,7 +131,7 @@ halted_at_fault lines n left text table e scanned is fails = rw fails.named (by 
 -- so does a label that stands before
 pub halted_at_label : (lines : List (List ℕ)) (n : ℕ) (left : Option (Bor (List ℕ))) (text : Bor (List ℕ))
     (s : Option Statement) (rest : List (List ℕ))
-    (table new : Table) (e : AsmError) → IsScanned lines n (lines_behind left) table → left ≡ Some text
+    (table new : Table) (e : AsmError) → IsScanned lines n (following_lines left) table → left ≡ Some text
     → Begins text.now s rest
     → ((said : List (Option Statement)) → Holds table said → Adds said s (n + 1) new (Err e)) → IsHalted lines e
 halted_at_label lines n left text s rest table new e scanned is first added = by e (added scanned.said scanned.holds)
@@ -141,7 +141,7 @@ halted_at_label lines n left text s rest table new e scanned is first added = by
       before = scanned.before;
       line = first.line;
       after = rest;
-      split = scanned.split ∙ ap (λ ls. scanned.before ++ ls) (ap lines_behind is ∙ first.split);
+      split = scanned.split ∙ ap (λ ls. scanned.before ++ ls) (ap following_lines is ∙ first.split);
       count = here ∙ ap (λ k. k + 1) scanned.count;
       said = scanned.said;
       read = scanned.read;

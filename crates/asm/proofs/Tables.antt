@@ -44,8 +44,8 @@ place_known slot (Some (Labelled n) ∷ said) name e = by_name (bytes_eq n name)
   where
     by_name : (b : Bool) → bytes_eq n name ≡ b → is_some (cond b (Some slot) (slot_from slot said name)) ≡ true
         → (is_some (slot_from slot said name) ≡ true → IsNameAmong name (labels said)) → IsNameAmong name (n ∷ labels said)
-    by_name true same e behind = inl (sym ((bytes_eq-Decides n name).0 same))
-    by_name false other e behind = inr (behind e)
+    by_name true same e after = inl (sym ((bytes_eq-Decides n name).0 same))
+    by_name false other e after = inr (after e)
 place_known slot (Some (Instruction i t) ∷ said) name e = place_known (slot + slots_of i) said name e
 
 pub place_unknown : (slot : ℕ) (said : List (Option Statement)) (name : Name) → is_some (slot_from slot said name) ≡ false → IsNameAmong name (labels said) → ⊥
@@ -55,9 +55,9 @@ place_unknown slot (Some (Labelled n) ∷ said) name e among = by_name (bytes_eq
   where
     by_name : (b : Bool) → bytes_eq n name ≡ b → is_some (cond b (Some slot) (slot_from slot said name)) ≡ false → IsNameAmong name (n ∷ labels said)
         → (is_some (slot_from slot said name) ≡ false → IsNameAmong name (labels said) → ⊥) → ⊥
-    by_name true same e among behind = true≢false e
-    by_name false other e (inl is) behind = true≢false (sym ((bytes_eq-Decides n name).1 (sym is)) ∙ other)
-    by_name false other e (inr among) behind = behind e among
+    by_name true same e among after = true≢false e
+    by_name false other e (inl is) after = true≢false (sym ((bytes_eq-Decides n name).1 (sym is)) ∙ other)
+    by_name false other e (inr among) after = after e among
 place_unknown slot (Some (Instruction i t) ∷ said) name e among = place_unknown (slot + slots_of i) said name e among
 
 -- ---- tables

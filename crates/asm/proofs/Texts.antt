@@ -14,8 +14,8 @@ one_line (c ∷ rest) none = by (c == 10) none (one_line rest)
     by : (b : Bool) → cond (not b) (1 + position_or_len (λ d. d == 10) rest) 0 ≡ length (c ∷ rest)
         → (position_or_len (λ d. d == 10) rest ≡ length rest → lines_of rest ≡ rest ∷ [])
         → cond b ([] ∷ lines_of rest) (onto_first c (lines_of rest)) ≡ (c ∷ rest) ∷ []
-    by true none behind = absurd (omega arith)
-    by false none behind = ap (onto_first c) (behind (omega arith))
+    by true none after = absurd (omega arith)
+    by false none after = ap (onto_first c) (after (omega arith))
 
 -- where a text is split at its first line feed, its first line and its other lines
 pub first_of_lines : (text : List ℕ) (r : Option (Bor (List ℕ) × Bor (List ℕ))) → IsSplitOnceResult 10 text r

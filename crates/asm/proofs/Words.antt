@@ -7,7 +7,7 @@ use Rattle.std.proofs.lemmas.List.{append_assoc, append-nil}
 use Rattle.std.proofs.lemmas.List.Sums.{prefix_len-le-length}
 use Rattle.asm.specs.Lines.{begins_name, is_in_names, is_in_words, is_blank}
 use Rattle.asm.specs.Parsing.{StartsUnblank}
-use Rattle.asm.specs.Reading.{is_name, with_word, tokens_behind, tokens_of}
+use Rattle.asm.specs.Reading.{is_name, with_word, following_tokens, tokens_of}
 
 pub is_name_first : (w : List ℕ) → 0 < length w
     → is_name w ≡ (begins_name (slice_index_or w 0 0) && (list_all is_in_names (drop 1 w) && nat_le (length w) 32))
@@ -49,21 +49,21 @@ drop_more : (n k c : ℕ) (rest : List ℕ) → k ≡ suc n → drop k (c ∷ re
 drop_more n k c rest is = rw is
 
 -- a word ends before a character that is none of a word
-stops : (w : List ℕ) (c : ℕ) (rest : List ℕ) → is_in_words c ≡ false → tokens_behind w (c ∷ rest) ≡ with_word w (tokens_of (c ∷ rest))
+stops : (w : List ℕ) (c : ℕ) (rest : List ℕ) → is_in_words c ≡ false → following_tokens w (c ∷ rest) ≡ with_word w (tokens_of (c ∷ rest))
 stops w c rest e = rw e
 
 -- the rest of a word, after its beginning
-word_behind : (w rest : List ℕ) → tokens_behind w rest
+word_after : (w rest : List ℕ) → following_tokens w rest
     ≡ with_word (w ++ take (prefix_len is_in_words rest) rest) (tokens_of (drop (prefix_len is_in_words rest) rest))
-word_behind w [] = ap (λ v. with_word v []) (sym (append-nil w))
-word_behind w (c ∷ rest) = more (is_in_words c) refl (word_behind (w ++ c ∷ []) rest)
+word_after w [] = ap (λ v. with_word v []) (sym (append-nil w))
+word_after w (c ∷ rest) = more (is_in_words c) refl (word_after (w ++ c ∷ []) rest)
   where
     more : (b : Bool) → is_in_words c ≡ b
-        → tokens_behind (w ++ c ∷ []) rest ≡ with_word (w ++ c ∷ [] ++ take (prefix_len is_in_words rest) rest) (tokens_of (drop (prefix_len is_in_words rest) rest))
-        → tokens_behind w (c ∷ rest) ≡ with_word (w ++ take (cond b (1 + prefix_len is_in_words rest) 0) (c ∷ rest))
+        → following_tokens (w ++ c ∷ []) rest ≡ with_word (w ++ c ∷ [] ++ take (prefix_len is_in_words rest) rest) (tokens_of (drop (prefix_len is_in_words rest) rest))
+        → following_tokens w (c ∷ rest) ≡ with_word (w ++ take (cond b (1 + prefix_len is_in_words rest) 0) (c ∷ rest))
         (tokens_of (drop (cond b (1 + prefix_len is_in_words rest) 0) (c ∷ rest)))
-    more true e behind = rw (e, behind, append_assoc w (c ∷ []) (take (prefix_len is_in_words rest) rest), take_more _ _ c rest (one_more (prefix_len is_in_words rest)), drop_more _ _ c rest (one_more (prefix_len is_in_words rest)))
-    more false e behind = stops w c rest e ∙ ap (λ v. with_word v (tokens_of (c ∷ rest))) (sym (append-nil w))
+    more true e following = rw (e, following, append_assoc w (c ∷ []) (take (prefix_len is_in_words rest) rest), take_more _ _ c rest (one_more (prefix_len is_in_words rest)), drop_more _ _ c rest (one_more (prefix_len is_in_words rest)))
+    more false e following = stops w c rest e ∙ ap (λ v. with_word v (tokens_of (c ∷ rest))) (sym (append-nil w))
 
 pub no_token : (rest : List ℕ) → length rest ≡ 0 → tokens_of rest ≡ []
 no_token [] none = refl
@@ -76,7 +76,7 @@ comment_token (c ∷ rest) some is = rw is
 first_more : (c : ℕ) (rest : List ℕ) (b : Bool) → is_in_words c ≡ b → is_blank c ≡ false → (c == 59) ≡ false
     → tokens_of (c ∷ rest) ≡ take (max (cond b (1 + prefix_len is_in_words rest) 0) 1) (c ∷ rest)
     ∷ tokens_of (drop (max (cond b (1 + prefix_len is_in_words rest) 0) 1) (c ∷ rest))
-first_more c rest true e unblank other = rw (e, word_behind (c ∷ []) rest, at_least_one (prefix_len is_in_words rest), take_more _ _ c rest (one_more (prefix_len is_in_words rest)), drop_more _ _ c rest (one_more (prefix_len is_in_words rest)))
+first_more c rest true e unblank other = rw (e, word_after (c ∷ []) rest, at_least_one (prefix_len is_in_words rest), take_more _ _ c rest (one_more (prefix_len is_in_words rest)), drop_more _ _ c rest (one_more (prefix_len is_in_words rest)))
 first_more c rest false e unblank other = rw (e, unblank, other)
 
 pub first_token : (rest : List ℕ) → 0 < length rest → StartsUnblank rest → slice_index_or rest 0 0 ≢ 59

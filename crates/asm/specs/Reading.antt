@@ -38,13 +38,13 @@ with_word [] ts = ts
 with_word (c ∷ word) ts = (c ∷ word) ∷ ts
 
 -- the tokens of the rest of a line, after the beginning of a word; a character that is none of the grammar's is a token
-abbrev pub tokens_behind : Token → List ℕ → List Token
-tokens_behind word [] = with_word word []
-tokens_behind word (c ∷ rest) = if is_in_words c then tokens_behind (word ++ c ∷ []) rest
-    else with_word word (if c == 59 then [] else (if is_blank c then tokens_behind [] rest else (c ∷ []) ∷ tokens_behind [] rest))
+abbrev pub following_tokens : Token → List ℕ → List Token
+following_tokens word [] = with_word word []
+following_tokens word (c ∷ rest) = if is_in_words c then following_tokens (word ++ c ∷ []) rest
+    else with_word word (if c == 59 then [] else (if is_blank c then following_tokens [] rest else (c ∷ []) ∷ following_tokens [] rest))
 
 abbrev pub tokens_of : List ℕ → List Token
-tokens_of line = tokens_behind [] line
+tokens_of line = following_tokens [] line
 
 -- ---- readers
 

@@ -19,9 +19,9 @@ use Rattle.asm.specs.declared.refusal.AsmError.TheVariants as error
 use Rattle.asm.specs.declared.table.Table.{Table}
 
 -- the lines after a line feed, if there is one
-abbrev pub lines_behind : Option (Bor (List ℕ)) → List (List ℕ)
-lines_behind None = []
-lines_behind (Some rest) = lines_of rest.now
+abbrev pub following_lines : Option (Bor (List ℕ)) → List (List ℕ)
+following_lines None = []
+following_lines (Some rest) = lines_of rest.now
 
 -- how many lines can follow
 abbrev pub lines_left : Option (Bor (List ℕ)) → ℕ

@@ -257,10 +257,10 @@ impl<'a> Parser<'a> {
     pub(crate) fn integer(&mut self) -> Result<Integer<'a>, Fault>
         ensures { Reads reading.integer integer_value self.old result self.new }
     {
-        let mut behind = *self;
-        let is_negative = behind.sign(b"-").is_ok();
+        let mut after = *self;
+        let is_negative = after.sign(b"-").is_ok();
         if is_negative {
-            *self = behind;
+            *self = after;
         }
         let magnitude = self.number()?;
         Ok(Integer {
@@ -273,9 +273,9 @@ impl<'a> Parser<'a> {
     pub(crate) fn operand(&mut self) -> Result<Written<'a>, Fault>
         ensures { Reads reading.operand_in operand_value self.old result self.new }
     {
-        let mut behind = *self;
-        if let Ok(r) = behind.register() {
-            *self = behind;
+        let mut after = *self;
+        if let Ok(r) = after.register() {
+            *self = after;
             return Ok(Written::Reg(r));
         }
         Ok(Written::Integer(self.integer()?))
@@ -285,9 +285,9 @@ impl<'a> Parser<'a> {
     pub(crate) fn goal(&mut self) -> Result<Goal<'a>, Fault>
         ensures { Reads reading.target goal_value self.old result self.new }
     {
-        let mut behind = *self;
-        if let Ok(name) = behind.name() {
-            *self = behind;
+        let mut after = *self;
+        if let Ok(name) = after.name() {
+            *self = after;
             return Ok(Goal::Label(name));
         }
         Ok(Goal::Distance(self.signed_number()?))

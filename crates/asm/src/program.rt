@@ -8,7 +8,7 @@ ghost use Rattle.asm.specs.declared.refusal.AsmError.TheVariants.{Memory};
 ghost use Rattle.insn.specs.Encoding.{slot_count, encodings, AllFit};
 ghost use Rattle.insn.specs.Spelling.{listing};
 ghost use Rattle.asm.specs.Parsing.{said_in};
-ghost use Rattle.asm.specs.Scanning.{lines_behind, lines_left, Begins, Fails, Holds, IsTableOf, IsHalted, IsCodeOf, IsBuilt};
+ghost use Rattle.asm.specs.Scanning.{following_lines, lines_left, Begins, Fails, Holds, IsTableOf, IsHalted, IsCodeOf, IsBuilt};
 
 use crate::refusal::AsmError;
 use crate::statement::{Line, parse};
@@ -18,7 +18,7 @@ use std::alloc::Global;
 
 /// Returns the first line of a text, and what follows its line feed, if it has one.
 fn first_line(text: &str) -> (&str, Option<&str>)
-    ensures split { lines_of text.now ≡ result.0.now ∷ lines_behind result.1 }
+    ensures split { lines_of text.now ≡ result.0.now ∷ following_lines result.1 }
     ensures fewer { lines_left result.1 ≤ length text.now }
 {
     match text.split_once('\n') {
@@ -32,7 +32,7 @@ fn first_line(text: &str) -> (&str, Option<&str>)
 /// # Errors
 /// The fault of the line, which is `Syntax` or `Range`.
 fn next_line(text: &str, number: usize) -> Result<(Line<'_>, Option<&str>), AsmError>
-    ensures read { IfOk result (λ r. Begins text.now (said_in r.0) (lines_behind r.1)) }
+    ensures read { IfOk result (λ r. Begins text.now (said_in r.0) (following_lines r.1)) }
     ensures fewer { IfOk result (λ r. lines_left r.1 ≤ length text.now) }
     ensures refused { IfErr result (Fails text.now number) }
 {

@@ -335,9 +335,9 @@ pub(crate) fn parse(line: &[u8]) -> Result<Line<'_>, Fault>
     let Some(word) = parser.next() else {
         return Ok(Line::Empty);
     };
-    let mut behind = parser;
-    if behind.sign(b":").is_ok() {
-        behind.label(word)
+    let mut after = parser;
+    if after.sign(b":").is_ok() {
+        after.label(word)
     } else {
         parser.statement(word)
     }

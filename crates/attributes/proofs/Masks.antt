@@ -18,8 +18,8 @@ twice a mask = xor_assoc a mask mask ∙ ap (bit_xor a) (xor_self mask) ∙ xor_
 pub read_back : (n y : ℕ) → y < 256 ^ n → big_number n (bytes_high_first n y) ≡ y
 read_back n y lt = ap (big_from 0 n) (sym (append-nil (bytes_high_first n y))) ∙ big_number-reads_back n y [] lt
 
-fit_behind : (n : ℕ) (xs : List ℕ) → ((i : ℕ) → Fits w8 (get_or xs i 0)) → (i : ℕ) → Fits w8 (get_or (drop n xs) i 0)
-fit_behind n xs fit i = subst (λ (b : ℕ). Fits w8 b) (sym (get_or-drop n xs i 0)) (fit (n + i))
+fit_after : (n : ℕ) (xs : List ℕ) → ((i : ℕ) → Fits w8 (get_or xs i 0)) → (i : ℕ) → Fits w8 (get_or (drop n xs) i 0)
+fit_after n xs fit i = subst (λ (b : ℕ). Fits w8 b) (sym (get_or-drop n xs i 0)) (fit (n + i))
 
 -- of a value, the n bytes after its first four
 pub masked_back : (n : ℕ) (value : List ℕ) (mask number : ℕ) (ip : List ℕ) → n + 4 ≤ length value → ((i : ℕ) → Fits w8 (get_or value i 0)) → number ≡ big_number n (drop 4 value) → ip ≡ bytes_high_first n (bit_xor number mask)
@@ -30,7 +30,7 @@ masked_back n value mask number ip long fit number_is ip_is small =
     ∙ ap (λ (y : ℕ). big_bytes n (bit_xor y mask)) (read_back n (bit_xor number mask) small)
     ∙ ap (big_bytes n) (twice number mask)
     ∙ ap (big_bytes n) number_is
-    ∙ bytes_back n (drop 4 value) (omega (arith, long, length-drop 4 value)) (all_fit (drop 4 value) (fit_behind 4 value fit))
+    ∙ bytes_back n (drop 4 value) (omega (arith, long, length-drop 4 value)) (all_fit (drop 4 value) (fit_after 4 value fit))
 
 -- they are the bytes after the first four, masked
 pub masked_is : (n : ℕ) (value : List ℕ) (mask number : ℕ) (ip : List ℕ) → number ≡ big_number n (drop 4 value) → ip ≡ bytes_high_first n (bit_xor number mask) → ip ≡ masked n (drop 4 value) mask
@@ -38,7 +38,7 @@ unfolding masked
 masked_is n value mask number ip number_is ip_is = ip_is ∙ ap (λ (y : ℕ). big_bytes n (bit_xor y mask)) number_is
 
 pub below : (n : ℕ) (value : List ℕ) (number : ℕ) → ((i : ℕ) → Fits w8 (get_or value i 0)) → number ≡ big_number n (drop 4 value) → number < 256 ^ n
-below n value number fit is = subst (λ (k : ℕ). k < 256 ^ n) (sym is) (big_from-lt 0 n (drop 4 value) (λ i. (fit_behind 4 value fit i).fits))
+below n value number fit is = subst (λ (k : ℕ). k < 256 ^ n) (sym is) (big_from-lt 0 n (drop 4 value) (λ i. (fit_after 4 value fit i).fits))
 
 length-masked : (n : ℕ) (ip : List ℕ) (mask : ℕ) → length (masked n ip mask) ≡ n
 unfolding masked

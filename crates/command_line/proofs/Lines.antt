@@ -1,5 +1,5 @@
 -- What clap's definitions make of the lines that are spelled out.
-use Rattle.std.proofs.Common.{◌≡◌, ◌∙◌, ap, ◌++◌, true, List, [], ◌∷◌, Option, Some, None, refl, codes, inl, inr, sym, subst, IsSomeAnd, IfOk, Result, Ok, Err, Bor}
+use Rattle.std.proofs.Common.{◌≡◌, ◌∙◌, ap, ◌++◌, arith, ℕ, Bool, true, false, List, [], ◌∷◌, Option, Some, None, refl, codes, inl, inr, sym, subst, IsSomeAnd, IfOk, Result, Ok, Err, Bor}
 use Rattle.std.specs.Prelude.{option_map}
 use Rattle.std.proofs.lemmas.Option.{none-some, same_Some}
 use Rattle.clap.specs.Kinds.{Kinds}
@@ -11,8 +11,8 @@ use Rattle.clap.specs.declared.parser.matches.ArgMatches.{ArgMatches}
 use Rattle.clap.proofs.OnLiterals.{clap_on_literals}
 use Rattle.command_line.proofs.Operands.{HasTexts, IsOptions, IsServing, all_held, all_options, all_serve, all_words, every_held, every_options, every_texts, every_words, last_operand, last_rows, options_rows, port_held, port_serves, port_words, replay_faults, replay_rows, replay_shape, serve_faults, serve_rows, serve_shape, user_held, user_options, user_texts}
 use Rattle.command_line.specs.Commands.{faults_of, relayd_command, subcommand_in}
-use Rattle.command_line.specs.Lines.{Given, GivenServer, IsOperand, IsLineOf, IsParsedAs, IsReplayLine, IsServeLine, IsTraceLine, before, every_option, every_server_option, only_port, only_user, only_users_file, server_before}
-use Rattle.command_line.specs.Subcommands.{IsSubcommand, ServerTexts, Texts, server_texts_in, server_texts_of, text_of, texts_in, texts_of, value_of}
+use Rattle.command_line.specs.Lines.{Given, IsOperand, IsLineOf, IsParsedAs, IsReplayLine, IsServeLine, IsSlotsLine, IsTraceLine, before, every_option, every_server_option, only_port, only_user, only_users_file}
+use Rattle.command_line.specs.Subcommands.{IsFlag, IsSubcommand, ServerTexts, Texts, flag_of, server_texts_in, server_texts_of, text_of, texts_in, texts_of, value_of}
 use Rattle.command_line.specs.declared.Options.{Options}
 use Rattle.command_line.specs.declared.Subcommand.{Subcommand}
 use Rattle.command_line.specs.declared.Subcommand.TheVariants.{Verify, Trace, Assemble, Disassemble, Replay, Serve}
@@ -29,10 +29,33 @@ unfolding clap_on_literals
 verify_read name [] e = record { good = refl; name_is = refl; file_is = refl; data_is = refl }
 verify_read name (x ∷ xs) e = record { good = simp e refl; name_is = refl; file_is = simp e refl; data_is = simp e refl }
 
-disassemble_read : (name file : Text) → IsOperand file → Reads (name ∷ codes "disassemble" ∷ file ∷ []) (codes "disassemble") file None
+-- the line has no fault, and its subcommand is disassemble with this file and this value of the flag
+pub record ReadsFlag (words : List Text) (file value : Text) : Type 0 where
+  pub good : faults_of words ≡ []
+  pub name_is : option_map (λ p. p.0) (subcommand_in words) ≡ Some (codes "disassemble")
+  pub file_is : option_map (λ p. value_of p (codes "file")) (subcommand_in words) ≡ Some (Some file)
+  pub flag_is : option_map (λ p. flag_of p (codes "slots")) (subcommand_in words) ≡ Some (Some value)
+
+disassemble_read : (name file : Text) → IsOperand file
+    → ReadsFlag (name ∷ codes "disassemble" ∷ file ∷ []) file (codes "false")
 unfolding clap_on_literals
-disassemble_read name [] e = record { good = refl; name_is = refl; file_is = refl; data_is = refl }
-disassemble_read name (x ∷ xs) e = record { good = simp e refl; name_is = refl; file_is = simp e refl; data_is = simp e refl }
+disassemble_read name [] e = record { good = refl; name_is = refl; file_is = refl; flag_is = refl }
+disassemble_read name (x ∷ xs) e =
+    record { good = simp e refl; name_is = refl; file_is = simp e refl; flag_is = simp e refl }
+
+slots_last : (name file : Text) → IsOperand file
+    → ReadsFlag (name ∷ codes "disassemble" ∷ file ∷ codes "--slots" ∷ []) file (codes "true")
+unfolding clap_on_literals
+slots_last name [] e = record { good = refl; name_is = refl; file_is = refl; flag_is = refl }
+slots_last name (x ∷ xs) e =
+    record { good = simp e refl; name_is = refl; file_is = simp e refl; flag_is = simp e refl }
+
+slots_first : (name file : Text) → IsOperand file
+    → ReadsFlag (name ∷ codes "disassemble" ∷ codes "--slots" ∷ file ∷ []) file (codes "true")
+unfolding clap_on_literals
+slots_first name [] e = record { good = refl; name_is = refl; file_is = refl; flag_is = refl }
+slots_first name (x ∷ xs) e =
+    record { good = simp e refl; name_is = refl; file_is = simp e refl; flag_is = simp e refl }
 
 -- the line has no fault, and its subcommand has this name and these files
 pub record ReadsFiles (words : List Text) (name input output : Text) : Type 0 where
@@ -158,6 +181,17 @@ files_collected : (o : Option (Text × List Row)) (name input output : Text) →
 files_collected None name input output n f d = absurd (none-some name n)
 files_collected (Some p) name input output n f d = (same_Some _ _ n, same_Some _ _ f, same_Some _ _ d)
 
+abbrev HasFlag : Text → Text → Text × List Row → Type 0
+HasFlag file value p = (p.0 ≡ codes "disassemble") × (value_of p (codes "file") ≡ Some file)
+    × (flag_of p (codes "slots") ≡ Some value)
+
+flag_collected : (o : Option (Text × List Row)) (file value : Text)
+    → option_map (λ p. p.0) o ≡ Some (codes "disassemble")
+    → option_map (λ p. value_of p (codes "file")) o ≡ Some (Some file)
+    → option_map (λ p. flag_of p (codes "slots")) o ≡ Some (Some value) → IsSomeAnd o (HasFlag file value)
+flag_collected None file value n f d = absurd (none-some (codes "disassemble") n)
+flag_collected (Some p) file value n f d = (same_Some _ _ n, same_Some _ _ f, same_Some _ _ d)
+
 collected : (o : Option (Text × List Row)) (name file : Text) (hex : Option Text) → option_map (λ p. p.0) o ≡ Some name
     → option_map (λ p. value_of p (codes "file")) o ≡ Some (Some file) → option_map (λ p. value_of p (codes "data")) o ≡ Some hex → IsSomeAnd o (Has name file hex)
 collected None name file hex n f d = absurd (none-some name n)
@@ -178,10 +212,13 @@ verify_made words file r = record {
   subcommand = weaker (subcommand_in words) (Has (codes "verify") file.now None) (λ p. IsSubcommand p (Verify file)) (λ p h. (h.0, h.1)) (collected (subcommand_in words) (codes "verify") file.now None r.name_is r.file_is r.data_is);
 }
 
-disassemble_made : (words : List Text) (file : Bor Text) → Reads words (codes "disassemble") file.now None → Makes words (Disassemble file)
-disassemble_made words file r = record {
+disassemble_made : (words : List Text) (file : Bor Text) (value : Text) (slots : Bool) → IsFlag (Some value) slots
+    → ReadsFlag words file.now value → Makes words (Disassemble file slots)
+disassemble_made words file value slots says r = record {
   good = r.good;
-  subcommand = weaker (subcommand_in words) (Has (codes "disassemble") file.now None) (λ p. IsSubcommand p (Disassemble file)) (λ p h. (h.0, h.1)) (collected (subcommand_in words) (codes "disassemble") file.now None r.name_is r.file_is r.data_is);
+  subcommand = weaker (subcommand_in words) (HasFlag file.now value) (λ p. IsSubcommand p (Disassemble file slots))
+      (λ p h. (h.0, h.1, subst (λ o. IsFlag o slots) (sym h.2) says))
+      (flag_collected (subcommand_in words) file.now value r.name_is r.file_is r.flag_is);
 }
 
 assemble_made : (words : List Text) (input output : Bor Text) → ReadsFiles words (codes "assemble") input.now output.now → Makes words (Assemble input output)
@@ -241,10 +278,39 @@ with_data file hex words o (name, inr (inl l)) = subst (λ w. Reads w (codes "tr
 with_data file hex words o (name, inr (inr (inl l))) = subst (λ w. Reads w (codes "trace") file.now (Some hex.now)) (sym l) (joined_last name file.now hex.now o)
 with_data file hex words o (name, inr (inr (inr l))) = subst (λ w. Reads w (codes "trace") file.now (Some hex.now)) (sym l) (joined_first name file.now hex.now o)
 
+with_slots : (file : Text) (words : List Text) → IsOperand file → IsSlotsLine file words
+    → ReadsFlag words file (codes "true")
+with_slots file words o (name, inl l) = subst (λ w. ReadsFlag w file (codes "true")) (sym l) (slots_last name file o)
+with_slots file words o (name, inr l) = subst (λ w. ReadsFlag w file (codes "true")) (sym l) (slots_first name file o)
+
+-- what the two values of a flag say
+
+abbrev head : Text → ℕ
+head [] = 0
+head (c ∷ rest) = c
+
+says_false : IsFlag (Some (codes "false")) false
+says_false = record {
+  set = λ e. let other : 102 ≡ 116 = ap head (same_Some _ _ e) in absurd (omega (arith, other));
+  unset = λ _. refl;
+  missing = λ e. absurd (none-some (codes "false") (sym e));
+}
+
+says_true : IsFlag (Some (codes "true")) true
+says_true = record {
+  set = λ _. refl;
+  unset = λ e. let other : 116 ≡ 102 = ap head (same_Some _ _ e) in absurd (omega (arith, other));
+  missing = λ e. absurd (none-some (codes "true") (sym e));
+}
+
 made : (r : Subcommand) (words : List Text) → IsLineOf r words → Makes words r
 made (Verify file) words (o, (name, l)) = verify_made words file (subst (λ w. Reads w (codes "verify") file.now None) (sym l) (verify_read name file.now o))
 made (Assemble input output) words (o, (name, l)) = assemble_made words input output (subst (λ w. ReadsFiles w (codes "assemble") input.now output.now) (sym l) (assemble_read name input.now output.now o.0 o.1))
-made (Disassemble file) words (o, (name, l)) = disassemble_made words file (subst (λ w. Reads w (codes "disassemble") file.now None) (sym l) (disassemble_read name file.now o))
+made (Disassemble file false) words (o, (name, l)) =
+    disassemble_made words file (codes "false") false says_false
+    (subst (λ w. ReadsFlag w file.now (codes "false")) (sym l) (disassemble_read name file.now o))
+made (Disassemble file true) words (o, l) =
+    disassemble_made words file (codes "true") true says_true (with_slots file.now words o l)
 made (Trace file None) words (o, (name, l)) = trace_made words file None (subst (λ w. Reads w (codes "trace") file.now None) (sym l) (trace_read name file.now o))
 made (Trace file (Some hex)) words (o, l) = trace_made words file (Some hex) (with_data file hex words o l)
 made (Replay events nonce options) words (o, l) = replay_made words events nonce options (with_events events.now (text_of nonce) (texts_of options) words o l)

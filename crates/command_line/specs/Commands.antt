@@ -2,7 +2,7 @@
 use Rattle.std.specs.Prelude.{◌≡◌, true, false, List, Option, Some, codes}
 use Rattle.clap.specs.Kinds.{Kinds}
 use Rattle.clap.specs.Words.{App, Row, Rule, Text, app_of, fault_of, new_app, new_rule, subcommand_of, with_rule, with_subcommand}
-use Rattle.clap.specs.declared.builder.action.ArgAction.TheVariants.{Set, Append}
+use Rattle.clap.specs.declared.builder.action.ArgAction.TheVariants.{Set, SetTrue, Append}
 use Rattle.clap.specs.declared.builder.command.Command.{Command}
 use Rattle.clap.specs.declared.builder.command.Command.TheViews.{out-Command}
 
@@ -25,9 +25,13 @@ output_argument = record (new_rule (codes "out")) { action = Some Set; value_nam
 abbrev pub assemble_command : App
 assemble_command = with_rule (with_rule (new_app (codes "assemble")) input_argument) output_argument
 
--- disassemble FILE
+-- --slots: a flag, at most once
+abbrev pub slots_flag : Rule
+slots_flag = record (new_rule (codes "slots")) { long = Some (codes "slots"); action = Some SetTrue }
+
+-- disassemble [--slots] FILE
 abbrev pub disassemble_command : App
-disassemble_command = with_rule (new_app (codes "disassemble")) file_argument
+disassemble_command = with_rule (with_rule (new_app (codes "disassemble")) file_argument) slots_flag
 
 -- verify FILE
 abbrev pub verify_command : App
@@ -79,7 +83,7 @@ server_command = with_rule (with_rule (with_rule (with_rule (with_rule (new_app 
 abbrev pub serve_command : App
 serve_command = with_options server_command
 
--- relayd COMMAND, of which COMMAND is required: with no word behind the name, the answer is the help. It has a version
+-- relayd COMMAND, of which COMMAND is required: with no word after the name, the answer is the help. It has a version
 abbrev pub bare_command : App
 bare_command = let app = new_app (codes "relayd") in record app {
   top = record app.top { has_version = true; arg_required_else_help = true; subcommand_required = true };

@@ -1,5 +1,5 @@
 -- Meaning. Good command lines, spelled out word by word.
-use Rattle.std.specs.Prelude.{◌≡◌, ◌⊎◌, ◌==◌, Bool, false, List, [], ◌∷◌, ◌++◌, Option, Some, None, codes, Result, MatchResult, IsSomeAnd}
+use Rattle.std.specs.Prelude.{◌≡◌, ◌⊎◌, ◌==◌, Bool, true, false, List, [], ◌∷◌, ◌++◌, Option, Some, None, codes, Result, MatchResult, IsSomeAnd}
 use Rattle.clap.specs.Words.{Text, kind_of, subcommand_rows_of}
 use Rattle.clap.specs.declared.error.Error.{Error}
 use Rattle.clap.specs.declared.error.kind.ErrorKind.TheVariants.{OutOfMemory}
@@ -16,13 +16,19 @@ begins_with_minus (x ∷ rest) = x == 45
 abbrev pub IsOperand : Text → Type 0
 IsOperand word = begins_with_minus word ≡ false
 
--- a program's name, `trace`, and FILE with --data HEX or --data=HEX behind it or before it
+-- a program's name, `trace`, and FILE with --data HEX or --data=HEX after it or before it
 abbrev pub IsTraceLine : Text → Text → List Text → Type 0
 IsTraceLine file hex words = (name : Text) × (
     (IsOperand hex × (words ≡ name ∷ codes "trace" ∷ file ∷ codes "--data" ∷ hex ∷ []))
     ⊎ ((IsOperand hex × (words ≡ name ∷ codes "trace" ∷ codes "--data" ∷ hex ∷ file ∷ []))
     ⊎ ((words ≡ name ∷ codes "trace" ∷ file ∷ (codes "--data=" ++ hex) ∷ [])
     ⊎ (words ≡ name ∷ codes "trace" ∷ (codes "--data=" ++ hex) ∷ file ∷ []))))
+
+-- a program's name, `disassemble`, and FILE with --slots after it or before it
+abbrev pub IsSlotsLine : Text → List Text → Type 0
+IsSlotsLine file words = (name : Text) × (
+    (words ≡ name ∷ codes "disassemble" ∷ file ∷ codes "--slots" ∷ [])
+    ⊎ (words ≡ name ∷ codes "disassemble" ∷ codes "--slots" ∷ file ∷ []))
 
 -- the texts of one user, and of no other option
 abbrev pub only_user : Text → Texts
@@ -131,7 +137,9 @@ IsLineOf (Trace file None) words = IsOperand file.now × ((name : Text) × (word
 IsLineOf (Trace file (Some hex)) words = IsOperand file.now × IsTraceLine file.now hex.now words
 IsLineOf (Assemble input output) words = (IsOperand input.now × IsOperand output.now)
     × ((name : Text) × (words ≡ name ∷ codes "assemble" ∷ input.now ∷ output.now ∷ []))
-IsLineOf (Disassemble file) words = IsOperand file.now × ((name : Text) × (words ≡ name ∷ codes "disassemble" ∷ file.now ∷ []))
+IsLineOf (Disassemble file false) words = IsOperand file.now
+    × ((name : Text) × (words ≡ name ∷ codes "disassemble" ∷ file.now ∷ []))
+IsLineOf (Disassemble file true) words = IsOperand file.now × IsSlotsLine file.now words
 IsLineOf (Replay events nonce options) words = IsOperand events.now × IsReplayLine events.now (text_of nonce) (texts_of options) words
 IsLineOf (Serve port rounds listen lifetime stats options) words =
     IsServeLine (server_texts_of port rounds listen lifetime stats) (texts_of options) words

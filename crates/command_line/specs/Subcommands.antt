@@ -1,7 +1,7 @@
 -- Meaning. The subcommands of relayd, by their names and the values of their arguments.
-use Rattle.std.specs.Prelude.{◌≡◌, ◌⊎◌, List, Option, Some, None, map, option_map, codes}
+use Rattle.std.specs.Prelude.{◌≡◌, ◌⊎◌, Bool, true, false, List, Option, Some, None, map, option_map, codes}
 use Rattle.std.specs.Borrow.{Bor}
-use Rattle.clap.specs.Words.{Text, Row, all_of, first_of}
+use Rattle.clap.specs.Words.{Text, Row, all_of, first_of, one_of}
 use Rattle.command_line.specs.declared.Options.{Options}
 use Rattle.command_line.specs.declared.Subcommand.{Subcommand}
 use Rattle.command_line.specs.declared.Subcommand.TheVariants.{Verify, Trace, Assemble, Disassemble, Replay, Serve}
@@ -9,6 +9,16 @@ use Rattle.command_line.specs.declared.Subcommand.TheVariants.{Verify, Trace, As
 -- the value of an argument of the subcommand
 abbrev pub value_of : Text × List Row → Text → Option Text
 value_of p id = first_of id p.1
+
+-- the value of a flag of the subcommand, as clap reads it: `true` where it is given, and else `false`, its default
+abbrev pub flag_of : Text × List Row → Text → Option Text
+flag_of p id = one_of id p.1
+
+-- what the value of a flag says
+pub record IsFlag (value : Option Text) (given : Bool) : Type 0 where
+  pub set : value ≡ Some (codes "true") → given ≡ true
+  pub unset : value ≡ Some (codes "false") → given ≡ false
+  pub missing : value ≡ None → given ≡ false
 
 -- the texts of the options that set up a relay
 pub record Texts : Type 0 where
@@ -85,7 +95,8 @@ IsSubcommand p (Trace file hex) = (p.0 ≡ codes "trace") × (value_of p (codes 
     × (value_of p (codes "data") ≡ option_map (λ s. s.now) hex)
 IsSubcommand p (Assemble input output) = (p.0 ≡ codes "assemble") × (value_of p (codes "in") ≡ Some input.now)
     × (value_of p (codes "out") ≡ Some output.now)
-IsSubcommand p (Disassemble file) = (p.0 ≡ codes "disassemble") × (value_of p (codes "file") ≡ Some file.now)
+IsSubcommand p (Disassemble file slots) = (p.0 ≡ codes "disassemble") × (value_of p (codes "file") ≡ Some file.now)
+    × IsFlag (flag_of p (codes "slots")) slots
 IsSubcommand p (Replay events nonce options) = (p.0 ≡ codes "replay") × (value_of p (codes "events") ≡ Some events.now)
     × (value_of p (codes "nonce") ≡ text_of nonce) × (texts_in p.1 ≡ texts_of options)
 IsSubcommand p (Serve port rounds listen lifetime stats options) = (p.0 ≡ codes "serve")

@@ -3,7 +3,7 @@
 
 ghost use Rattle.std.specs.Prelude.{◌≡◌, None, true, false, codes, map, IfOk, IfSome, IfNone, IsSomeAnd};
 ghost use Rattle.clap.specs.Words.{FailsBy, first_of, found_of, has_subcommand, rows_of, rule_of, subcommand_rows_of};
-ghost use Rattle.command_line.specs.Commands.{HasAdded, HasShape, assemble_command, bare_command, data_option, disassemble_command, events_argument, faults_of, file_argument, input_argument, option, output_argument, port_option, program_command, relayd_command, replay_command, serve_command, server_command, subcommand_in, text_command, trace_command, user_option, verify_command, with_addresses, with_options, with_programs, with_users};
+ghost use Rattle.command_line.specs.Commands.{HasAdded, HasShape, assemble_command, bare_command, data_option, disassemble_command, events_argument, faults_of, file_argument, input_argument, option, output_argument, port_option, program_command, relayd_command, replay_command, serve_command, server_command, slots_flag, subcommand_in, text_command, trace_command, user_option, verify_command, with_addresses, with_options, with_programs, with_users};
 ghost use Rattle.command_line.specs.Lines.{IsLineOf, IsParsedAs};
 ghost use Rattle.command_line.specs.Subcommands.{IsSubcommand, IsNoSubcommand, texts_in, texts_of};
 ghost use Rattle.command_line.specs.declared.Subcommand.{Subcommand};
@@ -61,9 +61,10 @@ pub enum Subcommand<'a> {
         input: &'a str,
         output: &'a str,
     },
-    /// Print the program in a file as text.
+    /// Print the program in a file as text, with the slot of each instruction where `slots` says so.
     Disassemble {
         file: &'a str,
+        slots: bool,
     },
     /// Replay the events in a file through a relay, and print each answer. The file `-` is standard input.
     Replay {
@@ -132,6 +133,17 @@ fn output<'a>(alloc: Global) -> Arg<'a>
         .action(ArgAction::Set)
 }
 
+/// Returns the flag `--slots`.
+fn slots<'a>(alloc: Global) -> Arg<'a>
+    ensures rule { rule_of result ≡ slots_flag }
+    ensures local { result.global ≡ false }
+{
+    Arg::new(alloc, "slots")
+        .long("slots")
+        .help("Write the slot of each instruction after it, as a comment")
+        .action(ArgAction::SetTrue)
+}
+
 /// Returns the subcommand `verify`.
 fn verify<'a>(alloc: Global) -> Result<Command<'a>, AllocError>
     ensures { IfOk result (HasShape verify_command) }
@@ -167,7 +179,8 @@ fn disassemble<'a>(alloc: Global) -> Result<Command<'a>, AllocError>
 {
     Command::new(alloc, "disassemble")
         .about("Print a program as text, which assembles to the same program")
-        .arg(file(alloc))
+        .arg(file(alloc))?
+        .arg(slots(alloc))
 }
 
 /// Returns the argument `EVENTS`.
@@ -440,7 +453,8 @@ pub fn subcommand_of<'a>(matches: &'a ArgMatches<'_>) -> Option<Subcommand<'a>>
         }
         "disassemble" => {
             let file = matches.get_str("file")?;
-            Some(Subcommand::Disassemble { file })
+            let slots = matches.get_flag("slots");
+            Some(Subcommand::Disassemble { file, slots })
         }
         "verify" => {
             let file = matches.get_str("file")?;

@@ -10,7 +10,7 @@ struct Good {
     subcommand: &'static str,
 }
 
-const GOOD: [Good; 24] = [
+const GOOD: [Good; 26] = [
     Good {
         words: &["relayd", "verify", "a.bpf"],
         subcommand: r#"Verify { file: "a.bpf" }"#,
@@ -29,7 +29,15 @@ const GOOD: [Good; 24] = [
     },
     Good {
         words: &["relayd", "disassemble", "a.bpf"],
-        subcommand: r#"Disassemble { file: "a.bpf" }"#,
+        subcommand: r#"Disassemble { file: "a.bpf", slots: false }"#,
+    },
+    Good {
+        words: &["relayd", "disassemble", "--slots", "a.bpf"],
+        subcommand: r#"Disassemble { file: "a.bpf", slots: true }"#,
+    },
+    Good {
+        words: &["relayd", "disassemble", "a.bpf", "--slots"],
+        subcommand: r#"Disassemble { file: "a.bpf", slots: true }"#,
     },
     Good {
         words: &["relayd", "trace", "a.bpf"],
@@ -188,7 +196,7 @@ struct Refused {
     parts: &'static [&'static str],
 }
 
-const REFUSED: [Refused; 49] = [
+const REFUSED: [Refused; 51] = [
     // no word after the name: the help
     Refused {
         words: &[],
@@ -240,6 +248,17 @@ const REFUSED: [Refused; 49] = [
         words: &["relayd", "disassemble", "a.bpf", "a.s"],
         status: 2,
         parts: &["a.s", "--help"],
+    },
+    // a flag twice, and one with a value
+    Refused {
+        words: &["relayd", "disassemble", "--slots", "a.bpf", "--slots"],
+        status: 2,
+        parts: &["'--slots' cannot be used multiple times", "--help"],
+    },
+    Refused {
+        words: &["relayd", "disassemble", "--slots=true", "a.bpf"],
+        status: 2,
+        parts: &["unexpected value 'true' for '--slots'", "--help"],
     },
     // events: missing, twice, and options without a value, twice, and unknown
     Refused {
@@ -362,6 +381,8 @@ const REFUSED: [Refused; 49] = [
         parts: &[
             "Print a program as text, which assembles to the same program",
             "<FILE>",
+            "--slots",
+            "Write the slot of each instruction after it, as a comment",
         ],
     },
     Refused {

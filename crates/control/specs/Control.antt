@@ -47,13 +47,13 @@ grant_of (Ok given) = Ok given.0
 grant_of (Err error) = Err error
 
 abbrev pub rows_after : Rows → Option Rows → Rows
-rows_after old None = old
-rows_after old (Some rows) = rows
+rows_after rows None = rows
+rows_after rows (Some changed) = changed
 
 -- the rows afterwards: an error changes nothing
 abbrev pub rows_of : Rows → Decision → Rows
-rows_of old (Ok given) = rows_after old given.1
-rows_of old (Err error) = old
+rows_of rows (Ok given) = rows_after rows given.1
+rows_of rows (Err error) = rows
 
 -- the error of a refused change
 abbrev pub error_of : Refused → ErrorCode

@@ -346,7 +346,7 @@ fn a_channel_and_a_peer_belong_together(rt: &impl Abort, alloc: Global) -> Resul
     };
     // 192.0.2.7 was permitted with the other channel, until 1899
     let moved = Found {
-        peer: Some(peer(8, 5000)),
+        peer: Some(peer(6, 5000)),
         is_permitted: true,
         ..held
     };
@@ -360,12 +360,12 @@ fn a_channel_and_a_peer_belong_together(rt: &impl Abort, alloc: Global) -> Resul
         Step::Bind(1599, 0x4002, peer(7, 5001), Ok(())),
         // the refused ones changed nothing, and the binding ends at 1600
         Step::Find(1599, bound),
-        Step::Bind(1600, NUMBER, peer(8, 5000), Ok(())),
+        Step::Bind(1600, NUMBER, peer(6, 5000), Ok(())),
         Step::Find(1600, moved),
-        Step::Permissions(1600, &[(7, 1899), (8, 1900)]),
+        Step::Permissions(1600, &[(6, 1900), (7, 1899)]),
         Step::Channels(
             1600,
-            &[(NUMBER, peer(8, 5000), 2200), (0x4002, peer(7, 5001), 2199)],
+            &[(NUMBER, peer(6, 5000), 2200), (0x4002, peer(7, 5001), 2199)],
         ),
     ];
     check_steps(rt, alloc, 1, &steps)

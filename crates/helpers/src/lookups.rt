@@ -7,6 +7,7 @@ ghost use Rattle.helpers.specs.NothingLaws.{nothing_is_lawful};
 
 /// The helpers 1 to 3, which look up channels and permissions in the slot of a run.
 /// See docs/DECISIONS.md, "Lawful helpers".
+/// See docs/DECISIONS.md, "Possible contexts and helpers".
 pub trait Helpers {
     /// The answer of a helper to a number and an address record.
     ghost answers: { Self → ℕ → ℕ → List ℕ → ℕ × List ℕ };

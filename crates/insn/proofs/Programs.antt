@@ -38,7 +38,7 @@ use Rattle.insn.specs.declared.refusal.DecodeError.TheVariants as error
 use Rattle.insn.proofs.Unique.{number_small, byte_small, byte_of-injective, are_of, form_is}
 use Rattle.insn.proofs.Slots.{slot_bytes-injective}
 use Rattle.insn.proofs.TwoSlots as two
-use Rattle.insn.proofs.TwoSlots.{half_fits, length-wide, length-encoding, slots_small, second_is, behind_second}
+use Rattle.insn.proofs.TwoSlots.{half_fits, length-wide, length-encoding, slots_small, second_is, after_second}
 
 -- ---- one instruction
 

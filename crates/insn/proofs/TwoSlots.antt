@@ -54,27 +54,27 @@ not_both o isnt is = false≢true (sym isnt ∙ ap is_wide is)
 opcode_in : (i : Insn) (o : Opcode) → byte_of o ≡ (fields_of i).opcode → (are_of i).opcode ≡ o
 opcode_in i o e = byte_of-injective (are_of i).opcode o ((are_of i).opcode_is ∙ sym e)
 
-none_behind : (o : Opcode) (rest : List ℕ) (s : Option Fields) → HasSecond o rest s → (o ≡ opcode.LoadImm → ⊥) → s ≡ None
-none_behind o rest None has not = refl
-none_behind o rest (Some f) has not = absurd (not has.0)
+none_after : (o : Opcode) (rest : List ℕ) (s : Option Fields) → HasSecond o rest s → (o ≡ opcode.LoadImm → ⊥) → s ≡ None
+none_after o rest None has not = refl
+none_after o rest (Some f) has not = absurd (not has.0)
 
-some_behind : (o : Opcode) (rest other : List ℕ) (s : Option Fields) (g : Fields) → HasSecond o rest s → o ≡ opcode.LoadImm → HaveRoom g → rest ≡ slot_bytes g ++ other → Some g ≡ s
-some_behind o rest other None g has wide_is room is = absurd (has wide_is)
-some_behind o rest other (Some f) g has wide_is room is =
+some_after : (o : Opcode) (rest other : List ℕ) (s : Option Fields) (g : Fields) → HasSecond o rest s → o ≡ opcode.LoadImm → HaveRoom g → rest ≡ slot_bytes g ++ other → Some g ≡ s
+some_after o rest other None g has wide_is room is = absurd (has wide_is)
+some_after o rest other (Some f) g has wide_is room is =
     let same : slot_bytes f ++ [] ≡ slot_bytes g ++ [] = has.3 ∙ ap (take 8) is in
     ap Some (sym (slot_bytes-injective f g [] [] has.1 room same).0)
 
 -- bytes after the first slot begin with the second one that the opcode asks for, and with no other
 pub second_is : (i : Insn) (o : Opcode) (rest other : List ℕ) (s : Option Fields) → Fits i → byte_of o ≡ (fields_of i).opcode → HasSecond o rest s → rest ≡ optional_bytes (second_of i) ++ other → second_of i ≡ s
 second_is i o rest other s fits e has is = elim (slots_in i fits) [
-  | narrow isnt none ↦ none ∙ sym (none_behind o rest s has (λ load. not_both (are_of i).opcode isnt (opcode_in i o e ∙ load)))
-  | wide is_load g some room ↦ some ∙ some_behind o rest other s g has (sym (opcode_in i o e) ∙ is_load) room (is ∙ ap (λ (t : Option Fields). optional_bytes t ++ other) some)
+  | narrow isnt none ↦ none ∙ sym (none_after o rest s has (λ load. not_both (are_of i).opcode isnt (opcode_in i o e ∙ load)))
+  | wide is_load g some room ↦ some ∙ some_after o rest other s g has (sym (opcode_in i o e) ∙ is_load) room (is ∙ ap (λ (t : Option Fields). optional_bytes t ++ other) some)
 ]
 
 -- what the bytes hold after a second slot
-pub behind_second : (o : Opcode) (rest : List ℕ) (s : Option Fields) → HasSecond o rest s → (other : List ℕ) × (rest ≡ optional_bytes s ++ other)
-behind_second o rest None has = (rest, refl)
-behind_second o rest (Some f) has = (drop 8 rest, sym (take-append-drop 8 rest) ∙ ap (λ (b : List ℕ). b ++ drop 8 rest) (sym has.3))
+pub after_second : (o : Opcode) (rest : List ℕ) (s : Option Fields) → HasSecond o rest s → (other : List ℕ) × (rest ≡ optional_bytes s ++ other)
+after_second o rest None has = (rest, refl)
+after_second o rest (Some f) has = (drop 8 rest, sym (take-append-drop 8 rest) ∙ ap (λ (b : List ℕ). b ++ drop 8 rest) (sym has.3))
 
 -- an instruction with the opcode of LDDW has two slots
 pub length-wide : (i : Insn) → Fits i → (fields_of i).opcode ≡ byte_of opcode.LoadImm → length (encoding i) ≡ 16

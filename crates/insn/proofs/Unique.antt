@@ -273,7 +273,7 @@ operand_is (operand.Reg r) = refl
 operand_is (operand.Imm n) = refl
 
 -- the halves of a number, and the number of the halves
-joined_is : (value : ℕ) → value < 2 ^ 64 → wide_number (low_half value) (high_half value) ≡ value
+pub joined_is : (value : ℕ) → value < 2 ^ 64 → wide_number (low_half value) (high_half value) ≡ value
 joined_is value lt =
     let low = of_z-to_z w32 (value % 2 ^ 32) (omega arith) in
     let high = of_z-to_z w32 (value / 2 ^ 32) (omega arith) in

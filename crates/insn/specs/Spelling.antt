@@ -152,13 +152,13 @@ argument_text (Address base displacement) = codes "[" ++ register_name base ++ w
 argument_text (Distance n) = with_sign n
 
 -- the arguments, each with what stands before it
-abbrev pub arguments_behind : List ℕ → List Argument → List ℕ
-arguments_behind before [] = []
-arguments_behind before (a ∷ more) = before ++ argument_text a ++ arguments_behind (codes ", ") more
+abbrev pub following_arguments : List ℕ → List Argument → List ℕ
+following_arguments before [] = []
+following_arguments before (a ∷ more) = before ++ argument_text a ++ following_arguments (codes ", ") more
 
 -- the fixed spelling
 abbrev pub spelling : Insn → List ℕ
-spelling i = mnemonic i ++ arguments_behind (codes " ") (arguments i)
+spelling i = mnemonic i ++ following_arguments (codes " ") (arguments i)
 
 -- the text of a program: one instruction a line, each ended by a line feed
 abbrev pub listing : List Insn → List ℕ

@@ -107,25 +107,31 @@ pub enum Insn {
 }
 
 /// Returns the low 32 bits of a number, as the imm field of a slot.
-fn low_half(value: u64) -> i32
+pub fn low_half(value: u64) -> i32
     ensures { result ≡ low_half value }
 {
     ((value % 0x1_0000_0000) as u32).cast_signed()
 }
 
 /// Returns the high 32 bits of a number, as the imm field of a slot.
-fn high_half(value: u64) -> i32
+pub fn high_half(value: u64) -> i32
     ensures { result ≡ high_half value }
 {
     ((value / 0x1_0000_0000) as u32).cast_signed()
 }
 
 /// Returns the number of two imm fields, the low one first.
-pub(crate) fn joined(low: i32, high: i32) -> u64
+pub fn joined(low: i32, high: i32) -> u64
     ensures { result ≡ wide_number low high }
 {
     u64::from(low.cast_unsigned()) + 0x1_0000_0000 * u64::from(high.cast_unsigned())
 }
+
+/// The halves of a number make that number.
+#[tactic(auto, using(crate::proofs::Unique::joined_is))]
+pub fn halves_join(value: u64)
+    ensures { wide_number (low_half value) (high_half value) ≡ value }
+{}
 
 impl Operand {
     fn source(self) -> Source

@@ -20,7 +20,7 @@ pub use decoding::{MAX_SLOTS, decode, limits, refusals_are_unique, refused_bytes
 pub use encoding::{
     bytes_encode_one_program, encode, encodings_are_unique, no_encoding_begins_another, read_back,
 };
-pub use instruction::{Insn, Operand};
+pub use instruction::{Insn, Operand, halves_join, high_half, joined, low_half};
 pub use operator::{AluOp, Extension, SwapOp, UnaryOp};
 pub use refusal::DecodeError;
 pub use register::Reg;

@@ -3,7 +3,7 @@
 
 ghost use Rattle.std.specs.Prelude.{Some, codes};
 ghost use Rattle.insn.specs.Spelling as spelled;
-ghost use Rattle.insn.specs.Spelling.{width_suffix, operator_name, extension_name, order_name, bits_suffix, condition_name, size_suffix, store_name, register_name, with_sign, argument_text, argument_of, mnemonic, arguments, arguments_behind, spelling};
+ghost use Rattle.insn.specs.Spelling.{width_suffix, operator_name, extension_name, order_name, bits_suffix, condition_name, size_suffix, store_name, register_name, with_sign, argument_text, argument_of, mnemonic, arguments, following_arguments, spelling};
 
 use crate::condition::Condition;
 use crate::instruction::{Insn, Operand};
@@ -221,7 +221,7 @@ impl fmt::Display for Mnemonic<'_> {
 struct Arguments<'a>(&'a Insn);
 
 impl fmt::Display for Arguments<'_> {
-    ghost output = { λ a. Some (arguments_behind (codes " ") (arguments a.0.now)) };
+    ghost output = { λ a. Some (following_arguments (codes " ") (arguments a.0.now)) };
 
     fn fmt<W: fmt::Write>(&self, f: &mut fmt::Formatter<W>) -> fmt::Result {
         match *self.0 {

@@ -130,10 +130,10 @@ module _ {Log : Type 0} (Logs : Log → Visit → Log → Type 0) (program : Lis
       }
 
   -- a run that is stuck after a path
-  stuck_behind : (more : List Visit) (left : Memory) (plan' : Plan) (last : Log) (reason : Reason) (slot : ℕ) → left ≡ memory → plan' ≡ plan → Reports Logs old (has.path ++ more) last
+  stuck_after : (more : List Visit) (left : Memory) (plan' : Plan) (last : Log) (reason : Reason) (slot : ℕ) → left ≡ memory → plan' ≡ plan → Reports Logs old (has.path ++ more) last
       → ((c : Context) → IsRecordOf context first.length c → whole_run (around c answers) program first ≡ turned_to (around c answers) program memory plan at.slot registers steps has.path more (runs.Sticks reason slot))
       → IsWholeRun Logs program answers context first left plan' old last (Err (record { reason = reason; slot = slot }))
-  stuck_behind more left plan' last reason slot kept planned logs whole = record {
+  stuck_after more left plan' last reason slot kept planned logs whole = record {
     ending = λ c is. ap (λ (r : Run). r.ending) (whole c is);
     memory_is = λ c is. ap (λ (r : Run). r.state.memory) (whole c is) ∙ sym kept;
     plan_is = λ c is. ap (λ (r : Run). r.state.plan) (whole c is) ∙ sym planned;
@@ -144,14 +144,14 @@ module _ {Log : Type 0} (Logs : Log → Visit → Log → Type 0) (program : Lis
       → StepsTo program answers context first.length at.slot registers memory plan i registers' left plan' (code.Sticks reason) → left ≡ memory → plan' ≡ plan
       → IsWholeRun Logs program answers context first left plan' old last (Err (record { reason = reason; slot = at.slot }))
   over_at_stuck registers' left plan' reason last i here logs result kept planned =
-      stuck_behind (visit at.slot i ∷ []) left plan' last reason at.slot kept planned (logged_more last (visit at.slot i) logs) (stepped_to i (code.Sticks reason) registers' left plan' here result)
+      stuck_after (visit at.slot i ∷ []) left plan' last reason at.slot kept planned (logged_more last (visit at.slot i) logs) (stepped_to i (code.Sticks reason) registers' left plan' here result)
 
   logged_here : Reports Logs old (has.path ++ []) new
   logged_here = subst (λ (p : List Visit). Reports Logs old p new) (sym (append-nil has.path)) has.logged
 
   -- past the last instruction, and inside one, no step is reported
   pub over_past : fetch program at.slot ≡ Past → IsWholeRun Logs program answers context first memory plan old new (Err (record { reason = FallsOffEnd; slot = last_slot program }))
-  over_past here = stuck_behind [] memory plan new FallsOffEnd (last_slot program) refl refl logged_here (turned Past here)
+  over_past here = stuck_after [] memory plan new FallsOffEnd (last_slot program) refl refl logged_here (turned Past here)
 
   pub over_inside : fetch program at.slot ≡ Inside → IsWholeRun Logs program answers context first memory plan old new (Err (record { reason = JumpIntoWide; slot = at.slot }))
-  over_inside here = stuck_behind [] memory plan new JumpIntoWide at.slot refl refl logged_here (turned Inside here)
+  over_inside here = stuck_after [] memory plan new JumpIntoWide at.slot refl refl logged_here (turned Inside here)

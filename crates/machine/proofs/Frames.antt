@@ -77,8 +77,8 @@ memory_is area stack empty n window frame is_empty =
 -- a frame with the bytes and the window that a run left, before what follows the tailroom
 pub frame_left : (f : Contents) (area : List ℕ) (plan : Plan) (r : Run) → r.state.memory.bytes ≡ take (67 + f.length) area → drop (67 + f.length) area ≡ drop (67 + f.length) f.area → r.state.plan ≡ plan
     → record f { area = area; is_started = false; window = plan.window } ≡ left_by f r
-frame_left f area plan r bytes behind planned =
-    let whole : area ≡ r.state.memory.bytes ++ drop (67 + f.length) f.area = sym (take-append-drop (67 + f.length) area) ∙ (λ i. sym bytes i ++ behind i) in
+frame_left f area plan r bytes following planned =
+    let whole : area ≡ r.state.memory.bytes ++ drop (67 + f.length) f.area = sym (take-append-drop (67 + f.length) area) ∙ (λ i. sym bytes i ++ following i) in
     let window : r.state.plan.window ≡ plan.window = ap (λ (p : Plan). p.window) planned in
     λ i. record f { area = whole i; is_started = false; window = sym window i }
 
@@ -89,7 +89,7 @@ pub frame_run : {Log : Type 0} (Logs : Log → Visit → Log → Type 0) (progra
     → IsWholeRun Logs program answers context (memory_with empty (take (67 + f.length) f.area) f.length) (memory_with stack' (take (67 + f.length) area) f.length) plan old new result
     → drop (67 + f.length) area ≡ drop (67 + f.length) f.area
     → RunsOver Logs answers program f (record f { area = area; is_started = false; window = plan.window }) plan old new result
-frame_run Logs program answers f context stack empty stack' area plan old new result frame real spelled is_empty walked behind =
+frame_run Logs program answers f context stack empty stack' area plan old new result frame real spelled is_empty walked following =
     let left : Memory = memory_with stack' (take (67 + f.length) area) f.length in
     let whole : IsWholeRun Logs program answers context (start (datagram_of f)).memory left plan old new result =
     subst (λ (m : Memory). IsWholeRun Logs program answers context m left plan old new result) (memory_is f.area stack empty f.length f.window frame is_empty) walked in
@@ -100,7 +100,7 @@ frame_run Logs program answers f context stack empty stack' area plan old new re
     record {
       ending = whole.ending (context_of f.context) is;
       plan_is = whole.plan_is (context_of f.context) is;
-      left = frame_left f area plan (run_of program f answers) (ap (λ (m : Memory). m.bytes) (whole.memory_is (context_of f.context) is)) behind (whole.plan_is (context_of f.context) is);
+      left = frame_left f area plan (run_of program f answers) (ap (λ (m : Memory). m.bytes) (whole.memory_is (context_of f.context) is)) following (whole.plan_is (context_of f.context) is);
       logged = whole.logged (context_of f.context) is;
     }
 
@@ -128,15 +128,15 @@ pub written : {X : Type 0} (new old : List X) (len : ℕ) → length new ≡ len
 written new old len e = take_at new (drop (length new) old) len e
 
 -- a vector's bytes after a slice of them from an index on is written
-pub written_behind : (k : ℕ) (old bytes : List ℕ) (len : ℕ) → len ≡ length old → k ≤ length old
+pub written_after : (k : ℕ) (old bytes : List ℕ) (len : ℕ) → len ≡ length old → k ≤ length old
     → (let new : List ℕ = take k old ++ (bytes ++ drop (length bytes) (drop k old)) in take len (new ++ drop (length new) old)) ≡ take (length old) (take k old ++ bytes ++ drop (k + length bytes) old)
-written_behind k old bytes len e long =
+written_after k old bytes len e long =
     let rest : List ℕ = drop (length bytes) (drop k old) in
     let new : List ℕ = take k old ++ (bytes ++ rest) in
     let whole : length old ≤ length new = omega (arith, length-append (take k old) (bytes ++ rest), length-append bytes rest, length-take-le k old long, length-drop (length bytes) (drop k old), length-drop k old) in
     let none : new ++ drop (length new) old ≡ new = ap (λ (l : List ℕ). new ++ l) (drop_all (length new) old whole) ∙ append-nil new in
-    let behind : rest ≡ drop (k + length bytes) old = drop-drop (length bytes) k old in
-    (λ i. take (e i) (none i)) ∙ ap (λ (l : List ℕ). take (length old) (take k old ++ (bytes ++ l))) behind
+    let following : rest ≡ drop (k + length bytes) old = drop-drop (length bytes) k old in
+    (λ i. take (e i) (none i)) ∙ ap (λ (l : List ℕ). take (length old) (take k old ++ (bytes ++ l))) following
     ∙ ap (take (length old)) (sym (append_assoc (take k old) bytes (drop (k + length bytes) old)))
 
 -- a vector has the length that it had
@@ -183,7 +183,7 @@ room_from_headroom flat bytes long =
 -- the bytes from headroom on, after a slice of a vector's bytes from the room on is written
 pub room_written_in : (old bytes : List ℕ) (len : ℕ) → len ≡ length old → length old ≡ 66134
     → drop 560 (let new : List ℕ = take 624 old ++ (bytes ++ drop (length bytes) (drop 624 old)) in take len (new ++ drop (length new) old)) ≡ take (length (drop 560 old)) (take 64 (drop 560 old) ++ bytes ++ drop (64 + length bytes) (drop 560 old))
-room_written_in old bytes len e long = ap (drop 560) (written_behind 624 old bytes len e (omega (arith, long))) ∙ room_from_headroom old bytes long
+room_written_in old bytes len e long = ap (drop 560) (written_after 624 old bytes len e (omega (arith, long))) ∙ room_from_headroom old bytes long
 
 -- the room of an area
 pub room_in : (flat : List ℕ) → take 65507 (drop 624 flat) ≡ take 65507 (drop 64 (drop 560 flat))

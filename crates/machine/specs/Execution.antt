@@ -6,7 +6,8 @@ use Rattle.semantics.specs.Calls.{IsWindow}
 use Rattle.semantics.specs.declared.plan.Plan.{Plan}
 use Rattle.semantics.specs.Slots.{IsAt}
 use Rattle.semantics.specs.Runs as runs
-use Rattle.semantics.specs.Runs.{Goes, Exits, Sticks, Run, IsDatagram, run}
+use Rattle.semantics.specs.Effects.{effect}
+use Rattle.semantics.specs.Runs.{Goes, Exits, Sticks, Run, IsDatagram, run, step_by_effect}
 use Rattle.semantics.specs.declared.value.Value.{Value}
 use Rattle.semantics.specs.declared.effect.Effect.{Effect}
 use Rattle.semantics.specs.declared.effect.Effect.TheVariants as effects
@@ -37,11 +38,17 @@ state_at slot registers memory plan = record { slot = slot; registers = register
 abbrev pub IsInside : ℕ → Plan → Type 0
 IsInside length plan = IfSome plan.window (IsWindow length)
 
--- the result of a step that leaves these registers, this memory and this plan, as the definitions have it
+-- the step of the definitions that has this result and leaves these registers, this memory and this plan
 abbrev pub result_of : ℕ → List Value → Memory → Plan → StepResult → runs.StepResult
 result_of slot registers memory plan (code.Goes to) = Goes (state_at to.slot registers memory plan)
 result_of slot registers memory plan (code.Exits verdict) = Exits verdict
 result_of slot registers memory plan (code.Sticks reason) = Sticks reason slot
+
+-- The step of an instruction in one state, by the definitions, in any context with this record: its result, and the state
+-- that it leaves.
+abbrev pub MakesStep : Answers → List ℕ → List Insn → Insn → State → State → StepResult → Type 0
+MakesStep answers context program i old new result = (c : Context) → IsRecordOf context old.memory.length c
+    → result_of old.slot new.registers new.memory new.plan result ≡ step_by_effect (around c answers) program old i (effect c old.memory old.registers i)
 
 -- after every effect but a jump and an exit the run goes on to the next instruction
 abbrev pub GoesStraight : Effect → Type 0
@@ -74,16 +81,16 @@ abbrev pub EndsAs : Result Exited Stuck → Run → Type 0
 EndsAs (Ok exited) r = (r.ending ≡ runs.Exited exited.verdict) × (length r.path ≡ exited.steps)
 EndsAs (Err stuck) r = r.ending ≡ runs.Stuck stuck.reason stuck.slot
 
--- The code's run, where the program reads the context by these bytes and is given these answers: its end, the memory and
--- the plan that it leaves, and the log of a sink before and after it.
+-- The run of a program over memory, with a context record of these bytes and helpers that give these answers: how it ends,
+-- the memory and the plan that it leaves, and the log of a sink before and after it.
 pub record IsWholeRun {Log : Type 0} (Logs : Log → Visit → Log → Type 0) (program : List Insn) (answers : Answers) (context : List ℕ) (memory left : Memory) (plan : Plan) (old new : Log) (result : Result Exited Stuck) : Type 0 where
   pub ending : (c : Context) → IsRecordOf context memory.length c → EndsAs result (whole_run (around c answers) program memory)
   pub memory_is : (c : Context) → IsRecordOf context memory.length c → (whole_run (around c answers) program memory).state.memory ≡ left
   pub plan_is : (c : Context) → IsRecordOf context memory.length c → (whole_run (around c answers) program memory).state.plan ≡ plan
   pub logged : (c : Context) → IsRecordOf context memory.length c → Reports Logs old (whole_run (around c answers) program memory).path new
 
--- The code's run over a started frame, with the plan that it leaves: its end, the frame as the run leaves it, and the log of
--- a sink before and after it.
+-- The run of a program over a started frame: how it ends, the plan and the frame that it leaves, and the log of a sink before
+-- and after it.
 pub record RunsOver {Log : Type 0} (Logs : Log → Visit → Log → Type 0) (answers : Answers) (program : List Insn) (before after : Contents) (plan : Plan) (old new : Log) (result : Result Exited Stuck) : Type 0 where
   pub ending : EndsAs result (run_of program before answers)
   pub plan_is : (run_of program before answers).state.plan ≡ plan

@@ -12,8 +12,8 @@ pub datagram_inside : (datagram rest area : List ℕ) (n : ℕ) → length datag
 datagram_inside datagram rest area n long e =
     let zeros : List ℕ = 0 ∷ 0 ∷ 0 ∷ [] in
     let regrouped : area ≡ headroom ++ (datagram ++ (zeros ++ rest)) = e ∙ append_assoc (headroom ++ datagram) zeros rest ∙ append_assoc headroom datagram (zeros ++ rest) in
-    let behind : drop HEADROOM area ≡ datagram ++ (zeros ++ rest) = ap (drop HEADROOM) regrouped ∙ drop_at headroom (datagram ++ (zeros ++ rest)) HEADROOM length-headroom in
-    ap (take n) behind ∙ take_at datagram (zeros ++ rest) n long
+    let after : drop HEADROOM area ≡ datagram ++ (zeros ++ rest) = ap (drop HEADROOM) regrouped ∙ drop_at headroom (datagram ++ (zeros ++ rest)) HEADROOM length-headroom in
+    ap (take n) after ∙ take_at datagram (zeros ++ rest) n long
 
 -- a room that was written has what was written there
 pub room_written : (f : Contents) (bytes : List ℕ) → length (room_of f) ≡ MAX_DATAGRAM → length bytes ≡ MAX_DATAGRAM → room_of (with_room f bytes) ≡ bytes
@@ -23,9 +23,9 @@ room_written f bytes room long =
     let spans : HEADROOM + MAX_DATAGRAM ≤ length f.area = omega (arith, room, length-take MAX_DATAGRAM (drop HEADROOM f.area), length-drop HEADROOM f.area) in
     let front_long : length front ≡ HEADROOM = length-take-le HEADROOM f.area (omega arith) in
     let whole : length (front ++ bytes ++ rest) ≤ length f.area = omega (arith, length-append (front ++ bytes) rest, length-append front bytes, front_long, length-drop (HEADROOM + length bytes) f.area) in
-    let behind : drop HEADROOM (with_room f bytes).area ≡ bytes ++ rest =
+    let after : drop HEADROOM (with_room f bytes).area ≡ bytes ++ rest =
     ap (drop HEADROOM) (take_all (length f.area) (front ++ bytes ++ rest) whole ∙ append_assoc front bytes rest) ∙ drop_at front (bytes ++ rest) HEADROOM front_long in
-    ap (take MAX_DATAGRAM) behind ∙ take_at bytes rest MAX_DATAGRAM long
+    ap (take MAX_DATAGRAM) after ∙ take_at bytes rest MAX_DATAGRAM long
 
 -- a frame that was started has the first bytes of its room as its datagram
 pub datagram_started : (old new : Contents) (given : Context) (n : ℕ) → length (room_of old) ≡ MAX_DATAGRAM → n ≤ MAX_DATAGRAM → IsStartedOver old new given n → datagram_of new ≡ take n (room_of old)

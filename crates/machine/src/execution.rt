@@ -13,7 +13,7 @@ ghost use Rattle.semantics.specs.declared.limits.TheConstants.{STACK_BYTES, HEAD
 ghost use Rattle.semantics.specs.declared.helper.TheConstants.{RECORD_BYTES};
 ghost use Rattle.semantics.specs.Views.{memory_with};
 ghost use Rattle.machine.specs.Contexts.{around};
-ghost use Rattle.machine.specs.Execution.{state_at, result_of, GoesAhead, GoesStraight, IfGoes, IfEnds};
+ghost use Rattle.machine.specs.Execution.{state_at, MakesStep, GoesAhead, GoesStraight, IfGoes, IfEnds};
 ghost use Rattle.machine.specs.Execution.{IsInside, IsRecordOf, IsContextRecord, IsWholeRun};
 
 use crate::outcome::Stuck;
@@ -233,13 +233,10 @@ fn execute_step<H: Helpers>(
     requires surrounded { count bytes.old ≡ HEADROOM + given.now.length + TAILROOM }
     requires short { given.now.length ≤ MAX_DATAGRAM }
     requires inside { IsInside given.now.length state.old.plan }
-    ensures result { (c : Context) → IsRecordOf given.now.context.now given.now.length c
-        → result_of state.old.at.slot state.new.registers (memory_with stack.new bytes.new given.now.length)
-        state.new.plan result
-        ≡ step_by_effect (around c (H.answers given.now.helpers.now)) given.now.code.now
-        (state_at state.old.at.slot state.old.registers (memory_with stack.old bytes.old given.now.length)
-        state.old.plan) insn.now
-        (effect c (memory_with stack.old bytes.old given.now.length) state.old.registers insn.now) }
+    ensures result { MakesStep (H.answers given.now.helpers.now) given.now.context.now given.now.code.now insn.now
+        (state_at state.old.at.slot state.old.registers (memory_with stack.old bytes.old given.now.length) state.old.plan)
+        (state_at state.old.at.slot state.new.registers (memory_with stack.new bytes.new given.now.length) state.new.plan)
+        result }
     ensures ahead { IfGoes result (GoesAhead given.now.code.now state.old.at) }
     ensures inside { IsInside given.now.length state.new.plan }
     ensures kept { IfEnds result

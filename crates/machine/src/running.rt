@@ -26,13 +26,14 @@ fn run_area<H: Helpers>(program: &Verified, frame: &mut Frame, helpers: &H) -> E
     };
     lay_out(&mut frame.flat, &context_record(&frame.context, size), size);
     frame.is_started = false;
-    let ended = run_flat(program.program(), &given, &mut frame.flat);
+    let ended = run_flat(program.translation(), &given, &mut frame.flat);
     frame.window = ended.plan.window;
     ended
 }
 
 /// Runs a verified program over a started frame to its exit, within as many steps as the program has instructions.
 /// There is no refusal. Afterwards the frame is not started.
+/// See docs/DECISIONS.md, "A run is a function".
 pub fn run<H: Helpers>(program: &Verified, frame: &mut Frame, helpers: &H) -> Outcome
     requires { frame.old.is_started ≡ true }
     ensures outcome { IsOutcome result (safe_run_of program.now frame.old (H.answers helpers.now)) }

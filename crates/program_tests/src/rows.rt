@@ -12,14 +12,20 @@ mod report_rows;
 mod semantics_rows;
 mod verifier_rows;
 
+use asm::assemble;
 use loader::load;
 use machine::{Addr, Context, Frame, Helpers, MAX_DATAGRAM, Outcome, Side, run};
 use report::{Ask, report};
 use std::process::Abort;
 use std::test::Fail;
 
-/// Decodes the bytes of a program from hexadecimal digits, with blanks between the slots.
-pub fn program<R: AllocGlobal>(rt: &R, slots: &str) -> Result<Vec<u8>, Fail> {
+/// Assembles the text of a program to the bytes of its file.
+pub fn assembled<R: AllocGlobal>(rt: &R, text: &str) -> Result<Vec<u8>, Fail> {
+    Ok(assemble(rt.alloc(), text)?)
+}
+
+/// Decodes bytes from hexadecimal digits, with blanks between the slots of a file.
+pub fn decoded<R: AllocGlobal>(rt: &R, slots: &str) -> Result<Vec<u8>, Fail> {
     let mut digits = Vec::new(rt.alloc());
     for slot in slots.split_whitespace() {
         digits.extend_from_slice(slot.as_bytes())?;
@@ -66,10 +72,10 @@ pub fn expect_printed<R: Abort + AllocGlobal>(
     assert_eq!(rt; report.status, expected.status, "{row}");
 }
 
-/// A program file and data, what `trace` prints of them in the end, and the status.
+/// A program and data, what `trace` prints of them in the end, and the status.
 #[derive(Clone, Copy)]
 pub struct Traced {
-    pub slots: &'static str,
+    pub text: &'static str,
     pub hex: &'static str,
     pub end: &'static str,
     pub status: u8,
@@ -82,26 +88,26 @@ pub fn expect_ends<R: Abort + AllocGlobal>(
     rows: &[Traced],
 ) -> Result<(), Fail> {
     for (i, row) in rows.iter().enumerate() {
-        let file = program(rt, row.slots)?;
-        let (slots, end) = (row.slots, row.end);
+        let file = assembled(rt, row.text)?;
+        let (text, end) = (row.text, row.end);
         let report = reported(rt, Ask::Trace { hex: Some(row.hex) }, &file);
         let ends = report.out.ends_with(end.as_bytes());
-        assert!(rt; ends, "{table} {i}: {slots} {end}");
-        assert_eq!(rt; report.status, row.status, "{table} {i}: {slots} {end}");
-        assert_eq!(rt; report.err.len(), 0, "{table} {i}: {slots} {end}");
+        assert!(rt; ends, "{table} {i}: {text:?} {end}");
+        assert_eq!(rt; report.status, row.status, "{table} {i}: {text:?} {end}");
+        assert_eq!(rt; report.err.len(), 0, "{table} {i}: {text:?} {end}");
     }
     Ok(())
 }
 
 /// Traces programs, and compares what is printed of their verdicts.
 pub fn expect_exits<R: Abort + AllocGlobal>(rt: &R, rows: &[(&str, &str)]) -> Result<(), Fail> {
-    for (i, &(slots, exit)) in rows.iter().enumerate() {
-        let file = program(rt, slots)?;
+    for (i, &(text, exit)) in rows.iter().enumerate() {
+        let file = assembled(rt, text)?;
         let report = reported(rt, Ask::Trace { hex: None }, &file);
         let end = format!(in rt.alloc(); "{exit}\nwindow none\ndestination none\n")?;
         let ends = report.out.ends_with(end.as_bytes());
-        assert!(rt; ends, "{i}: {slots} {exit}");
-        assert_eq!(rt; report.status, 0, "{i}: {slots} {exit}");
+        assert!(rt; ends, "{i}: {text:?} {exit}");
+        assert_eq!(rt; report.status, 0, "{i}: {text:?} {exit}");
     }
     Ok(())
 }
@@ -113,10 +119,10 @@ pub fn expect_faults<R: Abort + AllocGlobal>(
     table: &str,
     rows: &[(&str, &str)],
 ) -> Result<(), Fail> {
-    for (i, &(slots, fault)) in rows.iter().enumerate() {
-        let file = program(rt, slots)?;
+    for (i, &(text, fault)) in rows.iter().enumerate() {
+        let file = assembled(rt, text)?;
         let refused = format!(in rt.alloc(); "refused {fault}\n")?;
-        let row = format!(in rt.alloc(); "{table} {i}: {slots}")?;
+        let row = format!(in rt.alloc(); "{table} {i}: {text:?}")?;
         let expected = Expected {
             out: &refused,
             err: "",
@@ -167,13 +173,13 @@ pub fn start_on(frame: &mut Frame, context: &Context, datagram: &[u8])
 /// Loads a program and runs it over a datagram.
 pub fn outcome_of<R: Abort + AllocGlobal, H: Helpers>(
     rt: &R,
-    slots: &str,
+    text: &str,
     context: &Context,
     datagram: &[u8],
     helpers: &H,
 ) -> Result<Outcome, Fail> {
     assert!(rt; datagram.len() <= MAX_DATAGRAM);
-    let file = program(rt, slots)?;
+    let file = assembled(rt, text)?;
     let loaded = load(rt.alloc(), &file)?;
     let mut frame = Frame::new(rt.alloc())?;
     start_on(&mut frame, context, datagram);
@@ -181,13 +187,16 @@ pub fn outcome_of<R: Abort + AllocGlobal, H: Helpers>(
 }
 
 /// The program that checks four bytes and exits with the fourth.
-pub const FOURTH_BYTE: &str = "7912000000000000 7913080000000000 bf24000000000000 0704000004000000 \
-     b700000000000000 2d34010000000000 7120030000000000 9500000000000000";
+pub const FOURTH_BYTE: &str =
+    "ldxdw r2, [r1+0]\nldxdw r3, [r1+8]\nmov r4, r2\nadd r4, 4\nmov r0, 0\njgt r4, r3, +1\n\
+     ldxb r0, [r2+3]\nexit";
 
 /// The same, exiting with the fifth byte, which was not checked.
-pub const FIFTH_BYTE: &str = "7912000000000000 7913080000000000 bf24000000000000 0704000004000000 \
-     b700000000000000 2d34010000000000 7120040000000000 9500000000000000";
+pub const FIFTH_BYTE: &str =
+    "ldxdw r2, [r1+0]\nldxdw r3, [r1+8]\nmov r4, r2\nadd r4, 4\nmov r0, 0\njgt r4, r3, +1\n\
+     ldxb r0, [r2+4]\nexit";
 
 /// The same, with `jge`, which does check it.
-pub const FIFTH_BYTE_CHECKED: &str = "7912000000000000 7913080000000000 bf24000000000000 \
-     0704000004000000 b700000000000000 3d34010000000000 7120040000000000 9500000000000000";
+pub const FIFTH_BYTE_CHECKED: &str =
+    "ldxdw r2, [r1+0]\nldxdw r3, [r1+8]\nmov r4, r2\nadd r4, 4\nmov r0, 0\njge r4, r3, +1\n\
+     ldxb r0, [r2+4]\nexit";

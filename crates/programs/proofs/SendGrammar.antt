@@ -63,12 +63,12 @@ module _ (d : List ℕ) (fit : IsDatagram d) where
     second_attribute =
         part_more 2 2 32 d ∙ ap₂ (λ (a b : List ℕ). a ++ b) (two 32 (omega (arith, size)) ∙ ap (big_bytes 2) is.data_kind) (two 34 (omega (arith, size)) ∙ ap (big_bytes 2) (sym n_is ∙ sym (long n 36 (omega (arith, size)))))
 
-    behind : part (12 + (4 + (n + z))) 20 d ≡ part 12 20 d ++ (part 4 32 d ++ (part n 36 d ++ part z (36 + n) d))
-    behind = part_more 12 (4 + (n + z)) 20 d ∙ ap (λ (l : List ℕ). part 12 20 d ++ l) (part_more 4 (n + z) 32 d ∙ ap (λ (l : List ℕ). part 4 32 d ++ l) (part_more n z 36 d))
+    after : part (12 + (4 + (n + z))) 20 d ≡ part 12 20 d ++ (part 4 32 d ++ (part n 36 d ++ part z (36 + n) d))
+    after = part_more 12 (4 + (n + z)) 20 d ∙ ap (λ (l : List ℕ). part 12 20 d ++ l) (part_more 4 (n + z) 32 d ∙ ap (λ (l : List ℕ). part 4 32 d ++ l) (part_more n z 36 d))
 
     attributes : attributes_bytes (parts_of n z).attributes ≡ part (12 + (4 + (n + z))) 20 d
     attributes = sym (
-        behind
+        after
         ∙ ap₂ (λ (a b : List ℕ). a ++ b) (first_attribute ∙ sym (append-nil _))
         (ap (λ (l : List ℕ). l ++ (part n 36 d ++ part z (36 + n) d)) second_attribute ∙ sym (append_assoc (big_bytes 2 0x0013 ++ big_bytes 2 (length (part n 36 d))) (part n 36 d) (part z (36 + n) d)) ∙ sym (append-nil _))
         )
@@ -169,13 +169,13 @@ module _ (d tx v x pad : List ℕ) (id : length tx ≡ 12) (eight : length v ≡
   data_attribute_of = record { kind = 0x0013; value = x; padding = pad }
 
   module _ (attributes : List Padded) (is : d ≡ parts_bytes (record { kind = 0x0016; transaction_id = tx; attributes = attributes })) where
-    abbrev behind_header : List ℕ
-    behind_header = attributes_bytes attributes
+    abbrev after_the_header : List ℕ
+    after_the_header = attributes_bytes attributes
 
-    size_is : length d ≡ 20 + length behind_header
-    size_is = ap length is ∙ omega (arith, length-append tx behind_header, id)
+    size_is : length d ≡ 20 + length after_the_header
+    size_is = ap length is ∙ omega (arith, length-append tx after_the_header, id)
 
-    header_back : 16 ≤ length behind_header → IsSendHeader d
+    header_back : 16 ≤ length after_the_header → IsSendHeader d
     header_back le = record {
       long = omega (arith, size_is, le);
       kind = ap (big_number 2) is;
@@ -183,10 +183,10 @@ module _ (d tx v x pad : List ℕ) (id : length tx ≡ 12) (eight : length v ≡
       size = let field = ap (λ (l : List ℕ). big_number 2 (drop 2 l)) is in omega (arith, field, size_is, short);
     }
 
-    from_attributes : drop 20 d ≡ behind_header
-    from_attributes = ap (drop 20) is ∙ drop_at tx behind_header 12 id
+    from_attributes : drop 20 d ≡ after_the_header
+    from_attributes = ap (drop 20) is ∙ drop_at tx after_the_header 12 id
 
-  -- what stands behind the first attribute, and the sizes
+  -- what stands after the first attribute, and the sizes
   abbrev data_bytes : List ℕ
   data_bytes = attributes_bytes (data_attribute_of ∷ [])
 
@@ -206,13 +206,13 @@ module _ (d tx v x pad : List ℕ) (id : length tx ≡ 12) (eight : length v ≡
       let value_long : length (v ++ []) ≡ 8 = omega (arith, length-append v [], eight) in
       let size : length all ≡ 16 + (length x + length pad) = omega (arith, length-append (v ++ []) data_bytes, value_long, data_long) in
       let from : drop 20 d ≡ all = from_attributes attributes is in
-      let behind : drop 32 d ≡ data_bytes = sym (drop-drop 12 20 d) ∙ ap (drop 12) from ∙ drop_at (v ++ []) data_bytes 8 value_long in
+      let after : drop 32 d ≡ data_bytes = sym (drop-drop 12 20 d) ∙ ap (drop 12) from ∙ drop_at (v ++ []) data_bytes 8 value_long in
       let total : length d ≡ 20 + length all = size_is attributes is in
-      let n : big_number 2 (drop 34 d) ≡ length x = ap (big_number 2) (sym (drop-drop 2 32 d) ∙ ap (drop 2) behind) ∙ small (length x) (omega (arith, total, size, short)) in
+      let n : big_number 2 (drop 34 d) ≡ length x = ap (big_number 2) (sym (drop-drop 2 32 d) ∙ ap (drop 2) after) ∙ small (length x) (omega (arith, total, size, short)) in
       record {
         header = header_back attributes is (omega (arith, size));
         address = ap (big_number 4) from ∙ omega (arith, eight);
-        data_kind = ap (big_number 2) behind;
+        data_kind = ap (big_number 2) after;
         whole = omega (arith, n, ap padding_count n, total, size, padding);
       }
     where
@@ -229,13 +229,13 @@ module _ (d tx v x pad : List ℕ) (id : length tx ≡ 12) (eight : length v ≡
       let total : length d ≡ 20 + length all = size_is attributes is in
       let n : big_number 2 (drop 22 d) ≡ length x = ap (big_number 2) (sym (drop-drop 2 20 d) ∙ ap (drop 2) from) ∙ small (length x) (omega (arith, total, size, short)) in
       let place : padded_length (big_number 2 (drop 22 d)) + 24 ≡ 24 + (length x + length pad) = omega (arith, n, ap padding_count n, padding) in
-      let behind : drop (24 + (length x + length pad)) d ≡ address_bytes =
+      let after : drop (24 + (length x + length pad)) d ≡ address_bytes =
       sym (drop-drop (length x + length pad) 24 d) ∙ ap (drop (length x + length pad)) (sym (drop-drop 4 20 d) ∙ ap (drop 4) from) ∙ drop_at (x ++ pad) address_bytes (length x + length pad) value_long in
       record {
         header = header_back attributes is (omega (arith, size));
         data_kind = ap (big_number 2) from;
         whole = omega (arith, n, ap padding_count n, total, size, padding);
-        address = ap (big_number 4) (ap (λ (k : ℕ). drop k d) place ∙ behind) ∙ omega (arith, eight);
+        address = ap (big_number 4) (ap (λ (k : ℕ). drop k d) place ∙ after) ∙ omega (arith, eight);
       }
     where
       small : (n : ℕ) → n < 65536 → big_number 2 (big_bytes 2 n) ≡ n

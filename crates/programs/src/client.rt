@@ -18,6 +18,7 @@ use stun::message_in_has_the_parts;
 /// The bytes of the program of the client's side, an instruction a line; [`client_text`] is their text. It relays
 /// ChannelData and Send indications of an IPv4 address and data, passes on whatever else begins as a STUN message does,
 /// and sends nothing for any other datagram. [`client_serves`] states what it promises.
+/// See docs/DECISIONS.md, "A plain Send indication".
 pub const CLIENT: &[u8] = &[
     0xbf, 0x16, 0x00, 0x00, 0x00, 0x00, 0x00, 0x00, // mov r6, r1
     0x79, 0x12, 0x00, 0x00, 0x00, 0x00, 0x00, 0x00, // ldxdw r2, [r1+0]
@@ -198,7 +199,7 @@ data_first:
     mov r5, r4
     add r5, 36
     jne r5, r9, pass        ; there are more than two attributes
-    add r2, r4              ; the second attribute is as far behind as the data is long
+    add r2, r4              ; the second attribute is as far on as the data is long
     mov r5, r2
     add r5, 36
     jgt r5, r3, pass        ; never taken; the verifier learns that 36 bytes follow

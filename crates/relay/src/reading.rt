@@ -46,6 +46,7 @@ fn append_shown<R: BufRead>(reader: &mut R, line: &mut Vec<u8>) -> Result<usize,
 
 /// Reads a line over what `line` had, without its line feed, or one byte more than the longest line has. Returns whether there
 /// was one.
+/// See docs/DECISIONS.md, "Lines are read whole".
 ///
 /// # Errors
 /// `Read` where the reader fails, and `Memory`.

@@ -25,6 +25,7 @@ use stun::registry::{Class, MessageType, Method};
 use tables::{Tables, is_ipv4, moment_of};
 
 /// A relay: its configuration, the programs of both sides, and its tables.
+/// See docs/DECISIONS.md, "The greatest moment is the relay's".
 #[derive(Drop)]
 pub struct Relay {
     config: Config,
@@ -194,6 +195,7 @@ impl Relay {
     /// Decides a datagram, the first `n` bytes of [`area`](Relay::area), and returns what is to be sent: the program of its
     /// side runs over it, and what the client's program passes on is handled by the rules for requests. With the shipped
     /// programs this is what the rules say.
+    /// See docs/DECISIONS.md, "A system is a function".
     pub fn step(&mut self, meta: Meta, n: usize) -> Action<'_>
         requires { n ≤ MAX_DATAGRAM }
         ensures answer { sending_of result ≡ (outcome_of self.old meta n).answer }
@@ -277,6 +279,7 @@ impl Relay {
     }
 
     /// Handles a client's datagram that its program passed on, as it is in the frame.
+    /// See docs/DECISIONS.md, "Six arguments of `respond`".
     fn pass_on(&mut self, client: Addr) -> Found
         requires { is_ipv4 client ≡ true }
         ensures found { lent self.new result ≡ (passed_on self.old client).answer }

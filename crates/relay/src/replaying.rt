@@ -99,6 +99,7 @@ impl Relay {
 
     /// Reads events, a line each, and writes the line of each answer. With the shipped programs these are the answers of the
     /// rules.
+    /// See docs/DECISIONS.md, "A replay does not flush".
     ///
     /// # Errors
     /// `Line` at the first line that is no event's; the answers to the lines before it were written. `Read`, `Write` and

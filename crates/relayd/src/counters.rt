@@ -3,7 +3,7 @@
 use serving::Place;
 use std::fmt;
 
-/// The index of the second byte of a message's type, and the bit in it that tells an error response from a success response
+/// The index of the second byte of a message's type, and the bit in it that distinguishes an error response from a success response
 /// (RFC 8489, section 5).
 const TYPE: usize = 1;
 
@@ -20,14 +20,17 @@ const UNAUTHENTICATED: (u8, u8) = (4, 1);
 
 const STALE_NONCE: (u8, u8) = (4, 38);
 
-/// Who a datagram came from.
+/// What a datagram that came is: ChannelData, a STUN message or something else of a client, or a peer's.
 #[derive(Clone, Copy, PartialEq, Eq)]
-enum Side {
-    Clients,
-    Peers,
+enum Kind {
+    ChannelData,
+    Message,
+    Other,
+    FromPeer,
 }
 
 /// The counters of a server. Displays as a line.
+/// See docs/DECISIONS.md, "What a server can count".
 #[derive(Clone, Copy)]
 pub(crate) struct Counters {
     /// Datagrams that came.
@@ -40,18 +43,29 @@ pub(crate) struct Counters {
     granted: u64,
     challenged: u64,
     refused: u64,
-    /// Datagrams that nothing was sent for.
-    discarded_from_clients: u64,
+    /// Datagrams that nothing was sent for, by what they are.
+    discarded_channel_data: u64,
+    discarded_messages: u64,
+    discarded_others: u64,
     discarded_from_peers: u64,
     receive_faults: u64,
     send_faults: u64,
-    /// Who the last datagram came from.
-    last: Side,
+    /// What the last datagram that came is.
+    last: Kind,
 }
 
 /// Adds one.
 fn count(counter: &mut u64) {
     *counter = counter.saturating_add(1);
+}
+
+/// Returns what a client's datagram is, by its first byte (RFC 8656, section 12).
+fn kind_of(datagram: &[u8]) -> Kind {
+    match datagram.first() {
+        Some(0x00..=0x3f) => Kind::Message,
+        Some(0x40..=0x4f) => Kind::ChannelData,
+        _ => Kind::Other,
+    }
 }
 
 /// Returns whether a response is an error that asks for credentials or for another nonce.
@@ -82,28 +96,39 @@ impl Counters {
             granted: 0,
             challenged: 0,
             refused: 0,
-            discarded_from_clients: 0,
+            discarded_channel_data: 0,
+            discarded_messages: 0,
+            discarded_others: 0,
             discarded_from_peers: 0,
             receive_faults: 0,
             send_faults: 0,
-            last: Side::Clients,
+            last: Kind::Other,
+        }
+    }
+
+    /// Returns the counter of the discarded datagrams of the last one's kind.
+    fn discarded(&mut self) -> &mut u64 {
+        match self.last {
+            Kind::ChannelData => &mut self.discarded_channel_data,
+            Kind::Message => &mut self.discarded_messages,
+            Kind::Other => &mut self.discarded_others,
+            Kind::FromPeer => &mut self.discarded_from_peers,
         }
     }
 
     /// Counts a datagram that came at a place. It counts as discarded until something is sent.
-    pub(crate) fn received(&mut self, place: Place) {
+    pub(crate) fn received(&mut self, place: Place, datagram: &[u8]) {
         match place {
             Place::Client => {
-                self.last = Side::Clients;
+                self.last = kind_of(datagram);
                 count(&mut self.from_clients);
-                count(&mut self.discarded_from_clients);
             }
             Place::Slot(_) => {
-                self.last = Side::Peers;
+                self.last = Kind::FromPeer;
                 count(&mut self.from_peers);
-                count(&mut self.discarded_from_peers);
             }
         }
+        count(self.discarded());
     }
 
     /// Counts a receive that failed.
@@ -113,10 +138,7 @@ impl Counters {
 
     /// The last datagram that came isn't discarded.
     fn keep(&mut self) {
-        let discarded = match self.last {
-            Side::Clients => &mut self.discarded_from_clients,
-            Side::Peers => &mut self.discarded_from_peers,
-        };
+        let discarded = self.discarded();
         *discarded = discarded.saturating_sub(1);
     }
 
@@ -125,10 +147,10 @@ impl Counters {
         self.keep();
         let counter = match (place, self.last) {
             (Place::Slot(_), _) => &mut self.to_peers,
-            (Place::Client, Side::Peers) => &mut self.to_clients,
-            (Place::Client, Side::Clients) if !is_error(bytes) => &mut self.granted,
-            (Place::Client, Side::Clients) if is_challenge(bytes) => &mut self.challenged,
-            (Place::Client, Side::Clients) => &mut self.refused,
+            (Place::Client, Kind::FromPeer) => &mut self.to_clients,
+            (Place::Client, _) if !is_error(bytes) => &mut self.granted,
+            (Place::Client, _) if is_challenge(bytes) => &mut self.challenged,
+            (Place::Client, _) => &mut self.refused,
         };
         count(counter);
     }
@@ -154,11 +176,16 @@ impl fmt::Display for Counters {
         )?;
         write!(
             f,
-            "discarded from clients {} peers {}, receive faults {} send faults {}",
-            self.discarded_from_clients,
-            self.discarded_from_peers,
-            self.receive_faults,
-            self.send_faults
+            "discarded channel data {} messages {} others {} from peers {}, ",
+            self.discarded_channel_data,
+            self.discarded_messages,
+            self.discarded_others,
+            self.discarded_from_peers
+        )?;
+        write!(
+            f,
+            "receive faults {} send faults {}",
+            self.receive_faults, self.send_faults
         )
     }
 }

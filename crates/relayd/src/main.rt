@@ -128,7 +128,9 @@ fn run_subcommand<R: Files + Input + Print + Net + Clock + RandomSource + AllocG
         Some(Subcommand::Trace { file, data }) => {
             report_file(rt, err, file, Ask::Trace { hex: data })
         }
-        Some(Subcommand::Disassemble { file }) => report_file(rt, err, file, Ask::Disassemble),
+        Some(Subcommand::Disassemble { file, slots }) => {
+            report_file(rt, err, file, Ask::Disassemble { slots })
+        }
         Some(Subcommand::Assemble { input, output }) => assemble_file(rt, err, input, output),
         Some(
             Subcommand::Replay {

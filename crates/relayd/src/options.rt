@@ -63,6 +63,7 @@ impl Fault<'_> {
 }
 
 /// Returns the number of slots.
+/// See docs/DECISIONS.md, "Numbers of options".
 pub(crate) fn slots_of<'a>(options: &Options<'a>) -> Result<usize, Fault<'a>> {
     let Some(text) = options.slots else {
         return Ok(defaults::SLOTS);
@@ -90,6 +91,7 @@ pub(crate) fn port_of<'a>(options: &Options<'a>) -> Result<u16, Fault<'a>> {
 }
 
 /// Returns the fault of a failed read of a file.
+/// See docs/DECISIONS.md, "File names as given".
 pub(crate) fn unread<'a>(error: &io::Error, path: &'a str) -> Fault<'a> {
     if error.kind() == io::ErrorKind::OutOfMemory {
         Fault::Memory
@@ -124,6 +126,7 @@ fn add_users<'a>(alloc: Global, users: &mut Vec<User>, texts: &[&'a str]) -> Res
 }
 
 /// Adds the users of a file, one a line.
+/// See docs/DECISIONS.md, "Users from a file".
 fn add_users_of_file<'a, R: Files + AllocGlobal>(
     rt: &R,
     users: &mut Vec<User>,
@@ -142,6 +145,7 @@ fn add_users_of_file<'a, R: Files + AllocGlobal>(
 }
 
 /// Returns the users that the options name.
+/// See docs/DECISIONS.md, "A user is required".
 fn users_of<'a, R: Files + AllocGlobal>(
     rt: &R,
     options: &Options<'a>,

@@ -116,6 +116,7 @@ impl<'a> Sides<'a> {
 
     /// Replaces the programs of a relay by those of the files that have changed. Where one is refused, or can't be loaded for
     /// want of memory, the old one goes on.
+    /// See docs/DECISIONS.md, "Both programs are loaded anew".
     pub(crate) fn replace<R: Files + AllocGlobal, E: Write>(
         &mut self,
         rt: &R,

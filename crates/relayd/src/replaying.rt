@@ -33,6 +33,7 @@ fn play<'a, R: Print + AllocGlobal, B: BufRead>(
 }
 
 /// Replays the events of a file, or of standard input for the file `-`, through the relay that the options describe.
+/// See docs/DECISIONS.md, "Events from standard input".
 fn replay_events<'a, R: Files + Input + Print + AllocGlobal>(
     rt: &R,
     events: &'a str,

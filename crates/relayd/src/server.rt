@@ -158,6 +158,7 @@ impl Server<'_> {
     }
 
     /// Does what is due: draws a nonce, replaces programs, and prints counters.
+    /// See docs/DECISIONS.md, "What is looked at once a second".
     fn tend<R: Files + Clock + AllocGlobal, E: Write>(&mut self, rt: &R, err: &mut E) {
         let now = elapsed(rt);
         if self.nonces.is_due(now) {
@@ -194,6 +195,7 @@ impl Server<'_> {
     }
 
     /// Makes rounds that never wait, and prints the counters if they are wanted.
+    /// See docs/DECISIONS.md, "Rounds never wait".
     fn make_rounds<R: Files + Clock + AllocGlobal, E: Write>(
         &mut self,
         rt: &R,
@@ -266,6 +268,7 @@ fn mark(events: &Events, ready: &mut [bool]) {
 }
 
 /// Prints the line that says where clients are served.
+/// See docs/DECISIONS.md, "The port that the system chooses".
 fn announce<R: Print>(rt: &R, sockets: &Sockets) -> io::Result<()> {
     let address = sockets.address()?;
     let mut out = io::writer(rt);

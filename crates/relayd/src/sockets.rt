@@ -145,7 +145,7 @@ impl Link for Sockets {
         let result = self.take(place, into);
         match &result {
             Ok(None) => {}
-            Ok(Some(_)) => self.counters.received(place),
+            Ok(Some((n, _))) => self.counters.received(place, into.get(..*n).unwrap_or(&[])),
             Err(_) => self.counters.receive_failed(),
         }
         result

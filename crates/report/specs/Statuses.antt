@@ -2,7 +2,6 @@
 use Rattle.std.specs.Prelude.{◌≡◌, ◌⊎◌, ℕ, List, Option}
 use Rattle.std.specs.Io.KnownBytes.{Appends, Keeps}
 use Rattle.insn.specs.Encoding.{Encodes}
-use Rattle.insn.specs.Spelling.{listing}
 use Rattle.insn.specs.declared.instruction.Insn.{Insn}
 use Rattle.insn.specs.Refusal.{IsRefused}
 use Rattle.insn.specs.declared.refusal.DecodeError.{DecodeError}
@@ -12,7 +11,7 @@ use Rattle.loader.specs.Loads.{IsLoaded, IsLoadRefusal}
 use Rattle.loader.specs.declared.refusal.LoadError.{LoadError}
 use Rattle.loader.specs.declared.refusal.LoadError.TheVariants as load
 use Rattle.report.specs.Traces.{digits_of, HasDatagram, HasNoDatagram, TraceEnds, PrintsTrace, IsExit, IsStuck}
-use Rattle.report.specs.Texts.{accepted_text, refused_text}
+use Rattle.report.specs.Texts.{accepted_text, refused_text, program_text}
 use Rattle.report.specs.declared.error.ReportError.{ReportError}
 use Rattle.report.specs.declared.error.ReportError.TheVariants as error
 use Rattle.report.specs.declared.reporting.Ask.{Ask}
@@ -56,25 +55,25 @@ HasProgram file = (code : List Insn) × Encodes code file
 abbrev pub Succeeds : Ask → List ℕ → Type 0
 Succeeds ask.Verify file = IsSafeFile file
 Succeeds (ask.Trace hex) file = TraceEnds (digits_of hex) file IsExit
-Succeeds ask.Disassemble file = HasProgram file
+Succeeds (ask.Disassemble slots) file = HasProgram file
 
 -- what a success has written, where what the output holds is known
 abbrev pub Writes : Ask → List ℕ → Option (List ℕ) → Option (List ℕ) → Type 0
 Writes ask.Verify file old new = (code : List Insn) × IsLoaded code file × Appends old new (accepted_text code)
 Writes (ask.Trace hex) file old new = PrintsTrace (digits_of hex) file IsExit old new
-Writes ask.Disassemble file old new = (code : List Insn) × Encodes code file × Appends old new (listing code)
+Writes (ask.Disassemble slots) file old new = (code : List Insn) × Encodes code file × Appends old new (program_text slots code)
 
 -- the printed report says so: the loader refuses the file, or the traced run gets stuck
 abbrev pub PrintsRefusal : Ask → List ℕ → Type 0
 PrintsRefusal ask.Verify file = IsRefusedFile file
 PrintsRefusal (ask.Trace hex) file = TraceEnds (digits_of hex) file IsStuck
-PrintsRefusal ask.Disassemble file = ⊥
+PrintsRefusal (ask.Disassemble slots) file = ⊥
 
 -- what a printed refusal has written
 abbrev pub WritesRefusal : Ask → List ℕ → Option (List ℕ) → Option (List ℕ) → Type 0
 WritesRefusal ask.Verify file old new = (e : LoadError) × IsAboutFile e × IsLoadRefusal file e × Appends old new (refused_text e)
 WritesRefusal (ask.Trace hex) file old new = PrintsTrace (digits_of hex) file IsStuck old new
-WritesRefusal ask.Disassemble file old new = ⊥
+WritesRefusal (ask.Disassemble slots) file old new = ⊥
 
 -- the report is printed with this status
 pub record IsPrinted (asked : Ask) (file : List ℕ) (status : ℕ) : Type 0 where
@@ -110,10 +109,10 @@ MayFail (ask.Trace hex) file error.Data = HasNoDatagram (digits_of hex)
 MayFail (ask.Trace hex) file (error.Program e) = HasDatagram (digits_of hex) × IsRefused file e
 MayFail (ask.Trace hex) file (error.Text e) = ⊥
 MayFail (ask.Trace hex) file error.Output = HasDatagram (digits_of hex) × HasProgram file
-MayFail ask.Disassemble file error.Data = ⊥
-MayFail ask.Disassemble file (error.Program e) = IsRefused file e
-MayFail ask.Disassemble file (error.Text e) = ⊥
-MayFail ask.Disassemble file error.Output = HasProgram file
+MayFail (ask.Disassemble slots) file error.Data = ⊥
+MayFail (ask.Disassemble slots) file (error.Program e) = IsRefused file e
+MayFail (ask.Disassemble slots) file (error.Text e) = ⊥
+MayFail (ask.Disassemble slots) file error.Output = HasProgram file
 
 -- the error is a refusal, of the digits or of the file
 abbrev pub FailsByRefusal : Ask → List ℕ → Type 0

@@ -1,8 +1,10 @@
 -- Meaning. The texts of reports and of their errors.
-use Rattle.std.specs.Prelude.{ℕ, List, [], ◌++◌, length, option_map, Option, Some, None, Result, Ok, Err, codes, decimal}
+use Rattle.std.specs.Prelude.{ℕ, Bool, true, false, List, [], ◌++◌, length, option_map, Option, Some, None, Result, Ok, Err, codes, decimal}
 use Rattle.attributes.specs.AddressTexts.{address_text}
 use Rattle.attributes.specs.declared.address.Addr.{Addr}
 use Rattle.insn.specs.Refusal.{decode_error_text}
+use Rattle.insn.specs.Spelling.{listing}
+use Rattle.disasm.specs.Slots.{listing_with_slots}
 use Rattle.insn.specs.declared.instruction.Insn.{Insn}
 use Rattle.asm.specs.Programs.{asm_error_text}
 use Rattle.semantics.specs.Reasons.{reason_at}
@@ -25,6 +27,11 @@ accepted_text code = codes "accepted " ++ decimal (length code) ++ codes " instr
 
 abbrev pub refused_text : LoadError → List ℕ
 refused_text e = codes "refused " ++ load_error_text e ++ codes "\n"
+
+-- the text of a program, with the slots of its instructions or without
+abbrev pub program_text : Bool → List Insn → List ℕ
+program_text true code = listing_with_slots code
+program_text false code = listing code
 
 -- ---- of a run
 

@@ -43,6 +43,7 @@ impl Error for ReportError {}
 
 impl ReportError {
     /// Returns the exit status: 1 for a refusal, 3 where the output fails, 4 where memory runs out.
+    /// See docs/DECISIONS.md, "An allocation failure has the status 4".
     pub fn status(self) -> u8
         ensures { result ≡ status_of self }
     {

@@ -1,8 +1,9 @@
 //! Prints the reports of `verify`, `trace` and `disassemble` on a program file, and returns their exit statuses.
 
-ghost use Rattle.std.specs.Prelude.{◌≡◌, ◌⊎◌, ◌≤◌, ◌<◌, IfOk, IfErr, OnOk, MatchResult, true};
+ghost use Rattle.std.specs.Prelude.{◌≡◌, ◌⊎◌, ◌≤◌, ◌<◌, IfOk, IfErr, OnOk, MatchResult, string_bytes, true};
 ghost use Rattle.std.specs.Io.KnownBytes.{Appends};
-ghost use Rattle.insn.specs.Encoding.{Encodes};
+ghost use Rattle.insn.specs.Encoding.{Encodes, slot_count};
+ghost use Rattle.insn.specs.declared.decoding.TheConstants.{MAX_SLOTS};
 ghost use Rattle.machine.specs.Contents.{datagram_of};
 ghost use Rattle.machine.specs.Contexts.{context_of};
 ghost use Rattle.report.specs.Traces.{digits_of, trace_context, EncodeDatagram, HasNoDatagram};
@@ -10,17 +11,17 @@ ghost use Rattle.report.specs.declared.error.ReportError.TheVariants.{Data, Outp
 ghost use Rattle.report.specs.declared.reporting.Ask.TheVariants.{Disassemble, Trace, Verify};
 ghost use Rattle.report.specs.Statuses.{IsNoProgram, IsPrinted, IsRefusal, IsUnwritten, IsWritten, MayFail, Succeeds};
 ghost use Rattle.report.specs.Statuses.{Writes, WritesIfRefused};
-ghost use Rattle.report.specs.Texts.{end_text};
+ghost use Rattle.report.specs.Texts.{end_text, program_text};
 
 use crate::error::{ReportError, fail};
 use crate::text::{Destination, Window};
-use disasm::disassemble;
+use disasm::{disassemble, disassemble_with_slots};
 use insn::{DecodeError, Insn, decode};
 use loader::{LoadError, load};
 use machine::{
     Addr, Context, Frame, Lines, MAX_DATAGRAM, NoAllocation, Outcome, Side, Stuck, trace,
 };
-use std::alloc::Global;
+use std::alloc::{AllocError, Global};
 use std::io::Write;
 use verifier::Refusal;
 
@@ -32,8 +33,8 @@ pub enum Ask<'a> {
     /// Each step of the program over a datagram, in hexadecimal digits of either case. `None` stands
     /// for the empty datagram.
     Trace { hex: Option<&'a str> },
-    /// The program as text.
-    Disassemble,
+    /// The program as text, with the slot of each instruction where `slots` says so.
+    Disassemble { slots: bool },
 }
 
 /// The context of a trace: the client's side, the source 127.0.0.1:9, and a transaction id of zeros.
@@ -54,6 +55,7 @@ macro_rules! line {
 }
 
 /// Prints whether the program may be loaded, and returns the status.
+/// See docs/DECISIONS.md, "One form of a count".
 fn report_verify<W: Write>(alloc: Global, file: &[u8], out: &mut W) -> Result<u8, ReportError>
     ensures printed { IfOk result (IsPrinted Verify file.now) }
     ensures written { IfOk result (IsWritten Verify file.now (W.contents out.old) (W.contents out.new)) }
@@ -128,15 +130,32 @@ fn program(alloc: Global, file: &[u8]) -> Result<Vec<Insn>, ReportError>
     }
 }
 
+/// Returns the text of a program.
+fn text_of(alloc: Global, code: &[Insn], slots: bool) -> Result<String, AllocError>
+    requires { slot_count code.now ≤ MAX_SLOTS }
+    ensures { IfOk result (λ text. string_bytes text ≡ program_text slots code.now) }
+{
+    if slots {
+        disassemble_with_slots(alloc, code)
+    } else {
+        disassemble(alloc, code)
+    }
+}
+
 /// Prints the program as text, and returns the status.
-fn report_disassembly<W: Write>(alloc: Global, file: &[u8], out: &mut W) -> Result<u8, ReportError>
-    ensures printed { IfOk result (IsPrinted Disassemble file.now) }
-    ensures written { IfOk result (IsWritten Disassemble file.now (W.contents out.old) (W.contents out.new)) }
+fn report_disassembly<W: Write>(
+    alloc: Global,
+    slots: bool,
+    file: &[u8],
+    out: &mut W,
+) -> Result<u8, ReportError>
+    ensures printed { IfOk result (IsPrinted (Disassemble slots) file.now) }
+    ensures written { IfOk result (IsWritten (Disassemble slots) file.now (W.contents out.old) (W.contents out.new)) }
     ensures unwritten { IfErr result (IsUnwritten (W.contents out.old) (W.contents out.new)) }
-    ensures failed { IfErr result (MayFail Disassemble file.now) }
+    ensures failed { IfErr result (MayFail (Disassemble slots) file.now) }
 {
     let code = program(alloc, file)?;
-    let text = disassemble(alloc, &code).map_err(|_| ReportError::Memory)?;
+    let text = text_of(alloc, &code, slots).map_err(|_| ReportError::Memory)?;
     out.write_all(text.as_bytes())
         .map_err(|_| ReportError::Output)?;
     Ok(0)
@@ -189,7 +208,7 @@ fn print<W: Write>(alloc: Global, ask: Ask<'_>, file: &[u8], out: &mut W) -> Res
     let status = match ask {
         Ask::Verify => report_verify(alloc, file, out)?,
         Ask::Trace { hex } => report_trace(alloc, hex, file, out)?,
-        Ask::Disassemble => report_disassembly(alloc, file, out)?,
+        Ask::Disassemble { slots } => report_disassembly(alloc, slots, file, out)?,
     };
     out.flush().map_err(|_| ReportError::Output)?;
     Ok(status)

@@ -72,18 +72,18 @@ mapped_test : {A B : Type 0} (f : A → B) (test : Bool) (x : A) → option_map 
 mapped_test f true x = refl
 mapped_test f false x = refl
 
-pushed_behind : (test : Bool) (b : Padded) (front : List Padded) (a : Padded) → before_first (front ++ a ∷ []) ≡ option_or (before_first front) (then_some (a.kind == message_integrity) front)
+pushed_after : (test : Bool) (b : Padded) (front : List Padded) (a : Padded) → before_first (front ++ a ∷ []) ≡ option_or (before_first front) (then_some (a.kind == message_integrity) front)
     → (if test then Some [] else option_map (λ f. b ∷ f) (before_first (front ++ a ∷ [])))
     ≡ option_or (if test then Some [] else option_map (λ f. b ∷ f) (before_first front)) (then_some (a.kind == message_integrity) (b ∷ front))
-pushed_behind true b front a same = refl
-pushed_behind false b front a same =
+pushed_after true b front a same = refl
+pushed_after false b front a same =
     ap (option_map (λ f. b ∷ f)) same
     ∙ mapped_or (λ f. b ∷ f) (before_first front) (then_some (a.kind == message_integrity) front)
     ∙ ap (option_or (option_map (λ f. b ∷ f) (before_first front))) (mapped_test (λ f. b ∷ f) (a.kind == message_integrity) front)
 
 first_pushed : (front : List Padded) (a : Padded) → before_first (front ++ a ∷ []) ≡ option_or (before_first front) (then_some (a.kind == message_integrity) front)
 first_pushed [] a = test_is (a.kind == message_integrity) []
-first_pushed (b ∷ front) a = pushed_behind (b.kind == message_integrity) b front a (first_pushed front a)
+first_pushed (b ∷ front) a = pushed_after (b.kind == message_integrity) b front a (first_pushed front a)
 
 pub scanned_more : (bytes rest : List ℕ) (at : Option ℕ) (kind : ℕ) (value after : List ℕ) → Scanned bytes rest at → BeginsWith rest kind value after
     → Scanned bytes after (option_or at (then_some (kind == message_integrity) (length bytes - length rest)))
@@ -126,9 +126,9 @@ front_step false a list (Some g) f following e =
     let rest = following g refl in
     (rest.0, ap (λ l. a ∷ l) rest.1 ∙ ap (λ l. l ++ rest.0) is)
 
-behind_front : (list f : List Padded) → before_first list ≡ Some f → (r : List Padded) × (list ≡ f ++ r)
-behind_front [] f e = absurd cc
-behind_front (a ∷ list) f e = front_step (a.kind == message_integrity) a list (before_first list) f (behind_front list) e
+after_front : (list f : List Padded) → before_first list ≡ Some f → (r : List Padded) × (list ≡ f ++ r)
+after_front [] f e = absurd cc
+after_front (a ∷ list) f e = front_step (a.kind == message_integrity) a list (before_first list) f (after_front list) e
 
 abbrev header_of : Parts → List ℕ
 header_of p = header p.kind (length (attributes_bytes p.attributes)) p.transaction_id
@@ -139,7 +139,7 @@ header_length p are = omega (arith, are.transaction_id)
 front_is : (p : Parts) (f : List Padded) → AreParts p → before_first p.attributes ≡ Some f
     → (take (20 + bytes_count f) (parts_bytes p) ≡ header_of p ++ attributes_bytes f) × (20 + bytes_count f ≤ length (parts_bytes p))
 front_is p f are found =
-    let rest = behind_front p.attributes f found in
+    let rest = after_front p.attributes f found in
     let x = header_of p in
     let front = attributes_bytes f in
     let after = attributes_bytes rest.0 in

@@ -2,7 +2,8 @@
 use Rattle.std.specs.Prelude.{ℕ, Bool, false, Option, None, Some, nat_lt, max, min}
 use Rattle.tables.specs.declared.moment.TheConstants.{LATEST}
 
--- A moment above the latest one counts as that, and one smaller than the greatest counts as the greatest.
+-- The moment that counts where t is handed in and the greatest moment so far is given: a clock that goes back counts as that
+-- greatest moment, and none counts as later than the latest.
 abbrev pub moment_of : ℕ → ℕ → ℕ
 moment_of greatest t = max greatest (min t LATEST)
 

@@ -56,8 +56,8 @@ fuel_is code slot i begins = omega (arith, ahead_falls code slot (slot + 1) i be
   next_rises : (n : ℕ) → n < n + 1
   next_rises n = omega arith
 
-behind : (code : List Insn) (slot to : ℕ) (i : Insn) → fetch code slot ≡ Begins i → slot < to → ahead code to ≤ ahead code slot - 1
-behind code slot to i begins rises = omega (arith, ahead_falls code slot to i begins rises)
+after : (code : List Insn) (slot to : ℕ) (i : Insn) → fetch code slot ≡ Begins i → slot < to → ahead code to ≤ ahead code slot - 1
+after code slot to i begins rises = omega (arith, ahead_falls code slot to i begins rises)
 
 onwards_is : (branch : Branch) (r : Result ℕ Reason) (n : ℕ) (f : ℕ → List (List Branch)) → r ≡ Ok n → length (path_onwards branch r f) ≡ length (f n)
 onwards_is branch r n f e = ap (λ (q : Result ℕ Reason). length (path_onwards branch q f)) e ∙ length-map (f n) (λ (path : List Branch). branch ∷ path)
@@ -68,7 +68,7 @@ branch_counts : {D : Type 0} (code : List Insn) (slot : ℕ) (i : Insn) → fetc
 branch_counts code slot i begins branch known p point =
     let m : ℕ = ahead code slot - 1 in
     let is = onwards_is branch (branch_slot code slot i branch) p.slot (λ next. beginnings_from code m next) point.leads in
-    let fewer = more_fuel code (ahead code p.slot) m p.slot (behind code slot p.slot i begins (branch_rises code slot p.slot i branch point.leads)) in
+    let fewer = more_fuel code (ahead code p.slot) m p.slot (after code slot p.slot i begins (branch_rises code slot p.slot i branch point.leads)) in
     omega (arith, is, fewer)
 
 abbrev all_onwards : List Insn → ℕ → Insn → ℕ → List (List Branch)

@@ -87,7 +87,7 @@ module _ (code : List Insn) (at : Position) (are : ArePassed code at) (d : Insn)
     below k before = elim (cases_lt k at.slot) [
       | inl early ↦ are.passed k early
       | inr late ↦ elim (cases_lt at.slot k) [
-        | inl behind ↦ ap (fetched_checked code k) (fetch_before_next code at are.is_at next is_next one lt k behind before)
+        | inl after ↦ ap (fetched_checked code k) (fetch_before_next code at are.is_at next is_next one lt k after before)
         | inr no_later ↦ let here : k ≡ at.slot = omega arith in ap (slot_checked code) here ∙ checked_here ∙ good
       ]
     ]

@@ -136,12 +136,12 @@ module _ {D : Type 0} (ops : Operations D) (Member : D → ℕ → Type 0) (soun
 
   module _ (precise : ArePrecise ops Member) (code : List Insn) (jumps : HasGoodJumps code) (here : Pending D) (i : Insn) (begins : fetch code here.slot ≡ Begins i) (fit : Fits i) (answer : Next D) (is : abstract.step ops here.state i ≡ Ok answer) (reached : IsReached Member code here) where
     branch_reached : (branch : Branch) (b : AbsState D) (p : Pending D) → state_after answer branch ≡ Some b → LeadsTo code here.slot i branch b p → IsReached Member code p
-    branch_reached branch b p behind point =
+    branch_reached branch b p after point =
         let n : ℕ = unsigned_abs reached.floor in
         let positive : pos 0 ≤ℤ reached.floor = at_most (pos 0) here.state.proved reached.floor reached.not_negative reached.proved in
         let same : pos n ≡ reached.floor = abs_is reached.floor positive in
         let r = reached.over n (equal_at_most reached.floor (pos n) (sym same)) in
-        let rises = step_rises ops Member sound some_environment code r.member.places here.state r.loosened r.member.at i fit environment_is_possible answer is branch b behind in
+        let rises = step_rises ops Member sound some_environment code r.member.places here.state r.loosened r.member.at i fit environment_is_possible answer is branch b after in
         let proved_is : b.proved ≡ p.state.proved = ap (λ (c : AbsState D). c.proved) (sym point.state_is) in
         let more : here.state.proved ≤ℤ p.state.proved = at_most here.state.proved b.proved p.state.proved rises (equal_at_most b.proved p.state.proved proved_is) in
         let higher : ℤ = greater reached.floor p.state.proved in
@@ -162,11 +162,11 @@ module _ {D : Type 0} (ops : Operations D) (Member : D → ℕ → Type 0) (soun
               at_most b.proved p.state.proved (pos over.loosened.memory.length) (equal_at_most b.proved p.state.proved proved_is) (subst (λ (k : ℕ). p.state.proved ≤ℤ pos k) (sym over.size) (at_most p.state.proved floor (pos m) over_proved le)) in
               let reaches : reach_of here.state.registers ≤ℤ pos over.loosened.memory.length = subst (λ (k : ℕ). reach_of here.state.registers ≤ℤ pos k) (sym over.size) (at_most (reach_of here.state.registers) reached.floor (pos m) reached.reach enough) in
               reached_by code here p b m over point.state_is
-              (step_opens ops Member sound some_environment code over.member.places here.state over.loosened over.member.at i fit precise environment_is_possible begins_at answer is branch b p.slot behind
+              (step_opens ops Member sound some_environment code over.member.places here.state over.loosened over.member.at i fit precise environment_is_possible begins_at answer is branch b p.slot after
               (ap (λ (k : ℕ). branch_slot code k i branch) over.slot ∙ point.leads) long reaches);
           plain = λ sums.
               let before = reached.plain sums in
-              let plain_b : ArePlain b.registers = step_plain ops Member sound precise here.state before.0 i fit (sums here.slot i begins) answer is branch b behind in
+              let plain_b : ArePlain b.registers = step_plain ops Member sound precise here.state before.0 i fit (sums here.slot i begins) answer is branch b after in
               let plain : ArePlain p.state.registers = subst (λ (c : AbsState D). ArePlain c.registers) (sym point.state_is) plain_b in
               let none : reach_of p.state.registers ≡ pos 0 = reach_of_plain p.state.registers plain in
               let low : reached.floor ≤ℤ p.state.proved = at_most reached.floor here.state.proved p.state.proved before.1 more in

@@ -17,7 +17,7 @@ use Rattle.semantics.specs.declared.fetching.Branch.TheVariants.{NotTaken, Taken
 use Rattle.interval.specs.Domains.{Operations, AreSound}
 use Rattle.absstate.specs.AbstractSteps as abstract
 use Rattle.absstate.specs.Membership.{Loose, IsMember}
-use Rattle.absstate.specs.MemberSteps.{IsBehindSome, state_after, Follows}
+use Rattle.absstate.specs.MemberSteps.{IsAfterSome, state_after, Follows}
 use Rattle.absstate.specs.StepLaws.Following.{steps_follow}
 use Rattle.absstate.specs.declared.abstract_state.AbsState.{AbsState}
 use Rattle.absstate.specs.declared.abstract_step.Next.{Next}
@@ -61,23 +61,23 @@ of_one P left q e all = subst (λ (xs : List _). All P xs → P q) (sym e) (λ p
 
 module _ {D : Type 0} (Member : D → ℕ → Type 0) (code : List Insn) (i : Insn) (w : Environment) (s : State) (real : IsPossible w) (short : s.memory.length ≤ MAX_DATAGRAM) (here : fetch code s.slot ≡ Begins i) where
   -- the step leads to a member of the state of a branch
-  good_branch : (branch : Branch) (b : AbsState D) (p : Pending D) (t : State) → LeadsTo code s.slot i branch b p → step w code s ≡ Goes t → IsBehindSome Member code Loose s i branch (Some b) t → AllRunsExit Member code p → ExitsFrom w code s
-  good_branch branch b p t point goes behind good =
-      exits_by Member code i s here w p t real goes (same_slot (branch_slot code s.slot i branch) t.slot p.slot behind.leads point.leads) (omega (arith, short, behind.size))
-      (subst (λ (c : AbsState D). IsMember Member Loose c t) (sym point.state_is) behind.member) good (branch_rises code s.slot p.slot i branch point.leads)
+  good_branch : (branch : Branch) (b : AbsState D) (p : Pending D) (t : State) → LeadsTo code s.slot i branch b p → step w code s ≡ Goes t → IsAfterSome Member code Loose s i branch (Some b) t → AllRunsExit Member code p → ExitsFrom w code s
+  good_branch branch b p t point goes after good =
+      exits_by Member code i s here w p t real goes (same_slot (branch_slot code s.slot i branch) t.slot p.slot after.leads point.leads) (omega (arith, short, after.size))
+      (subst (λ (c : AbsState D). IsMember Member Loose c t) (sym point.state_is) after.member) good (branch_rises code s.slot p.slot i branch point.leads)
 
-  good_next : (state : Option (AbsState D)) (on : Option (Pending D)) (t : State) → IsNext code s.slot i NotTaken state on → IfSome on (AllRunsExit Member code) → step w code s ≡ Goes t → IsBehindSome Member code Loose s i NotTaken state t → ExitsFrom w code s
-  good_next None on t next good goes behind = absurd behind
-  good_next (Some b) None t next good goes behind = absurd next
-  good_next (Some b) (Some p) t next good goes behind = good_branch NotTaken b p t next goes behind good
+  good_next : (state : Option (AbsState D)) (on : Option (Pending D)) (t : State) → IsNext code s.slot i NotTaken state on → IfSome on (AllRunsExit Member code) → step w code s ≡ Goes t → IsAfterSome Member code Loose s i NotTaken state t → ExitsFrom w code s
+  good_next None on t next good goes after = absurd after
+  good_next (Some b) None t next good goes after = absurd next
+  good_next (Some b) (Some p) t next good goes after = good_branch NotTaken b p t next goes after good
 
-  good_left : (state : Option (AbsState D)) (left : List (Pending D)) (t : State) → IsLeft code s.slot i Taken state left → All (AllRunsExit Member code) left → step w code s ≡ Goes t → IsBehindSome Member code Loose s i Taken state t → ExitsFrom w code s
-  good_left None left t next good goes behind = absurd behind
-  good_left (Some b) left t next good goes behind = good_branch Taken b next.0 t next.1 goes behind (of_one (AllRunsExit Member code) left next.0 next.2 good)
+  good_left : (state : Option (AbsState D)) (left : List (Pending D)) (t : State) → IsLeft code s.slot i Taken state left → All (AllRunsExit Member code) left → step w code s ≡ Goes t → IsAfterSome Member code Loose s i Taken state t → ExitsFrom w code s
+  good_left None left t next good goes after = absurd after
+  good_left (Some b) left t next good goes after = good_branch Taken b next.0 t next.1 goes after (of_one (AllRunsExit Member code) left next.0 next.2 good)
 
   good_from : (answer : Next D) (on : Option (Pending D)) (left : List (Pending D)) → GoesOn code s.slot i answer on left → IfSome on (AllRunsExit Member code) → All (AllRunsExit Member code) left → (r : StepResult) → step w code s ≡ r → Follows Member w code Loose s i answer r → ExitsFrom w code s
-  good_from answer on left goes good goods (Goes t) is (NotTaken, taken, behind) = good_next (state_after answer NotTaken) on t goes.0 good is behind
-  good_from answer on left goes good goods (Goes t) is (Taken, taken, behind) = good_left (state_after answer Taken) left t goes.1 goods is behind
+  good_from answer on left goes good goods (Goes t) is (NotTaken, taken, after) = good_next (state_after answer NotTaken) on t goes.0 good is after
+  good_from answer on left goes good goods (Goes t) is (Taken, taken, after) = good_left (state_after answer Taken) left t goes.1 goods is after
   good_from answer on left goes good goods (Exits verdict) is follows = exits_now Member code i s here w verdict is
   good_from answer on left goes good goods (Sticks reason slot) is follows = absurd follows
 

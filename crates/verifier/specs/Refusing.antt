@@ -23,8 +23,9 @@ refusal_text (refusal.Memory slot) = codes "V19 at " ++ decimal slot
 abbrev pub HasNoSums : List Insn → Type 0
 HasNoSums code = (slot : ℕ) (i : Insn) → fetch code slot ≡ Begins i → IsRegisterSum i → ⊥
 
--- What may be refused of code: the first fault of its layout; a step, where that refusal is real; the step at an
--- instruction, where the code has more beginnings of paths than the budget; and a failed allocation, at an instruction.
+-- The cause that a refusal of code has. A reason with a slot is the first fault of the layout, or else, in code that is laid
+-- out, a step that is really stuck there. The budget is refused where the code has more beginnings of paths than it allows,
+-- and memory where an allocation failed, both at an instruction.
 abbrev pub MayRefuseWhere : (Reason → ℕ → Type 0) → List Insn → ℕ → Refusal → Type 0
 MayRefuseWhere Real code budget (refusal.Stuck reason slot) = IsLayoutFault code reason slot ⊎ (IsLaidOut code × IsStepReason reason × Real reason slot)
 MayRefuseWhere Real code budget (refusal.Budget slot) = IsLaidOut code × StartsAt code slot × (budget < length (beginnings code))
@@ -48,8 +49,8 @@ IfBudget (refusal.Stuck reason slot) P = Unit {0}
 IfBudget (refusal.Budget slot) P = P
 IfBudget (refusal.Memory slot) P = Unit {0}
 
--- The result of verification: accepted code is safe and laid out; a fault of the layout is the refusal; what is refused
--- may be refused.
+-- The result of verification: accepted code is safe and laid out; a fault of the layout is the refusal; and every refusal
+-- has its cause.
 pub record IsVerdictOf {T : Type 0} (MayBe : Refusal → Type 0) (code : List Insn) (result : Result T Refusal) : Type 0 where
   pub safe : OnOk result (IsSafe code)
   pub laid_out : OnOk result (IsLaidOut code)

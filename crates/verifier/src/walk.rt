@@ -22,6 +22,7 @@ use crate::refusal::Refusal;
 use absstate::{AbsState, Change, Transition};
 use insn::Insn;
 use interval::{Domain, Interval};
+use operations::Translation;
 use semantics::{Branch, Fetched, Program};
 use std::alloc::{AllocError, Global};
 use std::marker::Model;
@@ -57,7 +58,7 @@ pub enum Path {
 /// A program that was accepted: every run of it exits. Only `verify_with` makes one.
 #[derive(Drop)]
 pub struct Verified {
-    program: Program,
+    translation: Translation,
 }
 
 impl Model for Verified {
@@ -67,9 +68,9 @@ impl Model for Verified {
 
     ghost Value = { List Insn };
 
-    ghost view = { λ v. v.program };
+    ghost view = { λ v. v.translation };
 
-    ghost invariant = { λ v. IsVerified v.program };
+    ghost invariant = { λ v. IsVerified v.translation };
 }
 
 impl Verified {
@@ -85,16 +86,16 @@ impl Verified {
         ensures safe { IsSafe self.now }
         ensures few { slot_count self.now ≤ MAX_SLOTS }
     {
-        self.program.code()
+        self.translation.program().code()
     }
 
-    /// Returns the same instructions, with the list of their slots.
-    pub fn program(&self) -> &Program
+    /// Returns the same instructions, with the operation of each of their slots.
+    pub fn translation(&self) -> &Translation
         ensures code { result.now ≡ self.now }
         ensures safe { IsSafe self.now }
         ensures few { slot_count self.now ≤ MAX_SLOTS }
     {
-        &self.program
+        &self.translation
     }
 }
 
@@ -300,6 +301,7 @@ fn walk<D: Domain, L: Ledger>(
 /// stuck. `steps` counts one for each abstract step, of which at most `budget` are made. A state that one kept at its slot
 /// covers takes no step: states are kept at the slots that jumps lead to.
 /// See docs/DECISIONS.md, "Refusals need a precise domain".
+/// See docs/DECISIONS.md, "Members are states that runs have".
 ///
 /// # Errors
 /// As [`verify`]; over a domain that isn't precise, a step may be refused at which no loose run is stuck.
@@ -316,11 +318,11 @@ pub fn verify_with<D: Domain, L: Ledger>(
     ensures walked { EndsWalk D.ops D.Member code.now steps.old steps.new result }
 {
     check_layout(code)?;
-    let Ok(program) = Program::new(alloc, code) else {
+    let Ok(translation) = Translation::new(alloc, code) else {
         return Err(Refusal::Memory { slot: 0 });
     };
-    walk::<D, L>(alloc, &program, budget, steps)?;
-    Ok(Verified { program })
+    walk::<D, L>(alloc, translation.program(), budget, steps)?;
+    Ok(Verified { translation })
 }
 
 /// Verifies a program with intervals: accepts it if no step of it, on any path, can be stuck. `steps` counts one for each

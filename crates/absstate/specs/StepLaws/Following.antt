@@ -32,7 +32,7 @@ use Rattle.interval.specs.Domains.{Operations, AreSound}
 use Rattle.absstate.specs.AbstractStates.{with_answer}
 use Rattle.absstate.specs.AbstractSteps as abstract
 use Rattle.absstate.specs.Membership.{Mode, Places, IsMemberAt, IsMember}
-use Rattle.absstate.specs.MemberSteps.{IsBehind, IsBehindSome, IsTakenBy, IsTaken, Follows, StepsFollow}
+use Rattle.absstate.specs.MemberSteps.{IsAfter, IsAfterSome, IsTakenBy, IsTaken, Follows, StepsFollow}
 use Rattle.absstate.specs.declared.abstract_state.AbsState.{AbsState}
 use Rattle.absstate.specs.declared.abstract_step.Next.{Next}
 use Rattle.absstate.specs.declared.abstract_step.Next.TheVariants as next
@@ -128,7 +128,7 @@ module _ {D : Type 0} (ops : Operations D) (Member : D → ℕ → Type 0) (soun
   asked_member w code mode places a s member i real b q out is =
       let answer = w.answer q.helper q.number q.address in
       let lawful = is.lawful w.answer real.helpers in
-      subst (λ (x : AbsState D). IsMemberAt Member mode places x (state_after_answer s (s.slot + slots_of i) out answer)) (sym is.behind)
+      subst (λ (x : AbsState D). IsMemberAt Member mode places x (state_after_answer s (s.slot + slots_of i) out answer)) (sym is.after)
       (member_answered Member sound.words mode places a s (ops.range 0 (signature_of is.asked).greatest) (s.slot + slots_of i) out answer member (in_range answer.0 (signature_of is.asked).greatest (bounded is.asked) lawful.0) (both_of out answer.1 is.room lawful.1))
 
   pub planned_member : (mode : Mode) (places : Places) (a : AbsState D) (s : State) → IsMemberAt Member mode places a s → (i : Insn) (b : AbsState D) (h : Helper) (n : ℕ) (plan : Plan) → b ≡ abstract.state_after_call ops a h None → n ≤ 1 → (signature_of h).greatest ≡ 1
@@ -142,8 +142,8 @@ module _ {D : Type 0} (ops : Operations D) (Member : D → ℕ → Type 0) (soun
     exists : {b : AbsState D} {t : State} → IsMemberAt Member mode places b t → IsMember Member mode b t
     exists at = record { places = places; at = at }
 
-    behind : (branch : Branch) (b : AbsState D) → ((to : ℕ) → IsMemberAt Member mode places b (record s { slot = to })) → (n : ℕ) → branch_slot code s.slot i branch ≡ Ok n → IsBehind Member code mode s i branch b (record s { slot = n })
-    behind branch b h n leads = record { leads = leads; size = refl; member = exists (h n) }
+    after : (branch : Branch) (b : AbsState D) → ((to : ℕ) → IsMemberAt Member mode places b (record s { slot = to })) → (n : ℕ) → branch_slot code s.slot i branch ≡ Ok n → IsAfter Member code mode s i branch b (record s { slot = n })
+    after branch b h n leads = record { leads = leads; size = refl; member = exists (h n) }
 
     -- that branch is taken, by the effect of the instruction
     taken_by : (r : Result Effect Reason) (f : Flow) (branch : Branch) → effects.effect w.context s.memory s.registers i ≡ r → flow_of i ≡ f → IsTakenBy f r branch → IsTaken w s i branch
@@ -204,13 +204,13 @@ module _ {D : Type 0} (ops : Operations D) (Member : D → ℕ → Type 0) (soun
     effect_follows short (next.On b) (effect.Jump offset) has is =
         let to = ok_of (branch_slot code s.slot i NotTaken) (good NotTaken) in
         subst (Follows Member w code mode s i (next.On b)) (sym (jump_goes w code s i offset NotTaken to.0 is.1 to.1))
-        (NotTaken, taken_by (Ok (effect.Jump offset)) (flow.Jumps offset) NotTaken has is.1 tt, behind NotTaken b (λ n. subst (λ (c : AbsState D). IsMemberAt Member mode places c (record s { slot = n })) (sym is.0) (member_moved Member mode places a s member n)) to.0 to.1)
+        (NotTaken, taken_by (Ok (effect.Jump offset)) (flow.Jumps offset) NotTaken has is.1 tt, after NotTaken b (λ n. subst (λ (c : AbsState D). IsMemberAt Member mode places c (record s { slot = n })) (sym is.0) (member_moved Member mode places a s member n)) to.0 to.1)
     effect_follows short (next.On b) effect.Pass has is = absurd is
     effect_follows short (next.On b) (effect.Exit verdict) has is = absurd is
     effect_follows short (next.Fork not_taken taken) e has f =
         let to = ok_of (branch_slot code s.slot i f.branch) (good f.branch) in
         subst (Follows Member w code mode s i (next.Fork not_taken taken)) (sym (ap (λ (x : Effect). step_by_effect w code s i (Ok x)) f.effect_is ∙ branch_goes w code s i f.offset f.branch to.0 (ap flow_of f.jump) to.1))
-        (f.branch, taken_by (Ok e) (flow.Forks f.offset) f.branch has (ap flow_of f.jump) (ap Ok f.effect_is), subst (λ (o : Option (AbsState D)). IsBehindSome Member code mode s i f.branch o (record s { slot = to.0 })) (sym f.behind_is) (behind f.branch f.behind f.member to.0 to.1))
+        (f.branch, taken_by (Ok e) (flow.Forks f.offset) f.branch has (ap flow_of f.jump) (ap Ok f.effect_is), subst (λ (o : Option (AbsState D)). IsAfterSome Member code mode s i f.branch o (record s { slot = to.0 })) (sym f.after_is) (after f.branch f.after f.member to.0 to.1))
     effect_follows short next.Exit (effect.Exit verdict) has is = tt
     effect_follows short next.Exit (effect.Write r v) has is = absurd is
     effect_follows short next.Exit (effect.Store at z n) has is = absurd is

@@ -160,9 +160,9 @@ module _ {D : Type 0} (ops : Operations D) (Member : D → ℕ → Type 0) (soun
     pub operand_is : effects.operand_value width s.registers operand ≡ Ok second
     pub branch : Branch
     pub effect_is : e ≡ effect_of_branch offset branch
-    pub behind : AbsState D
-    pub behind_is : state_after (next.Fork not_taken taken) branch ≡ Some behind
-    pub member : (to : ℕ) → IsMemberAt Member mode places behind (record s { slot = to })
+    pub after : AbsState D
+    pub after_is : state_after (next.Fork not_taken taken) branch ≡ Some after
+    pub member : (to : ℕ) → IsMemberAt Member mode places after (record s { slot = to })
     pub extra : ℤ
     pub within : extra ≤ℤ reach_of a.registers
     pub rises : (way : Branch) (b : AbsState D) → state_after (next.Fork not_taken taken) way ≡ Some b → a.proved ≤ℤ b.proved
@@ -175,7 +175,7 @@ module _ {D : Type 0} (ops : Operations D) (Member : D → ℕ → Type 0) (soun
   module _ (mode : Mode) (places : Places) (a : AbsState D) (s : State) (member : IsMemberAt Member mode places a s) (w : Width) (c : Condition) (dst : Reg) (o : Operand) (offset : ℤ) where
     -- two numbers
     module _ (x y : D) (m n : ℕ) (h : Member x m) (g : Member y n) (dst_is : value_at s.registers dst ≡ value.Scalar m) (o_is : effects.operand_value w s.registers o ≡ Ok (value.Scalar n)) where
-      passed_by : (r : Option (D × D)) → Keeps Member r m n → (behind : AbsState D) × (abstract.state_with_operands a dst o r ≡ Some behind) × ((to : ℕ) → IsMemberAt Member mode places behind (record s { slot = to }))
+      passed_by : (r : Option (D × D)) → Keeps Member r m n → (after : AbsState D) × (abstract.state_with_operands a dst o r ≡ Some after) × ((to : ℕ) → IsMemberAt Member mode places after (record s { slot = to }))
       passed_by None kept = absurd kept
       passed_by (Some left) kept = (abstract.with_operands a dst o left, refl, λ to. operands_known mode places a s member dst w o left m n to dst_is o_is kept.0 kept.1)
 
@@ -191,7 +191,7 @@ module _ {D : Type 0} (ops : Operations D) (Member : D → ℕ → Type 0) (soun
           → state_after (next.Fork (abstract.state_past_test ops a (Fails c) w dst o x y) (abstract.state_past_test ops a (Holds c) w dst o x y)) branch ≡ abstract.state_past_test ops a test w dst o x y
           → Forks mode places a s (insn.JumpIf w c dst o offset) (abstract.state_past_test ops a (Fails c) w dst o x y) (abstract.state_past_test ops a (Holds c) w dst o x y) e
       numbers_fork test branch e e_is passed way_is =
-          let behind = passed_by (ops.refine test w x y) (sound.refine test w x y m n h g passed) in
+          let after = passed_by (ops.refine test w x y) (sound.refine test w x y m n h g passed) in
           record {
             width = w;
             condition = c;
@@ -203,9 +203,9 @@ module _ {D : Type 0} (ops : Operations D) (Member : D → ℕ → Type 0) (soun
             operand_is = o_is;
             branch = branch;
             effect_is = e_is;
-            behind = behind.0;
-            behind_is = way_is ∙ behind.1;
-            member = behind.2;
+            after = after.0;
+            after_is = way_is ∙ after.1;
+            member = after.2;
             extra = pos 0;
             within = reach_positive a.registers;
             rises = rises;
@@ -262,8 +262,8 @@ module _ {D : Type 0} (ops : Operations D) (Member : D → ℕ → Type 0) (soun
         operand_is = o_is;
         branch = branch_if taken;
         effect_is = effect_taken offset taken;
-        behind = with_least a anchor (abstract.least_of (bound (branch_if taken)));
-        behind_is = way_is (branch_if taken);
+        after = with_least a anchor (abstract.least_of (bound (branch_if taken)));
+        after_is = way_is (branch_if taken);
         member = λ to. member_least Member mode places a s member anchor (abstract.least_of (bound (branch_if taken))) to (least_from_bound (place_of places anchor) (bound (branch_if taken)) s.memory.length true_of);
         extra = extra;
         within = within;

@@ -28,9 +28,9 @@ pub marked_before : (n i k : ℕ) (m : Marks) → length m.cells ≡ STACK_BYTES
 marked_before zero i k m count le lt = refl
 marked_before (suc n) i k m count le lt = marked_before n (suc i) k (mark m i) (length-mark m i ∙ count) (omega (arith, le)) (omega (arith, lt)) ∙ mark_other m i k (λ e. omega (arith, e, lt))
 
-pub marked_behind : (n i k : ℕ) (m : Marks) → length m.cells ≡ STACK_BYTES → i + n ≤ STACK_BYTES → i + n ≤ k → is_marked (marks_from m i n) k ≡ is_marked m k
-marked_behind zero i k m count le lt = refl
-marked_behind (suc n) i k m count le lt = marked_behind n (suc i) k (mark m i) (length-mark m i ∙ count) (omega (arith, le)) (omega (arith, lt)) ∙ mark_other m i k (λ e. omega (arith, e, lt))
+pub marked_after : (n i k : ℕ) (m : Marks) → length m.cells ≡ STACK_BYTES → i + n ≤ STACK_BYTES → i + n ≤ k → is_marked (marks_from m i n) k ≡ is_marked m k
+marked_after zero i k m count le lt = refl
+marked_after (suc n) i k m count le lt = marked_after n (suc i) k (mark m i) (length-mark m i ∙ count) (omega (arith, le)) (omega (arith, lt)) ∙ mark_other m i k (λ e. omega (arith, e, lt))
 
 pub marked_at : (n i k : ℕ) (m : Marks) → length m.cells ≡ STACK_BYTES → i + n ≤ STACK_BYTES → i ≤ k → k < i + n → is_marked (marks_from m i n) k ≡ true
 marked_at zero i k m count le low high = absurd (omega (arith, low, high))

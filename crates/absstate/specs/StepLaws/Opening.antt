@@ -80,7 +80,7 @@ module _ {D : Type 0} (ops : Operations D) (Member : D → ℕ → Type 0) (soun
   effect_rises (next.On c) (effect.Write r v) is NotTaken b e = at_most a.proved b.proved (sym (ap (λ (x : AbsState D). x.proved) is.1) ∙ ap (λ (x : AbsState D). x.proved) (same_state c b e))
   effect_rises (next.On c) (effect.Jump offset) is NotTaken b e = at_most a.proved b.proved (sym (ap (λ (x : AbsState D). x.proved) is.0) ∙ ap (λ (x : AbsState D). x.proved) (same_state c b e))
   effect_rises (next.On c) (effect.Store at z n) is NotTaken b e = at_most a.proved b.proved (region_proved a (byte_count z) is.0 ∙ sym (ap (λ (x : AbsState D). x.proved) is.1) ∙ ap (λ (x : AbsState D). x.proved) (same_state c b e))
-  effect_rises (next.On c) (effect.Ask q out) is NotTaken b e = at_most a.proved b.proved (out_proved a (ops.range 0 (signature_of is.asked).greatest) out ∙ sym (ap (λ (x : AbsState D). x.proved) is.behind) ∙ ap (λ (x : AbsState D). x.proved) (same_state c b e))
+  effect_rises (next.On c) (effect.Ask q out) is NotTaken b e = at_most a.proved b.proved (out_proved a (ops.range 0 (signature_of is.asked).greatest) out ∙ sym (ap (λ (x : AbsState D). x.proved) is.after) ∙ ap (λ (x : AbsState D). x.proved) (same_state c b e))
   effect_rises (next.On c) (effect.SetWindow window) is NotTaken b e = at_most a.proved b.proved (sym (ap (λ (x : AbsState D). x.proved) is.0) ∙ ap (λ (x : AbsState D). x.proved) (same_state c b e))
   effect_rises (next.On c) (effect.SetDestination destination) is NotTaken b e = at_most a.proved b.proved (sym (ap (λ (x : AbsState D). x.proved) is.0) ∙ ap (λ (x : AbsState D). x.proved) (same_state c b e))
   effect_rises (next.On c) effect.Pass is NotTaken b e = absurd is
@@ -149,9 +149,9 @@ module _ {D : Type 0} (ops : Operations D) (Member : D → ℕ → Type 0) (soun
 
     fork_opens : (not_taken taken : Option (AbsState D)) (e : Effect) → effects.effect w.context s.memory s.registers i ≡ Ok e → Forks ops Member sound Strict places a s i not_taken taken e
         → (branch : Branch) (b : AbsState D) (n : ℕ) → state_after (next.Fork not_taken taken) branch ≡ Some b → branch_slot code s.slot i branch ≡ Ok n → b.proved ≤ℤ pos s.memory.length → reach_of a.registers ≤ℤ pos s.memory.length → Opens Member w code s n b
-    fork_opens not_taken taken e effect_is f branch b n behind leads le reach =
+    fork_opens not_taken taken e effect_is f branch b n after leads le reach =
         let extra : f.extra ≤ℤ pos s.memory.length = within_both f.extra (reach_of a.registers) (pos s.memory.length) f.within reach in
-        let opened = f.opens precise refl branch b behind le extra n in
+        let opened = f.opens precise refl branch b after le extra n in
         record {
           state = record s { slot = n };
           goes = inr (
@@ -167,7 +167,7 @@ module _ {D : Type 0} (ops : Operations D) (Member : D → ℕ → Type 0) (soun
               decided = e;
               not_stuck = ap (effects.effect w.context s.memory s.registers) (sym f.jump) ∙ effect_is;
               operand_is = f.operand_is;
-              is_open = f.holds_of branch b behind le extra;
+              is_open = f.holds_of branch b after le extra;
               goes = ap (λ (j : Insn). step_by_effect w code s j (Ok (effect_of_branch f.offset branch))) (sym f.jump) ∙ branch_goes w code s i f.offset branch n (ap flow_of f.jump) leads;
             },
           );

@@ -75,7 +75,7 @@ module _ {D : Type 0} (ops : Operations D) (Member : D → ℕ → Type 0) (soun
   -- a question to lawful helpers: the answer lies within its bound, and the record that is written has eight bytes
   pub record IsAsked (a : AbsState D) (i : Insn) (b : AbsState D) (q : Question) (out : Option ℕ) : Type 0 where
     pub asked : Helper
-    pub behind : b ≡ abstract.state_after_call ops a asked out
+    pub after : b ≡ abstract.state_after_call ops a asked out
     pub past : GoesPast i
     pub room : IfSome out (λ j. j + 8 ≤ 512)
     pub lawful : (answer : ℕ → ℕ → AddressRecord → ℕ × AddressRecord) → IsLawful answer → ((answer q.helper q.number q.address).0 ≤ (signature_of asked).greatest) × IfSome out (λ j. AreBytes 8 (answer q.helper q.number q.address).1)
@@ -293,7 +293,7 @@ module _ {D : Type 0} (ops : Operations D) (Member : D → ℕ → Type 0) (soun
 
     asks : (i : Insn) (h : Helper) (q : Question) (out : Option ℕ) → GoesPast i → IfSome out (λ j. j + 8 ≤ 512) → ((answer : ℕ → ℕ → AddressRecord → ℕ × AddressRecord) → IsLawful answer → ((answer q.helper q.number q.address).0 ≤ (signature_of h).greatest) × IfSome out (λ j. AreBytes 8 (answer q.helper q.number q.address).1))
         → IsAsked a i (abstract.state_after_call ops a h out) q out
-    asks i h q out past room lawful = record { asked = h; behind = refl; past = past; room = room; lawful = lawful }
+    asks i h q out past room lawful = record { asked = h; after = refl; past = past; room = room; lawful = lawful }
 
     -- helpers that write no record
     two_read : (x y : Result (Unit {0}) Reason) (out : Option ℕ) → ((x >>= λ u. Ok None) >>= λ first. (y >>= λ u. Ok first) >>= λ second. Ok second) ≡ Ok out → out ≡ None

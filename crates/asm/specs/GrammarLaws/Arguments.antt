@@ -108,10 +108,10 @@ number_given made m t n rest h is =
     ∙ ap (λ (k : ℤ). before k rest) (sym is)
 
 -- an integer that is read of a sign and a number: both stand first
-behind_sign : (s : Token) (made : ℕ → ℤ) (t : Token) (ts : List Token) (r : Read ℤ) → bytes_eq t s ≡ true
+after_sign : (s : Token) (made : ℕ → ℤ) (t : Token) (ts : List Token) (r : Read ℤ) → bytes_eq t s ≡ true
     → option_map (signed_by made) (number ts) ≡ Some r
     → (m : ℕ) × (u : Token) × IsNumber m u × (t ∷ ts ≡ s ∷ u ∷ r.rest) × (r.value ≡ made m)
-behind_sign s made t ts r is e =
+after_sign s made t ts r is e =
     let found = number_taken made ts r e in
     let first : t ∷ ts ≡ s ∷ ts = ap (λ (u : Token). u ∷ ts) (same_text t s is) in
     (found.0, found.1, found.2, first ∙ ap (λ (us : List Token). s ∷ us) found.3, found.4)
@@ -121,17 +121,17 @@ signed_taken : (ts : List Token) (r : Read ℤ) → signed_number ts ≡ Some r 
 signed_taken [] r e = absurd (none-some r e)
 signed_taken (t ∷ ts) r e = elim (cases_Bool (bytes_eq t (codes "+"))) [
   | inl plus ↦
-      let found = behind_sign (codes "+") pos t ts r plus (sym (cond-true (bytes_eq t (codes "+")) _ _ plus) ∙ e) in
+      let found = after_sign (codes "+") pos t ts r plus (sym (cond-true (bytes_eq t (codes "+")) _ _ plus) ∙ e) in
       (codes "+" ∷ found.1 ∷ [], found.3, (found.0, found.1, found.2, inl (refl, found.4)))
   | inr other ↦
-      let behind = sym (cond-false (bytes_eq t (codes "+")) (option_map (signed_by pos) (number ts)) _ other) ∙ e in
+      let after = sym (cond-false (bytes_eq t (codes "+")) (option_map (signed_by pos) (number ts)) _ other) ∙ e in
       elim (cases_Bool (bytes_eq t (codes "-"))) [
         | inl dash ↦
             let read = option_map (signed_by minus) (number ts) in
-            let is = sym (cond-true (bytes_eq t (codes "-")) read _ dash) ∙ behind in
-            let found = behind_sign (codes "-") minus t ts r dash is in
+            let is = sym (cond-true (bytes_eq t (codes "-")) read _ dash) ∙ after in
+            let found = after_sign (codes "-") minus t ts r dash is in
             (codes "-" ∷ found.1 ∷ [], found.3, (found.0, found.1, found.2, inr (refl, found.4)))
-        | inr none ↦ absurd (none-some r (sym (cond-false (bytes_eq t (codes "-")) _ _ none) ∙ behind))
+        | inr none ↦ absurd (none-some r (sym (cond-false (bytes_eq t (codes "-")) _ _ none) ∙ after))
       ]
 ]
 
@@ -151,7 +151,7 @@ integer_taken : (ts : List Token) (r : Read ℤ) → integer ts ≡ Some r → B
 integer_taken [] r e = absurd (none-some r e)
 integer_taken (t ∷ ts) r e = elim (cases_Bool (bytes_eq t (codes "-"))) [
   | inl dash ↦
-      let found = behind_sign (codes "-") minus t ts r dash (sym (cond-true (bytes_eq t (codes "-")) _ _ dash) ∙ e) in
+      let found = after_sign (codes "-") minus t ts r dash (sym (cond-true (bytes_eq t (codes "-")) _ _ dash) ∙ e) in
       (codes "-" ∷ found.1 ∷ [], found.3, (found.0, found.1, found.2, inr (refl, found.4)))
   | inr none ↦
       let found = number_taken pos (t ∷ ts) r (sym (cond-false (bytes_eq t (codes "-")) _ _ none) ∙ e) in
@@ -274,10 +274,10 @@ address_split : (ts opened : List Token) (base : Read Reg) (displacement : Read 
     (record { value = record { base = base.value; displacement = displacement.value }; rest = closed })
 address_split ts opened base displacement closed first (front, named, is) (signed, split, h) last =
     let text : Token = register_name base.value in
-    let behind : base.rest ≡ (signed ++ codes "]" ∷ []) ++ closed =
+    let after : base.rest ≡ (signed ++ codes "]" ∷ []) ++ closed =
     split ∙ ap (λ (us : List Token). signed ++ us) last ∙ sym (append_assoc signed (codes "]" ∷ []) closed) in
     let inside : opened ≡ text ∷ (signed ++ codes "]" ∷ []) ++ closed =
-    named ∙ ap (λ (us : List Token). us ++ base.rest) is ∙ ap (λ (us : List Token). text ∷ us) behind in
+    named ∙ ap (λ (us : List Token). us ++ base.rest) is ∙ ap (λ (us : List Token). text ∷ us) after in
     let whole = first ∙ ap (λ (us : List Token). codes "[" ∷ us) inside in
     (codes "[" ∷ text ∷ signed ++ codes "]" ∷ [], whole, (signed, h, refl))
 
@@ -298,14 +298,14 @@ address_taken ts r e =
 address_given : (p : MemoryOperand) (front rest : List Token) → SpellsAddress p front → address (front ++ rest) ≡ before p rest
 address_given p front rest (signed, h, is) =
     let text : Token = register_name p.base in
-    let behind : List Token = (signed ++ codes "]" ∷ []) ++ rest in
-    let displacement : signed_number behind ≡ before p.displacement (codes "]" ∷ rest) =
+    let after : List Token = (signed ++ codes "]" ∷ []) ++ rest in
+    let displacement : signed_number after ≡ before p.displacement (codes "]" ∷ rest) =
     ap signed_number (append_assoc signed (codes "]" ∷ []) rest)
     ∙ signed_number_reads.gives p.displacement signed (codes "]" ∷ rest) h in
     ap (λ (ts : List Token). address (ts ++ rest)) is
-    ∙ onward (register (text ∷ behind)) _ (record { value = p.base; rest = behind }) _
-    (register_reads.gives p.base (text ∷ []) behind refl)
-    (onward (signed_number behind) _ (record { value = p.displacement; rest = codes "]" ∷ rest }) _ displacement refl)
+    ∙ onward (register (text ∷ after)) _ (record { value = p.base; rest = after }) _
+    (register_reads.gives p.base (text ∷ []) after refl)
+    (onward (signed_number after) _ (record { value = p.displacement; rest = codes "]" ∷ rest }) _ displacement refl)
 
 -- the reader of an address reads a register and a displacement between brackets
 pub address_reads : IsReader address SpellsAddress

@@ -136,17 +136,17 @@ jump_if_arguments dst o t = go o t.label
     go (operand.Imm n) (Some name) = refl
 
 -- the target after two commas
-abbrev jump_if_behind : Width → Condition → Reg → Read Operand → Option Statement
-jump_if_behind width c dst o = only_goal o.rest >>= (λ t. Some (jump_if_of width c dst o.value t))
+abbrev jump_if_after : Width → Condition → Reg → Read Operand → Option Statement
+jump_if_after width c dst o = only_goal o.rest >>= (λ t. Some (jump_if_of width c dst o.value t))
 
 -- a jump under a condition that is read
 jump_if_taken : (width : Width) (c : Condition) (ts : List Token) (s : Statement) → jump_if width c ts ≡ Some s
     → IsInstructionOf (JumpIf width c) ts s
 jump_if_taken width c ts s e =
     let dst = bound (with_comma register ts) _ s e in
-    let behind = jump_if_behind width c dst.0.value in
-    let grouped = sym (comma_first (operand_in dst.0.rest) behind) ∙ dst.2 in
-    let o = bound (with_comma operand_in dst.0.rest) behind s grouped in
+    let after = jump_if_after width c dst.0.value in
+    let grouped = sym (comma_first (operand_in dst.0.rest) after) ∙ dst.2 in
+    let o = bound (with_comma operand_in dst.0.rest) after s grouped in
     let goal = bound (only_goal o.0.rest) _ s o.2 in
     let first = comma_taken register register_reads ts dst.0 dst.1 in
     let second = comma_taken operand_in operand_reads dst.0.rest o.0 o.1 in
@@ -167,12 +167,12 @@ jump_if_taken width c ts s e =
 jump_if_read : (width : Width) (c : Condition) (dst : Reg) (o : Operand) (t : Target) (ts : List Token)
     → JumpIfArguments dst o t ts → IfSome t.label (λ _. t.distance ≡ pos 0)
     → jump_if width c ts ≡ Some (jump_if_of width c dst o t)
-jump_if_read width c dst o t ts (front, behind, split, h, (middle, rest, again, k, l)) unlinked =
-    let further = jump_if_behind width c dst in
+jump_if_read width c dst o t ts (front, after, split, h, (middle, rest, again, k, l)) unlinked =
+    let further = jump_if_after width c dst in
     ap (jump_if width c) split
-    ∙ onward (with_comma register (front ++ codes "," ∷ behind)) _ (record { value = dst; rest = behind }) _
-    (comma_given register register_reads dst front behind h)
-    (comma_first (operand_in behind) further
+    ∙ onward (with_comma register (front ++ codes "," ∷ after)) _ (record { value = dst; rest = after }) _
+    (comma_given register register_reads dst front after h)
+    (comma_first (operand_in after) further
     ∙ ap (λ (us : List Token). with_comma operand_in us >>= further) again
     ∙ onward (with_comma operand_in (middle ++ codes "," ∷ rest)) further (record { value = o; rest = rest }) _
     (comma_given operand_in operand_reads o middle rest k)

@@ -100,8 +100,8 @@ module _ {X Y : Type 0} (first : Reader X) (second : Reader Y) {A : X → List T
   pair_taken made ts z e =
       let read = bound (with_comma first ts) _ z e in
       let found = comma_taken first first_reads ts read.0 read.1 in
-      let behind = last_taken second second_reads (made read.0.value) read.0.rest z read.2 in
-      (read.0.value, behind.0, (found.0, read.0.rest, found.1, found.2, behind.1), behind.2)
+      let after = last_taken second second_reads (made read.0.value) read.0.rest z read.2 in
+      (read.0.value, after.0, (found.0, read.0.rest, found.1, found.2, after.1), after.2)
 
   -- two values that are all of the tokens are read
   pub pair_given : {Z : Type 0} (made : X → Y → Z) (x : X) (y : Y) (ts : List Token) → Separated A B x y ts

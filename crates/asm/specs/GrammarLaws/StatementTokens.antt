@@ -89,8 +89,8 @@ written_tokens (Plain (Integer n)) ts h = integer_tokens n ts h
 written_tokens (Plain (Natural n)) ts (t, is, h) = subst AreOfArguments (sym is) (number_tokens n t h, tt)
 written_tokens (Plain (Address base displacement)) ts (signed, h, is) =
     let number = signed_tokens displacement signed h in
-    let behind = each_append IsOfArguments signed (codes "]" ∷ []) number (closing, tt) in
-    subst AreOfArguments (sym is) (opening, (register_token base, behind))
+    let after = each_append IsOfArguments signed (codes "]" ∷ []) number (closing, tt) in
+    subst AreOfArguments (sym is) (opening, (register_token base, after))
 written_tokens (Plain (Distance n)) ts h = signed_tokens n ts h
 written_tokens (Label name) ts h =
     subst AreOfArguments (sym h.0) (word_of_arguments name (name_is_word name h.1), tt)
@@ -100,8 +100,8 @@ pub arguments_tokens : (ws : List Written) (ts : List Token) → AreWritten ws t
 arguments_tokens [] ts h = subst AreOfArguments (sym h) tt
 arguments_tokens (w ∷ []) ts h = written_tokens w ts h
 arguments_tokens (w ∷ v ∷ ws) ts (front, rest, split, h, k) =
-    let behind : AreOfArguments (codes "," ∷ rest) = (comma, arguments_tokens (v ∷ ws) rest k) in
-    subst AreOfArguments (sym split) (each_append IsOfArguments front _ (written_tokens w front h) behind)
+    let after : AreOfArguments (codes "," ∷ rest) = (comma, arguments_tokens (v ∷ ws) rest k) in
+    subst AreOfArguments (sym split) (each_append IsOfArguments front _ (written_tokens w front h) after)
 
 -- ---- statements
 

@@ -35,9 +35,9 @@ label_taken t ts rest s colon e =
     let n = bound (name_in t) _ s e in
     let done = bound (end rest) _ s n.2 in
     let name = named_name t n.0 n.1 in
-    let behind : ts ≡ codes ":" ∷ [] = colon ∙ ap (λ (us : List Token). codes ":" ∷ us) (no_more rest done.1) in
+    let after : ts ≡ codes ":" ∷ [] = colon ∙ ap (λ (us : List Token). codes ":" ∷ us) (no_more rest done.1) in
     let all : t ∷ ts ≡ n.0 ∷ codes ":" ∷ [] =
-    ap (λ (u : Token). u ∷ ts) name.0 ∙ ap (λ (us : List Token). n.0 ∷ us) behind in
+    ap (λ (u : Token). u ∷ ts) name.0 ∙ ap (λ (us : List Token). n.0 ∷ us) after in
     subst (λ (x : Statement). Says (Some x) (t ∷ ts)) (same_Some _ s done.2) (all, name.1)
 
 -- likewise a label or an instruction, as the second token says

@@ -5,7 +5,7 @@ use Rattle.std.specs.List.{AllByRecursion}
 use Rattle.std.proofs.lemmas.Bool.{cases_Bool, cond-true, cond-false, eqb-true, false≢true}
 use Rattle.std.proofs.lemmas.Bool.Decides.{nat_tests}
 use Rattle.asm.specs.Lines.{Token, is_blank, is_in_words, is_sign, IsWord, IsSign, Piece, Blank, Lexeme, piece_text, IsPiece, AreApart, tokens_in, IsComment, HasTokens}
-use Rattle.asm.specs.Reading.{with_word, tokens_behind, tokens_of}
+use Rattle.asm.specs.Reading.{with_word, following_tokens, tokens_of}
 use Rattle.asm.specs.GrammarLaws.Steps.{each_append}
 use Rattle.asm.specs.GrammarLaws.StatementTokens.{AreProper}
 
@@ -65,14 +65,14 @@ EndsWord (c ∷ rest) = is_in_words c ≡ false
 
 -- the characters of a word join the word
 word_on : (front word rest : List ℕ) → AreOfWords word
-    → tokens_behind front (word ++ rest) ≡ tokens_behind (front ++ word) rest
-word_on front [] rest h = ap (λ (w : List ℕ). tokens_behind w rest) (sym (append-nil front))
+    → following_tokens front (word ++ rest) ≡ following_tokens (front ++ word) rest
+word_on front [] rest h = ap (λ (w : List ℕ). following_tokens w rest) (sym (append-nil front))
 word_on front (c ∷ word) rest h =
     cond-true (is_in_words c) _ _ h.0 ∙ word_on (front ++ c ∷ []) word rest h.1
-    ∙ ap (λ (w : List ℕ). tokens_behind w rest) (append_assoc front (c ∷ []) word)
+    ∙ ap (λ (w : List ℕ). following_tokens w rest) (append_assoc front (c ∷ []) word)
 
 -- a word that ends is a token, if it has a character
-word_ended : (word line : List ℕ) → EndsWord line → tokens_behind word line ≡ with_word word (tokens_of line)
+word_ended : (word line : List ℕ) → EndsWord line → following_tokens word line ≡ with_word word (tokens_of line)
 word_ended word [] h = refl
 word_ended word (c ∷ rest) h =
     cond-false (is_in_words c) _ _ h ∙ ap (with_word word) (sym (cond-false (is_in_words c) _ _ h))
@@ -89,10 +89,10 @@ word_read t line h k = word_on [] t line h.1 ∙ word_ended t line k ∙ ended_w
 -- ---- from the pieces of a line to its tokens
 
 -- what follows a piece stands apart
-apart_behind : (t : Token) (more : List Piece) → AreApart (Lexeme t ∷ more) → AreApart more
-apart_behind t [] h = tt
-apart_behind t (Blank c ∷ more) h = h
-apart_behind t (Lexeme u ∷ more) h = h.1
+apart_after : (t : Token) (more : List Piece) → AreApart (Lexeme t ∷ more) → AreApart more
+apart_after t [] h = tt
+apart_after t (Blank c ∷ more) h = h
+apart_after t (Lexeme u ∷ more) h = h.1
 
 -- a word ends before a comment
 ends_at_comment : (comment : List ℕ) → IsComment comment → EndsWord comment
@@ -120,15 +120,15 @@ pieces_read (Blank c ∷ more) comment proper apart ends =
     blank_read c (flat_map piece_text more ++ comment) proper.0 ∙ pieces_read more comment proper.1 apart ends
 pieces_read (Lexeme t ∷ more) comment proper apart ends =
     let text : List ℕ = flat_map piece_text more in
-    let behind = pieces_read more comment proper.1 (apart_behind t more apart) ends in
+    let after = pieces_read more comment proper.1 (apart_after t more apart) ends in
     elim proper.0 [
       | inl word ↦
           ap tokens_of (append_assoc t text comment)
           ∙ word_read t (text ++ comment) word (ends_at_pieces t more comment word proper.1 apart ends)
-          ∙ ap (λ (ts : List Token). t ∷ ts) behind
+          ∙ ap (λ (ts : List Token). t ∷ ts) after
       | inr sign ↦
           ap (λ (u : Token). tokens_of ((u ++ text) ++ comment)) sign.1 ∙ sign_read sign.0 (text ++ comment) sign.2
-          ∙ ap (λ (u : Token). u ∷ tokens_of (text ++ comment)) (sym sign.1) ∙ ap (λ (ts : List Token). t ∷ ts) behind
+          ∙ ap (λ (u : Token). u ∷ tokens_of (text ++ comment)) (sym sign.1) ∙ ap (λ (ts : List Token). t ∷ ts) after
     ]
 
 -- the tokens that a line has, the reader finds
@@ -223,9 +223,9 @@ word_first (c ∷ word) line ts h has = record {
 }
 
 -- the grammar has the tokens after a word
-proper_behind : (word : Token) (ts : List Token) → AreProper (with_word word ts) → AreProper ts
-proper_behind [] ts h = h
-proper_behind (c ∷ word) ts h = h.1
+proper_after : (word : Token) (ts : List Token) → AreProper (with_word word ts) → AreProper ts
+proper_after [] ts h = h
+proper_after (c ∷ word) ts h = h.1
 
 -- a character that is none of words, before a line
 other_first : (c : ℕ) (rest : List ℕ) → is_in_words c ≡ false → AreProper (tokens_at c rest)
@@ -252,23 +252,23 @@ other_first c rest e proper had = elim (cases_Bool (c == 59)) [
 ]
 
 -- the tokens after the beginning of a word, the word and the rest of the line have
-found_behind : (word line : List ℕ) → AreOfWords word → AreProper (tokens_behind word line)
-    → HasTokens (word ++ line) (tokens_behind word line)
-found_behind word [] h proper = word_first word [] [] h (only_comment [] tt)
-found_behind word (c ∷ rest) h proper = elim (cases_Bool (is_in_words c)) [
+found_after : (word line : List ℕ) → AreOfWords word → AreProper (following_tokens word line)
+    → HasTokens (word ++ line) (following_tokens word line)
+found_after word [] h proper = word_first word [] [] h (only_comment [] tt)
+found_after word (c ∷ rest) h proper = elim (cases_Bool (is_in_words c)) [
   | inl more ↦
-      let is : tokens_behind word (c ∷ rest) ≡ tokens_behind (word ++ c ∷ []) rest =
+      let is : following_tokens word (c ∷ rest) ≡ following_tokens (word ++ c ∷ []) rest =
       cond-true (is_in_words c) _ _ more in
       let all : AreOfWords (word ++ c ∷ []) = each_append (λ d. is_in_words d ≡ true) word (c ∷ []) h (more, tt) in
-      let has = found_behind (word ++ c ∷ []) rest all (subst AreProper is proper) in
+      let has = found_after (word ++ c ∷ []) rest all (subst AreProper is proper) in
       subst₂ HasTokens (append_assoc word (c ∷ []) rest) (sym is) has
   | inr other ↦
-      let is : tokens_behind word (c ∷ rest) ≡ with_word word (tokens_at c rest) = cond-false (is_in_words c) _ _ other in
-      let behind : AreProper (tokens_at c rest) = proper_behind word (tokens_at c rest) (subst AreProper is proper) in
-      let has = other_first c rest other behind (λ good. found_behind [] rest tt good) in
+      let is : following_tokens word (c ∷ rest) ≡ with_word word (tokens_at c rest) = cond-false (is_in_words c) _ _ other in
+      let after : AreProper (tokens_at c rest) = proper_after word (tokens_at c rest) (subst AreProper is proper) in
+      let has = other_first c rest other after (λ good. found_after [] rest tt good) in
       subst (HasTokens (word ++ c ∷ rest)) (sym is) (word_first word (c ∷ rest) (tokens_at c rest) h has)
 ]
 
 -- the tokens that the reader finds in a line, the line has, where each is one of the grammar
 pub found_is_had : (line : List ℕ) → AreProper (tokens_of line) → HasTokens line (tokens_of line)
-found_is_had line proper = found_behind [] line tt proper
+found_is_had line proper = found_after [] line tt proper

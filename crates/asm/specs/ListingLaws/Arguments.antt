@@ -3,7 +3,7 @@ use Rattle.std.proofs.Common.{◌≡◌, ◌<◌, ◌^◌, ℕ, suc, ℤ, pos, n
 use Rattle.std.specs.Prelude.{codes, decimal}
 use Rattle.std.specs.Fmt.{signed_decimal}
 use Rattle.std.specs.List.{AllByRecursion}
-use Rattle.insn.specs.Spelling.{Argument, Register, Integer, Natural, Address, Distance, register_name, with_sign, argument_text, arguments_behind}
+use Rattle.insn.specs.Spelling.{Argument, Register, Integer, Natural, Address, Distance, register_name, with_sign, argument_text, following_arguments}
 use Rattle.insn.specs.declared.register.Reg.{Reg}
 use Rattle.asm.specs.Lines.{Token, IsWord}
 use Rattle.asm.specs.Statements.{IsSigned, IsInteger, Plain, IsWritten, AreWritten, spelling_of}
@@ -38,11 +38,11 @@ word_gives : (t : Token) → IsWord t → Gives t (t ∷ [])
 word_gives t h = λ line k. word_read t line h k
 
 -- the tokens of two texts, where no word goes on in the second
-joined : (text more : List ℕ) (front behind : List Token) → Gives text front → Gives more behind
-    → ((line : List ℕ) → EndsWord line → EndsWord (more ++ line)) → Gives (text ++ more) (front ++ behind)
-joined text more front behind h k ends = λ line e.
+joined : (text more : List ℕ) (front after : List Token) → Gives text front → Gives more after
+    → ((line : List ℕ) → EndsWord line → EndsWord (more ++ line)) → Gives (text ++ more) (front ++ after)
+joined text more front after h k ends = λ line e.
     ap tokens_of (append_assoc text more line) ∙ h (more ++ line) (ends line e)
-    ∙ ap (λ (ts : List Token). front ++ ts) (k line e) ∙ sym (append_assoc front behind (tokens_of line))
+    ∙ ap (λ (ts : List Token). front ++ ts) (k line e) ∙ sym (append_assoc front after (tokens_of line))
 
 -- the token of a number
 number_gives : (n : ℕ) → n < 2 ^ 64 → Gives (decimal n) (decimal n ∷ [])
@@ -126,38 +126,38 @@ with_first a [] front ts h k =
 with_first a (b ∷ more) front ts h (rest, split, k) = (front, rest, ap (λ (us : List Token). front ++ us) split, h, k)
 
 -- a word ends before the further arguments
-ends_at_comma : (more : List Argument) → EndsWord (arguments_behind (codes ", ") more)
+ends_at_comma : (more : List Argument) → EndsWord (following_arguments (codes ", ") more)
 ends_at_comma [] = tt
 ends_at_comma (a ∷ more) = refl
 
 -- the tokens of an argument and of the further ones
 first_written : (a : Argument) (more : List Argument) → IsSmall a
-    → AreFurther more (tokens_of (arguments_behind (codes ", ") more))
-    → AreWritten (map (spelling_of None) (a ∷ more)) (tokens_of (argument_text a ++ arguments_behind (codes ", ") more))
+    → AreFurther more (tokens_of (following_arguments (codes ", ") more))
+    → AreWritten (map (spelling_of None) (a ∷ more)) (tokens_of (argument_text a ++ following_arguments (codes ", ") more))
 first_written a more small h =
-    let text : List ℕ = arguments_behind (codes ", ") more in
+    let text : List ℕ = following_arguments (codes ", ") more in
     let first = argument_given a small in
     subst (AreWritten (map (spelling_of None) (a ∷ more))) (sym (first.1 text (ends_at_comma more)))
     (with_first a more first.0 (tokens_of text) first.2 h)
 
 -- the tokens of the further arguments
 further_written : (more : List Argument) → AllByRecursion IsSmall more
-    → AreFurther more (tokens_of (arguments_behind (codes ", ") more))
+    → AreFurther more (tokens_of (following_arguments (codes ", ") more))
 further_written [] small = refl
 further_written (a ∷ more) small = (
-  tokens_of (argument_text a ++ arguments_behind (codes ", ") more),
+  tokens_of (argument_text a ++ following_arguments (codes ", ") more),
   refl,
   first_written a more small.0 (further_written more small.1),
 )
 
 -- the tokens of the arguments after a mnemonic
 pub arguments_written : (all : List Argument) → AllByRecursion IsSmall all
-    → AreWritten (map (spelling_of None) all) (tokens_of (arguments_behind (codes " ") all))
+    → AreWritten (map (spelling_of None) all) (tokens_of (following_arguments (codes " ") all))
 arguments_written [] small = refl
 arguments_written (a ∷ more) small = first_written a more small.0 (further_written more small.1)
 
 -- a word ends before them
-pub ends_at_arguments : (all : List Argument) → EndsWord (arguments_behind (codes " ") all)
+pub ends_at_arguments : (all : List Argument) → EndsWord (following_arguments (codes " ") all)
 ends_at_arguments [] = tt
 ends_at_arguments (a ∷ more) = refl
 
@@ -199,9 +199,9 @@ argument_has_no_feed (Distance n) h = signed_has_no_feed n h
 
 -- nor some arguments
 pub arguments_have_no_feed : (before : List ℕ) (all : List Argument) → HasNoFeed before → AllByRecursion IsSmall all
-    → HasNoFeed (arguments_behind before all)
+    → HasNoFeed (following_arguments before all)
 arguments_have_no_feed before [] h small = tt
 arguments_have_no_feed before (a ∷ more) h small =
     let further = arguments_have_no_feed (codes ", ") more (refl, (refl, tt)) small.1 in
     let first = both_have_no_feed before (argument_text a) h (argument_has_no_feed a small.0) in
-    both_have_no_feed (before ++ argument_text a) (arguments_behind (codes ", ") more) first further
+    both_have_no_feed (before ++ argument_text a) (following_arguments (codes ", ") more) first further

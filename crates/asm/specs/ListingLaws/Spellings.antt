@@ -2,7 +2,7 @@
 use Rattle.std.proofs.Common.{Some, None, refl, subst}
 use Rattle.std.specs.Prelude.{codes}
 use Rattle.std.specs.List.{AllByRecursion}
-use Rattle.insn.specs.Spelling.{argument_of, mnemonic, arguments, arguments_behind, spelling}
+use Rattle.insn.specs.Spelling.{argument_of, mnemonic, arguments, following_arguments, spelling}
 use Rattle.insn.specs.Encoding.{OperandFits, Fits}
 use Rattle.insn.specs.declared.instruction.Operand.{Operand}
 use Rattle.insn.specs.declared.instruction.Operand.TheVariants as operand
@@ -56,8 +56,8 @@ mnemonic_word i = subst IsWord (name_of-mnemonic_of i) (mnemonic_is_word (mnemon
 spelling_is_instruction : (i : Insn) → Fits i → IsInstruction i None (tokens_of (spelling i))
 spelling_is_instruction i fits = record {
   unlinked = tt;
-  rest = tokens_of (arguments_behind (codes " ") (arguments i));
-  begun = word_read (mnemonic i) (arguments_behind (codes " ") (arguments i)) (mnemonic_word i)
+  rest = tokens_of (following_arguments (codes " ") (arguments i));
+  begun = word_read (mnemonic i) (following_arguments (codes " ") (arguments i)) (mnemonic_word i)
       (ends_at_arguments (arguments i));
   written = arguments_written (arguments i) (arguments_are_small i fits);
 }
@@ -73,5 +73,5 @@ spelling_means i fits =
 pub spelling_has_no_feed : (i : Insn) → Fits i → HasNoFeed (spelling i)
 spelling_has_no_feed i fits =
     let all = arguments_are_small i fits in
-    both_have_no_feed (mnemonic i) (arguments_behind (codes " ") (arguments i))
+    both_have_no_feed (mnemonic i) (following_arguments (codes " ") (arguments i))
     (word_has_no_feed (mnemonic i) (mnemonic_word i)) (arguments_have_no_feed (codes " ") (arguments i) (refl, tt) all)

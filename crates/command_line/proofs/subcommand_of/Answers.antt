@@ -1,7 +1,7 @@
 use Rattle.std.proofs.Common.{Some, None, codes, inl, inr, sym}
 use Rattle.clap.specs.Words.{found_of, rows_of}
 use Rattle.command_line.specs.Subcommands.{IsNoSubcommand}
-use Rattle.command_line.proofs.Subcommands.{one_met, any_met, read, read_as, lacks_events, lacks_file, lacks_files, no_server_met, server_met}
+use Rattle.command_line.proofs.Subcommands.{one_met, any_met, read, read_as, read_flag, lacks_events, lacks_file, lacks_files, no_server_met, server_met}
 use Rattle.command_line.proofs.subcommand_of.Goals as goal
 
 pub returns-in_err-input-in-assemble-clause-none : goal.returns-in_err-input-in-assemble-clause-none
@@ -36,8 +36,14 @@ returns-in_ok-output-in-assemble-clause-found c =
 
 pub returns-in_ok-file-in-disassemble-clause-found : goal.returns-in_ok-file-in-disassemble-clause-found
 returns-in_ok-file-in-disassemble-clause-found c =
-    one_met c.args.matches.now c.in_ok-name.name.now (found_of c.in_ok-name.matches.now) _ c.in_ok-name.ensures.name c.in_ok-name.ensures.rows
-    (c.in-disassemble.is, read_as (found_of c.in_ok-name.matches.now) (codes "file") _ (Some c.in_ok-file-in-disassemble.file) c.get_str-in-disassemble.ensures c.in_ok-file-in-disassemble.was)
+    let found = found_of c.in_ok-name.matches.now in
+    let file = c.in_ok-file-in-disassemble in
+    let flag = c.get_flag-slots in
+    one_met c.args.matches.now c.in_ok-name.name.now found _ c.in_ok-name.ensures.name c.in_ok-name.ensures.rows (
+      c.in-disassemble.is,
+      read_as found (codes "file") _ (Some file.file) c.get_str-in-disassemble.ensures file.was,
+      read_flag found (codes "slots") flag.result flag.ensures.none flag.ensures.value flag.ensures.other,
+    )
 
 pub returns-in_ok-file-in-verify-clause-found : goal.returns-in_ok-file-in-verify-clause-found
 returns-in_ok-file-in-verify-clause-found c =

@@ -48,108 +48,82 @@ impl Helpers for OnePeer {
 /// A program that looks up, and the verdict of its run.
 #[derive(Clone, Copy)]
 struct Asked {
-    slots: &'static str,
+    text: &'static str,
     verdict: u64,
 }
 
 static ASKED: [Asked; 15] = [
-    // 16385 is 0x4001: whether it is bound, and the record of its peer: `mov r2, 16385`, `mov r3, r10`,
-    // `add r3, -8`, `call 1`
+    // whether the channel 0x4001 is bound, and the record of its peer
     Asked {
-        slots: "b702000001400000 bfa3000000000000 07030000f8ffffff 8500000001000000 \
-             9500000000000000",
+        text: "mov r2, 0x4001\nmov r3, r10\nadd r3, -8\ncall 1\nexit",
         verdict: 1,
     },
-    // `stdw [r10-8], -1`, `mov r2, 16385`, `mov r3, r10`, `add r3, -8`, `call 1`, `ldxdw r0, [r10-8]`
     Asked {
-        slots: "7a0af8ffffffffff b702000001400000 bfa3000000000000 07030000f8ffffff \
-             8500000001000000 79a0f8ff00000000 9500000000000000",
+        text: "stdw [r10-8], -1\nmov r2, 0x4001\nmov r3, r10\nadd r3, -8\ncall 1\n\
+             ldxdw r0, [r10-8]\nexit",
         verdict: 0x0702_00c0_8813_0100,
     },
-    // at the lower end of the stack: `mov r2, 16385`, `mov r3, r10`, `add r3, -512`, `call 1`,
-    // `ldxdw r0, [r10-512]`
+    // at the lower end of the stack
     Asked {
-        slots: "b702000001400000 bfa3000000000000 0703000000feffff 8500000001000000 \
-             79a000fe00000000 9500000000000000",
+        text: "mov r2, 0x4001\nmov r3, r10\nadd r3, -512\ncall 1\nldxdw r0, [r10-512]\nexit",
         verdict: 0x0702_00c0_8813_0100,
     },
-    // the byte after the record stays: `stb [r10-1], 7`, `mov r2, 16385`, `mov r3, r10`, `add r3, -9`,
-    // `call 1`, `ldxb r0, [r10-1]`
+    // the byte after the record stays
     Asked {
-        slots: "720affff07000000 b702000001400000 bfa3000000000000 07030000f7ffffff \
-             8500000001000000 71a0ffff00000000 9500000000000000",
+        text: "stb [r10-1], 7\nmov r2, 0x4001\nmov r3, r10\nadd r3, -9\ncall 1\nldxb r0, [r10-1]\nexit",
         verdict: 7,
     },
-    // another channel: 0, and a record of zeros: `mov r2, 16386`, `mov r3, r10`, `add r3, -8`, `call 1`
+    // another channel: 0, and a record of zeros
     Asked {
-        slots: "b702000002400000 bfa3000000000000 07030000f8ffffff 8500000001000000 \
-             9500000000000000",
+        text: "mov r2, 0x4002\nmov r3, r10\nadd r3, -8\ncall 1\nexit",
         verdict: 0,
     },
-    // `stdw [r10-8], -1`, `mov r2, 16386`, `mov r3, r10`, `add r3, -8`, `call 1`, `ldxdw r0, [r10-8]`
     Asked {
-        slots: "7a0af8ffffffffff b702000002400000 bfa3000000000000 07030000f8ffffff \
-             8500000001000000 79a0f8ff00000000 9500000000000000",
+        text: "stdw [r10-8], -1\nmov r2, 0x4002\nmov r3, r10\nadd r3, -8\ncall 1\n\
+             ldxdw r0, [r10-8]\nexit",
         verdict: 0,
     },
-    // a number of more than 32 bits: `lddw r2, 0x100004001`, `mov r3, r10`, `add r3, -8`, `call 1`
+    // a number of more than 32 bits
     Asked {
-        slots: "1802000001400000 0000000001000000 bfa3000000000000 07030000f8ffffff \
-             8500000001000000 9500000000000000",
+        text: "lddw r2, 0x100004001\nmov r3, r10\nadd r3, -8\ncall 1\nexit",
         verdict: 0,
     },
-    // the channel of the peer, and none for another port or another address: `lddw r3, 0x070200c088130100`,
-    // `stxdw [r10-8], r3`, `mov r2, r10`, `add r2, -8`, `call 2`
+    // the channel of the peer, and none for another port or another address
     Asked {
-        slots: "1803000000011388 00000000c0000207 7b3af8ff00000000 bfa2000000000000 \
-             07020000f8ffffff 8500000002000000 9500000000000000",
+        text: "lddw r3, 0x070200c088130100\nstxdw [r10-8], r3\nmov r2, r10\nadd r2, -8\ncall 2\nexit",
         verdict: 0x4001,
     },
-    // `lddw r3, 0x070200c089130100`, `stxdw [r10-8], r3`, `mov r2, r10`, `add r2, -8`, `call 2`
     Asked {
-        slots: "1803000000011389 00000000c0000207 7b3af8ff00000000 bfa2000000000000 \
-             07020000f8ffffff 8500000002000000 9500000000000000",
+        text: "lddw r3, 0x070200c089130100\nstxdw [r10-8], r3\nmov r2, r10\nadd r2, -8\ncall 2\nexit",
         verdict: 0,
     },
-    // `lddw r3, 0x080200c088130100`, `stxdw [r10-8], r3`, `mov r2, r10`, `add r2, -8`, `call 2`
     Asked {
-        slots: "1803000000011388 00000000c0000208 7b3af8ff00000000 bfa2000000000000 \
-             07020000f8ffffff 8500000002000000 9500000000000000",
+        text: "lddw r3, 0x080200c088130100\nstxdw [r10-8], r3\nmov r2, r10\nadd r2, -8\ncall 2\nexit",
         verdict: 0,
     },
-    // the permission of its address, which is for every port: `lddw r3, 0x070200c088130100`,
-    // `stxdw [r10-8], r3`, `mov r2, r10`, `add r2, -8`, `call 3`
+    // the permission of its address, which is for every port
     Asked {
-        slots: "1803000000011388 00000000c0000207 7b3af8ff00000000 bfa2000000000000 \
-             07020000f8ffffff 8500000003000000 9500000000000000",
+        text: "lddw r3, 0x070200c088130100\nstxdw [r10-8], r3\nmov r2, r10\nadd r2, -8\ncall 3\nexit",
         verdict: 1,
     },
-    // `lddw r3, 0x070200c089130100`, `stxdw [r10-8], r3`, `mov r2, r10`, `add r2, -8`, `call 3`
     Asked {
-        slots: "1803000000011389 00000000c0000207 7b3af8ff00000000 bfa2000000000000 \
-             07020000f8ffffff 8500000003000000 9500000000000000",
+        text: "lddw r3, 0x070200c089130100\nstxdw [r10-8], r3\nmov r2, r10\nadd r2, -8\ncall 3\nexit",
         verdict: 1,
     },
-    // `lddw r3, 0x080200c088130100`, `stxdw [r10-8], r3`, `mov r2, r10`, `add r2, -8`, `call 3`
     Asked {
-        slots: "1803000000011388 00000000c0000208 7b3af8ff00000000 bfa2000000000000 \
-             07020000f8ffffff 8500000003000000 9500000000000000",
+        text: "lddw r3, 0x080200c088130100\nstxdw [r10-8], r3\nmov r2, r10\nadd r2, -8\ncall 3\nexit",
         verdict: 0,
     },
-    // what one helper writes, the next one reads: `mov r6, r1`, `mov r2, 16385`, `mov r3, r10`, `add r3, -8`,
-    // `call 1`, `mov r1, r6`, `mov r2, r10`, `add r2, -8`, `call 2`
+    // what one helper writes, the next one reads
     Asked {
-        slots: "bf16000000000000 b702000001400000 bfa3000000000000 07030000f8ffffff \
-             8500000001000000 bf61000000000000 bfa2000000000000 07020000f8ffffff \
-             8500000002000000 9500000000000000",
+        text: "mov r6, r1\nmov r2, 0x4001\nmov r3, r10\nadd r3, -8\ncall 1\n\
+             mov r1, r6\nmov r2, r10\nadd r2, -8\ncall 2\nexit",
         verdict: 0x4001,
     },
-    // and may be set as the destination: `mov r6, r1`, `mov r2, 16385`, `mov r3, r10`, `add r3, -8`, `call 1`,
-    // `mov r1, r6`, `mov r2, r10`, `add r2, -8`, `call 5`
+    // and may be set as the destination
     Asked {
-        slots: "bf16000000000000 b702000001400000 bfa3000000000000 07030000f8ffffff \
-             8500000001000000 bf61000000000000 bfa2000000000000 07020000f8ffffff \
-             8500000005000000 9500000000000000",
+        text: "mov r6, r1\nmov r2, 0x4001\nmov r3, r10\nadd r3, -8\ncall 1\n\
+             mov r1, r6\nmov r2, r10\nadd r2, -8\ncall 5\nexit",
         verdict: 0,
     },
 ];
@@ -157,18 +131,16 @@ static ASKED: [Asked; 15] = [
 /// Runs each row from a client, and compares the verdict.
 fn expect_verdicts<R: Abort + AllocGlobal>(rt: &R, rows: &[Asked]) -> Result<(), Fail> {
     for (i, row) in rows.iter().enumerate() {
-        let slots = row.slots;
-        let outcome = outcome_of(rt, slots, &CLIENT, &[], &OnePeer)?;
-        assert_eq!(rt; outcome.verdict, row.verdict, "{i}: {slots}");
+        let text = row.text;
+        let outcome = outcome_of(rt, text, &CLIENT, &[], &OnePeer)?;
+        assert_eq!(rt; outcome.verdict, row.verdict, "{i}: {text:?}");
     }
     Ok(())
 }
 
-/// The record that a helper writes is set as the destination: `mov r6, r1`, `mov r2, 16385`, `mov r3, r10`,
-/// `add r3, -8`, `call 1`, `mov r1, r6`, `mov r2, r10`, `add r2, -8`, `call 5`, `mov r0, 2`.
-const SENDS: &str = "bf16000000000000 b702000001400000 bfa3000000000000 07030000f8ffffff \
-             8500000001000000 bf61000000000000 bfa2000000000000 07020000f8ffffff \
-             8500000005000000 b700000002000000 9500000000000000";
+/// The record that a helper writes is set as the destination.
+const SENDS: &str = "mov r6, r1\nmov r2, 0x4001\nmov r3, r10\nadd r3, -8\ncall 1\n\
+     mov r1, r6\nmov r2, r10\nadd r2, -8\ncall 5\nmov r0, 2\nexit";
 
 /// Runs it from a client, and from a peer, where no destination is set.
 fn expect_destinations<R: Abort + AllocGlobal>(rt: &R) -> Result<(), Fail> {

@@ -1,6 +1,6 @@
 //! How instructions are spelled, and which file is refused by which refusal of a decoder.
 
-use super::program;
+use super::decoded;
 use disasm::disassemble;
 use insn::{Insn, decode, encode, read_back};
 use machine::{Lines, Sink};
@@ -237,7 +237,7 @@ fn expect_traced<R: Abort + AllocGlobal>(rt: &R, code: &[Insn], text: &str) -> R
 fn expect_lines<R: Abort + AllocGlobal>(rt: &R, rows: &[Spelled]) -> Result<(), Fail> {
     for (i, row) in rows.iter().enumerate() {
         let lines = row.lines;
-        let file = program(rt, row.slots)?;
+        let file = decoded(rt, row.slots)?;
         let code = decode(rt.alloc(), &file)?;
         let text = disassemble(rt.alloc(), &code)?;
         assert_eq!(rt; text.as_str(), lines, "{i}");

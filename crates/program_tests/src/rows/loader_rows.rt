@@ -3,7 +3,7 @@
 use super::insn_rows::UNDECODED;
 use super::semantics_rows::{calls, context, memory};
 use super::verifier_rows::{PROGRAMS, REPEATED, Repeated};
-use super::{Expected, expect_printed, program, reported};
+use super::{Expected, assembled, decoded, expect_printed, reported};
 use loader::load;
 use report::Ask;
 use std::process::Abort;
@@ -31,30 +31,42 @@ fn expect<R: Abort + AllocGlobal>(rt: &R, row: &str, file: &[u8], line: &str) ->
     Ok(())
 }
 
-/// Does so with each file of a table.
+/// Does so with each file that encodes no program, which is slots in hexadecimal digits.
+fn expect_each_undecoded<R: Abort + AllocGlobal>(
+    rt: &R,
+    rows: &[(&str, &str)],
+) -> Result<(), Fail> {
+    for (i, &(slots, line)) in rows.iter().enumerate() {
+        let row = format!(in rt.alloc(); "undecoded {i}: {slots}")?;
+        expect(rt, &row, &decoded(rt, slots)?, line)?;
+    }
+    Ok(())
+}
+
+/// Does so with each program of a table.
 fn expect_each<R: Abort + AllocGlobal>(
     rt: &R,
     table: &str,
     rows: &[(&str, &str)],
 ) -> Result<(), Fail> {
-    for (i, &(slots, line)) in rows.iter().enumerate() {
-        let row = format!(in rt.alloc(); "{table} {i}: {slots}")?;
-        expect(rt, &row, &program(rt, slots)?, line)?;
+    for (i, &(text, line)) in rows.iter().enumerate() {
+        let row = format!(in rt.alloc(); "{table} {i}: {text:?}")?;
+        expect(rt, &row, &assembled(rt, text)?, line)?;
     }
     Ok(())
 }
 
-/// Does so with each file in which slots are repeated.
+/// Does so with each program in which a text is repeated.
 fn expect_each_repeated<R: Abort + AllocGlobal>(rt: &R, rows: &[Repeated]) -> Result<(), Fail> {
     for (i, row) in rows.iter().enumerate() {
         let (body, times) = (row.body, row.times);
-        let mut file = program(rt, row.head)?;
-        let slots = program(rt, body)?;
+        let mut file = assembled(rt, row.head)?;
+        let part = assembled(rt, body)?;
         for _ in 0..times {
-            file.extend_from_slice(&slots)?;
+            file.extend_from_slice(&part)?;
         }
-        file.extend_from_slice(&program(rt, row.tail)?)?;
-        let name = format!(in rt.alloc(); "repeated {i}: {times} times {body}")?;
+        file.extend_from_slice(&assembled(rt, row.tail)?)?;
+        let name = format!(in rt.alloc(); "repeated {i}: {times} times {body:?}")?;
         expect(rt, &name, &file, row.line)?;
     }
     Ok(())
@@ -63,9 +75,8 @@ fn expect_each_repeated<R: Abort + AllocGlobal>(rt: &R, rows: &[Repeated]) -> Re
 /// Makes a program of 4,013 slots with five jumps `jset r2, 1, +1` on a number that may be anything. Each goes over an
 /// addition of another power of two, so that 32 paths reach the rest, 4,000 moves and an exit, no two in one state.
 fn many_paths<R: AllocGlobal>(rt: &R) -> Result<Vec<u8>, Fail> {
-    // `ldxdw r2, [r1+16]`, `mov r0, 0`
-    let mut file = program(rt, "7912100000000000 b700000000000000")?;
-    let jump = program(rt, "4502010001000000")?;
+    let mut file = assembled(rt, "ldxdw r2, [r1+16]\nmov r0, 0")?;
+    let jump = assembled(rt, "jset r2, 1, +1")?;
     let mut power: u32 = 1;
     for _ in 0..5 {
         file.extend_from_slice(&jump)?;
@@ -73,17 +84,17 @@ fn many_paths<R: AllocGlobal>(rt: &R) -> Result<Vec<u8>, Fail> {
         file.extend_from_slice(&power.to_le_bytes())?;
         power = power.wrapping_mul(2);
     }
-    let step = program(rt, "b703000000000000")?;
+    let step = assembled(rt, "mov r3, 0")?;
     for _ in 0..4000 {
         file.extend_from_slice(&step)?;
     }
-    file.extend_from_slice(&program(rt, "9500000000000000")?)?;
+    file.extend_from_slice(&assembled(rt, "exit")?)?;
     Ok(file)
 }
 
 #[test]
 fn files_are_verified_and_loaded(rt: HostRuntime) -> Result<(), Fail> {
-    expect_each(&rt, "undecoded", UNDECODED.as_slice())?;
+    expect_each_undecoded(&rt, UNDECODED.as_slice())?;
     expect_each(&rt, "programs", PROGRAMS.as_slice())?;
     expect_each(&rt, "memory, accepted", memory::ACCEPTED.as_slice())?;
     expect_each(&rt, "memory, refused", memory::REFUSED.as_slice())?;

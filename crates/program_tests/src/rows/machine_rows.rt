@@ -7,8 +7,8 @@ mod memory;
 use super::semantics_rows::{calls, context, memory as stores};
 use super::verifier_rows::PROGRAMS;
 use super::{
-    CLIENT, Expected, FIFTH_BYTE, FIFTH_BYTE_CHECKED, FOURTH_BYTE, PEER, Traced, expect_ends,
-    expect_printed, program, reported, start_on,
+    CLIENT, Expected, FIFTH_BYTE, FIFTH_BYTE_CHECKED, FOURTH_BYTE, PEER, Traced, assembled,
+    decoded, expect_ends, expect_printed, reported, start_on,
 };
 use insn::Insn;
 use loader::load;
@@ -24,152 +24,152 @@ use verifier::Verified;
 
 static TRACED: [Traced; 24] = [
     Traced {
-        slots: FOURTH_BYTE,
+        text: FOURTH_BYTE,
         hex: "01020304",
         end: "0 ldxdw r2, [r1+0]\n1 ldxdw r3, [r1+8]\n2 mov r4, r2\n3 add r4, 4\n4 mov r0, 0\n\
              5 jgt r4, r3, +1\n6 ldxb r0, [r2+3]\n7 exit\nexit 4\nwindow none\ndestination none\n",
         status: 0,
     },
     Traced {
-        slots: FOURTH_BYTE,
+        text: FOURTH_BYTE,
         hex: "010203",
         end: "0 ldxdw r2, [r1+0]\n1 ldxdw r3, [r1+8]\n2 mov r4, r2\n3 add r4, 4\n4 mov r0, 0\n\
              5 jgt r4, r3, +1\n7 exit\nexit 0\nwindow none\ndestination none\n",
         status: 0,
     },
     Traced {
-        slots: FOURTH_BYTE,
+        text: FOURTH_BYTE,
         hex: "0102030405",
         end: "exit 4\nwindow none\ndestination none\n",
         status: 0,
     },
     Traced {
-        slots: FIFTH_BYTE,
+        text: FIFTH_BYTE,
         hex: "01020304",
         end: "6 ldxb r0, [r2+4]\nstuck V10 at 6\n",
         status: 1,
     },
     Traced {
-        slots: FIFTH_BYTE_CHECKED,
+        text: FIFTH_BYTE_CHECKED,
         hex: "010203",
         end: "exit 0\nwindow none\ndestination none\n",
         status: 0,
     },
     Traced {
-        slots: FIFTH_BYTE_CHECKED,
+        text: FIFTH_BYTE_CHECKED,
         hex: "01020304",
         end: "exit 0\nwindow none\ndestination none\n",
         status: 0,
     },
     Traced {
-        slots: FIFTH_BYTE_CHECKED,
+        text: FIFTH_BYTE_CHECKED,
         hex: "01020304fF",
         end: "exit 255\nwindow none\ndestination none\n",
         status: 0,
     },
     Traced {
-        slots: "b700000002000000 9500000000000000",
+        text: "mov r0, 2\nexit",
         hex: "",
         end: "exit 2\nwindow none\ndestination none\n",
         status: 0,
     },
     Traced {
-        slots: "b7000000ffffffff 9500000000000000",
+        text: "mov r0, -1\nexit",
         hex: "",
         end: "exit 18446744073709551615\nwindow none\ndestination none\n",
         status: 0,
     },
     // a step that the verifier refuses is stuck where it is reached
     Traced {
-        slots: "9500000000000000",
+        text: "exit",
         hex: "",
         end: "0 exit\nstuck V5 at 0\n",
         status: 1,
     },
     Traced {
-        slots: "0500ffff00000000 9500000000000000",
+        text: "ja -1\nexit",
         hex: "",
         end: "0 ja -1\nstuck V1 at 0\n",
         status: 1,
     },
     Traced {
-        slots: "0500010000000000 9500000000000000",
+        text: "ja +1\nexit",
         hex: "",
         end: "0 ja +1\nstuck V2 at 0\n",
         status: 1,
     },
     Traced {
-        slots: "b700000000000000",
+        text: "mov r0, 0",
         hex: "",
         end: "0 mov r0, 0\nstuck V4 at 0\n",
         status: 1,
     },
     Traced {
-        slots: "79a0f8ff00000000 9500000000000000",
+        text: "ldxdw r0, [r10-8]\nexit",
         hex: "",
         end: "0 ldxdw r0, [r10-8]\nstuck V6 at 0\n",
         status: 1,
     },
     Traced {
-        slots: "b70a000000000000 9500000000000000",
+        text: "mov r10, 0\nexit",
         hex: "",
         end: "0 mov r10, 0\nstuck V7 at 0\n",
         status: 1,
     },
     Traced {
-        slots: "79a0000000000000 9500000000000000",
+        text: "ldxdw r0, [r10+0]\nexit",
         hex: "",
         end: "0 ldxdw r0, [r10+0]\nstuck V8 at 0\n",
         status: 1,
     },
     Traced {
-        slots: "7110000000000000 9500000000000000",
+        text: "ldxb r0, [r1+0]\nexit",
         hex: "",
         end: "0 ldxb r0, [r1+0]\nstuck V9 at 0\n",
         status: 1,
     },
     Traced {
-        slots: "0701000001000000 9500000000000000",
+        text: "add r1, 1\nexit",
         hex: "",
         end: "0 add r1, 1\nstuck V11 at 0\n",
         status: 1,
     },
     Traced {
-        slots: "1501000000000000 9500000000000000",
+        text: "jeq r1, 0, +0\nexit",
         hex: "",
         end: "0 jeq r1, 0, +0\nstuck V12 at 0\n",
         status: 1,
     },
     Traced {
-        slots: "bf10000000000000 9500000000000000",
+        text: "mov r0, r1\nexit",
         hex: "",
         end: "0 mov r0, r1\n1 exit\nstuck V16 at 1\n",
         status: 1,
     },
     Traced {
-        slots: "b700000000000000 7100000000000000 9500000000000000",
+        text: "mov r0, 0\nldxb r0, [r0+0]\nexit",
         hex: "",
         end: "0 mov r0, 0\n1 ldxb r0, [r0+0]\nstuck V18 at 1\n",
         status: 1,
     },
-    // the headroom and the tailroom may be read: `ldxb r0, [r2-64]` and `ldxb r0, [r3+2]`
+    // the headroom and the tailroom may be read
     Traced {
-        slots: "7912000000000000 7120c0ff00000000 7913080000000000 7130020000000000 9500000000000000",
+        text: "ldxdw r2, [r1+0]\nldxb r0, [r2-64]\nldxdw r3, [r1+8]\nldxb r0, [r3+2]\nexit",
         hex: "ff",
         end: "exit 0\nwindow none\ndestination none\n",
         status: 0,
     },
-    // `ldxsb r0, [r2+0]` and `ldxsh r0, [r2+0]` after a check of two bytes
+    // loads with their sign, after a check of two bytes
     Traced {
-        slots: "7912000000000000 7913080000000000 bf24000000000000 0704000002000000 \
-             b700000000000000 2d34010000000000 9120000000000000 9500000000000000",
+        text: "ldxdw r2, [r1+0]\nldxdw r3, [r1+8]\nmov r4, r2\nadd r4, 2\nmov r0, 0\njgt r4, r3, +1\n\
+             ldxsb r0, [r2+0]\nexit",
         hex: "ff80",
         end: "6 ldxsb r0, [r2+0]\n7 exit\nexit 18446744073709551615\nwindow none\ndestination none\n",
         status: 0,
     },
     Traced {
-        slots: "7912000000000000 7913080000000000 bf24000000000000 0704000002000000 \
-             b700000000000000 2d34010000000000 8920000000000000 9500000000000000",
+        text: "ldxdw r2, [r1+0]\nldxdw r3, [r1+8]\nmov r4, r2\nadd r4, 2\nmov r0, 0\njgt r4, r3, +1\n\
+             ldxsh r0, [r2+0]\nexit",
         hex: "ff80",
         end: "6 ldxsh r0, [r2+0]\n7 exit\nexit 18446744073709519103\nwindow none\ndestination none\n",
         status: 0,
@@ -183,7 +183,7 @@ fn numbered<R: AllocGlobal>(rt: &R) -> Result<Vec<u8>, Fail> {
         file.extend_from_slice(&[0xb7, 0, 0, 0])?;
         file.extend_from_slice(&slot.to_le_bytes())?;
     }
-    file.extend_from_slice(&program(rt, "9500000000000000")?)?;
+    file.extend_from_slice(&assembled(rt, "exit")?)?;
     Ok(file)
 }
 
@@ -211,10 +211,10 @@ fn a_trace_prints_each_step_and_its_end(rt: HostRuntime) -> Result<(), Fail> {
     Ok(())
 }
 
-/// A program file and a datagram with the verdict of the run, and how many instructions it comes to.
+/// A program and a datagram with the verdict of the run, and how many instructions it comes to.
 #[derive(Clone, Copy)]
 struct Ran {
-    slots: &'static str,
+    text: &'static str,
     hex: &'static str,
     verdict: u64,
     steps: usize,
@@ -222,55 +222,55 @@ struct Ran {
 
 static RAN: [Ran; 9] = [
     Ran {
-        slots: FOURTH_BYTE,
+        text: FOURTH_BYTE,
         hex: "",
         verdict: 0,
         steps: 7,
     },
     Ran {
-        slots: FOURTH_BYTE,
+        text: FOURTH_BYTE,
         hex: "010203",
         verdict: 0,
         steps: 7,
     },
     Ran {
-        slots: FOURTH_BYTE,
+        text: FOURTH_BYTE,
         hex: "01020304",
         verdict: 4,
         steps: 8,
     },
     Ran {
-        slots: FOURTH_BYTE,
+        text: FOURTH_BYTE,
         hex: "0102030405",
         verdict: 4,
         steps: 8,
     },
     Ran {
-        slots: FIFTH_BYTE_CHECKED,
+        text: FIFTH_BYTE_CHECKED,
         hex: "010203",
         verdict: 0,
         steps: 7,
     },
     Ran {
-        slots: FIFTH_BYTE_CHECKED,
+        text: FIFTH_BYTE_CHECKED,
         hex: "01020304",
         verdict: 0,
         steps: 7,
     },
     Ran {
-        slots: FIFTH_BYTE_CHECKED,
+        text: FIFTH_BYTE_CHECKED,
         hex: "0102030405",
         verdict: 5,
         steps: 8,
     },
     Ran {
-        slots: "b700000002000000 9500000000000000",
+        text: "mov r0, 2\nexit",
         hex: "",
         verdict: 2,
         steps: 2,
     },
     Ran {
-        slots: "b700000002000000 9500000000000000",
+        text: "mov r0, 2\nexit",
         hex: "0102",
         verdict: 2,
         steps: 2,
@@ -292,27 +292,27 @@ fn ran_over<R: AllocGlobal>(rt: &R, file: &[u8], datagram: &[u8]) -> Result<(Out
 /// Runs each row, and compares the outcome and what is left.
 fn expect_verdicts<R: Abort + AllocGlobal>(rt: &R, rows: &[Ran]) -> Result<(), Fail> {
     for (i, row) in rows.iter().enumerate() {
-        let (slots, hex) = (row.slots, row.hex);
-        let datagram = program(rt, hex)?;
+        let (text, hex) = (row.text, row.hex);
+        let datagram = decoded(rt, hex)?;
         assert!(rt; datagram.len() <= MAX_DATAGRAM);
-        let (outcome, kept) = ran_over(rt, &program(rt, slots)?, &datagram)?;
-        assert_eq!(rt; outcome.verdict, row.verdict, "{i}: {slots} {hex}");
-        assert_eq!(rt; outcome.steps, row.steps, "{i}: {slots} {hex}");
-        assert_eq!(rt; outcome.window, None, "{i}: {slots} {hex}");
-        assert_eq!(rt; outcome.destination, None, "{i}: {slots} {hex}");
-        assert!(rt; kept, "{i}: {slots} {hex}");
+        let (outcome, kept) = ran_over(rt, &assembled(rt, text)?, &datagram)?;
+        assert_eq!(rt; outcome.verdict, row.verdict, "{i}: {text:?} {hex}");
+        assert_eq!(rt; outcome.steps, row.steps, "{i}: {text:?} {hex}");
+        assert_eq!(rt; outcome.window, None, "{i}: {text:?} {hex}");
+        assert_eq!(rt; outcome.destination, None, "{i}: {text:?} {hex}");
+        assert!(rt; kept, "{i}: {text:?} {hex}");
     }
     Ok(())
 }
 
 /// Makes the longest program whose slots each move 0 into r0.
 fn longest<R: AllocGlobal>(rt: &R) -> Result<Vec<u8>, Fail> {
-    let mov = program(rt, "b700000000000000")?;
+    let mov = assembled(rt, "mov r0, 0")?;
     let mut file = Vec::new(rt.alloc());
     for _ in 0..4095 {
         file.extend_from_slice(&mov)?;
     }
-    file.extend_from_slice(&program(rt, "9500000000000000")?)?;
+    file.extend_from_slice(&assembled(rt, "exit")?)?;
     Ok(file)
 }
 
@@ -398,13 +398,13 @@ fn expect_same_frames<R: Abort>(rt: &R, name: &str, frames: &Frames, count: usiz
 
 /// Runs and traces a program over seeded datagrams from either side, each in a frame of its own, and compares
 /// the two.
-fn agree<R: Abort + AllocGlobal>(rt: &R, slots: &str, frames: &mut Frames) -> Result<(), Fail> {
-    let file = program(rt, slots)?;
+fn agree<R: Abort + AllocGlobal>(rt: &R, text: &str, frames: &mut Frames) -> Result<(), Fail> {
+    let file = assembled(rt, text)?;
     let loaded = load(rt.alloc(), &file)?;
     for (seed, count, context) in SEEDED.iter() {
         let datagram = seeded(rt.alloc(), *seed, *count)?;
         assert!(rt; datagram.len() <= MAX_DATAGRAM);
-        let name = format!(in rt.alloc(); "{slots} seed {seed}")?;
+        let name = format!(in rt.alloc(); "{text:?} seed {seed}")?;
         start_on(&mut frames.ran, context, &datagram);
         start_on(&mut frames.traced, context, &datagram);
         expect_same_end(rt, &name, loaded.program(), frames);
@@ -423,9 +423,9 @@ fn make_frames<R: AllocGlobal>(rt: &R) -> Result<Frames, Fail> {
 /// Does so with each row that is accepted.
 fn agree_on_verified<R: Abort + AllocGlobal>(rt: &R, rows: &[(&str, &str)]) -> Result<(), Fail> {
     let mut frames = make_frames(rt)?;
-    for &(slots, line) in rows {
+    for &(text, line) in rows {
         if line.starts_with("accepted") {
-            agree(rt, slots, &mut frames)?;
+            agree(rt, text, &mut frames)?;
         }
     }
     Ok(())
@@ -435,7 +435,7 @@ fn agree_on_verified<R: Abort + AllocGlobal>(rt: &R, rows: &[(&str, &str)]) -> R
 fn agree_on_traced<R: Abort + AllocGlobal>(rt: &R, rows: &[Traced]) -> Result<(), Fail> {
     let mut frames = make_frames(rt)?;
     for row in rows {
-        agree(rt, row.slots, &mut frames)?;
+        agree(rt, row.text, &mut frames)?;
     }
     Ok(())
 }

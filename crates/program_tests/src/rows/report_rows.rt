@@ -1,6 +1,6 @@
 //! Bad data, bad files, outputs that fail, and outputs that keep their bytes until they are flushed.
 
-use super::{Expected, expect_printed, program, reported};
+use super::{Expected, assembled, decoded, expect_printed, reported};
 use insn::Insn;
 use machine::{Lines, Sink};
 use report::{Ask, report};
@@ -9,25 +9,41 @@ use std::io::{self, Write};
 use std::process::Abort;
 use std::test::Fail;
 
-/// `mov r0, 2` and `exit`
-const EXITS_WITH_TWO: &str = "b700000002000000 9500000000000000";
+const EXITS_WITH_TWO: &str = "mov r0, 2\nexit";
 
 const TRACE_OF_TWO: &str = "0 mov r0, 2\n1 exit\nexit 2\nwindow none\ndestination none\n";
+
+/// How a row gives its program file.
+#[derive(Clone, Copy, Debug)]
+enum Source {
+    /// As a text, which is assembled.
+    Text(&'static str),
+    /// As slots in hexadecimal digits, where the file encodes no program.
+    Slots(&'static str),
+}
+
+/// Makes the file of a row.
+fn file_of<R: AllocGlobal>(rt: &R, source: Source) -> Result<Vec<u8>, Fail> {
+    match source {
+        Source::Text(text) => assembled(rt, text),
+        Source::Slots(slots) => decoded(rt, slots),
+    }
+}
 
 /// A request, a program file, what is printed to each stream, and the status.
 #[derive(Clone, Copy)]
 struct Report {
     ask: Ask<'static>,
-    slots: &'static str,
+    file: Source,
     out: &'static str,
     err: &'static str,
     status: u8,
 }
 
-static REPORTS: [Report; 24] = [
+static REPORTS: [Report; 26] = [
     Report {
         ask: Ask::Verify,
-        slots: EXITS_WITH_TWO,
+        file: Source::Text(EXITS_WITH_TWO),
         out: "accepted 2 instructions\n",
         err: "",
         status: 0,
@@ -35,58 +51,73 @@ static REPORTS: [Report; 24] = [
     // a refusal of `verify` goes to the output
     Report {
         ask: Ask::Verify,
-        slots: "9500000000000000",
+        file: Source::Text("exit"),
         out: "refused V5 at 0\n",
         err: "",
         status: 1,
     },
     Report {
         ask: Ask::Verify,
-        slots: "",
+        file: Source::Slots(""),
         out: "refused E1\n",
         err: "",
         status: 1,
     },
     // the text of a program, safe or not; a refusal of `disassemble` goes to the errors
     Report {
-        ask: Ask::Disassemble,
-        slots: EXITS_WITH_TWO,
+        ask: Ask::Disassemble { slots: false },
+        file: Source::Text(EXITS_WITH_TWO),
         out: "mov r0, 2\nexit\n",
         err: "",
         status: 0,
     },
     Report {
-        ask: Ask::Disassemble,
-        slots: "9500000000000000",
+        ask: Ask::Disassemble { slots: false },
+        file: Source::Text("exit"),
         out: "exit\n",
         err: "",
         status: 0,
     },
     Report {
-        ask: Ask::Disassemble,
-        slots: "ff00000000000000 9500000000000000",
+        ask: Ask::Disassemble { slots: false },
+        file: Source::Slots("ff00000000000000 9500000000000000"),
         out: "",
         err: "refused E4 at 0\n",
         status: 1,
     },
     Report {
-        ask: Ask::Disassemble,
-        slots: "",
+        ask: Ask::Disassemble { slots: false },
+        file: Source::Slots(""),
         out: "",
         err: "refused E1\n",
+        status: 1,
+    },
+    // the slots of instructions, of which one takes two; a refusal is the same
+    Report {
+        ask: Ask::Disassemble { slots: true },
+        file: Source::Text("mov r0, 2\nlddw r1, 7\nexit"),
+        out: "mov r0, 2 ; 0\nlddw r1, 7 ; 1\nexit ; 3\n",
+        err: "",
+        status: 0,
+    },
+    Report {
+        ask: Ask::Disassemble { slots: true },
+        file: Source::Slots("9500000000000000 95"),
+        out: "",
+        err: "refused E2\n",
         status: 1,
     },
     // without data the datagram is empty
     Report {
         ask: Ask::Trace { hex: None },
-        slots: EXITS_WITH_TWO,
+        file: Source::Text(EXITS_WITH_TWO),
         out: TRACE_OF_TWO,
         err: "",
         status: 0,
     },
     Report {
         ask: Ask::Trace { hex: Some("") },
-        slots: EXITS_WITH_TWO,
+        file: Source::Text(EXITS_WITH_TWO),
         out: TRACE_OF_TWO,
         err: "",
         status: 0,
@@ -94,7 +125,7 @@ static REPORTS: [Report; 24] = [
     // digits of either case
     Report {
         ask: Ask::Trace { hex: Some("00fF") },
-        slots: EXITS_WITH_TWO,
+        file: Source::Text(EXITS_WITH_TWO),
         out: TRACE_OF_TWO,
         err: "",
         status: 0,
@@ -102,49 +133,49 @@ static REPORTS: [Report; 24] = [
     // an odd digit, and what is no digit
     Report {
         ask: Ask::Trace { hex: Some("0") },
-        slots: EXITS_WITH_TWO,
+        file: Source::Text(EXITS_WITH_TWO),
         out: "",
         err: "refused data\n",
         status: 1,
     },
     Report {
         ask: Ask::Trace { hex: Some("abc") },
-        slots: EXITS_WITH_TWO,
+        file: Source::Text(EXITS_WITH_TWO),
         out: "",
         err: "refused data\n",
         status: 1,
     },
     Report {
         ask: Ask::Trace { hex: Some("0g") },
-        slots: EXITS_WITH_TWO,
+        file: Source::Text(EXITS_WITH_TWO),
         out: "",
         err: "refused data\n",
         status: 1,
     },
     Report {
         ask: Ask::Trace { hex: Some("g0") },
-        slots: EXITS_WITH_TWO,
+        file: Source::Text(EXITS_WITH_TWO),
         out: "",
         err: "refused data\n",
         status: 1,
     },
     Report {
         ask: Ask::Trace { hex: Some("  ") },
-        slots: EXITS_WITH_TWO,
+        file: Source::Text(EXITS_WITH_TWO),
         out: "",
         err: "refused data\n",
         status: 1,
     },
     Report {
         ask: Ask::Trace { hex: Some("00,ff") },
-        slots: EXITS_WITH_TWO,
+        file: Source::Text(EXITS_WITH_TWO),
         out: "",
         err: "refused data\n",
         status: 1,
     },
     Report {
         ask: Ask::Trace { hex: Some("0x00") },
-        slots: EXITS_WITH_TWO,
+        file: Source::Text(EXITS_WITH_TWO),
         out: "",
         err: "refused data\n",
         status: 1,
@@ -152,21 +183,21 @@ static REPORTS: [Report; 24] = [
     // a bad file
     Report {
         ask: Ask::Trace { hex: None },
-        slots: "8d00000000000000",
+        file: Source::Slots("8d00000000000000"),
         out: "",
         err: "refused E4 at 0\n",
         status: 1,
     },
     Report {
         ask: Ask::Trace { hex: None },
-        slots: "",
+        file: Source::Slots(""),
         out: "",
         err: "refused E1\n",
         status: 1,
     },
     Report {
         ask: Ask::Trace { hex: None },
-        slots: "9500000000000000 95",
+        file: Source::Slots("9500000000000000 95"),
         out: "",
         err: "refused E2\n",
         status: 1,
@@ -174,21 +205,21 @@ static REPORTS: [Report; 24] = [
     // bad data and a bad file at once
     Report {
         ask: Ask::Trace { hex: Some("0") },
-        slots: "",
+        file: Source::Slots(""),
         out: "",
         err: "refused data\n",
         status: 1,
     },
     Report {
         ask: Ask::Trace { hex: Some("0g") },
-        slots: "8d00000000000000",
+        file: Source::Slots("8d00000000000000"),
         out: "",
         err: "refused data\n",
         status: 1,
     },
     Report {
         ask: Ask::Trace { hex: Some("0g") },
-        slots: "9500000000000000 95",
+        file: Source::Slots("9500000000000000 95"),
         out: "",
         err: "refused data\n",
         status: 1,
@@ -196,7 +227,7 @@ static REPORTS: [Report; 24] = [
     // bad data and a program that gets stuck
     Report {
         ask: Ask::Trace { hex: Some("0g") },
-        slots: "9500000000000000",
+        file: Source::Text("exit"),
         out: "",
         err: "refused data\n",
         status: 1,
@@ -237,9 +268,9 @@ fn flushed(alloc: Global, ask: Ask<'_>, file: &[u8]) -> Vec<u8> {
 /// Reports on each row, and compares what is printed and flushed, and the status.
 fn expect_reports<R: Abort + AllocGlobal>(rt: &R, rows: &[Report]) -> Result<(), Fail> {
     for (i, row) in rows.iter().enumerate() {
-        let (ask, slots) = (row.ask, row.slots);
-        let name = format!(in rt.alloc(); "{i}: {ask:?} {slots}")?;
-        let file = program(rt, slots)?;
+        let (ask, source) = (row.ask, row.file);
+        let name = format!(in rt.alloc(); "{i}: {ask:?} {source:?}")?;
+        let file = file_of(rt, source)?;
         let report = reported(rt, ask, &file);
         let expected = Expected {
             out: row.out,
@@ -315,7 +346,7 @@ fn digits_of<R: AllocGlobal>(rt: &R, row: &Long) -> Result<String, Fail> {
 
 /// Traces each row, and compares what is printed, and the status.
 fn expect_long<R: Abort + AllocGlobal>(rt: &R, rows: &[Long]) -> Result<(), Fail> {
-    let file = program(rt, EXITS_WITH_TWO)?;
+    let file = assembled(rt, EXITS_WITH_TWO)?;
     for (i, row) in rows.iter().enumerate() {
         let (times, then) = (row.times, row.then);
         let name = format!(in rt.alloc(); "{i}: {times} bytes and {then:?}")?;
@@ -417,11 +448,16 @@ fn status_without_a_line<R: AllocGlobal>(rt: &R, ask: Ask<'_>, file: &[u8], room
 
 /// Reports to outputs that fail, and compares the statuses.
 fn expect_failing_outputs<R: Abort + AllocGlobal>(rt: &R) -> Result<(), Fail> {
-    let file = program(rt, EXITS_WITH_TWO)?;
+    let file = assembled(rt, EXITS_WITH_TWO)?;
     let hex = None;
     expect_failures(rt, Ask::Verify, &file, ROOMS.as_slice());
     expect_failures(rt, Ask::Trace { hex }, &file, ROOMS.as_slice());
-    expect_failures(rt, Ask::Disassemble, &file, ROOMS.as_slice());
+    expect_failures(
+        rt,
+        Ask::Disassemble { slots: true },
+        &file,
+        ROOMS.as_slice(),
+    );
     // a line that cannot be printed changes no status
     let hex = Some("0");
     assert_eq!(rt; status_without_a_line(rt, Ask::Verify, &file, 0), 3);

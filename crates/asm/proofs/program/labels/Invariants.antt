@@ -1,11 +1,11 @@
 use Rattle.std.proofs.Common.{◌+◌, ◌≤◌, length}
 use Rattle.asm.specs.Lines.{lines_of}
-use Rattle.asm.specs.Scanning.{lines_behind, lines_left, IsScanned}
+use Rattle.asm.specs.Scanning.{following_lines, lines_left, IsScanned}
 use Rattle.asm.proofs.program.labels.Given as goal
 
 abbrev pub invariant-loop-rest : goal.invariant-loop-rest
 invariant-loop-rest l = record {
-  scanned : IsScanned (lines_of l.text) l.number (lines_behind l.rest) l.table;
+  scanned : IsScanned (lines_of l.text) l.number (following_lines l.rest) l.table;
   room : l.number + lines_left l.rest ≤ length l.text + 1;
 }
 

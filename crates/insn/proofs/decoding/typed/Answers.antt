@@ -6,7 +6,7 @@ use Rattle.insn.specs.Encoding.{optional_bytes, Fits}
 use Rattle.insn.specs.Forms.{form, imm_in}
 use Rattle.insn.specs.declared.fields.Fields.{Fields}
 use Rattle.insn.proofs.Slots.{form_fits}
-use Rattle.insn.proofs.TwoSlots.{behind_second}
+use Rattle.insn.proofs.TwoSlots.{after_second}
 use Rattle.insn.proofs.Programs.{unused}
 use Rattle.insn.proofs.decoding.typed.Goals as goal
 
@@ -19,12 +19,12 @@ returns-then-has_slots-clause-found c =
     let insn_is : c.insn_of-insn.result ≡ form c.args.head.opcode c.args.head.dst c.args.head.src c.args.fields.offset c.args.fields.imm c.imm_in.result =
     c.insn_of-insn.ensures ∙ (λ i. form c.args.head.opcode c.args.head.dst c.args.head.src (offset i) (imm i) (high i)) in
     let same = c.has_slots.ensures.same c.if-has_slots.true in
-    let behind = behind_second c.args.head.opcode c.args.rest.now c.in_ok-second.second (c.in_ok-second.ensures.found) in
+    let after = after_second c.args.head.opcode c.args.rest.now c.in_ok-second.second (c.in_ok-second.ensures.found) in
     record {
       fits = subst Fits (sym insn_is) (form_fits _ _ _ _ _ _ c.requires.room.offset c.requires.room.imm high_fits);
       fields = same.0;
-      other = behind.0;
-      second = behind.1 ∙ ap (λ (s : Option Fields). optional_bytes s ++ behind.0) (sym same.1);
+      other = after.0;
+      second = after.1 ∙ ap (λ (s : Option Fields). optional_bytes s ++ after.0) (sym same.1);
     }
 
 pub returns-else-has_slots-clause-refused : goal.returns-else-has_slots-clause-refused

@@ -57,7 +57,7 @@ invariant_of-frame g c =
     let given : given_in w (length d) ≡ given_of answers (length c.datagram-size.result.now) c.from.result = λ i. given_of answers (sym size i) (sym side i) in
     let start = is_start answers (g.H.Helpers.lawful c.args.helpers.now) c.args.program.now f flat refl c.frame.inside.stack.items holds c.frame.invariant.is_context is_datagram (given_of answers (length c.datagram-size.result.now) c.from.result) c.deref_mut-2.result.now given (between ∙ laid) in
     let run : IsRun w c.args.program.now d c.deref_mut-2.result.now c.run_flat-ended.new.area c.run_flat-ended.result =
-    subst (λ (code : List Insn). IsRun w code d c.deref_mut-2.result.now c.run_flat-ended.new.area c.run_flat-ended.result) c.program.ensures.code (c.run_flat-ended.ensures w d start) in
+    subst (λ (code : List Insn). IsRun w code d c.deref_mut-2.result.now c.run_flat-ended.new.area c.run_flat-ended.result) c.translation.ensures.code (c.run_flat-ended.ensures w d start) in
     let left = written c.run_flat-ended.new.area (take c.frame.inside.flat.len (c.lay_out.new.area ++ drop (length c.lay_out.new.area) flat)) c.frame.inside.flat.len (c.run_flat-ended.auto.area ∙ c.deref_mut-2.ensures.len) in
     subst (λ (a : List ℕ). IsFrame a c.frame.inside.stack.items f.length false c.run_flat-ended.result.plan.window f.context) (sym left) (record {
       long = run.memory.long;
@@ -84,7 +84,7 @@ returns g c =
     let given : given_in w (length d) ≡ given_of answers (length c.datagram-size.result.now) c.from.result = λ i. given_of answers (sym size i) (sym side i) in
     let start = is_start answers (g.H.Helpers.lawful c.args.helpers.now) c.args.program.now f flat refl c.frame.inside.stack.items holds c.frame.invariant.is_context is_datagram (given_of answers (length c.datagram-size.result.now) c.from.result) c.deref_mut-2.result.now given (between ∙ laid) in
     let run : IsRun w c.args.program.now d c.deref_mut-2.result.now c.run_flat-ended.new.area c.run_flat-ended.result =
-    subst (λ (code : List Insn). IsRun w code d c.deref_mut-2.result.now c.run_flat-ended.new.area c.run_flat-ended.result) c.program.ensures.code (c.run_flat-ended.ensures w d start) in
+    subst (λ (code : List Insn). IsRun w code d c.deref_mut-2.result.now c.run_flat-ended.new.area c.run_flat-ended.result) c.translation.ensures.code (c.run_flat-ended.ensures w d start) in
     let left = written c.run_flat-ended.new.area (take c.frame.inside.flat.len (c.lay_out.new.area ++ drop (length c.lay_out.new.area) flat)) c.frame.inside.flat.len (c.run_flat-ended.auto.area ∙ c.deref_mut-2.ensures.len) in
     let Runs : Contents → List ℕ → Type 0 = λ b a. RunsFlat answers c.args.program.now b (record { area = drop 560 a; length = f.length; is_started = false; context = f.context; window = c.run_flat-ended.result.plan.window }) c.run_flat-ended.result in
     subst (λ (b : Contents). Runs b (take c.frame.inside.flat.len (c.run_flat-ended.new.area ++ drop (length c.run_flat-ended.new.area) (take c.frame.inside.flat.len (c.lay_out.new.area ++ drop (length c.lay_out.new.area) flat))))) c.frame.view_is

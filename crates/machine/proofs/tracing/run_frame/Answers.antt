@@ -54,10 +54,10 @@ returns-clause-run g c =
     let walked : Walks c.deref_mut-2.result.now flat frame.length =
     subst (λ (n : ℕ). Walks c.deref_mut-2.result.now flat n) same
     (subst (λ (a : List ℕ). Walks c.deref_mut-2.result.now a size) c.deref_mut-3.ensures.value c.execute_in-ended.ensures.run) in
-    let behind : drop (67 + frame.length) left ≡ drop (67 + frame.length) area =
+    let after : drop (67 + frame.length) left ≡ drop (67 + frame.length) area =
     ap (λ (n : ℕ). drop (67 + n) left) (sym same) ∙ c.execute_in-ended.ensures.beyond ∙ ap (λ (a : List ℕ). drop (67 + size) (drop 560 a)) c.deref_mut-3.ensures.value ∙ ap (λ (n : ℕ). drop (67 + n) area) same in
     let whole = written left_flat flat c.frame.inside.flat.len (c.execute_in-ended.auto.flat ∙ c.deref_mut-3.ensures.len) in
     let Runs : Contents → List ℕ → Type 0 = λ f a. RunsOver g.S.Sink.Logs answers c.args.code.now f (record frame { area = drop 560 a; is_started = false; window = plan.window }) plan (g.S.Sink.log c.args.sink.now) (g.S.Sink.log c.execute_in-ended.new.sink) c.execute_in-ended.result in
     let runs : Runs frame (take c.frame.inside.flat.len (left_flat ++ drop (length left_flat) flat)) =
-    subst (λ (a : List ℕ). Runs frame a) (sym whole) (frame_run g.S.Sink.Logs c.args.code.now answers frame c.context_record-context.result stack c.deref_mut-2.result.now c.execute_in-ended.new.stack left plan _ _ _ holds c.frame.invariant.is_context spelled empty walked behind) in
+    subst (λ (a : List ℕ). Runs frame a) (sym whole) (frame_run g.S.Sink.Logs c.args.code.now answers frame c.context_record-context.result stack c.deref_mut-2.result.now c.execute_in-ended.new.stack left plan _ _ _ holds c.frame.invariant.is_context spelled empty walked after) in
     subst (λ (f : Contents). Runs f (take c.frame.inside.flat.len (left_flat ++ drop (length left_flat) flat))) c.frame.view_is runs

@@ -11,9 +11,9 @@ written : (index n value : ℕ) (old part new : List ℕ) → index + n ≤ leng
     → take index old ++ (new ++ drop (index + n - index) (drop index old)) ≡ put index (little_bytes n value) old
 written index n value old part new le long e count =
     let same : index + n - index ≡ n = omega arith in
-    let behind : drop n (drop index old) ≡ drop (index + n) old = drop-drop n index old in
+    let after : drop n (drop index old) ≡ drop (index + n) old = drop-drop n index old in
     let is : new ≡ little_bytes n value = e ∙ ap (λ (k : ℕ). little_bytes k value) (long ∙ same) in
-    (λ i. take index old ++ (is i ++ drop (same i) (drop index old))) ∙ (λ i. take index old ++ (little_bytes n value ++ behind i)) ∙ sym (append_assoc (take index old) (little_bytes n value) (drop (index + n) old)) ∙ sym (put_is index (index + n) (little_bytes n value) old (omega (arith, count)) le)
+    (λ i. take index old ++ (is i ++ drop (same i) (drop index old))) ∙ (λ i. take index old ++ (little_bytes n value ++ after i)) ∙ sym (append_assoc (take index old) (little_bytes n value) (drop (index + n) old)) ∙ sym (put_is index (index + n) (little_bytes n value) old (omega (arith, count)) le)
 
 pub returns : goal.returns
 returns c =

