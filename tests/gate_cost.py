@@ -4,7 +4,7 @@
 
 FOLDER is the top of the repository; a fresh clone, so that nothing else is built in it. The figures are read from the
 system while `rt ci` runs, five times a second; the last line has what the system counted in all. "base" is the proof of
-a crate that its edits begin with, and the same once more behind them. Behind the table stand the edits that took more
+a crate that its edits begin with, and the same once more after them. After the table come the edits that took more
 than 20 seconds. A run that is interrupted prints what it has seen so far.
 """
 

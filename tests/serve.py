@@ -457,7 +457,7 @@ def exchange(pairs, batch):
 
 
 def many():
-    """Yields what is lost of many datagrams of several clients, and what they leave behind in memory."""
+    """Yields what is lost of many datagrams of several clients, and what they leave in memory."""
     with Server(slots=CLIENTS) as server, contextlib.ExitStack() as stack:
         pairs = []
         for slot in range(CLIENTS):

@@ -1,7 +1,7 @@
 //! Runs a program over a datagram again and again, as the command line says, and prints how long that takes.
 #![tactic(auto)]
 
-mod rows;
+mod constant;
 mod timing;
 
 use anyhow::{Context, Result, bail, ensure};
@@ -20,13 +20,11 @@ fn side_of(word: &str) -> Result<Side> {
     }
 }
 
-/// Returns the source of the datagrams of a side.
-fn source_of(side: Side) -> Addr {
-    match side {
-        Side::Client => rows::client(),
-        Side::Peer => rows::peer(),
-    }
-}
+/// The source of the datagrams.
+const SOURCE: Addr = Addr::V4 {
+    ip: [192, 0, 2, 1],
+    port: 5000,
+};
 
 fn run<R: Env + Clock + Print + AllocGlobal>(rt: &R) -> Result<()> {
     let words: Vec<String> = env::args(rt)?.collect(rt.alloc())?;
@@ -40,13 +38,11 @@ fn run<R: Env + Clock + Print + AllocGlobal>(rt: &R) -> Result<()> {
     ensure!(bytes.len() <= MAX_DATAGRAM, "DATAGRAM is too long");
     let loaded = load(rt.alloc(), &file).context("PROGRAM is not accepted")?;
     let mut frame = Frame::new(rt.alloc())?;
-    let tables = rows::tables(rt.alloc())?;
     let case = Case {
         program: loaded.program(),
-        tables: &tables,
         context: machine::Context {
             side,
-            source: source_of(side),
+            source: SOURCE,
             tx: [7; 12],
         },
         datagram: &bytes,

@@ -3,13 +3,11 @@
 ghost use Rattle.std.specs.Prelude.{◌≡◌, ◌≤◌, length, true};
 ghost use Rattle.semantics.specs.declared.limits.TheConstants.{MAX_DATAGRAM};
 
-use crate::rows::NOW;
+use crate::constant::Constant;
 use anyhow::Result;
-use helpers::Lookup;
 use machine::{Context, Frame, Outcome, run};
 use std::rt::Clock;
 use std::time::{Duration, Instant};
-use tables::Tables;
 use verifier::Verified;
 
 /// How often each figure is measured; the lowest one counts.
@@ -19,7 +17,6 @@ const ROUNDS: usize = 5;
 #[derive(Drop)]
 pub struct Case<'a> {
     pub program: &'a Verified,
-    pub tables: &'a Tables,
     pub context: Context,
     pub datagram: &'a [u8],
 }
@@ -44,7 +41,7 @@ impl Case<'_> {
         requires { length self.now.datagram.now ≤ MAX_DATAGRAM }
     {
         self.start(frame);
-        run(self.program, frame, &Lookup::new(self.tables, NOW, Some(0)))
+        run(self.program, frame, &Constant)
     }
 
     /// Returns how long it takes to start a frame `count` times.

@@ -41,13 +41,15 @@ returns-clause-code g c = search rules
 pub invariant_of-result : goal.invariant_of-result
 invariant_of-result g c =
     let is : c.in-Ok.translation ≡ c.args.code.now = returns-clause-code g c in
-    let safe : IsSafe c.in-Ok.translation = search rules in
+    let safe_there : IsSafe c.program.result.now = search rules in
+    let safe : IsSafe c.in-Ok.translation = subst IsSafe c.program.ensures safe_there in
     record { safe = safe; few = subst (λ (code : List Insn). slot_count code ≤ MAX_SLOTS) (sym is) c.requires }
 
 pub returns-clause-verdict : goal.returns-clause-verdict
 returns-clause-verdict g c =
     let is : c.in-Ok.translation ≡ c.args.code.now = returns-clause-code g c in
-    let safe : IsSafe c.in-Ok.translation = search rules in
+    let safe_there : IsSafe c.program.result.now = search rules in
+    let safe : IsSafe c.in-Ok.translation = subst IsSafe c.program.ensures safe_there in
     record {
       safe = subst IsSafe is safe;
       laid_out = c.in_ok-check_layout.ensures.ok;
@@ -61,5 +63,5 @@ returns-clause-counts g c = record { bound = c.walk.ensures.counts.bound; budget
 pub returns-clause-walked : goal.returns-clause-walked
 returns-clause-walked g c =
     let is : c.in-Ok.translation ≡ c.args.code.now = returns-clause-code g c in
-    subst (λ (code : List Insn). EndsWalk {T = Verified} g.D.Domain.ops g.D.Domain.Member code c.args.steps.now c.walk.new.steps (Ok c.in-Ok.translation)) is
-    (accepted_end g.D.Domain.ops g.D.Domain.Member c.in-Ok.translation c.args.steps.now c.walk.new.steps c.in_ok-walk.field-0 c.in-Ok.translation c.in_ok-walk.ensures.walked)
+    subst (λ (code : List Insn). EndsWalk {T = Verified} g.D.Domain.ops g.D.Domain.Member code c.args.steps.now c.walk.new.steps (Ok c.in-Ok.translation)) (c.program.ensures ∙ is)
+    (accepted_end g.D.Domain.ops g.D.Domain.Member c.program.result.now c.args.steps.now c.walk.new.steps c.in_ok-walk.field-0 c.in-Ok.translation c.in_ok-walk.ensures.walked)
