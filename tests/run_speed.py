@@ -2,7 +2,7 @@
 
     tests/run_speed.py
 
-A figure of `run` is that of a start with its run less that of the start. The two interpreters take turns, and the lowest time of
+What a run takes is that of a start with its run less that of the start. The two interpreters take turns, and the lowest time of
 each counts. No time is asserted; the verdicts of both have to be the same. Needs gcc.
 """
 
@@ -10,6 +10,7 @@ import pathlib
 import subprocess
 import sys
 import tempfile
+from typing import NamedTuple
 
 from program import TOP, build, run
 
@@ -29,6 +30,7 @@ PLAIN = bytes(range(SIZE))
 SEND = (bytes.fromhex("001600b02112a442") + bytes([7] * 12) + bytes.fromhex("001200080001329ae112a643001300a0")
         + bytes(range(SIZE)))
 
+SHORTEST = "mov r0, 0\nexit"
 # the beginning of a program that reads a datagram of 160 bytes
 CHECKED = "ldxdw r2, [r1+0]\nldxdw r3, [r1+8]\nmov r4, r2\nadd r4, 160\nmov r0, 0\njgt r4, r3, end\n"
 
@@ -55,8 +57,8 @@ KINDS = {
     "jumps that are not taken": repeated("mov r0, 0\n", "jne r0, 0, end"),
     "jumps that are taken": repeated("mov r0, 0\n", "jeq r0, 0, +0"),
     "byte swaps": repeated("mov r0, 7\n", "be32 r0"),
-    "calls of helper 3, with two instructions each": repeated(
-        "stdw [r10-8], 0\nsth [r10-8], 0x0100\n", "mov r2, r10\nadd r2, -8\ncall 3", "mov r0, 1\n"),
+    "calls of helper 3, with three instructions each": repeated(
+        "mov r6, r1\nstdw [r10-8], 0\nsth [r10-8], 0x0100\n", "mov r1, r6\nmov r2, r10\nadd r2, -8\ncall 3"),
 }
 
 
@@ -77,23 +79,43 @@ def printed(words):
     return {name: float(number) for name, number in zip(fields[::2], fields[1::2])}
 
 
+class Taken(NamedTuple):
+    """The steps of a run, and the nanoseconds of a start, of the run, and of the run in C."""
+
+    steps: int
+    start: float
+    run: float
+    beside: float
+
+
 def measure(tool, side, program, datagram):
-    """Returns the steps of a run, the nanoseconds of it, of a start, and of the run in C.
+    """Returns the lowest times of a program over a datagram.
 
     Different verdicts end the script.
     """
     first = printed([PROGRAM, side, program, datagram.hex(), "0"])
     count = str(max(1, int(STEPS / first["steps"] / ROUNDS)))
-    ours, theirs, starts = [], [], []
+    rounds = []
     for _ in range(ROUNDS):
         found = printed([PROGRAM, side, program, datagram.hex(), count])
         beside = printed([tool, program, datagram.hex(), count])
         if found["verdict"] != beside["verdict"]:
             sys.exit(f"verdict {found['verdict']:.0f}, in C {beside['verdict']:.0f}")
-        ours.append(found["run"] - found["start"])
-        starts.append(found["start"])
-        theirs.append(beside["run"])
-    return int(first["steps"]), min(ours), min(starts), min(theirs)
+        rounds.append((found["start"], found["run"] - found["start"], beside["run"]))
+    return Taken(int(first["steps"]), *(min(times) for times in zip(*rounds)))
+
+
+def programs():
+    """Returns the programs with a title, the side and the datagram of each."""
+    client, peer = ((TOP / "examples" / "relay" / f"{name}.s").read_text(encoding="utf-8") for name in ("client", "peer"))
+    return [
+        ("CLIENT over ChannelData", "client", client, CHANNEL_DATA),
+        ("CLIENT over a Send indication", "client", client, SEND),
+        ("PEER, to ChannelData", "peer", peer, PLAIN),
+        ("40 instructions", "client", forty(), PLAIN),
+        ("two instructions", "client", SHORTEST, PLAIN),
+        *((kind, "client", text, PLAIN) for kind, text in KINDS.items()),
+    ]
 
 
 def main():
@@ -101,22 +123,15 @@ def main():
     build()
     subprocess.run(["rt", "run", "--", "client", "b7000000000000009500000000000000", "00", "0"], cwd=FOLDER,
                    capture_output=True, check=True)
-    texts = {name: (TOP / "examples" / "relay" / f"{name}.s").read_text(encoding="utf-8") for name in ("client", "peer")}
-    programs = [
-        ("CLIENT over ChannelData", "client", texts["client"], CHANNEL_DATA),
-        ("CLIENT over a Send indication", "client", texts["client"], SEND),
-        ("PEER, to ChannelData", "peer", texts["peer"], PLAIN),
-        ("40 instructions", "client", forty(), PLAIN),
-    ]
-    programs += [(kind, "client", text, PLAIN) for kind, text in KINDS.items()]
     with tempfile.TemporaryDirectory() as name:
         folder = pathlib.Path(name)
         tool = folder / "run_speed"
         subprocess.run(["gcc", "-O2", "-o", tool, SOURCE], check=True)
-        for title, side, text, datagram in programs:
-            steps, taken, start, beside = measure(tool, side, assembled(folder, text), datagram)
-            print(f"{title}: {steps} steps, {taken / steps:.2f} ns each, {beside / steps:.2f} in C, "
-                  f"{taken / beside:.2f} of it; a start takes {start:.0f} ns", flush=True)
+        for title, side, text, datagram in programs():
+            taken = measure(tool, side, assembled(folder, text), datagram)
+            print(f"{title}: {taken.steps} steps, a start {taken.start:.0f} ns, a run {taken.run:.0f}, {taken.run / taken.steps:.2f} "
+                  f"an instruction; in C {taken.beside:.0f}, {taken.beside / taken.steps:.2f}; ratio {taken.run / taken.beside:.2f}",
+                  flush=True)
 
 
 if __name__ == "__main__":
