@@ -27,7 +27,7 @@ use Rattle.asm.proofs.Scans.{length_more}
 
 -- ---- label_slots
 
--- a label stands at the end at most
+-- a label is at the end at most
 place_within : (slot : ℕ) (said : List (Option Statement)) (name : Name) (p : ℕ) → slot_from slot said name ≡ Some p
     → p ≤ slot + slots_in said
 place_within slot [] name p at = cc

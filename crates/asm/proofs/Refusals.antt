@@ -15,7 +15,7 @@ use Rattle.asm.specs.Scanning.{AreUnderstood, IsOld, IsUnread, IsTooLarge, IsOld
 use Rattle.asm.specs.declared.refusal.AsmError.{AsmError}
 use Rattle.asm.specs.declared.refusal.AsmError.TheVariants as error
 
--- ---- where two cuts of a list stand to one another
+-- ---- how two cuts of a list lie to one another
 
 data Cuts {X : Type 0} (front : List X) (x : X) (other : List X) (y : X) : Type 0 where
   Same : front ≡ other → x ≡ y → Cuts front x other y
@@ -207,7 +207,7 @@ unknown_is_none label_slots slot (Some (Instruction h t) ∷ before) i name afte
     by None none = refl
     by (Some j) none = ap (option_map (λ code. j ∷ code)) none
 
--- the first unknown label stands on one line
+-- the first unknown label is on one line
 lacks_once : (said : List (Option Statement)) (n m : ℕ) → LacksLabel said n → LacksLabel said m → n ≡ m
 lacks_once said n m a b = by (cuts a.before _ a.after b.before _ b.after (sym a.split ∙ b.split))
   where

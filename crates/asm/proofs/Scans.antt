@@ -128,7 +128,7 @@ halted_at_fault lines n left text table e scanned is fails = rw fails.named (by 
     by fault.Syntax none = halted IsUnread none
     by fault.Range unfit = halted IsTooLarge unfit
 
--- so does a label that stands before
+-- so does a label that comes before
 pub halted_at_label : (lines : List (List ℕ)) (n : ℕ) (left : Option (Bor (List ℕ))) (text : Bor (List ℕ))
     (s : Option Statement) (rest : List (List ℕ))
     (table new : Table) (e : AsmError) → IsScanned lines n (following_lines left) table → left ≡ Some text

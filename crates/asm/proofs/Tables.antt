@@ -35,7 +35,7 @@ place_more slot (Some (Labelled n) ∷ said) s name = by_name (bytes_eq n name) 
 place_more slot (Some (Instruction i t) ∷ said) s name = place_more (slot + slots_of i) said s name
     ∙ ap (λ k. or_else (slot_from (slot + slots_of i) said name) (slot_from k (s ∷ []) name)) (omega arith)
 
--- ---- labels that stand in lines have a place
+-- ---- labels that are in lines have a place
 
 pub place_known : (slot : ℕ) (said : List (Option Statement)) (name : Name) → is_some (slot_from slot said name) ≡ true → IsNameAmong name (labels said)
 place_known slot [] name e = absurd (false≢true e)
@@ -69,7 +69,7 @@ some_capped : (o : Option ℕ) → is_some (option_map slots_up_to_limit o) ≡ 
 some_capped None = refl
 some_capped (Some n) = refl
 
--- a key that is there is a label that stands before
+-- a key that is there is a label that comes before
 pub known_label : (table : Table) (said : List (Option Statement)) (name : Bor (List ℕ)) → Holds table said
     → is_some (get same table.label_slots name) ≡ true → IsNameAmong name.now (labels said)
 known_label table said name holds there = place_known 0 said name.now (sym (some_capped _) ∙ ap is_some (sym (holds.label_slots name)) ∙ there)

@@ -56,7 +56,7 @@ abbrev pub IsPiece : Piece → Type 0
 IsPiece (Blank c) = is_blank c ≡ true
 IsPiece (Lexeme t) = IsWord t ⊎ IsSign t
 
--- between two words stands something else
+-- between two words is something else
 abbrev pub AreApart : List Piece → Type 0
 AreApart [] = Unit {0}
 AreApart (Blank c ∷ more) = AreApart more

@@ -41,12 +41,12 @@ each_fits : (code : List Insn) → AllFit code → AllByRecursion IsInRange (sta
 each_fits [] fit = (tt, tt)
 each_fits (i ∷ code) fit = (fit.0, each_fits code fit.1)
 
--- no label stands twice, as there is none
+-- no label is there twice, as there is none
 no_label_twice : (code : List Insn) → AreDistinct (labels (statements_of code))
 no_label_twice [] = tt
 no_label_twice (i ∷ code) = no_label_twice code
 
--- each instruction stands as it is
+-- each instruction is kept as it is
 each_linked : (label_slots : Name → Option ℕ) (slot : ℕ) (code : List Insn)
     → instructions_of label_slots slot (statements_of code) ≡ Some code
 each_linked label_slots slot [] = refl

@@ -90,7 +90,7 @@ UnderstandsLine said (Err Range) = IsUnfit said
 abbrev pub Understands : Option Statement → Result Line Fault → Type 0
 Understands said result = UnderstandsLine (option_map Some said) result
 
--- no blank stands first
+-- no blank is first
 abbrev pub StartsUnblank : List ℕ → Type 0
 StartsUnblank [] = Unit {0}
 StartsUnblank (c ∷ rest) = is_blank c ≡ false

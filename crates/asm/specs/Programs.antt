@@ -39,7 +39,7 @@ abbrev pub AreDistinct : List Name → Type 0
 AreDistinct [] = Unit {0}
 AreDistinct (name ∷ more) = (IsNameAmong name more → ⊥) × AreDistinct more
 
--- the lines say this, without a fault of their own: each is in the grammar, its numbers fit, and no label stands twice
+-- the lines say this, without a fault of their own: each is in the grammar, its numbers fit, and no label is there twice
 pub record AreRead (lines : List (List ℕ)) (said : List (Option Statement)) : Type 0 where
   pub each : AllZip Means lines said
   pub fit : AllByRecursion IsInRange said
@@ -119,7 +119,7 @@ IsNoLine said line = (s : Option Statement) → Means line s → ⊥
 abbrev pub IsOutOfRange : List (Option Statement) → List ℕ → Type 0
 IsOutOfRange said line = (s : Option Statement) × Means line s × (IsInRange s → ⊥)
 
--- the line is a label that stands before it already
+-- the line is a label that comes before it already
 abbrev pub IsRepeated : List (Option Statement) → List ℕ → Type 0
 IsRepeated said line = (name : Name) × Means line (Some (Labelled name)) × IsNameAmong name (labels said)
 

@@ -66,7 +66,7 @@ IsNew said None = Unit {0}
 IsNew said (Some (Labelled name)) = IsNameAmong name (labels said) → ⊥
 IsNew said (Some (Instruction i target)) = Unit {0}
 
--- a label stands before
+-- a label comes before
 abbrev pub IsOld : List (Option Statement) → Option Statement → Type 0
 IsOld said None = ⊥
 IsOld said (Some (Labelled name)) = IsNameAmong name (labels said)
@@ -135,7 +135,7 @@ IsHalted lines error.Memory = Unit {0}
 
 -- ---- the second pass
 
--- So many lines are read, and these are left. The code so far is that of the lines read, of which the next stands at the slot.
+-- So many lines are read, and these are left. The code so far is that of the lines read, of which the next is at the slot.
 pub record IsLinked (lines : List (List ℕ)) (table : Table) (n slot : ℕ) (rest : List (List ℕ))
     (code : List Insn) : Type 0 where
   pub said : List (Option Statement)

@@ -24,7 +24,7 @@ impl<'a> Table<'a> {
         }
     }
 
-    /// Adds a label, which stands on the line of this number, at the slot of the next instruction.
+    /// Adds a label, which is on the line of this number, at the slot of the next instruction.
     fn add_label(&mut self, name: &'a [u8], number: usize) -> Result<(), AsmError>
         requires { self.old.slots ≤ MAX_SLOTS + 1 }
         ensures { (said : List (Option Statement)) → Holds self.old said

@@ -42,7 +42,7 @@ fn is_in_words(c: u8) -> bool
     is_in_names(c) || c == b'.'
 }
 
-/// Returns whether all characters may stand in a name.
+/// Returns whether all characters may be in a name.
 fn are_in_names(text: &[u8]) -> bool
     ensures { result ≡ list_all is_in_names text.now }
 {

@@ -18,7 +18,7 @@ pub enum AsmError {
     Range(usize),
     /// A jump of the line names a label that the text lacks.
     UnknownLabel(usize),
-    /// The label of the line stands on an earlier line already.
+    /// The label of the line is on an earlier line already.
     DoubleLabel(usize),
     /// The program has more than 4,096 slots.
     TooLong,

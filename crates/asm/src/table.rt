@@ -1,4 +1,4 @@
-//! The labels of a text, with the slots at which they stand.
+//! The labels of a text, with the slots at which they are.
 
 use indexmap::IndexMap;
 

@@ -2,7 +2,7 @@
 use Rattle.std.proofs.Common.{◌≡◌, ◌+◌, ◌≤◌, length, string_bytes, None, arith}
 use Rattle.control.specs.Configs.{fault}
 use Rattle.control.specs.ConfigLaws.{within_limits}
-use Rattle.control.specs.Serving.{IsInside}
+use Rattle.control.specs.Serving.{HasSlotBelow}
 use Rattle.control.specs.Serving.{HasPort}
 use Rattle.control.specs.declared.config.TheConstants.{MAX_TEXT}
 use Rattle.control.specs.declared.config.Config.{Config}
@@ -16,7 +16,7 @@ pub ports_fit : (c : Config) → fault c ≡ None → c.first_port + c.slots ≤
 ports_fit c e = (within_limits c e).ports
 
 -- the slots of the relay have ports
-pub has_port : (c : Config) (g : Grant) → c.first_port + c.slots ≤ 0x10000 → IsInside c.slots g → HasPort c g
+pub has_port : (c : Config) (g : Grant) → c.first_port + c.slots ≤ 0x10000 → HasSlotBelow c.slots g → HasPort c g
 has_port c grant.Mapped few inside = tt
 has_port c (grant.Allocated slot lifetime) few inside = omega (arith, few, inside)
 has_port c (grant.Refreshed lifetime) few inside = tt

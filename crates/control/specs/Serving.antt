@@ -20,11 +20,11 @@ Gives (Ok granted) old result new = (result ≡ Ok granted.0) × (new ≡ rows_a
 Gives (Err error) old result new = (result ≡ Err error) × (new ≡ old)
 
 -- a granted slot is below `slots`
-abbrev pub IsInside : ℕ → Grant → Type 0
-IsInside slots grant.Mapped = Unit {0}
-IsInside slots (grant.Allocated slot lifetime) = slot < slots
-IsInside slots (grant.Refreshed lifetime) = Unit {0}
-IsInside slots grant.Done = Unit {0}
+abbrev pub HasSlotBelow : ℕ → Grant → Type 0
+HasSlotBelow slots grant.Mapped = Unit {0}
+HasSlotBelow slots (grant.Allocated slot lifetime) = slot < slots
+HasSlotBelow slots (grant.Refreshed lifetime) = Unit {0}
+HasSlotBelow slots grant.Done = Unit {0}
 
 -- the port of a relayed address is at most 65,535
 abbrev pub HasPort : Config → Grant → Type 0

@@ -4,7 +4,7 @@ ghost use Rattle.std.specs.Prelude.{◌≡◌, ◌≤◌, IfOk, IsTrue, length};
 ghost use Rattle.tables.specs.Moments.{moment_of};
 ghost use Rattle.tables.specs.Rows.{rows_at};
 ghost use Rattle.tables.specs.Addresses.{is_ipv4};
-ghost use Rattle.control.specs.Serving.{Gives, IsInside};
+ghost use Rattle.control.specs.Serving.{Gives, HasSlotBelow};
 ghost use Rattle.control.specs.Control.{allocate, allocate_anew, acceptable_lifetime, is_repeated};
 
 use crate::lifetime::lifetime_for;
@@ -57,7 +57,7 @@ fn allocate_anew(
     requires ipv4 { IsTrue (is_ipv4 client) }
     ensures gives { Gives (allocate_anew client user message.now (rows_at now tables.old))
         tables.old result tables.new }
-    ensures inside { IfOk result (IsInside (length tables.old.slots)) }
+    ensures inside { IfOk result (HasSlotBelow (length tables.old.slots)) }
     ensures moment { (tables.old.moment ≤ tables.new.moment)
         × (tables.new.moment ≤ moment_of tables.old.moment now) }
     ensures slots { length tables.new.slots ≡ length tables.old.slots }
@@ -83,7 +83,7 @@ pub(crate) fn allocate(
 ) -> Result<Grant, ErrorCode>
     requires ipv4 { IsTrue (is_ipv4 client) }
     ensures gives { Gives (allocate client user message.now (rows_at now tables.old)) tables.old result tables.new }
-    ensures inside { IfOk result (IsInside (length tables.old.slots)) }
+    ensures inside { IfOk result (HasSlotBelow (length tables.old.slots)) }
     ensures moment { (tables.old.moment ≤ tables.new.moment)
         × (tables.new.moment ≤ moment_of tables.old.moment now) }
     ensures slots { length tables.new.slots ≡ length tables.old.slots }

@@ -7,7 +7,7 @@ ghost use Rattle.tables.specs.Moments.{moment_of};
 ghost use Rattle.tables.specs.Rows.{rows_at};
 ghost use Rattle.control.specs.Configs.{fault};
 ghost use Rattle.control.specs.Control.{understood_and_served, refused_credentials};
-ghost use Rattle.control.specs.Serving.{Gives, IsInside};
+ghost use Rattle.control.specs.Serving.{Gives, HasSlotBelow};
 ghost use Rattle.tables.specs.Addresses.{is_ipv4};
 ghost use Rattle.control.specs.Responding.{IsCheckedAnswer, Responds};
 ghost use Rattle.control.specs.declared.config.TheConstants.{MAX_TEXT};
@@ -65,7 +65,7 @@ fn serve(
     requires ipv4 { IsTrue (is_ipv4 arrival.now.client) }
     ensures gives { Gives (understood_and_served request arrival.now.client user arrival.now.message.now
         (rows_at arrival.now.moment tables.old)) tables.old result tables.new }
-    ensures inside { IfOk result (IsInside (length tables.old.slots)) }
+    ensures inside { IfOk result (HasSlotBelow (length tables.old.slots)) }
     ensures moment { (tables.old.moment ≤ tables.new.moment)
         × (tables.new.moment ≤ moment_of tables.old.moment arrival.now.moment) }
     ensures slots { length tables.new.slots ≡ length tables.old.slots }

@@ -5,7 +5,7 @@ use Rattle.stun.specs.Registry.{message_integrity}
 use Rattle.stun.specs.Messages.{Padded, Parts, attribute_of, up_to_integrity, before_first, zero_padded}
 use Rattle.credentials.specs.Hmac.{hmac}
 use Rattle.credentials.specs.Checks.{Accounts, IsUser, HasCredentials, IsChecked, user_key, first_value}
-use Rattle.credentials.specs.Integrity.{covered_bytes, code_under, code_of}
+use Rattle.credentials.specs.Integrity.{covered_bytes, code_under, integrity_of}
 use Rattle.credentials.specs.Signs.{IsUnsigned, with_integrity}
 use Rattle.credentials.proofs.Values.{value_cons}
 use Rattle.stun.specs.Attributes.{value_of}
@@ -39,7 +39,7 @@ value_is (a ∷ attributes) value e = value_cons message_integrity (attribute_of
 -- the code of a signed message is the right one
 pub sign_is_right : (key : List ℕ) (p q : Parts) → q ≡ with_integrity key p → before_first p.attributes ≡ None → code_under key q ≡ first_value q message_integrity
 sign_is_right key p q is none =
-    let code : List ℕ = code_of key p in
+    let code : List ℕ = integrity_of key p in
     let right : code_under key (with_integrity key p) ≡ first_value (with_integrity key p) message_integrity =
     ap (λ (o : Option (List Padded)). option_map (λ front. hmac key (covered_bytes p front)) o) (front_is p.attributes code none)
     ∙ sym (value_is p.attributes code none) in
@@ -64,7 +64,7 @@ kept (a ∷ attributes) kind code value e is =
 pub sign_is_accepted : (p : Parts) (name realm nonce : List ℕ) (users : Accounts) (index : ℕ) → IsUnsigned p nonce name → IsUser users name index → IsChecked (with_integrity (user_key realm users index) p) realm users nonce (Ok index)
 sign_is_accepted p name realm nonce users index is user =
     let key : List ℕ = user_key realm users index in
-    let code : List ℕ = code_of key p in
+    let code : List ℕ = integrity_of key p in
     let code_is : first_value (with_integrity key p) message_integrity ≡ Some code = value_is p.attributes code is.no_code in
     let fresh : HasCredentials (with_integrity key p) nonce code name = record {
       code_is = code_is;

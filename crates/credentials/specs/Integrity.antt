@@ -13,5 +13,5 @@ abbrev pub code_under : List ℕ → Parts → Option (List ℕ)
 code_under key p = option_map (λ front. hmac key (covered_bytes p front)) (before_first p.attributes)
 
 -- the code that a message is signed with, after all its attributes
-abbrev pub code_of : List ℕ → Parts → List ℕ
-code_of key p = hmac key (covered_bytes p p.attributes)
+abbrev pub integrity_of : List ℕ → Parts → List ℕ
+integrity_of key p = hmac key (covered_bytes p p.attributes)

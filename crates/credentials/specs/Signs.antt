@@ -7,16 +7,16 @@ use Rattle.stun.specs.Builders.{parts_of}
 use Rattle.stun.specs.declared.building.Builder.{Builder}
 use Rattle.credentials.specs.declared.key.Key.{Key}
 use Rattle.credentials.specs.Keys.{key_bytes}
-use Rattle.credentials.specs.Integrity.{code_of}
+use Rattle.credentials.specs.Integrity.{integrity_of}
 use Rattle.credentials.specs.Checks.{first_value}
 
 -- the message with a MESSAGE-INTEGRITY after its attributes
 abbrev pub with_integrity : List ℕ → Parts → Parts
-with_integrity key p = with_attribute p message_integrity (code_of key p)
+with_integrity key p = with_attribute p message_integrity (integrity_of key p)
 
 -- the code of a builder's message
 abbrev pub code_in : Builder → Key → List ℕ
-code_in builder key = code_of (key_bytes key) (parts_of builder)
+code_in builder key = integrity_of (key_bytes key) (parts_of builder)
 
 -- a message that lacks only its code: it has a name, a realm and the nonce
 pub record IsUnsigned (p : Parts) (nonce name : List ℕ) : Type 0 where

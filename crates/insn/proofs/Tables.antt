@@ -3,7 +3,7 @@ use Rattle.std.proofs.Common.{◌≡◌, ℕ, zero, suc, ◌<◌, nat_eq, nat_lt
 use Rattle.std.specs.List.{flat_map}
 use Rattle.std.proofs.lemmas.Bool.{false≢true, eq-eqb}
 
--- a value stands in a table
+-- a value is in a table
 abbrev pub Among : {X : Type 0} → List X → X → Type 0
 Among [] x = ⊥
 Among (y ∷ ys) x = (y ≡ x) ⊎ Among ys x

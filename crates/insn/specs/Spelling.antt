@@ -151,7 +151,7 @@ argument_text (Natural n) = decimal n
 argument_text (Address base displacement) = codes "[" ++ register_name base ++ with_sign displacement ++ codes "]"
 argument_text (Distance n) = with_sign n
 
--- the arguments, each with what stands before it
+-- the arguments, each with what comes before it
 abbrev pub following_arguments : List ℕ → List Argument → List ℕ
 following_arguments before [] = []
 following_arguments before (a ∷ more) = before ++ argument_text a ++ following_arguments (codes ", ") more

@@ -57,7 +57,7 @@ starts Logs program answers context memory old = record {
   logged = refl;
 }
 
--- one turn of the loop, at what stands at the slot
+-- one turn of the loop, at what is at the slot
 abbrev turned_to : Environment → List Insn → Memory → Plan → ℕ → List Value → ℕ → List Visit → List Visit → runs.StepResult → Run
 turned_to w program memory plan slot registers steps path more r =
     after (path ++ more) (onwards (state_at slot registers memory plan) r (λ next. run w program (length program - steps) next))

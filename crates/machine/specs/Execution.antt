@@ -35,8 +35,8 @@ abbrev pub state_at : ℕ → List Value → Memory → Plan → State
 state_at slot registers memory plan = record { slot = slot; registers = registers; memory = memory; plan = plan }
 
 -- a window that is planned lies in headroom, datagram and tailroom
-abbrev pub IsInside : ℕ → Plan → Type 0
-IsInside length plan = IfSome plan.window (IsWindow length)
+abbrev pub HasWindowInside : ℕ → Plan → Type 0
+HasWindowInside length plan = IfSome plan.window (IsWindow length)
 
 -- the step of the definitions that has this result and leaves these registers, this memory and this plan
 abbrev pub result_of : ℕ → List Value → Memory → Plan → StepResult → runs.StepResult

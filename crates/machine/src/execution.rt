@@ -14,7 +14,7 @@ ghost use Rattle.semantics.specs.declared.helper.TheConstants.{RECORD_BYTES};
 ghost use Rattle.semantics.specs.Views.{memory_with};
 ghost use Rattle.machine.specs.Contexts.{around};
 ghost use Rattle.machine.specs.Execution.{state_at, MakesStep, GoesAhead, GoesStraight, IfGoes, IfEnds};
-ghost use Rattle.machine.specs.Execution.{IsInside, IsRecordOf, IsContextRecord, IsWholeRun};
+ghost use Rattle.machine.specs.Execution.{HasWindowInside, IsRecordOf, IsContextRecord, IsWholeRun};
 
 use crate::outcome::Stuck;
 use crate::sink::Sink;
@@ -188,14 +188,14 @@ fn apply<H: Helpers>(
 )
     requires straight { GoesStraight effect }
     requires inside { StaysInside (memory_with stack.old bytes.old given.now.length) effect }
-    requires planned { IsInside given.now.length state.old.plan }
+    requires planned { HasWindowInside given.now.length state.old.plan }
     ensures applied { (c : Context) (program : List Insn) (slot : ℕ) (i : Insn)
         → Goes (state_at (slot + slots_of i) state.new.registers (memory_with stack.new bytes.new given.now.length)
         state.new.plan)
         ≡ step_by_effect (around c (H.answers given.now.helpers.now)) program
         (state_at slot state.old.registers (memory_with stack.old bytes.old given.now.length) state.old.plan) i
         (Ok effect) }
-    ensures inside { IsInside given.now.length state.new.plan }
+    ensures inside { HasWindowInside given.now.length state.new.plan }
 {
     match effect {
         Effect::Write { dst, value } => state.registers[dst.number() as usize] = value,
@@ -232,13 +232,13 @@ fn execute_step<H: Helpers>(
     requires cells { count stack.old ≡ STACK_BYTES }
     requires surrounded { count bytes.old ≡ HEADROOM + given.now.length + TAILROOM }
     requires short { given.now.length ≤ MAX_DATAGRAM }
-    requires inside { IsInside given.now.length state.old.plan }
+    requires inside { HasWindowInside given.now.length state.old.plan }
     ensures result { MakesStep (H.answers given.now.helpers.now) given.now.context.now given.now.code.now insn.now
         (state_at state.old.at.slot state.old.registers (memory_with stack.old bytes.old given.now.length) state.old.plan)
         (state_at state.old.at.slot state.new.registers (memory_with stack.new bytes.new given.now.length) state.new.plan)
         result }
     ensures ahead { IfGoes result (GoesAhead given.now.code.now state.old.at) }
-    ensures inside { IsInside given.now.length state.new.plan }
+    ensures inside { HasWindowInside given.now.length state.new.plan }
     ensures kept { IfEnds result
         (memory_with stack.new bytes.new given.now.length ≡ memory_with stack.old bytes.old given.now.length) }
     ensures planned { IfEnds result (state.new.plan ≡ state.old.plan) }
@@ -280,7 +280,7 @@ fn execute_from<H: Helpers, S: Sink>(
     ensures run { IsWholeRun S.Logs given.now.code.now (H.answers given.now.helpers.now) given.now.context.now
         (memory_with stack.old bytes.old given.now.length) (memory_with stack.new bytes.new given.now.length)
         state.new.plan (S.log sink.old) (S.log sink.new) result }
-    ensures inside { IsInside given.now.length state.new.plan }
+    ensures inside { HasWindowInside given.now.length state.new.plan }
 {
     let mut steps = 0;
     loop {
@@ -327,7 +327,7 @@ pub fn execute<H: Helpers, S: Sink>(
     ensures run { IsWholeRun S.Logs given.now.code.now (H.answers given.now.helpers.now) given.now.context.now
         (memory_with stack.old bytes.old given.now.length) (memory_with stack.new bytes.new given.now.length) plan.new
         (S.log sink.old) (S.log sink.new) result }
-    ensures inside { IsInside given.now.length plan.new }
+    ensures inside { HasWindowInside given.now.length plan.new }
 {
     let mut state = RunState {
         registers: first_registers(),

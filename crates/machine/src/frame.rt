@@ -192,7 +192,7 @@ impl Frame {
         self.flat.slice_mut(start..start + MAX_DATAGRAM)
     }
 
-    /// Returns the room for a datagram, 65,507 bytes, as it stands.
+    /// Returns the room for a datagram, 65,507 bytes, as it is.
     pub fn room(&self) -> &[u8]
         ensures value { result.now ≡ room_of self.now }
         ensures len { length (room_of self.now) ≡ MAX_DATAGRAM }

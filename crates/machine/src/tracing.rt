@@ -13,7 +13,7 @@ ghost use Rattle.flat.specs.Layout.{headroom_index};
 ghost use Rattle.machine.specs.Contents.{datagram_of};
 ghost use Rattle.helpers.specs.Records.{address_of};
 ghost use Rattle.machine.specs.Contexts.{context_of};
-ghost use Rattle.machine.specs.Execution.{IsInside, IsContextRecord, IsWholeRun, RunsOver};
+ghost use Rattle.machine.specs.Execution.{HasWindowInside, IsContextRecord, IsWholeRun, RunsOver};
 ghost use Rattle.machine.specs.Tracing.{run_of, IsOutcome, left_by, IsFrameRun, Reports, Shows};
 
 use crate::context::context_record;
@@ -55,7 +55,7 @@ fn execute_in<H: Helpers, S: Sink>(
         (memory_with stack.old (take size (drop headroom_index flat.old)) given.now.length)
         (memory_with stack.new (take size (drop headroom_index flat.new)) given.now.length)
         plan.new (S.log sink.old) (S.log sink.new) result }
-    ensures inside { IsInside given.now.length plan.new }
+    ensures inside { HasWindowInside given.now.length plan.new }
     ensures beyond { let size = HEADROOM + TAILROOM + given.now.length in
         drop size (drop headroom_index flat.new) ≡ drop size (drop headroom_index flat.old) }
 {

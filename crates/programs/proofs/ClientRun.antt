@@ -103,7 +103,7 @@ masked_fits : (ip : List ℕ) (i : ℕ) → slice_index (masked 4 ip magic_cooki
 unfolding masked
 masked_fits ip i = big_below (bit_xor (big_number 4 ip) magic_cookie) i
 
--- where the value stands in a datagram
+-- where the value is in a datagram
 module _ (d : List ℕ) (fit : IsDatagram d) (k : ℕ) (inside : k + 8 ≤ length d) where
   abbrev value : List ℕ
   value = part 8 k d

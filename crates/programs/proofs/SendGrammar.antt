@@ -186,7 +186,7 @@ module _ (d tx v x pad : List ℕ) (id : length tx ≡ 12) (eight : length v ≡
     from_attributes : drop 20 d ≡ after_the_header
     from_attributes = ap (drop 20) is ∙ drop_at tx after_the_header 12 id
 
-  -- what stands after the first attribute, and the sizes
+  -- what is after the first attribute, and the sizes
   abbrev data_bytes : List ℕ
   data_bytes = attributes_bytes (data_attribute_of ∷ [])
 

@@ -5,7 +5,7 @@ use Rattle.std.specs.Net.Grammar.{IsDotted}
 use Rattle.std.specs.Str.Parse.{IsNumeral, digits_value, without_leading_plus}
 use Rattle.credentials.specs.declared.checking.User.{User}
 
--- decimal digits, of which a plus may stand before the first, have this number, and it is below a bound
+-- decimal digits, of which a plus may be before the first, have this number, and it is below a bound
 abbrev pub IsDecimal : ℕ → List ℕ → ℕ → Type 0
 IsDecimal bound text n = IsNumeral 10 (without_leading_plus text)
     × ((digits_value 10 (without_leading_plus text) ≡ n) × (n < bound))

@@ -1,4 +1,4 @@
--- What is written over bytes, and the parts of what stands in a buffer.
+-- What is written over bytes, and the parts of what is in a buffer.
 use Rattle.std.proofs.Common.{◌≡◌, ℕ, zero, suc, ◌+◌, ◌%◌, ◌<◌, ◌≤◌, min, List, ◌++◌, length, take, drop, replicate, subst, refl, sym, ap, ◌∙◌, arith, append_assoc}
 use Rattle.std.proofs.lemmas.List.{length-append, length-drop, length-take-le, take-append-drop, drop-drop}
 use Rattle.byteorder.specs.Endian.{big_bytes}
@@ -50,7 +50,7 @@ attribute_written b b1 b2 b3 b4 value zeros kind n at at2 at3 at4 e1 e2 e3 e4 n_
     patched_four b b1 b2 b3 b4 (big_bytes 2 kind) (big_bytes 2 n) value zeros at at2 at3 at4 e1 e2 e3 e4 n2 (omega (arith, n2, n3)) n4 room
     ∙ (λ i. with_piece at (big_bytes 2 kind ++ (big_bytes 2 (n_is i) ++ (value ++ zeros_are i))) b)
 
--- ---- what stands in a buffer
+-- ---- what is in a buffer
 
 pub record Stands (p : Parts) (r b : List ℕ) : Type 0 where
   pub building : IsBuilding b
@@ -80,7 +80,7 @@ stands b p r are spelled =
       following = ap (drop (length whole)) spelled ∙ piece_drop whole r (length whole) refl;
     }
 
--- a buffer that is being built stands as its message and the rest
+-- a buffer that is being built has its message, and then the rest
 pub split_building : (b : List ℕ) → IsBuilding b → (b ≡ parts_bytes (built b) ++ drop (length (parts_bytes (built b))) b) × (length (parts_bytes (built b)) ≡ 20 + number_at 2 2 b) × (length (attributes_bytes (built b).attributes) ≡ number_at 2 2 b)
 unfolding built
 split_building b is =

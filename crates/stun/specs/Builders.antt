@@ -29,7 +29,7 @@ buffer_name b = b.buffer.ghost_name
 abbrev pub SameBuffer : Builder → Builder → Type 0
 SameBuffer old new = buffer_name new ≡ buffer_name old
 
--- the message has one more attribute, and stands over the first bytes of the buffer; all others are as they were
+-- the message has one more attribute, and is over the first bytes of the buffer; all others are as they were
 pub record Appends (kind : ℕ) (value : List ℕ) (old new : Builder) : Type 0 where
   pub parts : parts_of new ≡ with_attribute (parts_of old) kind value
   pub bytes : bytes_of new ≡ over (parts_of new) (bytes_of old)

@@ -35,7 +35,7 @@ with_piece at piece bytes = take at bytes ++ (piece ++ drop (at + length piece) 
 
 -- ---- what is written into a buffer
 
--- a message with no attributes stands over the first bytes, and the others are as they were
+-- a message with no attributes is over the first bytes, and the others are as they were
 pub record Begins (kind : ℕ) (transaction_id old new : List ℕ) : Type 0 where
   pub parts : built new ≡ empty_message kind transaction_id
   pub bytes : new ≡ over (empty_message kind transaction_id) old
@@ -43,7 +43,7 @@ pub record Begins (kind : ℕ) (transaction_id old new : List ℕ) : Type 0 wher
   pub room : room_in new ≡ min (length old) 65552
   pub fits : 20 ≤ length old
 
--- the message that stood there, with one more attribute, stands over the first bytes, and the others are as they were
+-- the message that stood there, with one more attribute, is over the first bytes, and the others are as they were
 pub record IsAppended (kind : ℕ) (value old new : List ℕ) : Type 0 where
   pub parts : built new ≡ with_attribute (built old) kind value
   pub bytes : new ≡ over (built new) old

@@ -3,17 +3,17 @@ use Rattle.std.specs.Prelude.{ℕ, List, codes}
 use Rattle.stun.specs.declared.registry.ErrorCode.{ErrorCode}
 use Rattle.stun.specs.declared.registry.ErrorCode.TheVariants.{BadRequest, Unauthenticated, UnknownAttribute, AllocationMismatch, StaleNonce, AddressFamilyNotSupported, WrongCredentials, UnsupportedTransport, PeerAddressFamilyMismatch, InsufficientCapacity}
 
-abbrev pub code_of : ErrorCode → ℕ
-code_of BadRequest = 400
-code_of Unauthenticated = 401
-code_of UnknownAttribute = 420
-code_of AllocationMismatch = 437
-code_of StaleNonce = 438
-code_of AddressFamilyNotSupported = 440
-code_of WrongCredentials = 441
-code_of UnsupportedTransport = 442
-code_of PeerAddressFamilyMismatch = 443
-code_of InsufficientCapacity = 508
+abbrev pub number_of_error : ErrorCode → ℕ
+number_of_error BadRequest = 400
+number_of_error Unauthenticated = 401
+number_of_error UnknownAttribute = 420
+number_of_error AllocationMismatch = 437
+number_of_error StaleNonce = 438
+number_of_error AddressFamilyNotSupported = 440
+number_of_error WrongCredentials = 441
+number_of_error UnsupportedTransport = 442
+number_of_error PeerAddressFamilyMismatch = 443
+number_of_error InsufficientCapacity = 508
 
 -- a phrase has at most 30 bytes
 abbrev pub phrase_of : ErrorCode → List ℕ

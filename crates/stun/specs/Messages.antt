@@ -10,7 +10,7 @@ pub record Attribute : Type 0 where
   pub kind : ℕ
   pub value : List ℕ
 
--- an attribute as it stands in a datagram, with the bytes that fill its value up to a multiple of four
+-- an attribute as it is in a datagram, with the bytes that fill its value up to a multiple of four
 pub record Padded : Type 0 where
   pub kind : ℕ
   pub value : List ℕ
@@ -77,7 +77,7 @@ message_of p = record { kind = p.kind; transaction_id = p.transaction_id; attrib
 abbrev pub IsMessage : Message → List ℕ → Type 0
 IsMessage m bytes = (p : Parts) × AreParts p × (bytes ≡ parts_bytes p) × (m ≡ message_of p)
 
--- ---- what stands before MESSAGE-INTEGRITY
+-- ---- what comes before MESSAGE-INTEGRITY
 
 -- the attributes before the first MESSAGE-INTEGRITY, if there is one
 abbrev pub before_first : List Padded → Option (List Padded)

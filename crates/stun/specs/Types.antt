@@ -22,6 +22,6 @@ class_bits Indication = 0x010
 class_bits Success = 0x100
 class_bits Error = 0x110
 
--- every method is below 16: its bits stand below those of the class
+-- every method is below 16: its bits are below those of the class
 abbrev pub type_number : MessageType → ℕ
 type_number t = method_number t.method + class_bits t.class

@@ -125,7 +125,7 @@ impl<'a> Builder<'a> {
         message
     }
 
-    /// Ends the message, which stands in the first bytes of the buffer, and returns its length.
+    /// Ends the message, which is in the first bytes of the buffer, and returns its length.
     pub fn finish(self) -> usize
         ensures size { result ≡ used_of self.entry }
         ensures bytes { take result (bytes_of self.entry) ≡ parts_bytes (parts_of self.entry) }

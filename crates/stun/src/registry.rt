@@ -121,7 +121,7 @@ impl MessageType {
     ghost use Rattle.stun.specs.Types.{type_number};
     ghost use Rattle.stun.specs.declared.registry.MessageType as declared;
 
-    /// Returns the 14 bits of the type. The methods lie below 16, so the bits of the class stand above those
+    /// Returns the 14 bits of the type. The methods lie below 16, so the bits of the class are above those
     /// of the method.
     pub fn kind(self) -> u16
         ensures number { result ≡ type_number self }
@@ -223,11 +223,11 @@ pub enum ErrorCode {
 
 impl ErrorCode {
     ghost use Rattle.std.specs.Prelude.{◌≡◌};
-    ghost use Rattle.stun.specs.ErrorCodes.{code_of, phrase_of};
+    ghost use Rattle.stun.specs.ErrorCodes.{number_of_error, phrase_of};
 
     /// Returns the code, 400 to 508.
     pub fn code(self) -> u16
-        ensures { result ≡ code_of self }
+        ensures { result ≡ number_of_error self }
     {
         match self {
             ErrorCode::BadRequest => 400,

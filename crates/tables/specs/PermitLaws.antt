@@ -32,7 +32,7 @@ pub with_all-append : (m : PermissionMap) (xs ys : List Addr) (end : ℕ) → wi
 with_all-append m [] ys end = refl
 with_all-append m (x ∷ xs) ys end = with_all-append (insert m (ip_of x) end) xs ys end
 
--- ---- an address that stands twice
+-- ---- an address that is there twice
 
 insert_again : (m : PermissionMap) (ip : List ℕ) (end : ℕ) → get m ip ≡ Some end → insert m ip end ≡ m
 insert_again m ip end there = same_map ip_total ip_antisymmetric _ _ (λ q. get-insert ip_total m ip end q ∙ elim (cases_Bool (eq_by_cmp ip_cmp q ip)) [
@@ -52,7 +52,7 @@ end_kept m ip (x ∷ xs) end there =
 inserted : (m : PermissionMap) (ip : List ℕ) (end : ℕ) → get (insert m ip end) ip ≡ Some end
 inserted m ip end = get-insert ip_total m ip end ip ∙ cond-true (eq_by_cmp ip_cmp ip ip) _ _ (is_itself ip)
 
--- at an index of a list stands this IP address
+-- at an index of a list is this IP address
 abbrev pub HasIp : List ℕ → List Addr → Type 0
 HasIp ip [] = ⊥
 HasIp ip (x ∷ xs) = (ip ≡ ip_of x) ⊎ HasIp ip xs

@@ -31,7 +31,7 @@ use Rattle.verifier.specs.Layout.{IsLaidOut, StartsAt}
 use Rattle.verifier.specs.declared.kept.Kept.{Kept}
 use Rattle.verifier.specs.PendingStates.{AllRunsExit, IsReached, count_from, counts_from}
 use Rattle.verifier.specs.Refusing.{IsReal, MayRefuseOver}
-use Rattle.verifier.specs.Walk.{first_pending, IsInside, LeadsTo, IsNext, IsLeft, GoesOn, Advances, IsStepRefusal, IsCovered, Skips, Settles, MakesStep, waiting, state_to_follow}
+use Rattle.verifier.specs.Walk.{first_pending, BeginsInside, LeadsTo, IsNext, IsLeft, GoesOn, Advances, IsStepRefusal, IsCovered, Skips, Settles, MakesStep, waiting, state_to_follow}
 use Rattle.verifier.specs.declared.refusal.Refusal.{Refusal}
 use Rattle.verifier.specs.declared.refusal.Refusal.TheVariants as refusal
 use Rattle.verifier.specs.declared.walk.Path.{Path}
@@ -93,7 +93,7 @@ waiting_count : {D : Type 0} (code : List Insn) (on : Option (Pending D)) (pendi
 waiting_count code None pending = omega arith
 waiting_count code (Some p) pending = omega (arith, sum_by_push (count_from code) pending p)
 
-some_begins : {D : Type 0} (code : List Insn) (here : Pending D) → IsInside code here → 1 ≤ count_from code here
+some_begins : {D : Type 0} (code : List Insn) (here : Pending D) → BeginsInside code here → 1 ≤ count_from code here
 some_begins code here inside =
     let i : Insn = inside.0 in
     let fuel : count_from code here ≡ length (beginnings_from code (suc (ahead code here.slot - 1)) here.slot) = ap (λ (k : ℕ). length (beginnings_from code k here.slot)) (fuel_is code here.slot i inside.1) in
@@ -102,17 +102,17 @@ some_begins code here inside =
 -- ---- the states after a step
 
 module _ {D : Type 0} (code : List Insn) (here : Pending D) (laid_out : IsLaidOut code) (i : Insn) (at : fetch code here.slot ≡ Begins i) (answer : Next D) (ways : successors_in answer ≡ successors_of i) where
-  next_inside : (state : Option (AbsState D)) → state_after answer NotTaken ≡ state → (on : Option (Pending D)) → IsNext code here.slot i NotTaken state on → IfSome on (IsInside code)
+  next_inside : (state : Option (AbsState D)) → state_after answer NotTaken ≡ state → (on : Option (Pending D)) → IsNext code here.slot i NotTaken state on → IfSome on (BeginsInside code)
   next_inside None e None next = tt
   next_inside None e (Some p) next = absurd next
   next_inside (Some b) e None next = absurd next
   next_inside (Some b) e (Some p) next = branch_begins code here.slot p.slot i NotTaken laid_out.exit at (state_goes_on i answer NotTaken b ways e) next.leads
 
-  left_inside : (state : Option (AbsState D)) → state_after answer Taken ≡ state → (left : List (Pending D)) → IsLeft code here.slot i Taken state left → All (IsInside code) left
-  left_inside None e left none = all_none (IsInside code) left none
-  left_inside (Some b) e left one = subst (All (IsInside code)) (sym one.2) (all_one (IsInside code) one.0 (branch_begins code here.slot one.0.slot i Taken laid_out.exit at (state_goes_on i answer Taken b ways e) one.1.leads))
+  left_inside : (state : Option (AbsState D)) → state_after answer Taken ≡ state → (left : List (Pending D)) → IsLeft code here.slot i Taken state left → All (BeginsInside code) left
+  left_inside None e left none = all_none (BeginsInside code) left none
+  left_inside (Some b) e left one = subst (All (BeginsInside code)) (sym one.2) (all_one (BeginsInside code) one.0 (branch_begins code here.slot one.0.slot i Taken laid_out.exit at (state_goes_on i answer Taken b ways e) one.1.leads))
 
-  goes_inside : (on : Option (Pending D)) (left : List (Pending D)) → GoesOn code here.slot i answer on left → IfSome on (IsInside code) × All (IsInside code) left
+  goes_inside : (on : Option (Pending D)) (left : List (Pending D)) → GoesOn code here.slot i answer on left → IfSome on (BeginsInside code) × All (BeginsInside code) left
   goes_inside on left goes = (next_inside (state_after answer NotTaken) refl on goes.0, left_inside (state_after answer Taken) refl left goes.1)
 
 -- ---- skipped states
@@ -187,7 +187,7 @@ module _ {D : Type 0} (ops : Operations D) (Member : D → ℕ → Type 0) (soun
 
   -- the walk after some steps, with the states that wait and those that are kept
   pub record IsWalking (made : ℕ) (waits : List (Pending D)) (states : ℕ → List (AbsState D)) : Type 0 where
-    pub inside : All (IsInside code) waits
+    pub inside : All (BeginsInside code) waits
     pub good : All (AllRunsExit Member code) waits → AllRunsExit Member code first_pending
     pub reached : ArePrecise ops Member → All (IsReached Member code) waits
     pub counted : made + counts_from code waits ≤ length (beginnings code)
@@ -195,7 +195,7 @@ module _ {D : Type 0} (ops : Operations D) (Member : D → ℕ → Type 0) (soun
 
   pub begins : (pending : List (Pending D)) (states : ℕ → List (AbsState D)) → IsLaidOut code → pending ≡ [] → ((n : ℕ) → states n ≡ []) → IsWalking 0 (pending ++ first_pending ∷ []) states
   begins pending states laid_out none nothing = record {
-    inside = one (IsInside code) (first_begins code laid_out.exit);
+    inside = one (BeginsInside code) (first_begins code laid_out.exit);
     good = λ goods. last_of (AllRunsExit Member code) pending first_pending goods;
     reached = λ precise. one (IsReached Member code) (first_reached ops Member sound code);
     counted =
@@ -256,7 +256,7 @@ module _ {D : Type 0} (ops : Operations D) (Member : D → ℕ → Type 0) (soun
         let counts = counts_before code here adv.insn adv.begins adv.accepted successors_are on adv.left adv.goes_on in
         let sums : counts_from code new ≡ counts_from code old + counts_from code adv.left = ap (counts_from code) adv.new_is ∙ sum_by-append (count_from code) old adv.left in
         record {
-          inside = all_new (IsInside code) (firsts (IsInside code) old (here ∷ []) walking.inside) inside.0 inside.1;
+          inside = all_new (BeginsInside code) (firsts (BeginsInside code) old (here ∷ []) walking.inside) inside.0 inside.1;
           good = good_first;
           reached = λ precise.
               let reached = reached_after ops Member sound precise code laid_out.jumps here adv.insn adv.begins adv.fits adv.accepted adv.step_is (last_of (IsReached Member code) old here (walking.reached precise)) on adv.left adv.goes_on in
@@ -280,7 +280,7 @@ module _ {D : Type 0} (ops : Operations D) (Member : D → ℕ → Type 0) (soun
 
     pub skips_one : IsWalking made rest states
     skips_one = record {
-      inside = firsts (IsInside code) rest (p ∷ []) walking.inside;
+      inside = firsts (BeginsInside code) rest (p ∷ []) walking.inside;
       good = λ goods. walking.good (All-push (AllRunsExit Member code) rest p goods (skipped (All-weaker (AllRunsExit Member code) (IsGoodAbove p.slot) (λ q h high. h) rest goods)));
       reached = λ precise. firsts (IsReached Member code) rest (p ∷ []) (walking.reached precise);
       counted = omega (arith, walking.counted, sum_by_push (count_from code) rest p);
@@ -323,8 +323,8 @@ module _ {D : Type 0} (ops : Operations D) (Member : D → ℕ → Type 0) (soun
         λ precise. subst (IsReal code reason) (sym refused.0) (refusal_is_real ops Member sound precise code here reason (last_of (IsReached Member code) pending here (walking.reached precise)) refused.1),
       )
   real code budget made here pending states (refusal.Budget slot) laid_out walking refused = absurd refused
-  real code budget made here pending states (refusal.Memory slot) laid_out walking refused = (laid_out, subst (StartsAt code) (sym refused) (last_of (IsInside code) pending here walking.inside))
+  real code budget made here pending states (refusal.Memory slot) laid_out walking refused = (laid_out, subst (StartsAt code) (sym refused) (last_of (BeginsInside code) pending here walking.inside))
 
   -- after the budget's steps there is a beginning of a path more than they
   pub more_paths : (code : List Insn) (made : ℕ) (here : Pending D) (pending : List (Pending D)) (states : ℕ → List (AbsState D)) → IsWalking ops Member sound code made (pending ++ here ∷ []) states → made < length (beginnings code)
-  more_paths code made here pending states walking = omega (arith, walking.counted, sum_by_push (count_from code) pending here, some_begins code here (last_of (IsInside code) pending here walking.inside))
+  more_paths code made here pending states walking = omega (arith, walking.counted, sum_by_push (count_from code) pending here, some_begins code here (last_of (BeginsInside code) pending here walking.inside))

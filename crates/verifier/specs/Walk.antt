@@ -24,8 +24,8 @@ use Rattle.verifier.specs.declared.walk.Path.{Path}
 use Rattle.verifier.specs.declared.walk.Path.TheVariants.{Continues, Ended}
 
 -- an instruction begins at the slot of a pending state
-abbrev pub IsInside : {D : Type 0} → List Insn → Pending D → Type 0
-IsInside code p = StartsAt code p.slot
+abbrev pub BeginsInside : {D : Type 0} → List Insn → Pending D → Type 0
+BeginsInside code p = StartsAt code p.slot
 
 -- the pending state that a branch of the instruction at a slot leads to
 pub record LeadsTo {D : Type 0} (code : List Insn) (here : ℕ) (i : Insn) (branch : Branch) (state : AbsState D) (p : Pending D) : Type 0 where

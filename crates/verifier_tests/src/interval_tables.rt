@@ -33,7 +33,7 @@ pub const ALL_32: Ends = (0, L32);
 
 pub const ALL_64: Ends = (0, L64);
 
-/// Returns the numbers between two, which may stand in either order.
+/// Returns the numbers between two, which may be in either order.
 pub fn interval(ends: Ends) -> Interval {
     Interval::range(ends.0.min(ends.1), ends.0.max(ends.1))
 }

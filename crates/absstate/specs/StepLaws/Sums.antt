@@ -170,7 +170,7 @@ module _ {D : Type 0} (places : Places) (size : ℕ) (a : AbsState D) (reaches :
   abbrev known_at : Anchor → ℤ → AbstractValue D
   known_at anchor z = Data anchor z
 
-  -- a single number moves the offset; First stands at the place 0
+  -- a single number moves the offset; First is at the place 0
   first_moved : (m : ℕ) → n ≡ m → (made : Anchor) (l : ℤ) → (o : Option ℤ) → moved_place op w k m ≡ o → option_map (known_at First) o ≡ Some (Data made l) → IsSum places size a op w (pos 0 +ℤ k) n made l
   first_moved m same made l None e f = absurd cc
   first_moved m same made l (Some z) e f =

@@ -35,7 +35,7 @@ pub record IsReader {X : Type 0} (reader : Reader X) (Spells : X → List Token 
 
 -- ---- words
 
--- a word that is read stands first
+-- a word that is read is first
 word_taken : {X : Type 0} (meaning : Token → Option X) (ts : List Token) (r : Read X) → word meaning ts ≡ Some r
     → (t : Token) × (ts ≡ t ∷ r.rest) × (meaning t ≡ Some r.value)
 word_taken meaning [] r e = absurd (none-some r e)
@@ -43,7 +43,7 @@ word_taken meaning (t ∷ ts) r e =
     let found = mapped (λ x. record { value = x; rest = ts }) (meaning t) r e in
     (t, ap (λ (q : Read _). t ∷ q.rest) (sym found.2), found.1 ∙ ap (λ (q : Read _). Some q.value) (sym found.2))
 
--- a word that stands first is read
+-- a word that is first is read
 word_given : {X : Type 0} (meaning : Token → Option X) (t : Token) (x : X) (rest : List Token) → meaning t ≡ Some x
     → word meaning (t ∷ rest) ≡ before x rest
 word_given meaning t x rest e = ap (option_map (λ y. record { value = y; rest = rest })) e
@@ -91,7 +91,7 @@ minus n = neg_ℤ (pos n)
 abbrev signed_by : (ℕ → ℤ) → Read ℕ → Read ℤ
 signed_by made n = record { value = made n.value; rest = n.rest }
 
--- an integer that is read of a number: the number stands first
+-- an integer that is read of a number: the number is first
 number_taken : (made : ℕ → ℤ) (ts : List Token) (r : Read ℤ) → option_map (signed_by made) (number ts) ≡ Some r
     → (m : ℕ) × (t : Token) × IsNumber m t × (ts ≡ t ∷ r.rest) × (r.value ≡ made m)
 number_taken made ts r e =
@@ -100,14 +100,14 @@ number_taken made ts r e =
     let split : ts ≡ found.0 ∷ r.rest = found.1 ∙ ap (λ (q : Read ℤ). found.0 ∷ q.rest) (sym read.2) in
     (read.0.value, found.0, numbered_number found.0 read.0.value found.2, split, ap (λ (q : Read ℤ). q.value) read.2)
 
--- a number that stands first is read as an integer
+-- a number that is first is read as an integer
 number_given : (made : ℕ → ℤ) (m : ℕ) (t : Token) (n : ℤ) (rest : List Token) → IsNumber m t → n ≡ made m
     → option_map (signed_by made) (number (t ∷ rest)) ≡ before n rest
 number_given made m t n rest h is =
     ap (option_map (signed_by made)) (word_given number_of_token t m rest (number_is_numbered m t h))
     ∙ ap (λ (k : ℤ). before k rest) (sym is)
 
--- an integer that is read of a sign and a number: both stand first
+-- an integer that is read of a sign and a number: both are first
 after_sign : (s : Token) (made : ℕ → ℤ) (t : Token) (ts : List Token) (r : Read ℤ) → bytes_eq t s ≡ true
     → option_map (signed_by made) (number ts) ≡ Some r
     → (m : ℕ) × (u : Token) × IsNumber m u × (t ∷ ts ≡ s ∷ u ∷ r.rest) × (r.value ≡ made m)
@@ -116,7 +116,7 @@ after_sign s made t ts r is e =
     let first : t ∷ ts ≡ s ∷ ts = ap (λ (u : Token). u ∷ ts) (same_text t s is) in
     (found.0, found.1, found.2, first ∙ ap (λ (us : List Token). s ∷ us) found.3, found.4)
 
--- a signed number that is read stands first
+-- a signed number that is read is first
 signed_taken : (ts : List Token) (r : Read ℤ) → signed_number ts ≡ Some r → BeginsWith IsSigned ts r
 signed_taken [] r e = absurd (none-some r e)
 signed_taken (t ∷ ts) r e = elim (cases_Bool (bytes_eq t (codes "+"))) [
@@ -135,7 +135,7 @@ signed_taken (t ∷ ts) r e = elim (cases_Bool (bytes_eq t (codes "+"))) [
       ]
 ]
 
--- a signed number that stands first is read
+-- a signed number that is first is read
 signed_given : (n : ℤ) (front rest : List Token) → IsSigned n front → signed_number (front ++ rest) ≡ before n rest
 signed_given n front rest (m, t, h, inl plus) =
     ap (λ (ts : List Token). signed_number (ts ++ rest)) plus.0 ∙ number_given pos m t n rest h plus.1
@@ -146,7 +146,7 @@ signed_given n front rest (m, t, h, inr dash) =
 pub signed_number_reads : IsReader signed_number IsSigned
 signed_number_reads = record { takes = signed_taken; gives = signed_given }
 
--- an integer that is read stands first
+-- an integer that is read is first
 integer_taken : (ts : List Token) (r : Read ℤ) → integer ts ≡ Some r → BeginsWith IsInteger ts r
 integer_taken [] r e = absurd (none-some r e)
 integer_taken (t ∷ ts) r e = elim (cases_Bool (bytes_eq t (codes "-"))) [
@@ -158,7 +158,7 @@ integer_taken (t ∷ ts) r e = elim (cases_Bool (bytes_eq t (codes "-"))) [
       (found.1 ∷ [], found.3, (found.0, found.1, found.2, inl (refl, found.4)))
 ]
 
--- an integer that stands first is read
+-- an integer that is first is read
 integer_given : (n : ℤ) (front rest : List Token) → IsInteger n front → integer (front ++ rest) ≡ before n rest
 integer_given n front rest (m, t, h, inl plain) =
     ap (λ (ts : List Token). integer (ts ++ rest)) plain.0
@@ -176,7 +176,7 @@ integer_reads = record { takes = integer_taken; gives = integer_given }
 abbrev pub SpellsOperand : Operand → List Token → Type 0
 SpellsOperand o ts = IsWritten (Plain (argument_of o)) ts
 
--- an operand that is read stands first
+-- an operand that is read is first
 register_or_taken : (ts : List Token) (o : Option (Read Reg)) (p : Option (Read ℤ)) → register ts ≡ o → integer ts ≡ p
     → (r : Read Operand) → register_or o p ≡ Some r → BeginsWith SpellsOperand ts r
 register_or_taken ts (Some q) p is_register is_integer r e =
@@ -185,14 +185,14 @@ register_or_taken ts None p is_register is_integer r e =
     let found = mapped as_imm p r e in
     subst (BeginsWith SpellsOperand ts) (sym found.2) (integer_reads.takes ts found.0 (is_integer ∙ found.1))
 
--- where an integer stands first, no register does
+-- where an integer is first, no register does
 integer_is_no_register : (n : ℤ) (front rest : List Token) → IsInteger n front → register (front ++ rest) ≡ None
 integer_is_no_register n front rest (m, t, h, inl plain) =
     ap (λ (ts : List Token). register (ts ++ rest)) plain.0
     ∙ ap (option_map (λ r. record { value = r; rest = rest })) (number_is_no_register m t h)
 integer_is_no_register n front rest (m, t, h, inr dash) = ap (λ (ts : List Token). register (ts ++ rest)) dash.0
 
--- an operand that stands first is read
+-- an operand that is first is read
 operand_given : (o : Operand) (front rest : List Token) → SpellsOperand o front
     → operand_in (front ++ rest) ≡ before o rest
 operand_given (operand.Reg r) front rest h =
@@ -214,7 +214,7 @@ operand_reads = record {
 abbrev pub SpellsTarget : Target → List Token → Type 0
 SpellsTarget t ts = IfSome t.label (λ _. t.distance ≡ pos 0) × IsWritten (spelling_of t.label (Distance t.distance)) ts
 
--- a target that is read stands first
+-- a target that is read is first
 name_or_taken : (ts : List Token) (o : Option (Read Name)) (p : Option (Read ℤ)) → name ts ≡ o → signed_number ts ≡ p
     → (r : Read Target) → name_or o p ≡ Some r → BeginsWith SpellsTarget ts r
 name_or_taken ts (Some q) p is_name is_signed r e =
@@ -225,12 +225,12 @@ name_or_taken ts None p is_name is_signed r e =
     let found = signed_number_reads.takes ts read.0 (is_signed ∙ read.1) in
     subst (BeginsWith SpellsTarget ts) (sym read.2) (found.0, found.1, (tt, found.2))
 
--- where a signed number stands first, no name does
+-- where a signed number is first, no name does
 signed_is_no_name : (n : ℤ) (front rest : List Token) → IsSigned n front → name (front ++ rest) ≡ None
 signed_is_no_name n front rest (m, t, h, inl plus) = ap (λ (ts : List Token). name (ts ++ rest)) plus.0
 signed_is_no_name n front rest (m, t, h, inr dash) = ap (λ (ts : List Token). name (ts ++ rest)) dash.0
 
--- a target that stands first is read
+-- a target that is first is read
 target_given : (t : Target) (front rest : List Token) → SpellsTarget t front → target (front ++ rest) ≡ before t rest
 target_given t front rest h = go t.distance t.label h
   where
@@ -255,7 +255,7 @@ target_reads = record {
 
 -- ---- addresses
 
--- a sign that is read stands first
+-- a sign that is read is first
 pub sign_taken : (s : Token) (ts rest : List Token) → sign s ts ≡ Some rest → ts ≡ s ∷ rest
 sign_taken s [] rest e = absurd (none-some rest e)
 sign_taken s (t ∷ ts) rest e =
@@ -281,7 +281,7 @@ address_split ts opened base displacement closed first (front, named, is) (signe
     let whole = first ∙ ap (λ (us : List Token). codes "[" ∷ us) inside in
     (codes "[" ∷ text ∷ signed ++ codes "]" ∷ [], whole, (signed, h, refl))
 
--- an address that is read stands first
+-- an address that is read is first
 address_taken : (ts : List Token) (r : Read MemoryOperand) → address ts ≡ Some r → BeginsWith SpellsAddress ts r
 address_taken ts r e =
     let opened = bound (sign (codes "[") ts) _ r e in
@@ -294,7 +294,7 @@ address_taken ts r e =
     (signed_number_reads.takes base.0.rest displacement.0 displacement.1)
     (sign_taken (codes "]") displacement.0.rest closed.0 closed.1))
 
--- an address that stands first is read
+-- an address that is first is read
 address_given : (p : MemoryOperand) (front rest : List Token) → SpellsAddress p front → address (front ++ rest) ≡ before p rest
 address_given p front rest (signed, h, is) =
     let text : Token = register_name p.base in

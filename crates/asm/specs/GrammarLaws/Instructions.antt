@@ -121,7 +121,7 @@ abbrev JumpIfArguments : Reg → Operand → Target → List Token → Type 0
 JumpIfArguments dst o t ts =
     AreWritten (Plain (Register dst) ∷ Plain (argument_of o) ∷ spelling_of t.label (Distance t.distance) ∷ []) ts
 
--- a label stands in the place of the distance alone
+-- a label is in the place of the distance alone
 jump_if_arguments : (dst : Reg) (o : Operand) (t : Target)
     → map (spelling_of t.label) (Register dst ∷ argument_of o ∷ Distance t.distance ∷ [])
     ≡ Plain (Register dst) ∷ Plain (argument_of o) ∷ spelling_of t.label (Distance t.distance) ∷ []

@@ -102,7 +102,7 @@ numbered_number t n e = elim (cases_Bool (is_hexadecimal t)) [
 
 -- ---- the words of numbers
 
--- a hexadecimal digit may stand in words
+-- a hexadecimal digit may be in words
 digit_is_in_words : (d : ℕ) → digit_value d < 16 → is_in_words d ≡ true
 digit_is_in_words d h = grind (arith, nat_tests)
 

@@ -59,7 +59,7 @@ module _ {X : Type 0} (reader : Reader X) {A : X → List Token → Type 0} (rea
       onward (reader ts) _ (record { value = x; rest = [] }) _
       (ap reader (sym (append-nil ts)) ∙ reads.gives x ts [] h) refl
 
-  -- a value and a comma that are read stand first
+  -- a value and a comma that are read are first
   pub comma_taken : (ts : List Token) (r : Read X) → with_comma reader ts ≡ Some r
       → (front : List Token) × (ts ≡ front ++ codes "," ∷ r.rest) × A r.value front
   comma_taken ts r e =
@@ -71,7 +71,7 @@ module _ {X : Type 0} (reader : Reader X) {A : X → List Token → Type 0} (rea
       subst (λ (q : Read X). (front : List Token) × (ts ≡ front ++ codes "," ∷ q.rest) × A q.value front)
       (same_Some _ r comma.2) (found.0, split, found.2)
 
-  -- a value and a comma that stand first are read
+  -- a value and a comma that are first are read
   pub comma_given : (x : X) (front rest : List Token) → A x front
       → with_comma reader (front ++ codes "," ∷ rest) ≡ before x rest
   comma_given x front rest h =

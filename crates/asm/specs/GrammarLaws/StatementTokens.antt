@@ -23,11 +23,11 @@ IsProper t = IsWord t ⊎ IsSign t
 abbrev pub AreProper : List Token → Type 0
 AreProper ts = AllByRecursion IsProper ts
 
--- a token that may stand among arguments
+-- a token that may be among arguments
 abbrev IsOfArguments : Token → Type 0
 IsOfArguments t = IsProper t × (bytes_eq t (codes ":") ≡ false)
 
--- these tokens may stand among arguments
+-- these tokens may be among arguments
 abbrev pub AreOfArguments : List Token → Type 0
 AreOfArguments ts = AllByRecursion IsOfArguments ts
 
@@ -38,7 +38,7 @@ word_is_no_colon : (t : Token) → IsWord t → bytes_eq t (codes ":") ≡ false
 word_is_no_colon t h =
     false_from_ne_true (bytes_eq t (codes ":")) (λ e. false≢true (subst IsWord (same_text t (codes ":") e) h).1.0)
 
--- a word may stand among arguments
+-- a word may be among arguments
 word_of_arguments : (t : Token) → IsWord t → IsOfArguments t
 word_of_arguments t h = (inl h, word_is_no_colon t h)
 

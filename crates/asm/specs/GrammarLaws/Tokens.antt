@@ -88,7 +88,7 @@ word_read t line h k = word_on [] t line h.1 ∙ word_ended t line k ∙ ended_w
 
 -- ---- from the pieces of a line to its tokens
 
--- what follows a piece stands apart
+-- what follows a piece is apart
 apart_after : (t : Token) (more : List Piece) → AreApart (Lexeme t ∷ more) → AreApart more
 apart_after t [] h = tt
 apart_after t (Blank c ∷ more) h = h
@@ -138,19 +138,19 @@ had_is_found line ts h =
 
 -- ---- from the reader's tokens to the pieces of a line
 
--- no word stands first
+-- no word is first
 abbrev BeginsOther : List Piece → Type 0
 BeginsOther [] = Unit {0}
 BeginsOther (Blank c ∷ more) = Unit {0}
 BeginsOther (Lexeme t ∷ more) = IsWord t → ⊥
 
--- before these, any piece stands apart
+-- before these, any piece is apart
 apart_before_other : (t : Token) (more : List Piece) → BeginsOther more → AreApart more → AreApart (Lexeme t ∷ more)
 apart_before_other t [] other apart = tt
 apart_before_other t (Blank c ∷ more) other apart = apart
 apart_before_other t (Lexeme u ∷ more) other apart = ((λ _ word. other word), apart)
 
--- what is no word stands apart from any piece
+-- what is no word is apart from any piece
 apart_from_other : (t : Token) (more : List Piece) → (IsWord t → ⊥) → AreApart more → AreApart (Lexeme t ∷ more)
 apart_from_other t [] other apart = tt
 apart_from_other t (Blank c ∷ more) other apart = apart

@@ -85,7 +85,7 @@ named_name t n e =
     let parts = cond_some (is_name t) t n e in
     (parts.1, subst IsName parts.1 (name_by_test t parts.0))
 
--- what begins a name may stand further on
+-- what begins a name may be further on
 begins_and_is_in : (c : ℕ) → begins_name c ≡ true → is_in_names c ≡ true
 begins_and_is_in c e = grind (arith, nat_tests)
 

@@ -71,7 +71,7 @@ const CLASSES: [ClassRow; 4] = [
 ];
 
 /// Returns a type as the figure of RFC 8489, section 5, has it: the bits of the class are the bits 4 and 8,
-/// and those of the method stand around them.
+/// and those of the method are around them.
 fn type_of(method: u16, class: u16) -> u16 {
     method & 0xf
         | (class & 1) << 4

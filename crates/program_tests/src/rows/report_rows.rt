@@ -284,7 +284,7 @@ fn expect_reports<R: Abort + AllocGlobal>(rt: &R, rows: &[Report]) -> Result<(),
     Ok(())
 }
 
-/// How many times `7f` stands in the data, what follows it, what is printed, and the status.
+/// How many times `7f` is in the data, what follows it, what is printed, and the status.
 #[derive(Clone, Copy)]
 struct Long {
     times: usize,

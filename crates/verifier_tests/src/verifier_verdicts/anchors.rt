@@ -4,7 +4,7 @@ use super::Row;
 
 pub static ROWS: [Row; 23] = [
     // A number is read from the datagram's first place into r5, and all its bytes are checked for. Then five
-    // instructions stand before the exit at slot 12. `Known` refuses each sum, since an unknown number may have either
+    // instructions are before the exit at slot 12. `Known` refuses each sum, since an unknown number may have either
     // sign.
     Row {
         name: "its byte is read",

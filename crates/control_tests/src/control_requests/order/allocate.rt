@@ -45,7 +45,7 @@ const ROWS: [Row; 10] = [
     },
 ];
 
-/// Faults that cannot stand in one request.
+/// Faults that cannot be in one request.
 const EXCLUSIVE: [&[Fault]; 2] = [
     // each is a fault of REQUESTED-TRANSPORT
     &[

@@ -57,7 +57,7 @@ const ROWS: [Row; 13] = [
     },
 ];
 
-/// Faults that cannot stand in one request.
+/// Faults that cannot be in one request.
 const EXCLUSIVE: [&[Fault]; 8] = [
     // where there is no allocation, it is nobody's
     &[Fault::NoAllocation, Fault::OtherOwner],

@@ -33,7 +33,7 @@ const ROWS: [Row; 7] = [
     },
 ];
 
-/// Faults that cannot stand in one request.
+/// Faults that cannot be in one request.
 const EXCLUSIVE: [&[Fault]; 4] = [
     // where there is no allocation, it is nobody's
     &[Fault::NoAllocation, Fault::OtherOwner],

@@ -28,7 +28,7 @@ const ROWS: [Row; 6] = [
     },
 ];
 
-/// Faults that cannot stand in one request.
+/// Faults that cannot be in one request.
 const EXCLUSIVE: [&[Fault]; 2] = [
     // where there is no allocation, it is nobody's
     &[Fault::NoAllocation, Fault::OtherOwner],

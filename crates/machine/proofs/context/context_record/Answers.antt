@@ -4,7 +4,7 @@ use Rattle.insn.specs.Endian.{little_bytes}
 use Rattle.semantics.specs.Machine.{context_bytes}
 use Rattle.machine.proofs.context.context_record.Goals as goal
 
--- what stands up to the end of a part that was written, which ends at the index k
+-- what is up to the end of a part that was written, which ends at the index k
 up_to : (at k : ℕ) (part old new : List ℕ) → k ≡ at + length part → k ≤ length old → new ≡ take at old ++ part ++ drop (at + length part) old → take k new ≡ take at old ++ part
 up_to at k part old new end le e =
     let front : length (take at old) ≡ at = length-take-le at old (omega (arith, end, le)) in

@@ -7,7 +7,7 @@ use denote.Memory.{lone}
 use Rattle.verifier.proofs.Sizes.{state_fits, pending_fits}
 use Rattle.verifier.specs.Keeping.{kept_at}
 use Rattle.verifier.specs.Refusing.{IfBudget}
-use Rattle.verifier.specs.Walk.{IsInside, IsStepRefusal}
+use Rattle.verifier.specs.Walk.{BeginsInside, IsStepRefusal}
 use Rattle.verifier.specs.Walks.{Walks}
 use Rattle.verifier.specs.declared.refusal.Refusal.{Refusal}
 use Rattle.verifier.specs.declared.refusal.Refusal.TheVariants as refusal
@@ -34,7 +34,7 @@ loop-init g c = record {
 }
 
 pub make_step-requires : goal.make_step-requires
-make_step-requires g c = (pending_fits (lone g.row.D.mir) g.met.D.Domain.small, (c.requires.few, (c.requires.laid_out, last_of (IsInside c.args.program.now) c.loop.pending.items c.loop.here c.loop.invariant.walking.inside)))
+make_step-requires g c = (pending_fits (lone g.row.D.mir) g.met.D.Domain.small, (c.requires.few, (c.requires.laid_out, last_of (BeginsInside c.args.program.now) c.loop.pending.items c.loop.here c.loop.invariant.walking.inside)))
 
 pub returns-in_err-make_step-clause-refused : goal.returns-in_err-make_step-clause-refused
 returns-in_err-make_step-clause-refused g c = let p = err_from_is_err_and c.from_residual.result c.from_residual.ensures.1 in rw (p.1, p.2) (real g.D.Domain.ops g.D.Domain.Member g.met.D.Domain.laws c.args.program.now c.args.budget c.loop.counter c.loop.here c.loop.pending.items (kept_at c.loop.kept) c.in_err-make_step.field-0.0 c.requires.laid_out c.loop.invariant.walking c.in_err-make_step.ensures.refused)
@@ -73,7 +73,7 @@ loop-preserved g c = record {
 pub returns-clause-refused : goal.returns-clause-refused
 returns-clause-refused g c =
     let all : c.loop.counter ≡ c.args.budget = omega (arith, c.loop-test.false, c.loop.auto.counter-end) in
-    (c.requires.laid_out, last_of (IsInside c.args.program.now) c.loop.pending.items c.loop.here c.loop.invariant.walking.inside, omega (arith, more_paths g.D.Domain.ops g.D.Domain.Member g.met.D.Domain.laws c.args.program.now c.loop.counter c.loop.here c.loop.pending.items (kept_at c.loop.kept) c.loop.invariant.walking, all))
+    (c.requires.laid_out, last_of (BeginsInside c.args.program.now) c.loop.pending.items c.loop.here c.loop.invariant.walking.inside, omega (arith, more_paths g.D.Domain.ops g.D.Domain.Member g.met.D.Domain.laws c.args.program.now c.loop.counter c.loop.here c.loop.pending.items (kept_at c.loop.kept) c.loop.invariant.walking, all))
 
 pub returns-in_default-clause-walked : goal.returns-in_default-clause-walked
 returns-in_default-clause-walked g c = record { made = 0; count = omega arith; end = inl (refl, refl) }
