@@ -11,7 +11,7 @@ use std::alloc::{AllocError, Global};
 use std::test::Fail;
 
 /// Each event with its answer.
-static STORY: [(&str, &str); 23] = [
+pub(crate) static STORY: [(&str, &str); 23] = [
     // no credentials
     (
         "c 1000 000000000000000000000000 198.51.100.2:4000 000300002112a442000000000000000000000000",
@@ -137,7 +137,7 @@ fn config(alloc: Global) -> Result<Config, AllocError> {
 }
 
 /// Makes a relay with the shipped programs.
-fn shipped(alloc: Global) -> Result<Relay, Fail> {
+pub(crate) fn shipped(alloc: Global) -> Result<Relay, Fail> {
     let client = load(alloc, CLIENT)?;
     let peer = load(alloc, PEER)?;
     let relay = Relay::new(alloc, config(alloc)?, client, peer)?;
