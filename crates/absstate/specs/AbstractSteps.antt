@@ -272,13 +272,13 @@ in_bytes place n low high = do
   inside ← check (is_within place n low high) DatagramBounds
   Ok InBytes
 
-unfoldable pub located : {D : Type 0} → AbsState D → AbstractValue D → ℤ → ℕ → Result Region Reason
-located a Nothing d n = Err UninitRegister
-located a (Scalar number) d n = Err NotAPointer
-located a Ctx d n = Err ContextAccess
-located a (Stack k) d n = in_stack (k +ℤ d) n
-located a (Data anchor k) d n = in_bytes (k +ℤ d) n (headroom_first -ℤ low_of anchor) (proved_of a anchor)
-located a End d n = in_bytes (pos 0 +ℤ d) n (pos 0) (pos TAILROOM)
+unfoldable pub access_region : {D : Type 0} → AbsState D → AbstractValue D → ℤ → ℕ → Result Region Reason
+access_region a Nothing d n = Err UninitRegister
+access_region a (Scalar number) d n = Err NotAPointer
+access_region a Ctx d n = Err ContextAccess
+access_region a (Stack k) d n = in_stack (k +ℤ d) n
+access_region a (Data anchor k) d n = in_bytes (k +ℤ d) n (headroom_first -ℤ low_of anchor) (proved_of a anchor)
+access_region a End d n = in_bytes (pos 0 +ℤ d) n (pos 0) (pos TAILROOM)
 
 -- n bytes of a region of the stack lie inside
 abbrev pub IsInStack : ℕ → Region → Type 0
@@ -319,7 +319,7 @@ load_field ops d z = do
 -- n bytes may be read
 unfoldable pub readable : {D : Type 0} → AbsState D → AbstractValue D → ℤ → ℕ → Result (Unit {0}) Reason
 readable a base d n = do
-  r ← located a base d n
+  r ← access_region a base d n
   region_readable a.marks n r
 
 -- what is known of the number in n bytes that may be read
@@ -364,7 +364,7 @@ store_step ops a z base o d = do
   known ← operand_abstract ops W64 a o
   u ← pointer to
   v ← storable known
-  r ← located a to d (byte_count z)
+  r ← access_region a to d (byte_count z)
   Ok (next.On (with_region a (byte_count z) r))
 
 -- ---- calls

@@ -1,4 +1,5 @@
 pub mod Bytes
+pub mod ByteOrder
 pub mod Numbers
 pub mod Masks
 pub mod Addresses

@@ -7,7 +7,7 @@ use Rattle.std.proofs.lemmas.List.{append-nil, get_or-drop, length-drop}
 use Rattle.stun.specs.Endian.{big_from, big_number, big_bytes}
 use Rattle.stun.specs.Numbers.{big_number-reads_back, big_from-lt, length-bytes_high_first}
 use Rattle.stun.specs.Registry.{magic_cookie}
-use Rattle.attributes.specs.Addresses.{IsAddressValue, address_value, ipv6_mask, masked}
+use Rattle.attributes.specs.Addresses.{IsAddressValue, address_value, ipv6_mask, xor_bytes}
 use Rattle.attributes.specs.declared.address.Addr.{Addr}
 use Rattle.attributes.specs.declared.address.Addr.TheVariants.{V4, V6}
 use Rattle.attributes.proofs.Bytes.{bytes_back, all_fit}
@@ -23,8 +23,8 @@ fit_after n xs fit i = subst (λ (b : ℕ). Fits w8 b) (sym (get_or-drop n xs i 
 
 -- of a value, the n bytes after its first four
 pub masked_back : (n : ℕ) (value : List ℕ) (mask number : ℕ) (ip : List ℕ) → n + 4 ≤ length value → ((i : ℕ) → Fits w8 (get_or value i 0)) → number ≡ big_number n (drop 4 value) → ip ≡ bytes_high_first n (bit_xor number mask)
-    → bit_xor number mask < 256 ^ n → masked n ip mask ≡ take n (drop 4 value)
-unfolding masked
+    → bit_xor number mask < 256 ^ n → xor_bytes n ip mask ≡ take n (drop 4 value)
+unfolding xor_bytes
 masked_back n value mask number ip long fit number_is ip_is small =
     ap (λ (bytes : List ℕ). big_bytes n (bit_xor (big_number n bytes) mask)) ip_is
     ∙ ap (λ (y : ℕ). big_bytes n (bit_xor y mask)) (read_back n (bit_xor number mask) small)
@@ -33,15 +33,15 @@ masked_back n value mask number ip long fit number_is ip_is small =
     ∙ bytes_back n (drop 4 value) (omega (arith, long, length-drop 4 value)) (all_fit (drop 4 value) (fit_after 4 value fit))
 
 -- they are the bytes after the first four, masked
-pub masked_is : (n : ℕ) (value : List ℕ) (mask number : ℕ) (ip : List ℕ) → number ≡ big_number n (drop 4 value) → ip ≡ bytes_high_first n (bit_xor number mask) → ip ≡ masked n (drop 4 value) mask
-unfolding masked
+pub masked_is : (n : ℕ) (value : List ℕ) (mask number : ℕ) (ip : List ℕ) → number ≡ big_number n (drop 4 value) → ip ≡ bytes_high_first n (bit_xor number mask) → ip ≡ xor_bytes n (drop 4 value) mask
+unfolding xor_bytes
 masked_is n value mask number ip number_is ip_is = ip_is ∙ ap (λ (y : ℕ). big_bytes n (bit_xor y mask)) number_is
 
 pub below : (n : ℕ) (value : List ℕ) (number : ℕ) → ((i : ℕ) → Fits w8 (get_or value i 0)) → number ≡ big_number n (drop 4 value) → number < 256 ^ n
 below n value number fit is = subst (λ (k : ℕ). k < 256 ^ n) (sym is) (big_from-lt 0 n (drop 4 value) (λ i. (fit_after 4 value fit i).fits))
 
-length-masked : (n : ℕ) (ip : List ℕ) (mask : ℕ) → length (masked n ip mask) ≡ n
-unfolding masked
+length-masked : (n : ℕ) (ip : List ℕ) (mask : ℕ) → length (xor_bytes n ip mask) ≡ n
+unfolding xor_bytes
 length-masked n ip mask = length-bytes_high_first n (bit_xor (big_number n ip) mask)
 
 -- the length and the family of an address's value

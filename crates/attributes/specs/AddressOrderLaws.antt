@@ -84,7 +84,7 @@ address_order-ties (V4 a p) (V6 b q) = refl
 address_order-ties (V6 a p) (V4 b q) = refl
 address_order-ties (V6 a p) (V6 b q) = of_one_family a b p q
 
-of_one_length : (n : ℕ) (a b : List ℕ) → length a ≡ n → length b ≡ n → ip_order a b ≡ ip_cmp a b
+pub of_one_length : (n : ℕ) (a b : List ℕ) → length a ≡ n → length b ≡ n → ip_order a b ≡ ip_cmp a b
 of_one_length n a b long also = ap (λ o. ordering_then o (ip_cmp a b)) ((λ i. nat_cmp (long i) (also i)) ∙ tied_itself nat_cmp_total n)
 
 -- it is the order by the bytes, since each address has the bytes of its family

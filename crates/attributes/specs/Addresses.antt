@@ -17,8 +17,8 @@ unfoldable pub ipv6_mask : List ℕ → ℕ
 ipv6_mask transaction_id = big_number 16 (big_bytes 4 magic_cookie ++ transaction_id)
 
 -- n bytes, as a number xored with a mask
-unfoldable pub masked : ℕ → List ℕ → ℕ → List ℕ
-masked n bytes mask = big_bytes n (bit_xor (big_number n bytes) mask)
+unfoldable pub xor_bytes : ℕ → List ℕ → ℕ → List ℕ
+xor_bytes n bytes mask = big_bytes n (bit_xor (big_number n bytes) mask)
 
 -- an address has the bytes of its family, and a port of 16 bits
 pub record HasWidth (n : ℕ) (ip : List ℕ) (port : ℕ) : Type 0 where
@@ -46,8 +46,8 @@ port_of (V6 ip port) = port
 -- after the first byte: the family, the port xored with half the cookie, and the address xored with the cookie, for
 -- IPv6 with the cookie followed by the transaction id
 abbrev pub address_tail : Addr → List ℕ → List ℕ
-address_tail (V4 ip port) transaction_id = IPV4 ∷ big_bytes 2 (bit_xor port cookie_half) ++ masked 4 ip magic_cookie
-address_tail (V6 ip port) transaction_id = IPV6 ∷ big_bytes 2 (bit_xor port cookie_half) ++ masked 16 ip (ipv6_mask transaction_id)
+address_tail (V4 ip port) transaction_id = IPV4 ∷ big_bytes 2 (bit_xor port cookie_half) ++ xor_bytes 4 ip magic_cookie
+address_tail (V6 ip port) transaction_id = IPV6 ∷ big_bytes 2 (bit_xor port cookie_half) ++ xor_bytes 16 ip (ipv6_mask transaction_id)
 
 -- the first byte is ignored
 pub record IsAddressValue (address : Addr) (transaction_id value : List ℕ) : Type 0 where
@@ -65,8 +65,8 @@ port_in value = bit_xor (big_number 2 (drop 2 value)) cookie_half
 -- the address of a value, if it has one
 abbrev pub address_in : List ℕ → List ℕ → Option Addr
 address_in transaction_id value =
-    if has_family 8 IPV4 value then Some (V4 (masked 4 (drop 4 value) magic_cookie) (port_in value))
-    else if has_family 20 IPV6 value then Some (V6 (masked 16 (drop 4 value) (ipv6_mask transaction_id)) (port_in value))
+    if has_family 8 IPV4 value then Some (V4 (xor_bytes 4 (drop 4 value) magic_cookie) (port_in value))
+    else if has_family 20 IPV6 value then Some (V6 (xor_bytes 16 (drop 4 value) (ipv6_mask transaction_id)) (port_in value))
     else None
 
 -- it is written as zero

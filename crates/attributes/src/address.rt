@@ -6,7 +6,7 @@ ghost use Rattle.stun.specs.Endian.{big_bytes};
 ghost use Rattle.stun.specs.Builders.{used_of, capacity_of, SameBuffer, Appends, HasNoRoom};
 ghost use Rattle.stun.specs.Registry.{magic_cookie};
 ghost use Rattle.stun.specs.declared.registry.family.TheConstants.{IPV4, IPV6};
-ghost use Rattle.attributes.specs.Addresses.{HasWidth, IsAddress, IsAddressValue, address_value, address_in, port_in, address_value_in, cookie_half, ipv6_mask, masked};
+ghost use Rattle.attributes.specs.Addresses.{HasWidth, IsAddress, IsAddressValue, address_value, address_in, port_in, address_value_in, cookie_half, ipv6_mask, xor_bytes};
 ghost use Rattle.attributes.specs.declared.address.Addr as addr;
 ghost use Rattle.attributes.specs.declared.refusal.ValueKind.TheVariants as kinds;
 
@@ -98,8 +98,8 @@ fn port_in(value: &[u8]) -> u16
 /// Returns the IPv4 address in a value.
 fn ipv4_in(value: &[u8]) -> [u8; 4]
     requires { 8 ≤ length value.now }
-    ensures spelled { masked 4 result magic_cookie ≡ take 4 (drop 4 value.now) }
-    ensures ip { result ≡ masked 4 (drop 4 value.now) magic_cookie }
+    ensures spelled { xor_bytes 4 result magic_cookie ≡ take 4 (drop 4 value.now) }
+    ensures ip { result ≡ xor_bytes 4 (drop 4 value.now) magic_cookie }
 {
     let (_, rest) = value.split_at(4);
     (BigEndian::read_u32(rest) ^ MAGIC_COOKIE).to_be_bytes()
@@ -108,8 +108,8 @@ fn ipv4_in(value: &[u8]) -> [u8; 4]
 /// Returns the IPv6 address in a value.
 fn ipv6_in(value: &[u8], tx: &[u8; 12]) -> [u8; 16]
     requires { 20 ≤ length value.now }
-    ensures spelled { masked 16 result (ipv6_mask tx.now) ≡ take 16 (drop 4 value.now) }
-    ensures ip { result ≡ masked 16 (drop 4 value.now) (ipv6_mask tx.now) }
+    ensures spelled { xor_bytes 16 result (ipv6_mask tx.now) ≡ take 16 (drop 4 value.now) }
+    ensures ip { result ≡ xor_bytes 16 (drop 4 value.now) (ipv6_mask tx.now) }
 {
     let (_, rest) = value.split_at(4);
     (BigEndian::read_u128(rest) ^ ipv6_mask(tx)).to_be_bytes()
@@ -152,7 +152,7 @@ fn write_front(front: &mut [u8], family: u8, port: u16)
 
 /// Returns the value of an IPv4 address.
 fn ipv4_value(ip: &[u8; 4], port: u16) -> [u8; IPV4_BYTES]
-    ensures { result ≡ 0 ∷ IPV4 ∷ big_bytes 2 (bit_xor port cookie_half) ++ masked 4 ip.now magic_cookie }
+    ensures { result ≡ 0 ∷ IPV4 ∷ big_bytes 2 (bit_xor port cookie_half) ++ xor_bytes 4 ip.now magic_cookie }
 {
     let mut value = [0; IPV4_BYTES];
     let (front, rest) = value.split_at_mut(FRONT);
@@ -163,7 +163,7 @@ fn ipv4_value(ip: &[u8; 4], port: u16) -> [u8; IPV4_BYTES]
 
 /// Returns the value of an IPv6 address.
 fn ipv6_value(ip: &[u8; 16], port: u16, tx: &[u8; 12]) -> [u8; IPV6_BYTES]
-    ensures { result ≡ 0 ∷ IPV6 ∷ big_bytes 2 (bit_xor port cookie_half) ++ masked 16 ip.now (ipv6_mask tx.now) }
+    ensures { result ≡ 0 ∷ IPV6 ∷ big_bytes 2 (bit_xor port cookie_half) ++ xor_bytes 16 ip.now (ipv6_mask tx.now) }
 {
     let mut value = [0; IPV6_BYTES];
     let (front, rest) = value.split_at_mut(FRONT);

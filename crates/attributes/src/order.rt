@@ -2,14 +2,38 @@
 
 ghost use Rattle.std.specs.Cmp.{partial_order_from_agreeing_total};
 ghost use Rattle.std.specs.Prelude.{◌≡◌, refl};
-ghost use Rattle.std.specs.Ordering.{as_partial_cmp};
+ghost use Rattle.std.specs.Ordering.{as_partial_cmp, nat_cmp, ordering_then};
+ghost use Rattle.stun.specs.Endian.{big_number};
 ghost use Rattle.attributes.specs.Addresses.{ip_of};
-ghost use Rattle.attributes.specs.AddressOrder.{address_order, family_of, ip_order};
+ghost use Rattle.attributes.specs.AddressOrder.{address_order, family_of, ip_cmp, ip_order};
 ghost use Rattle.attributes.specs.AddressOrderLaws.{address_order-ties, address_order-total};
 
 use crate::address::Addr;
 use std::cmp::Ordering;
 use stun::registry::family;
+
+/// Returns the number of an IPv4 address, that of its bytes with the highest first.
+fn ipv4_number(ip: &[u8; 4]) -> u32
+    ensures { result ≡ big_number 4 ip.now }
+{
+    u32::from_be_bytes(*ip)
+}
+
+/// Compares two IPv4 addresses by their bytes, as numbers.
+fn cmp_ipv4(a: &[u8; 4], b: &[u8; 4]) -> Ordering
+    ensures { result ≡ ip_order a.now b.now }
+{
+    ipv4_number(a).cmp(&ipv4_number(b))
+}
+
+/// Compares two IPv4 addresses by their bytes, and then by the ports, as numbers with the port at the end.
+fn cmp_ipv4_port(a: &[u8; 4], port: u16, b: &[u8; 4], other_port: u16) -> Ordering
+    ensures { result ≡ ordering_then (ip_cmp a.now b.now) (nat_cmp port other_port) }
+{
+    let first = u64::from(ipv4_number(a)) * 0x10000 + u64::from(port);
+    let second = u64::from(ipv4_number(b)) * 0x10000 + u64::from(other_port);
+    first.cmp(&second)
+}
 
 impl Addr {
     /// Returns the number of the family.
@@ -27,8 +51,29 @@ impl Addr {
     pub fn cmp_ip(&self, other: &Addr) -> Ordering
         ensures { result ≡ ip_order (ip_of self.now) (ip_of other.now) }
     {
+        match (self, other) {
+            (Addr::V4 { ip: a, .. }, Addr::V4 { ip: b, .. }) => cmp_ipv4(a, b),
+            _ => self.cmp_ip_bytes(other),
+        }
+    }
+
+    /// As [`Addr::cmp_ip`], by the lengths and the bytes.
+    fn cmp_ip_bytes(&self, other: &Addr) -> Ordering
+        ensures { result ≡ ip_order (ip_of self.now) (ip_of other.now) }
+    {
         let (a, b) = (self.ip(), other.ip());
         a.len().cmp(&b.len()).then(a.cmp(b))
+    }
+
+    /// As [`Ord::cmp`], by the families, the bytes and the ports.
+    fn cmp_parts(&self, other: &Addr) -> Ordering
+        ensures { result ≡ address_order self.now other.now }
+    {
+        let ports = self.port().cmp(&other.port());
+        self.family()
+            .cmp(&other.family())
+            .then(self.ip().cmp(other.ip()))
+            .then(ports)
     }
 }
 
@@ -54,11 +99,11 @@ impl Ord for Addr {
     /// Compares two addresses: those of IPv4 are less than those of IPv6, and those of one family compare by the bytes of
     /// the IP address, and then by the port.
     fn cmp(&self, other: &Addr) -> Ordering {
-        let (a, b) = (self, other);
-        let ports = a.port().cmp(&b.port());
-        a.family()
-            .cmp(&b.family())
-            .then(a.ip().cmp(b.ip()))
-            .then(ports)
+        match (self, other) {
+            (Addr::V4 { ip: a, port: p }, Addr::V4 { ip: b, port: q }) => {
+                cmp_ipv4_port(a, *p, b, *q)
+            }
+            _ => self.cmp_parts(other),
+        }
     }
 }

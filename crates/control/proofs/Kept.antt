@@ -4,7 +4,7 @@ use Rattle.std.specs.Result.{is_err, OnOk}
 use Rattle.std.proofs.lemmas.Bool.{both_ways}
 use Rattle.std.proofs.lemmas.Slice.{drop-append-drop}
 use Rattle.stun.specs.Builders.{bytes_of, parts_of, used_of, Appends}
-use Rattle.stun.specs.Building.{Begins, built, used_in}
+use Rattle.stun.specs.Building.{Begins, building_parts, used_in}
 use Rattle.stun.specs.Messages.{parts_bytes, empty_message}
 use Rattle.stun.specs.declared.building.Builder.{Builder}
 use Rattle.control.specs.Serving.{IsKeptFrom}
@@ -15,7 +15,7 @@ kept_same from bytes = λ n far. refl
 pub kept_then : (from upto : ℕ) (a b c : List ℕ) → from ≤ upto → IsKeptFrom from a b → IsKeptFrom upto b c → IsKeptFrom upto a c
 kept_then from upto a b c longer first second = λ n far. second n far ∙ first n (omega (arith, longer, far))
 
-used_is : (bytes : List ℕ) → length (parts_bytes (built bytes)) ≡ used_in bytes
+used_is : (bytes : List ℕ) → length (parts_bytes (building_parts bytes)) ≡ used_in bytes
 unfolding used_in
 used_is bytes = refl
 

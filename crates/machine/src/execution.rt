@@ -169,7 +169,7 @@ fn set_destination(plan: &mut Plan, registers: &mut Registers, destination: Opti
 
 /// What a run changes besides memory.
 #[derive(Clone, Copy, Debug, PartialEq, Eq)]
-struct RunState {
+struct TaggedState {
     /// The registers `r0` to `r10`.
     registers: Registers,
     /// What the run has planned so far.
@@ -183,7 +183,7 @@ fn apply<H: Helpers>(
     given: &Environment<H>,
     stack: &mut [Option<u8>],
     bytes: &mut [u8],
-    state: &mut RunState,
+    state: &mut TaggedState,
     effect: Effect,
 )
     requires straight { GoesStraight effect }
@@ -221,7 +221,7 @@ fn execute_step<H: Helpers>(
     given: &Environment<H>,
     stack: &mut [Option<u8>],
     bytes: &mut [u8],
-    state: &mut RunState,
+    state: &mut TaggedState,
     insn: &Insn,
 ) -> StepResult
     requires here { state.old.at.index < count given.now.code.now }
@@ -266,7 +266,7 @@ fn execute_from<H: Helpers, S: Sink>(
     given: &Environment<H>,
     stack: &mut [Option<u8>],
     bytes: &mut [u8],
-    state: &mut RunState,
+    state: &mut TaggedState,
     sink: &mut S,
 ) -> Result<Exited, Stuck>
     requires few { slot_count given.now.code.now ≤ MAX_SLOTS }
@@ -329,7 +329,7 @@ pub fn execute<H: Helpers, S: Sink>(
         (S.log sink.old) (S.log sink.new) result }
     ensures inside { HasWindowInside given.now.length plan.new }
 {
-    let mut state = RunState {
+    let mut state = TaggedState {
         registers: first_registers(),
         plan: *plan,
         at: Position { slot: 0, index: 0 },

@@ -239,7 +239,8 @@ impl Frame {
         is_context(context);
         surround_in(&mut self.flat, n);
         self.length = n;
-        self.context = *context;
+        let Context { side, source, tx } = *context;
+        self.context = Context { side, source, tx };
         self.window = None;
         self.is_started = true;
     }

@@ -5,12 +5,12 @@ ghost use Rattle.machine.specs.Contents.{datagram_of};
 ghost use Rattle.machine.specs.Execution.{RunsFlat};
 ghost use Rattle.machine.specs.Tracing.{run_of, safe_run_of, IsOutcome, left_by, Shows};
 
-use crate::context::{context_record, side_number};
+use crate::context::side_number;
 use crate::frame::Frame;
 use crate::outcome::Outcome;
 use crate::tracing::destination_of;
 use flat::{Ended, Given, lay_out, run_flat};
-use helpers::Helpers;
+use helpers::{Helpers, address_record};
 use verifier::Verified;
 
 /// Runs a verified program over the area of a started frame, to its exit. Afterwards the frame is not started.
@@ -19,12 +19,14 @@ fn run_area<H: Helpers>(program: &Verified, frame: &mut Frame, helpers: &H) -> E
     ensures { RunsFlat (H.answers helpers.now) program.now frame.old frame.new result }
 {
     let size = frame.datagram().len();
+    let side = side_number(frame.context.side);
     let given = Given {
         helpers,
         length: size,
-        side: u64::from(side_number(frame.context.side)),
+        side: u64::from(side),
     };
-    lay_out(&mut frame.flat, &context_record(&frame.context, size), size);
+    let source = address_record(&frame.context.source);
+    lay_out(&mut frame.flat, size, source, &frame.context.tx, side);
     frame.is_started = false;
     let ended = run_flat(program.translation(), &given, &mut frame.flat);
     frame.window = ended.plan.window;

@@ -15,7 +15,7 @@ use Rattle.insn.specs.declared.operator.SwapOp.TheVariants.{ToBig}
 use Rattle.insn.specs.declared.size.SwapSize.TheVariants as swap
 use Rattle.stun.specs.Datagrams.{channel_in}
 use Rattle.stun.specs.Registry.{magic_cookie}
-use Rattle.attributes.specs.Addresses.{HasWidth, IsIpv4Address, address_in, port_in, masked, cookie_half}
+use Rattle.attributes.specs.Addresses.{HasWidth, IsIpv4Address, address_in, port_in, xor_bytes, cookie_half}
 use Rattle.attributes.specs.declared.address.Addr.{Addr}
 use Rattle.attributes.specs.declared.address.Addr.TheVariants.{V4}
 use Rattle.helpers.specs.LookUps.{peer_answer, test_answer}
@@ -94,13 +94,13 @@ malformed : (tx value : List ℕ) → length value ≡ 8 → slice_index value 1
 malformed tx value size e = none_of (nat_eq (length value) 8) (nat_eq (slice_index value 1) 1) (nat_eq (length value) 20) (nat_eq (slice_index value 1) 2) _ _ (other_eq _ _ e) (other_eq _ _ (λ bad. omega (arith, size, bad)))
 
 abbrev address_of_value : List ℕ → Addr
-address_of_value value = V4 (masked 4 (drop 4 value) magic_cookie) (port_in value)
+address_of_value value = V4 (xor_bytes 4 (drop 4 value) magic_cookie) (port_in value)
 
 wellformed : (tx value : List ℕ) → length value ≡ 8 → slice_index value 1 ≡ 1 → address_in tx value ≡ Some (address_of_value value)
 wellformed tx value size e = first_of (nat_eq (length value) 8) (nat_eq (slice_index value 1) 1) _ _ (same_eq _ _ size) (same_eq _ _ e)
 
-masked_fits : (ip : List ℕ) (i : ℕ) → slice_index (masked 4 ip magic_cookie) i < 256
-unfolding masked
+masked_fits : (ip : List ℕ) (i : ℕ) → slice_index (xor_bytes 4 ip magic_cookie) i < 256
+unfolding xor_bytes
 masked_fits ip i = big_below (bit_xor (big_number 4 ip) magic_cookie) i
 
 -- where the value is in a datagram
@@ -129,7 +129,7 @@ module _ (d : List ℕ) (fit : IsDatagram d) (k : ℕ) (inside : k + 8 ≤ lengt
   port_small : big_number 2 (drop (k + 2) d) < 65536
   port_small = half_small (k + 2) d fit
 
-  fits : HasWidth 4 (masked 4 (drop 4 value) magic_cookie) (port_in value)
+  fits : HasWidth 4 (xor_bytes 4 (drop 4 value) magic_cookie) (port_in value)
   fits = record {
     long = length-masked (drop 4 value);
     bytes = masked_fits (drop 4 value);
@@ -147,7 +147,7 @@ module _ (d : List ℕ) (fit : IsDatagram d) (k : ℕ) (inside : k + 8 ≤ lengt
       let v1_is : v1 ≡ big_number 2 (drop 2 value) = half_in (k + 2) v v1 d fit (omega (arith, inside)) (is_v ∙ ap (λ (i : ℕ). little_number 2 (part 2 i (datagram_area d))) turned) is_v1 ∙ sym port_at in
       let b2_is : b2 ≡ big_bytes 2 (port_in value) = port_bytes (big_number 2 (drop 2 value)) v1 v2 v3 b2 (omega (arith, port_at, port_small)) v1_is is_v2 is_v3 is2 in
       let u1_is : u1 ≡ big_number 4 (part 4 (k + 4) d) = swapped_word (part 4 (k + 4) d) u u1 ip_fits (is_u ∙ ap (little_number 4) (part_place 4 (k + 4 + 64) (k + 4) d turned' (omega (arith, inside)))) is_u1 in
-      let b3_is : b3 ≡ masked 4 (drop 4 value) magic_cookie = ip_bytes_are (part 4 (k + 4) d) ip_fits u1 u2 u3 b3 u1_is is_u2 is_u3 is3 ∙ ap (λ (l : List ℕ). masked 4 l magic_cookie) (sym ip_at) in
+      let b3_is : b3 ≡ xor_bytes 4 (drop 4 value) magic_cookie = ip_bytes_are (part 4 (k + 4) d) ip_fits u1 u2 u3 b3 u1_is is_u2 is_u3 is3 ∙ ap (λ (l : List ℕ). xor_bytes 4 l magic_cookie) (sym ip_at) in
       λ i. is1 i ++ b2_is i ++ b3_is i
 
 module _ (w : Environment) (d : List ℕ) (peer : ℕ → Option Addr) (permitted : Addr → Bool) (lookup : LooksUp w.answer peer) (peers : (n : ℕ) → IfSome (peer n) IsIpv4Address) (permissions : LooksUpPermissions w.answer permitted) (tx : List ℕ) (side : w.context.side ≡ 0) (fit : IsDatagram d) where
@@ -230,7 +230,7 @@ module _ (w : Environment) (d : List ℕ) (peer : ℕ → Option Addr) (permitte
 
       relayed : slice_index (part 8 k d) 1 ≡ 1 → permitted (address_of_value (part 8 k d)) ≡ true → Some (address_of (address_record (address_of_value (part 8 k d))), part n at d) ≡ of_send permitted tx (part 8 k d) (part n at d)
       relayed is_ipv4 allows =
-          rw (wellformed tx (part 8 k d) size is_ipv4, allows) (ap (λ (x : ℕ). Some (V4 (masked 4 (drop 4 (part 8 k d)) magic_cookie) x, part n at d)) (port_back (port_in (part 8 k d)) (fits d fit k inside).small))
+          rw (wellformed tx (part 8 k d) size is_ipv4, allows) (ap (λ (x : ℕ). Some (V4 (xor_bytes 4 (drop 4 (part 8 k d)) magic_cookie) x, part n at d)) (port_back (port_in (part 8 k d)) (fits d fit k inside).small))
 
   -- ---- ends
 

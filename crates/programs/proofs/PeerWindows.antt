@@ -15,7 +15,7 @@ use Rattle.stun.specs.Channels.{channel_bytes}
 use Rattle.stun.specs.Messages.{Parts, parts_bytes, attributes_bytes, padding_count, empty_message, with_attribute}
 use Rattle.stun.specs.Registry.{magic_cookie}
 use Rattle.stun.specs.declared.registry.attribute.TheConstants.{XOR_PEER_ADDRESS, DATA}
-use Rattle.attributes.specs.Addresses.{address_value, masked, cookie_half}
+use Rattle.attributes.specs.Addresses.{address_value, xor_bytes, cookie_half}
 use Rattle.attributes.specs.declared.address.Addr.TheVariants.{V4}
 use Rattle.helpers.specs.Records.{address_record}
 use Rattle.semantics.specs.Access.{part, put}
@@ -44,10 +44,10 @@ indication ip port tx d = with_attribute (with_attribute (empty_message data_ind
 
 -- the sixteen bytes attributes_front the header, and the data
 abbrev pub after_header : List ℕ → ℕ → ℕ → List ℕ
-after_header ip port n = 0 ∷ 0x12 ∷ 0 ∷ 8 ∷ 0 ∷ 1 ∷ big_bytes 2 (bit_xor port cookie_half) ++ masked 4 ip magic_cookie ++ 0 ∷ 0x13 ∷ big_bytes 2 n
+after_header ip port n = 0 ∷ 0x12 ∷ 0 ∷ 8 ∷ 0 ∷ 1 ∷ big_bytes 2 (bit_xor port cookie_half) ++ xor_bytes 4 ip magic_cookie ++ 0 ∷ 0x13 ∷ big_bytes 2 n
 
 pub attributes_are : (ip d tx : List ℕ) (port : ℕ) → attributes_bytes (indication ip port tx d).attributes ≡ after_header ip port (length d) ++ (d ++ replicate (padding_count (length d)) 0)
-unfolding address_value masked
+unfolding address_value xor_bytes
 attributes_are ip d tx port = ap (λ (l : List ℕ). after_header ip port (length d) ++ l) (append-nil (d ++ replicate (padding_count (length d)) 0))
 
 -- the parts of a header as they are stored, one attributes_front the other
@@ -60,7 +60,7 @@ pub record AreHeader (ip tx : List ℕ) (port n p : ℕ) (b1 b2 b3 b4 b5 b6 b7 b
   pub address : b6 ≡ 0 ∷ 0x12 ∷ 0 ∷ 8 ∷ []
   pub family : b7 ≡ 0 ∷ 1 ∷ []
   pub port_is : b8 ≡ big_bytes 2 (bit_xor port cookie_half)
-  pub ip_is : b9 ≡ masked 4 ip magic_cookie
+  pub ip_is : b9 ≡ xor_bytes 4 ip magic_cookie
   pub data_kind : b10 ≡ 0 ∷ 0x13 ∷ []
   pub size : b11 ≡ big_bytes 2 n
 
@@ -71,17 +71,17 @@ three_puts i a b c s j k e f =
 then_put : (i j : ℕ) (a b c s : List ℕ) → a ≡ put i b s → j ≡ i + length b → put j c a ≡ put i (b ++ c) s
 then_put i j a b c s e f = ap (put j c) e ∙ put_after_put i j b c s f
 
-pub length-masked : (ip : List ℕ) → length (masked 4 ip magic_cookie) ≡ 4
-unfolding masked
+pub length-masked : (ip : List ℕ) → length (xor_bytes 4 ip magic_cookie) ≡ 4
+unfolding xor_bytes
 length-masked ip = refl
 
 after_header_is : (ip tx : List ℕ) (port n p : ℕ) (b1 b2 b3 b4 b5 b6 b7 b8 b9 b10 b11 : List ℕ) → AreHeader ip tx port n p b1 b2 b3 b4 b5 b6 b7 b8 b9 b10 b11 → b6 ++ b7 ++ b8 ++ b9 ++ b10 ++ b11 ≡ after_header ip port n
-unfolding masked
+unfolding xor_bytes
 after_header_is ip tx port n p b1 b2 b3 b4 b5 b6 b7 b8 b9 b10 b11 are =
     λ i. are.address i ++ are.family i ++ are.port_is i ++ are.ip_is i ++ are.data_kind i ++ are.size i
 
 pub length-after_header : (ip : List ℕ) (port n : ℕ) → length (after_header ip port n) ≡ 16
-unfolding masked
+unfolding xor_bytes
 length-after_header ip port n = refl
 
 six_puts : (b6 b7 b8 b9 b10 b11 s : List ℕ) → length b6 ≡ 4 → length b7 ≡ 2 → length b8 ≡ 2 → length b9 ≡ 4 → length b10 ≡ 2
@@ -161,8 +161,8 @@ ip_in_record ip port are b0 held v u e f =
     let number : v ≡ little_number 4 ip = e ∙ ap (λ (l : List ℕ). little_number 4 (part 4 4 l)) held ∙ ap (little_number 4) (take_all 4 ip (omega (arith, are.count))) in
     swapped_word ip v u are number f
 
-pub ip_bytes_are : (ip : List ℕ) → AreBytes 4 ip → (v x u : ℕ) (bytes : List ℕ) → v ≡ big_number 4 ip → x ≡ alu Xor W64 v 554869826 → u ≡ unary (Swap ToBig swap.Word) x → bytes ≡ little_bytes 4 u → bytes ≡ masked 4 ip magic_cookie
-unfolding masked
+pub ip_bytes_are : (ip : List ℕ) → AreBytes 4 ip → (v x u : ℕ) (bytes : List ℕ) → v ≡ big_number 4 ip → x ≡ alu Xor W64 v 554869826 → u ≡ unary (Swap ToBig swap.Word) x → bytes ≡ little_bytes 4 u → bytes ≡ xor_bytes 4 ip magic_cookie
+unfolding xor_bytes
 ip_bytes_are ip are v x u bytes e f g h =
     let small : big_number 4 ip < 2 ^ 32 = big_from-lt 0 4 ip (byte_below ip are.fit) in
     let x_is : x ≡ bit_xor (big_number 4 ip) 554869826 = f ∙ ap (λ (n : ℕ). alu Xor W64 n 554869826) e ∙ xor_of_words (big_number 4 ip) 554869826 small (omega arith) in

@@ -16,7 +16,7 @@ use Rattle.programs.specs.Runs.{planned_sending, datagram_in, destination_in, wi
 use Rattle.programs.specs.declared.verdict.TheConstants.{PASSES, SENDS}
 use Rattle.relay.specs.ByPrograms.{by_programs, by_run, by_ending, by_verdict, is_there}
 use Rattle.relay.specs.ByRules.{from_client}
-use Rattle.relay.specs.Found.{HasRun, run_at, passed_on, window_shown}
+use Rattle.relay.specs.Found.{HasRun, run_at, reply_of_passing, window_shown}
 use Rattle.relay.specs.Relays.{Contents, state_of, datagram_at}
 use Rattle.relay.specs.Steps.{HasStepped, outcome_of}
 use Rattle.relay.specs.Systems.{Reply, silent, reply_of_relaying, stepped_at, if_ipv4, with_nonce, address_of_source}
@@ -78,7 +78,7 @@ module _ (old : Contents) (given : Meta) (n moment : ℕ) where
         ∙ ap (λ (e : Ending). by_ending config moment given.from old.rows (length (datagram_at old n)) r e) ran.outcome.verdict
 
     -- a client's datagram is passed on
-    pub passes_client : (client : Addr) → given.from ≡ Client client → o.verdict ≡ PASSES → shown.config ≡ old.config → shown.rows ≡ old.rows → shown.greatest ≡ moment → reply_at ≡ passed_on shown client
+    pub passes_client : (client : Addr) → given.from ≡ Client client → o.verdict ≡ PASSES → shown.config ≡ old.config → shown.rows ≡ old.rows → shown.greatest ≡ moment → reply_at ≡ reply_of_passing shown client
     passes_client client from verdict same rows greatest =
         by_its_verdict
         ∙ ap (λ (v : ℕ). by_verdict config moment given.from old.rows (length (datagram_at old n)) r v) verdict

@@ -20,7 +20,7 @@ use Rattle.stun.specs.Registry.{magic_cookie, message_integrity}
 use Rattle.stun.specs.declared.registry.ErrorCode.{ErrorCode}
 use Rattle.stun.specs.declared.registry.ErrorCode.TheVariants.{BadRequest}
 use Rattle.stun.specs.declared.registry.attribute.TheConstants.{XOR_PEER_ADDRESS, CHANNEL_NUMBER}
-use Rattle.attributes.specs.Addresses.{IsAddress, IsIpv4Address, HasWidth, address_in, masked, port_in, ipv6_mask, has_family, cookie_half}
+use Rattle.attributes.specs.Addresses.{IsAddress, IsIpv4Address, HasWidth, address_in, xor_bytes, port_in, ipv6_mask, has_family, cookie_half}
 use Rattle.attributes.specs.declared.address.Addr.{Addr}
 use Rattle.attributes.specs.declared.address.Addr.TheVariants.{V4, V6}
 use Rattle.attributes.specs.Values.{number_of_value}
@@ -109,8 +109,8 @@ byte_fits (suc zero) x zero = omega arith
 byte_fits (suc (suc n)) x zero = omega arith
 byte_fits (suc n) x (suc i) = byte_fits n x i
 
-masked_width : (n : ℕ) (bytes : List ℕ) (mask port : ℕ) → port < 0x10000 → HasWidth n (masked n bytes mask) port
-unfolding masked
+masked_width : (n : ℕ) (bytes : List ℕ) (mask port : ℕ) → port < 0x10000 → HasWidth n (xor_bytes n bytes mask) port
+unfolding xor_bytes
 masked_width n bytes mask port small = record {
   long = length-bytes_high_first n (bit_xor (big_number n bytes) mask);
   bytes = byte_fits n (bit_xor (big_number n bytes) mask);
@@ -124,7 +124,7 @@ port_small value fit =
 
 address_fits : (tx value : List ℕ) (a : Addr) → AreFit value → address_in tx value ≡ Some a → IsAddress a
 address_fits tx value a fit = of (has_family 8 1 value) (has_family 20 2 value) where
-  of : (short long : Bool) → (if short then Some (V4 (masked 4 (drop 4 value) magic_cookie) (port_in value)) else if long then Some (V6 (masked 16 (drop 4 value) (ipv6_mask tx)) (port_in value)) else None) ≡ Some a → IsAddress a
+  of : (short long : Bool) → (if short then Some (V4 (xor_bytes 4 (drop 4 value) magic_cookie) (port_in value)) else if long then Some (V6 (xor_bytes 16 (drop 4 value) (ipv6_mask tx)) (port_in value)) else None) ≡ Some a → IsAddress a
   of true long e = subst IsAddress (same_Some _ a e) (masked_width 4 (drop 4 value) magic_cookie (port_in value) (port_small value fit))
   of false true e = subst IsAddress (same_Some _ a e) (masked_width 16 (drop 4 value) (ipv6_mask tx) (port_in value) (port_small value fit))
   of false false e = absurd (none-some a e)

@@ -42,8 +42,8 @@ abbrev pub run_at : Contents → Meta → ℕ → Run
 run_at r given n = run_for (program_for r.programs given.from) given.tx given.from (rows_at r.greatest r.rows) (datagram_at r n)
 
 -- the reply to a client's datagram that is passed on
-abbrev pub passed_on : Contents → Addr → Reply
-passed_on r client = from_client r.config r.greatest client r.rows (datagram_of r.frame)
+abbrev pub reply_of_passing : Contents → Addr → Reply
+reply_of_passing r client = from_client r.config r.greatest client r.rows (datagram_of r.frame)
 
 -- the reply to a client, if there is one
 abbrev pub reply_sent : Addr → List ℕ → Option Sending
@@ -55,12 +55,12 @@ abbrev pub send_in : Addr → Rows → Option Parts → Option Sending
 send_in client rows None = None
 send_in client rows (Some p) = send_from client rows p
 
-abbrev pub lent : Contents → Found → Option Sending
-lent r found.Nothing = None
-lent r (found.Window from destination) = planned_sending from (rows_at r.greatest r.rows) destination (window_shown r.frame)
-lent r (found.ChannelData client) = channel_data_from client (rows_at r.greatest r.rows) (datagram_of r.frame)
-lent r (found.Send client) = send_in client (rows_at r.greatest r.rows) (message_in (datagram_of r.frame))
-lent r (found.Reply client count) = reply_sent client (take count r.reply)
+abbrev pub sending_of_found : Contents → Found → Option Sending
+sending_of_found r found.Nothing = None
+sending_of_found r (found.Window from destination) = planned_sending from (rows_at r.greatest r.rows) destination (window_shown r.frame)
+sending_of_found r (found.ChannelData client) = channel_data_from client (rows_at r.greatest r.rows) (datagram_of r.frame)
+sending_of_found r (found.Send client) = send_in client (rows_at r.greatest r.rows) (message_in (datagram_of r.frame))
+sending_of_found r (found.Reply client count) = reply_sent client (take count r.reply)
 
 -- a reply lies in the room for replies, and has some bytes
 abbrev pub HasRoomFor : Found → List ℕ → Type 0

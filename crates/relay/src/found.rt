@@ -1,7 +1,7 @@
 //! What a step finds, before it is lent.
 
 ghost use Rattle.std.specs.Prelude.{◌≡◌, ◌≤◌, ℕ, List, length, take};
-ghost use Rattle.relay.specs.Found.{lent, reply_sent, HasRoomFor};
+ghost use Rattle.relay.specs.Found.{sending_of_found, reply_sent, HasRoomFor};
 ghost use Rattle.relay.specs.Relays.{Contents};
 
 use attributes::Addr;
@@ -31,7 +31,7 @@ pub(crate) enum Found {
 /// Returns the finding of a reply of `count` bytes, 0 where there is none.
 #[tactic(auto, using(crate::proofs::Controls::reply_is_sent))]
 pub(crate) fn reply_found(client: Addr, count: usize) -> Found
-    ensures sends { (r : Contents) → count ≤ length r.reply → lent r result ≡ reply_sent client (take count r.reply) }
+    ensures sends { (r : Contents) → count ≤ length r.reply → sending_of_found r result ≡ reply_sent client (take count r.reply) }
     ensures room { (reply : List ℕ) → count ≤ length reply → HasRoomFor result reply }
 {
     if count == 0 {

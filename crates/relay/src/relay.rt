@@ -86,7 +86,7 @@ impl Relay {
     ghost use Rattle.semantics.specs.declared.limits.TheConstants.{MAX_DATAGRAM};
     ghost use Rattle.events.specs.Actions.{sending_of};
     ghost use Rattle.relay.specs.Errors.{IsFault};
-    ghost use Rattle.relay.specs.Found.{lent, run_at, passed_on, HasRun, HasRoomFor};
+    ghost use Rattle.relay.specs.Found.{sending_of_found, run_at, reply_of_passing, HasRun, HasRoomFor};
     ghost use Rattle.relay.specs.Relays.{state_of, datagram_at};
     ghost use Rattle.relay.specs.Shipped.{AreShipped};
     ghost use Rattle.relay.specs.Steps.{outcome_of, ruled_outcome_of, after_step, lends_room, HasStepped};
@@ -211,7 +211,7 @@ impl Relay {
     /// Lends the bytes of what was found.
     fn lend(&self, found: Found) -> Action<'_>
         requires { HasRoomFor found self.now.reply }
-        ensures { sending_of result ≡ lent self.now found }
+        ensures { sending_of result ≡ sending_of_found self.now found }
     {
         match found {
             Found::Nothing => Action::Nothing,
@@ -239,7 +239,7 @@ impl Relay {
     fn advance(&mut self, meta: &Meta, n: usize) -> Found
         requires { n ≤ MAX_DATAGRAM }
         ensures stepped { HasStepped self.old self.new (outcome_of self.old meta.entry.now n) }
-        ensures found { lent self.new result ≡ (outcome_of self.old meta.entry.now n).answer }
+        ensures found { sending_of_found self.new result ≡ (outcome_of self.old meta.entry.now n).answer }
         ensures room { HasRoomFor result self.new.reply }
     {
         self.greatest = moment_of(self.greatest, meta.now);
@@ -280,11 +280,14 @@ impl Relay {
 
     /// Handles a client's datagram that its program passed on, as it is in the frame.
     /// See docs/DECISIONS.md, "Six arguments of `respond`".
+    // A request takes tens of kilobytes of stack, which a datagram that is relayed would else pay for at its entry.
+    #[inline(never)]
     fn pass_on(&mut self, client: Addr) -> Found
         requires { is_ipv4 client ≡ true }
-        ensures found { lent self.new result ≡ (passed_on self.old client).answer }
+        ensures found { sending_of_found self.new result ≡ (reply_of_passing self.old client).answer }
         ensures room { HasRoomFor result self.new.reply }
-        ensures rest { self.new ≡ record self.old { rows = (passed_on self.old client).rows; reply = self.new.reply } }
+        ensures rest { self.new
+            ≡ record self.old { rows = (reply_of_passing self.old client).rows; reply = self.new.reply } }
     {
         let datagram = self.frame.datagram();
         if !begins_as_stun(datagram) {

@@ -4,6 +4,8 @@
 #[cfg(test)]
 mod links;
 #[cfg(test)]
+mod sockets;
+#[cfg(test)]
 mod story;
 #[cfg(test)]
 mod texts;

@@ -174,11 +174,12 @@ impl Server<'_> {
         }
     }
 
-    /// Serves one datagram at a place, if one has come there. Returns whether one has come, or a fault, which is printed.
-    fn turn<R: Clock, E: Write>(&mut self, rt: &R, err: &mut E, place: Place) -> bool {
+    /// Serves one datagram at a place, if one has come there, at a moment. Returns whether one has come, or a fault, which is
+    /// printed.
+    fn turn<E: Write>(&mut self, err: &mut E, place: Place, now: u64) -> bool {
         let mut tx = [0u8; 12];
         self.rng.fill_bytes(&mut tx);
-        match serve_once(&mut self.relay, &mut self.sockets, place, moment(rt), tx) {
+        match serve_once(&mut self.relay, &mut self.sockets, place, now, tx) {
             Ok(came) => came,
             Err(fault) => {
                 let _ = writeln!(err, "{fault}");
@@ -189,8 +190,9 @@ impl Server<'_> {
 
     /// Tries one datagram at each place: that of clients first, then those of the slots in order.
     fn round<R: Clock, E: Write>(&mut self, rt: &R, err: &mut E) {
+        let now = moment(rt);
         for token in 0..self.sockets.count() {
-            self.turn(rt, err, place_of(token));
+            self.turn(err, place_of(token), now);
         }
     }
 
@@ -211,14 +213,36 @@ impl Server<'_> {
         }
     }
 
-    /// Serves a place until nothing comes there, or for as many datagrams as it may have. Returns whether more may be there.
+    /// Serves a place until nothing comes there, or for as many datagrams as it may have, all at one moment. Returns whether
+    /// more may be there.
+    /// See docs/DECISIONS.md, "A clock is read once a drain".
     fn drain<R: Clock, E: Write>(&mut self, rt: &R, err: &mut E, place: Place) -> bool {
+        let now = moment(rt);
         for _ in 0..TURNS {
-            if !self.turn(rt, err, place) {
+            if !self.turn(err, place, now) {
                 return false;
             }
         }
         true
+    }
+
+    /// Serves each place that a wait reports, and notes which of them are still ready. Returns whether one is.
+    fn drain_reported<R: Clock, E: Write>(
+        &mut self,
+        rt: &R,
+        err: &mut E,
+        events: &Events,
+        ready: &mut [bool],
+    ) -> bool {
+        let mut more = false;
+        for event in events.iter() {
+            let Token(token) = event.token();
+            if let Some(is_ready) = ready.get_mut(token) {
+                *is_ready = self.drain(rt, err, place_of(token));
+                more = more || *is_ready;
+            }
+        }
+        more
     }
 
     /// Serves each place that is ready, and keeps which of them still are. Returns whether one is.
@@ -244,13 +268,17 @@ impl Server<'_> {
         self.sockets.register(&poll).map_err(|_| Fault::Wait)?;
         let mut events = Events::with_capacity(rt.alloc(), EVENTS).map_err(|_| Fault::Memory)?;
         let mut ready = vec![in rt.alloc(); true; self.sockets.count()].map_err(|_| Fault::Memory)?;
-        let period = Duration::from_secs(PERIOD);
-        let mut wait = Duration::ZERO;
+        let mut more = true;
         for _ in 0..u64::MAX {
+            let period = if more { 0 } else { PERIOD };
+            let wait = Duration::from_secs(period);
             poll.poll(&mut events, Some(wait)).map_err(|_| Fault::Wait)?;
-            mark(&events, &mut ready);
-            let more = self.drain_ready(rt, err, &mut ready);
-            wait = if more { Duration::ZERO } else { period };
+            more = if more {
+                mark(&events, &mut ready);
+                self.drain_ready(rt, err, &mut ready)
+            } else {
+                self.drain_reported(rt, err, &events, &mut ready)
+            };
             self.tend(rt, err);
         }
         Ok(())

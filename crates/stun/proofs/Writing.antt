@@ -6,7 +6,7 @@ use Rattle.byteorder.specs.Numbers.{big_number-reads_back}
 use Rattle.stun.specs.Registry.{magic_cookie}
 use Rattle.stun.specs.Messages.{Parts, AreParts, padding_count, attribute_bytes, attributes_bytes, header, parts_bytes, zero_padded, with_attribute, empty_message, attribute_length}
 use Rattle.stun.specs.Refusals.{number_at}
-use Rattle.stun.specs.Building.{IsBuilding, message_bytes, built, used_in, room_in, over, with_piece, Begins, IsAppended}
+use Rattle.stun.specs.Building.{IsBuilding, message_bytes, building_parts, used_in, room_in, over, with_piece, Begins, IsAppended}
 use Rattle.stun.proofs.Grammar.{piece_take, piece_drop, push_bytes, push_all}
 use Rattle.stun.proofs.Datagrams.{parts_are, fours, length_of_parts}
 
@@ -55,18 +55,18 @@ attribute_written b b1 b2 b3 b4 value zeros kind n at at2 at3 at4 e1 e2 e3 e4 n_
 pub record Stands (p : Parts) (r b : List ℕ) : Type 0 where
   pub building : IsBuilding b
   pub message : message_bytes b ≡ parts_bytes p
-  pub parts : built b ≡ p
+  pub parts : building_parts b ≡ p
   pub following : drop (length (parts_bytes p)) b ≡ r
 
 pub stands : (b : List ℕ) (p : Parts) (r : List ℕ) → AreParts p → b ≡ parts_bytes p ++ r → Stands p r b
-unfolding built
+unfolding building_parts
 stands b p r are spelled =
     let whole = parts_bytes p in
     let x = attributes_bytes p.attributes in
     let length_is : number_at 2 2 (whole ++ r) ≡ length x = big_number-reads_back 2 (length x) ((big_bytes 4 magic_cookie ++ p.transaction_id) ++ x ++ r) are.short in
     let end : 20 + number_at 2 2 (whole ++ r) ≡ length whole = omega (arith, length_is, length_of_parts p are) in
     let front : message_bytes b ≡ whole = ap message_bytes spelled ∙ piece_take whole r (20 + number_at 2 2 (whole ++ r)) end in
-    let parts_is : built b ≡ p = parts_are (message_bytes b) p are front in
+    let parts_is : building_parts b ≡ p = parts_are (message_bytes b) p are front in
     record {
       building = record {
         inside = omega (arith, ap length spelled, ap (number_at 2 2) spelled, end, length-append whole r);
@@ -81,10 +81,10 @@ stands b p r are spelled =
     }
 
 -- a buffer that is being built has its message, and then the rest
-pub split_building : (b : List ℕ) → IsBuilding b → (b ≡ parts_bytes (built b) ++ drop (length (parts_bytes (built b))) b) × (length (parts_bytes (built b)) ≡ 20 + number_at 2 2 b) × (length (attributes_bytes (built b).attributes) ≡ number_at 2 2 b)
-unfolding built
+pub split_building : (b : List ℕ) → IsBuilding b → (b ≡ parts_bytes (building_parts b) ++ drop (length (parts_bytes (building_parts b))) b) × (length (parts_bytes (building_parts b)) ≡ 20 + number_at 2 2 b) × (length (attributes_bytes (building_parts b).attributes) ≡ number_at 2 2 b)
+unfolding building_parts
 split_building b is =
-    let p = built b in
+    let p = building_parts b in
     let spelled = is.message.spelled in
     let front : length (message_bytes b) ≡ 20 + number_at 2 2 b = length-take-le (20 + number_at 2 2 b) b is.inside in
     let long : length (parts_bytes p) ≡ 20 + number_at 2 2 b = ap length (sym spelled) ∙ front in
@@ -117,10 +117,10 @@ length_of_with p kind value are = omega (arith, length-append p.transaction_id (
 -- an attribute is written after the message, and the header's length after it
 pushed : (b b1 b2 : List ℕ) (kind : ℕ) (value : List ℕ) (at total : ℕ) → IsBuilding b → b1 ≡ with_piece at (attribute_bytes (zero_padded kind value)) b → b2 ≡ with_piece 2 (big_bytes 2 total) b1
     → at ≡ 20 + number_at 2 2 b → total ≡ number_at 2 2 b + (4 + length value + padding_count (length value))
-    → b2 ≡ over (with_attribute (built b) kind value) b
-unfolding built
+    → b2 ≡ over (with_attribute (building_parts b) kind value) b
+unfolding building_parts
 pushed b b1 b2 kind value at total is e1 e2 at_is total_is =
-    let p = built b in
+    let p = building_parts b in
     let q = with_attribute p kind value in
     let a = zero_padded kind value in
     let x = attributes_bytes p.attributes in
@@ -140,13 +140,13 @@ pushed b b1 b2 kind value at total is e1 e2 at_is total_is =
     ∙ sym (append_assoc (header p.kind (length (attributes_bytes q.attributes)) p.transaction_id) (attributes_bytes q.attributes) (drop (length (parts_bytes q)) b))
 
 -- the buffer after a push, and its parts
-pushed_stands : (b new : List ℕ) (kind : ℕ) (value : List ℕ) → IsBuilding b → new ≡ over (with_attribute (built b) kind value) b → kind < 0x10000 → number_at 2 2 b + (4 + length value + padding_count (length value)) < 0x10000
-    → Stands (with_attribute (built b) kind value) (drop (length (parts_bytes (with_attribute (built b) kind value))) b) new
-unfolding built
+pushed_stands : (b new : List ℕ) (kind : ℕ) (value : List ℕ) → IsBuilding b → new ≡ over (with_attribute (building_parts b) kind value) b → kind < 0x10000 → number_at 2 2 b + (4 + length value + padding_count (length value)) < 0x10000
+    → Stands (with_attribute (building_parts b) kind value) (drop (length (parts_bytes (with_attribute (building_parts b) kind value))) b) new
+unfolding building_parts
 pushed_stands b new kind value is spelled small short =
     let split = split_building b is in
-    let are = with_are (built b) kind value is.message.are_parts small (omega (arith, length_with (built b) kind value, split.2, short)) in
-    stands new (with_attribute (built b) kind value) (drop (length (parts_bytes (with_attribute (built b) kind value))) b) are spelled
+    let are = with_are (building_parts b) kind value is.message.are_parts small (omega (arith, length_with (building_parts b) kind value, split.2, short)) in
+    stands new (with_attribute (building_parts b) kind value) (drop (length (parts_bytes (with_attribute (building_parts b) kind value))) b) are spelled
 
 -- ---- the length so far, and the room
 
@@ -154,8 +154,8 @@ pub used_is : (b : List ℕ) → IsBuilding b → used_in b ≡ 20 + number_at 2
 unfolding used_in
 used_is b is = (split_building b is).1
 
-pub take_used : (b : List ℕ) → IsBuilding b → take (used_in b) b ≡ parts_bytes (built b)
-unfolding built
+pub take_used : (b : List ℕ) → IsBuilding b → take (used_in b) b ≡ parts_bytes (building_parts b)
+unfolding building_parts
 take_used b is = ap (λ n. take n b) (used_is b is) ∙ is.message.spelled
 
 pub room_of_length : (b : List ℕ) → room_in b ≡ min (length b) 65552
@@ -167,15 +167,15 @@ unfolding room_in
 same_room b new e = ap (λ n. min n 65552) e
 
 pub used_fits : (b : List ℕ) → IsBuilding b → used_in b ≤ room_in b
-unfolding built
+unfolding building_parts
 used_fits b is =
     let split = split_building b is in
     let short : number_at 2 2 b < 0x10000 = omega (arith, split.2, is.message.are_parts.short) in
-    let four : number_at 2 2 b % 4 ≡ 0 = omega (arith, fours (built b).attributes is.message.are_parts.attributes, split.2) in
+    let four : number_at 2 2 b % 4 ≡ 0 = omega (arith, fours (building_parts b).attributes is.message.are_parts.attributes, split.2) in
     let inside : 20 + number_at 2 2 b ≤ length b = is.inside in
     omega (arith, used_is b is, room_of_length b)
 
-pub ended : (b message : List ℕ) → IsBuilding b → message ≡ parts_bytes (built b) → (length message ≡ used_in b) × (take (length message) b ≡ parts_bytes (built b)) × (length message ≤ room_in b)
+pub ended : (b message : List ℕ) → IsBuilding b → message ≡ parts_bytes (building_parts b) → (length message ≡ used_in b) × (take (length message) b ≡ parts_bytes (building_parts b)) × (length message ≤ room_in b)
 unfolding used_in
 ended b message is there =
     let size : length message ≡ used_in b = ap length there in
@@ -187,11 +187,11 @@ id_of p bytes are there = ap (λ b. take 12 (drop 8 b)) there ∙ piece_take p.t
 length_over : (p : Parts) (b : List ℕ) → length (parts_bytes p) ≤ length b → length (over p b) ≡ length b
 length_over p b fits = omega (arith, length-append (parts_bytes p) (drop (length (parts_bytes p)) b), length-drop (length (parts_bytes p)) b)
 
-with_length : (b : List ℕ) (kind : ℕ) (value : List ℕ) → IsBuilding b → length (parts_bytes (with_attribute (built b) kind value)) ≡ used_in b + attribute_length value
-unfolding built used_in
+with_length : (b : List ℕ) (kind : ℕ) (value : List ℕ) → IsBuilding b → length (parts_bytes (with_attribute (building_parts b) kind value)) ≡ used_in b + attribute_length value
+unfolding building_parts used_in
 with_length b kind value is =
     let split = split_building b is in
-    omega (arith, length_of_with (built b) kind value is.message.are_parts, length_with (built b) kind value, split.1, split.2)
+    omega (arith, length_of_with (building_parts b) kind value is.message.are_parts, length_with (building_parts b) kind value, split.1, split.2)
 
 -- the attribute that was pushed, in the numbers that the code has: its length, its padding, the length before and after
 pub appended : (b b1 new : List ℕ) (kind : ℕ) (value : List ℕ) (n padding before total : ℕ) → IsBuilding b → kind < 0x10000 → n ≡ length value → padding ≡ padding_count n → before ≡ number_at 2 2 b
@@ -203,7 +203,7 @@ appended b b1 new kind value n padding before total is small n_is padding_is bef
     let spelled = pushed b b1 new kind value (20 + before) total is e1 e2 (ap (λ (k : ℕ). 20 + k) before_is) there in
     let most : 20 + number_at 2 2 b + attribute_length value ≤ min (length b) 65552 = omega (arith, room, used_is b is, room_of_length b) in
     let stand = pushed_stands b new kind value is spelled small (omega (arith, most)) in
-    let q = with_attribute (built b) kind value in
+    let q = with_attribute (building_parts b) kind value in
     let long : length (parts_bytes q) ≡ used_in b + attribute_length value = with_length b kind value is in
     let same = same_room b new (ap length spelled ∙ length_over q b (omega (arith, long, used_is b is, most))) in
     let used : used_in new ≡ used_in b + attribute_length value = ap (λ p. length (parts_bytes p)) stand.parts ∙ long in

@@ -2,7 +2,7 @@
 use Rattle.std.specs.Prelude.{◌≡◌, ℕ, ◌+◌, ◌<◌, ◌≤◌, List}
 use base.Fml.{GName}
 use Rattle.stun.specs.Messages.{Parts, with_attribute, attribute_length}
-use Rattle.stun.specs.Building.{built, over, used_in, room_in}
+use Rattle.stun.specs.Building.{building_parts, over, used_in, room_in}
 use Rattle.stun.specs.declared.building.Builder.{Builder}
 
 -- the whole buffer
@@ -11,7 +11,7 @@ bytes_of b = b.buffer.now
 
 -- the parts of the message so far
 abbrev pub parts_of : Builder → Parts
-parts_of b = built (bytes_of b)
+parts_of b = building_parts (bytes_of b)
 
 -- the length of the message so far
 abbrev pub used_of : Builder → ℕ

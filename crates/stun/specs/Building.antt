@@ -13,12 +13,12 @@ pub record IsBuilding (bytes : List ℕ) : Type 0 where
   pub message : EncodesParts (message_bytes bytes)
 
 -- its parts
-unfoldable pub built : List ℕ → Parts
-built bytes = parts_in (message_bytes bytes)
+unfoldable pub building_parts : List ℕ → Parts
+building_parts bytes = parts_in (message_bytes bytes)
 
 -- its length
 unfoldable pub used_in : List ℕ → ℕ
-used_in bytes = length (parts_bytes (built bytes))
+used_in bytes = length (parts_bytes (building_parts bytes))
 
 -- the most bytes that a message in a buffer may have: a header of 20, and attributes whose length has 16 bits and is
 -- a multiple of four
@@ -37,7 +37,7 @@ with_piece at piece bytes = take at bytes ++ (piece ++ drop (at + length piece) 
 
 -- a message with no attributes is over the first bytes, and the others are as they were
 pub record Begins (kind : ℕ) (transaction_id old new : List ℕ) : Type 0 where
-  pub parts : built new ≡ empty_message kind transaction_id
+  pub parts : building_parts new ≡ empty_message kind transaction_id
   pub bytes : new ≡ over (empty_message kind transaction_id) old
   pub used : used_in new ≡ 20
   pub room : room_in new ≡ min (length old) 65552
@@ -45,8 +45,8 @@ pub record Begins (kind : ℕ) (transaction_id old new : List ℕ) : Type 0 wher
 
 -- the message that stood there, with one more attribute, is over the first bytes, and the others are as they were
 pub record IsAppended (kind : ℕ) (value old new : List ℕ) : Type 0 where
-  pub parts : built new ≡ with_attribute (built old) kind value
-  pub bytes : new ≡ over (built new) old
+  pub parts : building_parts new ≡ with_attribute (building_parts old) kind value
+  pub bytes : new ≡ over (building_parts new) old
   pub used : used_in new ≡ used_in old + attribute_length value
   pub room : room_in new ≡ room_in old
   pub fits : used_in new ≤ room_in new

@@ -19,7 +19,7 @@ pub struct Builder<'a> {
 impl<'a> Builder<'a> {
     ghost use Rattle.std.specs.Prelude.{◌≡◌, ◌+◌, ◌<◌, ◌≤◌, length, take, OnOk, OnErr, IfOk};
     ghost use Rattle.stun.specs.Messages.{AreParts, parts_bytes, message_of, IsMessage};
-    ghost use Rattle.stun.specs.Building.{IsBuilding, built, used_in, room_in, Begins};
+    ghost use Rattle.stun.specs.Building.{IsBuilding, building_parts, used_in, room_in, Begins};
     ghost use Rattle.stun.specs.Builders.{bytes_of, buffer_name, parts_of, used_of, capacity_of, SameBuffer, Appends, HasNoRoom};
     ghost use Rattle.std.specs.Borrow.{sem, Array, u8, RestsIfErr};
 
@@ -59,7 +59,7 @@ impl<'a> Builder<'a> {
     pub fn resume(buffer: &'a mut [u8]) -> Builder<'a>
         requires { IsBuilding buffer.old }
         ensures bytes { bytes_of result ≡ buffer.old }
-        ensures parts { parts_of result ≡ built buffer.old }
+        ensures parts { parts_of result ≡ building_parts buffer.old }
         ensures used { used_of result ≡ used_in buffer.old }
         ensures room { capacity_of result ≡ room_in buffer.old }
         ensures same_buffer { buffer_name result ≡ buffer.entry.ghost_name }
@@ -115,7 +115,7 @@ impl<'a> Builder<'a> {
     }
 
     /// Returns the message so far: the length in its header is that of the attributes so far.
-    #[tactic(auto, unfolding(crate::specs::Building::built))]
+    #[tactic(auto, unfolding(crate::specs::Building::building_parts))]
     pub fn written(&self) -> &[u8]
         ensures bytes { result.now ≡ parts_bytes (parts_of self.now) }
         ensures parts { AreParts (parts_of self.now) }

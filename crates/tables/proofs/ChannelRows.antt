@@ -1,10 +1,10 @@
 -- Channels as they are stored, and their map.
-use Rattle.std.proofs.Common.{◌≡◌, ◌≢◌, ℕ, ◌<◌, ◌≤◌, Bool, true, false, IsTrue, List, [], length, get_or, set, filter, nat_lt, nat_eq, Some, None, Result, Ok, Err, IfErr, All, Ordering, sym, refl, ap, ◌∙◌, subst, inl, inr, arith}
+use Rattle.std.proofs.Common.{◌≡◌, ◌≢◌, ℕ, ◌<◌, ◌≤◌, Bool, true, false, IsTrue, List, [], length, get_or, set, filter, nat_lt, nat_eq, Some, None, Result, Ok, Err, IfErr, All, Ordering, Option, option_map, find, sym, refl, ap, ◌∙◌, subst, inl, inr, arith}
 use Rattle.std.specs.Ordering.{nat_cmp}
 use Rattle.std.specs.Cmp.{nat_cmp_total}
 use Rattle.std.specs.List.{insert as insert_at}
-use Rattle.std.specs.FinMap.{get, insert, len, get-from_entries, nat_cmp-IsAntisymmetric}
-use Rattle.std.proofs.lemmas.Bool.{cases_order, cond-true, both_ways, false_from_ne_true, and_parts, eqb-true, lt-ltb, le-ltb, ltb-true, ltb-false}
+use Rattle.std.specs.FinMap.{get, insert, len, entries, get-from_entries, nat_cmp-IsAntisymmetric}
+use Rattle.std.proofs.lemmas.Bool.{cases_Bool, cases_order, cond-true, cond-false, both_ways, false_from_ne_true, and_parts, and_from, eqb-true, lt-ltb, le-ltb, ltb-true, ltb-false}
 use Rattle.std.proofs.lemmas.Option.{same_Some, none-some}
 use Rattle.std.proofs.lemmas.List.{get_or_default, length-set}
 use Rattle.std.proofs.lemmas.List.Edits.{length-insert}
@@ -15,6 +15,7 @@ use Rattle.attributes.specs.declared.address.Addr.TheVariants.{V4}
 use Rattle.attributes.specs.AddressOrder.{parts_of, order_by_parts, is_same_address}
 use Rattle.attributes.specs.AddressOrderLaws.{parts_order-total, parts_order-antisymmetric}
 use Rattle.tables.specs.Channels.{channels_at, number_to, may_bind, is_none_or}
+use Rattle.tables.specs.MapLaws.{entry_found}
 use Rattle.tables.specs.RowLists.{channels_of, AreChannels}
 use Rattle.tables.specs.Retained.{value_if}
 use Rattle.tables.specs.RetainedLaws.{get-kept_of, kept_from}
@@ -26,7 +27,7 @@ use Rattle.tables.specs.declared.channels.Channel.{Channel}
 use Rattle.tables.specs.declared.channels.TheConstants.{FIRST_CHANNEL, LAST_CHANNEL}
 use Rattle.tables.proofs.Ascending.{searchable, Ascending-filter, Ascending-put, missing_key, found_key}
 use Rattle.tables.proofs.Lists.{AllPairs-set, AllPairs-insert, All-insert}
-use Rattle.tables.proofs.Maps.{from_entries-filter, from_entries-set, from_entries-insert, len-from_entries, find_at, find_row, find-absent, Distinct-set, PassesOnce, key_where-None, key_where-Some}
+use Rattle.tables.proofs.Maps.{from_entries-filter, from_entries-set, from_entries-insert, len-from_entries, find_at, find_row, find-absent, Distinct-set, PassesOnce, passes_found, key_where-None, key_where-Some}
 use Rattle.tables.proofs.Peers.{is_same-symmetric, is_same-joined, same-found, same-missing}
 
 abbrev pub entry_of : Channel → ℕ × Binding
@@ -177,6 +178,30 @@ module _ (rows : List Channel) where
         let same : number ≡ row.number = once are peer number row.number binding row.binding s.0 (at_row are i d at.inside) to own in
         let one : binding ≡ row.binding = same_Some binding row.binding (sym s.0 ∙ ap (get (channels_of rows)) same ∙ at_row are i d at.inside) in
         both_ways (nat_lt t row.binding.end) (le-ltb t row.binding.end ended) (ap (λ (b : Binding). nat_lt t b.end) (sym one) ∙ s.1)))
+
+-- ---- what is free among all is free among those that count
+
+none_or_kept : {X : Type 0} (f : X → Bool) (test : Option X → Bool) (v : Option X) → is_none_or f v ≡ true → is_none_or f (value_if test v) ≡ true
+none_or_kept f test v h = elim (cases_Bool (test v)) [
+  | inl t ↦ ap (is_none_or f) (cond-true (test v) v None t) ∙ h
+  | inr e ↦ ap (is_none_or f) (cond-false (test v) v None e)
+]
+
+pub free_later : (rows : List Channel) → AreChannels rows → (number : ℕ) (peer : Addr) (t : ℕ) → IsTrue (may_bind (channels_of rows) number peer) → IsTrue (may_bind (channels_at t (channels_of rows)) number peer)
+free_later rows are number peer t free =
+    let parts = and_parts _ _ free in
+    let left = channels_at t (channels_of rows) in
+    and_from _ _
+    (ap (is_none_or (bound_to peer)) (get-kept_of nat_cmp_total (binding_counts t) (channels_of rows) number) ∙ none_or_kept (bound_to peer) (binding_counts t) (get (channels_of rows) number) parts.0)
+    (elim (find (λ e. bound_to peer e.1) (entries left)) as (λ r. find (λ e. bound_to peer e.1) (entries left) ≡ r → is_none_or (nat_eq number) (option_map (λ e. e.0) r) ≡ true) [
+      | None ↦ λ _. refl
+      | Some e ↦ λ s.
+          let at = entry_found nat_cmp_total (λ (e : ℕ × Binding). bound_to peer e.1) left e s in
+          let to = passes_found nat_cmp_total nat_cmp-IsAntisymmetric (λ (e : ℕ × Binding). bound_to peer e.1) (entries left) e s in
+          let one : number_to peer (channels_of rows) ≡ Some e.0 =
+          key_where-Some nat_cmp_total nat_cmp-IsAntisymmetric (bound_to peer) (channels_of rows) e.0 e.1 (once rows are peer) (stored rows t e.0 e.1 at).0 to in
+          sym (ap (is_none_or (nat_eq number)) one) ∙ parts.1
+    ] refl)
 
 -- ---- a binding
 

@@ -3,9 +3,9 @@ use Rattle.std.proofs.Common.{◌≡◌, ℕ, ◌≤◌, sym, ap, ◌∙◌, sub
 use Rattle.std.specs.FinMap.{empty, insert, len}
 use Rattle.attributes.specs.Addresses.{IsIpv4Address}
 use Rattle.tables.specs.Channels.{ChannelMap, channels_at}
-use Rattle.tables.specs.Permissions.{PermissionMap, permissions_at}
+use Rattle.tables.specs.Permissions.{PermissionMap}
 use Rattle.tables.specs.WellFormed.{IsChannel, IsHeldAt}
-use Rattle.tables.specs.WellFormedLaws.{counted-held_at, fresh-held_at, refreshed-held_at, permitted-held_at, bound-held_at}
+use Rattle.tables.specs.WellFormedLaws.{counted-held_at, fresh-held_at, permitted-held_at, bound-held_at}
 use Rattle.tables.specs.RowLaws.{held_counting}
 use Rattle.tables.specs.declared.allocation.Allocation.{Allocation}
 use Rattle.tables.specs.declared.channels.Binding.{Binding}
@@ -22,12 +22,6 @@ allocated slot a permissions channels no_permissions no_channels at client =
     subst (IsHeldAt slot) (λ i. held_of a (sym no_permissions i) (sym no_channels i)) (fresh-held_at slot a at client)
 
 module _ (slot t : ℕ) (held : Held) (is : IsHeldAt slot held) where
-  pub refreshed : (end : ℕ) (permissions : PermissionMap) (channels : ChannelMap) → permissions ≡ permissions_at t held.permissions → channels ≡ channels_at t held.channels
-      → IsHeldAt slot (held_of (record held.allocation { end = end }) permissions channels)
-  refreshed end permissions channels same_permissions same_channels =
-      subst (IsHeldAt slot) (λ i. held_of (record held.allocation { end = end }) (sym same_permissions i) (sym same_channels i))
-      (refreshed-held_at slot end (held_counting t held) (counted-held_at t slot held is))
-
   pub permitted : (permissions : PermissionMap) (channels : ChannelMap) → len permissions ≤ MAX_PERMISSIONS → channels ≡ channels_at t held.channels
       → IsHeldAt slot (held_of held.allocation permissions channels)
   permitted permissions channels few same_channels =

@@ -159,7 +159,7 @@ len-insert-ge o m k v = elim (cases_Bool (contains_key m k)) [
 -- ---- a search among the values
 
 module _ {K X : Type 0} {R : K → K → Ordering} (o : IsTotalOrder R) (same : IsAntisymmetric R) where
-  passes_found : (t : K × X → Bool) (es : List (K × X)) (e : K × X) → find t es ≡ Some e → t e ≡ true
+  pub passes_found : (t : K × X → Bool) (es : List (K × X)) (e : K × X) → find t es ≡ Some e → t e ≡ true
   passes_found t [] e s = absurd (none-some e s)
   passes_found t (x ∷ es) e s = elim (cases_Bool (t x)) [
     | inl b ↦ subst (λ (y : K × X). t y ≡ true) (same_Some _ _ (sym (cond-true (t x) _ _ b) ∙ s)) b

@@ -1,9 +1,11 @@
 -- Permissions as they are stored, and their map.
-use Rattle.std.proofs.Common.{Ordering, ◌≡◌, ℕ, ◌+◌, ◌≤◌, List, [], ◌∷◌, length, get_or, set, filter, nat_lt, Some, None, Result, Ok, Err, OnErr, sym, refl, ap, ◌∙◌, arith}
-use Rattle.std.specs.FinMap.{get, insert, len}
+use Rattle.std.proofs.Common.{Ordering, ◌≡◌, ℕ, ◌+◌, ◌<◌, ◌≤◌, Bool, true, false, cond, List, [], ◌∷◌, length, get_or, set, take, filter, nat_lt, Option, Some, None, is_some, Result, Ok, Err, is_err, OnErr, sym, refl, ap, ◌∙◌, inl, inr, arith}
+use Rattle.std.specs.FinMap.{get, insert, len, contains_key, get-insert, len-insert}
+use Rattle.std.specs.Ordering.{eq_by_cmp}
+use Rattle.std.proofs.lemmas.Bool.{cases_Bool, cond-true, cond-false, both_ways}
 use Rattle.std.specs.List.{insert as insert_at}
 use Rattle.std.specs.FinMap.{get-from_entries}
-use Rattle.std.proofs.lemmas.List.{length-set}
+use Rattle.std.proofs.lemmas.List.{length-set, take_more}
 use Rattle.std.proofs.lemmas.List.Edits.{length-insert}
 use Rattle.attributes.specs.Addresses.{ip_of}
 use Rattle.attributes.specs.declared.address.Addr.{Addr}
@@ -13,9 +15,10 @@ use Rattle.tables.specs.Permissions.{PermissionMap, permissions_at, with_all}
 use Rattle.tables.specs.RowLists.{permissions_of, ArePermissions}
 use Rattle.tables.specs.declared.permissions.Permission.{Permission}
 use Rattle.tables.proofs.Lists.{length-filter-le}
-use Rattle.attributes.specs.AddressOrder.{ip_order}
+use Rattle.attributes.specs.AddressOrder.{ip_cmp, ip_order}
 use Rattle.attributes.specs.AddressOrderLaws.{ip_order-total, ip_order-antisymmetric, ip_total, ip_antisymmetric}
-use Rattle.tables.specs.Search.{AreAscending, IsFoundAt, IsMissingAt}
+use Rattle.tables.specs.PermitLaws.{with_all-append}
+use Rattle.tables.specs.Search.{AreAscending, IsFoundAt, IsMissingAt, IsPlace}
 use Rattle.tables.specs.SortedRows.{AreSortedPermissions}
 use Rattle.tables.proofs.Ascending.{searchable, Ascending-distinct, Ascending-filter, Ascending-set, Ascending-insert, missing_key, found_key}
 use Rattle.tables.proofs.Maps.{from_entries-filter, from_entries-set, from_entries-insert, len-from_entries, find_at, find-absent, len-insert-ge}
@@ -103,6 +106,42 @@ module _ (rows : List Permission) (sorted : AreSortedPermissions rows) (row : Pe
 pub len-with_all-ge : (m : PermissionMap) (ips : List Addr) (end : ℕ) → len m ≤ len (with_all m ips end)
 len-with_all-ge m [] end = omega arith
 len-with_all-ge m (ip ∷ ips) end = omega (arith, len-insert-ge ip_total m (ip_of ip) end, len-with_all-ge (insert m (ip_of ip) end) ips end)
+
+-- ---- room for all
+
+pub has_row : (ip : List ℕ) (rows : List Permission) (place : Result ℕ ℕ) → AreSortedPermissions rows → IsPlace (by_ip ip) rows place → is_err place ≡ false → is_some (get (permissions_of rows) ip) ≡ true
+has_row ip rows (Ok i) sorted at h = ap is_some (found ip rows i blank sorted at)
+has_row ip rows (Err i) sorted none h = absurd (both_ways true h refl)
+
+len-insert-le : (m : PermissionMap) (ip : List ℕ) (end : ℕ) → len (insert m ip end) ≤ len m + 1
+len-insert-le m ip end = elim (cases_Bool (contains_key m ip)) [
+  | inl t ↦ omega (arith, len-insert ip_total m ip end ∙ cond-true (contains_key m ip) (len m) (len m + 1) t)
+  | inr e ↦ omega (arith, len-insert ip_total m ip end ∙ cond-false (contains_key m ip) (len m) (len m + 1) e)
+]
+
+inserted_too : (b : Bool) (end : ℕ) (o : Option ℕ) → is_some o ≡ true → is_some (cond b (Some end) o) ≡ true
+inserted_too true end o there = refl
+inserted_too false end o there = there
+
+stays : (m : PermissionMap) (ips : List Addr) (end : ℕ) (ip : List ℕ) → is_some (get m ip) ≡ true → is_some (get (with_all m ips end) ip) ≡ true
+stays m [] end ip there = there
+stays m (x ∷ xs) end ip there =
+    stays (insert m (ip_of x) end) xs end ip (ap is_some (get-insert ip_total m (ip_of x) end ip) ∙ inserted_too (eq_by_cmp ip_cmp ip (ip_of x)) end (get m ip) there)
+
+module _ (m : PermissionMap) (ips : List Addr) (i end : ℕ) (d : Addr) (within : i < length ips) where
+  one_more : with_all m (take (i + 1) ips) end ≡ insert (with_all m (take i ips) end) (ip_of (get_or ips i d)) end
+  one_more = ap (λ (xs : List Addr). with_all m xs end) (take_more ips i d within) ∙ with_all-append m (take i ips) (get_or ips i d ∷ []) end
+
+  -- one more address takes at most one more row
+  pub len-one_more : (count : ℕ) → len (with_all m (take i ips) end) ≤ count → len (with_all m (take (i + 1) ips) end) ≤ count + 1
+  len-one_more count fits = omega (arith, fits, ap len one_more, len-insert-le (with_all m (take i ips) end) (ip_of (get_or ips i d)) end)
+
+  -- and none where it has one
+  pub len-one_again : (count : ℕ) → is_some (get m (ip_of (get_or ips i d))) ≡ true → len (with_all m (take i ips) end) ≤ count → len (with_all m (take (i + 1) ips) end) ≤ count
+  len-one_again count there fits =
+      let so_far = with_all m (take i ips) end in
+      let ip = ip_of (get_or ips i d) in
+      omega (arith, fits, ap len one_more, len-insert ip_total so_far ip end ∙ cond-true (contains_key so_far ip) (len so_far) (len so_far + 1) (stays m (take i ips) end ip there))
 
 pub on_err : {A E : Type 0} {P : Type 0} (r : Result A E) → P → OnErr r P
 on_err (Ok x) p = tt

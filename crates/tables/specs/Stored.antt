@@ -1,12 +1,18 @@
--- Internal. What is stored: slots, and the clients that have one in ascending order of their addresses.
-use Rattle.std.specs.Prelude.{◌≡◌, ◌≢◌, ℕ, List, slice_get, Option, None, Some, All, AllPairs, nat_lt, if◌then◌else◌}
+-- Internal. What is stored: slots, the clients that have one in ascending order of their addresses, and what a slot holds
+-- after a change in place.
+use Rattle.std.specs.Prelude.{◌≡◌, ◌≢◌, ℕ, ◌+◌, List, slice_get, Option, None, Some, All, AllPairs, nat_lt, if◌then◌else◌}
 use Rattle.std.specs.Option.{option_map, option_flatten}
+use Rattle.std.specs.FinMap.{insert}
 use Rattle.std.specs.declared.cmp.Ordering.TheVariants.{Less}
+use Rattle.attributes.specs.Addresses.{ip_of}
 use Rattle.attributes.specs.declared.address.Addr.{Addr}
 use Rattle.attributes.specs.AddressOrder.{order_by_parts}
+use Rattle.tables.specs.Permissions.{with_all}
 use Rattle.tables.specs.WellFormed.{AreWellFormed}
+use Rattle.tables.specs.declared.channels.TheConstants.{CHANNEL_LIFETIME}
 use Rattle.tables.specs.declared.clients.Client.{Client}
 use Rattle.tables.specs.declared.held.Held.{Held}
+use Rattle.tables.specs.declared.permissions.TheConstants.{PERMISSION_LIFETIME}
 
 abbrev pub stored_at : List (Option Held) → ℕ → Option Held
 stored_at slots slot = option_flatten (slice_get slots slot)
@@ -28,3 +34,20 @@ pub record AreStored (moment : ℕ) (slots : List (Option Held)) (clients : List
 abbrev pub left_at : ℕ → Option Held → Option Held
 left_at t None = None
 left_at t (Some held) = if nat_lt t held.allocation.end then Some held else None
+
+-- ---- what a slot holds, changed in place
+
+-- with a new end of the allocation
+abbrev pub with_end : ℕ → Held → Held
+with_end end held = record held { allocation = record held.allocation { end = end } }
+
+-- with permissions for these IP addresses
+abbrev pub with_permissions : ℕ → List Addr → Held → Held
+with_permissions end ips held = record held { permissions = with_all held.permissions ips end }
+
+-- with a channel, and a permission for its peer's IP address
+abbrev pub with_binding : ℕ → ℕ → Addr → Held → Held
+with_binding t number peer held = record held {
+  channels = insert held.channels number (record { peer = peer; end = t + CHANNEL_LIFETIME });
+  permissions = insert held.permissions (ip_of peer) (t + PERMISSION_LIFETIME);
+}

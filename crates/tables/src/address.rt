@@ -22,7 +22,7 @@ pub fn is_ipv4(address: &Addr) -> bool
 fn is_same_ip(a: &Addr, b: &Addr) -> bool
     ensures { result ≡ eq_by_cmp ip_cmp (ip_of a.now) (ip_of b.now) }
 {
-    a.ip() == b.ip()
+    a.cmp_ip(b).is_eq()
 }
 
 /// Returns whether two addresses have the same IP address and the same port.

@@ -14,8 +14,9 @@ impl Tables {
     ghost use Rattle.tables.specs.Addresses.{is_ipv4};
     ghost use Rattle.tables.specs.Channels.{IsChannelNumber};
     ghost use Rattle.tables.specs.Moments.{moment_of};
-    ghost use Rattle.tables.specs.Rows.{rows_at};
+    ghost use Rattle.tables.specs.Rows.{counting, rows_at};
     ghost use Rattle.tables.specs.Changes.{Follows, allocate, refresh, permit, bind};
+    ghost use Rattle.tables.specs.declared.moment.TheConstants.{LATEST};
 
     /// Makes an allocation at the lowest free slot, with no permissions and no channels, and returns the slot. Its end is
     /// the lifetime, in seconds, after the moment (RFC 8656, section 7).
@@ -73,17 +74,11 @@ impl Tables {
         ensures slots { length self.new.slots ≡ length self.old.slots }
     {
         let moment = self.moment_at(now);
-        let held = self.held(slot, moment).ok_or(Refused::NoAllocation)?;
-        let held = Held {
-            allocation: Allocation {
-                end: moment + u64::from(lifetime),
-                ..held.allocation
-            },
-            permissions: held.permissions.at(moment),
-            channels: held.channels.at(moment),
-        };
-        self.hold(slot, moment, held);
-        Ok(())
+        if self.refresh_in_place(slot, moment, lifetime) {
+            Ok(())
+        } else {
+            Err(Refused::NoAllocation)
+        }
     }
 
     /// Permits IP addresses at a slot for [`PERMISSION_LIFETIME`], or renews their permissions (RFC 8656, section 9): all of
@@ -100,6 +95,21 @@ impl Tables {
         ensures slots { length self.new.slots ≡ length self.old.slots }
     {
         let moment = self.moment_at(now);
+        if self.permit_in_place(slot, moment, ips) {
+            return Ok(());
+        }
+        self.permit_swept(slot, moment, ips)
+    }
+
+    /// As [`Tables::permit`], at a moment that counts, with a copy of what the slot holds from which all that has ended is
+    /// dropped.
+    fn permit_swept(&mut self, slot: usize, moment: u64, ips: &[Addr]) -> Result<(), Refused>
+        requires later { self.old.moment ≤ moment }
+        requires latest { moment ≤ LATEST }
+        ensures follows { Follows (permit slot ips.now (counting moment self.old)) self.old result self.new }
+        ensures moment { (self.old.moment ≤ self.new.moment) × (self.new.moment ≤ moment) }
+        ensures slots { length self.new.slots ≡ length self.old.slots }
+    {
         let held = self.held(slot, moment).ok_or(Refused::NoAllocation)?;
         let mut permissions = held.permissions.at(moment);
         permissions.put_all(ips, moment + PERMISSION_LIFETIME)?;
@@ -129,6 +139,29 @@ impl Tables {
         ensures slots { length self.new.slots ≡ length self.old.slots }
     {
         let moment = self.moment_at(now);
+        if self.bind_in_place(slot, moment, number, peer) {
+            return Ok(());
+        }
+        self.bind_swept(slot, moment, number, peer)
+    }
+
+    /// As [`Tables::bind`], at a moment that counts, with a copy of what the slot holds from which all that has ended is
+    /// dropped.
+    fn bind_swept(
+        &mut self,
+        slot: usize,
+        moment: u64,
+        number: u16,
+        peer: Addr,
+    ) -> Result<(), Refused>
+        requires later { self.old.moment ≤ moment }
+        requires latest { moment ≤ LATEST }
+        requires range { IsChannelNumber number }
+        requires ipv4 { IsTrue (is_ipv4 peer) }
+        ensures follows { Follows (bind slot number peer (counting moment self.old)) self.old result self.new }
+        ensures moment { (self.old.moment ≤ self.new.moment) × (self.new.moment ≤ moment) }
+        ensures slots { length self.new.slots ≡ length self.old.slots }
+    {
         let held = self.held(slot, moment).ok_or(Refused::NoAllocation)?;
         is_address(&peer);
         let mut channels = held.channels.at(moment);

@@ -129,7 +129,7 @@ fn has_room(rows: &[Channel], place: &Result<usize, usize>) -> bool
 }
 
 impl Channels {
-    ghost use Rattle.std.specs.Prelude.{◌≡◌, ◌+◌, ◌<◌, ◌≤◌, OnOk, OnErr, IfErr, IfSome, IsTrue, option_map};
+    ghost use Rattle.std.specs.Prelude.{◌≡◌, ℕ, ◌+◌, ◌<◌, ◌≤◌, OnOk, OnErr, IfErr, IfSome, IsTrue, option_map};
     ghost use Rattle.std.specs.FinMap.{empty, get, insert, len};
     ghost use Rattle.tables.specs.Channels.{IsChannelNumber, channels_at, number_to, may_bind};
     ghost use Rattle.tables.specs.RowLists.{AreChannels, channels_of};
@@ -231,6 +231,14 @@ impl Channels {
             None => true,
         };
         is_own && self.number_to(peer).is_none_or(|bound| number == bound)
+    }
+
+    /// States that a number and a peer that may be bound may also be bound among the channels that count at a moment.
+    pub(crate) fn stay_free(&self, number: u16, peer: &Addr)
+        requires { IsTrue (may_bind self.now number peer.now) }
+        ensures { (t : ℕ) → IsTrue (may_bind (channels_at t self.now) number peer.now) }
+    {
+        let _ = &self.rows;
     }
 
     /// Binds a number, or renews its binding.

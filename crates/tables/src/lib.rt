@@ -8,6 +8,7 @@ mod changes;
 mod channels;
 mod clients;
 mod held;
+mod in_place;
 mod limits;
 mod listing;
 mod look_ups;

@@ -71,7 +71,8 @@ impl Model for Permissions {
 }
 
 impl Permissions {
-    ghost use Rattle.std.specs.Prelude.{◌≡◌, ◌+◌, ◌<◌, ◌≤◌, OnOk, OnErr, IfErr};
+    ghost use Rattle.std.specs.Prelude.{◌≡◌, ℕ, ◌+◌, ◌<◌, ◌≤◌, OnOk, OnErr, IfErr};
+    ghost use Rattle.std.specs.Bool.{OnTrue};
     ghost use Rattle.std.specs.FinMap.{empty, get, insert, len};
     ghost use Rattle.attributes.specs.Addresses.{ip_of};
     ghost use Rattle.tables.specs.Permissions.{permissions_at, with_all};
@@ -122,6 +123,20 @@ impl Permissions {
         Permissions { rows }
     }
 
+    /// Returns whether there is room for permissions of these IP addresses beside all that there are, where each address that
+    /// has none takes a row, also one that comes twice.
+    pub(crate) fn have_room(&self, ips: &[Addr]) -> bool
+        ensures { OnTrue result ((end : ℕ) → len (with_all self.now ips.now end) ≤ MAX_PERMISSIONS) }
+    {
+        let mut count = self.rows.len();
+        for ip in ips {
+            if place_of(self.rows.as_slice(), ip).is_err() {
+                count += 1;
+            }
+        }
+        count <= MAX_PERMISSIONS
+    }
+
     /// Adds a permission, or gives it a new end where there is one.
     ///
     /// # Errors
@@ -162,5 +177,13 @@ impl Permissions {
             self.put(*ip, end)?;
         }
         Ok(())
+    }
+
+    /// As [`Permissions::put_all`], where there is room for all of them.
+    pub(crate) fn put_each(&mut self, ips: &[Addr], end: u64)
+        requires { len (with_all self.old ips.now end) ≤ MAX_PERMISSIONS }
+        ensures { self.new ≡ with_all self.old ips.now end }
+    {
+        let _ = self.put_all(ips, end);
     }
 }

@@ -4,7 +4,7 @@ use Rattle.insn.specs.declared.instruction.Insn.{Insn}
 use Rattle.interval.specs.Domains.{Operations}
 use Rattle.verifier.specs.Keeping.{KeepsAtGoals, KeepsNothing}
 use Rattle.verifier.specs.Layout.{IsLayoutRefusal}
-use Rattle.verifier.specs.Walk.{first_pending, waiting, MakesStep, IsStepRefusal}
+use Rattle.verifier.specs.Walk.{first_pending, waiting, IsWalkStep, IsStepRefusal}
 use Rattle.verifier.specs.Walks.{Walks, IsLastStep, IsRefusedEnd, EndsWalk}
 use Rattle.verifier.specs.declared.kept.Kept.{Kept}
 use Rattle.verifier.specs.declared.refusal.Refusal.{Refusal}
@@ -16,17 +16,17 @@ module _ {D : Type 0} (ops : Operations D) (Member : D → ℕ → Type 0) (code
   starts pending kept none goals nothing = (ap (λ (xs : List (Pending D)). xs ++ first_pending ∷ []) none, goals, nothing)
 
   -- a step more
-  walks_on : (made : ℕ) (here : Pending D) (old : List (Pending D)) (kept : Kept D) (picked : Option (Pending D)) (new : List (Pending D)) (more : Kept D) → Walks ops Member code made (old ++ here ∷ []) kept → MakesStep ops Member code here old kept picked new more → Walks ops Member code (suc made) (waiting picked new) more
+  walks_on : (made : ℕ) (here : Pending D) (old : List (Pending D)) (kept : Kept D) (picked : Option (Pending D)) (new : List (Pending D)) (more : Kept D) → Walks ops Member code made (old ++ here ∷ []) kept → IsWalkStep ops Member code here old kept picked new more → Walks ops Member code (suc made) (waiting picked new) more
   walks_on made here old kept picked new more walks step = (here, old, kept, picked, new, walks, step, refl)
 
   one_more : (made : ℕ) (waits : List (Pending D)) (kept : Kept D) → Walks ops Member code (suc made) waits kept → Walks ops Member code (made + 1) waits kept
   one_more made waits kept walks = let same : suc made ≡ made + 1 = omega arith in subst (λ (n : ℕ). Walks ops Member code n waits kept) same walks
 
-  pub goes : (made : ℕ) (here : Pending D) (old : List (Pending D)) (kept : Kept D) (next : Pending D) (new : List (Pending D)) (more : Kept D) → Walks ops Member code made (old ++ here ∷ []) kept → MakesStep ops Member code here old kept (Some next) new more → Walks ops Member code (made + 1) (new ++ next ∷ []) more
+  pub goes : (made : ℕ) (here : Pending D) (old : List (Pending D)) (kept : Kept D) (next : Pending D) (new : List (Pending D)) (more : Kept D) → Walks ops Member code made (old ++ here ∷ []) kept → IsWalkStep ops Member code here old kept (Some next) new more → Walks ops Member code (made + 1) (new ++ next ∷ []) more
   goes made here old kept next new more walks step = one_more made (new ++ next ∷ []) more (walks_on made here old kept (Some next) new more walks step)
 
   -- the last step, after which no state waits
-  pub ends : (made : ℕ) (here : Pending D) (old : List (Pending D)) (kept : Kept D) (new : List (Pending D)) (more : Kept D) → Walks ops Member code made (old ++ here ∷ []) kept → MakesStep ops Member code here old kept None new more → Walks ops Member code (made + 1) [] more
+  pub ends : (made : ℕ) (here : Pending D) (old : List (Pending D)) (kept : Kept D) (new : List (Pending D)) (more : Kept D) → Walks ops Member code made (old ++ here ∷ []) kept → IsWalkStep ops Member code here old kept None new more → Walks ops Member code (made + 1) [] more
   ends made here old kept new more walks step = one_more made [] more (subst (λ (waits : List (Pending D)). Walks ops Member code (suc made) waits more) step.settles.ended (walks_on made here old kept None new more walks step))
 
   abbrev last_step : (made slot : ℕ) (here : Pending D) (old : List (Pending D)) (kept : Kept D) → slot ≡ here.slot → Walks ops Member code made (old ++ here ∷ []) kept → IsLastStep ops Member code (made + 1) slot

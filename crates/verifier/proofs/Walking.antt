@@ -31,7 +31,7 @@ use Rattle.verifier.specs.Layout.{IsLaidOut, StartsAt}
 use Rattle.verifier.specs.declared.kept.Kept.{Kept}
 use Rattle.verifier.specs.PendingStates.{AllRunsExit, IsReached, count_from, counts_from}
 use Rattle.verifier.specs.Refusing.{IsReal, MayRefuseOver}
-use Rattle.verifier.specs.Walk.{first_pending, BeginsInside, LeadsTo, IsNext, IsLeft, GoesOn, Advances, IsStepRefusal, IsCovered, Skips, Settles, MakesStep, waiting, state_to_follow}
+use Rattle.verifier.specs.Walk.{first_pending, BeginsInside, LeadsTo, IsNext, IsLeft, GoesOn, Advances, IsStepRefusal, IsCovered, Skips, Settles, IsWalkStep, waiting, state_to_follow}
 use Rattle.verifier.specs.declared.refusal.Refusal.{Refusal}
 use Rattle.verifier.specs.declared.refusal.Refusal.TheVariants as refusal
 use Rattle.verifier.specs.declared.walk.Path.{Path}
@@ -143,10 +143,10 @@ module _ {D : Type 0} (ops : Operations D) (Member : D → ℕ → Type 0) (kept
   settles_past path here old picked new is covered settles = subst (λ (p : Path). Settles ops Member kept (state_to_follow p here) old picked new) (sym is) (record { skips = skips_after old here (waiting picked new) covered settles.skips; uncovered = settles.uncovered; ended = settles.ended })
 
 -- a step, where it is known how its path ends
-pub made_so : {D : Type 0} (ops : Operations D) (Member : D → ℕ → Type 0) (code : List Insn) (here : Pending D) (old : List (Pending D)) (kept : Kept D) (next : Pending D) (new : List (Pending D)) (more : Kept D) (path other : Path) → path ≡ other → MakesStep ops Member code here old kept (state_to_follow path next) new more → MakesStep ops Member code here old kept (state_to_follow other next) new more
-made_so ops Member code here old kept next new more path other is step = subst (λ (p : Path). MakesStep ops Member code here old kept (state_to_follow p next) new more) is step
+pub made_so : {D : Type 0} (ops : Operations D) (Member : D → ℕ → Type 0) (code : List Insn) (here : Pending D) (old : List (Pending D)) (kept : Kept D) (next : Pending D) (new : List (Pending D)) (more : Kept D) (path other : Path) → path ≡ other → IsWalkStep ops Member code here old kept (state_to_follow path next) new more → IsWalkStep ops Member code here old kept (state_to_follow other next) new more
+made_so ops Member code here old kept next new more path other is step = subst (λ (p : Path). IsWalkStep ops Member code here old kept (state_to_follow p next) new more) is step
 
-pub makes_step : {D : Type 0} (ops : Operations D) (Member : D → ℕ → Type 0) (code : List Insn) (here : Pending D) (old : List (Pending D)) (kept : Kept D) (picked : Option (Pending D)) (new : List (Pending D)) (more : Kept D) (next : Option (Pending D)) (pending : List (Pending D)) → Keeps here kept more → Advances ops code here old next pending → Settles ops Member (kept_at more) next pending picked new → MakesStep ops Member code here old kept picked new more
+pub makes_step : {D : Type 0} (ops : Operations D) (Member : D → ℕ → Type 0) (code : List Insn) (here : Pending D) (old : List (Pending D)) (kept : Kept D) (picked : Option (Pending D)) (new : List (Pending D)) (more : Kept D) (next : Option (Pending D)) (pending : List (Pending D)) → Keeps here kept more → Advances ops code here old next pending → Settles ops Member (kept_at more) next pending picked new → IsWalkStep ops Member code here old kept picked new more
 makes_step ops Member code here old kept picked new more next pending keeps advances settles = record { next = next; pending = pending; keeps = keeps; advances = advances; settles = settles }
 
 module _ {D : Type 0} (ops : Operations D) (Member : D → ℕ → Type 0) (sound : AreSound ops Member) (code : List Insn) where
@@ -296,13 +296,13 @@ module _ {D : Type 0} (ops : Operations D) (Member : D → ℕ → Type 0) (soun
   pub settles : (made : ℕ) (states : ℕ → List (AbsState D)) (all rest : List (Pending D)) → Skips ops Member states all rest → IsWalking made all states → IsWalking made rest states
   settles made states all rest skips walking = skips_all made states rest skips.skipped skips.covered (subst (λ (xs : List (Pending D)). IsWalking made xs states) skips.parts walking)
 
-  pub made_step : (made : ℕ) (here : Pending D) (old : List (Pending D)) (kept : Kept D) (picked : Option (Pending D)) (new : List (Pending D)) (more : Kept D) → IsLaidOut code → IsWalking made (old ++ here ∷ []) (kept_at kept) → MakesStep ops Member code here old kept picked new more → IsWalking (made + 1) (waiting picked new) (kept_at more)
+  pub made_step : (made : ℕ) (here : Pending D) (old : List (Pending D)) (kept : Kept D) (picked : Option (Pending D)) (new : List (Pending D)) (more : Kept D) → IsLaidOut code → IsWalking made (old ++ here ∷ []) (kept_at kept) → IsWalkStep ops Member code here old kept picked new more → IsWalking (made + 1) (waiting picked new) (kept_at more)
   made_step made here old kept picked new more laid_out walking step =
       settles (made + 1) (kept_at more) (waiting step.next step.pending) (waiting picked new) step.settles.skips
       (stepped made here old step.pending step.next (kept_at kept) (kept_at more) (keeps_at kept here.slot) laid_out walking step.advances step.keeps.states)
 
   -- where nothing is left to follow, every run from the first pending state exits
-  pub finished : (made : ℕ) (here : Pending D) (old : List (Pending D)) (kept : Kept D) (new : List (Pending D)) (more : Kept D) → IsLaidOut code → IsWalking made (old ++ here ∷ []) (kept_at kept) → MakesStep ops Member code here old kept None new more → AllRunsExit Member code first_pending
+  pub finished : (made : ℕ) (here : Pending D) (old : List (Pending D)) (kept : Kept D) (new : List (Pending D)) (more : Kept D) → IsLaidOut code → IsWalking made (old ++ here ∷ []) (kept_at kept) → IsWalkStep ops Member code here old kept None new more → AllRunsExit Member code first_pending
   finished made here old kept new more laid_out walking step = (made_step made here old kept None new more laid_out walking step).good (all_none (AllRunsExit Member code) new step.settles.ended)
 
 module _ {D : Type 0} (ops : Operations D) (Member : D → ℕ → Type 0) (sound : AreSound ops Member) where

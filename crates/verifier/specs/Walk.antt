@@ -113,7 +113,7 @@ pub record Settles {D : Type 0} (ops : Operations D) (Member : D → ℕ → Typ
   pub ended : IfNone picked (new ≡ [])
 
 -- one step of the walk: the state at hand is kept, its step is made, and the walk goes on so
-pub record MakesStep {D : Type 0} (ops : Operations D) (Member : D → ℕ → Type 0) (code : List Insn) (here : Pending D) (old : List (Pending D)) (kept : Kept D) (picked : Option (Pending D)) (new : List (Pending D)) (more : Kept D) : Type 0 where
+pub record IsWalkStep {D : Type 0} (ops : Operations D) (Member : D → ℕ → Type 0) (code : List Insn) (here : Pending D) (old : List (Pending D)) (kept : Kept D) (picked : Option (Pending D)) (new : List (Pending D)) (more : Kept D) : Type 0 where
   pub next : Option (Pending D)
   pub pending : List (Pending D)
   pub keeps : Keeps here kept more

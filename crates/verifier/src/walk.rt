@@ -11,7 +11,7 @@ ghost use Rattle.absstate.specs.Changes.{state_after_change};
 ghost use Rattle.verifier.specs.Layout.{IsLaidOut};
 ghost use Rattle.verifier.specs.Refusing.{MayRefuseOver, IsVerdict, IsVerdictOver, CountsSteps};
 ghost use Rattle.verifier.specs.Keeping.{kept_at};
-ghost use Rattle.verifier.specs.Walk.{IsStepRefusal, BeginsInside, IsNext, IsOutOfMemory, Leaves, Advances, Settles, MakesStep, state_to_follow};
+ghost use Rattle.verifier.specs.Walk.{IsStepRefusal, BeginsInside, IsNext, IsOutOfMemory, Leaves, Advances, Settles, IsWalkStep, state_to_follow};
 ghost use Rattle.verifier.specs.Walks.{EndsWalk};
 ghost use Rattle.interval.specs.Intervals.{IsMember, interval_ops};
 ghost use Rattle.semantics.specs.declared.fetching.Branch.TheVariants.{NotTaken, Taken};
@@ -251,7 +251,7 @@ fn make_step<D: Domain>(
     requires few { slot_count program.now ≤ MAX_SLOTS }
     requires laid_out { IsLaidOut program.now }
     requires inside { BeginsInside program.now here.old }
-    ensures made { IfOk result (λ path. MakesStep D.ops D.Member program.now here.old pending.old.items kept.old
+    ensures made { IfOk result (λ path. IsWalkStep D.ops D.Member program.now here.old pending.old.items kept.old
         (state_to_follow path here.new) pending.new.items kept.new) }
     ensures refused { IfErr result (IsStepRefusal D.ops program.now here.old) }
 {

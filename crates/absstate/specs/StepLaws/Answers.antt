@@ -34,7 +34,7 @@ use Rattle.semantics.specs.declared.reason.Reason.TheVariants as reasons
 use Rattle.interval.specs.Domains.{Operations}
 use Rattle.absstate.specs.AbstractStates.{abstract_at, are_marked, low_of, proved_of}
 use Rattle.absstate.specs.AbstractSteps as abstract
-use Rattle.absstate.specs.AbstractSteps.{located, readable}
+use Rattle.absstate.specs.AbstractSteps.{access_region, readable}
 use Rattle.absstate.specs.StepReasons.{IsStepReason}
 use Rattle.absstate.specs.Successors.{One, Two, successors_of, successors_in}
 use Rattle.absstate.specs.declared.abstract_state.AbsState.{AbsState}
@@ -103,7 +103,7 @@ module _ {D : Type 0} (ops : Operations D) where
   step_successors a (insn.Load z dst base d) = load_straight a (λ pointer. abstract.load ops a pointer d z) dst base
   step_successors a (insn.LoadSigned z dst base d) = load_straight a (λ pointer. abstract.load_signed ops a pointer d z) dst base
   step_successors a (insn.Store z base o d) =
-      every HasOne (abstract.register_value a base) _ (λ to. every HasOne (abstract.operand_abstract ops W64 a o) _ (λ known. every HasOne (abstract.pointer to) _ (λ u. every HasOne (abstract.storable known) _ (λ v. every HasOne (abstract.located a to d (byte_count z)) _ (λ r. refl)))))
+      every HasOne (abstract.register_value a base) _ (λ to. every HasOne (abstract.operand_abstract ops W64 a o) _ (λ known. every HasOne (abstract.pointer to) _ (λ u. every HasOne (abstract.storable known) _ (λ v. every HasOne (abstract.access_region a to d (byte_count z)) _ (λ r. refl)))))
   step_successors a (insn.LoadImm dst value) = goes_straight a dst (Ok (known.Scalar (ops.exact value)))
   step_successors a (insn.Call n) = every HasOne (ok_or (helper_of n) reasons.UnknownHelper) _ (λ h. helper_straight a h)
   step_successors a insn.Exit = every (λ (answer : Next D). successors_in answer ≡ successors_of insn.Exit) (abstract.register_value a reg.R0) _ exits
@@ -166,8 +166,8 @@ module _ {D : Type 0} (ops : Operations D) where
   field_reasons : (d : ℤ) (z : Size) → IfErr (abstract.load_field ops d z) IsStepReason
   field_reasons d z = faults IsStepReason (ok_or (field_at d z) reasons.ContextAccess) _ (found (field_at d z) reasons.ContextAccess tt) (λ f. tt)
 
-  region_reasons : (a : AbsState D) (x : AbstractValue D) (d : ℤ) (n : ℕ) → IfErr (abstract.located a x d n) IsStepReason
-  unfolding located
+  region_reasons : (a : AbsState D) (x : AbstractValue D) (d : ℤ) (n : ℕ) → IfErr (abstract.access_region a x d n) IsStepReason
+  unfolding access_region
   region_reasons a known.Nothing d n = tt
   region_reasons a (known.Scalar m) d n = tt
   region_reasons a known.Ctx d n = tt
@@ -184,7 +184,7 @@ module _ {D : Type 0} (ops : Operations D) where
 
   readable_reasons : (a : AbsState D) (x : AbstractValue D) (d : ℤ) (n : ℕ) → IfErr (abstract.readable a x d n) IsStepReason
   unfolding readable
-  readable_reasons a x d n = faults IsStepReason (abstract.located a x d n) _ (region_reasons a x d n) (λ r. marks_reasons a.marks n r)
+  readable_reasons a x d n = faults IsStepReason (abstract.access_region a x d n) _ (region_reasons a x d n) (λ r. marks_reasons a.marks n r)
 
   number_reasons : (a : AbsState D) (x : AbstractValue D) (d : ℤ) (n : ℕ) (number : D) → IfErr (abstract.load_number a x d n number) IsStepReason
   number_reasons a x d n number = faults IsStepReason (abstract.readable a x d n) _ (readable_reasons a x d n) (λ u. tt)
@@ -209,7 +209,7 @@ module _ {D : Type 0} (ops : Operations D) where
   store_reasons a z base o d =
       faults IsStepReason (abstract.register_value a base) _ (held_reasons (abstract_at a.registers base)) (λ to. faults IsStepReason (abstract.operand_abstract ops W64 a o) _ (operand_reasons W64 a o)
       (λ known. faults IsStepReason (abstract.pointer to) _ (pointer_reasons to) (λ u. faults IsStepReason (abstract.storable known) _ (storable_reasons known)
-      (λ v. faults IsStepReason (abstract.located a to d (byte_count z)) _ (region_reasons a to d (byte_count z)) (λ r. tt)))))
+      (λ v. faults IsStepReason (abstract.access_region a to d (byte_count z)) _ (region_reasons a to d (byte_count z)) (λ r. tt)))))
 
   context_value_reasons : (r : Reg) (x : AbstractValue D) → IfErr (abstract.context_value r x) IsStepReason
   context_value_reasons r known.Ctx = tt

@@ -272,7 +272,7 @@ module _ {D : Type 0} (ops : Operations D) (Member : D → ℕ → Type 0) (soun
     store_stays : (z : Size) (base : Reg) (o : Operand) (d : ℤ) → IfOk (abstract.store_step ops a z base o d) Stays
     store_stays z base o d =
         every Stays (abstract.register_value a base) _ (λ to. every Stays (abstract.operand_abstract ops W64 a o) _ (λ v. every Stays (abstract.pointer to) _ (λ u. every Stays (abstract.storable v) _
-        (λ t. every Stays (abstract.located a to d (byte_count z)) _ (λ r. on_stays (abstract.with_region a (byte_count z) r) (region_plain (byte_count z) r))))))
+        (λ t. every Stays (abstract.access_region a to d (byte_count z)) _ (λ r. on_stays (abstract.with_region a (byte_count z) r) (region_plain (byte_count z) r))))))
 
     -- ---- calls
 

@@ -32,7 +32,7 @@ use Rattle.semantics.specs.declared.value.Value.{Value}
 use Rattle.semantics.specs.declared.value.Value.TheVariants as value
 use Rattle.interval.specs.Domains.{Operations, AreSound}
 use Rattle.absstate.specs.AbstractSteps as abstract
-use Rattle.absstate.specs.AbstractSteps.{located, readable}
+use Rattle.absstate.specs.AbstractSteps.{access_region, readable}
 use Rattle.absstate.specs.Membership.{Mode, Places, IsNumberOf, IsHeld, IsMemberAt, value_of}
 use Rattle.absstate.specs.declared.abstract_state.Anchor.TheVariants.{First, Made}
 use Rattle.absstate.specs.declared.abstract_state.AbstractValue.{AbstractValue}
@@ -73,8 +73,8 @@ module _ {D : Type 0} (ops : Operations D) (Member : D → ℕ → Type 0) (soun
   -- ---- memory
 
   pub locations_agree : (x : AbstractValue D) → (claimed DatagramBounds → IsMade x → ⊥) → (m : ℕ) (d : ℤ) (n : ℕ) → IsNumberOf Member places s.memory.length x m
-      → Agree claimed (IsRegionOf n) (abstract.located a x d n) (location s.memory.length (value_of places x m) d n)
-  unfolding located
+      → Agree claimed (IsRegionOf n) (abstract.access_region a x d n) (location s.memory.length (value_of places x m) d n)
+  unfolding access_region
   locations_agree known.Nothing plain m d n h = λ c. refl
   locations_agree (known.Scalar k) plain m d n h = λ c. refl
   locations_agree known.Ctx plain m d n h = λ c. refl
@@ -89,7 +89,7 @@ module _ {D : Type 0} (ops : Operations D) (Member : D → ℕ → Type 0) (soun
       → Agree claimed (IsRead n) (abstract.readable a x d n) (loading.read_number s.memory (value_of places x m) d n)
   unfolding readable read_number
   reads_agree x plain m d n h =
-      and_then claimed (IsRegionOf n) (IsRead n) (abstract.located a x d n) (location s.memory.length (value_of places x m) d n) _ _ (locations_agree x plain m d n h)
+      and_then claimed (IsRegionOf n) (IsRead n) (abstract.access_region a x d n) (location s.memory.length (value_of places x m) d n) _ _ (locations_agree x plain m d n h)
       (λ r at p q is. region_read claimed mode claims.cells a.marks s.memory member.tagged.memory member.cells n r at is)
 
   -- what is known of the number that is read has it as a member, extended or not

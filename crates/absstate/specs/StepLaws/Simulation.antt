@@ -45,7 +45,7 @@ use Rattle.std.proofs.lemmas.Int.{ints}
 use Rattle.absstate.specs.declared.branching.Implied.{Implied}
 use Rattle.absstate.specs.AbstractStates.{abstract_at, greatest_id, with_value, with_least}
 use Rattle.absstate.specs.AbstractSteps as abstract
-use Rattle.absstate.specs.AbstractSteps.{located}
+use Rattle.absstate.specs.AbstractSteps.{access_region}
 use Rattle.absstate.specs.Membership.{Mode, Places, IsNumberOf, IsHeld, IsMemberAt, IsPlace, IsAnchored, place_of, value_of}
 use Rattle.absstate.specs.declared.abstract_state.Anchor.{Anchor}
 use Rattle.absstate.specs.declared.abstract_state.Anchor.TheVariants.{First, Made}
@@ -269,25 +269,25 @@ module _ {D : Type 0} (ops : Operations D) (Member : D → ℕ → Type 0) (soun
 
           store_numbers : (z : Size) (base : Reg) (o : Operand) (d : ℤ) → Claims (insn.Store z base o d) → (x : AbstractValue D) → (claimed DatagramBounds → IsMade x → ⊥) → (y : AbstractValue D) (m n : ℕ) → IsNumberOf Member places s.memory.length x m → IsNumberOf Member places s.memory.length y n
               → Agree claimed (IsEffectOf mode places a s (insn.Store z base o d))
-              (abstract.pointer x >>= λ u. abstract.storable y >>= λ v. abstract.located a x d (byte_count z) >>= λ r. Ok (next.On (abstract.with_region a (byte_count z) r)))
+              (abstract.pointer x >>= λ u. abstract.storable y >>= λ v. abstract.access_region a x d (byte_count z) >>= λ r. Ok (next.On (abstract.with_region a (byte_count z) r)))
               (effects.pointer (value_of places x m) >>= λ u. effects.stored_number (value_of places y n) >>= λ k. location s.memory.length (value_of places x m) d (byte_count z) >>= λ at. Ok (effect.Store at z k))
           store_numbers z base o d claims x plain y m n h g =
               and_then claimed (λ u v. Unit {0}) (IsEffectOf mode places a s (insn.Store z base o d)) (abstract.pointer x) (effects.pointer (value_of places x m)) _ _ (pointers_agree x m h)
               (λ u u' p q t. and_then claimed (λ v k. Unit {0}) (IsEffectOf mode places a s (insn.Store z base o d)) (abstract.storable y) (effects.stored_number (value_of places y n)) _ _ (storables_agree y n g)
-              (λ v k p' q' t'. and_then claimed (IsRegionOf (byte_count z)) (IsEffectOf mode places a s (insn.Store z base o d)) (abstract.located a x d (byte_count z)) (location s.memory.length (value_of places x m) d (byte_count z)) _ _
+              (λ v k p' q' t'. and_then claimed (IsRegionOf (byte_count z)) (IsEffectOf mode places a s (insn.Store z base o d)) (abstract.access_region a x d (byte_count z)) (location s.memory.length (value_of places x m) d (byte_count z)) _ _
               (locations_agree ops Member sound claimed mode places a s member (insn.Store z base o d) claims x plain m d (byte_count z) h)
               (λ r at e f is. (r, refl, is, refl))))
 
           store_held : (z : Size) (base : Reg) (o : Operand) (d : ℤ) → Claims (insn.Store z base o d) → (x : AbstractValue D) → (claimed DatagramBounds → IsMade x → ⊥) → (y : AbstractValue D) (u v : Value) → IsHeld Member places s.memory.length x u → IsHeld Member places s.memory.length y v
               → Agree claimed (IsEffectOf mode places a s (insn.Store z base o d))
-              (abstract.pointer x >>= λ t. abstract.storable y >>= λ t'. abstract.located a x d (byte_count z) >>= λ r. Ok (next.On (abstract.with_region a (byte_count z) r)))
+              (abstract.pointer x >>= λ t. abstract.storable y >>= λ t'. abstract.access_region a x d (byte_count z) >>= λ r. Ok (next.On (abstract.with_region a (byte_count z) r)))
               (effects.pointer u >>= λ t. effects.stored_number v >>= λ k. location s.memory.length u d (byte_count z) >>= λ at. Ok (effect.Store at z k))
           store_held z base o d claims x plain y u v hx hy =
               subst (λ (u' : Value). Agree claimed (IsEffectOf mode places a s (insn.Store z base o d))
-              (abstract.pointer x >>= λ t. abstract.storable y >>= λ t'. abstract.located a x d (byte_count z) >>= λ r. Ok (next.On (abstract.with_region a (byte_count z) r)))
+              (abstract.pointer x >>= λ t. abstract.storable y >>= λ t'. abstract.access_region a x d (byte_count z) >>= λ r. Ok (next.On (abstract.with_region a (byte_count z) r)))
               (effects.pointer u' >>= λ t. effects.stored_number v >>= λ k. location s.memory.length u' d (byte_count z) >>= λ at. Ok (effect.Store at z k))) (sym hx.2)
               (subst (λ (v' : Value). Agree claimed (IsEffectOf mode places a s (insn.Store z base o d))
-              (abstract.pointer x >>= λ t. abstract.storable y >>= λ t'. abstract.located a x d (byte_count z) >>= λ r. Ok (next.On (abstract.with_region a (byte_count z) r)))
+              (abstract.pointer x >>= λ t. abstract.storable y >>= λ t'. abstract.access_region a x d (byte_count z) >>= λ r. Ok (next.On (abstract.with_region a (byte_count z) r)))
               (effects.pointer (value_of places x hx.0) >>= λ t. effects.stored_number v' >>= λ k. location s.memory.length (value_of places x hx.0) d (byte_count z) >>= λ at. Ok (effect.Store at z k))) (sym hy.2)
               (store_numbers z base o d claims x plain y hx.0 hy.0 hx.1 hy.1))
 

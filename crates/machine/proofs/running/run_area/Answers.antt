@@ -7,7 +7,9 @@ use Rattle.semantics.specs.declared.limits.TheConstants.{STACK_BYTES}
 use Rattle.flat.specs.FlatSteps.{given_of}
 use Rattle.flat.specs.Following.{given_in}
 use Rattle.flat.specs.FlatRuns.{IsRun}
-use Rattle.flat.specs.Layout.{pointers}
+use Rattle.flat.specs.Layout.{context_fields, pointers}
+use Rattle.flat.specs.FlatLaws.{fields_of_context}
+use Rattle.helpers.specs.Records.{address_record}
 use Rattle.machine.specs.Contents.{Contents, datagram_of}
 use Rattle.machine.specs.FrameFields.{HoldsDatagram, IsFrame}
 use Rattle.machine.specs.Contexts.{Answers, context_of, side_number}
@@ -27,10 +29,12 @@ run_flat-ended-requires-clause-start g c =
     let holds : HoldsDatagram f.area c.frame.inside.stack.items f.length true f.window = subst (λ (b : Bool). HoldsDatagram f.area c.frame.inside.stack.items f.length b f.window) started c.frame.invariant.holds in
     let size : length c.datagram-size.result.now ≡ length d = ap length (c.datagram-size.ensures.bytes ∙ sym (ap datagram_of c.frame.view_is)) in
     let is_datagram : IsDatagram d = subst (λ (h : Contents). IsDatagram (datagram_of h)) (sym c.frame.view_is) c.datagram-size.ensures.short in
-    let side : c.from.result ≡ side_number f.context.side = c.from.ensures ∙ c.side_number.ensures in
-    let spelled : c.context_record.result ≡ context_bytes (context_of f.context) (length d) = c.context_record.ensures ∙ ap (context_bytes (context_of f.context)) size in
+    let side : c.from.result ≡ side_number f.context.side = c.from.ensures ∙ c.side_number-side.ensures in
+    let source : c.address_record-source.result ≡ address_record f.context.source = c.address_record-source.ensures in
     let laid : c.lay_out.new.area ≡ put STACK_BYTES (pointers (length d) ++ drop 16 (context_bytes (context_of f.context) (length d))) flat =
-    c.lay_out.ensures ∙ (λ i. put STACK_BYTES (pointers (size i) ++ drop 16 (spelled i)) (c.deref_mut.ensures.value i)) in
+    c.lay_out.ensures
+    ∙ (λ i. put STACK_BYTES (pointers (size i) ++ context_fields (size i) (source i) f.context.tx (c.side_number-side.ensures i)) (c.deref_mut.ensures.value i))
+    ∙ (λ i. put STACK_BYTES (pointers (length d) ++ sym (fields_of_context (context_of f.context) (length d)) i) flat) in
     let between : c.deref_mut-2.result.now ≡ c.lay_out.new.area = c.deref_mut-2.ensures.value ∙ written c.lay_out.new.area flat c.frame.inside.flat.len (c.lay_out.auto.area ∙ c.deref_mut.ensures.len) in
     let given : given_in (environment_of f answers) (length d) ≡ given_of answers (length c.datagram-size.result.now) c.from.result = λ i. given_of answers (sym size i) (sym side i) in (
       environment_of f answers,
@@ -49,10 +53,12 @@ invariant_of-frame g c =
     let holds : HoldsDatagram f.area c.frame.inside.stack.items f.length true f.window = subst (λ (b : Bool). HoldsDatagram f.area c.frame.inside.stack.items f.length b f.window) started c.frame.invariant.holds in
     let size : length c.datagram-size.result.now ≡ length d = ap length (c.datagram-size.ensures.bytes ∙ sym (ap datagram_of c.frame.view_is)) in
     let is_datagram : IsDatagram d = subst (λ (h : Contents). IsDatagram (datagram_of h)) (sym c.frame.view_is) c.datagram-size.ensures.short in
-    let side : c.from.result ≡ side_number f.context.side = c.from.ensures ∙ c.side_number.ensures in
-    let spelled : c.context_record.result ≡ context_bytes (context_of f.context) (length d) = c.context_record.ensures ∙ ap (context_bytes (context_of f.context)) size in
+    let side : c.from.result ≡ side_number f.context.side = c.from.ensures ∙ c.side_number-side.ensures in
+    let source : c.address_record-source.result ≡ address_record f.context.source = c.address_record-source.ensures in
     let laid : c.lay_out.new.area ≡ put STACK_BYTES (pointers (length d) ++ drop 16 (context_bytes (context_of f.context) (length d))) flat =
-    c.lay_out.ensures ∙ (λ i. put STACK_BYTES (pointers (size i) ++ drop 16 (spelled i)) (c.deref_mut.ensures.value i)) in
+    c.lay_out.ensures
+    ∙ (λ i. put STACK_BYTES (pointers (size i) ++ context_fields (size i) (source i) f.context.tx (c.side_number-side.ensures i)) (c.deref_mut.ensures.value i))
+    ∙ (λ i. put STACK_BYTES (pointers (length d) ++ sym (fields_of_context (context_of f.context) (length d)) i) flat) in
     let between : c.deref_mut-2.result.now ≡ c.lay_out.new.area = c.deref_mut-2.ensures.value ∙ written c.lay_out.new.area flat c.frame.inside.flat.len (c.lay_out.auto.area ∙ c.deref_mut.ensures.len) in
     let given : given_in w (length d) ≡ given_of answers (length c.datagram-size.result.now) c.from.result = λ i. given_of answers (sym size i) (sym side i) in
     let start = is_start answers (g.H.Helpers.lawful c.args.helpers.now) c.args.program.now f flat refl c.frame.inside.stack.items holds c.frame.invariant.is_context is_datagram (given_of answers (length c.datagram-size.result.now) c.from.result) c.deref_mut-2.result.now given (between ∙ laid) in
@@ -76,10 +82,12 @@ returns g c =
     let holds : HoldsDatagram f.area c.frame.inside.stack.items f.length true f.window = subst (λ (b : Bool). HoldsDatagram f.area c.frame.inside.stack.items f.length b f.window) started c.frame.invariant.holds in
     let size : length c.datagram-size.result.now ≡ length d = ap length (c.datagram-size.ensures.bytes ∙ sym (ap datagram_of c.frame.view_is)) in
     let is_datagram : IsDatagram d = subst (λ (h : Contents). IsDatagram (datagram_of h)) (sym c.frame.view_is) c.datagram-size.ensures.short in
-    let side : c.from.result ≡ side_number f.context.side = c.from.ensures ∙ c.side_number.ensures in
-    let spelled : c.context_record.result ≡ context_bytes (context_of f.context) (length d) = c.context_record.ensures ∙ ap (context_bytes (context_of f.context)) size in
+    let side : c.from.result ≡ side_number f.context.side = c.from.ensures ∙ c.side_number-side.ensures in
+    let source : c.address_record-source.result ≡ address_record f.context.source = c.address_record-source.ensures in
     let laid : c.lay_out.new.area ≡ put STACK_BYTES (pointers (length d) ++ drop 16 (context_bytes (context_of f.context) (length d))) flat =
-    c.lay_out.ensures ∙ (λ i. put STACK_BYTES (pointers (size i) ++ drop 16 (spelled i)) (c.deref_mut.ensures.value i)) in
+    c.lay_out.ensures
+    ∙ (λ i. put STACK_BYTES (pointers (size i) ++ context_fields (size i) (source i) f.context.tx (c.side_number-side.ensures i)) (c.deref_mut.ensures.value i))
+    ∙ (λ i. put STACK_BYTES (pointers (length d) ++ sym (fields_of_context (context_of f.context) (length d)) i) flat) in
     let between : c.deref_mut-2.result.now ≡ c.lay_out.new.area = c.deref_mut-2.ensures.value ∙ written c.lay_out.new.area flat c.frame.inside.flat.len (c.lay_out.auto.area ∙ c.deref_mut.ensures.len) in
     let given : given_in w (length d) ≡ given_of answers (length c.datagram-size.result.now) c.from.result = λ i. given_of answers (sym size i) (sym side i) in
     let start = is_start answers (g.H.Helpers.lawful c.args.helpers.now) c.args.program.now f flat refl c.frame.inside.stack.items holds c.frame.invariant.is_context is_datagram (given_of answers (length c.datagram-size.result.now) c.from.result) c.deref_mut-2.result.now given (between ∙ laid) in

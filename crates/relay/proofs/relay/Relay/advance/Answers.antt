@@ -1,7 +1,7 @@
 use Rattle.std.proofs.Common.{◌≡◌, rules, sym, ap, subst, ◌∙◌}
 use Rattle.tables.specs.Rows.{rows_at}
 use Rattle.programs.specs.Runs.{planned_sending}
-use Rattle.relay.specs.Found.{passed_on, window_shown}
+use Rattle.relay.specs.Found.{reply_of_passing, window_shown}
 use Rattle.relay.specs.Relays.{Contents}
 use Rattle.relay.specs.Steps.{HasStepped, outcome_of}
 use Rattle.relay.specs.Systems.{Reply, silent, reply_of_relaying}
@@ -11,7 +11,7 @@ use Rattle.relay.proofs.relay.Relay.advance.Goals as goal
 
 -- ---- where the program of a client passes the datagram on
 
-client_reply : (c : goal.After-pass_on) → reply_at (the_view c.self.inside) c.args.meta.now c.args.n c.moment_of-self-inside.result ≡ passed_on c.run-outcome.new.self c.in-Client.client
+client_reply : (c : goal.After-pass_on) → reply_at (the_view c.self.inside) c.args.meta.now c.args.n c.moment_of-self-inside.result ≡ reply_of_passing c.run-outcome.new.self c.in-Client.client
 client_reply c =
     let kept = c.run-outcome.ensures.rest in
     passes_client (the_view c.self.inside) c.args.meta.now c.args.n c.moment_of-self-inside.result c.run-outcome.result c.run-outcome.new.self

@@ -3,7 +3,7 @@ use Rattle.stun.specs.Datagrams.{message_in}
 use Rattle.tables.specs.Rows.{rows_at}
 use Rattle.programs.specs.Rules.{channel_data_from}
 use Rattle.programs.specs.Runs.{planned_sending}
-use Rattle.relay.specs.Found.{lent, send_in, reply_sent, HasRoomFor}
+use Rattle.relay.specs.Found.{sending_of_found, send_in, reply_sent, HasRoomFor}
 use Rattle.relay.specs.Relays.{Contents}
 use Rattle.relay.specs.declared.found.Found.{Found}
 use Rattle.relay.specs.declared.found.Found.TheVariants as found
@@ -26,23 +26,23 @@ pub returns-in-Window : goal.returns-in-Window
 returns-in-Window c =
     c.planned.ensures
     ∙ ap (λ window. planned_sending c.in-Window.from (rows_at c.self.inside.greatest c.self.inside.tables) c.in-Window.destination window) c.window.ensures
-    ∙ (λ i. lent (c.self.view_is i) (sym c.in-Window.is i))
+    ∙ (λ i. sending_of_found (c.self.view_is i) (sym c.in-Window.is i))
 
 pub returns-in-ChannelData : goal.returns-in-ChannelData
 returns-in-ChannelData c =
     c.channel_data.ensures
     ∙ ap (λ bytes. channel_data_from c.in-ChannelData.client (rows_at c.self.inside.greatest c.self.inside.tables) bytes) c.datagram.ensures.bytes
-    ∙ (λ i. lent (c.self.view_is i) (sym c.in-ChannelData.is i))
+    ∙ (λ i. sending_of_found (c.self.view_is i) (sym c.in-ChannelData.is i))
 
 pub returns-in-Send : goal.returns-in-Send
 returns-in-Send c =
     c.send.ensures
     ∙ ap (λ bytes. send_in c.in-Send.client (rows_at c.self.inside.greatest c.self.inside.tables) (message_in bytes)) c.datagram-in-Send.ensures.bytes
-    ∙ (λ i. lent (c.self.view_is i) (sym c.in-Send.is i))
+    ∙ (λ i. sending_of_found (c.self.view_is i) (sym c.in-Send.is i))
 
 pub returns-in-Reply : goal.returns-in-Reply
 returns-in-Reply c =
     let some : c.in-Reply.count ≡ 0 → ⊥ = λ none. absurd (omega (arith, (has_room c).0, none)) in
     sym (reply_is_sent c.in-Reply.client c.in-Reply.count c.deref.result.now (fits c) some)
     ∙ ap (λ bytes. reply_sent c.in-Reply.client (take c.in-Reply.count bytes)) c.deref.ensures.value
-    ∙ (λ i. lent (c.self.view_is i) (sym c.in-Reply.is i))
+    ∙ (λ i. sending_of_found (c.self.view_is i) (sym c.in-Reply.is i))

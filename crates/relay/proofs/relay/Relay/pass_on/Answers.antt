@@ -7,7 +7,7 @@ use Rattle.stun.specs.Datagrams.{message_in}
 use Rattle.programs.specs.FastPart.{begins_as_stun}
 use Rattle.programs.specs.Rules.{send_indication}
 use Rattle.relay.specs.ByRules.{control}
-use Rattle.relay.specs.Found.{passed_on, reply_sent}
+use Rattle.relay.specs.Found.{reply_of_passing, reply_sent}
 use Rattle.relay.specs.Relays.{Contents}
 use Rattle.relay.specs.contracts.relay.Relay.{the_view}
 use Rattle.relay.proofs.Controls.{control_is}
@@ -38,14 +38,14 @@ returns-clause-found c =
     answer_is (the_view c.self.inside) (after c) c.args.client c.in-Ok.message c.respond-count.result c.respond-count.new.out c.respond-count.new.tables
     (stun c) (is_message c) (other c) (replies c) c.reply_found.result
     (with_items_is c.self.inside.reply c.respond-count.new.out (same_length c)) c.respond-count.ensures.inside c.reply_found.ensures.sends
-    ∙ (λ i. (passed_on (c.self.view_is i) c.args.client).answer)
+    ∙ (λ i. (reply_of_passing (c.self.view_is i) c.args.client).answer)
 
 pub returns-clause-rest : goal.returns-clause-rest
 returns-clause-rest c =
     let rows = rows_are (the_view c.self.inside) (after c) c.args.client c.in-Ok.message c.respond-count.result c.respond-count.new.out c.respond-count.new.tables
     (stun c) (is_message c) (other c) (replies c) in
     (λ i. record (after c) { rows = sym rows i })
-    ∙ (λ i. record (c.self.view_is i) { rows = (passed_on (c.self.view_is i) c.args.client).rows; reply = (after c).reply })
+    ∙ (λ i. record (c.self.view_is i) { rows = (reply_of_passing (c.self.view_is i) c.args.client).rows; reply = (after c).reply })
 
 pub returns-clause-room : goal.returns-clause-room
 returns-clause-room c = c.reply_found.ensures.room (after c).reply (omega (arith, c.respond-count.ensures.inside, ap length (with_items_is c.self.inside.reply c.respond-count.new.out (same_length c))))

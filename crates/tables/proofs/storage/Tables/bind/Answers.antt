@@ -1,22 +1,16 @@
-use Rattle.std.proofs.Common.{◌+◌, rules}
-use Rattle.tables.specs.declared.channels.TheConstants.{CHANNEL_LIFETIME}
-use Rattle.tables.specs.WellFormed.{IsHeldAt}
-use Rattle.tables.specs.WellFormedLaws.{of_ipv4}
-use Rattle.tables.proofs.HeldRows.{bound}
+use Rattle.std.proofs.Common.{Ok, subst}
+use Rattle.std.proofs.lemmas.Bool.{OnTrue_at, OnFalse_at}
+use Rattle.tables.specs.Changes.{Follows, bind}
+use Rattle.tables.specs.Rows.{counting}
 use Rattle.tables.proofs.storage.Tables.bind.Goals as goal
 
-pub returns-in_err-put-clause-follows : goal.returns-in_err-put-clause-follows
-returns-in_err-put-clause-follows c = search rules
+pub returns-then-bind_in_place-clause-follows : goal.returns-then-bind_in_place-clause-follows
+returns-then-bind_in_place-clause-follows c =
+    subst (λ moment. Follows (bind c.args.slot c.args.number c.args.peer (counting moment c.args.self.now)) c.args.self.now (Ok tt) c.bind_in_place.new.self) c.moment_at-moment.ensures.moment
+    (OnTrue_at c.if-bind_in_place.true c.bind_in_place.ensures.made)
 
 pub returns-clause-follows : goal.returns-clause-follows
-returns-clause-follows c = search rules
-
-pub returns-then-not-may_bind-clause-follows : goal.returns-then-not-may_bind-clause-follows
-returns-then-not-may_bind-clause-follows c = search rules
-
-pub hold-requires-clause-held_at : goal.hold-requires-clause-held_at
-hold-requires-clause-held_at c =
-    let is : IsHeldAt c.args.slot c.in_ok-held.held.now = search rules in
-    let end = c.moment_at-moment.result + CHANNEL_LIFETIME in
-    bound c.args.slot c.moment_at-moment.result c.in_ok-held.held.now is c.args.number (record { peer = c.args.peer; end = end }) c.put-2.new.self c.at-channels.result c.put.new.self
-    (record { in_range = c.requires.range; peer = of_ipv4 c.args.peer c.is_address.ensures c.requires.ipv4 }) c.at-channels.ensures (c.in_ok-put.ensures {u = tt}).put (c.in_ok-put.ensures {u = tt}).few (c.in_ok-put-2.ensures {u = tt}).few
+returns-clause-follows c =
+    let same = OnFalse_at c.if-bind_in_place.false c.bind_in_place.ensures.unchanged in
+    subst (λ moment. Follows (bind c.args.slot c.args.number c.args.peer (counting moment c.args.self.now)) c.args.self.now c.bind_swept.result c.bind_swept.new.self) c.moment_at-moment.ensures.moment
+    (subst (λ old. Follows (bind c.args.slot c.args.number c.args.peer (counting c.moment_at-moment.result old)) old c.bind_swept.result c.bind_swept.new.self) same c.bind_swept.ensures.follows)

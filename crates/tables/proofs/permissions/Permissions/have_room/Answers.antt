@@ -1,0 +1,53 @@
+use Rattle.std.proofs.Common.{◌≡◌, ◌+◌, ◌≤◌, true, List, [], get_or, take, is_some, nat_le, ap, ◌∙◌, sym, subst, arith}
+use Rattle.std.proofs.lemmas.Bool.{OnTrue_from, leb-true}
+use Rattle.std.proofs.lemmas.List.{take_all}
+use Rattle.std.specs.FinMap.{get, len}
+use Rattle.attributes.specs.Addresses.{ip_of}
+use Rattle.attributes.specs.declared.address.Addr.{Addr}
+use Rattle.attributes.specs.declared.address.Addr.TheVariants.{V4}
+use Rattle.tables.specs.Permissions.{with_all}
+use Rattle.tables.specs.declared.permissions.TheConstants.{MAX_PERMISSIONS}
+use Rattle.tables.specs.Search.{AreAscending, IsPlace}
+use Rattle.tables.proofs.PermissionRows.{by_ip, searchable_by, len-permissions, has_row, len-one_more, len-one_again}
+use Rattle.tables.proofs.permissions.Permissions.have_room.Goals as goal
+use Rattle.tables.proofs.permissions.Permissions.have_room.Goals.{then-is_err, else-is_err}
+
+pub loop-ip-init : goal.loop-ip-init
+loop-ip-init c =
+    let rows = c.self.inside.rows.items in
+    record {
+      enough = λ end. omega (arith, c.len-count.ensures.value, len-permissions rows c.self.invariant, ap len c.self.view_is);
+      few = omega (arith, c.len-count.ensures.value, c.len-count.ensures.fits);
+    }
+
+pub place_of-requires : goal.place_of-requires
+place_of-requires c =
+    let ip = ip_of (get_or c.args.ips.now c.loop-ip.ip-index (V4 [] 0)) in
+    subst (AreAscending (by_ip ip)) (sym c.as_slice.ensures.value) (searchable_by ip c.self.inside.rows.items c.self.invariant)
+
+pub loop-ip-preserved : goal.loop-ip-preserved
+loop-ip-preserved c =
+    let i = c.loop-ip.ip-index in
+    let ips = c.args.ips.now in
+    let rows = c.self.inside.rows.items in
+    let now = c.args.self.now in
+    elim c.if-is_err.branch [
+      | then-is_err w ↦ record {
+        enough = λ end. subst (λ n. len (with_all now (take (i + 1) ips) end) ≤ n) (sym w.count-is) (len-one_more now ips i end (V4 [] 0) c.loop-ip-test.true c.loop-ip.count (c.loop-ip.invariant.enough end));
+        few = omega (arith, w.count-is, c.loop-ip.invariant.few);
+      }
+      | else-is_err w ↦
+          let ip = ip_of (get_or ips i (V4 [] 0)) in
+          let at = subst (λ s. IsPlace (by_ip ip) s c.place_of.result) c.as_slice.ensures.value c.place_of.ensures in
+          let there : is_some (get now ip) ≡ true = ap (λ m. is_some (get m ip)) (sym c.self.view_is) ∙ has_row ip rows c.place_of.result c.self.invariant at (sym c.is_err.ensures.value ∙ w.if-is_err.false) in
+          record {
+            enough = λ end. subst (λ n. len (with_all now (take (i + 1) ips) end) ≤ n) (sym w.count-is) (len-one_again now ips i end (V4 [] 0) c.loop-ip-test.true c.loop-ip.count there (c.loop-ip.invariant.enough end));
+            few = omega (arith, w.count-is, c.loop-ip.invariant.few);
+          }
+    ]
+
+pub returns : goal.returns
+returns c = OnTrue_from (nat_le c.loop-ip.count MAX_PERMISSIONS) _ (λ fits end.
+    let whole = take_all c.loop-ip.ip-index c.args.ips.now c.loop-ip-test.false in
+    let enough = subst (λ (ips : List Addr). len (with_all c.args.self.now ips end) ≤ c.loop-ip.count) whole (c.loop-ip.invariant.enough end) in
+    omega (arith, enough, leb-true c.loop-ip.count MAX_PERMISSIONS fits))
