@@ -29,22 +29,35 @@ struct Sockets {
     slot: UdpSocket,
 }
 
-/// A server, a client and a peer. The client's socket is connected to that of clients and the peer's to that of the slot, so
+/// The sockets of a client and a peer. The client's is connected to that of clients and the peer's to that of the slot, so
 /// each receives from there alone.
 #[derive(Drop)]
-struct Session {
-    relay: Relay,
-    sockets: Sockets,
+struct Ends {
     client: UdpSocket,
     peer: UdpSocket,
 }
 
-/// What is received over a channel: the types of the responses that opened it, and data at the peer and at the client.
+/// A server, a client and a peer.
 #[derive(Drop)]
+struct Session {
+    relay: Relay,
+    sockets: Sockets,
+    ends: Ends,
+}
+
+/// A datagram that was received: the first bytes of the room for it.
+#[derive(Clone, Copy)]
+struct Datagram {
+    room: [u8; 256],
+    length: usize,
+}
+
+/// What is received over a channel: the types of the responses that opened it, and data at the peer and at the client.
+#[derive(Clone, Copy)]
 struct Exchange {
     kinds: [Option<[u8; 2]>; 2],
-    there: Vec<u8>,
-    back: Vec<u8>,
+    there: Datagram,
+    back: Datagram,
 }
 
 /// Returns an address as messages have it.
@@ -97,23 +110,58 @@ fn bind<R: Net>(rt: &R) -> io::Result<UdpSocket> {
     rt.bind_udp(SocketAddr::from((Ipv4Addr::LOCALHOST, 0)))
 }
 
-impl Session {
-    /// Makes a server with the shipped programs, a client and a peer.
-    fn start<R: Net>(rt: &R, alloc: Global) -> Result<Session, Fail> {
-        let relay = shipped(alloc)?;
-        let (clients, slot) = (bind(rt)?, bind(rt)?);
-        let (client, peer) = (bind(rt)?, bind(rt)?);
-        client.connect(clients.local_addr()?)?;
-        peer.connect(slot.local_addr()?)?;
-        let sockets = Sockets { clients, slot };
-        Ok(Session {
-            relay,
-            sockets,
-            client,
-            peer,
-        })
+/// Binds two sockets of loopback.
+fn bind_two<R: Net>(rt: &R) -> io::Result<(UdpSocket, UdpSocket)> {
+    let first = bind(rt)?;
+    let second = bind(rt)?;
+    Ok((first, second))
+}
+
+impl Ends {
+    /// Connects both sockets to those of a server.
+    fn connect(&self, sockets: &Sockets) -> io::Result<()> {
+        self.client.connect(sockets.clients.local_addr()?)?;
+        self.peer.connect(sockets.slot.local_addr()?)
+    }
+}
+
+impl Datagram {
+    /// Returns the bytes of the datagram.
+    fn bytes(&self) -> &[u8] {
+        self.room.get(..self.length).unwrap_or(&[])
     }
 
+    /// Returns the bytes of a message's type.
+    fn kind(&self) -> Option<[u8; 2]> {
+        match self.bytes() {
+            [high, low, ..] => Some([*high, *low]),
+            _ => None,
+        }
+    }
+}
+
+/// Binds the sockets of a server, and those of a client and a peer of it.
+fn bind_all<R: Net>(rt: &R) -> io::Result<(Sockets, Ends)> {
+    let (clients, slot) = bind_two(rt)?;
+    let sockets = Sockets { clients, slot };
+    let (client, peer) = bind_two(rt)?;
+    let ends = Ends { client, peer };
+    ends.connect(&sockets)?;
+    Ok((sockets, ends))
+}
+
+/// Makes a server with the shipped programs, a client and a peer.
+fn start<R: Net>(rt: &R, alloc: Global) -> Result<Session, Fail> {
+    let relay = shipped(alloc)?;
+    let (sockets, ends) = bind_all(rt)?;
+    Ok(Session {
+        relay,
+        sockets,
+        ends,
+    })
+}
+
+impl Session {
     /// Serves the one datagram that has come at a place.
     fn serve(&mut self, place: Place) -> Result<(), Fail> {
         match serve_once(&mut self.relay, &mut self.sockets, place, 1000, TX)? {
@@ -124,23 +172,22 @@ impl Session {
 
     /// Has the client send a datagram, which is served.
     fn client_sends(&mut self, datagram: &[u8]) -> Result<(), Fail> {
-        self.client.send(datagram)?;
+        self.ends.client.send(datagram)?;
         self.serve(Place::Client)
     }
 
     /// Has the peer send a datagram, which is served.
     fn peer_sends(&mut self, datagram: &[u8]) -> Result<(), Fail> {
-        self.peer.send(datagram)?;
+        self.ends.peer.send(datagram)?;
         self.serve(Place::Slot(0))
     }
 }
 
 /// Receives a datagram.
-fn received(alloc: Global, socket: &UdpSocket) -> Result<Vec<u8>, Fail> {
-    let mut room = vec![in alloc; 0u8; 256]?;
-    let n = socket.recv(&mut room)?;
-    room.truncate(n);
-    Ok(room)
+fn received(socket: &UdpSocket) -> io::Result<Datagram> {
+    let mut room = [0u8; 256];
+    let length = socket.recv(&mut room)?;
+    Ok(Datagram { room, length })
 }
 
 /// Appends the credentials of the user.
@@ -169,49 +216,44 @@ fn write_channel_bind(room: &mut [u8], peer: &Addr) -> Result<usize, NoRoom> {
 }
 
 impl Session {
+    /// Has the client send a request, and returns the response to it.
+    fn ask(&mut self, request: &[u8]) -> Result<Datagram, Fail> {
+        self.client_sends(request)?;
+        Ok(received(&self.ends.client)?)
+    }
+
     /// Has the client send a Binding request, and returns the response and what it should be.
-    fn binding(&mut self, alloc: Global) -> Result<(Vec<u8>, [u8; 32]), Fail> {
-        self.client_sends(&BINDING)?;
-        let found = received(alloc, &self.client)?;
-        let port = self.client.local_addr()?.port();
+    fn binding(&mut self) -> Result<(Datagram, [u8; 32]), Fail> {
+        let found = self.ask(&BINDING)?;
+        let port = self.ends.client.local_addr()?.port();
         Ok((found, binding_response(port)))
     }
 
-    /// Has the client allocate and bind channel 0x4001 to the peer, and returns the types of both responses.
-    fn open_channel(&mut self, alloc: Global) -> Result<[Option<[u8; 2]>; 2], Fail> {
-        let mut room = vec![in alloc; 0u8; 256]?;
+    /// Has the client allocate, and returns the type of the response.
+    fn allocate(&mut self) -> Result<Option<[u8; 2]>, Fail> {
+        let mut room = [0u8; 256];
         let n = write_allocate(&mut room)?;
-        self.client_sends(room.get(..n).unwrap_or(&[]))?;
-        let allocated = received(alloc, &self.client)?;
-        let peer = address_of(self.peer.local_addr()?)?;
+        let found = self.ask(room.get(..n).unwrap_or(&[]))?;
+        Ok(found.kind())
+    }
+
+    /// Has the client bind channel 0x4001 to the peer, and returns the type of the response.
+    fn bind_channel(&mut self) -> Result<Option<[u8; 2]>, Fail> {
+        let mut room = [0u8; 256];
+        let peer = address_of(self.ends.peer.local_addr()?)?;
         let n = write_channel_bind(&mut room, &peer)?;
-        self.client_sends(room.get(..n).unwrap_or(&[]))?;
-        let bound = received(alloc, &self.client)?;
-        Ok([kind_of(&allocated), kind_of(&bound)])
+        let found = self.ask(room.get(..n).unwrap_or(&[]))?;
+        Ok(found.kind())
     }
 
-    /// Has the client send ChannelData, and then the peer send data. Returns what the peer receives, and what the client does.
-    fn there_and_back(&mut self, alloc: Global) -> Result<(Vec<u8>, Vec<u8>), Fail> {
+    /// Opens the channel, has the client send ChannelData over it, and then the peer send data.
+    fn channel(&mut self) -> Result<Exchange, Fail> {
+        let kinds = [self.allocate()?, self.bind_channel()?];
         self.client_sends(b"\x40\x01\x00\x03abc\x00")?;
-        let there = received(alloc, &self.peer)?;
+        let there = received(&self.ends.peer)?;
         self.peer_sends(b"defg")?;
-        let back = received(alloc, &self.client)?;
-        Ok((there, back))
-    }
-
-    /// Opens the channel, and has data sent over it. Returns the types of the responses, and what is received.
-    fn channel(&mut self, alloc: Global) -> Result<Exchange, Fail> {
-        let kinds = self.open_channel(alloc)?;
-        let (there, back) = self.there_and_back(alloc)?;
+        let back = received(&self.ends.client)?;
         Ok(Exchange { kinds, there, back })
-    }
-}
-
-/// Returns the bytes of a message's type.
-fn kind_of(message: &[u8]) -> Option<[u8; 2]> {
-    match message {
-        [high, low, ..] => Some([*high, *low]),
-        _ => None,
     }
 }
 
@@ -225,21 +267,21 @@ fn binding_response(port: u16) -> [u8; 32] {
 }
 
 /// Has a Binding request served, and returns the response and what it should be.
-fn binding<R: Net>(rt: &R, alloc: Global) -> Result<(Vec<u8>, [u8; 32]), Fail> {
-    let mut session = Session::start(rt, alloc)?;
-    session.binding(alloc)
+fn binding<R: Net>(rt: &R, alloc: Global) -> Result<(Datagram, [u8; 32]), Fail> {
+    let mut session = start(rt, alloc)?;
+    session.binding()
 }
 
 /// Has data served over a channel, and returns what is received.
 fn channel<R: Net>(rt: &R, alloc: Global) -> Result<Exchange, Fail> {
-    let mut session = Session::start(rt, alloc)?;
-    session.channel(alloc)
+    let mut session = start(rt, alloc)?;
+    session.channel()
 }
 
 #[test]
 fn a_binding_returns_the_address_of_the_socket(rt: HostRuntime) -> Result<(), Fail> {
     let (found, expected) = binding(&rt, rt.alloc())?;
-    assert_eq!(rt; found.as_slice(), expected.as_slice());
+    assert_eq!(rt; found.bytes(), expected.as_slice());
     Ok(())
 }
 
@@ -247,7 +289,7 @@ fn a_binding_returns_the_address_of_the_socket(rt: HostRuntime) -> Result<(), Fa
 fn data_passes_over_a_channel_there_and_back(rt: HostRuntime) -> Result<(), Fail> {
     let found = channel(&rt, rt.alloc())?;
     assert_eq!(rt; found.kinds, [Some([0x01, 0x03]), Some([0x01, 0x09])]);
-    assert_eq!(rt; found.there.as_slice(), b"abc".as_slice());
-    assert_eq!(rt; found.back.as_slice(), b"\x40\x01\x00\x04defg".as_slice());
+    assert_eq!(rt; found.there.bytes(), b"abc".as_slice());
+    assert_eq!(rt; found.back.bytes(), b"\x40\x01\x00\x04defg".as_slice());
     Ok(())
 }
