@@ -24,11 +24,11 @@ use Rattle.asm.specs.declared.statement.Line.TheVariants as line
 
 -- ---- what results stand for
 
-abbrev pub number_value : Number → ℕ
-number_value n = digits_value (radix_of n.radix) n.digits.now
+abbrev pub numeral_value : Number → ℕ
+numeral_value n = digits_value (radix_of n.radix) n.digits.now
 
 abbrev pub integer_value : Integer → ℤ
-integer_value n = if n.is_negative then neg_ℤ (pos (number_value n.magnitude)) else pos (number_value n.magnitude)
+integer_value n = if n.is_negative then neg_ℤ (pos (numeral_value n.magnitude)) else pos (numeral_value n.magnitude)
 
 abbrev pub operand_value : Written → Operand
 operand_value (written.Reg r) = operand.Reg r

@@ -292,8 +292,8 @@ jump_if width c ts = do
   Some (Instruction (insn.JumpIf width c dst.value o.value t.distance) t.label)
 
 -- a register and an address
-abbrev pub load : (Reg → Reg → ℤ → Insn) → List Token → Option Statement
-load make ts = do
+abbrev pub load_statement : (Reg → Reg → ℤ → Insn) → List Token → Option Statement
+load_statement make ts = do
   dst ← dst_comma ts
   at ← address dst.rest
   done ← end at.rest
@@ -343,8 +343,8 @@ instruction (Swap op size) ts = one (insn.Swap op size) ts
 instruction Jump ts = jump insn.Jump ts
 instruction LongJump ts = jump insn.LongJump ts
 instruction (JumpIf width c) ts = jump_if width c ts
-instruction (Load size) ts = load (insn.Load size) ts
-instruction (LoadSigned size) ts = load (insn.LoadSigned size) ts
+instruction (Load size) ts = load_statement (insn.Load size) ts
+instruction (LoadSigned size) ts = load_statement (insn.LoadSigned size) ts
 instruction (StoreImm size) ts = store_imm size ts
 instruction (StoreReg size) ts = store_register size ts
 instruction LoadImm ts = load_number ts

@@ -2,7 +2,7 @@
 
 ghost use Rattle.std.specs.Prelude.{◌<◌, ◌^◌, FitsSigned};
 ghost use Rattle.std.specs.Int.{w16, w32};
-ghost use Rattle.asm.specs.Parsing.{number_value, integer_value, Converts};
+ghost use Rattle.asm.specs.Parsing.{numeral_value, integer_value, Converts};
 
 use crate::number::{Integer, Number};
 use crate::refusal::Fault;
@@ -13,7 +13,7 @@ impl<'a> Number<'a> {
     /// # Errors
     /// `Range` from 2^64 up.
     pub(crate) fn value(self) -> Result<u64, Fault>
-        ensures { Converts (λ n. n) (λ n. n < 2 ^ 64) (number_value self.entry) result }
+        ensures { Converts (λ n. n) (λ n. n < 2 ^ 64) (numeral_value self.entry) result }
     {
         let Ok(digits) = std::str::from_utf8(self.digits) else {
             return Err(Fault::Range);
@@ -27,7 +27,7 @@ impl<'a> Number<'a> {
 
 impl<'a> Integer<'a> {
     fn value(self) -> Result<i128, Fault>
-        ensures { Converts (λ n. n) (λ n. number_value self.entry.magnitude < 2 ^ 64)
+        ensures { Converts (λ n. n) (λ n. numeral_value self.entry.magnitude < 2 ^ 64)
             (integer_value self.entry) result }
     {
         let magnitude = i128::from(self.magnitude.value()?);

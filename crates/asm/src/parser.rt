@@ -8,7 +8,7 @@ ghost use Rattle.asm.specs.Radices.{radix_of, is_numeral};
 ghost use Rattle.asm.specs.Lines.{begins_name, is_in_names, is_in_words, is_blank};
 ghost use Rattle.asm.specs.Reading as reading;
 ghost use Rattle.asm.specs.Reading.{register_named, is_name, number_of_token};
-ghost use Rattle.asm.specs.Parsing.{ahead, number_value, integer_value, operand_value, address_value, goal_value, Reads, Passes, StartsUnblank};
+ghost use Rattle.asm.specs.Parsing.{ahead, numeral_value, integer_value, operand_value, address_value, goal_value, Reads, Passes, StartsUnblank};
 
 use crate::number::{Integer, Number};
 use crate::radix::Radix;
@@ -105,7 +105,7 @@ fn are_digits(radix: Radix, digits: &[u8]) -> bool
 
 /// Returns the number that one or more digits spell, or `None`.
 fn number_of<'a>(radix: Radix, digits: &'a [u8]) -> Option<Number<'a>>
-    ensures { option_map number_value result
+    ensures { option_map numeral_value result
         ≡ (if is_numeral (radix_of radix) digits.now then Some (digits_value (radix_of radix) digits.now) else None) }
 {
     if digits.is_empty() {
@@ -119,7 +119,7 @@ fn number_of<'a>(radix: Radix, digits: &'a [u8]) -> Option<Number<'a>>
 
 /// Returns the number that a word writes: decimal digits, or `0x` and hexadecimal ones.
 fn numbered<'a>(word: &'a [u8]) -> Option<Number<'a>>
-    ensures { option_map number_value result ≡ number_of_token word.now }
+    ensures { option_map numeral_value result ≡ number_of_token word.now }
 {
     match word.strip_prefix(b"0x") {
         Some(digits) => number_of(Radix::Hexadecimal, digits),
@@ -231,7 +231,7 @@ impl<'a> Parser<'a> {
 
     /// Reads a number without a sign.
     pub(crate) fn number(&mut self) -> Result<Number<'a>, Fault>
-        ensures { Reads reading.number number_value self.old result self.new }
+        ensures { Reads reading.number numeral_value self.old result self.new }
     {
         let word = self.next().ok_or(Fault::Syntax)?;
         numbered(word).ok_or(Fault::Syntax)

@@ -169,7 +169,7 @@ impl<'a> Parser<'a> {
     }
 
     fn load(mut self, size: Size) -> Result<Line<'a>, Fault>
-        ensures { Understands (reading.load (Load size) (ahead self.entry)) result }
+        ensures { Understands (reading.load_statement (Load size) (ahead self.entry)) result }
     {
         let dst = self.dst()?;
         let address = self.address()?;
@@ -188,7 +188,7 @@ impl<'a> Parser<'a> {
     }
 
     fn load_signed(mut self, size: SignedSize) -> Result<Line<'a>, Fault>
-        ensures { Understands (reading.load (LoadSigned size) (ahead self.entry)) result }
+        ensures { Understands (reading.load_statement (LoadSigned size) (ahead self.entry)) result }
     {
         let dst = self.dst()?;
         let address = self.address()?;

@@ -163,7 +163,8 @@ fn ipv4_value(ip: &[u8; 4], port: u16) -> [u8; IPV4_BYTES]
 
 /// Returns the value of an IPv6 address.
 fn ipv6_value(ip: &[u8; 16], port: u16, tx: &[u8; 12]) -> [u8; IPV6_BYTES]
-    ensures { result ≡ 0 ∷ IPV6 ∷ big_bytes 2 (bit_xor port cookie_half) ++ xor_bytes 16 ip.now (ipv6_mask tx.now) }
+    ensures { result
+        ≡ 0 ∷ IPV6 ∷ big_bytes 2 (bit_xor port cookie_half) ++ xor_bytes 16 ip.now (ipv6_mask tx.now) }
 {
     let mut value = [0; IPV6_BYTES];
     let (front, rest) = value.split_at_mut(FRONT);

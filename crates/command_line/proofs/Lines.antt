@@ -12,7 +12,7 @@ use Rattle.clap.proofs.OnLiterals.{clap_on_literals}
 use Rattle.command_line.proofs.Operands.{HasTexts, IsOptions, IsServing, all_held, all_options, all_serve, all_words, every_held, every_options, every_texts, every_words, last_operand, last_rows, options_rows, port_held, port_serves, port_words, replay_faults, replay_rows, replay_shape, serve_faults, serve_rows, serve_shape, user_held, user_options, user_texts}
 use Rattle.command_line.specs.Commands.{faults_of, relayd_command, subcommand_in}
 use Rattle.command_line.specs.Lines.{Given, IsOperand, IsLineOf, IsParsedAs, IsReplayLine, IsServeLine, IsSlotsLine, IsTraceLine, before, every_option, every_server_option, only_port, only_user, only_users_file}
-use Rattle.command_line.specs.Subcommands.{IsFlag, IsSubcommand, ServerTexts, Texts, flag_of, server_texts_in, server_texts_of, text_of, texts_in, texts_of, value_of}
+use Rattle.command_line.specs.Subcommands.{IsFlag, IsSubcommand, ServerTexts, Texts, flag_of, server_texts_in, server_texts_of, text_of, texts_in, texts_of, argument_value}
 use Rattle.command_line.specs.declared.Options.{Options}
 use Rattle.command_line.specs.declared.Subcommand.{Subcommand}
 use Rattle.command_line.specs.declared.Subcommand.TheVariants.{Verify, Trace, Assemble, Disassemble, Replay, Serve}
@@ -21,8 +21,8 @@ use Rattle.command_line.specs.declared.Subcommand.TheVariants.{Verify, Trace, As
 pub record Reads (words : List Text) (name file : Text) (hex : Option Text) : Type 0 where
   pub good : faults_of words ≡ []
   pub name_is : option_map (λ p. p.0) (subcommand_in words) ≡ Some name
-  pub file_is : option_map (λ p. value_of p (codes "file")) (subcommand_in words) ≡ Some (Some file)
-  pub data_is : option_map (λ p. value_of p (codes "data")) (subcommand_in words) ≡ Some hex
+  pub file_is : option_map (λ p. argument_value p (codes "file")) (subcommand_in words) ≡ Some (Some file)
+  pub data_is : option_map (λ p. argument_value p (codes "data")) (subcommand_in words) ≡ Some hex
 
 verify_read : (name file : Text) → IsOperand file → Reads (name ∷ codes "verify" ∷ file ∷ []) (codes "verify") file None
 unfolding clap_on_literals
@@ -33,7 +33,7 @@ verify_read name (x ∷ xs) e = record { good = simp e refl; name_is = refl; fil
 pub record ReadsFlag (words : List Text) (file value : Text) : Type 0 where
   pub good : faults_of words ≡ []
   pub name_is : option_map (λ p. p.0) (subcommand_in words) ≡ Some (codes "disassemble")
-  pub file_is : option_map (λ p. value_of p (codes "file")) (subcommand_in words) ≡ Some (Some file)
+  pub file_is : option_map (λ p. argument_value p (codes "file")) (subcommand_in words) ≡ Some (Some file)
   pub flag_is : option_map (λ p. flag_of p (codes "slots")) (subcommand_in words) ≡ Some (Some value)
 
 disassemble_read : (name file : Text) → IsOperand file
@@ -61,8 +61,8 @@ slots_first name (x ∷ xs) e =
 pub record ReadsFiles (words : List Text) (name input output : Text) : Type 0 where
   pub good : faults_of words ≡ []
   pub name_is : option_map (λ p. p.0) (subcommand_in words) ≡ Some name
-  pub input_is : option_map (λ p. value_of p (codes "in")) (subcommand_in words) ≡ Some (Some input)
-  pub output_is : option_map (λ p. value_of p (codes "out")) (subcommand_in words) ≡ Some (Some output)
+  pub input_is : option_map (λ p. argument_value p (codes "in")) (subcommand_in words) ≡ Some (Some input)
+  pub output_is : option_map (λ p. argument_value p (codes "out")) (subcommand_in words) ≡ Some (Some output)
 
 assemble_read : (name input output : Text) → IsOperand input → IsOperand output → ReadsFiles (name ∷ codes "assemble" ∷ input ∷ output ∷ []) (codes "assemble") input output
 unfolding clap_on_literals
@@ -104,8 +104,8 @@ data_first name (x ∷ xs) (y ∷ ys) e h = record { good = simp (e, h) refl; na
 pub record ReadsEvents (words : List Text) (events : Text) (nonce : Option Text) (texts : Texts) : Type 0 where
   pub good : faults_of words ≡ []
   pub name_is : option_map (λ p. p.0) (subcommand_in words) ≡ Some (codes "replay")
-  pub events_is : option_map (λ p. value_of p (codes "events")) (subcommand_in words) ≡ Some (Some events)
-  pub nonce_is : option_map (λ p. value_of p (codes "nonce")) (subcommand_in words) ≡ Some nonce
+  pub events_is : option_map (λ p. argument_value p (codes "events")) (subcommand_in words) ≡ Some (Some events)
+  pub nonce_is : option_map (λ p. argument_value p (codes "nonce")) (subcommand_in words) ≡ Some nonce
   pub texts_is : option_map (λ p. texts_in p.1) (subcommand_in words) ≡ Some texts
 
 -- what clap makes of options, and of EVENTS after them
@@ -114,9 +114,9 @@ replay_made_of : (name events : Text) (given : Option Text) (options : List Text
 replay_made_of name events given options texts h e o t = record {
   good = replay_faults name (options ++ events ∷ []) ∙ (last_operand replay_shape options h events e o.walks o.passes ∙ t.good);
   name_is = ap (option_map (λ p. p.0)) (replay_rows name (options ++ events ∷ []));
-  events_is = ap (option_map (λ p. value_of p (codes "events"))) (replay_rows name (options ++ events ∷ []))
+  events_is = ap (option_map (λ p. argument_value p (codes "events"))) (replay_rows name (options ++ events ∷ []))
       ∙ ap (λ rows. Some (first_of (codes "events") rows)) (last_rows replay_shape options h events e o.walks) ∙ ap Some t.events_is;
-  nonce_is = ap (option_map (λ p. value_of p (codes "nonce"))) (replay_rows name (options ++ events ∷ []))
+  nonce_is = ap (option_map (λ p. argument_value p (codes "nonce"))) (replay_rows name (options ++ events ∷ []))
       ∙ ap (λ rows. Some (first_of (codes "nonce") rows)) (last_rows replay_shape options h events e o.walks) ∙ ap Some t.nonce_is;
   texts_is = ap (option_map (λ p. texts_in p.1)) (replay_rows name (options ++ events ∷ []))
       ∙ ap (λ rows. Some (texts_in rows)) (last_rows replay_shape options h events e o.walks) ∙ ap Some t.texts_is;
@@ -152,17 +152,17 @@ serve_made_of name words server texts h o = record {
 
 -- the subcommand has this name and these values
 abbrev Has : Text → Text → Option Text → Text × List Row → Type 0
-Has name file hex p = (p.0 ≡ name) × (value_of p (codes "file") ≡ Some file) × (value_of p (codes "data") ≡ hex)
+Has name file hex p = (p.0 ≡ name) × (argument_value p (codes "file") ≡ Some file) × (argument_value p (codes "data") ≡ hex)
 
 abbrev HasFiles : Text → Text → Text → Text × List Row → Type 0
-HasFiles name input output p = (p.0 ≡ name) × (value_of p (codes "in") ≡ Some input) × (value_of p (codes "out") ≡ Some output)
+HasFiles name input output p = (p.0 ≡ name) × (argument_value p (codes "in") ≡ Some input) × (argument_value p (codes "out") ≡ Some output)
 
 abbrev HasEvents : Text → Option Text → Texts → Text × List Row → Type 0
-HasEvents events nonce texts p = (p.0 ≡ codes "replay") × (value_of p (codes "events") ≡ Some events) × (value_of p (codes "nonce") ≡ nonce)
+HasEvents events nonce texts p = (p.0 ≡ codes "replay") × (argument_value p (codes "events") ≡ Some events) × (argument_value p (codes "nonce") ≡ nonce)
     × (texts_in p.1 ≡ texts)
 
 events_collected : (o : Option (Text × List Row)) (events : Text) (given : Option Text) (texts : Texts) → option_map (λ p. p.0) o ≡ Some (codes "replay")
-    → option_map (λ p. value_of p (codes "events")) o ≡ Some (Some events) → option_map (λ p. value_of p (codes "nonce")) o ≡ Some given
+    → option_map (λ p. argument_value p (codes "events")) o ≡ Some (Some events) → option_map (λ p. argument_value p (codes "nonce")) o ≡ Some given
     → option_map (λ p. texts_in p.1) o ≡ Some texts → IsSomeAnd o (HasEvents events given texts)
 events_collected None events given texts n f g d = absurd (none-some (codes "replay") n)
 events_collected (Some p) events given texts n f g d = (same_Some _ _ n, same_Some _ _ f, same_Some _ _ g, same_Some _ _ d)
@@ -176,24 +176,24 @@ server_collected None server texts n f d = absurd (none-some (codes "serve") n)
 server_collected (Some p) server texts n f d = (same_Some _ _ n, same_Some _ _ f, same_Some _ _ d)
 
 files_collected : (o : Option (Text × List Row)) (name input output : Text) → option_map (λ p. p.0) o ≡ Some name
-    → option_map (λ p. value_of p (codes "in")) o ≡ Some (Some input) → option_map (λ p. value_of p (codes "out")) o ≡ Some (Some output)
+    → option_map (λ p. argument_value p (codes "in")) o ≡ Some (Some input) → option_map (λ p. argument_value p (codes "out")) o ≡ Some (Some output)
     → IsSomeAnd o (HasFiles name input output)
 files_collected None name input output n f d = absurd (none-some name n)
 files_collected (Some p) name input output n f d = (same_Some _ _ n, same_Some _ _ f, same_Some _ _ d)
 
 abbrev HasFlag : Text → Text → Text × List Row → Type 0
-HasFlag file value p = (p.0 ≡ codes "disassemble") × (value_of p (codes "file") ≡ Some file)
+HasFlag file value p = (p.0 ≡ codes "disassemble") × (argument_value p (codes "file") ≡ Some file)
     × (flag_of p (codes "slots") ≡ Some value)
 
 flag_collected : (o : Option (Text × List Row)) (file value : Text)
     → option_map (λ p. p.0) o ≡ Some (codes "disassemble")
-    → option_map (λ p. value_of p (codes "file")) o ≡ Some (Some file)
+    → option_map (λ p. argument_value p (codes "file")) o ≡ Some (Some file)
     → option_map (λ p. flag_of p (codes "slots")) o ≡ Some (Some value) → IsSomeAnd o (HasFlag file value)
 flag_collected None file value n f d = absurd (none-some (codes "disassemble") n)
 flag_collected (Some p) file value n f d = (same_Some _ _ n, same_Some _ _ f, same_Some _ _ d)
 
 collected : (o : Option (Text × List Row)) (name file : Text) (hex : Option Text) → option_map (λ p. p.0) o ≡ Some name
-    → option_map (λ p. value_of p (codes "file")) o ≡ Some (Some file) → option_map (λ p. value_of p (codes "data")) o ≡ Some hex → IsSomeAnd o (Has name file hex)
+    → option_map (λ p. argument_value p (codes "file")) o ≡ Some (Some file) → option_map (λ p. argument_value p (codes "data")) o ≡ Some hex → IsSomeAnd o (Has name file hex)
 collected None name file hex n f d = absurd (none-some name n)
 collected (Some p) name file hex n f d = (same_Some _ _ n, same_Some _ _ f, same_Some _ _ d)
 

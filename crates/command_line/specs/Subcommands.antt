@@ -7,8 +7,8 @@ use Rattle.command_line.specs.declared.Subcommand.{Subcommand}
 use Rattle.command_line.specs.declared.Subcommand.TheVariants.{Verify, Trace, Assemble, Disassemble, Replay, Serve}
 
 -- the value of an argument of the subcommand
-abbrev pub value_of : Text × List Row → Text → Option Text
-value_of p id = first_of id p.1
+abbrev pub argument_value : Text × List Row → Text → Option Text
+argument_value p id = first_of id p.1
 
 -- the value of a flag of the subcommand, as clap reads it: `true` where it is given, and else `false`, its default
 abbrev pub flag_of : Text × List Row → Text → Option Text
@@ -90,15 +90,15 @@ server_texts_of port rounds listen lifetime stats = record {
 
 -- a name and the values of arguments are those of a subcommand
 abbrev pub IsSubcommand : Text × List Row → Subcommand → Type 0
-IsSubcommand p (Verify file) = (p.0 ≡ codes "verify") × (value_of p (codes "file") ≡ Some file.now)
-IsSubcommand p (Trace file hex) = (p.0 ≡ codes "trace") × (value_of p (codes "file") ≡ Some file.now)
-    × (value_of p (codes "data") ≡ option_map (λ s. s.now) hex)
-IsSubcommand p (Assemble input output) = (p.0 ≡ codes "assemble") × (value_of p (codes "in") ≡ Some input.now)
-    × (value_of p (codes "out") ≡ Some output.now)
-IsSubcommand p (Disassemble file slots) = (p.0 ≡ codes "disassemble") × (value_of p (codes "file") ≡ Some file.now)
+IsSubcommand p (Verify file) = (p.0 ≡ codes "verify") × (argument_value p (codes "file") ≡ Some file.now)
+IsSubcommand p (Trace file hex) = (p.0 ≡ codes "trace") × (argument_value p (codes "file") ≡ Some file.now)
+    × (argument_value p (codes "data") ≡ option_map (λ s. s.now) hex)
+IsSubcommand p (Assemble input output) = (p.0 ≡ codes "assemble") × (argument_value p (codes "in") ≡ Some input.now)
+    × (argument_value p (codes "out") ≡ Some output.now)
+IsSubcommand p (Disassemble file slots) = (p.0 ≡ codes "disassemble") × (argument_value p (codes "file") ≡ Some file.now)
     × IsFlag (flag_of p (codes "slots")) slots
-IsSubcommand p (Replay events nonce options) = (p.0 ≡ codes "replay") × (value_of p (codes "events") ≡ Some events.now)
-    × (value_of p (codes "nonce") ≡ text_of nonce) × (texts_in p.1 ≡ texts_of options)
+IsSubcommand p (Replay events nonce options) = (p.0 ≡ codes "replay") × (argument_value p (codes "events") ≡ Some events.now)
+    × (argument_value p (codes "nonce") ≡ text_of nonce) × (texts_in p.1 ≡ texts_of options)
 IsSubcommand p (Serve port rounds listen lifetime stats options) = (p.0 ≡ codes "serve")
     × (server_texts_in p.1 ≡ server_texts_of port rounds listen lifetime stats) × (texts_in p.1 ≡ texts_of options)
 
@@ -108,7 +108,7 @@ TakesFile name = (name ≡ codes "disassemble") ⊎ ((name ≡ codes "verify") �
 
 -- they are those of no subcommand: the name is none of the six, or a file or the port is missing
 pub record IsNoSubcommand (p : Text × List Row) : Type 0 where
-  pub file : TakesFile p.0 → value_of p (codes "file") ≡ None
-  pub files : p.0 ≡ codes "assemble" → (value_of p (codes "in") ≡ None) ⊎ (value_of p (codes "out") ≡ None)
-  pub events : p.0 ≡ codes "replay" → value_of p (codes "events") ≡ None
-  pub port : p.0 ≡ codes "serve" → value_of p (codes "port") ≡ None
+  pub file : TakesFile p.0 → argument_value p (codes "file") ≡ None
+  pub files : p.0 ≡ codes "assemble" → (argument_value p (codes "in") ≡ None) ⊎ (argument_value p (codes "out") ≡ None)
+  pub events : p.0 ≡ codes "replay" → argument_value p (codes "events") ≡ None
+  pub port : p.0 ≡ codes "serve" → argument_value p (codes "port") ≡ None

@@ -198,8 +198,8 @@ is_empty (kind ∷ kinds) = false
 abbrev pub all_understood : Parts → Bool
 all_understood p = is_empty (unknown_types p)
 
-abbrev pub understood : Parts → Result (Unit {0}) ErrorCode
-understood p = check (all_understood p) UnknownAttribute
+abbrev pub attribute_test : Parts → Result (Unit {0}) ErrorCode
+attribute_test p = check (all_understood p) UnknownAttribute
 
 -- a request of TURN of a user whose credentials were accepted
 abbrev pub decision_for_user : TurnRequest → Addr → ℕ → Parts → Rows → Decision
@@ -209,19 +209,19 @@ decision_for_user turn.CreatePermission client user p rows = create_permission c
 decision_for_user turn.ChannelBind client user p rows = channel_bind client user p rows
 
 -- where all attributes are understood
-abbrev pub understood_and_served : TurnRequest → Addr → ℕ → Parts → Rows → Decision
-understood_and_served r client user p rows = do
-  _ ← understood p
+abbrev pub decision_if_understood : TurnRequest → Addr → ℕ → Parts → Rows → Decision
+decision_if_understood r client user p rows = do
+  _ ← attribute_test p
   decision_for_user r client user p rows
 
 -- with the result of the check of the credentials
 abbrev pub decision : TurnRequest → Result ℕ AuthError → Addr → Parts → Rows → Decision
 decision r checked client p rows = do
   user ← user_or_error checked
-  understood_and_served r client user p rows
+  decision_if_understood r client user p rows
 
 -- Binding (RFC 8489, section 12), which needs no credentials
 abbrev pub binding : Parts → Decision
 binding p = do
-  _ ← understood p
+  _ ← attribute_test p
   Ok (Mapped, None)

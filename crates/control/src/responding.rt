@@ -6,7 +6,7 @@ ghost use Rattle.credentials.specs.Keys.{key_bytes};
 ghost use Rattle.tables.specs.Moments.{moment_of};
 ghost use Rattle.tables.specs.Rows.{rows_at};
 ghost use Rattle.control.specs.Configs.{fault};
-ghost use Rattle.control.specs.Control.{understood_and_served, refused_credentials};
+ghost use Rattle.control.specs.Control.{decision_if_understood, refused_credentials};
 ghost use Rattle.control.specs.Serving.{Gives, HasSlotBelow};
 ghost use Rattle.tables.specs.Addresses.{is_ipv4};
 ghost use Rattle.control.specs.Responding.{IsCheckedAnswer, Responds};
@@ -63,7 +63,7 @@ fn serve(
     arrival: &Arrival<'_>,
 ) -> Result<Grant, ErrorCode>
     requires ipv4 { IsTrue (is_ipv4 arrival.now.client) }
-    ensures gives { Gives (understood_and_served request arrival.now.client user arrival.now.message.now
+    ensures gives { Gives (decision_if_understood request arrival.now.client user arrival.now.message.now
         (rows_at arrival.now.moment tables.old)) tables.old result tables.new }
     ensures inside { IfOk result (HasSlotBelow (length tables.old.slots)) }
     ensures moment { (tables.old.moment ≤ tables.new.moment)

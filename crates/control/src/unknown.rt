@@ -1,7 +1,7 @@
 //! The types of attributes that are not understood (RFC 8489, section 6.3.1).
 
 ghost use Rattle.std.specs.Prelude.{◌≡◌, ◌≤◌, length, take};
-ghost use Rattle.control.specs.Control.{all_understood, understood};
+ghost use Rattle.control.specs.Control.{all_understood, attribute_test};
 ghost use Rattle.control.specs.Unknown.{unknown_types, with_type};
 ghost use Rattle.control.specs.declared.unknown.TheConstants.{MAX_UNKNOWN};
 
@@ -49,7 +49,7 @@ pub fn all_understood(message: &Message<'_>) -> bool
 /// # Errors
 /// 420 where one isn't.
 pub(crate) fn check_understood(message: &Message<'_>) -> Result<(), ErrorCode>
-    ensures { result ≡ understood message.now }
+    ensures { result ≡ attribute_test message.now }
 {
     if all_understood(message) {
         Ok(())

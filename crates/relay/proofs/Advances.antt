@@ -19,7 +19,7 @@ use Rattle.relay.specs.ByRules.{from_client}
 use Rattle.relay.specs.Found.{HasRun, run_at, reply_of_passing, window_shown}
 use Rattle.relay.specs.Relays.{Contents, state_of, datagram_at}
 use Rattle.relay.specs.Steps.{HasStepped, outcome_of}
-use Rattle.relay.specs.Systems.{Reply, silent, reply_of_relaying, stepped_at, if_ipv4, with_nonce, address_of_source}
+use Rattle.relay.specs.Systems.{Reply, no_answer, reply_of_relaying, outcome_at, if_ipv4, with_nonce, address_of_source}
 use Rattle.relay.proofs.SameNonce.{from_client_same}
 
 module _ (old : Contents) (given : Meta) (n moment : ℕ) where
@@ -38,7 +38,7 @@ module _ (old : Contents) (given : Meta) (n moment : ℕ) where
   -- a reply of a system makes a step
   pub steps : (new : Contents) → moment ≡ moment_of old.greatest given.now → new.rows ≡ reply_at.rows → new.greatest ≡ moment → new.config ≡ old.config → new.programs ≡ old.programs → HasStepped old new (outcome_of old given n)
   steps new is rows greatest config programs =
-      let P : ℕ → Type 0 = λ m. HasStepped old new (stepped_at m (state_of old) (if_ipv4 (by_programs old.programs) (with_nonce old.config old.config.nonce.bytes) m given.tx given.from old.rows (datagram_at old n))) in
+      let P : ℕ → Type 0 = λ m. HasStepped old new (outcome_at m (state_of old) (if_ipv4 (by_programs old.programs) (with_nonce old.config old.config.nonce.bytes) m given.tx given.from old.rows (datagram_at old n))) in
       subst P is (record {
         state = λ i. record { rows = rows i; greatest = greatest i; nonce = (config i).nonce.bytes };
         config = config;
@@ -54,9 +54,9 @@ module _ (old : Contents) (given : Meta) (n moment : ℕ) where
   answers is = ap (λ (m : ℕ). (if_ipv4 (by_programs old.programs) (with_nonce old.config old.config.nonce.bytes) m given.tx given.from old.rows (datagram_at old n)).answer) is
 
   -- a source that is not served
-  pub not_served : (is_ipv4 (address_of_source given.from) && is_there given.from old.rows) ≡ false → reply_at ≡ silent old.rows
+  pub not_served : (is_ipv4 (address_of_source given.from) && is_there given.from old.rows) ≡ false → reply_at ≡ no_answer old.rows
   not_served other = of (is_ipv4 (address_of_source given.from)) (is_there given.from old.rows) other where
-    of : (a b : Bool) → (a && b) ≡ false → (if a then (if b then run_reply else silent old.rows) else silent old.rows) ≡ silent old.rows
+    of : (a b : Bool) → (a && b) ≡ false → (if a then (if b then run_reply else no_answer old.rows) else no_answer old.rows) ≡ no_answer old.rows
     of false b e = refl
     of true false e = refl
     of true true e = absurd cc
@@ -73,8 +73,8 @@ module _ (old : Contents) (given : Meta) (n moment : ℕ) where
     by_its_verdict : reply_at ≡ by_verdict config moment given.from old.rows (length (datagram_at old n)) r o.verdict
     by_its_verdict =
         let both = and_parts (is_ipv4 (address_of_source given.from)) (is_there given.from old.rows) served in
-        cond-true (is_ipv4 (address_of_source given.from)) _ (silent old.rows) both.0
-        ∙ cond-true (is_there given.from old.rows) _ (silent old.rows) both.1
+        cond-true (is_ipv4 (address_of_source given.from)) _ (no_answer old.rows) both.0
+        ∙ cond-true (is_there given.from old.rows) _ (no_answer old.rows) both.1
         ∙ ap (λ (e : Ending). by_ending config moment given.from old.rows (length (datagram_at old n)) r e) ran.outcome.verdict
 
     -- a client's datagram is passed on
@@ -87,7 +87,7 @@ module _ (old : Contents) (given : Meta) (n moment : ℕ) where
         ∙ (λ i. from_client (sym same i) (sym greatest i) client (sym rows i) (sym ran.datagram i))
 
     -- a peer's is not
-    pub passes_peer : (slot : ℕ) (peer : Addr) → given.from ≡ Peer slot peer → o.verdict ≡ PASSES → reply_at ≡ silent old.rows
+    pub passes_peer : (slot : ℕ) (peer : Addr) → given.from ≡ Peer slot peer → o.verdict ≡ PASSES → reply_at ≡ no_answer old.rows
     passes_peer slot peer from verdict =
         by_its_verdict
         ∙ ap (λ (v : ℕ). by_verdict config moment given.from old.rows (length (datagram_at old n)) r v) verdict
@@ -101,7 +101,7 @@ module _ (old : Contents) (given : Meta) (n moment : ℕ) where
         ∙ (λ i. reply_of_relaying old.rows (planned_sending given.from (rows_at moment old.rows) (sym ran.outcome.destination i) (sym ran.window i)))
 
     -- every other verdict discards
-    pub discards : (o.verdict == PASSES) ≡ false → (o.verdict == SENDS) ≡ false → reply_at ≡ silent old.rows
+    pub discards : (o.verdict == PASSES) ≡ false → (o.verdict == SENDS) ≡ false → reply_at ≡ no_answer old.rows
     discards no_pass no_send =
         by_its_verdict
         ∙ cond-false (o.verdict == PASSES) _ _ no_pass

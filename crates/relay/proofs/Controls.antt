@@ -24,7 +24,7 @@ use Rattle.programs.specs.Rules.{send_indication, send_from, channel_data_from}
 use Rattle.events.specs.Events.{ToClient}
 use Rattle.relay.specs.ByRules.{requests, request_among, request_of, decision_and_key, reply_with, reply_to_request, control, message, from_client}
 use Rattle.relay.specs.Found.{reply_sent}
-use Rattle.relay.specs.Systems.{Reply, silent, reply_of_relaying}
+use Rattle.relay.specs.Systems.{Reply, no_answer, reply_of_relaying}
 
 -- ---- the request of a type
 
@@ -84,7 +84,7 @@ module _ (are_checked : AreChecked) (config : Config) (now : ℕ) (client : Addr
       (are_checked p (string_bytes config.realm) (accounts_of config.users.items) config.nonce.bytes is.checked is.is_checked)
       (with_decision (request.Turn r) _ _ is.answer)
 
-  silent_is : IsSilent old new written → silent old ≡ reply_of
+  silent_is : IsSilent old new written → no_answer old ≡ reply_of
   silent_is is = λ i. record { answer = reply_sent client (sym is.bytes i); rows = sym is.rows i }
 
   by_request : is_ipv4 client ≡ true → Responds config now client p old new written → (o : Option Request) → request_of p.kind ≡ o → reply_to_request config now client p old o ≡ reply_of
@@ -115,7 +115,7 @@ module _ (config : Config) (now : ℕ) (client : Addr) (rows : Rows) (datagram :
   is_message m stun is = cond-true (begins_as_stun datagram) (by_message (message_in datagram)) _ stun ∙ ap by_message is
 
   -- what is no message
-  pub is_silent : begins_as_stun datagram ≡ true → message_in datagram ≡ None → from_client config now client rows datagram ≡ silent rows
+  pub is_silent : begins_as_stun datagram ≡ true → message_in datagram ≡ None → from_client config now client rows datagram ≡ no_answer rows
   is_silent stun is = is_message None stun is
 
   module _ (p : Parts) (stun : begins_as_stun datagram ≡ true) (is : message_in datagram ≡ Some p) where

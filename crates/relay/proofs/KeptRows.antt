@@ -27,7 +27,7 @@ use Rattle.attributes.specs.Values.{number_of_value}
 use Rattle.credentials.specs.Checks.{first_value}
 use Rattle.credentials.specs.declared.checking.AuthError.{AuthError}
 use Rattle.fallible.specs.Fallible.{◌>>=◌, check}
-use Rattle.control.specs.Control.{Decision, rows_of, result_of_change, acceptable_lifetime, allocate_beside, allocate, own_allocation, refresh, refresh_for, requested_family, requested_lifetime, create_permission, peers_in, channel_bind, is_repeated, user_or_error, understood, decision_for_user, decision, binding}
+use Rattle.control.specs.Control.{Decision, rows_of, result_of_change, acceptable_lifetime, allocate_beside, allocate, own_allocation, refresh, refresh_for, requested_family, requested_lifetime, create_permission, peers_in, channel_bind, is_repeated, user_or_error, attribute_test, decision_for_user, decision, binding}
 use Rattle.control.specs.Values.{required_value}
 use Rattle.control.specs.declared.config.Config.{Config}
 use Rattle.control.specs.declared.reply.Grant.{Grant}
@@ -215,12 +215,12 @@ module _ (config : Config) (now : ℕ) (client : Addr) (rows : Rows) (datagram :
   keeps_decision : (p : Parts) → message_in datagram ≡ Some p → (r : TurnRequest) (checked : Result ℕ AuthError) → Keeps (decision r checked client p (rows_at now rows))
   keeps_decision p there r checked =
       after (user_or_error checked) _ (λ user _.
-      after (understood p) _ (λ _ _.
+      after (attribute_test p) _ (λ _ _.
       keeps_served client user p (rows_at now rows) (rows_at-well_formed now rows are) ipv4 (λ value found. in_message p XOR_PEER_ADDRESS datagram value is.bytes_fit there found) r))
 
   keeps_control : (p : Parts) → message_in datagram ≡ Some p → (o : Option Request) → AreWellFormed (reply_to_request config now client p rows o).rows
   keeps_control p there None = are
-  keeps_control p there (Some request.Binding) = kept rows (binding p) are (after (understood p) _ (λ _ _. tt))
+  keeps_control p there (Some request.Binding) = kept rows (binding p) are (after (attribute_test p) _ (λ _ _. tt))
   keeps_control p there (Some (request.Turn r)) = kept rows (decision r (check_of config p) client p (rows_at now rows)) are (keeps_decision p there r (check_of config p))
 
   keeps_message : (o : Option Parts) → message_in datagram ≡ o → AreWellFormed (message config now client rows o).rows

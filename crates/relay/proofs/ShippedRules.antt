@@ -40,7 +40,7 @@ use Rattle.programs.specs.declared.verdict.TheConstants.{PASSES}
 use Rattle.relay.specs.ByPrograms.{Programs, by_programs, by_run, by_ending, is_there}
 use Rattle.relay.specs.ByRules.{by_rules, from_client}
 use Rattle.relay.specs.Shipped.{AreShipped}
-use Rattle.relay.specs.Systems.{Reply, silent, reply_of_relaying, address_of_source, if_ipv4}
+use Rattle.relay.specs.Systems.{Reply, no_answer, reply_of_relaying, address_of_source, if_ipv4}
 use Rattle.relay.proofs.Controls.{is_relayed, is_sent}
 
 module _ (config : Config) (now : ℕ) (tx : List ℕ) (rows : Rows) (datagram : List ℕ) (code : List Insn) where
@@ -132,11 +132,11 @@ module _ (config : Config) (now : ℕ) (tx : List ℕ) (rows : Rows) (datagram :
       ap (λ (o : Option (Option Held)). option_map (λ a. a.client) (option_map (λ held. held.allocation) (option_flatten o))) (slice_get_past counting.slots slot few)
 
   peer_gives : (slot : ℕ) (peer : Addr) → ServesPeer code tx slot peer counting datagram
-      → (if is_there (Peer slot peer) rows then given (Peer slot peer) else silent rows) ≡ by_rules config now tx (Peer slot peer) rows datagram
+      → (if is_there (Peer slot peer) rows then given (Peer slot peer) else no_answer rows) ≡ by_rules config now tx (Peer slot peer) rows datagram
   peer_gives slot peer serves = elim (cases_Bool (is_there (Peer slot peer) rows)) [
-    | inl there ↦ cond-true (is_there (Peer slot peer) rows) (given (Peer slot peer)) (silent rows) there ∙ gives_relayed (Peer slot peer) _ serves
+    | inl there ↦ cond-true (is_there (Peer slot peer) rows) (given (Peer slot peer)) (no_answer rows) there ∙ gives_relayed (Peer slot peer) _ serves
     | inr past ↦
-        cond-false (is_there (Peer slot peer) rows) (given (Peer slot peer)) (silent rows) past
+        cond-false (is_there (Peer slot peer) rows) (given (Peer slot peer)) (no_answer rows) past
         ∙ ap (λ (client : Option Addr). reply_of_relaying rows (client >>= λ c. option_map (ToClient c) (peer_data (has_permission slot peer counting) (channel_of slot peer counting) peer tx datagram))) (sym (no_client slot past))
   ]
 
@@ -171,6 +171,6 @@ module _ (serves_client : ClientServes) (serves_peer : PeerServes) (programs : P
       → if_ipv4 (by_programs programs) config now tx from rows datagram ≡ if_ipv4 by_rules config now tx from rows datagram
   same_reply from address = of (is_ipv4 (address_of_source from)) refl where
     of : (b : Bool) → is_ipv4 (address_of_source from) ≡ b
-        → (if b then by_programs programs config now tx from rows datagram else silent rows) ≡ (if b then by_rules config now tx from rows datagram else silent rows)
+        → (if b then by_programs programs config now tx from rows datagram else no_answer rows) ≡ (if b then by_rules config now tx from rows datagram else no_answer rows)
     of true e = served from (of_ipv4 (address_of_source from) address e)
     of false e = refl

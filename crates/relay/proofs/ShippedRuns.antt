@@ -18,7 +18,7 @@ use Rattle.events.specs.declared.meta.Source.TheVariants.{Client, Peer}
 use Rattle.relay.specs.ByPrograms.{Programs, by_programs}
 use Rattle.relay.specs.ByRules.{by_rules}
 use Rattle.relay.specs.Shipped.{AreShipped, AnswerAlike}
-use Rattle.relay.specs.Systems.{State, Outcome, step, stepped_at, answers, after, silent, with_nonce, address_of_source}
+use Rattle.relay.specs.Systems.{State, Outcome, step, outcome_at, answers, after, no_answer, with_nonce, address_of_source}
 use Rattle.relay.proofs.KeptRows.{keeps}
 use Rattle.relay.proofs.ShippedRules.{ClientServes, PeerServes, same_reply}
 
@@ -35,7 +35,7 @@ module _ (serves_client : ClientServes) (serves_peer : PeerServes) (programs : P
   pub same_datagram : (s : State) (given : Meta) (bytes : List ℕ) → AreWellFormed s.rows → AreBytes 12 given.tx → IsDatagram bytes → IsAddress (address_of_source given.from)
       → step (by_programs programs) config s (Datagram given bytes) ≡ step by_rules config s (Datagram given bytes)
   same_datagram s given bytes rows is_id is address =
-      ap (stepped_at (moment_of s.greatest given.now) s)
+      ap (outcome_at (moment_of s.greatest given.now) s)
       (same_reply serves_client serves_peer programs are (with_nonce config s.nonce) (moment_of s.greatest given.now) given.tx s.rows bytes rows is_id is given.from address)
 
   module _ (slots : ℕ) where
@@ -47,7 +47,7 @@ module _ (serves_client : ClientServes) (serves_peer : PeerServes) (programs : P
 
     kept_step : (s : State) (e : Event) → AreWellFormed s.rows → IsEvent slots e → AreWellFormed (step by_rules config s e).state.rows
     kept_step s (Datagram given bytes) rows (now, long, fit, from, short, are_bytes) = of (is_ipv4 (address_of_source given.from)) where
-      of : (b : Bool) → AreWellFormed (if b then by_rules (with_nonce config s.nonce) (moment_of s.greatest given.now) given.tx given.from s.rows bytes else silent s.rows).rows
+      of : (b : Bool) → AreWellFormed (if b then by_rules (with_nonce config s.nonce) (moment_of s.greatest given.now) given.tx given.from s.rows bytes else no_answer s.rows).rows
       of true = keeps (with_nonce config s.nonce) (moment_of s.greatest given.now) given.tx given.from s.rows bytes rows (is_served slots given.from from) (record { short = short; bytes_fit = are_fit bytes are_bytes })
       of false = rows
     kept_step s (Nonce text) rows is = rows

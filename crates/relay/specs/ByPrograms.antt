@@ -10,7 +10,7 @@ use Rattle.events.specs.declared.meta.Source.TheVariants.{Client, Peer}
 use Rattle.programs.specs.Runs.{run_for, datagram_in, sent_by}
 use Rattle.programs.specs.declared.verdict.TheConstants.{PASSES}
 use Rattle.relay.specs.ByRules.{from_client}
-use Rattle.relay.specs.Systems.{Reply, silent, reply_of_relaying, System}
+use Rattle.relay.specs.Systems.{Reply, no_answer, reply_of_relaying, System}
 
 -- the programs of the two sides
 pub record Programs : Type 0 where
@@ -25,7 +25,7 @@ program_for programs (Peer slot peer) = programs.peer
 -- peer's
 abbrev pub reply_where_passed_on : Config → ℕ → Source → Rows → List ℕ → Reply
 reply_where_passed_on config now (Client client) rows bytes = from_client config now client rows bytes
-reply_where_passed_on config now (Peer slot peer) rows bytes = silent rows
+reply_where_passed_on config now (Peer slot peer) rows bytes = no_answer rows
 
 abbrev pub by_verdict : Config → ℕ → Source → Rows → ℕ → Run → ℕ → Reply
 by_verdict config now from rows size r verdict =
@@ -35,8 +35,8 @@ by_verdict config now from rows size r verdict =
 -- a stuck run sends nothing
 abbrev pub by_ending : Config → ℕ → Source → Rows → ℕ → Run → Ending → Reply
 by_ending config now from rows size r (runs.Exited verdict) = by_verdict config now from rows size r verdict
-by_ending config now from rows size r (runs.Stuck reason slot) = silent rows
-by_ending config now from rows size r runs.Running = silent rows
+by_ending config now from rows size r (runs.Stuck reason slot) = no_answer rows
+by_ending config now from rows size r runs.Running = no_answer rows
 
 abbrev pub by_run : Config → ℕ → Source → Rows → ℕ → Run → Reply
 by_run config now from rows size r = by_ending config now from rows size r r.ending
@@ -50,4 +50,4 @@ abbrev pub by_programs : Programs → System
 by_programs programs config now tx from rows bytes =
     if is_there from rows
     then by_run config now from rows (length bytes) (run_for (program_for programs from) tx from (rows_at now rows) bytes)
-    else silent rows
+    else no_answer rows

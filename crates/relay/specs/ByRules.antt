@@ -20,7 +20,7 @@ use Rattle.events.specs.Events.{ToClient}
 use Rattle.events.specs.declared.meta.Source.TheVariants.{Client, Peer}
 use Rattle.programs.specs.FastPart.{begins_as_stun}
 use Rattle.programs.specs.Rules.{send_indication, channel_data_from, send_from, peer_data_to}
-use Rattle.relay.specs.Systems.{Reply, silent, reply_of_relaying, System}
+use Rattle.relay.specs.Systems.{Reply, no_answer, reply_of_relaying, System}
 
 -- ---- requests
 
@@ -58,7 +58,7 @@ reply_with config r client p rows d = record {
 }
 
 abbrev pub reply_to_request : Config → ℕ → Addr → Parts → Rows → Option Request → Reply
-reply_to_request config now client p rows None = silent rows
+reply_to_request config now client p rows None = no_answer rows
 reply_to_request config now client p rows (Some r) = reply_with config r client p rows (decision_and_key config now r client p rows)
 
 -- the answer to a message of a client: a message that is no request gets none
@@ -69,7 +69,7 @@ control config now client p rows = reply_to_request config now client p rows (re
 
 -- a Send indication is relayed, and every other message handled
 abbrev pub message : Config → ℕ → Addr → Rows → Option Parts → Reply
-message config now client rows None = silent rows
+message config now client rows None = no_answer rows
 message config now client rows (Some p) =
     if p.kind == send_indication then reply_of_relaying rows (send_from client (rows_at now rows) p) else control config now client p rows
 

@@ -27,8 +27,8 @@ pub record Reply : Type 0 where
   pub rows : Rows
 
 -- nothing is sent, and nothing changes
-abbrev pub silent : Rows → Reply
-silent rows = record { answer = None; rows = rows }
+abbrev pub no_answer : Rows → Reply
+no_answer rows = record { answer = None; rows = rows }
 
 -- relaying changes no rows
 abbrev pub reply_of_relaying : Rows → Option Sending → Reply
@@ -45,7 +45,7 @@ address_of_source (Peer slot peer) = peer
 -- until IPv6 comes, a source over IPv6 gets no answer
 abbrev pub if_ipv4 : System → System
 if_ipv4 system config now tx from rows bytes =
-    if is_ipv4 (address_of_source from) then system config now tx from rows bytes else silent rows
+    if is_ipv4 (address_of_source from) then system config now tx from rows bytes else no_answer rows
 
 -- the configuration with the current nonce
 abbrev pub with_nonce : Config → List ℕ → Config
@@ -57,11 +57,11 @@ pub record Outcome : Type 0 where
   pub state : State
 
 -- every datagram's moment counts as seen, whatever is answered
-abbrev pub stepped_at : ℕ → State → Reply → Outcome
-stepped_at moment s reply = record { answer = reply.answer; state = record s { rows = reply.rows; greatest = moment } }
+abbrev pub outcome_at : ℕ → State → Reply → Outcome
+outcome_at moment s reply = record { answer = reply.answer; state = record s { rows = reply.rows; greatest = moment } }
 
 abbrev pub step : System → Config → State → Event → Outcome
-step system config s (Datagram given bytes) = stepped_at (moment_of s.greatest given.now) s
+step system config s (Datagram given bytes) = outcome_at (moment_of s.greatest given.now) s
     (if_ipv4 system (with_nonce config s.nonce) (moment_of s.greatest given.now) given.tx given.from s.rows bytes)
 step system config s (Nonce text) = record { answer = None; state = record s { nonce = text } }
 

@@ -114,6 +114,11 @@ impl<'a> Sides<'a> {
         }
     }
 
+    /// Returns whether the program of a side comes from a file.
+    pub(crate) fn has_files(&self) -> bool {
+        self.client.path.is_some() || self.peer.path.is_some()
+    }
+
     /// Replaces the programs of a relay by those of the files that have changed. Where one is refused, or can't be loaded for
     /// want of memory, the old one goes on.
     /// See docs/DECISIONS.md, "Both programs are loaded anew".

@@ -23,7 +23,8 @@ const TURNS: usize = 64;
 /// How many events one wait reports. Further ones are reported by the next.
 const EVENTS: usize = 256;
 
-/// The seconds of the longest wait, and those after which the programs' files are read again.
+/// The seconds after which the programs' files are read again, and those of the longest wait where something is looked at
+/// from time to time.
 const PERIOD: u64 = 1;
 
 /// The seconds after which a nonce is replaced, where none are given.
@@ -174,6 +175,16 @@ impl Server<'_> {
         }
     }
 
+    /// Returns the longest wait for a datagram. Without end where nothing but datagrams matters: a nonce that is due is
+    /// drawn before the next of them is served.
+    fn longest_wait(&self) -> Option<Duration> {
+        if self.sides.has_files() || self.stats.is_some() {
+            Some(Duration::from_secs(PERIOD))
+        } else {
+            None
+        }
+    }
+
     /// Serves one datagram at a place, if one has come there, at a moment. Returns whether one has come, or a fault, which is
     /// printed.
     fn turn<E: Write>(&mut self, err: &mut E, place: Place, now: u64) -> bool {
@@ -268,18 +279,18 @@ impl Server<'_> {
         self.sockets.register(&poll).map_err(|_| Fault::Wait)?;
         let mut events = Events::with_capacity(rt.alloc(), EVENTS).map_err(|_| Fault::Memory)?;
         let mut ready = vec![in rt.alloc(); true; self.sockets.count()].map_err(|_| Fault::Memory)?;
+        let longest = self.longest_wait();
         let mut more = true;
         for _ in 0..u64::MAX {
-            let period = if more { 0 } else { PERIOD };
-            let wait = Duration::from_secs(period);
-            poll.poll(&mut events, Some(wait)).map_err(|_| Fault::Wait)?;
+            let wait = if more { Some(Duration::ZERO) } else { longest };
+            poll.poll(&mut events, wait).map_err(|_| Fault::Wait)?;
+            self.tend(rt, err);
             more = if more {
                 mark(&events, &mut ready);
                 self.drain_ready(rt, err, &mut ready)
             } else {
                 self.drain_reported(rt, err, &events, &mut ready)
             };
-            self.tend(rt, err);
         }
         Ok(())
     }

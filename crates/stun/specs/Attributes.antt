@@ -22,11 +22,11 @@ abbrev pub value_of : ℕ → List Attribute → Option (List ℕ)
 value_of kind attributes = slice_get (values_of kind attributes) 0
 
 -- the types that this profile reads or writes
-abbrev pub understood : List ℕ
-understood =
+abbrev pub understood_types : List ℕ
+understood_types =
     USERNAME ∷ MESSAGE_INTEGRITY ∷ ERROR_CODE ∷ UNKNOWN_ATTRIBUTES ∷ CHANNEL_NUMBER ∷ LIFETIME ∷ XOR_PEER_ADDRESS ∷ DATA ∷ REALM ∷ NONCE
     ∷ XOR_RELAYED_ADDRESS ∷ REQUESTED_ADDRESS_FAMILY ∷ REQUESTED_TRANSPORT ∷ XOR_MAPPED_ADDRESS ∷ []
 
 -- a type in the table; a comprehension-optional type, from 0x8000 up, is ignored and need not be in it (RFC 8489, section 14)
 abbrev pub is_understood : ℕ → Bool
-is_understood kind = leb 0x8000 kind || list_any (λ k. k == kind) understood
+is_understood kind = leb 0x8000 kind || list_any (λ k. k == kind) understood_types

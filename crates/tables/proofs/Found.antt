@@ -7,7 +7,7 @@ use Rattle.attributes.specs.Addresses.{ip_of}
 use Rattle.attributes.specs.AddressOrderLaws.{ip_total}
 use Rattle.attributes.specs.declared.address.Addr.{Addr}
 use Rattle.tables.specs.Moments.{moment_of, counts_at}
-use Rattle.tables.specs.Rows.{Rows, held_at, counting, rows_at}
+use Rattle.tables.specs.Rows.{Rows, held_at, counting_rows, rows_at}
 use Rattle.tables.specs.LookUps.{held_in, peer_of, has_permission}
 use Rattle.tables.specs.Retained.{value_if}
 use Rattle.tables.specs.RetainedLaws.{get-kept_of}
@@ -23,9 +23,9 @@ passed : {X : Type 0} (b : Bool) (x : X) → is_some (cond b (Some x) None) ≡ 
 passed true x = refl
 passed false x = refl
 
-module _ (t m : ℕ) (now : Rows) (slot : ℕ) (held : Held) (moment : m ≡ moment_of now.moment t) (is : held_at m held ≡ held_in (counting m now) slot) (counts : m < held.allocation.end) where
+module _ (t m : ℕ) (now : Rows) (slot : ℕ) (held : Held) (moment : m ≡ moment_of now.moment t) (is : held_at m held ≡ held_in (counting_rows m now) slot) (counts : m < held.allocation.end) where
   held_rows : held_in (rows_at t now) slot ≡ Some (held_counting m held)
-  held_rows = ap (λ u. held_in (counting u now) slot) (sym moment) ∙ sym is ∙ held_at-counts m held (lt-ltb m held.allocation.end counts)
+  held_rows = ap (λ u. held_in (counting_rows u now) slot) (sym moment) ∙ sym is ∙ held_at-counts m held (lt-ltb m held.allocation.end counts)
 
   peer_of-kept : (number : ℕ) (binding : Option Binding) → binding ≡ get held.channels number → peer_of slot number (rows_at t now) ≡ peer_in (value_if (binding_counts m) binding)
   peer_of-kept number binding at =

@@ -19,7 +19,7 @@ use Rattle.tables.specs.Permissions.{PermissionMap, permissions_at, with_all}
 use Rattle.tables.specs.Retained.{value_if, kept_of}
 use Rattle.tables.specs.RetainedLaws.{get-kept_of, kept_again, kept_from}
 use Rattle.tables.specs.RowLaws.{binding_counts, held_counting, held_at-counts, held_at-ended, permissions_again, channels_again}
-use Rattle.tables.specs.Rows.{Rows, held_at, counting}
+use Rattle.tables.specs.Rows.{Rows, held_at, counting_rows}
 use Rattle.tables.specs.Stored.{AreStored, stored_at, client_in, with_end, with_permissions, with_binding}
 use Rattle.tables.specs.WellFormed.{IsHeldAt}
 use Rattle.tables.specs.WellFormedLaws.{set-well_formed, refreshed-held_at, permitted-held_at, bound-held_at}
@@ -143,37 +143,37 @@ pub stored_read : (slots : List (Option Held)) (slot : ℕ) (o is : Option Held)
 stored_read slots slot o is within at same = ap option_flatten (slice_get_read slots (length slots) slot o refl within at) ∙ same
 
 module _ (last : ℕ) (slots : List (Option Held)) (now : Rows) (shows : ShowsStored last slots now) (t : ℕ) (later : now.moment ≤ t) (slot : ℕ) where
-  pub none-stored : stored_at slots slot ≡ None → held_in (counting t now) slot ≡ None
+  pub none-stored : stored_at slots slot ≡ None → held_in (counting_rows t now) slot ≡ None
   none-stored is = held_in-stored last slots now shows t later slot ∙ ap (option_and_then (held_at t)) is
 
-  pub ended-stored : (held : Held) → stored_at slots slot ≡ Some held → held.allocation.end ≤ t → held_in (counting t now) slot ≡ None
+  pub ended-stored : (held : Held) → stored_at slots slot ≡ Some held → held.allocation.end ≤ t → held_in (counting_rows t now) slot ≡ None
   ended-stored held is ended = held_in-stored last slots now shows t later slot ∙ ap (option_and_then (held_at t)) is ∙ held_at-ended t held (le-ltb t held.allocation.end ended)
 
   module _ (held : Held) (is : stored_at slots slot ≡ Some held) (counts : t < held.allocation.end) where
-    held_rows : held_in (counting t now) slot ≡ Some (held_counting t held)
+    held_rows : held_in (counting_rows t now) slot ≡ Some (held_counting t held)
     held_rows = held_in-stored last slots now shows t later slot ∙ ap (option_and_then (held_at t)) is ∙ held_at-counts t held (lt-ltb t held.allocation.end counts)
 
-    made : (new wanted : Held) → held_at t new ≡ held_at t wanted → counting t (record { moment = t; slots = set slots slot (Some new) }) ≡ with_held (counting t now) slot wanted
+    made : (new wanted : Held) → held_at t new ≡ held_at t wanted → counting_rows t (record { moment = t; slots = set slots slot (Some new) }) ≡ with_held (counting_rows t now) slot wanted
     made new wanted left =
-        with_held-stored last slots now shows t later slot new ∙ ap (λ (o : Option Held). record (counting t now) { slots = set (counting t now).slots slot o }) left
+        with_held-stored last slots now shows t later slot new ∙ ap (λ (o : Option Held). record (counting_rows t now) { slots = set (counting_rows t now).slots slot o }) left
 
     pub refresh-follows : (lifetime : ℕ) (new : Held) → new ≡ with_end (t + lifetime) held
-        → Follows (refresh slot lifetime (counting t now)) now (Ok tt) (counting t (record { moment = t; slots = set slots slot (Some new) }))
+        → Follows (refresh slot lifetime (counting_rows t now)) now (Ok tt) (counting_rows t (record { moment = t; slots = set slots slot (Some new) }))
     refresh-follows lifetime new same =
-        follows _ now _ _ (refresh-held (counting t now) slot (held_counting t held) held_rows lifetime) (made new _ (ap (held_at t) same ∙ left-end t held (t + lifetime)))
+        follows _ now _ _ (refresh-held (counting_rows t now) slot (held_counting t held) held_rows lifetime) (made new _ (ap (held_at t) same ∙ left-end t held (t + lifetime)))
 
     pub permit-follows : (ips : List Addr) (new : Held) → new ≡ with_permissions (t + PERMISSION_LIFETIME) ips held → len new.permissions ≤ MAX_PERMISSIONS
-        → Follows (permit slot ips (counting t now)) now (Ok tt) (counting t (record { moment = t; slots = set slots slot (Some new) }))
+        → Follows (permit slot ips (counting_rows t now)) now (Ok tt) (counting_rows t (record { moment = t; slots = set slots slot (Some new) }))
     permit-follows ips new same few =
         let fits = few_counting t held.permissions ips (t + PERMISSION_LIFETIME) MAX_PERMISSIONS (subst (λ (h : Held). len h.permissions ≤ MAX_PERMISSIONS) same few) in
-        follows _ now _ _ (permit-held (counting t now) slot (held_counting t held) held_rows ips fits) (made new _ (ap (held_at t) same ∙ left-permissions t held (t + PERMISSION_LIFETIME) ips))
+        follows _ now _ _ (permit-held (counting_rows t now) slot (held_counting t held) held_rows ips fits) (made new _ (ap (held_at t) same ∙ left-permissions t held (t + PERMISSION_LIFETIME) ips))
 
     pub bind-follows : (number : ℕ) (peer : Addr) (new : Held) → new ≡ with_binding t number peer held → IsTrue (may_bind (channels_at t held.channels) number peer) → len new.permissions ≤ MAX_PERMISSIONS → len new.channels ≤ MAX_CHANNELS
-        → Follows (bind slot number peer (counting t now)) now (Ok tt) (counting t (record { moment = t; slots = set slots slot (Some new) }))
+        → Follows (bind slot number peer (counting_rows t now)) now (Ok tt) (counting_rows t (record { moment = t; slots = set slots slot (Some new) }))
     bind-follows number peer new same free few_permissions few_channels =
         let permissions_fit = few_counting t held.permissions (peer ∷ []) (t + PERMISSION_LIFETIME) MAX_PERMISSIONS (subst (λ (h : Held). len h.permissions ≤ MAX_PERMISSIONS) same few_permissions) in
         let channels_fit = few_channels_counting t held.channels number (record { peer = peer; end = t + CHANNEL_LIFETIME }) MAX_CHANNELS (subst (λ (h : Held). len h.channels ≤ MAX_CHANNELS) same few_channels) in
-        follows _ now _ _ (bind-held (counting t now) slot (held_counting t held) held_rows number peer free channels_fit permissions_fit) (made new _ (ap (held_at t) same ∙ left-binding t held number peer))
+        follows _ now _ _ (bind-held (counting_rows t now) slot (held_counting t held) held_rows number peer free channels_fit permissions_fit) (made new _ (ap (held_at t) same ∙ left-binding t held number peer))
 
 -- ---- what is stored stays well formed
 

@@ -8,7 +8,7 @@ use Rattle.std.proofs.lemmas.List.Quantifiers.{position-Some}
 use Rattle.std.proofs.lemmas.List.Sums.{position_or_len_is}
 use Rattle.std.proofs.lemmas.Option.{slice_get-get_or, slice_get_read}
 use Rattle.attributes.specs.declared.address.Addr.{Addr}
-use Rattle.tables.specs.Rows.{Rows, held_at, slots_at, counting}
+use Rattle.tables.specs.Rows.{Rows, held_at, slots_at, counting_rows}
 use Rattle.tables.specs.LookUps.{held_in, held_by, is_of}
 use Rattle.tables.specs.Changes.{with_held, first_free}
 use Rattle.tables.specs.RowLaws.{counting_again, held_in-counting, held_at-counts}
@@ -16,26 +16,26 @@ use Rattle.tables.specs.declared.held.Held.{Held}
 
 -- `now` is the rows of what is stored
 abbrev pub ShowsStored : ℕ → List (Option Held) → Rows → Type 0
-ShowsStored moment slots now = counting moment (record { moment = moment; slots = slots }) ≡ now
+ShowsStored moment slots now = counting_rows moment (record { moment = moment; slots = slots }) ≡ now
 
 module _ (last : ℕ) (slots : List (Option Held)) (now : Rows) (shows : ShowsStored last slots now) (t : ℕ) (later : now.moment ≤ t) where
-  pub counting-stored : counting t now ≡ record { moment = t; slots = slots_at t slots }
+  pub counting-stored : counting_rows t now ≡ record { moment = t; slots = slots_at t slots }
   counting-stored =
       let since : last ≤ t = omega (arith, ap (λ (r : Rows). r.moment) shows, later) in
-      ap (counting t) (sym shows) ∙ counting_again last t (record { moment = last; slots = slots }) since
+      ap (counting_rows t) (sym shows) ∙ counting_again last t (record { moment = last; slots = slots }) since
 
-  pub held_in-stored : (slot : ℕ) → held_in (counting t now) slot ≡ option_and_then (held_at t) (option_flatten (slice_get slots slot))
+  pub held_in-stored : (slot : ℕ) → held_in (counting_rows t now) slot ≡ option_and_then (held_at t) (option_flatten (slice_get slots slot))
   held_in-stored slot = ap (λ (r : Rows). held_in r slot) counting-stored ∙ held_in-counting t slot (record { moment = t; slots = slots })
 
-  pub with_held-stored : (slot : ℕ) (held : Held) → counting t (record { moment = t; slots = set slots slot (Some held) }) ≡ with_held (counting t now) slot held
+  pub with_held-stored : (slot : ℕ) (held : Held) → counting_rows t (record { moment = t; slots = set slots slot (Some held) }) ≡ with_held (counting_rows t now) slot held
   with_held-stored slot held =
       (λ i. record { moment = t; slots = map-set (option_and_then (held_at t)) slots slot (Some held) i })
       ∙ ap (λ (r : Rows). with_held r slot held) (sym counting-stored)
 
-  pub held_by-stored : (client : Addr) → held_by client (counting t now) ≡ option_flatten (find (is_of client) (slots_at t slots))
+  pub held_by-stored : (client : Addr) → held_by client (counting_rows t now) ≡ option_flatten (find (is_of client) (slots_at t slots))
   held_by-stored client = ap (held_by client) counting-stored
 
-  pub length-stored : length (counting t now).slots ≡ length slots
+  pub length-stored : length (counting_rows t now).slots ≡ length slots
   length-stored = ap (λ (r : Rows). length r.slots) counting-stored ∙ length-map slots (option_and_then (held_at t))
 
 -- ---- a slot

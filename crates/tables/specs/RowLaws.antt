@@ -12,7 +12,7 @@ use Rattle.attributes.specs.declared.address.Addr.{Addr}
 use Rattle.tables.specs.Moments.{counts_at}
 use Rattle.tables.specs.Permissions.{PermissionMap, permissions_at}
 use Rattle.tables.specs.Channels.{ChannelMap, channels_at}
-use Rattle.tables.specs.Rows.{Rows, held_at, slots_at, counting}
+use Rattle.tables.specs.Rows.{Rows, held_at, slots_at, counting_rows}
 use Rattle.tables.specs.LookUps.{held_in, allocation_at, peer_of, has_permission}
 use Rattle.tables.specs.RetainedLaws.{get-kept_of, kept_before, kept_of_again}
 use Rattle.tables.specs.declared.allocation.Allocation.{Allocation}
@@ -64,7 +64,7 @@ slots_again t u [] le = refl
 slots_again t u (slot ∷ slots) le = λ i. slot_again t u slot le i ∷ slots_again t u slots le i
 
 -- what counts at a moment is found from what counted before
-pub counting_again : (t u : ℕ) (rows : Rows) → t ≤ u → counting u (counting t rows) ≡ counting u rows
+pub counting_again : (t u : ℕ) (rows : Rows) → t ≤ u → counting_rows u (counting_rows t rows) ≡ counting_rows u rows
 counting_again t u rows le = λ i. record { moment = u; slots = slots_again t u rows.slots le i }
 
 flattened : (t : ℕ) (slot : Option (Option Held)) → option_flatten (option_map (option_and_then (held_at t)) slot) ≡ option_and_then (held_at t) (option_flatten slot)
@@ -72,7 +72,7 @@ flattened t None = refl
 flattened t (Some None) = refl
 flattened t (Some (Some held)) = refl
 
-pub held_in-counting : (t slot : ℕ) (rows : Rows) → held_in (counting t rows) slot ≡ option_and_then (held_at t) (held_in rows slot)
+pub held_in-counting : (t slot : ℕ) (rows : Rows) → held_in (counting_rows t rows) slot ≡ option_and_then (held_at t) (held_in rows slot)
 held_in-counting t slot rows = ap option_flatten (slice_get-map (option_and_then (held_at t)) rows.slots slot) ∙ flattened t (slice_get rows.slots slot)
 
 -- ---- a greater moment never brings a row back
@@ -87,7 +87,7 @@ before t u f le each (Some held) a h = elim (cases_Bool (nat_lt u held.allocatio
 ]
 
 before_in : {A : Type 0} (t u slot : ℕ) (rows : Rows) (f : Held → Option A) → t ≤ u → ((held : Held) (a : A) → f (held_counting u held) ≡ Some a → f (held_counting t held) ≡ Some a)
-    → (a : A) → option_and_then f (held_in (counting u rows) slot) ≡ Some a → option_and_then f (held_in (counting t rows) slot) ≡ Some a
+    → (a : A) → option_and_then f (held_in (counting_rows u rows) slot) ≡ Some a → option_and_then f (held_in (counting_rows t rows) slot) ≡ Some a
 before_in t u slot rows f le each a h =
     ap (option_and_then f) (held_in-counting t slot rows)
     ∙ before t u f le each (held_in rows slot) a (sym (ap (option_and_then f) (held_in-counting u slot rows)) ∙ h)
@@ -96,10 +96,10 @@ mapped : {A B : Type 0} (f : A → B) (o : Option A) → option_map f o ≡ opti
 mapped f None = refl
 mapped f (Some x) = refl
 
-pub allocation_counted : (t u slot : ℕ) (rows : Rows) (a : Allocation) → t ≤ u → allocation_at slot (counting u rows) ≡ Some a → allocation_at slot (counting t rows) ≡ Some a
+pub allocation_counted : (t u slot : ℕ) (rows : Rows) (a : Allocation) → t ≤ u → allocation_at slot (counting_rows u rows) ≡ Some a → allocation_at slot (counting_rows t rows) ≡ Some a
 allocation_counted t u slot rows a le h =
-    mapped (λ held. held.allocation) (held_in (counting t rows) slot)
-    ∙ before_in t u slot rows (λ held. Some held.allocation) le (λ held a e. e) a (sym (mapped (λ held. held.allocation) (held_in (counting u rows) slot)) ∙ h)
+    mapped (λ held. held.allocation) (held_in (counting_rows t rows) slot)
+    ∙ before_in t u slot rows (λ held. Some held.allocation) le (λ held a e. e) a (sym (mapped (λ held. held.allocation) (held_in (counting_rows u rows) slot)) ∙ h)
 
 some_of : {A : Type 0} (o : Option A) → is_some o ≡ true → (a : A) × (o ≡ Some a)
 some_of None h = absurd (both_ways false refl h)
@@ -114,9 +114,9 @@ permission_before t u ip le held end h =
       | inr same ↦ at_t ∙ sym (at_u ∙ same) ∙ h
     ]
 
-pub permission_counted : (t u slot : ℕ) (ip : Addr) (rows : Rows) → t ≤ u → has_permission slot ip (counting u rows) ≡ true → has_permission slot ip (counting t rows) ≡ true
+pub permission_counted : (t u slot : ℕ) (ip : Addr) (rows : Rows) → t ≤ u → has_permission slot ip (counting_rows u rows) ≡ true → has_permission slot ip (counting_rows t rows) ≡ true
 permission_counted t u slot ip rows le h =
-    let found = some_of (option_and_then (λ held. get held.permissions (ip_of ip)) (held_in (counting u rows) slot)) h in
+    let found = some_of (option_and_then (λ held. get held.permissions (ip_of ip)) (held_in (counting_rows u rows) slot)) h in
     ap is_some (before_in t u slot rows (λ held. get held.permissions (ip_of ip)) le (permission_before t u ip le) found.0 found.1)
 
 peer_before : (t u number : ℕ) → t ≤ u → (held : Held) (peer : Addr) → option_map (λ b. b.peer) (get (channels_at u held.channels) number) ≡ Some peer → option_map (λ b. b.peer) (get (channels_at t held.channels) number) ≡ Some peer
@@ -129,5 +129,5 @@ peer_before t u number le held peer h =
       | inr same ↦ ap peer_in (at_t ∙ sym (at_u ∙ same)) ∙ h
     ]
 
-pub channel_counted : (t u slot number : ℕ) (peer : Addr) (rows : Rows) → t ≤ u → peer_of slot number (counting u rows) ≡ Some peer → peer_of slot number (counting t rows) ≡ Some peer
+pub channel_counted : (t u slot number : ℕ) (peer : Addr) (rows : Rows) → t ≤ u → peer_of slot number (counting_rows u rows) ≡ Some peer → peer_of slot number (counting_rows t rows) ≡ Some peer
 channel_counted t u slot number peer rows le h = before_in t u slot rows (λ held. option_map (λ b. b.peer) (get held.channels number)) le (peer_before t u number le) peer h

@@ -25,12 +25,12 @@ abbrev pub slots_at : ℕ → List (Option Held) → List (Option Held)
 slots_at t slots = map (option_and_then (held_at t)) slots
 
 -- the rows that count at a moment, which is then the greatest
-abbrev pub counting : ℕ → Rows → Rows
-counting t rows = record { moment = t; slots = slots_at t rows.slots }
+abbrev pub counting_rows : ℕ → Rows → Rows
+counting_rows t rows = record { moment = t; slots = slots_at t rows.slots }
 
 -- the rows at a moment that is handed in
 abbrev pub rows_at : ℕ → Rows → Rows
-rows_at t rows = counting (moment_of rows.moment t) rows
+rows_at t rows = counting_rows (moment_of rows.moment t) rows
 
 -- `count` empty slots, before the first change
 abbrev pub no_rows : ℕ → Rows

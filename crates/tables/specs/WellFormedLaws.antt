@@ -24,7 +24,7 @@ use Rattle.tables.specs.Moments.{moment_of, counts_at}
 use Rattle.tables.specs.Permissions.{PermissionMap, with_all}
 use Rattle.tables.specs.RetainedLaws.{get-kept_of, kept_from, len-kept_of}
 use Rattle.tables.specs.RowLaws.{binding_counts, held_counting, held_at-counts, held_at-ended, held_in-counting}
-use Rattle.tables.specs.Rows.{Rows, held_at, counting, rows_at, no_rows}
+use Rattle.tables.specs.Rows.{Rows, held_at, counting_rows, rows_at, no_rows}
 use Rattle.tables.specs.WellFormed.{IsChannel, IsHeldAt, AreWellFormed}
 use Rattle.tables.specs.declared.allocation.Allocation.{Allocation}
 use Rattle.tables.specs.declared.channels.Binding.{Binding}
@@ -120,7 +120,7 @@ counted_from : (t slot : ℕ) (o : Option Held) (left : Held) → option_and_the
 counted_from t slot None left there each = absurd (none-some left there)
 counted_from t slot (Some held) left there each = left-held_at t slot held left (each held refl) there
 
-pub counting-well_formed : (t : ℕ) (rows : Rows) → t ≤ LATEST → AreWellFormed rows → AreWellFormed (counting t rows)
+pub counting-well_formed : (t : ℕ) (rows : Rows) → t ≤ LATEST → AreWellFormed rows → AreWellFormed (counting_rows t rows)
 counting-well_formed t rows latest are = record {
   latest = latest;
   few = omega (arith, are.few, length-map rows.slots (option_and_then (held_at t)));

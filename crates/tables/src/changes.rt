@@ -14,7 +14,7 @@ impl Tables {
     ghost use Rattle.tables.specs.Addresses.{is_ipv4};
     ghost use Rattle.tables.specs.Channels.{IsChannelNumber};
     ghost use Rattle.tables.specs.Moments.{moment_of};
-    ghost use Rattle.tables.specs.Rows.{counting, rows_at};
+    ghost use Rattle.tables.specs.Rows.{counting_rows, rows_at};
     ghost use Rattle.tables.specs.Changes.{Follows, allocate, refresh, permit, bind};
     ghost use Rattle.tables.specs.declared.moment.TheConstants.{LATEST};
 
@@ -106,7 +106,7 @@ impl Tables {
     fn permit_swept(&mut self, slot: usize, moment: u64, ips: &[Addr]) -> Result<(), Refused>
         requires later { self.old.moment ≤ moment }
         requires latest { moment ≤ LATEST }
-        ensures follows { Follows (permit slot ips.now (counting moment self.old)) self.old result self.new }
+        ensures follows { Follows (permit slot ips.now (counting_rows moment self.old)) self.old result self.new }
         ensures moment { (self.old.moment ≤ self.new.moment) × (self.new.moment ≤ moment) }
         ensures slots { length self.new.slots ≡ length self.old.slots }
     {
@@ -158,7 +158,7 @@ impl Tables {
         requires latest { moment ≤ LATEST }
         requires range { IsChannelNumber number }
         requires ipv4 { IsTrue (is_ipv4 peer) }
-        ensures follows { Follows (bind slot number peer (counting moment self.old)) self.old result self.new }
+        ensures follows { Follows (bind slot number peer (counting_rows moment self.old)) self.old result self.new }
         ensures moment { (self.old.moment ≤ self.new.moment) × (self.new.moment ≤ moment) }
         ensures slots { length self.new.slots ≡ length self.old.slots }
     {

@@ -105,7 +105,7 @@ impl Model for Channels {
 }
 
 /// Returns the channels that count at a moment.
-fn counting(channels: &[Channel], moment: u64) -> ArrayVec<Channel, MAX_CHANNELS>
+fn counting_channels(channels: &[Channel], moment: u64) -> ArrayVec<Channel, MAX_CHANNELS>
     requires { length channels.now ≤ MAX_CHANNELS }
     ensures { result.items ≡ filter (λ row. nat_lt moment row.binding.end) channels.now }
 {
@@ -217,8 +217,8 @@ impl Channels {
         ensures { result ≡ channels_at moment self.now }
     {
         Channels {
-            rows: counting(self.rows.as_slice(), moment),
-            by_peer: counting(self.by_peer.as_slice(), moment),
+            rows: counting_channels(self.rows.as_slice(), moment),
+            by_peer: counting_channels(self.by_peer.as_slice(), moment),
         }
     }
 

@@ -48,7 +48,7 @@ impl Tables {
     ghost use Rattle.std.specs.Prelude.{◌≡◌, ◌+◌, ◌≤◌, ◌<◌, IfOk, IfSome, None, Some, is_some, length, option_and_then};
     ghost use Rattle.std.specs.Option.{option_copied};
     ghost use Rattle.tables.specs.Moments.{moment_of};
-    ghost use Rattle.tables.specs.Rows.{no_rows, counting, held_at};
+    ghost use Rattle.tables.specs.Rows.{no_rows, counting_rows, held_at};
     ghost use Rattle.tables.specs.LookUps.{held_in, held_by};
     ghost use Rattle.tables.specs.Changes.{first_free, with_held};
     ghost use Rattle.tables.specs.WellFormed.{IsHeldAt, AreWellFormed};
@@ -103,7 +103,7 @@ impl Tables {
     pub(crate) fn held(&self, slot: usize, moment: u64) -> Option<&Held>
         requires later { self.now.moment ≤ moment }
         ensures held { option_and_then (held_at moment) (option_copied result)
-            ≡ held_in (counting moment self.now) slot }
+            ≡ held_in (counting_rows moment self.now) slot }
         ensures counts { IfSome result (λ held. moment < held.now.allocation.end) }
         ensures held_at { IfSome result (λ held. IsHeldAt slot held.now) }
         ensures inside { IfSome result (λ _. slot < length self.now.slots) }
@@ -130,7 +130,7 @@ impl Tables {
     ) -> Option<&Held>
         requires later { self.now.moment ≤ moment }
         ensures held { option_and_then (held_at moment) (option_copied result)
-            ≡ held_by client.now (counting moment self.now) }
+            ≡ held_by client.now (counting_rows moment self.now) }
         ensures counts { IfSome result (λ held. moment < held.now.allocation.end) }
         ensures placed { IfSome result (λ held. held.now.allocation.slot < length self.now.slots) }
         ensures keys { steps.new ≤ steps.old + 9 }
@@ -148,7 +148,7 @@ impl Tables {
         requires name { blank.name ≡ L.name }
         requires parts { blank.parts ≡ L.parts }
         requires some { 0 < L.parts }
-        ensures { result ≡ is_some (held_by client.now (counting moment self.now)) }
+        ensures { result ≡ is_some (held_by client.now (counting_rows moment self.now)) }
     {
         let mut steps = Steps::<L>::new(blank);
         self.held_by(client, moment, &mut steps).is_some()
@@ -157,7 +157,7 @@ impl Tables {
     /// Returns whether a client has an allocation that counts at a moment.
     pub(crate) fn has_client(&self, client: &Addr, moment: u64) -> bool
         requires later { self.now.moment ≤ moment }
-        ensures { result ≡ is_some (held_by client.now (counting moment self.now)) }
+        ensures { result ≡ is_some (held_by client.now (counting_rows moment self.now)) }
     {
         self.has_client_by::<Brand>(client, moment, Blank::new(1))
     }
@@ -165,7 +165,7 @@ impl Tables {
     /// Returns the lowest slot that holds nothing at a moment.
     pub(crate) fn first_free(&self, moment: u64) -> Option<usize>
         requires later { self.now.moment ≤ moment }
-        ensures { result ≡ first_free (counting moment self.now) }
+        ensures { result ≡ first_free (counting_rows moment self.now) }
     {
         for slot in 0..self.slots.len() {
             if self.held(slot, moment).is_none() {
@@ -181,8 +181,8 @@ impl Tables {
         requires held_at { IsHeldAt slot held }
         requires later { self.old.moment ≤ moment }
         requires latest { moment ≤ LATEST }
-        requires client { client_in (held_in (counting moment self.old) slot) ≡ Some held.allocation.client }
-        ensures held { self.new ≡ with_held (counting moment self.old) slot held }
+        requires client { client_in (held_in (counting_rows moment self.old) slot) ≡ Some held.allocation.client }
+        ensures held { self.new ≡ with_held (counting_rows moment self.old) slot held }
         ensures moment { self.new.moment ≡ moment }
         ensures slots { length self.new.slots ≡ length self.old.slots }
     {
@@ -196,9 +196,9 @@ impl Tables {
         requires held_at { IsHeldAt slot held }
         requires later { self.old.moment ≤ moment }
         requires latest { moment ≤ LATEST }
-        requires free { held_in (counting moment self.old) slot ≡ None }
-        requires new_client { held_by held.allocation.client (counting moment self.old) ≡ None }
-        ensures held { self.new ≡ with_held (counting moment self.old) slot held }
+        requires free { held_in (counting_rows moment self.old) slot ≡ None }
+        requires new_client { held_by held.allocation.client (counting_rows moment self.old) ≡ None }
+        ensures held { self.new ≡ with_held (counting_rows moment self.old) slot held }
         ensures moment { self.new.moment ≡ moment }
         ensures slots { length self.new.slots ≡ length self.old.slots }
     {

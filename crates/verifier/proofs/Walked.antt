@@ -4,7 +4,7 @@ use Rattle.insn.specs.declared.instruction.Insn.{Insn}
 use Rattle.interval.specs.Domains.{Operations}
 use Rattle.verifier.specs.Keeping.{KeepsAtGoals, KeepsNothing}
 use Rattle.verifier.specs.Layout.{IsLayoutRefusal}
-use Rattle.verifier.specs.Walk.{first_pending, waiting, IsWalkStep, IsStepRefusal}
+use Rattle.verifier.specs.Walk.{first_pending, waiting_states, IsWalkStep, IsStepRefusal}
 use Rattle.verifier.specs.Walks.{Walks, IsLastStep, IsRefusedEnd, EndsWalk}
 use Rattle.verifier.specs.declared.kept.Kept.{Kept}
 use Rattle.verifier.specs.declared.refusal.Refusal.{Refusal}
@@ -16,7 +16,7 @@ module _ {D : Type 0} (ops : Operations D) (Member : D → ℕ → Type 0) (code
   starts pending kept none goals nothing = (ap (λ (xs : List (Pending D)). xs ++ first_pending ∷ []) none, goals, nothing)
 
   -- a step more
-  walks_on : (made : ℕ) (here : Pending D) (old : List (Pending D)) (kept : Kept D) (picked : Option (Pending D)) (new : List (Pending D)) (more : Kept D) → Walks ops Member code made (old ++ here ∷ []) kept → IsWalkStep ops Member code here old kept picked new more → Walks ops Member code (suc made) (waiting picked new) more
+  walks_on : (made : ℕ) (here : Pending D) (old : List (Pending D)) (kept : Kept D) (picked : Option (Pending D)) (new : List (Pending D)) (more : Kept D) → Walks ops Member code made (old ++ here ∷ []) kept → IsWalkStep ops Member code here old kept picked new more → Walks ops Member code (suc made) (waiting_states picked new) more
   walks_on made here old kept picked new more walks step = (here, old, kept, picked, new, walks, step, refl)
 
   one_more : (made : ℕ) (waits : List (Pending D)) (kept : Kept D) → Walks ops Member code (suc made) waits kept → Walks ops Member code (made + 1) waits kept

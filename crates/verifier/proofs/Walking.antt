@@ -31,7 +31,7 @@ use Rattle.verifier.specs.Layout.{IsLaidOut, StartsAt}
 use Rattle.verifier.specs.declared.kept.Kept.{Kept}
 use Rattle.verifier.specs.PendingStates.{AllRunsExit, IsReached, count_from, counts_from}
 use Rattle.verifier.specs.Refusing.{IsReal, MayRefuseOver}
-use Rattle.verifier.specs.Walk.{first_pending, BeginsInside, LeadsTo, IsNext, IsLeft, GoesOn, Advances, IsStepRefusal, IsCovered, Skips, Settles, IsWalkStep, waiting, state_to_follow}
+use Rattle.verifier.specs.Walk.{first_pending, BeginsInside, LeadsTo, IsNext, IsLeft, GoesOn, Advances, IsStepRefusal, IsCovered, Skips, Settles, IsWalkStep, waiting_states, state_to_follow}
 use Rattle.verifier.specs.declared.refusal.Refusal.{Refusal}
 use Rattle.verifier.specs.declared.refusal.Refusal.TheVariants as refusal
 use Rattle.verifier.specs.declared.walk.Path.{Path}
@@ -81,15 +81,15 @@ module _ {D : Type 0} (P : Pending D → Type 0) where
   pub last_of : (xs : List (Pending D)) (p : Pending D) → All P (xs ++ p ∷ []) → P p
   last_of xs p all = lasts xs (p ∷ []) all 0 p (omega arith)
 
-  all_waiting : (on : Option (Pending D)) (pending : List (Pending D)) → IfSome on P → All P pending → All P (waiting on pending)
+  all_waiting : (on : Option (Pending D)) (pending : List (Pending D)) → IfSome on P → All P pending → All P (waiting_states on pending)
   all_waiting None pending h all = all
   all_waiting (Some p) pending h all = All-push P pending p all h
 
-  of_waiting : (on : Option (Pending D)) (pending : List (Pending D)) → All P (waiting on pending) → IfSome on P × All P pending
+  of_waiting : (on : Option (Pending D)) (pending : List (Pending D)) → All P (waiting_states on pending) → IfSome on P × All P pending
   of_waiting None pending all = (tt, all)
   of_waiting (Some p) pending all = (last_of pending p all, firsts pending (p ∷ []) all)
 
-waiting_count : {D : Type 0} (code : List Insn) (on : Option (Pending D)) (pending : List (Pending D)) → counts_from code (waiting on pending) ≡ count_next code on + counts_from code pending
+waiting_count : {D : Type 0} (code : List Insn) (on : Option (Pending D)) (pending : List (Pending D)) → counts_from code (waiting_states on pending) ≡ count_next code on + counts_from code pending
 waiting_count code None pending = omega arith
 waiting_count code (Some p) pending = omega (arith, sum_by_push (count_from code) pending p)
 
@@ -128,7 +128,7 @@ module _ {D : Type 0} (ops : Operations D) (Member : D → ℕ → Type 0) (kept
     parts = skips.parts ∙ append_assoc rest (p ∷ []) skips.skipped;
   }
 
-  skips_after : (old : List (Pending D)) (p : Pending D) (rest : List (Pending D)) → IsCovered ops Member kept p → Skips ops Member kept old rest → Skips ops Member kept (waiting (Some p) old) rest
+  skips_after : (old : List (Pending D)) (p : Pending D) (rest : List (Pending D)) → IsCovered ops Member kept p → Skips ops Member kept old rest → Skips ops Member kept (waiting_states (Some p) old) rest
   skips_after old p rest covered skips = record {
     skipped = skips.skipped ++ p ∷ [];
     covered = All-push (IsCovered ops Member kept) skips.skipped p skips.covered covered;
@@ -137,10 +137,10 @@ module _ {D : Type 0} (ops : Operations D) (Member : D → ℕ → Type 0) (kept
 
   -- a path that continues from a state that is not covered, and from one that is
   pub settles_here : (path : Path) (here : Pending D) (old : List (Pending D)) → path ≡ Continues → is_covered ops kept here ≡ false → Settles ops Member kept (state_to_follow path here) old (Some here) old
-  settles_here path here old is uncovered = subst (λ (p : Path). Settles ops Member kept (state_to_follow p here) old (Some here) old) (sym is) (record { skips = skips_none (waiting (Some here) old) (waiting (Some here) old) refl; uncovered = uncovered; ended = tt })
+  settles_here path here old is uncovered = subst (λ (p : Path). Settles ops Member kept (state_to_follow p here) old (Some here) old) (sym is) (record { skips = skips_none (waiting_states (Some here) old) (waiting_states (Some here) old) refl; uncovered = uncovered; ended = tt })
 
   pub settles_past : (path : Path) (here : Pending D) (old : List (Pending D)) (picked : Option (Pending D)) (new : List (Pending D)) → path ≡ Continues → IsCovered ops Member kept here → Settles ops Member kept None old picked new → Settles ops Member kept (state_to_follow path here) old picked new
-  settles_past path here old picked new is covered settles = subst (λ (p : Path). Settles ops Member kept (state_to_follow p here) old picked new) (sym is) (record { skips = skips_after old here (waiting picked new) covered settles.skips; uncovered = settles.uncovered; ended = settles.ended })
+  settles_past path here old picked new is covered settles = subst (λ (p : Path). Settles ops Member kept (state_to_follow p here) old picked new) (sym is) (record { skips = skips_after old here (waiting_states picked new) covered settles.skips; uncovered = settles.uncovered; ended = settles.ended })
 
 -- a step, where it is known how its path ends
 pub made_so : {D : Type 0} (ops : Operations D) (Member : D → ℕ → Type 0) (code : List Insn) (here : Pending D) (old : List (Pending D)) (kept : Kept D) (next : Pending D) (new : List (Pending D)) (more : Kept D) (path other : Path) → path ≡ other → IsWalkStep ops Member code here old kept (state_to_follow path next) new more → IsWalkStep ops Member code here old kept (state_to_follow other next) new more
@@ -214,43 +214,43 @@ module _ {D : Type 0} (ops : Operations D) (Member : D → ℕ → Type 0) (soun
     successors_are = answer_successors (abstract.step ops here.state adv.insn) adv.insn adv.accepted (step_successors ops here.state adv.insn) adv.step_is
 
     -- a fact of the earlier pending states, and of those after the step, holds of all that wait
-    all_new : (P : Pending D → Type 0) → All P old → IfSome on P → All P adv.left → All P (waiting on new)
+    all_new : (P : Pending D → Type 0) → All P old → IfSome on P → All P adv.left → All P (waiting_states on new)
     all_new P olds next lefts = all_waiting P on new next (subst (All P) (sym adv.new_is) (All-append P old adv.left olds lefts))
 
-    olds_of : (P : Pending D → Type 0) → All P (waiting on new) → All P old
+    olds_of : (P : Pending D → Type 0) → All P (waiting_states on new) → All P old
     olds_of P all = firsts P old adv.left (subst (All P) adv.new_is (of_waiting P on new all).1)
 
-    lefts_of : (P : Pending D → Type 0) → All P (waiting on new) → All P adv.left
+    lefts_of : (P : Pending D → Type 0) → All P (waiting_states on new) → All P adv.left
     lefts_of P all = lasts P old adv.left (subst (All P) adv.new_is (of_waiting P on new all).1)
 
     -- the state at hand is good, where what it leaves is that lies above a slot not above its own
-    good_here : (n : ℕ) → n ≤ here.slot → All (IsGoodAbove n) (waiting on new) → AllRunsExit Member code here
+    good_here : (n : ℕ) → n ≤ here.slot → All (IsGoodAbove n) (waiting_states on new) → AllRunsExit Member code here
     good_here n le all =
         good_before ops Member sound code laid_out.jumps here adv.insn adv.begins adv.fits adv.accepted adv.step_is on adv.left adv.goes_on
         (next_good n here adv.insn (state_after adv.accepted NotTaken) on le adv.goes_on.0 (of_waiting (IsGoodAbove n) on new all).0)
         (left_good n here adv.insn (state_after adv.accepted Taken) adv.left le adv.goes_on.1 (lefts_of (IsGoodAbove n) all))
 
-    good_first : All (AllRunsExit Member code) (waiting on new) → AllRunsExit Member code first_pending
+    good_first : All (AllRunsExit Member code) (waiting_states on new) → AllRunsExit Member code first_pending
     good_first goods =
         walking.good (All-push (AllRunsExit Member code) old here (olds_of (AllRunsExit Member code) goods)
-        (good_here here.slot (omega arith) (All-weaker (AllRunsExit Member code) (IsGoodAbove here.slot) (λ p h high. h) (waiting on new) goods)))
+        (good_here here.slot (omega arith) (All-weaker (AllRunsExit Member code) (IsGoodAbove here.slot) (λ p h high. h) (waiting_states on new) goods)))
 
     -- a kept state stays one over a step
-    kept_after : (n : ℕ) (k : AbsState D) → IsKept (old ++ here ∷ []) n k → IsKept (waiting on new) n k
+    kept_after : (n : ℕ) (k : AbsState D) → IsKept (old ++ here ∷ []) n k → IsKept (waiting_states on new) n k
     kept_after n k kept goods = kept (All-push (IsGoodAbove n) old here (olds_of (IsGoodAbove n) goods) (λ high. good_here n (omega (arith, high)) goods))
 
     -- the state itself may be kept with its step
-    kept_itself : (n : ℕ) → n ≡ here.slot → IsKept (waiting on new) n here.state
+    kept_itself : (n : ℕ) → n ≡ here.slot → IsKept (waiting_states on new) n here.state
     kept_itself n same goods = subst (λ (m : ℕ). AllRunsExit Member code (pending_at m here.state)) (sym same) (good_here n (omega (arith, same)) goods)
 
-    olds_kept : (n : ℕ) → All (IsKept (waiting on new) n) (states n)
-    olds_kept n = All-weaker (IsKept (old ++ here ∷ []) n) (IsKept (waiting on new) n) (kept_after n) (states n) (walking.kept n)
+    olds_kept : (n : ℕ) → All (IsKept (waiting_states on new) n) (states n)
+    olds_kept n = All-weaker (IsKept (old ++ here ∷ []) n) (IsKept (waiting_states on new) n) (kept_after n) (states n) (walking.kept n)
 
-    all_kept : (n : ℕ) (keep : Bool) → (keep ≡ true → n ≡ here.slot) → All (IsKept (waiting on new) n) (states_with keep here.state (states n))
-    all_kept n true same = All-push (IsKept (waiting on new) n) (states n) here.state (olds_kept n) (kept_itself n (same refl))
+    all_kept : (n : ℕ) (keep : Bool) → (keep ≡ true → n ≡ here.slot) → All (IsKept (waiting_states on new) n) (states_with keep here.state (states n))
+    all_kept n true same = All-push (IsKept (waiting_states on new) n) (states n) here.state (olds_kept n) (kept_itself n (same refl))
     all_kept n false same = olds_kept n
 
-    pub stepped : IsWalking (made + 1) (waiting on new) more
+    pub stepped : IsWalking (made + 1) (waiting_states on new) more
     stepped =
         let inside = goes_inside code here laid_out adv.insn adv.begins adv.accepted successors_are on adv.left adv.goes_on in
         let counts = counts_before code here adv.insn adv.begins adv.accepted successors_are on adv.left adv.goes_on in
@@ -262,7 +262,7 @@ module _ {D : Type 0} (ops : Operations D) (Member : D → ℕ → Type 0) (soun
               let reached = reached_after ops Member sound precise code laid_out.jumps here adv.insn adv.begins adv.fits adv.accepted adv.step_is (last_of (IsReached Member code) old here (walking.reached precise)) on adv.left adv.goes_on in
               all_new (IsReached Member code) (firsts (IsReached Member code) old (here ∷ []) (walking.reached precise)) reached.0 reached.1;
           counted = omega (arith, walking.counted, counts, sums, waiting_count code on new, sum_by_push (count_from code) old here);
-          kept = λ n. subst (All (IsKept (waiting on new) n)) (sym (kept_is n)) (all_kept n (keeps && (n == here.slot)) (same_slots keeps n here.slot));
+          kept = λ n. subst (All (IsKept (waiting_states on new) n)) (sym (kept_is n)) (all_kept n (keeps && (n == here.slot)) (same_slots keeps n here.slot));
         }
 
   -- ---- a skip
@@ -296,9 +296,9 @@ module _ {D : Type 0} (ops : Operations D) (Member : D → ℕ → Type 0) (soun
   pub settles : (made : ℕ) (states : ℕ → List (AbsState D)) (all rest : List (Pending D)) → Skips ops Member states all rest → IsWalking made all states → IsWalking made rest states
   settles made states all rest skips walking = skips_all made states rest skips.skipped skips.covered (subst (λ (xs : List (Pending D)). IsWalking made xs states) skips.parts walking)
 
-  pub made_step : (made : ℕ) (here : Pending D) (old : List (Pending D)) (kept : Kept D) (picked : Option (Pending D)) (new : List (Pending D)) (more : Kept D) → IsLaidOut code → IsWalking made (old ++ here ∷ []) (kept_at kept) → IsWalkStep ops Member code here old kept picked new more → IsWalking (made + 1) (waiting picked new) (kept_at more)
+  pub made_step : (made : ℕ) (here : Pending D) (old : List (Pending D)) (kept : Kept D) (picked : Option (Pending D)) (new : List (Pending D)) (more : Kept D) → IsLaidOut code → IsWalking made (old ++ here ∷ []) (kept_at kept) → IsWalkStep ops Member code here old kept picked new more → IsWalking (made + 1) (waiting_states picked new) (kept_at more)
   made_step made here old kept picked new more laid_out walking step =
-      settles (made + 1) (kept_at more) (waiting step.next step.pending) (waiting picked new) step.settles.skips
+      settles (made + 1) (kept_at more) (waiting_states step.next step.pending) (waiting_states picked new) step.settles.skips
       (stepped made here old step.pending step.next (kept_at kept) (kept_at more) (keeps_at kept here.slot) laid_out walking step.advances step.keeps.states)
 
   -- where nothing is left to follow, every run from the first pending state exits

@@ -92,9 +92,9 @@ abbrev pub first_pending : {D : Type 0} → Pending D
 first_pending = record { slot = 0; state = first_state }
 
 -- the states from which paths are still to be followed, the next one last
-abbrev pub waiting : {D : Type 0} → Option (Pending D) → List (Pending D) → List (Pending D)
-waiting None pending = pending
-waiting (Some p) pending = pending ++ p ∷ []
+abbrev pub waiting_states : {D : Type 0} → Option (Pending D) → List (Pending D) → List (Pending D)
+waiting_states None pending = pending
+waiting_states (Some p) pending = pending ++ p ∷ []
 
 -- a kept state of its slot covers a state, and so each member of the one is a member of the other
 abbrev pub IsCovered : {D : Type 0} → Operations D → (D → ℕ → Type 0) → (ℕ → List (AbsState D)) → Pending D → Type 0
@@ -108,7 +108,7 @@ pub record Skips {D : Type 0} (ops : Operations D) (Member : D → ℕ → Type 
 
 -- the last of these states is followed that no kept one covers, and those after it are skipped
 pub record Settles {D : Type 0} (ops : Operations D) (Member : D → ℕ → Type 0) (kept : ℕ → List (AbsState D)) (on : Option (Pending D)) (old : List (Pending D)) (picked : Option (Pending D)) (new : List (Pending D)) : Type 0 where
-  pub skips : Skips ops Member kept (waiting on old) (waiting picked new)
+  pub skips : Skips ops Member kept (waiting_states on old) (waiting_states picked new)
   pub uncovered : IfSome picked (λ p. is_covered ops kept p ≡ false)
   pub ended : IfNone picked (new ≡ [])
 

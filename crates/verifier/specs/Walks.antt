@@ -4,7 +4,7 @@ use Rattle.insn.specs.declared.instruction.Insn.{Insn}
 use Rattle.interval.specs.Domains.{Operations}
 use Rattle.verifier.specs.Keeping.{KeepsAtGoals, KeepsNothing}
 use Rattle.verifier.specs.Layout.{IsLayoutFault}
-use Rattle.verifier.specs.Walk.{first_pending, waiting, IsWalkStep, IsRefusedAt}
+use Rattle.verifier.specs.Walk.{first_pending, waiting_states, IsWalkStep, IsRefusedAt}
 use Rattle.verifier.specs.declared.kept.Kept.{Kept}
 use Rattle.verifier.specs.declared.refusal.Refusal.{Refusal}
 use Rattle.verifier.specs.declared.refusal.Refusal.TheVariants as refusal
@@ -16,7 +16,7 @@ abbrev pub Walks : {D : Type 0} → Operations D → (D → ℕ → Type 0) → 
 Walks ops Member code zero waits kept = (waits ≡ first_pending ∷ []) × KeepsAtGoals code kept × KeepsNothing kept
 Walks {D = D} ops Member code (suc n) waits kept =
     (here : Pending D) × (old : List (Pending D)) × (before : Kept D) × (picked : Option (Pending D)) × (new : List (Pending D))
-    × Walks ops Member code n (old ++ here ∷ []) before × IsWalkStep ops Member code here old before picked new kept × (waits ≡ waiting picked new)
+    × Walks ops Member code n (old ++ here ∷ []) before × IsWalkStep ops Member code here old before picked new kept × (waits ≡ waiting_states picked new)
 
 -- after a number of steps the state at hand is at a slot
 pub record ComesTo {D : Type 0} (ops : Operations D) (Member : D → ℕ → Type 0) (code : List Insn) (made slot : ℕ) : Type 0 where

@@ -2,7 +2,7 @@ use Rattle.std.proofs.Common.{Ok, Err, Some, None, ap, ◌∙◌, refl, string_b
 use Rattle.stun.specs.Messages.{parts_bytes}
 use Rattle.credentials.specs.Checks.{accounts_of, user_key}
 use Rattle.tables.specs.Rows.{rows_at}
-use Rattle.control.specs.Control.{understood_and_served}
+use Rattle.control.specs.Control.{decision_if_understood}
 use Rattle.control.specs.Replies.{reply_to}
 use Rattle.control.specs.declared.request.Request.TheVariants as request
 use Rattle.control.proofs.Decisions.{rows_given, grant_given}
@@ -15,7 +15,7 @@ returns-in-Ok-clause-answer c =
     let old = c.args.tables.now in
     let user = c.in-Ok.authenticated.user in
     let key = user_key (string_bytes config.realm) (accounts_of config.users.items) user in
-    let served = understood_and_served c.args.request c.args.arrival.now.client user p (rows_at c.args.arrival.now.moment old) in
+    let served = decision_if_understood c.args.request c.args.arrival.now.client user p (rows_at c.args.arrival.now.moment old) in
     record {
       checked = Ok user;
       is_checked = c.in-Ok.ensures.found;

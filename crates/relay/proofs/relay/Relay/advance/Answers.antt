@@ -4,7 +4,7 @@ use Rattle.programs.specs.Runs.{planned_sending}
 use Rattle.relay.specs.Found.{reply_of_passing, window_shown}
 use Rattle.relay.specs.Relays.{Contents}
 use Rattle.relay.specs.Steps.{HasStepped, outcome_of}
-use Rattle.relay.specs.Systems.{Reply, silent, reply_of_relaying}
+use Rattle.relay.specs.Systems.{Reply, no_answer, reply_of_relaying}
 use Rattle.relay.specs.contracts.relay.Relay.{the_view}
 use Rattle.relay.proofs.Advances.{reply_at, steps, stays, answers, passes_client, passes_peer, sends, discards}
 use Rattle.relay.proofs.relay.Relay.advance.Goals as goal
@@ -73,7 +73,7 @@ returns-in-2-clause-found c =
 
 -- ---- where the verdict discards
 
-discarded : (c : goal.In_default) → reply_at (the_view c.self.inside) c.args.meta.now c.args.n c.moment_of-self-inside.result ≡ silent c.self.inside.tables
+discarded : (c : goal.In_default) → reply_at (the_view c.self.inside) c.args.meta.now c.args.n c.moment_of-self-inside.result ≡ no_answer c.self.inside.tables
 discarded c =
     discards (the_view c.self.inside) c.args.meta.now c.args.n c.moment_of-self-inside.result c.run-outcome.result c.run-outcome.new.self
     (search rules) c.run-outcome.ensures.run (search rules) (search rules)
