@@ -3,7 +3,7 @@
     ldxdw r3, [r1+16]       ; r3: its length
     mov r4, r3
     be16 r4                 ; the header has the length in network byte order
-    sth [r2-4], 0x0140      ; the channel 0x4001, its bytes as they stand in memory
+    sth [r2-4], 0x0140      ; the channel 0x4001, its bytes as they are in memory
     stxh [r2-2], r4
     mov r2, 60              ; the window begins four bytes before the datagram, at 64 - 4
     add r3, 4               ; and has four bytes more

@@ -1,8 +1,8 @@
 """Runs TURN clients that others wrote, unchanged, through the built relayd's `serve` over loopback.
 
-Installs nothing: a client that isn't there is passed over, and the last line says so. docs/CLIENTS.md names the packages
-(docs/DECISIONS.md, "Clients are run where they are installed"). Where
-tshark may capture, what the clients and the server sent each other must have no malformed packet.
+Installs nothing: a client that isn't there is passed over, and the last line says so. docs/CLIENTS.md names the
+packages (docs/DECISIONS.md, "Clients are run where they are installed"). Where tshark may capture, what the clients and
+the server sent each other must have no malformed packet.
 """
 
 import contextlib
@@ -18,22 +18,24 @@ import threading
 import time
 
 from program import TOP, build, finish
-from serve import Server, udp_socket, wanted
+from rules import XOR_RELAYED_ADDRESS, address_in
+from serve import LOOPBACK, Client, Server, udp_socket, wanted
 
 HERE = TOP / "tests" / "clients"
 sys.path.append(str(HERE))
 MESSAGES = 1_000
 SLOTS = 256
-# Half of turnutils_uclient's allocations ask for an even port and three quarters of its channels are above 0x4FFF, by chance;
-# both are refused. So a client that isn't refused is waited for, this often.
+# Half of turnutils_uclient's allocations ask for an even port and three quarters of its channels are above 0x4FFF, by
+# chance; both are refused. So a client that isn't refused is waited for, this often.
 TRIES = 400
 PASSED_OVER = "not installed"
 
 
 def ran(words, seconds=60):
     """Runs a client, and returns its status and what it printed."""
+    words = [str(word) for word in words]
     process = subprocess.run(
-        [str(word) for word in words], stdout=subprocess.PIPE, stderr=subprocess.STDOUT, text=True, check=False, timeout=seconds)
+        words, stdout=subprocess.PIPE, stderr=subprocess.STDOUT, text=True, check=False, timeout=seconds)
     return process.returncode, process.stdout
 
 
@@ -58,7 +60,17 @@ def echo():
             thread.join()
 
 
-# ---- the clients: each yields what is otherwise than it should be, or what it lacks
+def exchanged(server, words):
+    """Yields what a client prints in place of its messages, and its slot where that isn't free afterwards."""
+    yield from wanted("messages", ran(words), (0, f"{MESSAGES}\n"))
+    with Client(server) as client:
+        answer = client.allocate()
+        value = answer.first(XOR_RELAYED_ADDRESS)
+        relayed = value and address_in(value, answer.tx)
+        yield from wanted("the next allocation", relayed, (LOOPBACK, server.first_port))
+
+
+# ---- the clients: each gives what is otherwise than it should be, or says that it isn't there
 
 def stunclient(server):
     """coturn's client of STUN: a Binding."""
@@ -90,16 +102,16 @@ def uclient(*mode):
 
 
 def aioice(server):
-    """The client of aioice, a library of Python: messages over a channel."""
+    """The client of aioice, a library of Python: messages over a channel, and the end of the allocation."""
     for python in (sys.executable, "/usr/bin/python3"):
         with contextlib.suppress(OSError):
             if ran([python, "-c", "import aioice"])[0] == 0:
-                return wanted("messages", ran([python, HERE / "aioice_client.py", server.port, MESSAGES]), (0, f"{MESSAGES}\n"))
+                return exchanged(server, [python, HERE / "aioice_client.py", server.port, MESSAGES])
     return PASSED_OVER
 
 
 def pion(server):
-    """The client of pion, a library of Go: a Binding, indications, and messages over a channel."""
+    """The client of pion, a library of Go: a Binding, messages by indications and over a channel, and the end."""
     go, library = shutil.which("go"), pathlib.Path("/usr/share/gocode")
     if go is None or not (library / "src" / "github.com" / "pion" / "turn").exists():
         return PASSED_OVER
@@ -107,7 +119,7 @@ def pion(server):
         environment = {**os.environ, "GO111MODULE": "off", "GOPATH": str(library), "GOCACHE": f"{name}/cache"}
         program = f"{name}/client"
         subprocess.run([go, "build", "-o", program, HERE / "pion_client.go"], env=environment, check=True)
-        return wanted("messages", ran([program, f"127.0.0.1:{server.port}", MESSAGES]), (0, f"{MESSAGES}\n"))
+        return list(exchanged(server, [program, f"127.0.0.1:{server.port}", MESSAGES]))
 
 
 def chromium(server):
@@ -160,7 +172,8 @@ class Capture:
         time.sleep(0.3)
         self.process.send_signal(signal.SIGINT)
         self.process.wait(10)
-        words = ["tshark", "-r", self.file, "-d", f"udp.port=={self.port},stun", "-T", "fields", "-e", "frame.number", "-Y"]
+        words = ["tshark", "-r", self.file, "-d", f"udp.port=={self.port},stun"]
+        words += ["-T", "fields", "-e", "frame.number", "-Y"]
         _, messages = ran([*words, "stun"])
         _, malformed = ran([*words, "_ws.malformed"])
         numbers = [line for line in malformed.splitlines() if line.isdigit()]
@@ -170,13 +183,13 @@ class Capture:
 
 
 def tried(name, client, folder):
-    """What a client finds wrong with a server of its own, and what the capture does; each is `PASSED_OVER` where it can't be."""
+    """What a client finds wrong with a server of its own, and what the capture does; each may be `PASSED_OVER`."""
     with Server(slots=SLOTS) as server:
         capture = Capture(server.port, folder)
         try:
             found = client(server)
             found = found if found == PASSED_OVER else list(found)
-        except (OSError, EOFError, subprocess.SubprocessError) as error:
+        except (OSError, EOFError, ValueError, subprocess.SubprocessError) as error:
             found = [repr(error)]
         captured = capture.failures()
         if found == PASSED_OVER:

@@ -1,9 +1,11 @@
-"""Compares the pages with the files that they name.
+"""Compares the pages with the files that they name, and counts what has a limit.
 
 Each file of definitions says in its first line whether it is meaning, interface or internal, what is meaning names
-nothing internal, and docs/DEFINITIONS.md names every file. Each file that a page links or names is there, unless it is
+nothing internal, and docs/DEFINITIONS.md names every file. No two files define the same name, laws aside, and what a
+line of a page names in parentheses is in a file of definitions that it links. What a file of definitions names that
+docs/HEADLINE.md lists is listed there too, laws aside. Each file that a page links or names is there, unless it is
 one that a build makes (in a folder `out`), with as many lines as the page says, and so is each decision that the code
-names.
+names. There are no more test functions, edits that must fail and parameters of a function than CONTRIBUTING.md says.
 """
 
 import re
@@ -22,7 +24,21 @@ TABLE = re.compile(r"^\| Function \|.*\n\|[-| ]+\n((?:\|.*\n)+)", re.MULTILINE)
 FUNCTION = re.compile(r"`(?:\w+::)*([a-z]\w*[a-z0-9])(?:\(.*?\))?`")
 BELIEVED = re.compile(r"\(\.\./crates/([\w/]+/specs/[\w/]+\.antt)\)")
 SEARCH = re.compile(r"`git grep -lw (\w+) crates`")
+DEFINED = re.compile(r"^(?:(?:abbrev|unfoldable) )?pub (?:(?:abbrev|unfoldable|record|data) )?([^\W\d][\w'-]*) *[({:]",
+                     re.MULTILINE)
+LINKED = re.compile(r"\]\(([^)#:]*specs/[\w/]+\.antt)\)")
+GROUP = re.compile(r"\(((?:`[^\W\d][\w'-]*`(?:, |, and | and )?)+)\)")
 DECISION = re.compile(r'docs/DECISIONS\.md, "([^"]*)"')
+HEAD = re.compile(r"^ *(?:pub(?:\([^)]*\))? )?(?:const |unsafe )*fn (\w+)(?:<[^(]*>)?\(", re.MULTILINE)
+SELF = re.compile(r"(?:&(?:'\w+ )?)?(?:mut )?self")
+TEST = re.compile(r"^ *#\[test\]$", re.MULTILINE)
+# how many test functions there may be, how many edits that must fail, in all and of a crate, and how many parameters of
+# a function besides `self`; and the functions that may have more: see docs/DECISIONS.md, "Six arguments of `respond`"
+MOST_TESTS = 60
+MOST_EDITS = 150
+MOST_EDITS_OF_CRATE = 8
+MOST_PARAMETERS = 5
+LONG = {"respond"}
 
 
 def specs():
@@ -62,6 +78,33 @@ def failures_of_meaning():
             yield f"{path.relative_to(CRATES)}: names {internal[0].relative_to(CRATES)}, which is internal"
 
 
+def is_law(path):
+    """Returns whether a file of definitions has laws."""
+    return any("Laws" in part for part in path.relative_to(CRATES).parts)
+
+
+def failures_of_names():
+    """Yields the names that two files define, of one crate or of two, laws aside."""
+    definers = {}
+    for path in specs():
+        for name in [] if is_law(path) else DEFINED.findall(path.read_text(encoding="utf-8")):
+            definers.setdefault(name, set()).add(path.relative_to(CRATES).as_posix())
+    for name, files in sorted(definers.items()):
+        if len(files) > 1:
+            yield f"{name} is defined in {' and in '.join(sorted(files))}"
+
+
+def failures_of_named_definitions():
+    """Yields the definitions that a line of a page names and that none of the files has which it links."""
+    for page in pages():
+        for line in page.read_text(encoding="utf-8").splitlines():
+            files = [page.parent / name for name in LINKED.findall(line)]
+            text = "\n".join(file.read_text(encoding="utf-8") for file in files if file.exists())
+            for name in re.findall(r"`([^`]*)`", " ".join(GROUP.findall(line))) if files else []:
+                if not re.search(rf"(?<![\w'-]){re.escape(name)}(?![\w'-])", text):
+                    yield f"{page.relative_to(TOP)}: {name} isn't in {', '.join(file.name for file in files)}"
+
+
 def anchors(page):
     """Returns the anchors of a page's headings."""
     headings = re.findall(r"^#+ (.*)$", page.read_text(encoding="utf-8"), re.MULTILINE)
@@ -74,6 +117,11 @@ def leads_nowhere(page, name, anchor):
     return not target.exists() or (anchor and anchor not in anchors(target))
 
 
+def lines_in(path):
+    """Returns the number of lines of a file; None where it is not there."""
+    return len(path.read_text(encoding="utf-8").splitlines()) if path.exists() else None
+
+
 def failures_of_pages():
     """Yields the links and names of pages that lead nowhere."""
     for page in pages():
@@ -83,7 +131,7 @@ def failures_of_pages():
         if re.search(r"^(<<<<<<<|>>>>>>>) ", text, re.MULTILINE):
             yield f"{page.relative_to(TOP)}: a merge is unresolved"
         for name, count in LINES.findall(text):
-            if len((CRATES / name).read_text(encoding="utf-8").splitlines()) != int(count):
+            if lines_in(CRATES / name) != int(count):
                 yield f"{page.relative_to(TOP)}: {name} has another number of lines"
         for name in missing:
             yield f"{page.relative_to(TOP)}: {name} is not there"
@@ -115,8 +163,12 @@ def declared_in(crate, module):
 
 
 def named_by(path):
-    """Yields what a file of definitions names, each as the page has to name it."""
-    text = path.read_text(encoding="utf-8")
+    """Yields what a file of definitions names, each as the page has to name it.
+
+    That is types that the code declares, files of the kit, and files of definitions, whatever their first line says. A
+    law is proved, so nobody has to believe the files of laws.
+    """
+    text = path.read_text(encoding="utf-8") if path.exists() else ""
     for crate, module in DECLARED.findall(text):
         if (CRATES / crate).exists():
             yield f"(../{declared_in(crate, module).relative_to(TOP)})"
@@ -124,18 +176,26 @@ def named_by(path):
         used = CRATES / crate / "specs" / (module.replace(".", "/") + ".antt")
         if not (CRATES / crate).exists():
             yield f"`{module.removeprefix('declared.')}`"
-        elif used.exists() and used.read_text(encoding="utf-8").startswith(KINDS[0]):
+        elif used.exists() and not is_law(used):
             yield f"(../{used.relative_to(TOP)})"
 
 
 def failures_of_headline():
-    """Yields what docs/HEADLINE.md lacks among what must be believed, though a file that it lists names it."""
+    """Yields what docs/HEADLINE.md lacks among what must be believed, though a file that it lists names it.
+
+    The files of the programs' part may name only what that part has. Those of the relay's part, which goes on from
+    there, may name what either has. A file is in one of them.
+    """
     text = (TOP / "docs" / "HEADLINE.md").read_text(encoding="utf-8")
     believed = text[text.index("## What must be believed\n"):]
-    for name in sorted(set(BELIEVED.findall(believed))):
-        for used in sorted(set(named_by(CRATES / name))):
-            if used not in believed:
-                yield f"docs/HEADLINE.md: {used}, which {name} names"
+    programs, relay = believed.split("## What must be believed of the relay\n")
+    for part, known in ((programs, programs), (relay, believed)):
+        for name in sorted(set(BELIEVED.findall(part))):
+            for used in sorted(set(named_by(CRATES / name))):
+                if used not in known:
+                    yield f"docs/HEADLINE.md: {used}, which {name} names"
+    for name in sorted(set(BELIEVED.findall(programs)) & set(BELIEVED.findall(relay))):
+        yield f"docs/HEADLINE.md: {name} is in both parts"
 
 
 def failures_of_decisions():
@@ -152,10 +212,54 @@ def failures_of_decisions():
             yield f"docs/DECISIONS.md: no code names {title}"
 
 
+def failures_of_tests():
+    """Yields the number of test functions, where there are too many."""
+    count = sum(len(TEST.findall(path.read_text(encoding="utf-8"))) for path in sources())
+    if count > MOST_TESTS:
+        yield f"{count} test functions, and {MOST_TESTS} at most are allowed"
+
+
+def failures_of_edits():
+    """Yields the numbers of edits that must fail, of a crate and in all, where there are too many."""
+    counts = {crate.name: len(list(crate.glob("must-fail/*.edit"))) for crate in sorted(CRATES.iterdir())}
+    for crate, count in counts.items():
+        if count > MOST_EDITS_OF_CRATE:
+            yield f"crates/{crate}/must-fail: {count} edits, and {MOST_EDITS_OF_CRATE} at most are allowed"
+    total = sum(counts.values())
+    if total > MOST_EDITS:
+        yield f"{total} edits that must fail, and {MOST_EDITS} at most are allowed"
+
+
+def parameters_of(text):
+    """Returns the parameters of a function but `self`, in a text that begins after the parenthesis before them."""
+    found, depth = [""], 0
+    for sign in text:
+        depth += (sign in "([{<") - (sign in ")]}>")
+        if depth < 0:
+            break
+        if sign == "," and depth == 0:
+            found.append("")
+        else:
+            found[-1] += sign
+    stripped = [parameter.strip() for parameter in found]
+    return [parameter for parameter in stripped if parameter and not SELF.fullmatch(parameter)]
+
+
+def failures_of_parameters():
+    """Yields the functions that have too many parameters."""
+    for path in sources():
+        text = path.read_text(encoding="utf-8")
+        for head in HEAD.finditer(text):
+            count = len(parameters_of(text[head.end():]))
+            if count > MOST_PARAMETERS and head[1] not in LONG:
+                yield f"{path.relative_to(TOP)}: {head[1]} has {count} parameters"
+
+
 def main():
     """Compares all, and returns the exit status."""
-    cases = (failures_of_definitions, failures_of_meaning, failures_of_pages, failures_of_searches, failures_of_functions,
-             failures_of_headline, failures_of_decisions)
+    cases = (failures_of_definitions, failures_of_meaning, failures_of_names, failures_of_named_definitions,
+             failures_of_pages, failures_of_searches, failures_of_functions, failures_of_headline,
+             failures_of_decisions, failures_of_tests, failures_of_edits, failures_of_parameters)
     failures = [found for case in cases for found in case()]
     return finish(failures, f"definitions and pages: {len(specs())} files, {len(failures)} failures")
 

@@ -1,6 +1,6 @@
 """Runs the programs and commands of README.md and docs/, and compares what is printed of them.
 
-Each page has a folder of its own, in which examples/ stands. A block `asm` is assembled to program.bpf. A block
+Each page has a folder of its own, in which examples/ is. A block `asm` is assembled to program.bpf. A block
 `console` has lines `$ relayd WORD..` or `$ ./relayd WORD..`, each with what that command prints, and lines
 `$ cat FILE.. > FILE`. A block `sh` has commands, of which those of relayd are run and have to succeed.
 """

@@ -1,7 +1,7 @@
 """Makes the smallest input for each code of docs/REFUSALS.md, and compares the code that relayd prints of it.
 
 A text that is refused is assembled, bytes and programs are verified. No command reads messages: each of theirs has
-to stand, with its code, in the rows of a test.
+to be, with its code, in the rows of a test.
 """
 
 import pathlib

@@ -25,7 +25,8 @@ USERS = str(EXAMPLES / "users.txt")
 OUT_OF_MEMORY = (4, "", "out of memory\n")
 # more than the number of any allocation
 EVER = 10**9
-SERVER = ["--port", str(free_ports(1)), "--first-port", str(free_ports(4))]
+PORT = free_ports(5)
+SERVER = ["--port", str(PORT), "--first-port", str(PORT + 1)]
 # command lines, each with its status where no allocation is refused
 CASES = [
     (["verify", FOURTH_BYTE], 0),

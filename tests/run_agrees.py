@@ -1,9 +1,10 @@
 """Compares the run and the trace of programs by the built run_agrees, over seeded datagrams.
 
-The programs are those of verdicts.py, kernel_vectors.json and kernel_verdicts.json, the examples, and the shipped
-programs, of which each bit and seeded pairs of bits are flipped too. Each that is accepted runs over datagrams that are
-empty, short and as long as they may be, some of them ChannelData and Send indications, with contexts of both sides, and
-with helpers that look up, find nothing, or give drawn answers.
+The programs are those of verdicts.py, kernel_vectors.json and kernel_verdicts.json, the texts in the rows of
+program_tests, the examples, and the shipped programs, of which each bit and seeded pairs of bits are flipped too. A
+text in the rows that the assembler refuses is passed over, and counted. Each program that is accepted runs over
+datagrams that are empty, short and as long as they may be, some of them ChannelData and Send indications, with contexts
+of both sides, and with helpers that look up, find nothing, or give drawn answers.
 """
 
 import pathlib
@@ -19,26 +20,38 @@ from verdicts import rows
 FOLDER = TOP / "crates" / "run_agrees"
 PROGRAM = FOLDER / "out" / "run_agrees"
 EXAMPLES = TOP / "examples"
+ROWS = TOP / "crates" / "program_tests" / "src"
 # the datagrams of each program, and of each with flipped bits
 DATAGRAMS, FEW_DATAGRAMS = 1_000, 20
 # the pairs of bits for each shipped program
 PAIRS = 50_000
 SHIPPED = ["relay/client", "relay/peer"]
 # programs of a side that are made of these texts
-OTHERS = [["relay/client_with_options"], ["relay/refuse_network", "relay/peer"], ["relay/at_most_1200_bytes", "relay/peer"]]
+OTHERS = [
+    ["relay/client_with_options"],
+    ["relay/refuse_network", "relay/peer"],
+    ["relay/at_most_1200_bytes", "relay/peer"],
+]
+# a string in the rows that ends as a program does, and the end of a line in it that goes on in the next one
+TEXT = re.compile(r'"((?:[^"\\]|\\.)*?exit)"', re.DOTALL)
+CONTINUED = re.compile(r"\\\n\s*")
+# the status of a text that is refused
+REFUSED = 1
 COUNT = re.compile(r"(accepted|[EV]\d+): (\d+)\n")
 CODE = re.compile(r"[EV]\d+")
 RUNS = re.compile(r"(\d+) runs agree, (\d+) of them with a window\n")
 
 
-def assembled(folder, text):
-    """Returns the bytes of a text.
+def assembled(folder, text, may_be_refused=False):
+    """Returns the bytes of a text; None where it is refused and may be.
 
-    A text that isn't assembled ends the test.
+    Any other text that isn't assembled ends the test.
     """
     source, target = folder / "text.s", folder / "program.bpf"
     source.write_text(text, encoding="utf-8")
     status, out, err = run(["assemble", source, target])
+    if status == REFUSED and may_be_refused:
+        return None
     if status:
         sys.exit(f"{text}{out}{err}")
     return target.read_bytes()
@@ -49,14 +62,22 @@ def text_of(names):
     return "".join((EXAMPLES / f"{name}.s").read_text(encoding="utf-8") for name in names)
 
 
+def texts_of_rows():
+    """Returns the texts in the rows of program_tests, each once."""
+    sources = [path.read_text(encoding="utf-8") for path in sorted(ROWS.glob("**/*.rt"))]
+    found = [CONTINUED.sub("", text).replace("\\n", "\n") for source in sources for text in TEXT.findall(source)]
+    return [f"{text}\n" for text in dict.fromkeys(found)]
+
+
 def programs(folder, shipped):
-    """Returns the bytes of each program that is compared as it is."""
+    """Returns the bytes of each program that is compared as it is, but for those of the rows."""
     texts = ["".join(f"{line}\n" for line in program) for program, _ in rows()]
     texts += [text_of(names) for names in OTHERS]
     found = [assembled(folder, text) for text in texts] + shipped
     found += [path.read_bytes() for path in sorted(EXAMPLES.glob("*.bpf"))]
     vectors = vectors_of("kernel_vectors.json") + vectors_of("kernel_verdicts.json")
-    return found + [bytes.fromhex(vector["bytes_hex"]) for vector in vectors if vector.get("profile") in (None, "accepted")]
+    accepted = [vector for vector in vectors if vector.get("profile") in (None, "accepted")]
+    return found + [bytes.fromhex(vector["bytes_hex"]) for vector in accepted]
 
 
 def compared(listed, datagrams, *words):
@@ -72,7 +93,10 @@ def compared(listed, datagrams, *words):
 
 
 def failures_of(counts, loaded, datagrams):
-    """Yields what is wrong with the counts: each program has one, each accepted program its runs, and a window is set."""
+    """Yields what is wrong with the counts.
+
+    Each program has one, each accepted program its runs, and a window is set.
+    """
     accepted = counts.get("accepted", 0)
     if accepted + sum(counts[name] for name in counts if CODE.fullmatch(name)) != loaded:
         yield f"not all of {loaded} programs are counted"
@@ -92,7 +116,8 @@ def summed(counts):
 def compare(folder):
     """Compares all programs, and the shipped ones with flipped bits, and returns the exit status."""
     shipped = [assembled(folder, text_of([name])) for name in SHIPPED]
-    listed = programs(folder, shipped)
+    of_rows = [assembled(folder, text, may_be_refused=True) for text in texts_of_rows()]
+    listed = programs(folder, shipped) + [program for program in of_rows if program is not None]
     bits = 8 * sum(map(len, shipped))
     # a title, the programs, how many are loaded, how many datagrams each has, and the other words
     works = [
@@ -100,7 +125,8 @@ def compare(folder):
         ("each bit flipped", shipped, bits, FEW_DATAGRAMS, ["flips"]),
         ("two bits flipped", shipped, PAIRS * len(shipped), FEW_DATAGRAMS, ["pairs", str(PAIRS)]),
     ]
-    failures, phrases = [], []
+    failures = []
+    phrases = [f"{len(of_rows)} texts in the rows, {of_rows.count(None)} of them refused by the assembler"]
     for title, given, loaded, datagrams, words in works:
         counts, found = compared(given, datagrams, *words)
         found = found or failures_of(counts, loaded, datagrams)

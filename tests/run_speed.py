@@ -2,8 +2,8 @@
 
     tests/run_speed.py
 
-What a run takes is that of a start with its run less that of the start. The two interpreters take turns, and the lowest time of
-each counts. No time is asserted; the verdicts of both have to be the same. Needs gcc.
+What a run takes is the lowest time of a start with its run less the lowest of a start. The two interpreters take turns,
+and the lowest time of each counts. No time is asserted; the verdicts of both have to be the same. Needs gcc.
 """
 
 import pathlib
@@ -20,7 +20,7 @@ SOURCE = TOP / "tests" / "run_speed.c"
 ROUNDS = 11
 # about how many instructions a round runs
 STEPS = 20_000_000
-# how often the instruction of one kind stands in its program
+# how often the instruction of one kind is in its program
 REPEATED = 200
 SIZE = 160
 # ChannelData for the channel of the peer (RFC 8656, section 12.4), and what a peer sends
@@ -30,7 +30,7 @@ PLAIN = bytes(range(SIZE))
 SEND = (bytes.fromhex("001600b02112a442") + bytes([7] * 12) + bytes.fromhex("001200080001329ae112a643001300a0")
         + bytes(range(SIZE)))
 
-SHORTEST = "mov r0, 0\nexit"
+SHORTEST = "mov r0, 0\nadd r0, 0\nexit"
 # the beginning of a program that reads a datagram of 160 bytes
 CHECKED = "ldxdw r2, [r1+0]\nldxdw r3, [r1+8]\nmov r4, r2\nadd r4, 160\nmov r0, 0\njgt r4, r3, end\n"
 
@@ -41,9 +41,12 @@ def repeated(before, line, after=""):
 
 
 def forty():
-    """Returns the text of a program of 40 instructions over a datagram of 160 bytes: a sum of its words, by their order."""
+    """Returns the text of a program of which each of its 40 instructions runs over the bytes 0 to 159.
+
+    It adds up words of them. The last byte of each is even, so that its `jset` is not taken.
+    """
     word = "ldxw r5, [r2+{0}]\nbe32 r5\nadd r0, r5\njset r5, 1, next{0}\nxor r0, {0}\nnext{0}:\nlsh r5, 3\n"
-    body = "".join(word.format(place) for place in (0, 24, 68, 112, 156))
+    body = "".join(word.format(place) for place in (1, 25, 69, 113, 155))
     return f"{CHECKED}{body}mov r6, r0\nrsh r6, 16\nadd r0, r6\nend:\nexit\n"
 
 
@@ -80,7 +83,7 @@ def printed(words):
 
 
 class Taken(NamedTuple):
-    """The steps of a run, and the nanoseconds of a start, of the run, and of the run in C."""
+    """The steps of a run, and the nanoseconds of a start, of the run after it, and of the run in C."""
 
     steps: int
     start: float
@@ -89,7 +92,7 @@ class Taken(NamedTuple):
 
 
 def measure(tool, side, program, datagram):
-    """Returns the lowest times of a program over a datagram.
+    """Returns the steps of a program over a datagram, and what it takes by the lowest times.
 
     Different verdicts end the script.
     """
@@ -101,19 +104,21 @@ def measure(tool, side, program, datagram):
         beside = printed([tool, program, datagram.hex(), count])
         if found["verdict"] != beside["verdict"]:
             sys.exit(f"verdict {found['verdict']:.0f}, in C {beside['verdict']:.0f}")
-        rounds.append((found["start"], found["run"] - found["start"], beside["run"]))
-    return Taken(int(first["steps"]), *(min(times) for times in zip(*rounds)))
+        rounds.append((found["start"], found["run"], beside["run"]))
+    start, both, other = (min(times) for times in zip(*rounds))
+    return Taken(int(first["steps"]), start, both - start, other)
 
 
 def programs():
     """Returns the programs with a title, the side and the datagram of each."""
-    client, peer = ((TOP / "examples" / "relay" / f"{name}.s").read_text(encoding="utf-8") for name in ("client", "peer"))
+    folder = TOP / "examples" / "relay"
+    client, peer = ((folder / f"{name}.s").read_text(encoding="utf-8") for name in ("client", "peer"))
     return [
         ("CLIENT over ChannelData", "client", client, CHANNEL_DATA),
         ("CLIENT over a Send indication", "client", client, SEND),
         ("PEER, to ChannelData", "peer", peer, PLAIN),
         ("40 instructions", "client", forty(), PLAIN),
-        ("two instructions", "client", SHORTEST, PLAIN),
+        ("three instructions", "client", SHORTEST, PLAIN),
         *((kind, "client", text, PLAIN) for kind, text in KINDS.items()),
     ]
 
@@ -129,9 +134,9 @@ def main():
         subprocess.run(["gcc", "-O2", "-o", tool, SOURCE], check=True)
         for title, side, text, datagram in programs():
             taken = measure(tool, side, assembled(folder, text), datagram)
-            print(f"{title}: {taken.steps} steps, a start {taken.start:.0f} ns, a run {taken.run:.0f}, {taken.run / taken.steps:.2f} "
-                  f"an instruction; in C {taken.beside:.0f}, {taken.beside / taken.steps:.2f}; ratio {taken.run / taken.beside:.2f}",
-                  flush=True)
+            print(f"{title}: {taken.steps} steps, a start {taken.start:.1f} ns, a run {taken.run:.1f}, "
+                  f"{taken.run / taken.steps:.2f} an instruction; in C {taken.beside:.1f}, "
+                  f"{taken.beside / taken.steps:.2f}; ratio {taken.run / taken.beside:.2f}", flush=True)
 
 
 if __name__ == "__main__":

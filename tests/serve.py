@@ -1,10 +1,12 @@
 """Runs the built relayd's `serve` over sockets of loopback.
 
-Sessions with their messages written apart from the relay, from the standards (RFC 8489, RFC 8656); faults of the command
-line and of sockets, in their order; and what a server does from time to time. The server chooses the port for clients, and
-the ports of slots are free ones below the system's range, so two runs beside each other don't collide.
+Sessions with their messages written apart from the relay, from the standards (RFC 8489, RFC 8656); faults of the
+command line and of sockets, in their order; and what a server does from time to time. The server chooses the port for
+clients, and the ports of slots are free ones below the system's range, so two runs beside each other don't collide.
+Receives that fail need gcc; what can't be tried is named in the last line.
 """
 
+import collections
 import contextlib
 import hashlib
 import hmac
@@ -12,6 +14,7 @@ import itertools
 import os
 import pathlib
 import random
+import shutil
 import signal
 import socket
 import struct
@@ -22,9 +25,9 @@ import time
 
 from program import PROGRAM, TOP, build, finish, run
 from rules import (
-    ALLOCATE, BINDING, CHANNEL_BIND, CHANNEL_NUMBER, CREATE_PERMISSION, DATA, DATA_INDICATION, ERROR_CODE, INTEGRITY, LIFETIME,
-    NONCE, REALM, REFRESH, SEND, TRANSPORT, USERNAME, XOR_MAPPED_ADDRESS, XOR_PEER_ADDRESS, XOR_RELAYED_ADDRESS, address_in,
-    address_value, key_of, message, read)
+    ALLOCATE, BINDING, CHANNEL_BIND, CHANNEL_NUMBER, CREATE_PERMISSION, DATA, DATA_INDICATION, ERROR_CODE, INTEGRITY,
+    LIFETIME, NONCE, REALM, REFRESH, SEND, TRANSPORT, USERNAME, XOR_MAPPED_ADDRESS, XOR_PEER_ADDRESS,
+    XOR_RELAYED_ADDRESS, address_in, address_value, key_of, message, read)
 
 LOOPBACK = bytes([127, 0, 0, 1])
 USER = ["--user", "u:p"]
@@ -36,6 +39,38 @@ DISCARD = bytes.fromhex("b700000000000000 9500000000000000")
 BAD = bytes.fromhex("9500000000000000")
 CLIENTS, DATAGRAMS, BATCH = 10, 200_000, 40
 PERIOD = 1.0  # seconds: how often a server looks at what is due
+# The receives that fail, counted from the start. With two slots the first three are one at each socket, where nothing
+# has come yet; the next is that of the first datagram, and the one after it would find nothing more.
+FAILED_RECEIVES = range(1, 6)
+# Preloaded into a program, makes receive number FAIL_RECEIVE fail. That it was loaded is seen by the file FAIL_LOADED.
+FAIL_RECEIVE = r"""
+#define _GNU_SOURCE
+#include <dlfcn.h>
+#include <errno.h>
+#include <fcntl.h>
+#include <stdlib.h>
+#include <sys/socket.h>
+#include <unistd.h>
+
+__attribute__((constructor)) static void begin(void) {
+  if (close(open(getenv("FAIL_LOADED"), O_CREAT | O_WRONLY, 0600)) != 0)
+    _exit(99);
+}
+
+ssize_t recvfrom(int fd, void *bytes, size_t size, int flags, struct sockaddr *from, socklen_t *length) {
+  static ssize_t (*real)(int, void *, size_t, int, struct sockaddr *, socklen_t *);
+  static unsigned long count;
+  if (!real)
+    real = (ssize_t(*)(int, void *, size_t, int, struct sockaddr *, socklen_t *))dlsym(RTLD_NEXT, "recvfrom");
+  if (++count == strtoul(getenv("FAIL_RECEIVE"), NULL, 10)) {
+    errno = ECONNREFUSED;
+    return -1;
+  }
+  return real(fd, bytes, size, flags, from, length);
+}
+"""
+# what can't be tried here, each with its reason
+PASSED_OVER = []
 
 
 def udp_socket(port=0, address="127.0.0.1"):
@@ -55,13 +90,13 @@ def address_of(bound):
     return LOOPBACK, bound.getsockname()[1]
 
 
-def free_ports(count):
-    """The first of `count` ports that are free, below the range that the system gives out."""
+def free_ports(count, address="127.0.0.1"):
+    """The first of `count` ports that are free at an address, below the range that the system gives out."""
     while True:
         first = random.randrange(20_000, 32_000)
         with contextlib.ExitStack() as stack, contextlib.suppress(OSError):
             for port in range(first, first + count):
-                stack.enter_context(udp_socket(port))
+                stack.enter_context(udp_socket(port, address))
             return first
 
 
@@ -72,9 +107,10 @@ class Server:
         for _ in range(10):
             self.first_port = free_ports(slots)
             self.errors = tempfile.TemporaryFile("w+")
+            ports = ["--port", "0", "--first-port", str(self.first_port), "--slots", str(slots)]
             self.process = subprocess.Popen(
-                [PROGRAM, "serve", "--port", "0", "--first-port", str(self.first_port), "--slots", str(slots), *USER, *words],
-                stdout=subprocess.PIPE, stderr=self.errors, text=True, env=env)
+                [PROGRAM, "serve", *ports, *USER, *words], env=env,
+                stdout=subprocess.PIPE, stderr=self.errors, text=True)
             line = self.process.stdout.readline()
             if line.startswith("listening 127.0.0.1:"):
                 self.port = int(line.rpartition(":")[2])
@@ -94,16 +130,25 @@ class Server:
         self.process.stdout.close()
         return self.process.wait(5)
 
+    @contextlib.contextmanager
+    def stopped(self):
+        """Stops the server for a while, so that it finds at once all that has come meanwhile."""
+        self.process.send_signal(signal.SIGSTOP)
+        try:
+            yield
+        finally:
+            self.process.send_signal(signal.SIGCONT)
+
     def printed(self):
         """What was printed to the standard error so far."""
         return os.pread(self.errors.fileno(), 1 << 20, 0).decode()
 
-    def awaits(self, text, count=1):
-        """Whether a text comes to the standard error this often, within a few periods."""
+    def awaited(self, text, count=1):
+        """How often a text came to the standard error, once it came this often or a few periods are over."""
         end = time.monotonic() + 5 * PERIOD
         while self.printed().count(text) < count and time.monotonic() < end:
             time.sleep(0.02)
-        return self.printed().count(text) == count
+        return self.printed().count(text)
 
     def ticks(self):
         """The processor time so far, in clock ticks."""
@@ -111,9 +156,9 @@ class Server:
         return int(fields[11]) + int(fields[12])
 
     def memory(self):
-        """The memory in use, in kB."""
+        """The memory in use, in kB, but for pages of files, which the system may take and give."""
         status = pathlib.Path(f"/proc/{self.process.pid}/status").read_text()
-        return next(int(line.split()[1]) for line in status.splitlines() if line.startswith("VmRSS"))
+        return next(int(line.split()[1]) for line in status.splitlines() if line.startswith("RssAnon"))
 
 
 class Client:
@@ -136,7 +181,7 @@ class Client:
         return self.socket.recv(65_535)
 
     def ask(self, kind, given, key=None):
-        """Sends a request, and returns its response, which has to be of its transaction, and signed where it grants a signed one."""
+        """Sends a request, and returns its response: of its transaction, and signed where it grants a signed one."""
         tx = random.randbytes(12)
         self.send(message(kind, tx, given, key))
         answer = read(self.receive())
@@ -191,7 +236,8 @@ def counters(from_clients=0, from_peers=0, to_peers=0, to_clients=0, granted=0, 
     What is discarded is ChannelData, messages and others of clients, and what comes from peers.
     """
     of_channels, messages, others, of_peers = discarded
-    return (f"received from clients {from_clients} peers {from_peers}, relayed to peers {to_peers} clients {to_clients}, "
+    return (f"received from clients {from_clients} peers {from_peers}, "
+            f"relayed to peers {to_peers} clients {to_clients}, "
             f"granted {granted} challenged {challenged} refused {refused}, "
             f"discarded channel data {of_channels} messages {messages} others {others} from peers {of_peers}, "
             f"receive faults {receive_faults} send faults {send_faults}\n")
@@ -219,6 +265,7 @@ def refused_lines():
             ([*port, "--stats", "soon", "--slots", "x", *USER], 2, value("soon", "--stats <S>")),
             ([*port, "--slots", "x"], 2, value("x", "--slots <N>")),
             ([*port, "--client", missing], 2, needs),
+            ([*port, "--users", missing, "--client", str(bad)], 3, f"cannot read {missing}\n"),
             ([*port, *USER, "--client", missing, "--peer", str(bad)], 3, f"cannot read {missing}\n"),
             ([*port, *USER, "--client", str(bad), "--peer", missing], 1, "refused V5 at 0\n"),
             ([*port, *USER, "--peer", str(bad), "--slots", "0"], 1, "refused V5 at 0\n"),
@@ -235,7 +282,8 @@ def refused_lines():
 
 def rounds():
     """Yields what `--rounds` does otherwise than it says."""
-    first, port = free_ports(1), free_ports(1)
+    first = free_ports(2)
+    port = first + 1
     slots = ["--first-port", str(first), "--slots", "1"]
     words = ["serve", "--port", str(port), *USER, *slots]
     listening = f"listening 127.0.0.1:{port}\n"
@@ -248,20 +296,48 @@ def rounds():
     yield from wanted("a full output", found, (3, None, "cannot write output\n"))
 
 
+def addresses():
+    """Yields what `--listen` does otherwise than it says; the user is one of a file."""
+    address = "127.0.0.2"
+    first = free_ports(2, address)
+    words = ["serve", "--port", str(first + 1), "--first-port", str(first), "--slots", "1", "--listen", address,
+             "--users", TOP / "examples" / "users.txt", "--rounds", "0"]
+    yield from wanted("--listen", run(words), (0, f"listening {address}:{first + 1}\n", ""))
+    with udp_socket(first, address):
+        yield from wanted("slot 0's port in use", run(words), (3, "", f"cannot bind {address}:{first}\n"))
+
+
+def default_ports():
+    """Yields how `--port 49152` is answered otherwise than by a fault: the server's slot 0 has this port by default.
+
+    Where another socket has it, of this script or of anyone, the line is the same.
+    """
+    words = ["serve", "--rounds", "0", "--port", "49152", "--user", "u:p"]
+    cannot_bind = 3, "", "cannot bind 127.0.0.1:49152\n"
+    yield from wanted("slot 0's port for clients", run(words), cannot_bind)
+    with contextlib.ExitStack() as stack:
+        with contextlib.suppress(OSError):  # someone else has it
+            stack.enter_context(udp_socket(49152))
+        yield from wanted("slot 0's port in use", run(words), cannot_bind)
+
+
 def counted_rounds():
     """Yields how many of ten waiting requests three rounds answer, where that isn't three.
 
     The server has bound its sockets when it prints where it listens, and waits there while its output is a full pipe.
     """
-    first, port = free_ports(1), free_ports(1)
-    words = [PROGRAM, "serve", "--port", str(port), "--first-port", str(first), "--slots", "1", *USER, "--rounds", "3", "--stats", "60"]
+    first = free_ports(2)
+    port = first + 1
+    words = [PROGRAM, "serve", "--port", str(port), "--first-port", str(first), "--slots", "1", *USER,
+             "--rounds", "3", "--stats", "60"]
     read_end, write_end = os.pipe()
     os.set_blocking(write_end, False)
     with contextlib.suppress(BlockingIOError):
         while True:
             os.write(write_end, bytes(4096))
     os.set_blocking(write_end, True)
-    with subprocess.Popen(words, stdout=write_end, stderr=subprocess.PIPE, text=True) as process, udp_socket() as client:
+    streams = {"stdout": write_end, "stderr": subprocess.PIPE}
+    with subprocess.Popen(words, text=True, **streams) as process, udp_socket() as client:
         os.close(write_end)
         client.connect(("127.0.0.1", port))
         for _ in range(50):
@@ -321,9 +397,10 @@ def session():
             peer.sendto(b"no permission", ("127.0.0.1", server.first_port))
         last = counters(from_clients=16, from_peers=6, to_peers=2, to_clients=2, granted=5, challenged=2, refused=1,
                         discarded=(1, 2, 3, 4))
-        if not server.awaits(last):
+        if not server.awaited(last):
             yield f"other counters: {server.printed()!r} in place of {last!r}"
-        yield from wanted("faults", [line for line in server.printed().splitlines() if not line.startswith("received from ")], [])
+        lines = server.printed().splitlines()
+        yield from wanted("faults", [line for line in lines if not line.startswith("received from ")], [])
         yield from wanted("the status after SIGTERM", server.end(), -signal.SIGTERM)
 
 
@@ -337,11 +414,39 @@ def faults():
         given = [(XOR_PEER_ADDRESS, address_value((bytes([192, 0, 2, 1]), 5000)))]
         yield from wanted("CreatePermission", code_of(client.signed(CREATE_PERMISSION, given)), 0)
         client.send(message(SEND, random.randbytes(12), [*given, (DATA, b"lost")]))
-        if not server.awaits("send fault\n"):
-            yield "a send fault is not printed"
+        yield from wanted("lines of a send fault", server.awaited("send fault\n"), 1)
         yield from wanted("Binding after it", client.ask(BINDING, []).kind, BINDING | 0x100)
-        if not server.awaits(counters(from_clients=5, granted=3, challenged=1, send_faults=1)):
+        if not server.awaited(counters(from_clients=5, granted=3, challenged=1, send_faults=1)):
             yield f"other counters: {server.printed()!r}"
+
+
+def failed_receives():
+    """Yields what a server does otherwise than go on after a receive that fails, and count it."""
+    if shutil.which("gcc") is None:
+        PASSED_OVER.append("receives that fail (no gcc)")
+        return
+    with tempfile.TemporaryDirectory() as name:
+        library, loaded = f"{name}/fail_receive.so", pathlib.Path(name) / "loaded"
+        words = ["gcc", "-O1", "-Wall", "-shared", "-fPIC", "-o", library, "-x", "c", "-", "-ldl"]
+        subprocess.run(words, input=FAIL_RECEIVE, text=True, check=True)
+        environment = {**os.environ, "LD_PRELOAD": library, "FAIL_LOADED": str(loaded)}
+        for number in FAILED_RECEIVES:
+            with Server("--stats", "1", env={**environment, "FAIL_RECEIVE": str(number)}) as server:
+                if not loaded.exists():
+                    PASSED_OVER.append("receives that fail (a program that loads no library)")
+                    return
+                yield from failed_receive(server, f"receive {number}")
+
+
+def failed_receive(server, what):
+    """Yields what a server with a receive that fails does otherwise than print it, count it, and answer requests."""
+    with Client(server) as client:
+        answers = [client.ask(BINDING, []).kind for _ in range(3)]
+        yield from wanted(f"{what}, lines of its fault", server.awaited("receive fault\n"), 1)
+        answers.append(client.ask(BINDING, []).kind)
+        yield from wanted(what, answers, 4 * [BINDING | 0x100])
+        if not server.awaited(counters(from_clients=4, granted=4, receive_faults=1)):
+            yield f"{what}, other counters: {server.printed()!r}"
 
 
 # ---- what is done from time to time
@@ -359,10 +464,10 @@ def idle():
 
 def nonces():
     """Yields what a nonce is good for once it is old."""
-    with Server("--nonce-lifetime", "1") as server, Client(server) as client:
+    with Server("--nonce-lifetime", "2") as server, Client(server) as client:
         client.allocate()
         old = client.nonce
-        time.sleep(1 + 1.5 * PERIOD)
+        time.sleep(2 + 1.5 * PERIOD)
         answer = client.signed(REFRESH, [])
         yield from wanted("an old nonce", code_of(answer), 438)
         client.nonce = answer.first(NONCE)
@@ -375,67 +480,99 @@ def nonces():
         yield from wanted("a new nonce", code_of(answer), 0)
 
 
-def passes(client, peer):
-    """Whether ChannelData comes to the peer."""
-    token = random.randbytes(8)
-    client.send(channel_data(token))
+def comes(receiver, data, expected):
+    """Whether a datagram comes to a socket: one that is expected is given more time."""
+    receiver.settimeout(5 if expected else 0.3)
     try:
-        peer.settimeout(0.3)
-        return peer.recv(100) == token
+        return receiver.recv(100) == data
     except TimeoutError:
         return False
+    finally:
+        receiver.settimeout(5)
+
+
+def passed(server, client, peer, expected):
+    """Whether ChannelData comes to the peer, and data of the peer to the client; and what of them is expected to."""
+    token = random.randbytes(8)
+    client.send(channel_data(token))
+    there = comes(peer, token, expected[0])
+    peer.sendto(token, ("127.0.0.1", server.first_port))
+    return there, comes(client.socket, channel_data(token), expected[1])
+
+
+def put(path, data):
+    """Writes a file whole: a new one takes its name."""
+    new = path.with_suffix(".new")
+    new.write_bytes(data)
+    new.rename(path)
+
+
+def replacements(paths, good):
+    """The steps in which files are changed.
+
+    Each has the new bytes of files, by side; the lines that are printed then, in any order; and whether data of the
+    client, and data of the peer, pass afterwards.
+    """
+    loaded = {side: f"loaded {path}\n" for side, path in paths.items()}
+    refused = {side: f"refused {{}} in {path}\n".format for side, path in paths.items()}
+    client, peer = good["client"], good["peer"]
+    return [
+        ("before", {}, [], (True, True)),
+        ("a program that discards", {"client": DISCARD}, [loaded["client"]], (False, True)),
+        ("the old one again", {"client": client}, [loaded["client"]], (True, True)),
+        ("a refused one", {"client": BAD}, [refused["client"]("V5 at 0")], (True, True)),
+        ("an empty file", {"client": b""}, [refused["client"]("E1")], (True, True)),
+        ("half of it", {"client": client[:-12]}, [refused["client"]("E2")], (True, True)),
+        ("another that discards", {"client": DISCARD}, [loaded["client"]], (False, True)),
+        ("the old one once more", {"client": client}, [loaded["client"]], (True, True)),
+        ("a program of peers that discards", {"peer": DISCARD}, [loaded["peer"]], (True, False)),
+        ("both at once", {"client": DISCARD, "peer": peer}, [loaded["client"], loaded["peer"]], (False, True)),
+        ("a good one, and a refused one of peers", {"client": client, "peer": BAD},
+         [loaded["client"], refused["peer"]("V5 at 0")], (True, True)),
+        ("a refused one, and a good one of peers", {"client": BAD, "peer": DISCARD},
+         [refused["client"]("V5 at 0"), loaded["peer"]], (True, False)),
+    ]
 
 
 def replaced_programs():
-    """Yields what happens otherwise than said where the file of a program is changed."""
+    """Yields what happens otherwise than said where the files of programs are changed."""
     with tempfile.TemporaryDirectory() as name:
-        good, path = pathlib.Path(name) / "good", pathlib.Path(name) / "client"
-        run(["assemble", TOP / "examples" / "relay" / "client.s", good])
-
-        def put(data):
-            """Writes the file whole: a new one takes its name."""
-            new = pathlib.Path(name) / "new"
-            new.write_bytes(data)
-            new.rename(path)
-
-        put(good.read_bytes())
-        with Server("--client", str(path)) as server, Client(server) as client, udp_socket() as peer:
+        paths = {side: pathlib.Path(name) / side for side in ("client", "peer")}
+        for side, path in paths.items():
+            run(["assemble", TOP / "examples" / "relay" / f"{side}.s", path])
+        good = {side: path.read_bytes() for side, path in paths.items()}
+        printed = collections.Counter()
+        options = ["--client", str(paths["client"]), "--peer", str(paths["peer"])]
+        with Server(*options) as server, Client(server) as client, udp_socket() as peer:
             client.allocate()
             client.bind(address_of(peer))
-            loaded = f"loaded {path}\n"
-            steps = [
-                ("before", None, "", 0, True),
-                ("a program that discards", DISCARD, loaded, 1, False),
-                ("the old one again", good.read_bytes(), loaded, 2, True),
-                ("a refused one", BAD, f"refused V5 at 0 in {path}\n", 1, True),
-                ("an empty file", b"", f"refused E1 in {path}\n", 1, True),
-                ("half of it", good.read_bytes()[:-12], f"refused E2 in {path}\n", 1, True),
-                ("another that discards", DISCARD, loaded, 3, False),
-                ("the old one once more", good.read_bytes(), loaded, 4, True),
-            ]
-            for what, data, printed, count, is_passed in steps:
-                if data is not None:
-                    put(data)
-                    if not server.awaits(printed, count):
-                        yield f"{what}: {server.printed()!r}"
-                yield from wanted(what, passes(client, peer), is_passed)
-            path.unlink()
+            for what, changed, lines, passing in replacements(paths, good):
+                with server.stopped():
+                    for side, data in changed.items():
+                        put(paths[side], data)
+                printed.update(lines)
+                if any(server.awaited(line, printed[line]) != printed[line] for line in lines):
+                    yield f"{what}: {server.printed()!r}"
+                yield from wanted(what, passed(server, client, peer, passing), passing)
+            for path in paths.values():
+                path.unlink()
             time.sleep(1.5 * PERIOD)
-            yield from wanted("no file", passes(client, peer), True)
+            passing = True, False
+            yield from wanted("no files", passed(server, client, peer, passing), passing)
+            yield from wanted("lines", sorted(server.printed().splitlines(True)), sorted(printed.elements()))
             yield from wanted("the allocation", code_of(client.signed(REFRESH, [])), 0)
 
 
 def turns():
-    """Yields how many requests of a client are answered before a peer's datagram, which came after all of them, gets its turn."""
+    """Yields how many requests are answered before a peer's datagram, which came after all of them, gets its turn."""
     with Server() as server, Client(server) as client, udp_socket() as peer:
         client.allocate()
         client.bind(address_of(peer))
         time.sleep(0.2)  # the server finds nothing more, and waits
-        server.process.send_signal(signal.SIGSTOP)
-        for _ in range(200):
-            client.send(message(BINDING, random.randbytes(12), []))
-        peer.sendto(b"its turn", ("127.0.0.1", server.first_port))
-        server.process.send_signal(signal.SIGCONT)
+        with server.stopped():
+            for _ in range(200):
+                client.send(message(BINDING, random.randbytes(12), []))
+            peer.sendto(b"its turn", ("127.0.0.1", server.first_port))
         received = [client.receive() for _ in range(201)]
         yield from wanted("requests before the others get their turn", received.index(channel_data(b"its turn")), 64)
 
@@ -477,14 +614,16 @@ def many():
 def main():
     """Runs every part, and returns the exit status."""
     build()
-    parts = [refused_lines, rounds, counted_rounds, session, faults, idle, nonces, replaced_programs, turns, many]
+    parts = [refused_lines, rounds, addresses, default_ports, counted_rounds, session, faults, failed_receives, idle,
+             nonces, replaced_programs, turns, many]
     failures = []
     for part in parts:
         try:
             failures += [f"{part.__name__}: {failure}" for failure in part()]
         except (OSError, ValueError, AttributeError, RuntimeError, subprocess.TimeoutExpired) as error:
             failures.append(f"{part.__name__}: {error!r}")
-    return finish(failures, f"serve: {len(parts)} parts, {len(failures)} failures")
+    passed_over = f"; passed over: {', '.join(PASSED_OVER)}" if PASSED_OVER else ""
+    return finish(failures, f"serve: {len(parts)} parts, {len(failures)} failures{passed_over}")
 
 
 if __name__ == "__main__":

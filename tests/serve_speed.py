@@ -3,11 +3,13 @@
     tests/serve_speed.py
 
 A round trip is ChannelData from a client through the server to a peer, which sends it back, and on to the client. All run in
-turn, several times, and the figures are medians; a machine that does other work makes them smaller and less alike. No time is
-asserted. coturn is left out where `turnserver` isn't there. Needs gcc.
+turn, several times, and the figures are medians; a machine that does other work makes them smaller and less alike. Where
+there are four processors or more, the client, the servers and the peer have one each, so that the system moves none of them
+in between. No time is asserted. coturn is left out where `turnserver` isn't there. Needs gcc.
 """
 
 import contextlib
+import os
 import pathlib
 import shutil
 import socket
@@ -26,6 +28,7 @@ SIZES = [160, 1_200]
 FLIGHTS = {1: 20_000, 32: 60_000}  # datagrams in flight, and how many round trips are timed with them
 IDLE_SECONDS = 5
 TICK = 0.01  # seconds of a clock tick of /proc
+CLIENT_CPU, SERVER_CPU, PEER_CPU = 1, 2, 3  # processors, where there are as many
 
 
 def ticks(pid):
@@ -128,6 +131,16 @@ def subjects(tool, folder, stack):
     return found
 
 
+def keep_apart(measured):
+    """Gives the client, the servers and the peer a processor each, where there are as many."""
+    if (os.cpu_count() or 1) <= PEER_CPU:
+        return
+    for name, subject in measured.items():
+        for thread in os.listdir(f"/proc/{subject.pid}/task"):
+            os.sched_setaffinity(int(thread), {PEER_CPU if name == "no relay" else SERVER_CPU})
+    os.sched_setaffinity(0, {CLIENT_CPU})
+
+
 def main():
     """Measures, prints, and returns the exit status."""
     build()
@@ -135,6 +148,7 @@ def main():
         tool = f"{folder}/serve_speed"
         subprocess.run(["gcc", "-O2", "-o", tool, SOURCE], check=True)
         measured = subjects(tool, folder, stack)
+        keep_apart(measured)
         for size in SIZES:
             for flight, count in FLIGHTS.items():
                 rounds = {name: [] for name in measured}

@@ -21,7 +21,7 @@ REFUSED = [
     # a fault of a line comes before an unknown label on an earlier one
     ("ja x\nmov r0\n", "refused L1 at line 2\n"),
 ]
-KEPT = b"what stood there"
+KEPT = b"what was there"
 
 # a program whose first instruction takes two slots, its text, and its text with the slot of each instruction
 WIDE = bytes.fromhex("1801000001000000 0000000000000000 9500000000000000")

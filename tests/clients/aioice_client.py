@@ -1,4 +1,4 @@
-"""A client of aioice's TURN library: an allocation, a channel to a peer that sends each message back, and messages over it."""
+"""A client of aioice's TURN library: an allocation, and messages over a channel to a peer that sends each back."""
 
 import asyncio
 import sys

@@ -1,20 +1,24 @@
-"""A page in headless Chromium, driven through DevTools by a pipe: `peers.html` exchanges messages with itself over a relay."""
+"""A page in headless Chromium, driven through DevTools by a pipe: `peers.html` sends itself messages over a relay."""
 
 import fcntl
 import json
 import os
 import pathlib
+import select
 import subprocess
 import sys
 import tempfile
+import time
 
 PAGE = pathlib.Path(__file__).with_name("peers.html")
-FLAGS = ["--headless=new", "--no-sandbox", "--disable-gpu", "--remote-debugging-pipe", "--allow-loopback-in-peer-connection"]
+FLAGS = ["--headless=new", "--no-sandbox", "--disable-gpu", "--remote-debugging-pipe",
+         "--allow-loopback-in-peer-connection"]
+SECONDS = 60  # how long an answer is waited for, that of the page after all its messages too
 ABOVE = 10  # the pipe's ends are moved here before they become the descriptors 3 and 4
 
 
 class Browser:
-    """A running browser. DevTools read requests from descriptor 3 and write answers to descriptor 4, each ended by a zero."""
+    """A running browser. Its DevTools read requests from descriptor 3 and write answers to 4, each ended by a zero."""
 
     def __init__(self, program, profile):
         read_requests, self.requests = os.pipe()
@@ -32,8 +36,19 @@ class Browser:
         os.close(write_answers)
         self.rest, self.count = b"", 0
 
+    def piece(self, end):
+        """What comes from the browser next, before a moment of the clock that is never set back."""
+        readable, _, _ = select.select([self.answers], [], [], max(0, end - time.monotonic()))
+        if not readable:
+            raise TimeoutError("the browser doesn't answer")
+        found = os.read(self.answers, 1 << 16)
+        if not found:
+            raise EOFError("the browser ended")
+        return found
+
     def ask(self, method, session=None, **params):
         """Sends a request, and returns its result. Events that come before it are passed over."""
+        end = time.monotonic() + SECONDS
         self.count += 1
         request = {"id": self.count, "method": method, "params": params}
         if session:
@@ -41,10 +56,7 @@ class Browser:
         os.write(self.requests, json.dumps(request).encode() + b"\0")
         while True:
             while b"\0" not in self.rest:
-                piece = os.read(self.answers, 1 << 16)
-                if not piece:
-                    raise EOFError("the browser ended")
-                self.rest += piece
+                self.rest += self.piece(end)
             line, _, self.rest = self.rest.partition(b"\0")
             answer = json.loads(line)
             if answer.get("id") == self.count:
@@ -60,7 +72,8 @@ def exchange(program, url, count):
             session = browser.ask("Target.attachToTarget", targetId=target, flatten=True)["sessionId"]
             browser.ask("Page.enable", session)
             browser.ask("Page.navigate", session, url=PAGE.as_uri())
-            call = f'(async () => {{ while (!self.exchange) await new Promise((go) => setTimeout(go, 10)); return exchange("{url}", "u", "p", {count}); }})()'
+            loaded = "while (!self.exchange) await new Promise((go) => setTimeout(go, 10));"
+            call = f'(async () => {{ {loaded} return exchange("{url}", "u", "p", {count}); }})()'
             found = browser.ask("Runtime.evaluate", session, expression=call, awaitPromise=True, returnByValue=True)
             return found["result"].get("value")
         finally:

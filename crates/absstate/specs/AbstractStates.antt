@@ -39,8 +39,8 @@ marks_from m i zero = m
 marks_from m i (suc n) = marks_from (mark m i) (suc i) n
 
 -- before the first instruction r1 holds the context and r10 the end of the stack
-abbrev pub first_state : {D : Type 0} → AbsState D
-first_state = record {
+abbrev pub first_abstract_state : {D : Type 0} → AbsState D
+first_abstract_state = record {
   registers = Nothing ∷ Ctx ∷ Nothing ∷ Nothing ∷ Nothing ∷ Nothing ∷ Nothing ∷ Nothing ∷ Nothing ∷ Nothing ∷ Stack (pos 0) ∷ [];
   marks = no_marks;
   proved = pos 0;
@@ -115,7 +115,7 @@ with_least a anchor (Some n) = with_reach a anchor n
 
 -- the state in which n stack bytes from an index on are set
 abbrev pub with_marks : {D : Type 0} → AbsState D → ℕ → ℕ → AbsState D
-with_marks a i n = record a { marks = marks_from a.marks i n }
+with_marks a i count = record a { marks = marks_from a.marks i count }
 
 -- the state after a call with an answer: r1 to r5 hold nothing
 abbrev pub with_answer : {D : Type 0} → AbsState D → D → AbsState D

@@ -60,20 +60,20 @@ use Rattle.absstate.specs.declared.memory.Region.TheVariants.{InStack, InBytes}
 
 -- ---- what is read
 
-abbrev pub content_of : {D : Type 0} → AbstractValue D → Result (AbstractValue D) Reason
-content_of Nothing = Err UninitRegister
-content_of (Scalar n) = Ok (Scalar n)
-content_of Ctx = Ok Ctx
-content_of (Stack k) = Ok (Stack k)
-content_of (Data anchor k) = Ok (Data anchor k)
-content_of End = Ok End
+abbrev pub abstract_content : {D : Type 0} → AbstractValue D → Result (AbstractValue D) Reason
+abstract_content Nothing = Err UninitRegister
+abstract_content (Scalar n) = Ok (Scalar n)
+abstract_content Ctx = Ok Ctx
+abstract_content (Stack k) = Ok (Stack k)
+abstract_content (Data anchor k) = Ok (Data anchor k)
+abstract_content End = Ok End
 
-abbrev pub register_value : {D : Type 0} → AbsState D → Reg → Result (AbstractValue D) Reason
-register_value a r = content_of (abstract_at a.registers r)
+abbrev pub abstract_register_value : {D : Type 0} → AbsState D → Reg → Result (AbstractValue D) Reason
+abstract_register_value a r = abstract_content (abstract_at a.registers r)
 
 -- a register, or the imm as a word of the instruction's width
 abbrev pub operand_abstract : {D : Type 0} → Operations D → Width → AbsState D → Operand → Result (AbstractValue D) Reason
-operand_abstract ops w a (operand.Reg r) = register_value a r
+operand_abstract ops w a (operand.Reg r) = abstract_register_value a r
 operand_abstract ops w a (operand.Imm n) = Ok (Scalar (ops.exact (imm_word w n)))
 
 -- ---- arithmetic
@@ -90,11 +90,11 @@ moved_by op w k (Some n) = moved_place op w k n
 abbrev pub with_both : {A : Type 0} → Option ℤ → Option ℤ → (ℤ → ℤ → Option A) → Option A
 with_both (Some x) (Some y) f = f x y
 with_both (Some x) None f = None
-with_both None y f = None
+with_both None other f = None
 
 -- an offset of 32 bits
 abbrev pub short_offset : ℤ → Option ℤ
-short_offset z = if (int_le (negsuc 2147483647) z && int_le z (pos 2147483647)) then Some z else None
+short_offset offset = if (int_le (negsuc 2147483647) offset && int_le offset (pos 2147483647)) then Some offset else None
 
 -- an offset from an anchor with places from low to high, moved by a single number: both ends stay near
 abbrev pub moved_offset : AluOp → Width → ℤ → ℤ → ℤ → ℕ → Option ℤ
@@ -137,48 +137,48 @@ single_sum (Made id low high proved) op w k n = moved_offset op w low high k n
 abbrev pub data_sum : {D : Type 0} → AbsState D → Anchor → AluOp → Width → ℤ → Bounds → Option (AbstractValue D)
 data_sum a anchor op w k b = if b.lo == b.hi then option_map (Data anchor) (single_sum anchor op w k b.lo) else made_sum a anchor op w k b
 
-abbrev pub pointer_to : {D : Type 0} → (ℤ → AbstractValue D) → Option ℤ → Result (AbstractValue D) Reason
-pointer_to kind place = do
+abbrev pub abstract_pointer_to : {D : Type 0} → (ℤ → AbstractValue D) → Option ℤ → Result (AbstractValue D) Reason
+abstract_pointer_to kind place = do
   k ← ok_or place PointerArithmetic
   Ok (kind k)
 
 -- two numbers give a number, and a pointer is moved by a number
-abbrev pub alu_result : {D : Type 0} → Operations D → AbsState D → AluOp → Width → AbstractValue D → AbstractValue D → Result (AbstractValue D) Reason
-alu_result ops state op w (Scalar a) (Scalar b) = Ok (Scalar (ops.alu op w a b))
-alu_result ops state op w (Data anchor k) (Scalar b) = ok_or (data_sum state anchor op w k (ops.bounds b)) PointerArithmetic
-alu_result ops state op w (Stack k) (Scalar b) = pointer_to Stack (moved_by op w k (single_of ops b))
-alu_result ops state op w _ _ = Err PointerArithmetic
+abbrev pub abstract_alu_result : {D : Type 0} → Operations D → AbsState D → AluOp → Width → AbstractValue D → AbstractValue D → Result (AbstractValue D) Reason
+abstract_alu_result ops state op w (Scalar a) (Scalar b) = Ok (Scalar (ops.alu op w a b))
+abstract_alu_result ops state op w (Data anchor k) (Scalar b) = ok_or (data_sum state anchor op w k (ops.bounds b)) PointerArithmetic
+abstract_alu_result ops state op w (Stack k) (Scalar b) = abstract_pointer_to Stack (moved_by op w k (single_of ops b))
+abstract_alu_result ops state op w _ _ = Err PointerArithmetic
 
 -- a number gives a number
-abbrev pub number_of_one : {D : Type 0} → Operations D → UnaryOp → AbstractValue D → Result (AbstractValue D) Reason
-number_of_one ops op (Scalar a) = Ok (Scalar (ops.unary op a))
-number_of_one ops op _ = Err PointerArithmetic
+abbrev pub abstract_number_of_one : {D : Type 0} → Operations D → UnaryOp → AbstractValue D → Result (AbstractValue D) Reason
+abstract_number_of_one ops op (Scalar a) = Ok (Scalar (ops.unary op a))
+abstract_number_of_one ops op _ = Err PointerArithmetic
 
 -- a move of 64 bits copies any value
-abbrev pub unary_result : {D : Type 0} → Operations D → UnaryOp → AbstractValue D → Result (AbstractValue D) Reason
-unary_result ops (Mov W64) v = Ok v
-unary_result ops (Mov W32) v = number_of_one ops (Mov W32) v
-unary_result ops (Neg w) v = number_of_one ops (Neg w) v
-unary_result ops (SignExtend e) v = number_of_one ops (SignExtend e) v
-unary_result ops (Swap op z) v = number_of_one ops (Swap op z) v
+abbrev pub abstract_unary_result : {D : Type 0} → Operations D → UnaryOp → AbstractValue D → Result (AbstractValue D) Reason
+abstract_unary_result ops (Mov W64) v = Ok v
+abstract_unary_result ops (Mov W32) v = abstract_number_of_one ops (Mov W32) v
+abstract_unary_result ops (Neg w) v = abstract_number_of_one ops (Neg w) v
+abstract_unary_result ops (SignExtend e) v = abstract_number_of_one ops (SignExtend e) v
+abstract_unary_result ops (Swap op z) v = abstract_number_of_one ops (Swap op z) v
 
 -- the register has to be writable, and then there has to be a result
-abbrev pub register_write : {D : Type 0} → AbsState D → Reg → Result (AbstractValue D) Reason → Result (Next D) Reason
-register_write a dst result = do
+abbrev pub abstract_register_write : {D : Type 0} → AbsState D → Reg → Result (AbstractValue D) Reason → Result (Next D) Reason
+abstract_register_write a dst result = do
   allowed ← writable dst
   known ← result
   Ok (next.On (with_value a dst known))
 
 abbrev pub alu_step : {D : Type 0} → Operations D → AbsState D → Width → AluOp → Reg → Operand → Result (Next D) Reason
 alu_step ops a w op dst o = do
-  x ← register_value a dst
+  x ← abstract_register_value a dst
   y ← operand_abstract ops w a o
-  register_write a dst (alu_result ops a op w x y)
+  abstract_register_write a dst (abstract_alu_result ops a op w x y)
 
 abbrev pub unary_step : {D : Type 0} → Operations D → AbsState D → Width → UnaryOp → Reg → Operand → Result (Next D) Reason
 unary_step ops a w op dst o = do
   x ← operand_abstract ops w a o
-  register_write a dst (unary_result ops op x)
+  abstract_register_write a dst (abstract_unary_result ops op x)
 
 -- ---- conditional jumps of two numbers
 
@@ -224,8 +224,8 @@ is_order condition.SignedGe = false
 is_order condition.SignedLt = false
 is_order condition.SignedLe = false
 
-abbrev pub order_implies : Condition → (Branch → Option Bound) → Result Implied Reason
-order_implies c bound = do
+abbrev pub order_implication : Condition → (Branch → Option Bound) → Result Implied Reason
+order_implication c bound = do
   allowed ← check (is_order c) PointerCompare
   Ok (implied_by bound)
 
@@ -237,12 +237,12 @@ at_anchor anchor implied = do
 
 abbrev pub places_compared : {D : Type 0} → Width → Condition → AbstractValue D → AbstractValue D → Result (Anchor × Implied) Reason
 places_compared w c (Scalar x) y = Err PointerCompare
-places_compared W64 c (Data anchor k) End = at_anchor anchor (order_implies c (data_bound c k))
-places_compared W64 c End (Data anchor k) = at_anchor anchor (order_implies c (data_bound (converse c) k))
+places_compared W64 c (Data anchor k) End = at_anchor anchor (order_implication c (data_bound c k))
+places_compared W64 c End (Data anchor k) = at_anchor anchor (order_implication c (data_bound (converse c) k))
 places_compared w c _ _ = Err PointerCompare
 
-abbrev pub places_fork : {D : Type 0} → AbsState D → Width → Condition → AbstractValue D → AbstractValue D → Result (Next D) Reason
-places_fork a w c x y = do
+abbrev pub fork_of_places : {D : Type 0} → AbsState D → Width → Condition → AbstractValue D → AbstractValue D → Result (Next D) Reason
+fork_of_places a w c x y = do
   implied ← places_compared w c x y
   Ok (next.Fork (Some (with_least a implied.0 implied.1.not_taken)) (Some (with_least a implied.0 implied.1.taken)))
 
@@ -250,11 +250,11 @@ places_fork a w c x y = do
 
 abbrev pub fork : {D : Type 0} → Operations D → AbsState D → Width → Condition → Reg → Operand → AbstractValue D → AbstractValue D → Result (Next D) Reason
 fork ops a w c dst o (Scalar x) (Scalar y) = Ok (next.Fork (state_past_test ops a (Fails c) w dst o x y) (state_past_test ops a (Holds c) w dst o x y))
-fork ops a w c dst o x y = places_fork a w c x y
+fork ops a w c dst o x y = fork_of_places a w c x y
 
 abbrev pub branch_step : {D : Type 0} → Operations D → AbsState D → Width → Condition → Reg → Operand → Result (Next D) Reason
 branch_step ops a w c dst o = do
-  x ← register_value a dst
+  x ← abstract_register_value a dst
   y ← operand_abstract ops w a o
   fork ops a w c dst o x y
 
@@ -262,13 +262,13 @@ branch_step ops a w c dst o = do
 
 -- Where n bytes lie that a base with a displacement reaches, as far as that is known: in the stack by their index, in the
 -- datagram as far as is proved.
-abbrev pub in_stack : ℤ → ℕ → Result Region Reason
-in_stack place n = do
+abbrev pub region_in_stack : ℤ → ℕ → Result Region Reason
+region_in_stack place n = do
   i ← ok_or (index_within place n stack_first stack_first (pos 0)) StackBounds
   Ok (InStack i)
 
-abbrev pub in_bytes : ℤ → ℕ → ℤ → ℤ → Result Region Reason
-in_bytes place n low high = do
+abbrev pub region_in_datagram : ℤ → ℕ → ℤ → ℤ → Result Region Reason
+region_in_datagram place n low high = do
   inside ← check (is_within place n low high) DatagramBounds
   Ok InBytes
 
@@ -276,9 +276,9 @@ unfoldable pub access_region : {D : Type 0} → AbsState D → AbstractValue D �
 access_region a Nothing d n = Err UninitRegister
 access_region a (Scalar number) d n = Err NotAPointer
 access_region a Ctx d n = Err ContextAccess
-access_region a (Stack k) d n = in_stack (k +ℤ d) n
-access_region a (Data anchor k) d n = in_bytes (k +ℤ d) n (headroom_first -ℤ low_of anchor) (proved_of a anchor)
-access_region a End d n = in_bytes (pos 0 +ℤ d) n (pos 0) (pos TAILROOM)
+access_region a (Stack k) d n = region_in_stack (k +ℤ d) n
+access_region a (Data anchor k) d n = region_in_datagram (k +ℤ d) n (headroom_first -ℤ low_of anchor) (proved_of a anchor)
+access_region a End d n = region_in_datagram (pos 0 +ℤ d) n (pos 0) (pos TAILROOM)
 
 -- n bytes of a region of the stack lie inside
 abbrev pub IsInStack : ℕ → Region → Type 0
@@ -311,8 +311,8 @@ field_known ops field.IdHead = Scalar (number_of_size ops size.Double)
 field_known ops field.IdTail = Scalar (number_of_size ops size.Word)
 field_known ops field.Side = Scalar (ops.range 0 1)
 
-abbrev pub load_field : {D : Type 0} → Operations D → ℤ → Size → Result (AbstractValue D) Reason
-load_field ops d z = do
+abbrev pub abstract_load_field : {D : Type 0} → Operations D → ℤ → Size → Result (AbstractValue D) Reason
+abstract_load_field ops d z = do
   f ← ok_or (field_at d z) ContextAccess
   Ok (field_known ops f)
 
@@ -323,35 +323,35 @@ readable a base d n = do
   region_readable a.marks n r
 
 -- what is known of the number in n bytes that may be read
-abbrev pub load_number : {D : Type 0} → AbsState D → AbstractValue D → ℤ → ℕ → D → Result (AbstractValue D) Reason
-load_number a base d n number = do
+abbrev pub abstract_load_number : {D : Type 0} → AbsState D → AbstractValue D → ℤ → ℕ → D → Result (AbstractValue D) Reason
+abstract_load_number a base d n number = do
   allowed ← readable a base d n
   Ok (Scalar number)
 
-abbrev pub load : {D : Type 0} → Operations D → AbsState D → AbstractValue D → ℤ → Size → Result (AbstractValue D) Reason
-load ops a Ctx d z = load_field ops d z
-load ops a base d z = load_number a base d (byte_count z) (number_of_size ops z)
+abbrev pub abstract_load : {D : Type 0} → Operations D → AbsState D → AbstractValue D → ℤ → Size → Result (AbstractValue D) Reason
+abstract_load ops a Ctx d z = abstract_load_field ops d z
+abstract_load ops a base d z = abstract_load_number a base d (byte_count z) (number_of_size ops z)
 
-abbrev pub load_signed : {D : Type 0} → Operations D → AbsState D → AbstractValue D → ℤ → SignedSize → Result (AbstractValue D) Reason
-load_signed ops a base d z = load_number a base d (byte_count (unsigned_size z)) ops.top
+abbrev pub abstract_load_signed : {D : Type 0} → Operations D → AbsState D → AbstractValue D → ℤ → SignedSize → Result (AbstractValue D) Reason
+abstract_load_signed ops a base d size = abstract_load_number a base d (byte_count (unsigned_size size)) ops.top
 
 abbrev pub loaded_step : {D : Type 0} → AbsState D → (AbstractValue D → Result (AbstractValue D) Reason) → Reg → Reg → Result (Next D) Reason
 loaded_step a loaded dst base = do
-  from ← register_value a base
-  register_write a dst (loaded from)
+  from ← abstract_register_value a base
+  abstract_register_write a dst (loaded from)
 
 abbrev pub load_step : {D : Type 0} → Operations D → AbsState D → Size → Reg → Reg → ℤ → Result (Next D) Reason
-load_step ops a z dst base d = loaded_step a (λ from. load ops a from d z) dst base
+load_step ops a z dst base d = loaded_step a (λ from. abstract_load ops a from d z) dst base
 
 abbrev pub load_signed_step : {D : Type 0} → Operations D → AbsState D → SignedSize → Reg → Reg → ℤ → Result (Next D) Reason
-load_signed_step ops a z dst base d = loaded_step a (λ from. load_signed ops a from d z) dst base
+load_signed_step ops a size dst base d = loaded_step a (λ from. abstract_load_signed ops a from d size) dst base
 
 -- ---- stores
 
 -- a number is no pointer
-abbrev pub pointer : {D : Type 0} → AbstractValue D → Result (Unit {0}) Reason
-pointer (Scalar number) = Err NotAPointer
-pointer _ = Ok tt
+abbrev pub abstract_pointer : {D : Type 0} → AbstractValue D → Result (Unit {0}) Reason
+abstract_pointer (Scalar number) = Err NotAPointer
+abstract_pointer _ = Ok tt
 
 -- no pointer is stored
 abbrev pub storable : {D : Type 0} → AbstractValue D → Result (Unit {0}) Reason
@@ -360,75 +360,75 @@ storable _ = Err PointerStored
 
 abbrev pub store_step : {D : Type 0} → Operations D → AbsState D → Size → Reg → Operand → ℤ → Result (Next D) Reason
 store_step ops a z base o d = do
-  to ← register_value a base
+  to ← abstract_register_value a base
   known ← operand_abstract ops W64 a o
-  u ← pointer to
+  u ← abstract_pointer to
   v ← storable known
   r ← access_region a to d (byte_count z)
   Ok (next.On (with_region a (byte_count z) r))
 
 -- ---- calls
 
-abbrev pub context_value : {D : Type 0} → Reg → AbstractValue D → Result (Unit {0}) Reason
-context_value r Ctx = Ok tt
-context_value r _ = Err (HelperArgument (number_of r))
+abbrev pub abstract_context_value : {D : Type 0} → Reg → AbstractValue D → Result (Unit {0}) Reason
+abstract_context_value r Ctx = Ok tt
+abstract_context_value r _ = Err (HelperArgument (number_of r))
 
-abbrev pub context_argument : {D : Type 0} → AbsState D → Reg → Result (Unit {0}) Reason
-context_argument a r = register_value a r >>= context_value r
+abbrev pub abstract_context_argument : {D : Type 0} → AbsState D → Reg → Result (Unit {0}) Reason
+abstract_context_argument a r = abstract_register_value a r >>= abstract_context_value r
 
-abbrev pub number_value : {D : Type 0} → Reg → AbstractValue D → Result (Unit {0}) Reason
-number_value r (Scalar number) = Ok tt
-number_value r _ = Err (HelperArgument (number_of r))
+abbrev pub abstract_number_value : {D : Type 0} → Reg → AbstractValue D → Result (Unit {0}) Reason
+abstract_number_value r (Scalar number) = Ok tt
+abstract_number_value r _ = Err (HelperArgument (number_of r))
 
-abbrev pub number_argument : {D : Type 0} → AbsState D → Reg → Result (Unit {0}) Reason
-number_argument a r = register_value a r >>= number_value r
+abbrev pub abstract_number_argument : {D : Type 0} → AbsState D → Reg → Result (Unit {0}) Reason
+abstract_number_argument a r = abstract_register_value a r >>= abstract_number_value r
 
 -- the index, among the stack cells, of the eight bytes that a pointer points to
-abbrev pub stack_index : {D : Type 0} → AbstractValue D → Option ℕ
-stack_index (Stack k) = index_within (k +ℤ pos 0) RECORD_BYTES stack_first stack_first (pos 0)
-stack_index Nothing = None
-stack_index (Scalar number) = None
-stack_index Ctx = None
-stack_index (Data anchor k) = None
-stack_index End = None
+abbrev pub abstract_stack_index : {D : Type 0} → AbstractValue D → Option ℕ
+abstract_stack_index (Stack k) = index_within (k +ℤ pos 0) RECORD_BYTES stack_first stack_first (pos 0)
+abstract_stack_index Nothing = None
+abstract_stack_index (Scalar number) = None
+abstract_stack_index Ctx = None
+abstract_stack_index (Data anchor k) = None
+abstract_stack_index End = None
 
-abbrev pub stack_value : {D : Type 0} → Reg → AbstractValue D → Result ℕ Reason
-stack_value r v = ok_or (stack_index v) (HelperArgument (number_of r))
+abbrev pub abstract_stack_value : {D : Type 0} → Reg → AbstractValue D → Result ℕ Reason
+abstract_stack_value r v = ok_or (abstract_stack_index v) (HelperArgument (number_of r))
 
-abbrev pub stack_argument : {D : Type 0} → AbsState D → Reg → Result ℕ Reason
-stack_argument a r = register_value a r >>= stack_value r
+abbrev pub abstract_stack_argument : {D : Type 0} → AbsState D → Reg → Result ℕ Reason
+abstract_stack_argument a r = abstract_register_value a r >>= abstract_stack_value r
 
 -- the address record at an index of the stack may be read
 abbrev pub record_readable : Marks → ℕ → Result (Unit {0}) Reason
 record_readable marks i = check (are_marked marks i RECORD_BYTES) UninitStack
 
-abbrev pub record_argument : {D : Type 0} → AbsState D → Reg → Result (Unit {0}) Reason
-record_argument a r = stack_argument a r >>= record_readable a.marks
+abbrev pub abstract_record_argument : {D : Type 0} → AbsState D → Reg → Result (Unit {0}) Reason
+abstract_record_argument a r = abstract_stack_argument a r >>= record_readable a.marks
 
 -- the index of the record that is written, with the argument in a register
-abbrev pub with_argument : {D : Type 0} → AbsState D → Reg → Argument → Option ℕ → Result (Option ℕ) Reason
-with_argument a r argument.Unused out = Ok out
-with_argument a r argument.Context out = do
-  u ← context_argument a r
+abbrev pub abstract_with_argument : {D : Type 0} → AbsState D → Reg → Argument → Option ℕ → Result (Option ℕ) Reason
+abstract_with_argument a r argument.Unused out = Ok out
+abstract_with_argument a r argument.Context out = do
+  u ← abstract_context_argument a r
   Ok out
-with_argument a r argument.Number out = do
-  u ← number_argument a r
+abstract_with_argument a r argument.Number out = do
+  u ← abstract_number_argument a r
   Ok out
-with_argument a r argument.RecordIn out = do
-  u ← record_argument a r
+abstract_with_argument a r argument.RecordIn out = do
+  u ← abstract_record_argument a r
   Ok out
-with_argument a r argument.RecordOut out = do
-  i ← stack_argument a r
+abstract_with_argument a r argument.RecordOut out = do
+  i ← abstract_stack_argument a r
   Ok (Some i)
 
 -- each argument is tested after those before it
 abbrev pub out_of : {D : Type 0} → AbsState D → List Argument → Result (Option ℕ) Reason
 out_of a arguments = do
-  first ← with_argument a reg.R1 (argument_at arguments 0) None
-  second ← with_argument a reg.R2 (argument_at arguments 1) first
-  third ← with_argument a reg.R3 (argument_at arguments 2) second
-  fourth ← with_argument a reg.R4 (argument_at arguments 3) third
-  with_argument a reg.R5 (argument_at arguments 4) fourth
+  first ← abstract_with_argument a reg.R1 (argument_at arguments 0) None
+  second ← abstract_with_argument a reg.R2 (argument_at arguments 1) first
+  third ← abstract_with_argument a reg.R3 (argument_at arguments 2) second
+  fourth ← abstract_with_argument a reg.R4 (argument_at arguments 3) third
+  abstract_with_argument a reg.R5 (argument_at arguments 4) fourth
 
 -- after a call by which the eight bytes at an index are written, if one is given
 abbrev pub state_after_call : {D : Type 0} → Operations D → AbsState D → Helper → Option ℕ → AbsState D
@@ -440,7 +440,7 @@ helper_step ops a h = do
   Ok (next.On (state_after_call ops a h out))
 
 abbrev pub call_step : {D : Type 0} → Operations D → AbsState D → ℤ → Result (Next D) Reason
-call_step ops a n = ok_or (helper_of n) UnknownHelper >>= helper_step ops a
+call_step ops a number = ok_or (helper_of number) UnknownHelper >>= helper_step ops a
 
 -- ---- the end
 
@@ -454,23 +454,23 @@ exit_with End = Err ExitNotScalar
 
 abbrev pub exit_step : {D : Type 0} → AbsState D → Result (Next D) Reason
 exit_step a = do
-  known ← register_value a reg.R0
+  known ← abstract_register_value a reg.R0
   exit_with known
 
 -- ---- every form
 
-abbrev pub step : {D : Type 0} → Operations D → AbsState D → Insn → Result (Next D) Reason
-step ops a (insn.Alu w op dst o) = alu_step ops a w op dst o
-step ops a (insn.Mov w dst o) = unary_step ops a w (Mov w) dst o
-step ops a (insn.Neg w dst) = unary_step ops a w (Neg w) dst (operand.Reg dst)
-step ops a (insn.SignExtend e dst src) = unary_step ops a (target_of e) (SignExtend e) dst (operand.Reg src)
-step ops a (insn.Swap op z dst) = unary_step ops a W64 (Swap op z) dst (operand.Reg dst)
-step ops a (insn.Jump offset) = Ok (next.On a)
-step ops a (insn.LongJump offset) = Ok (next.On a)
-step ops a (insn.JumpIf w c dst o offset) = branch_step ops a w c dst o
-step ops a (insn.Load z dst base d) = load_step ops a z dst base d
-step ops a (insn.LoadSigned z dst base d) = load_signed_step ops a z dst base d
-step ops a (insn.Store z base o d) = store_step ops a z base o d
-step ops a (insn.LoadImm dst value) = register_write a dst (Ok (Scalar (ops.exact value)))
-step ops a (insn.Call n) = call_step ops a n
-step ops a insn.Exit = exit_step a
+abbrev pub abstract_step : {D : Type 0} → Operations D → AbsState D → Insn → Result (Next D) Reason
+abstract_step ops a (insn.Alu w op dst o) = alu_step ops a w op dst o
+abstract_step ops a (insn.Mov w dst o) = unary_step ops a w (Mov w) dst o
+abstract_step ops a (insn.Neg w dst) = unary_step ops a w (Neg w) dst (operand.Reg dst)
+abstract_step ops a (insn.SignExtend e dst src) = unary_step ops a (target_of e) (SignExtend e) dst (operand.Reg src)
+abstract_step ops a (insn.Swap op z dst) = unary_step ops a W64 (Swap op z) dst (operand.Reg dst)
+abstract_step ops a (insn.Jump offset) = Ok (next.On a)
+abstract_step ops a (insn.LongJump offset) = Ok (next.On a)
+abstract_step ops a (insn.JumpIf w c dst o offset) = branch_step ops a w c dst o
+abstract_step ops a (insn.Load z dst base d) = load_step ops a z dst base d
+abstract_step ops a (insn.LoadSigned z dst base d) = load_signed_step ops a z dst base d
+abstract_step ops a (insn.Store z base o d) = store_step ops a z base o d
+abstract_step ops a (insn.LoadImm dst value) = abstract_register_write a dst (Ok (Scalar (ops.exact value)))
+abstract_step ops a (insn.Call n) = call_step ops a n
+abstract_step ops a insn.Exit = exit_step a

@@ -9,7 +9,7 @@ use Rattle.absstate.specs.declared.abstract_state.AbstractValue.TheVariants.{Not
 use Rattle.absstate.specs.declared.abstract_state.AbsState.{AbsState}
 
 abbrev pub same_int : ℤ → ℤ → Bool
-same_int x y = int_le x y && int_le y x
+same_int i j = int_le i j && int_le j i
 
 -- the same place, wherever it is
 abbrev pub same_anchor : Anchor → Anchor → Bool

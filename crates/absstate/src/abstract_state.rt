@@ -4,7 +4,7 @@ ghost use Rattle.std.specs.Prelude.{◌≡◌, ◌+◌, ◌≤◌, map, length};
 ghost use Rattle.insn.specs.Codes.{byte_count};
 ghost use Rattle.absstate.specs.Covers.{covers_marks};
 ghost use Rattle.semantics.specs.declared.limits.TheConstants.{STACK_BYTES};
-ghost use Rattle.absstate.specs.AbstractStates.{no_marks, is_marked, are_marked, mark, marks_from, first_state, low_of, high_of, id_of, greatest_id, proved_up_to, raised_anchor, raised_value, proved_of, with_value, with_length, with_least, with_answer, with_out};
+ghost use Rattle.absstate.specs.AbstractStates.{no_marks, is_marked, are_marked, mark, marks_from, first_abstract_state, low_of, high_of, id_of, greatest_id, proved_up_to, raised_anchor, raised_value, proved_of, with_value, with_length, with_least, with_answer, with_out};
 
 use crate::covering::covers_marks;
 use insn::{Reg, Size};
@@ -260,7 +260,7 @@ impl<D: Copy> Copy for AbsState<D> {}
 impl<D: Copy> AbsState<D> {
     /// Returns the abstract state before the first instruction, of which each start is a member.
     pub fn start() -> AbsState<D>
-        ensures { result ≡ first_state }
+        ensures { result ≡ first_abstract_state }
     {
         let mut registers = [AbstractValue::Nothing; 11];
         registers[1] = AbstractValue::Ctx;

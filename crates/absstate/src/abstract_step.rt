@@ -3,7 +3,7 @@
 ghost use Rattle.std.specs.Prelude.{◌≡◌, ◌≤◌};
 ghost use Rattle.std.specs.Option.{ok_or};
 ghost use Rattle.insn.specs.Encoding.{Fits};
-ghost use Rattle.absstate.specs.AbstractSteps.{register_value, operand_abstract, single_of, moved_by, alu_result, unary_result, register_write, alu_step, unary_step, exit_step, step};
+ghost use Rattle.absstate.specs.AbstractSteps.{abstract_register_value, operand_abstract, single_of, moved_by, abstract_alu_result, abstract_unary_result, abstract_register_write, alu_step, unary_step, exit_step, abstract_step};
 ghost use Rattle.absstate.specs.Changes.{answer_of};
 ghost use Rattle.absstate.specs.declared.abstract_state.AbsState.{AbsState};
 ghost use Rattle.semantics.specs.declared.reason.Reason.TheVariants.{PointerArithmetic};
@@ -48,7 +48,7 @@ impl<D: Copy> Copy for Next<D> {}
 
 /// Returns the value of a register that is read.
 pub(crate) fn read<D: Copy>(state: &AbsState<D>, reg: Reg) -> Result<AbstractValue<D>, Reason>
-    ensures { result ≡ register_value state.now reg }
+    ensures { result ≡ abstract_register_value state.now reg }
 {
     match state.registers[reg.number() as usize] {
         AbstractValue::Nothing => Err(Reason::UninitRegister),
@@ -100,7 +100,7 @@ fn alu_result<D: Domain>(
     a: AbstractValue<D>,
     b: AbstractValue<D>,
 ) -> Result<AbstractValue<D>, Reason>
-    ensures { result ≡ alu_result D.ops state.now op width a b }
+    ensures { result ≡ abstract_alu_result D.ops state.now op width a b }
 {
     match (a, b) {
         (AbstractValue::Scalar(a), AbstractValue::Scalar(b)) => Ok(AbstractValue::Scalar(D::alu(
@@ -119,7 +119,7 @@ fn alu_result<D: Domain>(
 }
 
 fn unary_result<D: Domain>(op: UnaryOp, a: AbstractValue<D>) -> Result<AbstractValue<D>, Reason>
-    ensures { result ≡ unary_result D.ops op a }
+    ensures { result ≡ abstract_unary_result D.ops op a }
 {
     match (op, a) {
         (UnaryOp::Mov(Width::W64), known) => Ok(known),
@@ -133,7 +133,7 @@ pub(crate) fn written<D: Copy>(
     dst: Reg,
     known: Result<AbstractValue<D>, Reason>,
 ) -> Result<Transition<D>, Reason>
-    ensures { (a : AbsState D) → answer_of a result ≡ register_write a dst known }
+    ensures { (a : AbsState D) → answer_of a result ≡ abstract_register_write a dst known }
 {
     writable(dst)?;
     Ok(Transition::On(Change::Register {
@@ -180,7 +180,7 @@ fn exit_step<D: Copy>(state: &AbsState<D>) -> Result<Transition<D>, Reason>
 
 /// Returns the transition of an instruction, by its form.
 fn transition_of<D: Domain>(state: &AbsState<D>, insn: Insn) -> Result<Transition<D>, Reason>
-    ensures step { answer_of state.now result ≡ step D.ops state.now insn }
+    ensures step { answer_of state.now result ≡ abstract_step D.ops state.now insn }
     ensures fits { Fits insn }
 {
     match insn {
@@ -256,7 +256,7 @@ fn transition_of<D: Domain>(state: &AbsState<D>, insn: Insn) -> Result<Transitio
 impl<D: Domain> AbsState<D> {
     ghost use Rattle.std.specs.Prelude.{◌≡◌, IfOk};
     ghost use Rattle.insn.specs.Encoding.{Fits};
-    ghost use Rattle.absstate.specs.AbstractSteps.{step};
+    ghost use Rattle.absstate.specs.AbstractSteps.{abstract_step};
     ghost use Rattle.absstate.specs.Changes.{answer_of};
     ghost use Rattle.absstate.specs.MemberSteps.{StepsFollow};
 
@@ -265,7 +265,7 @@ impl<D: Domain> AbsState<D> {
     /// # Errors
     /// As [`AbsState::step`].
     pub fn transition(&self, insn: &Insn) -> Result<Transition<D>, Reason>
-        ensures step { answer_of self.now result ≡ step D.ops self.now insn.now }
+        ensures step { answer_of self.now result ≡ abstract_step D.ops self.now insn.now }
         ensures fits { Fits insn.now }
     {
         transition_of(self, *insn)
@@ -280,7 +280,7 @@ impl<D: Domain> AbsState<D> {
     /// # Errors
     /// The reason for which a step from a member of the state could be stuck.
     pub fn step(&self, insn: &Insn) -> Result<Next<D>, Reason>
-        ensures step { result ≡ step D.ops self.now insn.now }
+        ensures step { result ≡ abstract_step D.ops self.now insn.now }
         ensures members { IfOk result (λ next. StepsFollow D.Member self.now insn.now next) }
     {
         let transition = transition_of(self, *insn)?;

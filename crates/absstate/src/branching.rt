@@ -5,7 +5,7 @@ ghost use Rattle.semantics.specs.LooseRuns.{data_bound, converse};
 ghost use Rattle.std.specs.Option.{option_map};
 ghost use Rattle.absstate.specs.Changes.{state_after_change, answer_of};
 ghost use Rattle.absstate.specs.declared.abstract_state.AbsState.{AbsState};
-ghost use Rattle.absstate.specs.AbstractSteps.{with_operands, state_with_operands, order_implies, places_compared, places_fork, fork, branch_step};
+ghost use Rattle.absstate.specs.AbstractSteps.{with_operands, state_with_operands, order_implication, places_compared, fork_of_places, fork, branch_step};
 
 use crate::abstract_state::{AbsState, AbstractValue, Anchor};
 use crate::abstract_step::{operand_abstract, read};
@@ -49,7 +49,7 @@ pub(crate) struct Implied {
 /// Returns what the branches of `offset CONDITION End` imply.
 /// See docs/DECISIONS.md, "A bound or none".
 fn data_implies(condition: Condition, offset: i32) -> Result<Implied, Reason>
-    ensures { result ≡ order_implies condition (data_bound condition offset) }
+    ensures { result ≡ order_implication condition (data_bound condition offset) }
 {
     let at_most = Some(i64::from(offset));
     let below = Some(i64::from(offset) + 1);
@@ -76,7 +76,7 @@ fn data_implies(condition: Condition, offset: i32) -> Result<Implied, Reason>
 
 /// Returns what the branches of `End CONDITION offset` imply.
 fn end_implies(condition: Condition, offset: i32) -> Result<Implied, Reason>
-    ensures { result ≡ order_implies condition (data_bound (converse condition) offset) }
+    ensures { result ≡ order_implication condition (data_bound (converse condition) offset) }
 {
     match condition {
         Condition::Gt => data_implies(Condition::Lt, offset),
@@ -117,7 +117,7 @@ fn places_fork<D: Copy>(
     a: AbstractValue<D>,
     b: AbstractValue<D>,
 ) -> Result<Transition<D>, Reason>
-    ensures { (state : AbsState D) → answer_of state result ≡ places_fork state width condition a b }
+    ensures { (state : AbsState D) → answer_of state result ≡ fork_of_places state width condition a b }
 {
     let (anchor, implied) = places_compared(width, condition, a, b)?;
     Ok(Transition::Fork {

@@ -2,7 +2,7 @@
 
 ghost use Rattle.std.specs.Prelude.{◌≡◌, ◌+◌, ◌≤◌, IfOk, IfSome};
 ghost use Rattle.absstate.specs.Changes.{answer_of};
-ghost use Rattle.absstate.specs.AbstractSteps.{context_argument, number_argument, stack_index, stack_argument, record_readable, record_argument, with_argument, out_of, call_step};
+ghost use Rattle.absstate.specs.AbstractSteps.{abstract_context_argument, abstract_number_argument, abstract_stack_index, abstract_stack_argument, record_readable, abstract_record_argument, abstract_with_argument, out_of, call_step};
 ghost use Rattle.semantics.specs.declared.helper.TheConstants.{RECORD_BYTES};
 ghost use Rattle.semantics.specs.declared.limits.TheConstants.{STACK_BYTES};
 
@@ -15,7 +15,7 @@ use semantics::{Argument, Helper, RECORD_BYTES, Reason, Signature, index_in_stac
 
 /// Tests whether an argument is the context.
 fn context_argument<D: Copy>(state: &AbsState<D>, reg: Reg) -> Result<(), Reason>
-    ensures { result ≡ context_argument state.now reg }
+    ensures { result ≡ abstract_context_argument state.now reg }
 {
     match read(state, reg)? {
         AbstractValue::Ctx => Ok(()),
@@ -25,7 +25,7 @@ fn context_argument<D: Copy>(state: &AbsState<D>, reg: Reg) -> Result<(), Reason
 
 /// Tests whether an argument is a number.
 fn number_argument<D: Copy>(state: &AbsState<D>, reg: Reg) -> Result<(), Reason>
-    ensures { result ≡ number_argument state.now reg }
+    ensures { result ≡ abstract_number_argument state.now reg }
 {
     match read(state, reg)? {
         AbstractValue::Scalar(_) => Ok(()),
@@ -37,7 +37,7 @@ fn number_argument<D: Copy>(state: &AbsState<D>, reg: Reg) -> Result<(), Reason>
 /// in the stack.
 #[tactic(auto, using(semantics::specs::AccessLaws::index_short))]
 fn stack_index<D: Copy>(pointer: AbstractValue<D>) -> Option<usize>
-    ensures index { result ≡ stack_index pointer }
+    ensures index { result ≡ abstract_stack_index pointer }
     ensures inside { IfSome result (λ i. i + RECORD_BYTES ≤ STACK_BYTES) }
 {
     match pointer {
@@ -48,7 +48,7 @@ fn stack_index<D: Copy>(pointer: AbstractValue<D>) -> Option<usize>
 
 /// Returns the index, among the stack cells, of the eight bytes that an argument points to.
 fn stack_argument<D: Copy>(state: &AbsState<D>, reg: Reg) -> Result<usize, Reason>
-    ensures index { result ≡ stack_argument state.now reg }
+    ensures index { result ≡ abstract_stack_argument state.now reg }
     ensures inside { IfOk result (λ i. i + RECORD_BYTES ≤ STACK_BYTES) }
 {
     let argument = read(state, reg)?;
@@ -69,7 +69,7 @@ fn record_readable(marks: &Marks, index: usize) -> Result<(), Reason>
 
 /// Tests whether an argument points to an address record that may be read.
 fn record_argument<D: Copy>(state: &AbsState<D>, reg: Reg) -> Result<(), Reason>
-    ensures { result ≡ record_argument state.now reg }
+    ensures { result ≡ abstract_record_argument state.now reg }
 {
     let index = stack_argument(state, reg)?;
     record_readable(&state.marks, index)
@@ -83,7 +83,7 @@ fn with_argument<D: Copy>(
     out: Option<usize>,
 ) -> Result<Option<usize>, Reason>
     requires { IfSome out (λ i. i + RECORD_BYTES ≤ STACK_BYTES) }
-    ensures out { result ≡ with_argument state.now reg argument out }
+    ensures out { result ≡ abstract_with_argument state.now reg argument out }
     ensures inside { IfOk result (λ written. IfSome written (λ i. i + RECORD_BYTES ≤ STACK_BYTES)) }
 {
     match argument {

@@ -2,7 +2,7 @@
 
 ghost use Rattle.std.specs.Prelude.{◌≡◌, ◌≤◌};
 ghost use Rattle.absstate.specs.Changes.{answer_of};
-ghost use Rattle.absstate.specs.AbstractSteps.{field_known, load_field, region_readable, IsInStack, readable, load_number, number_of_size, load, load_signed, load_step, load_signed_step};
+ghost use Rattle.absstate.specs.AbstractSteps.{field_known, abstract_load_field, region_readable, IsInStack, readable, abstract_load_number, number_of_size, abstract_load, abstract_load_signed, load_step, load_signed_step};
 
 use crate::abstract_state::{AbsState, AbstractValue, Anchor, Marks};
 use crate::abstract_step::{read, written};
@@ -46,7 +46,7 @@ fn field_known<D: Domain>(field: ContextField) -> AbstractValue<D>
 
 /// Returns what is known of what an access to the context record reads.
 fn load_field<D: Domain>(displacement: i16, size: Size) -> Result<AbstractValue<D>, Reason>
-    ensures { result ≡ load_field D.ops displacement size }
+    ensures { result ≡ abstract_load_field D.ops displacement size }
 {
     let field = field_at(displacement, size).ok_or(Reason::ContextAccess)?;
     Ok(field_known(field))
@@ -99,7 +99,7 @@ fn load_number<D: Copy>(
     number: D,
 ) -> Result<AbstractValue<D>, Reason>
     requires { n ≤ 8 }
-    ensures { result ≡ load_number state.now base displacement n number }
+    ensures { result ≡ abstract_load_number state.now base displacement n number }
 {
     readable(state, base, displacement, n)?;
     Ok(AbstractValue::Scalar(number))
@@ -111,7 +111,7 @@ fn load<D: Domain>(
     displacement: i16,
     size: Size,
 ) -> Result<AbstractValue<D>, Reason>
-    ensures { result ≡ load D.ops state.now base displacement size }
+    ensures { result ≡ abstract_load D.ops state.now base displacement size }
 {
     match base {
         AbstractValue::Ctx => load_field(displacement, size),

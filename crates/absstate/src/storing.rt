@@ -3,7 +3,7 @@
 ghost use Rattle.std.specs.Prelude.{◌≡◌};
 ghost use Rattle.insn.specs.Codes.{byte_count};
 ghost use Rattle.absstate.specs.Changes.{state_after_change, answer_of};
-ghost use Rattle.absstate.specs.AbstractSteps.{pointer, storable, IsInStack, with_region, store_step};
+ghost use Rattle.absstate.specs.AbstractSteps.{abstract_pointer, storable, IsInStack, with_region, store_step};
 ghost use Rattle.absstate.specs.declared.abstract_state.AbsState.{AbsState};
 
 use crate::abstract_state::{AbsState, AbstractValue};
@@ -16,7 +16,7 @@ use semantics::Reason;
 
 /// Tests whether a base is a pointer, and not a number.
 fn pointer<D: Copy>(base: AbstractValue<D>) -> Result<(), Reason>
-    ensures { result ≡ pointer base }
+    ensures { result ≡ abstract_pointer base }
 {
     match base {
         AbstractValue::Scalar(_) => Err(Reason::NotAPointer),

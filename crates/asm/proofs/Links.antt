@@ -12,9 +12,9 @@ use Rattle.insn.specs.declared.instruction.Insn.{Insn}
 use Rattle.asm.specs.Lines.{lines_of}
 use Rattle.asm.specs.Statements.{Name, Statement, Labelled, Instruction}
 use Rattle.asm.specs.Programs.{IsInRange, slots_in, slot_from, slot_of_label, linked_one, instructions_of, LacksLabel}
-use Rattle.asm.specs.Reading.{read_line}
+use Rattle.asm.specs.Reading.{line_statement}
 use Rattle.asm.specs.Parsing.{said_in, IsUnfit, UnderstandsLine}
-use Rattle.asm.specs.Scanning.{Holds, IsTableOf, IsHalted, IsLinked, slots_up_to_limit, following_lines, Begins, Fails}
+use Rattle.asm.specs.Scanning.{Holds, IsTableOf, IsHalted, IsLinked, slots_up_to_limit, following_lines, TextBegins, Fails}
 use Rattle.asm.specs.declared.statement.Line.{Line}
 use Rattle.asm.specs.declared.statement.Line.TheVariants as line
 use Rattle.asm.specs.declared.refusal.Fault.{Fault}
@@ -133,15 +133,15 @@ slot_within lines table n slot rest code k = omega
 linked_after : (lines : List (List ℕ)) (table : Table) (n slot : ℕ) (left : Option (Bor (List ℕ)))
     (text : Bor (List ℕ)) (s : Option Statement)
     (rest : List (List ℕ)) (code more : List Insn) (k : IsLinked lines table n slot (following_lines left) code)
-    → left ≡ Some text → Begins text.now s rest
+    → left ≡ Some text → TextBegins text.now s rest
     → instructions_of (slot_of_label k.said) slot (s ∷ []) ≡ Some more
     → IsLinked lines table (n + 1) (slot + slots_in (s ∷ [])) rest (code ++ more)
 linked_after lines table n slot left text s rest code more k is first here =
-    by k.after k.split (subst (λ ls. AllZip (λ line t. read_line line ≡ Some t) ls k.after)
+    by k.after k.split (subst (λ ls. AllZip (λ line t. line_statement line ≡ Some t) ls k.after)
     (ap following_lines is ∙ first.split) k.ahead) k.fit
   where
     by : (after : List (Option Statement)) → k.said ≡ k.before ++ after
-        → AllZip (λ line t. read_line line ≡ Some t) (first.line ∷ rest) after
+        → AllZip (λ line t. line_statement line ≡ Some t) (first.line ∷ rest) after
         → AllByRecursion IsInRange after → IsLinked lines table (n + 1) (slot + slots_in (s ∷ [])) rest (code ++ more)
     by [] split ahead fit = absurd ahead
     by (t ∷ after) split ahead fit = let says : Some t ≡ Some s = sym ahead.0 ∙ first.read in let same : t ≡ s = cc in
@@ -166,12 +166,12 @@ pub no_fault : (lines : List (List ℕ)) (table : Table) (n slot : ℕ) (left : 
     (text : Bor (List ℕ)) (code : List Insn) (m : ℕ) (e : AsmError)
     → IsLinked lines table n slot (following_lines left) code → left ≡ Some text → Fails text.now m e → ⊥
 no_fault lines table n slot left text code m e k is first =
-    by k.after (subst (λ ls. AllZip (λ line t. read_line line ≡ Some t) ls k.after)
+    by k.after (subst (λ ls. AllZip (λ line t. line_statement line ≡ Some t) ls k.after)
     (ap following_lines is ∙ first.split) k.ahead) k.fit first.fault first.fails
   where
-    by : (after : List (Option Statement)) → AllZip (λ line t. read_line line ≡ Some t) (first.line ∷ first.rest) after
+    by : (after : List (Option Statement)) → AllZip (λ line t. line_statement line ≡ Some t) (first.line ∷ first.rest) after
         → AllByRecursion IsInRange after
-        → (f : Fault) → UnderstandsLine (read_line first.line) (Err f) → ⊥
+        → (f : Fault) → UnderstandsLine (line_statement first.line) (Err f) → ⊥
     by [] ahead fit f fails = ahead
     by (t ∷ after) ahead fit fault.Syntax fails = let both : Some t ≡ None = sym ahead.0 ∙ fails in cc
     by (t ∷ after) ahead fit fault.Range fails = let unfit : IsUnfit (Some t) = subst IsUnfit ahead.0 fails in
@@ -181,19 +181,19 @@ no_fault lines table n slot left text code m e k is first =
 pub linked_past : (lines : List (List ℕ)) (table : Table) (n slot : ℕ) (left : Option (Bor (List ℕ)))
     (text : Bor (List ℕ)) (l : Line)
     (rest : List (List ℕ)) (code : List Insn) → IsLinked lines table n slot (following_lines left) code → left ≡ Some text
-    → Begins text.now (said_in l) rest
+    → TextBegins text.now (said_in l) rest
     → ((i : Insn) (label : Option (Bor (List ℕ))) → l ≡ line.Insn i label → ⊥)
     → IsLinked lines table (n + 1) slot rest code
 linked_past lines table n slot left text l rest code k is first other = by l first other
   where
     none : (s : Option Statement) → slots_in (s ∷ []) ≡ 0 → instructions_of (slot_of_label k.said) slot (s ∷ []) ≡ Some []
-        → Begins text.now s rest
+        → TextBegins text.now s rest
         → IsLinked lines table (n + 1) slot rest code
     none s nowhere nothing first = subst (λ c. IsLinked lines table (n + 1) slot rest c) (append-nil code)
         (subst (λ p. IsLinked lines table (n + 1) p rest (code ++ [])) (omega (arith, nowhere))
         (linked_after lines table n slot left text s rest code [] k is first nothing))
 
-    by : (l : Line) → Begins text.now (said_in l) rest
+    by : (l : Line) → TextBegins text.now (said_in l) rest
         → ((i : Insn) (label : Option (Bor (List ℕ))) → l ≡ line.Insn i label → ⊥)
         → IsLinked lines table (n + 1) slot rest code
     by line.Empty first other = none None refl refl first
@@ -205,7 +205,7 @@ pub linked_insn : (lines : List (List ℕ)) (table : Table) (n slot : ℕ) (left
     (text : Bor (List ℕ)) (i : Insn) (target : Option Name)
     (rest : List (List ℕ)) (code : List Insn) (j : Insn) (k : IsLinked lines table n slot (following_lines left) code)
     → left ≡ Some text
-    → Begins text.now (Some (Instruction i target)) rest → Some j ≡ linked_one (slot_of_label k.said) slot i target
+    → TextBegins text.now (Some (Instruction i target)) rest → Some j ≡ linked_one (slot_of_label k.said) slot i target
     → IsLinked lines table (n + 1) (slot + slots_of i) rest (code ++ j ∷ [])
 linked_insn lines table n slot left text i target rest code j k is first one = subst
     (λ p. IsLinked lines table (n + 1) p rest (code ++ j ∷ [])) (omega arith)
@@ -217,13 +217,13 @@ pub unknown_label : (lines : List (List ℕ)) (table : Table) (n slot : ℕ) (le
     (text : Bor (List ℕ)) (i : Insn) (target : Option Name)
     (rest : List (List ℕ)) (code : List Insn) (k : IsLinked lines table n slot (following_lines left) code)
     → left ≡ Some text
-    → Begins text.now (Some (Instruction i target)) rest → None ≡ linked_one (slot_of_label k.said) slot i target
+    → TextBegins text.now (Some (Instruction i target)) rest → None ≡ linked_one (slot_of_label k.said) slot i target
     → IsHalted lines (error.UnknownLabel (n + 1))
 unknown_label lines table n slot left text i target rest code k is first none = by target first.read none
   where
     lacks : (name : Name) → slot_of_label k.said name ≡ None → (after : List (Option Statement)) → k.said ≡ k.before ++ after
-        → AllZip (λ line t. read_line line ≡ Some t) (first.line ∷ rest) after
-        → read_line first.line ≡ Some (Some (Instruction i (Some name)))
+        → AllZip (λ line t. line_statement line ≡ Some t) (first.line ∷ rest) after
+        → line_statement first.line ≡ Some (Some (Instruction i (Some name)))
         → LacksLabel k.said (n + 1)
     lacks name unknown [] split ahead read = absurd ahead
     lacks name unknown (t ∷ after) split ahead read = let says : Some t ≡ Some
@@ -243,7 +243,7 @@ unknown_label lines table n slot left text i target rest code k is first none = 
     missing f None e = refl
     missing f (Some p) e = absurd cc
 
-    by : (target : Option Name) → read_line first.line ≡ Some (Some (Instruction i target))
+    by : (target : Option Name) → line_statement first.line ≡ Some (Some (Instruction i target))
         → None ≡ linked_one (slot_of_label k.said) slot i target
         → IsHalted lines (error.UnknownLabel (n + 1))
     by None read none = absurd cc
@@ -252,6 +252,6 @@ unknown_label lines table n slot left text i target rest code k is first none = 
       k.read,
       k.few,
       lacks name (missing _ _ none) k.after k.split
-          (subst (λ ls. AllZip (λ line t. read_line line ≡ Some t) ls k.after)
+          (subst (λ ls. AllZip (λ line t. line_statement line ≡ Some t) ls k.after)
           (ap following_lines is ∙ first.split) k.ahead) read,
     )

@@ -9,7 +9,7 @@ use Rattle.insn.specs.declared.instruction.Insn.TheVariants.{Jump}
 use Rattle.asm.specs.Lines.{lines_of}
 use Rattle.asm.specs.Statements.{Name, Statement, Labelled, Instruction}
 use Rattle.asm.specs.Programs.{IsInRange, labels, IsNameAmong, AreDistinct, slots_in, slot_of_label, with_distance, linked_one, instructions_of, LacksLabel}
-use Rattle.asm.specs.Reading.{read_line}
+use Rattle.asm.specs.Reading.{line_statement}
 use Rattle.asm.specs.Parsing.{IsUnfit}
 use Rattle.asm.specs.Scanning.{AreUnderstood, IsOld, IsUnread, IsTooLarge, IsOldLabel, IsHalted, IsCodeOf, Halts}
 use Rattle.asm.specs.declared.refusal.AsmError.{AsmError}
@@ -40,8 +40,8 @@ cuts (z ∷ front) x back (w ∷ other) y rest e = by (cuts front x back other y
 -- ---- lines are read in one way
 
 pub said_is_one : (lines : List (List ℕ)) (said other : List (Option Statement))
-    → AllZip (λ line s. read_line line ≡ Some s) lines said
-    → AllZip (λ line s. read_line line ≡ Some s) lines other → said ≡ other
+    → AllZip (λ line s. line_statement line ≡ Some s) lines said
+    → AllZip (λ line s. line_statement line ≡ Some s) lines other → said ≡ other
 said_is_one [] [] [] each more = refl
 said_is_one [] [] (t ∷ other) each more = absurd more
 said_is_one [] (s ∷ said) other each more = absurd each
@@ -86,11 +86,11 @@ record SaysAt (before : List (List ℕ)) (line : List ℕ) (all : List (Option S
   said : Option Statement
   back : List (Option Statement)
   split : all ≡ front ++ said ∷ back
-  each : AllZip (λ l s. read_line l ≡ Some s) before front
-  read : read_line line ≡ Some said
+  each : AllZip (λ l s. line_statement l ≡ Some s) before front
+  read : line_statement line ≡ Some said
 
 says_at : (before : List (List ℕ)) (line : List ℕ) (after : List (List ℕ)) (all : List (Option Statement))
-    → AllZip (λ l s. read_line l ≡ Some s) (before ++ line ∷ after) all → SaysAt before line all
+    → AllZip (λ l s. line_statement l ≡ Some s) (before ++ line ∷ after) all → SaysAt before line all
 says_at [] line after [] each = absurd each
 says_at [] line after (s ∷ all) each = record
     { front = []; said = s; back = all; split = refl; each = tt; read = each.0 }
@@ -159,16 +159,16 @@ record FailsAt (lines : List (List ℕ)) (e : AsmError) : Type 0 where
   split : lines ≡ before ++ line ∷ after
   said : List (Option Statement)
   read : AreUnderstood before said
-  fault : LineFault e (length before + 1) said (read_line line)
+  fault : LineFault e (length before + 1) said (line_statement line)
 
 -- then the lines up to it are not understood
 not_understood : (before : List (List ℕ)) (line : List ℕ) (after : List (List ℕ)) (said all : List (Option Statement))
     (e : AsmError) (n : ℕ)
-    → AreUnderstood before said → LineFault e n said (read_line line) → AreUnderstood (before ++ line ∷ after) all → ⊥
+    → AreUnderstood before said → LineFault e n said (line_statement line) → AreUnderstood (before ++ line ∷ after) all → ⊥
 not_understood before line after said all e n read fault whole = let k = says_at before line after all whole.each in
     let fronts : k.front ≡ said = said_is_one before k.front said k.each read.each in
     no_fault e n k.front k.said (subst (λ s. LineFault e n k.front s) k.read
-    (subst (λ front. LineFault e n front (read_line line)) (sym fronts) fault))
+    (subst (λ front. LineFault e n front (line_statement line)) (sym fronts) fault))
     (fits_at k.front k.said k.back (subst (AllByRecursion IsInRange) k.split whole.fit))
     (is_new k.front k.said k.back (subst (λ all. AreDistinct (labels all)) k.split whole.distinct))
 
@@ -178,9 +178,9 @@ fails_once lines e f a b = by (cuts a.before a.line a.after b.before b.line b.af
     by : Cuts a.before a.line b.before b.line → e ≡ f
     by (Same fronts here) =
         let saids : a.said ≡ b.said = said_is_one b.before a.said b.said
-        (subst (λ ls. AllZip (λ l s. read_line l ≡ Some s) ls a.said) fronts a.read.each) b.read.each in
-        let moved : LineFault f (length a.before + 1) a.said (read_line a.line) = rw (here, fronts, saids) b.fault in
-        one_fault e f (length a.before + 1) a.said (read_line a.line) a.fault moved
+        (subst (λ ls. AllZip (λ l s. line_statement l ≡ Some s) ls a.said) fronts a.read.each) b.read.each in
+        let moved : LineFault f (length a.before + 1) a.said (line_statement a.line) = rw (here, fronts, saids) b.fault in
+        one_fault e f (length a.before + 1) a.said (line_statement a.line) a.fault moved
     by (Before more is) = absurd (not_understood a.before a.line more a.said b.said e _ a.read a.fault
         (subst (λ ls. AreUnderstood ls b.said) is b.read))
     by (After more is) = absurd (not_understood b.before b.line more b.said a.said f _ b.read b.fault
@@ -276,7 +276,7 @@ record FailsWhole (lines : List (List ℕ)) (e : AsmError) : Type 0 where
 -- a line at which reading halts is the first with a fault
 line_fails : (lines : List (List ℕ)) (e : AsmError) (n : ℕ)
     (F : List (Option Statement) → Option (Option Statement) → Type 0) (h : Halts lines n F)
-    → LineFault e (length h.before + 1) h.said (read_line h.line) → FailsAt lines e
+    → LineFault e (length h.before + 1) h.said (line_statement h.line) → FailsAt lines e
 line_fails lines e n F h fault = record {
   before = h.before;
   line = h.line;

@@ -7,10 +7,10 @@ use Rattle.indexmap.proofs.SetLemmas.{AllZip-push}
 use Rattle.asm.specs.Lines.{lines_of}
 use Rattle.asm.specs.Statements.{Name, Statement, Labelled, Instruction}
 use Rattle.asm.specs.Programs.{IsInRange, labels, IsNameAmong, AreDistinct}
-use Rattle.asm.specs.Reading.{read_line}
+use Rattle.asm.specs.Reading.{line_statement}
 use Rattle.asm.specs.Parsing.{UnderstandsLine}
 use Rattle.asm.specs.Faults.{fault_at}
-use Rattle.asm.specs.Scanning.{AreUnderstood, Holds, IsNew, Adds, IsScanned, IsHalted, following_lines, Begins, Fails, Halts, IsUnread, IsTooLarge}
+use Rattle.asm.specs.Scanning.{AreUnderstood, Holds, IsNewLabel, Adds, IsScanned, IsHalted, following_lines, TextBegins, Fails, Halts, IsUnread, IsTooLarge}
 use Rattle.asm.specs.declared.refusal.Fault.{Fault}
 use Rattle.asm.specs.declared.refusal.Fault.TheVariants as fault
 use Rattle.asm.specs.declared.refusal.AsmError.{AsmError}
@@ -58,7 +58,7 @@ labels_more (None ∷ said) s = labels_more said s
 labels_more (Some (Labelled n) ∷ said) s = ap (λ names. n ∷ names) (labels_more said s)
 labels_more (Some (Instruction i t) ∷ said) s = labels_more said s
 
-new_is_distinct : (said : List (Option Statement)) (s : Option Statement) → AreDistinct (labels said) → IsNew said s
+new_is_distinct : (said : List (Option Statement)) (s : Option Statement) → AreDistinct (labels said) → IsNewLabel said s
     → AreDistinct (labels said ++ labels (s ∷ []))
 new_is_distinct said None distinct new = rw append-nil distinct
 new_is_distinct said (Some (Labelled n)) distinct new = distinct_more (labels said) n distinct new
@@ -69,9 +69,9 @@ new_is_distinct said (Some (Instruction i t)) distinct new = rw append-nil disti
 -- one line more is understood
 pub understood_more : (lines : List (List ℕ)) (said : List (Option Statement)) (line : List ℕ) (s : Option Statement)
     → AreUnderstood lines said
-    → read_line line ≡ Some s → IsInRange s → IsNew said s → AreUnderstood (lines ++ line ∷ []) (said ++ s ∷ [])
+    → line_statement line ≡ Some s → IsInRange s → IsNewLabel said s → AreUnderstood (lines ++ line ∷ []) (said ++ s ∷ [])
 understood_more lines said line s read is fit new = record {
-  each = AllZip-push (λ l t. read_line l ≡ Some t) lines said line s read.each is;
+  each = AllZip-push (λ l t. line_statement l ≡ Some t) lines said line s read.each is;
   fit = each_more IsInRange said s read.fit fit;
   distinct = subst AreDistinct (sym (labels_more said s)) (new_is_distinct said s read.distinct new);
 }
@@ -91,7 +91,7 @@ scanned_none text table holds = record {
 pub scanned_more : (lines : List (List ℕ)) (n : ℕ) (left : Option (Bor (List ℕ))) (text : Bor (List ℕ))
     (s : Option Statement) (rest : List (List ℕ))
     (table new : Table) (x : Unit {0}) → IsScanned lines n (following_lines left) table → left ≡ Some text
-    → Begins text.now s rest
+    → TextBegins text.now s rest
     → ((said : List (Option Statement)) → Holds table said → Adds said s (n + 1) new (Ok x))
     → IsScanned lines (n + 1) rest new
 scanned_more lines n left text s rest table new x scanned is first added = record {
@@ -111,7 +111,7 @@ pub halted_at_fault : (lines : List (List ℕ)) (n : ℕ) (left : Option (Bor (L
     → IsScanned lines n (following_lines left) table → left ≡ Some text → Fails text.now (n + 1) e → IsHalted lines e
 halted_at_fault lines n left text table e scanned is fails = rw fails.named (by fails.fault fails.fails)
   where
-    halted : (F : List (Option Statement) → Option (Option Statement) → Type 0) → F scanned.said (read_line fails.line)
+    halted : (F : List (Option Statement) → Option (Option Statement) → Type 0) → F scanned.said (line_statement fails.line)
         → Halts lines (n + 1) F
     halted F fault = record {
       before = scanned.before;
@@ -124,7 +124,7 @@ halted_at_fault lines n left text table e scanned is fails = rw fails.named (by 
       fault = fault;
     }
 
-    by : (f : Fault) → UnderstandsLine (read_line fails.line) (Err f) → IsHalted lines (fault_at f (n + 1))
+    by : (f : Fault) → UnderstandsLine (line_statement fails.line) (Err f) → IsHalted lines (fault_at f (n + 1))
     by fault.Syntax none = halted IsUnread none
     by fault.Range unfit = halted IsTooLarge unfit
 
@@ -132,7 +132,7 @@ halted_at_fault lines n left text table e scanned is fails = rw fails.named (by 
 pub halted_at_label : (lines : List (List ℕ)) (n : ℕ) (left : Option (Bor (List ℕ))) (text : Bor (List ℕ))
     (s : Option Statement) (rest : List (List ℕ))
     (table new : Table) (e : AsmError) → IsScanned lines n (following_lines left) table → left ≡ Some text
-    → Begins text.now s rest
+    → TextBegins text.now s rest
     → ((said : List (Option Statement)) → Holds table said → Adds said s (n + 1) new (Err e)) → IsHalted lines e
 halted_at_label lines n left text s rest table new e scanned is first added = by e (added scanned.said scanned.holds)
   where

@@ -7,7 +7,7 @@ use denote.Ref.{Bor}
 use Rattle.asm.specs.Lines.{Token, is_blank}
 use Rattle.asm.specs.Statements.{Statement, Labelled, Instruction}
 use Rattle.asm.specs.Programs.{IsInRange}
-use Rattle.asm.specs.Reading.{Read, tokens_of, MemoryOperand, Target}
+use Rattle.asm.specs.Reading.{Parse, tokens_of, MemoryOperand, Target}
 use Rattle.asm.specs.declared.refusal.Fault.{Fault}
 use Rattle.asm.specs.declared.refusal.Fault.TheVariants.{Syntax, Range}
 use Rattle.asm.specs.Radices.{radix_of}
@@ -28,14 +28,14 @@ abbrev pub numeral_value : Number → ℕ
 numeral_value n = digits_value (radix_of n.radix) n.digits.now
 
 abbrev pub integer_value : Integer → ℤ
-integer_value n = if n.is_negative then neg_ℤ (pos (numeral_value n.magnitude)) else pos (numeral_value n.magnitude)
+integer_value integer = if integer.is_negative then neg_ℤ (pos (numeral_value integer.magnitude)) else pos (numeral_value integer.magnitude)
 
-abbrev pub operand_value : Written → Operand
-operand_value (written.Reg r) = operand.Reg r
-operand_value (written.Integer n) = operand.Imm (integer_value n)
+abbrev pub parsed_operand : Written → Operand
+parsed_operand (written.Reg r) = operand.Reg r
+parsed_operand (written.Integer n) = operand.Imm (integer_value n)
 
-abbrev pub address_value : Address → MemoryOperand
-address_value a = record { base = a.base; displacement = integer_value a.displacement }
+abbrev pub parsed_address : Address → MemoryOperand
+parsed_address a = record { base = a.base; displacement = integer_value a.displacement }
 
 abbrev pub goal_value : Goal → Target
 goal_value (goal.Label name) = record { distance = pos 0; label = Some name.now }
@@ -52,18 +52,18 @@ said_in (line.Insn i target) = Some (Instruction i (option_map (λ name. name.no
 -- ---- what methods do
 
 -- the tokens that a parser has before it
-abbrev pub ahead : Parser → List Token
-ahead p = tokens_of p.rest.now
+abbrev pub tokens_ahead : Parser → List Token
+tokens_ahead p = tokens_of p.rest.now
 
 -- a method reads what a reader reads, and fails where it fails
-abbrev pub Reads : {X Y : Type 0} → (List Token → Option (Read Y)) → (X → Y) → Parser → Result X Fault → Parser → Type 0
-Reads reader value old (Ok x) new = reader (ahead old) ≡ Some (record { value = value x; rest = ahead new })
-Reads reader value old (Err e) new = (e ≡ Syntax) × (reader (ahead old) ≡ None)
+abbrev pub Reads : {X Y : Type 0} → (List Token → Option (Parse Y)) → (X → Y) → Parser → Result X Fault → Parser → Type 0
+Reads reader value old (Ok x) new = reader (tokens_ahead old) ≡ Some (record { value = value x; rest = tokens_ahead new })
+Reads reader value old (Err e) new = (e ≡ Syntax) × (reader (tokens_ahead old) ≡ None)
 
 -- likewise a method that reads no value
 abbrev pub Passes : {X : Type 0} → (List Token → Option X) → (Parser → X) → Parser → Result (Unit {0}) Fault → Parser → Type 0
-Passes reader left old (Ok x) new = reader (ahead old) ≡ Some (left new)
-Passes reader left old (Err e) new = (e ≡ Syntax) × (reader (ahead old) ≡ None)
+Passes reader left old (Ok x) new = reader (tokens_ahead old) ≡ Some (left new)
+Passes reader left old (Err e) new = (e ≡ Syntax) × (reader (tokens_ahead old) ≡ None)
 
 -- a method reads all that is before it
 abbrev pub ReadsAll : {X Y : Type 0} → (List Token → Option Y) → (X → Y) → List Token → Result X Fault → Type 0

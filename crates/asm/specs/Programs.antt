@@ -135,14 +135,14 @@ pub record LacksLabel (said : List (Option Statement)) (n : ℕ) : Type 0 where
   pub unknown : slot_of_label said name ≡ None
 
 -- The faults of lines come first, in the order of the lines; then the number of slots; then the first unknown label.
-abbrev pub IsRefused : List ℕ → AsmError → Type 0
-IsRefused text (error.Syntax n) = StopsAt text n IsNoLine
-IsRefused text (error.Range n) = StopsAt text n IsOutOfRange
-IsRefused text (error.DoubleLabel n) = StopsAt text n IsRepeated
-IsRefused text error.TooLong = (said : List (Option Statement)) × AreRead (lines_of text) said × (MAX_SLOTS < slots_in said)
-IsRefused text (error.UnknownLabel n) = (said : List (Option Statement)) × AreRead (lines_of text) said × (slots_in said ≤ MAX_SLOTS)
+abbrev pub IsRefusedText : List ℕ → AsmError → Type 0
+IsRefusedText text (error.Syntax n) = StopsAt text n IsNoLine
+IsRefusedText text (error.Range n) = StopsAt text n IsOutOfRange
+IsRefusedText text (error.DoubleLabel n) = StopsAt text n IsRepeated
+IsRefusedText text error.TooLong = (said : List (Option Statement)) × AreRead (lines_of text) said × (MAX_SLOTS < slots_in said)
+IsRefusedText text (error.UnknownLabel n) = (said : List (Option Statement)) × AreRead (lines_of text) said × (slots_in said ≤ MAX_SLOTS)
     × LacksLabel said n
-IsRefused text error.Memory = ⊥
+IsRefusedText text error.Memory = ⊥
 
 -- the text of a refusal: its code, and the line where it has one
 abbrev pub asm_error_text : AsmError → List ℕ

@@ -24,6 +24,7 @@ use Rattle.insn.specs.declared.instruction.Operand.{Operand}
 use Rattle.insn.specs.declared.instruction.Operand.TheVariants as operand
 use Rattle.insn.specs.declared.instruction.Insn.{Insn}
 use Rattle.insn.specs.declared.instruction.Insn.TheVariants as insn
+use Rattle.fallible.specs.Options.{◌>>=◌}
 use Rattle.asm.specs.declared.parser.TheConstants.{MAX_NAME}
 use Rattle.asm.specs.declared.mnemonic.Mnemonic.{Mnemonic}
 use Rattle.asm.specs.declared.mnemonic.Mnemonic.TheVariants.{Alu, Mov, Neg, SignExtend, Swap, Jump, LongJump, JumpIf, Load, LoadSigned, StoreImm, StoreReg, LoadImm, Call, Exit}
@@ -49,14 +50,9 @@ tokens_of line = following_tokens [] line
 -- ---- readers
 
 -- what was read, and the tokens after it
-pub record Read (X : Type 0) : Type 0 where
+pub record Parse (X : Type 0) : Type 0 where
   pub value : X
   pub rest : List Token
-
-infixl 10 ◌>>=◌
-abbrev pub ◌>>=◌ : {A B : Type 0} → Option A → (A → Option B) → Option B
-None >>= f = None
-(Some x) >>= f = f x
 
 -- one sign
 abbrev pub sign : Token → List Token → Option (List Token)
@@ -69,7 +65,7 @@ end [] = Some tt
 end (t ∷ ts) = None
 
 -- a word for which there is a meaning
-abbrev pub word : {X : Type 0} → (Token → Option X) → List Token → Option (Read X)
+abbrev pub word : {X : Type 0} → (Token → Option X) → List Token → Option (Parse X)
 word meaning [] = None
 word meaning (t ∷ ts) = option_map (λ x. record { value = x; rest = ts }) (meaning t)
 
@@ -108,66 +104,66 @@ number_of_token t = if is_hexadecimal t
     then (if is_numeral 16 (drop 2 t) then Some (digits_value 16 (drop 2 t)) else None)
     else (if is_numeral 10 t then Some (digits_value 10 t) else None)
 
-abbrev pub register : List Token → Option (Read Reg)
-register ts = word register_named ts
+abbrev pub register_in : List Token → Option (Parse Reg)
+register_in ts = word register_named ts
 
-abbrev pub name : List Token → Option (Read Name)
+abbrev pub name : List Token → Option (Parse Name)
 name ts = word name_in ts
 
-abbrev pub number : List Token → Option (Read ℕ)
+abbrev pub number : List Token → Option (Parse ℕ)
 number ts = word number_of_token ts
 
-abbrev pub positive : Read ℕ → Read ℤ
-positive n = record { value = pos n.value; rest = n.rest }
+abbrev pub as_positive : Parse ℕ → Parse ℤ
+as_positive n = record { value = pos n.value; rest = n.rest }
 
-abbrev pub negative : Read ℕ → Read ℤ
+abbrev pub negative : Parse ℕ → Parse ℤ
 negative n = record { value = neg_ℤ (pos n.value); rest = n.rest }
 
 -- a sign and a number
-abbrev pub signed_number : List Token → Option (Read ℤ)
+abbrev pub signed_number : List Token → Option (Parse ℤ)
 signed_number [] = None
-signed_number (t ∷ ts) = if bytes_eq t (codes "+") then option_map positive (number ts)
+signed_number (t ∷ ts) = if bytes_eq t (codes "+") then option_map as_positive (number ts)
     else (if bytes_eq t (codes "-") then option_map negative (number ts) else None)
 
 -- a number, perhaps after a minus
-abbrev pub integer : List Token → Option (Read ℤ)
+abbrev pub integer : List Token → Option (Parse ℤ)
 integer [] = None
-integer (t ∷ ts) = if bytes_eq t (codes "-") then option_map negative (number ts) else option_map positive (number (t ∷ ts))
+integer (t ∷ ts) = if bytes_eq t (codes "-") then option_map negative (number ts) else option_map as_positive (number (t ∷ ts))
 
-abbrev pub as_imm : Read ℤ → Read Operand
-as_imm n = record { value = operand.Imm n.value; rest = n.rest }
+abbrev pub as_imm : Parse ℤ → Parse Operand
+as_imm parse = record { value = operand.Imm parse.value; rest = parse.rest }
 
-abbrev pub register_or : Option (Read Reg) → Option (Read ℤ) → Option (Read Operand)
-register_or (Some r) n = Some (record { value = operand.Reg r.value; rest = r.rest })
-register_or None n = option_map as_imm n
+abbrev pub register_or : Option (Parse Reg) → Option (Parse ℤ) → Option (Parse Operand)
+register_or (Some r) parse = Some (record { value = operand.Reg r.value; rest = r.rest })
+register_or None parse = option_map as_imm parse
 
-abbrev pub operand_in : List Token → Option (Read Operand)
-operand_in ts = register_or (register ts) (integer ts)
+abbrev pub operand_in : List Token → Option (Parse Operand)
+operand_in ts = register_or (register_in ts) (integer ts)
 
 -- where a jump goes: its distance, or 0 and a label
 pub record Target : Type 0 where
   pub distance : ℤ
   pub label : Option Name
 
-abbrev pub as_distance : Read ℤ → Read Target
-as_distance n = record { value = record { distance = n.value; label = None }; rest = n.rest }
+abbrev pub as_distance : Parse ℤ → Parse Target
+as_distance parse = record { value = record { distance = parse.value; label = None }; rest = parse.rest }
 
-abbrev pub name_or : Option (Read Name) → Option (Read ℤ) → Option (Read Target)
+abbrev pub name_or : Option (Parse Name) → Option (Parse ℤ) → Option (Parse Target)
 name_or (Some n) d = Some (record { value = record { distance = pos 0; label = Some n.value }; rest = n.rest })
 name_or None d = option_map as_distance d
 
-abbrev pub target : List Token → Option (Read Target)
-target ts = name_or (name ts) (signed_number ts)
+abbrev pub jump_target : List Token → Option (Parse Target)
+jump_target ts = name_or (name ts) (signed_number ts)
 
 -- the register and the displacement of an address
 pub record MemoryOperand : Type 0 where
   pub base : Reg
   pub displacement : ℤ
 
-abbrev pub address : List Token → Option (Read MemoryOperand)
+abbrev pub address : List Token → Option (Parse MemoryOperand)
 address ts = do
   opened ← sign (codes "[") ts
-  base ← register opened
+  base ← register_in opened
   displacement ← signed_number base.rest
   closed ← sign (codes "]") displacement.rest
   Some (record { value = record { base = base.value; displacement = displacement.value }; rest = closed })
@@ -214,8 +210,8 @@ memory_mnemonics = Load size.Byte ∷ Load size.Half ∷ Load size.Word ∷ Load
     ∷ StoreImm size.Byte ∷ StoreImm size.Half ∷ StoreImm size.Word ∷ StoreImm size.Double
     ∷ StoreReg size.Byte ∷ StoreReg size.Half ∷ StoreReg size.Word ∷ StoreReg size.Double ∷ LoadImm ∷ []
 
-abbrev pub among : List Mnemonic → Token → Option Mnemonic
-among mnemonics t = find (λ m. bytes_eq (name_of m) t) mnemonics
+abbrev pub mnemonic_among : List Mnemonic → Token → Option Mnemonic
+mnemonic_among mnemonics t = find (λ m. bytes_eq (name_of m) t) mnemonics
 
 abbrev pub operator_named : Token → Option AluOp
 operator_named t = find (λ op. bytes_eq (operator_name op) t) operators
@@ -237,15 +233,15 @@ abbrev pub by_width : Token → Option Mnemonic
 by_width t = if bytes_eq (drop (length t - 3) t) (codes ".32") then of_width W32 (take (length t - 3) t) else of_width W64 t
 
 abbrev pub mnemonic_named : Token → Option Mnemonic
-mnemonic_named t = or_else (among conversion_mnemonics t) (or_else (among control_mnemonics t)
-    (or_else (among memory_mnemonics t) (by_width t)))
+mnemonic_named t = or_else (mnemonic_among conversion_mnemonics t) (or_else (mnemonic_among control_mnemonics t)
+    (or_else (mnemonic_among memory_mnemonics t) (by_width t)))
 
 -- ---- statements
 
 -- a register, a comma, and what follows
-abbrev pub dst_comma : List Token → Option (Read Reg)
+abbrev pub dst_comma : List Token → Option (Parse Reg)
 dst_comma ts = do
-  dst ← register ts
+  dst ← register_in ts
   rest ← sign (codes ",") dst.rest
   Some (record { value = dst.value; rest = rest })
 
@@ -259,7 +255,7 @@ two make ts = do
 
 abbrev pub only_register : List Token → Option Reg
 only_register ts = do
-  dst ← register ts
+  dst ← register_in ts
   done ← end dst.rest
   Some dst.value
 
@@ -270,13 +266,13 @@ one make ts = option_map (λ dst. Instruction (make dst) None) (only_register ts
 abbrev pub sign_extension : Extension → List Token → Option Statement
 sign_extension e ts = do
   dst ← dst_comma ts
-  src ← register dst.rest
+  src ← register_in dst.rest
   done ← end src.rest
   Some (Instruction (insn.SignExtend e dst.value src.value) None)
 
 abbrev pub only_goal : List Token → Option Target
 only_goal ts = do
-  t ← target ts
+  t ← jump_target ts
   done ← end t.rest
   Some t.value
 
@@ -311,7 +307,7 @@ abbrev pub store_register : Size → List Token → Option Statement
 store_register size ts = do
   at ← address ts
   rest ← sign (codes ",") at.rest
-  src ← register rest
+  src ← register_in rest
   done ← end src.rest
   Some (Instruction (insn.Store size at.value.base (operand.Reg src.value) at.value.displacement) None)
 
@@ -372,5 +368,5 @@ said_by [] = Some None
 said_by (t ∷ ts) = option_map Some (label_or (sign (codes ":") ts) t ts)
 
 -- what a line says
-abbrev pub read_line : List ℕ → Option (Option Statement)
-read_line line = said_by (tokens_of line)
+abbrev pub line_statement : List ℕ → Option (Option Statement)
+line_statement line = said_by (tokens_of line)

@@ -10,7 +10,7 @@ use Rattle.insn.specs.declared.instruction.Insn.{Insn}
 use Rattle.asm.specs.Lines.{lines_of}
 use Rattle.asm.specs.Statements.{Statement, Labelled, Instruction}
 use Rattle.asm.specs.Programs.{IsInRange, labels, IsNameAmong, AreDistinct, slots_in, slot_of_label, instructions_of, LacksLabel}
-use Rattle.asm.specs.Reading.{read_line}
+use Rattle.asm.specs.Reading.{line_statement}
 use Rattle.asm.specs.Parsing.{IsUnfit, UnderstandsLine}
 use Rattle.asm.specs.Faults.{fault_at}
 use Rattle.asm.specs.declared.refusal.Fault.{Fault}
@@ -29,10 +29,10 @@ lines_left None = 0
 lines_left (Some rest) = length rest.now + 1
 
 -- the first line of a text is read as this, its numbers fit, and these lines follow
-pub record Begins (text : List ℕ) (s : Option Statement) (rest : List (List ℕ)) : Type 0 where
+pub record TextBegins (text : List ℕ) (s : Option Statement) (rest : List (List ℕ)) : Type 0 where
   pub line : List ℕ
   pub split : lines_of text ≡ line ∷ rest
-  pub read : read_line line ≡ Some s
+  pub read : line_statement line ≡ Some s
   pub fit : IsInRange s
 
 -- the first line of a text, which has this number, has a fault
@@ -42,11 +42,11 @@ pub record Fails (text : List ℕ) (n : ℕ) (e : AsmError) : Type 0 where
   pub split : lines_of text ≡ line ∷ rest
   pub fault : Fault
   pub named : e ≡ fault_at fault n
-  pub fails : UnderstandsLine (read_line line) (Err fault)
+  pub fails : UnderstandsLine (line_statement line) (Err fault)
 
 -- the lines are read as this, without a fault of their own
 pub record AreUnderstood (lines : List (List ℕ)) (said : List (Option Statement)) : Type 0 where
-  pub each : AllZip (λ line s. read_line line ≡ Some s) lines said
+  pub each : AllZip (λ line s. line_statement line ≡ Some s) lines said
   pub fit : AllByRecursion IsInRange said
   pub distinct : AreDistinct (labels said)
 
@@ -61,10 +61,10 @@ pub record Holds (table : Table) (said : List (Option Statement)) : Type 0 where
       → get (λ x y. pointwise nat_eq x.now y.now) table.label_slots name ≡ option_map slots_up_to_limit (slot_of_label said name.now)
 
 -- a label is new
-abbrev pub IsNew : List (Option Statement) → Option Statement → Type 0
-IsNew said None = Unit {0}
-IsNew said (Some (Labelled name)) = IsNameAmong name (labels said) → ⊥
-IsNew said (Some (Instruction i target)) = Unit {0}
+abbrev pub IsNewLabel : List (Option Statement) → Option Statement → Type 0
+IsNewLabel said None = Unit {0}
+IsNewLabel said (Some (Labelled name)) = IsNameAmong name (labels said) → ⊥
+IsNewLabel said (Some (Instruction i target)) = Unit {0}
 
 -- a label comes before
 abbrev pub IsOld : List (Option Statement) → Option Statement → Type 0
@@ -74,7 +74,7 @@ IsOld said (Some (Instruction i target)) = ⊥
 
 -- a table with what one more line says
 abbrev pub Adds : List (Option Statement) → Option Statement → ℕ → Table → Result (Unit {0}) AsmError → Type 0
-Adds said s n table (Ok x) = Holds table (said ++ s ∷ []) × IsNew said s
+Adds said s n table (Ok x) = Holds table (said ++ s ∷ []) × IsNewLabel said s
 Adds said s n table (Err (error.DoubleLabel m)) = (m ≡ n) × IsOld said s
 Adds said s n table (Err error.Memory) = Unit {0}
 Adds said s n table (Err (error.Syntax m)) = ⊥
@@ -111,13 +111,13 @@ pub record Halts (lines : List (List ℕ)) (n : ℕ)
   pub count : n ≡ length before + 1
   pub said : List (Option Statement)
   pub read : AreUnderstood before said
-  pub fault : Fault said (read_line line)
+  pub fault : Fault said (line_statement line)
 
 abbrev pub IsUnread : List (Option Statement) → Option (Option Statement) → Type 0
-IsUnread said s = s ≡ None
+IsUnread said statement = statement ≡ None
 
 abbrev pub IsTooLarge : List (Option Statement) → Option (Option Statement) → Type 0
-IsTooLarge said s = IsUnfit s
+IsTooLarge said statement = IsUnfit statement
 
 abbrev pub IsOldLabel : List (Option Statement) → Option (Option Statement) → Type 0
 IsOldLabel said None = ⊥
@@ -145,7 +145,7 @@ pub record IsLinked (lines : List (List ℕ)) (table : Table) (n slot : ℕ) (re
   pub before : List (Option Statement)
   pub after : List (Option Statement)
   pub split : said ≡ before ++ after
-  pub ahead : AllZip (λ line s. read_line line ≡ Some s) rest after
+  pub ahead : AllZip (λ line s. line_statement line ≡ Some s) rest after
   pub fit : AllByRecursion IsInRange after
   pub count : n ≡ length before
   pub slots : slot ≡ slots_in before

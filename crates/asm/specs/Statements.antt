@@ -20,8 +20,8 @@ IsName (c ∷ rest) = (begins_name c ≡ true) × AllByRecursion (λ d. is_in_na
 
 -- NUM: decimal digits, or `0x` and hexadecimal digits of either case
 abbrev pub IsNumber : ℕ → Token → Type 0
-IsNumber n t = (IsNumeral 10 t × (n ≡ digits_value 10 t))
-    ⊎ ((digits : List ℕ) × (t ≡ codes "0x" ++ digits) × IsNumeral 16 digits × (n ≡ digits_value 16 digits))
+IsNumber value t = (IsNumeral 10 t × (value ≡ digits_value 10 t))
+    ⊎ ((digits : List ℕ) × (t ≡ codes "0x" ++ digits) × IsNumeral 16 digits × (value ≡ digits_value 16 digits))
 
 -- a sign and NUM
 abbrev pub IsSigned : ℤ → List Token → Type 0
@@ -36,11 +36,11 @@ IsInteger n ts = (m : ℕ) × (t : Token) × IsNumber m t
 -- ---- arguments
 
 -- an argument of an instruction; a jump may name a label in the place of its distance
-pub data Written : Type 0 where
-  Plain : Argument → Written
-  Label : Name → Written
+pub data WrittenArgument : Type 0 where
+  Plain : Argument → WrittenArgument
+  Label : Name → WrittenArgument
 
-abbrev pub IsWritten : Written → List Token → Type 0
+abbrev pub IsWritten : WrittenArgument → List Token → Type 0
 IsWritten (Plain (Register r)) ts = ts ≡ register_name r ∷ []
 IsWritten (Plain (Integer n)) ts = IsInteger n ts
 IsWritten (Plain (Natural n)) ts = (t : Token) × (ts ≡ t ∷ []) × IsNumber n t
@@ -50,13 +50,13 @@ IsWritten (Plain (Distance n)) ts = IsSigned n ts
 IsWritten (Label name) ts = (ts ≡ name ∷ []) × IsName name
 
 -- arguments with `,` between them
-abbrev pub AreWritten : List Written → List Token → Type 0
+abbrev pub AreWritten : List WrittenArgument → List Token → Type 0
 AreWritten [] ts = ts ≡ []
 AreWritten (a ∷ []) ts = IsWritten a ts
 AreWritten (a ∷ b ∷ more) ts = (front rest : List Token) × (ts ≡ front ++ codes "," ∷ rest) × IsWritten a front
     × AreWritten (b ∷ more) rest
 
-abbrev pub spelling_of : Option Name → Argument → Written
+abbrev pub spelling_of : Option Name → Argument → WrittenArgument
 spelling_of None a = Plain a
 spelling_of (Some name) (Register r) = Plain (Register r)
 spelling_of (Some name) (Integer n) = Plain (Integer n)

@@ -1,7 +1,7 @@
 //! The mnemonics of instructions.
 
 ghost use Rattle.std.specs.Prelude.{◌≡◌};
-ghost use Rattle.asm.specs.Reading.{operator_named, condition_named, among, conversion_mnemonics, control_mnemonics, memory_mnemonics, of_width, mnemonic_named};
+ghost use Rattle.asm.specs.Reading.{operator_named, condition_named, mnemonic_among, conversion_mnemonics, control_mnemonics, memory_mnemonics, of_width, mnemonic_named};
 
 use insn::{AluOp, Condition, Extension, SignedSize, Size, SwapOp, SwapSize, Width};
 
@@ -86,7 +86,7 @@ fn of_width(name: &[u8], width: Width) -> Option<Mnemonic>
 
 /// Returns the mnemonic of a name, where it is that of a sign extension or a byte swap.
 fn conversion(name: &[u8]) -> Option<Mnemonic>
-    ensures { result ≡ among conversion_mnemonics name.now }
+    ensures { result ≡ mnemonic_among conversion_mnemonics name.now }
 {
     match name {
         b"movsx8.32" => Some(Mnemonic::SignExtend(Extension::ByteTo32)),
@@ -109,7 +109,7 @@ fn conversion(name: &[u8]) -> Option<Mnemonic>
 
 /// Returns the mnemonic of a name, where it is that of an unconditional jump, a call or an exit.
 fn control(name: &[u8]) -> Option<Mnemonic>
-    ensures { result ≡ among control_mnemonics name.now }
+    ensures { result ≡ mnemonic_among control_mnemonics name.now }
 {
     match name {
         b"ja" => Some(Mnemonic::Jump),
@@ -122,7 +122,7 @@ fn control(name: &[u8]) -> Option<Mnemonic>
 
 /// Returns the mnemonic of a name, where it is a load or a store.
 fn memory(name: &[u8]) -> Option<Mnemonic>
-    ensures { result ≡ among memory_mnemonics name.now }
+    ensures { result ≡ mnemonic_among memory_mnemonics name.now }
 {
     match name {
         b"ldxb" => Some(Mnemonic::Load(Size::Byte)),

@@ -8,7 +8,7 @@ ghost use Rattle.asm.specs.Radices.{radix_of, is_numeral};
 ghost use Rattle.asm.specs.Lines.{begins_name, is_in_names, is_in_words, is_blank};
 ghost use Rattle.asm.specs.Reading as reading;
 ghost use Rattle.asm.specs.Reading.{register_named, is_name, number_of_token};
-ghost use Rattle.asm.specs.Parsing.{ahead, numeral_value, integer_value, operand_value, address_value, goal_value, Reads, Passes, StartsUnblank};
+ghost use Rattle.asm.specs.Parsing.{tokens_ahead, numeral_value, integer_value, parsed_operand, parsed_address, goal_value, Reads, Passes, StartsUnblank};
 
 use crate::number::{Integer, Number};
 use crate::radix::Radix;
@@ -157,14 +157,14 @@ pub(crate) struct Parser<'a> {
 impl<'a> Parser<'a> {
     /// Returns a parser of a whole line.
     pub(crate) fn new(line: &'a [u8]) -> Parser<'a>
-        ensures { ahead result ≡ reading.tokens_of line.now }
+        ensures { tokens_ahead result ≡ reading.tokens_of line.now }
     {
         Parser { rest: line }
     }
 
     /// Drops the blanks before the next token.
     fn skip_blanks(&mut self)
-        ensures same { ahead self.new ≡ ahead self.old }
+        ensures same { tokens_ahead self.new ≡ tokens_ahead self.old }
         ensures begun { StartsUnblank self.new.rest.now }
     {
         while let [first, rest @ ..] = self.rest
@@ -177,7 +177,7 @@ impl<'a> Parser<'a> {
     /// Returns the next token: a word, or one other character. A comment ends the line.
     #[tactic(auto, using(crate::proofs::Words::no_token, crate::proofs::Words::comment_token, crate::proofs::Words::first_length, crate::proofs::Words::next_token))]
     pub(crate) fn next(&mut self) -> Option<&'a [u8]>
-        ensures { MatchOption result (ahead self.old ≡ []) (λ t. ahead self.old ≡ t.now ∷ ahead self.new) }
+        ensures { MatchOption result (tokens_ahead self.old ≡ []) (λ t. tokens_ahead self.old ≡ t.now ∷ tokens_ahead self.new) }
     {
         self.skip_blanks();
         let (first, _) = self.rest.split_first()?;
@@ -191,7 +191,7 @@ impl<'a> Parser<'a> {
 
     /// Reads one sign.
     pub(crate) fn sign(&mut self, sign: &[u8]) -> Result<(), Fault>
-        ensures { Passes (reading.sign sign.now) ahead self.old result self.new }
+        ensures { Passes (reading.sign sign.now) tokens_ahead self.old result self.new }
     {
         match self.next() {
             Some(token) if token == sign => Ok(()),
@@ -211,7 +211,7 @@ impl<'a> Parser<'a> {
 
     /// Reads a register.
     pub(crate) fn register(&mut self) -> Result<Reg, Fault>
-        ensures { Reads reading.register (λ r. r) self.old result self.new }
+        ensures { Reads reading.register_in (λ r. r) self.old result self.new }
     {
         let word = self.next().ok_or(Fault::Syntax)?;
         register_named(word).ok_or(Fault::Syntax)
@@ -271,7 +271,7 @@ impl<'a> Parser<'a> {
 
     /// Reads a register or a number.
     pub(crate) fn operand(&mut self) -> Result<Written<'a>, Fault>
-        ensures { Reads reading.operand_in operand_value self.old result self.new }
+        ensures { Reads reading.operand_in parsed_operand self.old result self.new }
     {
         let mut after = *self;
         if let Ok(r) = after.register() {
@@ -283,7 +283,7 @@ impl<'a> Parser<'a> {
 
     /// Reads where a jump goes: a name, or a distance with its sign.
     pub(crate) fn goal(&mut self) -> Result<Goal<'a>, Fault>
-        ensures { Reads reading.target goal_value self.old result self.new }
+        ensures { Reads reading.jump_target goal_value self.old result self.new }
     {
         let mut after = *self;
         if let Ok(name) = after.name() {
@@ -295,7 +295,7 @@ impl<'a> Parser<'a> {
 
     /// Reads an address in brackets.
     pub(crate) fn address(&mut self) -> Result<Address<'a>, Fault>
-        ensures { Reads reading.address address_value self.old result self.new }
+        ensures { Reads reading.address parsed_address self.old result self.new }
     {
         self.sign(b"[")?;
         let base = self.register()?;

@@ -3,12 +3,12 @@
 ghost use Rattle.std.specs.Prelude.{◌≡◌, ◌∷◌, ◌≤◌, ◌⊎◌, List, ℕ, Option, option_map, length, IfOk, IfErr, MatchResult, IsErrAnd};
 ghost use Rattle.asm.specs.Lines.{lines_of};
 ghost use Rattle.asm.specs.Statements.{Statement};
-ghost use Rattle.asm.specs.Programs.{slots_in, slot_of_label, with_distance, linked_one, Names, IsAssembled, IsRefused};
+ghost use Rattle.asm.specs.Programs.{slots_in, slot_of_label, with_distance, linked_one, Names, IsAssembled, IsRefusedText};
 ghost use Rattle.asm.specs.declared.refusal.AsmError.TheVariants.{Memory};
 ghost use Rattle.insn.specs.Encoding.{slot_count, encodings, AllFit};
 ghost use Rattle.insn.specs.Spelling.{listing};
 ghost use Rattle.asm.specs.Parsing.{said_in};
-ghost use Rattle.asm.specs.Scanning.{following_lines, lines_left, Begins, Fails, Holds, IsTableOf, IsHalted, IsCodeOf, IsBuilt};
+ghost use Rattle.asm.specs.Scanning.{following_lines, lines_left, TextBegins, Fails, Holds, IsTableOf, IsHalted, IsCodeOf, IsBuilt};
 
 use crate::refusal::AsmError;
 use crate::statement::{Line, parse};
@@ -32,7 +32,7 @@ fn first_line(text: &str) -> (&str, Option<&str>)
 /// # Errors
 /// The fault of the line, which is `Syntax` or `Range`.
 fn next_line(text: &str, number: usize) -> Result<(Line<'_>, Option<&str>), AsmError>
-    ensures read { IfOk result (λ r. Begins text.now (said_in r.0) (following_lines r.1)) }
+    ensures read { IfOk result (λ r. TextBegins text.now (said_in r.0) (following_lines r.1)) }
     ensures fewer { IfOk result (λ r. lines_left r.1 ≤ length text.now) }
     ensures refused { IfErr result (Fails text.now number) }
 {
@@ -154,8 +154,8 @@ pub fn assemble(alloc: Global, text: &str) -> Result<Vec<u8>, AsmError>
     ensures found { IfOk result (λ bytes. IsAssembled text.now bytes.items) }
     ensures only { (code : List Insn) → Names text.now code → slot_count code ≤ MAX_SLOTS
         → MatchResult result (λ v. v.items ≡ encodings code) (λ e. e ≡ Memory) }
-    ensures refused { IfErr result (λ e. (e ≡ Memory) ⊎ IsRefused text.now e) }
-    ensures exact { (e : AsmError) → IsRefused text.now e → IsErrAnd result (λ f. (f ≡ e) ⊎ (f ≡ Memory)) }
+    ensures refused { IfErr result (λ e. (e ≡ Memory) ⊎ IsRefusedText text.now e) }
+    ensures exact { (e : AsmError) → IsRefusedText text.now e → IsErrAnd result (λ f. (f ≡ e) ⊎ (f ≡ Memory)) }
 {
     build(alloc, text)
 }
@@ -167,7 +167,7 @@ pub fn texts_name_one_program()
 
 /// States that a text has at most one refusal.
 pub fn refusals_are_unique()
-    ensures { (text : List ℕ) (d e : AsmError) → IsRefused text d → IsRefused text e → d ≡ e }
+    ensures { (text : List ℕ) (d e : AsmError) → IsRefusedText text d → IsRefusedText text e → d ≡ e }
 {}
 
 /// States that the text of a program names it.

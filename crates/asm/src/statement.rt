@@ -5,8 +5,8 @@ ghost use Rattle.std.specs.Int.{w16, w32};
 ghost use Rattle.insn.specs.Encoding.{OperandFits};
 ghost use Rattle.insn.specs.declared.instruction.Insn.TheVariants.{Alu, Mov, Load, LoadSigned};
 ghost use Rattle.asm.specs.Reading as reading;
-ghost use Rattle.asm.specs.Reading.{read_line};
-ghost use Rattle.asm.specs.Parsing.{ahead, operand_value, goal_value, link_value, Converts, Reads, ReadsAll, Understands, UnderstandsLine};
+ghost use Rattle.asm.specs.Reading.{line_statement};
+ghost use Rattle.asm.specs.Parsing.{tokens_ahead, parsed_operand, goal_value, link_value, Converts, Reads, ReadsAll, Understands, UnderstandsLine};
 
 use crate::mnemonic::Mnemonic;
 use crate::parser::{Goal, Parser, Written, is_name};
@@ -30,7 +30,7 @@ impl<'a> Written<'a> {
     /// # Errors
     /// `Range` where a number takes more than 32 bits.
     fn operand(self) -> Result<Operand, Fault>
-        ensures { Converts (λ o. o) OperandFits (operand_value self.entry) result }
+        ensures { Converts (λ o. o) OperandFits (parsed_operand self.entry) result }
     {
         match self {
             Written::Reg(r) => Ok(Operand::Reg(r)),
@@ -79,7 +79,7 @@ impl<'a> Parser<'a> {
     }
 
     fn alu(mut self, width: Width, op: AluOp) -> Result<Line<'a>, Fault>
-        ensures { Understands (reading.two (Alu width op) (ahead self.entry)) result }
+        ensures { Understands (reading.two (Alu width op) (tokens_ahead self.entry)) result }
     {
         let dst = self.dst()?;
         let operand = self.operand()?;
@@ -97,7 +97,7 @@ impl<'a> Parser<'a> {
     }
 
     fn mov(mut self, width: Width) -> Result<Line<'a>, Fault>
-        ensures { Understands (reading.two (Mov width) (ahead self.entry)) result }
+        ensures { Understands (reading.two (Mov width) (tokens_ahead self.entry)) result }
     {
         let dst = self.dst()?;
         let operand = self.operand()?;
@@ -115,7 +115,7 @@ impl<'a> Parser<'a> {
 
     /// Reads the one register of an instruction.
     fn only_register(mut self) -> Result<Reg, Fault>
-        ensures { ReadsAll reading.only_register (λ r. r) (ahead self.entry) result }
+        ensures { ReadsAll reading.only_register (λ r. r) (tokens_ahead self.entry) result }
     {
         let dst = self.register()?;
         self.end()?;
@@ -123,7 +123,7 @@ impl<'a> Parser<'a> {
     }
 
     fn sign_extension(mut self, extension: Extension) -> Result<Line<'a>, Fault>
-        ensures { Understands (reading.sign_extension extension (ahead self.entry)) result }
+        ensures { Understands (reading.sign_extension extension (tokens_ahead self.entry)) result }
     {
         let dst = self.dst()?;
         let src = self.register()?;
@@ -140,7 +140,7 @@ impl<'a> Parser<'a> {
 
     /// Reads the goal of a jump, up to the end of the line.
     fn only_goal(mut self) -> Result<Goal<'a>, Fault>
-        ensures { ReadsAll reading.only_goal goal_value (ahead self.entry) result }
+        ensures { ReadsAll reading.only_goal goal_value (tokens_ahead self.entry) result }
     {
         let goal = self.goal()?;
         self.end()?;
@@ -148,7 +148,7 @@ impl<'a> Parser<'a> {
     }
 
     fn jump_if(mut self, width: Width, condition: Condition) -> Result<Line<'a>, Fault>
-        ensures { Understands (reading.jump_if width condition (ahead self.entry)) result }
+        ensures { Understands (reading.jump_if width condition (tokens_ahead self.entry)) result }
     {
         let dst = self.dst()?;
         let operand = self.operand()?;
@@ -169,7 +169,7 @@ impl<'a> Parser<'a> {
     }
 
     fn load(mut self, size: Size) -> Result<Line<'a>, Fault>
-        ensures { Understands (reading.load_statement (Load size) (ahead self.entry)) result }
+        ensures { Understands (reading.load_statement (Load size) (tokens_ahead self.entry)) result }
     {
         let dst = self.dst()?;
         let address = self.address()?;
@@ -188,7 +188,7 @@ impl<'a> Parser<'a> {
     }
 
     fn load_signed(mut self, size: SignedSize) -> Result<Line<'a>, Fault>
-        ensures { Understands (reading.load_statement (LoadSigned size) (ahead self.entry)) result }
+        ensures { Understands (reading.load_statement (LoadSigned size) (tokens_ahead self.entry)) result }
     {
         let dst = self.dst()?;
         let address = self.address()?;
@@ -207,7 +207,7 @@ impl<'a> Parser<'a> {
     }
 
     fn store_imm(mut self, size: Size) -> Result<Line<'a>, Fault>
-        ensures { Understands (reading.store_imm size (ahead self.entry)) result }
+        ensures { Understands (reading.store_imm size (tokens_ahead self.entry)) result }
     {
         let address = self.address()?;
         self.sign(b",")?;
@@ -228,7 +228,7 @@ impl<'a> Parser<'a> {
     }
 
     fn store_register(mut self, size: Size) -> Result<Line<'a>, Fault>
-        ensures { Understands (reading.store_register size (ahead self.entry)) result }
+        ensures { Understands (reading.store_register size (tokens_ahead self.entry)) result }
     {
         let address = self.address()?;
         self.sign(b",")?;
@@ -248,7 +248,7 @@ impl<'a> Parser<'a> {
     }
 
     fn load_number(mut self) -> Result<Line<'a>, Fault>
-        ensures { Understands (reading.load_number (ahead self.entry)) result }
+        ensures { Understands (reading.load_number (tokens_ahead self.entry)) result }
     {
         let dst = self.dst()?;
         let number = self.number()?;
@@ -258,7 +258,7 @@ impl<'a> Parser<'a> {
     }
 
     fn call(mut self) -> Result<Line<'a>, Fault>
-        ensures { Understands (reading.call (ahead self.entry)) result }
+        ensures { Understands (reading.call (tokens_ahead self.entry)) result }
     {
         let number = self.integer()?;
         self.end()?;
@@ -268,7 +268,7 @@ impl<'a> Parser<'a> {
 
     /// Reads the arguments of a mnemonic.
     fn instruction(mut self, mnemonic: Mnemonic) -> Result<Line<'a>, Fault>
-        ensures { Understands (reading.instruction mnemonic (ahead self.entry)) result }
+        ensures { Understands (reading.instruction mnemonic (tokens_ahead self.entry)) result }
     {
         match mnemonic {
             Mnemonic::Alu(width, op) => self.alu(width, op),
@@ -306,7 +306,7 @@ impl<'a> Parser<'a> {
 
     /// Reads an instruction after its first word.
     fn statement(self, word: &[u8]) -> Result<Line<'a>, Fault>
-        ensures { Understands (reading.statement word.now (ahead self.entry)) result }
+        ensures { Understands (reading.statement word.now (tokens_ahead self.entry)) result }
     {
         let mnemonic = Mnemonic::named(word).ok_or(Fault::Syntax)?;
         self.instruction(mnemonic)
@@ -314,7 +314,7 @@ impl<'a> Parser<'a> {
 
     /// Reads a label after its name and the colon.
     fn label(mut self, name: &'a [u8]) -> Result<Line<'a>, Fault>
-        ensures { Understands (reading.label name.now (ahead self.entry)) result }
+        ensures { Understands (reading.label name.now (tokens_ahead self.entry)) result }
     {
         if !is_name(name) {
             return Err(Fault::Syntax);
@@ -329,7 +329,7 @@ impl<'a> Parser<'a> {
 /// # Errors
 /// `Syntax` where the line is not in the grammar, `Range` where it is and a number of it does not fit its field.
 pub(crate) fn parse(line: &[u8]) -> Result<Line<'_>, Fault>
-    ensures { UnderstandsLine (read_line line.now) result }
+    ensures { UnderstandsLine (line_statement line.now) result }
 {
     let mut parser = Parser::new(line);
     let Some(word) = parser.next() else {

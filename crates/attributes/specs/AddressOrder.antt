@@ -33,11 +33,11 @@ abbrev pub ip_order : List ℕ → List ℕ → Ordering
 ip_order = then_cmp (on length nat_cmp) ip_cmp
 
 -- the IP address and the port
-abbrev pub parts_of : Addr → List ℕ × ℕ
-parts_of address = (ip_of address, port_of address)
+abbrev pub address_parts : Addr → List ℕ × ℕ
+address_parts address = (ip_of address, port_of address)
 
 abbrev pub parts_order : List ℕ × ℕ → List ℕ × ℕ → Ordering
-parts_order a b = ordering_then (ip_order a.0 b.0) (nat_cmp a.1 b.1)
+parts_order p q = ordering_then (ip_order p.0 q.0) (nat_cmp p.1 q.1)
 
 abbrev pub order_by_parts : Addr → Addr → Ordering
-order_by_parts a b = parts_order (parts_of a) (parts_of b)
+order_by_parts a b = parts_order (address_parts a) (address_parts b)

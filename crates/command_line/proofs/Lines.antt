@@ -11,7 +11,7 @@ use Rattle.clap.specs.declared.parser.matches.ArgMatches.{ArgMatches}
 use Rattle.clap.proofs.OnLiterals.{clap_on_literals}
 use Rattle.command_line.proofs.Operands.{HasTexts, IsOptions, IsServing, all_held, all_options, all_serve, all_words, every_held, every_options, every_texts, every_words, last_operand, last_rows, options_rows, port_held, port_serves, port_words, replay_faults, replay_rows, replay_shape, serve_faults, serve_rows, serve_shape, user_held, user_options, user_texts}
 use Rattle.command_line.specs.Commands.{faults_of, relayd_command, subcommand_in}
-use Rattle.command_line.specs.Lines.{Given, IsOperand, IsLineOf, IsParsedAs, IsReplayLine, IsServeLine, IsSlotsLine, IsTraceLine, before, every_option, every_server_option, only_port, only_user, only_users_file}
+use Rattle.command_line.specs.Lines.{GivenOptions, IsOperand, IsLineOf, IsParsedAs, IsReplayLine, IsServeLine, IsSlotsLine, IsTraceLine, options_before, every_option, every_server_option, only_port, only_user, only_users_file}
 use Rattle.command_line.specs.Subcommands.{IsFlag, IsSubcommand, ServerTexts, Texts, flag_of, server_texts_in, server_texts_of, text_of, texts_in, texts_of, argument_value}
 use Rattle.command_line.specs.declared.Options.{Options}
 use Rattle.command_line.specs.declared.Subcommand.{Subcommand}
@@ -126,8 +126,8 @@ user_read : (name events user : Text) → IsOperand events → IsOperand user
     → ReadsEvents (name ∷ codes "replay" ∷ codes "--user" ∷ user ∷ events ∷ []) events None (only_user user)
 user_read name events user e h = replay_made_of name events None (codes "--user" ∷ user ∷ []) (only_user user) (user_held user) e (user_options user h) (user_texts events user)
 
-every_read : (name events : Text) (g : Given) (nonce : Text) → IsOperand events
-    → ReadsEvents (name ∷ codes "replay" ∷ before g ((codes "--nonce=" ++ nonce) ∷ events ∷ [])) events (Some nonce) (every_option g)
+every_read : (name events : Text) (g : GivenOptions) (nonce : Text) → IsOperand events
+    → ReadsEvents (name ∷ codes "replay" ∷ options_before g ((codes "--nonce=" ++ nonce) ∷ events ∷ [])) events (Some nonce) (every_option g)
 every_read name events g nonce e =
     replay_made_of name events (Some nonce) (every_words g nonce) (every_option g) (every_held g nonce) e (every_options g nonce) (every_texts events g nonce)
 
@@ -256,8 +256,8 @@ with_events events nonce texts words o (name, inl (user, (u, (n, (t, w))))) =
     (user_read name events user o u)))
 with_events events nonce texts words o (name, inr (g, (given, (n, (t, w))))) =
     subst (λ w. ReadsEvents w events nonce texts) (sym w)
-    (subst (λ t. ReadsEvents (name ∷ codes "replay" ∷ before g ((codes "--nonce=" ++ given) ∷ events ∷ [])) events nonce t) (sym t)
-    (subst (λ n. ReadsEvents (name ∷ codes "replay" ∷ before g ((codes "--nonce=" ++ given) ∷ events ∷ [])) events n (every_option g)) (sym n)
+    (subst (λ t. ReadsEvents (name ∷ codes "replay" ∷ options_before g ((codes "--nonce=" ++ given) ∷ events ∷ [])) events nonce t) (sym t)
+    (subst (λ n. ReadsEvents (name ∷ codes "replay" ∷ options_before g ((codes "--nonce=" ++ given) ∷ events ∷ [])) events n (every_option g)) (sym n)
     (every_read name events g given o)))
 
 with_server : (server : ServerTexts) (texts : Texts) (words : List Text) → IsServeLine server texts words → ReadsServer words server texts

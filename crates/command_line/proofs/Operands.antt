@@ -10,7 +10,7 @@ use Rattle.clap.proofs.FaultLemmas.{stopped_fault}
 use Rattle.clap.proofs.OnLiterals.{clap_on_literals}
 use Rattle.clap.proofs.WalkLemmas.{walk_stopped}
 use Rattle.command_line.specs.Commands.{faults_of, relayd_command, replay_command, serve_command, subcommand_in}
-use Rattle.command_line.specs.Lines.{Given, GivenServer, IsOperand, before, every_option, every_server_option, only_port, only_user, only_users_file, server_before}
+use Rattle.command_line.specs.Lines.{GivenOptions, GivenServer, IsOperand, options_before, every_option, every_server_option, only_port, only_user, only_users_file, server_before}
 use Rattle.command_line.specs.Subcommands.{ServerTexts, Texts, server_texts_in, texts_in}
 
 or_else_nil : (ks : Kinds) → or_else ks [] ≡ ks
@@ -219,17 +219,17 @@ pub user_texts : (events user : Text) → HasTexts (user_held user) events None 
 unfolding clap_on_literals
 user_texts events user = record { good = refl; events_is = refl; nonce_is = refl; texts_is = refl }
 
-abbrev pub every_words : Given → Text → List Text
-every_words g nonce = before g ((codes "--nonce=" ++ nonce) ∷ [])
+abbrev pub every_words : GivenOptions → Text → List Text
+every_words g nonce = options_before g ((codes "--nonce=" ++ nonce) ∷ [])
 
-abbrev pub every_held : Given → Text → Held
+abbrev pub every_held : GivenOptions → Text → Held
 every_held g nonce = (fold (walked replay_shape.rules []) (walk_from nothing_held) (every_words g nonce)).held
 
-pub every_options : (g : Given) (nonce : Text) → IsOptions (every_words g nonce) (every_held g nonce)
+pub every_options : (g : GivenOptions) (nonce : Text) → IsOptions (every_words g nonce) (every_held g nonce)
 unfolding clap_on_literals
 every_options g nonce = record { walks = refl; passes = refl }
 
-pub every_texts : (events : Text) (g : Given) (nonce : Text) → HasTexts (every_held g nonce) events (Some nonce) (every_option g)
+pub every_texts : (events : Text) (g : GivenOptions) (nonce : Text) → HasTexts (every_held g nonce) events (Some nonce) (every_option g)
 unfolding clap_on_literals
 every_texts events g nonce = record { good = refl; events_is = refl; nonce_is = refl; texts_is = refl }
 
@@ -253,12 +253,12 @@ pub port_serves : (port file : Text) → IsServing (port_words port file) (port_
 unfolding clap_on_literals
 port_serves port file = record { walks = refl; passes = refl; good = refl; server_is = refl; texts_is = refl }
 
-abbrev pub all_words : GivenServer → Given → List Text
-all_words s g = server_before s (before g [])
+abbrev pub all_words : GivenServer → GivenOptions → List Text
+all_words s g = server_before s (options_before g [])
 
-abbrev pub all_held : GivenServer → Given → Held
+abbrev pub all_held : GivenServer → GivenOptions → Held
 all_held s g = (fold (walked serve_shape.rules []) (walk_from nothing_held) (all_words s g)).held
 
-pub all_serve : (s : GivenServer) (g : Given) → IsServing (all_words s g) (all_held s g) (every_server_option s) (every_option g)
+pub all_serve : (s : GivenServer) (g : GivenOptions) → IsServing (all_words s g) (all_held s g) (every_server_option s) (every_option g)
 unfolding clap_on_literals
 all_serve s g = record { walks = refl; passes = refl; good = refl; server_is = refl; texts_is = refl }

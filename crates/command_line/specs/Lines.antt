@@ -57,7 +57,7 @@ only_users_file file = record {
 }
 
 -- a text for each option, and two for --user
-pub record Given : Type 0 where
+pub record GivenOptions : Type 0 where
   pub realm : Text
   pub user : Text
   pub other : Text
@@ -68,7 +68,7 @@ pub record Given : Type 0 where
   pub client : Text
   pub peer : Text
 
-abbrev pub every_option : Given → Texts
+abbrev pub every_option : GivenOptions → Texts
 every_option g = record {
   realm = Some g.realm;
   users = Some (g.user ∷ g.other ∷ []);
@@ -81,8 +81,8 @@ every_option g = record {
 }
 
 -- the options, each with its text after an equals sign, and the words after them
-abbrev pub before : Given → List Text → List Text
-before g rest =
+abbrev pub options_before : GivenOptions → List Text → List Text
+options_before g rest =
     (codes "--realm=" ++ g.realm) ∷ (codes "--user=" ++ g.user) ∷ (codes "--user=" ++ g.other)
     ∷ (codes "--users=" ++ g.users_file) ∷ (codes "--slots=" ++ g.slots) ∷ (codes "--relay-ip=" ++ g.relay_ip)
     ∷ (codes "--first-port=" ++ g.first_port) ∷ (codes "--client=" ++ g.client) ∷ (codes "--peer=" ++ g.peer)
@@ -93,8 +93,8 @@ abbrev pub IsReplayLine : Text → Option Text → Texts → List Text → Type 
 IsReplayLine events nonce texts words = (name : Text) × (
     ((user : Text) × (IsOperand user × ((nonce ≡ None) × ((texts ≡ only_user user)
     × (words ≡ name ∷ codes "replay" ∷ codes "--user" ∷ user ∷ events ∷ [])))))
-    ⊎ ((g : Given) × ((given : Text) × ((nonce ≡ Some given) × ((texts ≡ every_option g)
-    × (words ≡ name ∷ codes "replay" ∷ before g ((codes "--nonce=" ++ given) ∷ events ∷ [])))))))
+    ⊎ ((g : GivenOptions) × ((given : Text) × ((nonce ≡ Some given) × ((texts ≡ every_option g)
+    × (words ≡ name ∷ codes "replay" ∷ options_before g ((codes "--nonce=" ++ given) ∷ events ∷ [])))))))
 
 -- a text for each argument of a server
 pub record GivenServer : Type 0 where
@@ -127,8 +127,8 @@ abbrev pub IsServeLine : ServerTexts → Texts → List Text → Type 0
 IsServeLine server texts words = (name : Text) × (
     ((port : Text) × ((file : Text) × ((server ≡ only_port port) × ((texts ≡ only_users_file file)
     × (words ≡ name ∷ codes "serve" ∷ (codes "--port=" ++ port) ∷ (codes "--users=" ++ file) ∷ [])))))
-    ⊎ ((s : GivenServer) × ((g : Given) × ((server ≡ every_server_option s) × ((texts ≡ every_option g)
-    × (words ≡ name ∷ codes "serve" ∷ server_before s (before g [])))))))
+    ⊎ ((s : GivenServer) × ((g : GivenOptions) × ((server ≡ every_server_option s) × ((texts ≡ every_option g)
+    × (words ≡ name ∷ codes "serve" ∷ server_before s (options_before g [])))))))
 
 -- the words are one of the usual lines of the subcommand, in which the files are operands
 abbrev pub IsLineOf : Subcommand → List Text → Type 0
@@ -146,4 +146,4 @@ IsLineOf (Serve port rounds listen lifetime stats options) words =
 
 -- the matches are those of this subcommand, or memory ran out
 abbrev pub IsParsedAs : Subcommand → Result ArgMatches Error → Type 0
-IsParsedAs s result = MatchResult result (λ m. IsSomeAnd (subcommand_rows_of m) (λ p. IsSubcommand p s)) (λ e. kind_of e ≡ OutOfMemory)
+IsParsedAs subcommand result = MatchResult result (λ m. IsSomeAnd (subcommand_rows_of m) (λ p. IsSubcommand p subcommand)) (λ e. kind_of e ≡ OutOfMemory)

@@ -318,7 +318,9 @@ fn server<'a>(alloc: Global) -> Result<Command<'a>, AllocError>
     ensures { IfOk result (HasShape server_command) }
 {
     Command::new(alloc, "serve")
-        .about("Serve clients and peers over UDP, until it is stopped")
+        .about(
+            "Serve clients and peers over UDP, until it is stopped; programs whose files change are replaced",
+        )
         .arg(port(alloc))?
         .arg(option(
             alloc,

@@ -334,7 +334,7 @@ const REFUSED: [Refused; 51] = [
         words: &["relayd", "serve", "--help"],
         status: 0,
         parts: &[
-            "Serve clients and peers over UDP, until it is stopped",
+            "Serve clients and peers over UDP, until it is stopped; programs whose files change are replaced",
             "--port <P>",
             "The UDP port for clients; TURN's own is 3478",
             "--rounds <N>",

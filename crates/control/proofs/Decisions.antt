@@ -8,7 +8,7 @@ use Rattle.stun.specs.declared.registry.attribute.TheConstants.{XOR_PEER_ADDRESS
 use Rattle.stun.specs.declared.registry.ErrorCode.TheVariants.{PeerAddressFamilyMismatch}
 use Rattle.stun.specs.declared.registry.ErrorCode.{ErrorCode}
 use Rattle.attributes.specs.declared.address.Addr.{Addr}
-use Rattle.tables.specs.Changes.{Change, Follows, permit}
+use Rattle.tables.specs.Changes.{Change, Follows, permit_change}
 use Rattle.tables.specs.PermitLaws.{StandsFor, permit_alike}
 use Rattle.tables.specs.Rows.{Rows}
 use Rattle.tables.specs.declared.allocation.Allocation.{Allocation}
@@ -27,7 +27,7 @@ abbrev pub done : Change (Unit {0}) → Decision
 done x = result_of_change x >>= λ made. Ok (Done, made.1)
 
 abbrev pub permit_all : Allocation → Rows → List Addr → Decision
-permit_all a rows peers = check (list_all is_ipv4 peers) PeerAddressFamilyMismatch >>= λ _. done (permit a.slot peers rows)
+permit_all a rows peers = check (list_all is_ipv4 peers) PeerAddressFamilyMismatch >>= λ _. done (permit_change a.slot peers rows)
 
 abbrev pub permit_for : Parts → Rows → Allocation → Decision
 permit_for p rows a = peers_in p >>= permit_all a rows
@@ -65,24 +65,24 @@ gives_change (Err refused) old new result h = ((λ u is. absurd (ok-err (sym is 
 
 -- a CreatePermission request whose addresses are all of IPv4
 pub create_permission-is : (client : Addr) (user : ℕ) (p : Parts) (rows : Rows) (a : Allocation) → own_allocation client user rows ≡ Ok a → are_ipv4 p ≡ Ok true
-    → create_permission client user p rows ≡ done (permit a.slot (peers_of p) rows)
+    → create_permission client user p rows ≡ done (permit_change a.slot (peers_of p) rows)
 create_permission-is client user p rows a own ipv4 =
     ap (λ r. r >>= permit_for p rows) own
     ∙ elim (addresses_in p.transaction_id (values_of XOR_PEER_ADDRESS (message_of p).attributes)) as
     (λ o. addresses_in p.transaction_id (values_of XOR_PEER_ADDRESS (message_of p).attributes) ≡ o → (some_addresses o >>= λ peers. Ok (list_all is_ipv4 peers)) ≡ Ok true
-    → (some_addresses o >>= permit_all a rows) ≡ done (permit a.slot (peers_of p) rows)) [
+    → (some_addresses o >>= permit_all a rows) ≡ done (permit_change a.slot (peers_of p) rows)) [
       | None ↦ λ is h. absurd (ok-err (sym h))
       | Some [] ↦ λ is h. absurd (ok-err (sym h))
       | Some (peer ∷ peers) ↦ λ is h.
-          ap (λ b. check b PeerAddressFamilyMismatch >>= λ _. done (permit a.slot (peer ∷ peers) rows)) (same_Ok _ _ h)
-          ∙ ap (λ all. done (permit a.slot all rows)) (sym (all_read p.transaction_id (values_of XOR_PEER_ADDRESS (message_of p).attributes) (peer ∷ peers) is))
+          ap (λ b. check b PeerAddressFamilyMismatch >>= λ _. done (permit_change a.slot (peer ∷ peers) rows)) (same_Ok _ _ h)
+          ∙ ap (λ all. done (permit_change a.slot all rows)) (sym (all_read p.transaction_id (values_of XOR_PEER_ADDRESS (message_of p).attributes) (peer ∷ peers) is))
     ] refl ipv4
 
 -- permissions for some addresses stand for those for all
 pub permit_gives : (client : Addr) (user : ℕ) (p : Parts) (rows : Rows) (a : Allocation) (few : List Addr) (old new : Rows) (result : Result (Unit {0}) Refused)
-    → own_allocation client user rows ≡ Ok a → are_ipv4 p ≡ Ok true → StandsFor few (peers_of p) → Follows (permit a.slot few rows) old result new
+    → own_allocation client user rows ≡ Ok a → are_ipv4 p ≡ Ok true → StandsFor few (peers_of p) → Follows (permit_change a.slot few rows) old result new
     → ((u : Unit {0}) → result ≡ Ok u → Gives (create_permission client user p rows) old (Ok Done) new) × ((e : Refused) → result ≡ Err e → Gives (create_permission client user p rows) old (Err (error_of e)) new)
 permit_gives client user p rows a few old new result own ipv4 stands follows =
     let same = create_permission-is client user p rows a own ipv4 ∙ ap done (sym (permit_alike few (peers_of p) stands a.slot rows)) in
-    let given = gives_change (permit a.slot few rows) old new result follows in
+    let given = gives_change (permit_change a.slot few rows) old new result follows in
     ((λ u is. subst (λ (x : Decision). Gives x old (Ok Done) new) (sym same) (given.0 u is)), λ e is. subst (λ (x : Decision). Gives x old (Err (error_of e)) new) (sym same) (given.1 e is))

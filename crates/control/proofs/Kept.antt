@@ -4,7 +4,7 @@ use Rattle.std.specs.Result.{is_err, OnOk}
 use Rattle.std.proofs.lemmas.Bool.{both_ways}
 use Rattle.std.proofs.lemmas.Slice.{drop-append-drop}
 use Rattle.stun.specs.Builders.{bytes_of, parts_of, used_of, Appends}
-use Rattle.stun.specs.Building.{Begins, building_parts, used_in}
+use Rattle.stun.specs.Building.{IsBegun, building_parts, used_in}
 use Rattle.stun.specs.Messages.{parts_bytes, empty_message}
 use Rattle.stun.specs.declared.building.Builder.{Builder}
 use Rattle.control.specs.Serving.{IsKeptFrom}
@@ -33,7 +33,7 @@ pub begun_when_ok : {E P : Type 0} (result : Result (Unit {0}) E) → false ≡ 
 begun_when_ok (Ok done) is_ok begun = begun
 begun_when_ok (Err error) is_ok begun = absurd (both_ways false refl is_ok)
 
-pub begun_kept : (kind : ℕ) (tx old new : List ℕ) → Begins kind tx old new → IsKeptFrom (used_in new) old new
+pub begun_kept : (kind : ℕ) (tx old new : List ℕ) → IsBegun kind tx old new → IsKeptFrom (used_in new) old new
 begun_kept kind tx old new begins n far =
     ap (drop n) begins.bytes
     ∙ drop-append-drop (length (parts_bytes (empty_message kind tx))) old (parts_bytes (empty_message kind tx)) n
@@ -44,7 +44,7 @@ pub kept_whole : (result : ℕ) (final last old : List ℕ) → final ≡ last �
 kept_whole result final last old same kept = ap (drop result) same ∙ kept
 
 -- a message that was begun, and to which two functions appended
-pub kept_reply : (kind : ℕ) (tx old begun : List ℕ) (first second third : Builder) (result : ℕ) → Begins kind tx old begun → bytes_of first ≡ begun
+pub kept_reply : (kind : ℕ) (tx old begun : List ℕ) (first second third : Builder) (result : ℕ) → IsBegun kind tx old begun → bytes_of first ≡ begun
     → used_of first ≤ used_of second → IsKeptFrom (used_of second) (bytes_of first) (bytes_of second)
     → used_of second ≤ used_of third → IsKeptFrom (used_of third) (bytes_of second) (bytes_of third) → result ≡ used_of third
     → drop result (bytes_of third) ≡ drop result old

@@ -15,8 +15,8 @@ use Rattle.attributes.specs.declared.address.Addr.{Addr}
 use Rattle.tables.specs.Permissions.{PermissionMap, with_all}
 use Rattle.tables.specs.PermitLaws.{HasIp, AreDistinct, permitted_again, permitted_many, distinct_push, StandsFor}
 use Rattle.tables.specs.declared.permissions.TheConstants.{MAX_PERMISSIONS}
-use Rattle.control.specs.Control.{both, addresses_in, some_addresses}
-use Rattle.control.specs.Peers.{peers_of, with_peer}
+use Rattle.control.specs.Control.{first_and_rest, addresses_in, some_addresses}
+use Rattle.control.specs.Peers.{peers_of, peers_with}
 use Rattle.control.specs.Serving.{are_ipv4}
 use Rattle.stun.specs.Attributes.{values_of}
 use Rattle.stun.specs.Messages.{Parts, message_of}
@@ -49,7 +49,7 @@ abbrev pub found_with : Option Bool → Addr → Bool
 found_with None a = true && is_ipv4 a
 found_with (Some b) a = b && is_ipv4 a
 
-pub one_more : (found : Option Bool) (a : Addr) (rest : Option (List Addr)) → combined (Some (found_with found a)) rest ≡ combined found (both (Some a) rest)
+pub one_more : (found : Option Bool) (a : Addr) (rest : Option (List Addr)) → combined (Some (found_with found a)) rest ≡ combined found (first_and_rest (Some a) rest)
 one_more None a None = refl
 one_more (Some b) a None = refl
 one_more None a (Some rest) = refl
@@ -117,7 +117,7 @@ collected_new peers a left all c room none = record {
 under : (n k : ℕ) → nat_le n k ≡ false → k < n
 under n k f = elim (leb_tells n k) [ inl t ↦ absurd (both_ways (nat_le n k) f t.0) | inr t ↦ t.1 ]
 
-pub collected_peer : (peers : List Addr) (a : Addr) (left all : List Addr) → Collected peers (a ∷ left) all → Collected (with_peer peers a) left all
+pub collected_peer : (peers : List Addr) (a : Addr) (left all : List Addr) → Collected peers (a ∷ left) all → Collected (peers_with peers a) left all
 collected_peer peers a left all c =
     let there : Bool = list_any (λ known. bytes_eq (ip_of known) (ip_of a)) peers in
     let full : Bool = nat_le MAX_PEERS (length peers) in
@@ -139,7 +139,7 @@ collected_all peers all c m end = elim (c.stands m end) [
 -- ---- as the values are read
 
 pub collected_value : (tx : List ℕ) (peers more : List Addr) (a : Addr) (value : List ℕ) (values before : List (List ℕ)) (all : List Addr)
-    → before ≡ value ∷ values → address_in tx value ≡ Some a → more ≡ with_peer peers a
+    → before ≡ value ∷ values → address_in tx value ≡ Some a → more ≡ peers_with peers a
     → Collected peers (filter_map (address_in tx) before) all → Collected more (filter_map (address_in tx) values) all
 collected_value tx peers more a value values before all first read added c =
     let left : List Addr = filter_map (address_in tx) values in
@@ -155,9 +155,9 @@ collected_end tx peers values all none c = collected_all peers all (subst (λ (v
 pub all_read : (tx : List ℕ) (values : List (List ℕ)) (peers : List Addr) → addresses_in tx values ≡ Some peers → filter_map (address_in tx) values ≡ peers
 all_read tx [] peers e = same_Some [] peers e
 all_read tx (value ∷ values) peers e =
-    elim (address_in tx value) as (λ o. both o (addresses_in tx values) ≡ Some peers → cons_option o (filter_map (address_in tx) values) ≡ peers) [
+    elim (address_in tx value) as (λ o. first_and_rest o (addresses_in tx values) ≡ Some peers → cons_option o (filter_map (address_in tx) values) ≡ peers) [
       | None ↦ λ h. absurd (none-some peers h)
-      | Some a ↦ λ h. elim (addresses_in tx values) as (λ r. addresses_in tx values ≡ r → both (Some a) r ≡ Some peers → a ∷ filter_map (address_in tx) values ≡ peers) [
+      | Some a ↦ λ h. elim (addresses_in tx values) as (λ r. addresses_in tx values ≡ r → first_and_rest (Some a) r ≡ Some peers → a ∷ filter_map (address_in tx) values ≡ peers) [
         | None ↦ λ is k. absurd (none-some peers k)
         | Some rest ↦ λ is k. ap (λ (xs : List Addr). a ∷ xs) (all_read tx values rest is) ∙ same_Some (a ∷ rest) peers k
       ] refl h
@@ -183,7 +183,7 @@ one_pushed : (peers : List Addr) (a : Addr) → list_all is_ipv4 peers ≡ true 
 one_pushed [] a e one = and_from _ _ one refl
 one_pushed (x ∷ xs) a e one = let parts = and_parts _ _ e in and_from _ _ parts.0 (one_pushed xs a parts.1 one)
 
-one_added : (peers : List Addr) (a : Addr) → list_all is_ipv4 peers ≡ true → is_ipv4 a ≡ true → list_all is_ipv4 (with_peer peers a) ≡ true
+one_added : (peers : List Addr) (a : Addr) → list_all is_ipv4 peers ≡ true → is_ipv4 a ≡ true → list_all is_ipv4 (peers_with peers a) ≡ true
 one_added peers a e one =
     let there : Bool = list_any (λ known. bytes_eq (ip_of known) (ip_of a)) peers || nat_le MAX_PEERS (length peers) in
     elim there as (λ b. list_all is_ipv4 (cond b peers (peers ++ a ∷ [])) ≡ true) [
@@ -192,7 +192,7 @@ one_added peers a e one =
     ]
 
 pub ipv4_value : (tx : List ℕ) (peers more : List Addr) (a : Addr) (value : List ℕ) (values before : List (List ℕ))
-    → before ≡ value ∷ values → address_in tx value ≡ Some a → more ≡ with_peer peers a
+    → before ≡ value ∷ values → address_in tx value ≡ Some a → more ≡ peers_with peers a
     → AreIpv4 peers (filter_map (address_in tx) before) → AreIpv4 more (filter_map (address_in tx) values)
 ipv4_value tx peers more a value values before first read added are =
     let left : List Addr = filter_map (address_in tx) values in

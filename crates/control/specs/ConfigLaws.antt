@@ -8,7 +8,7 @@ use Rattle.std.proofs.Common.{sym, ap, ◌∙◌}
 use Rattle.stun.specs.Ranges.{is_between}
 use Rattle.credentials.specs.Checks.{Accounts, accounts_of}
 use Rattle.credentials.specs.declared.checking.User.{User}
-use Rattle.control.specs.Configs.{is_text, is_name, is_nonce, is_user, has_name, are_distinct, is_valid, fault}
+use Rattle.control.specs.Configs.{is_text, is_user_name, is_nonce, is_user, has_name, are_distinct, is_valid_field, fault}
 use Rattle.control.specs.declared.config.TheConstants.{MAX_TEXT}
 use Rattle.control.specs.declared.config.Config.{Config}
 use Rattle.control.specs.declared.config.Field.{Field}
@@ -50,11 +50,11 @@ is_text-text low longest text e = let parts = both _ _ e in record { long = betw
 
 pub within_limits : (c : Config) → fault c ≡ None → IsWithinLimits c
 within_limits c e =
-    let first = passes (is_valid c FirstPort) FirstPort _ e in
-    let second = passes (is_valid c Slots) Slots _ first.1 in
-    let third = passes (is_valid c Realm) Realm _ second.1 in
-    let fourth = passes (is_valid c Nonce) Nonce _ third.1 in
-    let fifth = passes (is_valid c Users) Users _ fourth.1 in
+    let first = passes (is_valid_field c FirstPort) FirstPort _ e in
+    let second = passes (is_valid_field c Slots) Slots _ first.1 in
+    let third = passes (is_valid_field c Realm) Realm _ second.1 in
+    let fourth = passes (is_valid_field c Nonce) Nonce _ third.1 in
+    let fifth = passes (is_valid_field c Users) Users _ fourth.1 in
     let ports = both _ _ second.0 in
     let users = both _ _ fifth.0 in
     let few = both _ _ users.0 in
@@ -81,7 +81,7 @@ pub record IsSameConfig (c d : Config) : Type 0 where
   pub users : accounts_of d.users.items ≡ accounts_of c.users.items
 
 abbrev is_account : List ℕ × List ℕ → Bool
-is_account a = is_name a.0 && is_text 0x20 MAX_TEXT a.1
+is_account l = is_user_name l.0 && is_text 0x20 MAX_TEXT l.1
 
 abbrev have_name : Accounts → List ℕ → Bool
 have_name accounts name = list_any (λ a. bytes_eq name a.0) accounts

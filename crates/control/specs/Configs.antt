@@ -13,11 +13,11 @@ abbrev pub is_text : ℕ → ℕ → List ℕ → Bool
 is_text lowest longest text = is_between 1 longest (length text) && list_all (is_between lowest 0x7e) text
 
 -- a name has no blank, and no colon, which ends it where user and password are written as one
-abbrev pub is_name : List ℕ → Bool
-is_name name = is_text 0x21 MAX_TEXT name && not (list_any (λ b. b == 0x3a) name)
+abbrev pub is_user_name : List ℕ → Bool
+is_user_name name = is_text 0x21 MAX_TEXT name && not (list_any (λ b. b == 0x3a) name)
 
 abbrev pub is_user : User → Bool
-is_user user = is_name (string_bytes user.name) && is_text 0x20 MAX_TEXT (string_bytes user.password)
+is_user user = is_user_name (string_bytes user.name) && is_text 0x20 MAX_TEXT (string_bytes user.password)
 
 -- whether one of these users has a name
 abbrev pub has_name : List User → List ℕ → Bool
@@ -33,16 +33,16 @@ abbrev pub is_nonce : List ℕ → Bool
 is_nonce nonce = is_text 0x21 64 nonce
 
 -- whether a field is within its limits
-abbrev pub is_valid : Config → Field → Bool
-is_valid c FirstPort = nat_le 1 c.first_port
-is_valid c Slots = is_between 1 256 c.slots && nat_le (c.first_port + c.slots) 0x10000
-is_valid c Realm = is_text 0x20 MAX_TEXT (string_bytes c.realm)
-is_valid c Nonce = is_nonce c.nonce.bytes
-is_valid c Users = is_between 1 64 (length c.users.items) && list_all is_user c.users.items && are_distinct c.users.items
+abbrev pub is_valid_field : Config → Field → Bool
+is_valid_field c FirstPort = nat_le 1 c.first_port
+is_valid_field c Slots = is_between 1 256 c.slots && nat_le (c.first_port + c.slots) 0x10000
+is_valid_field c Realm = is_text 0x20 MAX_TEXT (string_bytes c.realm)
+is_valid_field c Nonce = is_nonce c.nonce.bytes
+is_valid_field c Users = is_between 1 64 (length c.users.items) && list_all is_user c.users.items && are_distinct c.users.items
 
 -- the fields that have limits, in their order
 abbrev pub fields : List Field
 fields = FirstPort ∷ Slots ∷ Realm ∷ Nonce ∷ Users ∷ []
 
 abbrev pub fault : Config → Option Field
-fault c = find (λ field. not (is_valid c field)) fields
+fault c = find (λ field. not (is_valid_field c field)) fields

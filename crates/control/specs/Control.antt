@@ -29,7 +29,7 @@ use Rattle.tables.specs.declared.channels.TheConstants.{FIRST_CHANNEL, LAST_CHAN
 use Rattle.tables.specs.declared.refusal.Refused.{Refused}
 use Rattle.tables.specs.declared.refusal.Refused.TheVariants.{Mismatch, Capacity, Conflict, NoAllocation}
 use Rattle.control.specs.Unknown.{unknown_types}
-use Rattle.control.specs.Values.{optional, required_value}
+use Rattle.control.specs.Values.{optional_value, required_value}
 use Rattle.control.specs.declared.allocate.TheConstants.{UDP}
 use Rattle.control.specs.declared.lifetime.TheConstants.{MIN_LIFETIME, MAX_LIFETIME}
 use Rattle.control.specs.declared.reply.Grant.{Grant}
@@ -74,10 +74,10 @@ lifetime_for None = MIN_LIFETIME
 lifetime_for (Some requested) = max MIN_LIFETIME (min requested MAX_LIFETIME)
 
 abbrev pub requested_lifetime : Parts → Result (Option ℕ) ErrorCode
-requested_lifetime p = optional (number_of_value 4) (first_value p LIFETIME)
+requested_lifetime p = optional_value (number_of_value 4) (first_value p LIFETIME)
 
 abbrev pub requested_family : Parts → Result (Option ℕ) ErrorCode
-requested_family p = optional (number_of_value 1) (first_value p REQUESTED_ADDRESS_FAMILY)
+requested_family p = optional_value (number_of_value 1) (first_value p REQUESTED_ADDRESS_FAMILY)
 
 -- ---- Allocate (RFC 8656, section 7)
 
@@ -98,7 +98,7 @@ acceptable_lifetime p = do
 abbrev pub allocate_anew : Addr → ℕ → Parts → Rows → Decision
 allocate_anew client user p rows = do
   lifetime ← acceptable_lifetime p
-  made ← result_of_change (tables.allocate client user p.transaction_id lifetime rows)
+  made ← result_of_change (tables.allocation_change client user p.transaction_id lifetime rows)
   Ok (Allocated made.0 lifetime, made.1)
 
 -- where the client has no allocation, and where it has one, which a repeated request leaves as it is
@@ -108,8 +108,8 @@ allocate_beside (Some a) client user p rows = do
   _ ← check (is_repeated a user p) AllocationMismatch
   Ok (Allocated a.slot a.lifetime, None)
 
-abbrev pub allocate : Addr → ℕ → Parts → Rows → Decision
-allocate client user p rows = allocate_beside (allocation_of client rows) client user p rows
+abbrev pub allocate_decision : Addr → ℕ → Parts → Rows → Decision
+allocate_decision client user p rows = allocate_beside (allocation_of client rows) client user p rows
 
 -- ---- Refresh (section 8)
 
@@ -125,26 +125,26 @@ abbrev pub refresh_for : Option ℕ → ℕ
 refresh_for None = lifetime_for None
 refresh_for (Some requested) = if nat_eq requested 0 then 0 else lifetime_for (Some requested)
 
-abbrev pub refresh : Addr → ℕ → Parts → Rows → Decision
-refresh client user p rows = do
+abbrev pub refresh_decision : Addr → ℕ → Parts → Rows → Decision
+refresh_decision client user p rows = do
   a ← own_allocation client user rows
   family ← requested_family p
   _ ← check (is_none_or (nat_eq IPV4) family) PeerAddressFamilyMismatch
   requested ← requested_lifetime p
-  made ← result_of_change (tables.refresh a.slot (refresh_for requested) rows)
+  made ← result_of_change (tables.refresh_change a.slot (refresh_for requested) rows)
   Ok (Refreshed (refresh_for requested), made.1)
 
 -- ---- CreatePermission (section 10)
 
-abbrev pub both : Option Addr → Option (List Addr) → Option (List Addr)
-both None addresses = None
-both (Some a) None = None
-both (Some a) (Some addresses) = Some (a ∷ addresses)
+abbrev pub first_and_rest : Option Addr → Option (List Addr) → Option (List Addr)
+first_and_rest None addresses = None
+first_and_rest (Some a) None = None
+first_and_rest (Some a) (Some addresses) = Some (a ∷ addresses)
 
 -- all addresses of a request, if each is well formed
 abbrev pub addresses_in : List ℕ → List (List ℕ) → Option (List Addr)
 addresses_in tx [] = Some []
-addresses_in tx (value ∷ values) = both (address_in tx value) (addresses_in tx values)
+addresses_in tx (value ∷ values) = first_and_rest (address_in tx value) (addresses_in tx values)
 
 -- the addresses, of which there must be one
 abbrev pub some_addresses : Option (List Addr) → Result (List Addr) ErrorCode
@@ -161,7 +161,7 @@ create_permission client user p rows = do
   a ← own_allocation client user rows
   peers ← peers_in p
   _ ← check (list_all is_ipv4 peers) PeerAddressFamilyMismatch
-  made ← result_of_change (tables.permit a.slot peers rows)
+  made ← result_of_change (tables.permit_change a.slot peers rows)
   Ok (Done, made.1)
 
 -- ---- ChannelBind (section 12)
@@ -173,7 +173,7 @@ channel_bind client user p rows = do
   peer ← required_value (address_in p.transaction_id) (first_value p XOR_PEER_ADDRESS)
   _ ← check (is_between FIRST_CHANNEL LAST_CHANNEL number) BadRequest
   _ ← check (is_ipv4 peer) PeerAddressFamilyMismatch
-  made ← result_of_change (tables.bind a.slot number peer rows)
+  made ← result_of_change (tables.bind_change a.slot number peer rows)
   Ok (Done, made.1)
 
 -- ---- all requests
@@ -203,8 +203,8 @@ attribute_test p = check (all_understood p) UnknownAttribute
 
 -- a request of TURN of a user whose credentials were accepted
 abbrev pub decision_for_user : TurnRequest → Addr → ℕ → Parts → Rows → Decision
-decision_for_user turn.Allocate client user p rows = allocate client user p rows
-decision_for_user turn.Refresh client user p rows = refresh client user p rows
+decision_for_user turn.Allocate client user p rows = allocate_decision client user p rows
+decision_for_user turn.Refresh client user p rows = refresh_decision client user p rows
 decision_for_user turn.CreatePermission client user p rows = create_permission client user p rows
 decision_for_user turn.ChannelBind client user p rows = channel_bind client user p rows
 

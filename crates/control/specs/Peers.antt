@@ -13,5 +13,5 @@ abbrev pub peers_of : Parts → List Addr
 peers_of p = filter_map (address_in p.transaction_id) (values_of XOR_PEER_ADDRESS (message_of p).attributes)
 
 -- an address after others, if its IP address isn't among them and there is room
-abbrev pub with_peer : List Addr → Addr → List Addr
-with_peer peers peer = if list_any (λ known. bytes_eq (ip_of known) (ip_of peer)) peers || nat_le MAX_PEERS (length peers) then peers else peers ++ peer ∷ []
+abbrev pub peers_with : List Addr → Addr → List Addr
+peers_with peers peer = if list_any (λ known. bytes_eq (ip_of known) (ip_of peer)) peers || nat_le MAX_PEERS (length peers) then peers else peers ++ peer ∷ []

@@ -10,9 +10,9 @@ abbrev pub with_type : List ℕ → ℕ → List ℕ
 with_type kinds kind = if list_any (λ k. k == kind) kinds then kinds else kinds ++ kind ∷ []
 
 -- each type once, in the order in which they appear first
-abbrev pub distinct : List ℕ → List ℕ
-distinct kinds = fold with_type [] kinds
+abbrev pub distinct_types : List ℕ → List ℕ
+distinct_types kinds = fold with_type [] kinds
 
 -- the first of the types that are not understood
 abbrev pub unknown_types : Parts → List ℕ
-unknown_types p = take MAX_UNKNOWN (distinct (filter (λ kind. not (is_understood kind)) (map (λ a. a.kind) (message_of p).attributes)))
+unknown_types p = take MAX_UNKNOWN (distinct_types (filter (λ kind. not (is_understood kind)) (map (λ a. a.kind) (message_of p).attributes)))

@@ -4,9 +4,9 @@ use Rattle.stun.specs.declared.registry.ErrorCode.{ErrorCode}
 use Rattle.stun.specs.declared.registry.ErrorCode.TheVariants.{BadRequest}
 
 -- the value of an attribute that may be missing
-abbrev pub optional : {A : Type 0} → (List ℕ → Option A) → Option (List ℕ) → Result (Option A) ErrorCode
-optional parse None = Ok None
-optional parse (Some value) = ok_or (option_map Some (parse value)) BadRequest
+abbrev pub optional_value : {A : Type 0} → (List ℕ → Option A) → Option (List ℕ) → Result (Option A) ErrorCode
+optional_value parse None = Ok None
+optional_value parse (Some value) = ok_or (option_map Some (parse value)) BadRequest
 
 -- the value of an attribute that must be there
 abbrev pub required_value : {A : Type 0} → (List ℕ → Option A) → Option (List ℕ) → Result A ErrorCode

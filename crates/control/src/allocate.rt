@@ -5,7 +5,7 @@ ghost use Rattle.tables.specs.Moments.{moment_of};
 ghost use Rattle.tables.specs.Rows.{rows_at};
 ghost use Rattle.tables.specs.Addresses.{is_ipv4};
 ghost use Rattle.control.specs.Serving.{Gives, HasSlotBelow};
-ghost use Rattle.control.specs.Control.{allocate, allocate_anew, acceptable_lifetime, is_repeated};
+ghost use Rattle.control.specs.Control.{allocate_decision, allocate_anew, acceptable_lifetime, is_repeated};
 
 use crate::lifetime::lifetime_for;
 use crate::owning::error_of;
@@ -82,7 +82,7 @@ pub(crate) fn allocate(
     now: u64,
 ) -> Result<Grant, ErrorCode>
     requires ipv4 { IsTrue (is_ipv4 client) }
-    ensures gives { Gives (allocate client user message.now (rows_at now tables.old)) tables.old result tables.new }
+    ensures gives { Gives (allocate_decision client user message.now (rows_at now tables.old)) tables.old result tables.new }
     ensures inside { IfOk result (HasSlotBelow (length tables.old.slots)) }
     ensures moment { (tables.old.moment ≤ tables.new.moment)
         × (tables.new.moment ≤ moment_of tables.old.moment now) }

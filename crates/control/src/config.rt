@@ -121,12 +121,12 @@ fn are_distinct(users: &[User]) -> bool
 
 impl Config {
     ghost use Rattle.std.specs.Prelude.{◌≡◌};
-    ghost use Rattle.control.specs.Configs.{is_valid, fault};
+    ghost use Rattle.control.specs.Configs.{is_valid_field, fault};
     ghost use Rattle.control.specs.ConfigLaws.{IsWithinLimits};
 
     /// Returns whether a field lies within its limits.
     fn is_valid(&self, field: Field) -> bool
-        ensures { result ≡ is_valid self.now field }
+        ensures { result ≡ is_valid_field self.now field }
     {
         match field {
             Field::FirstPort => self.first_port >= 1,

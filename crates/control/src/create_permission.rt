@@ -9,7 +9,7 @@ ghost use Rattle.tables.specs.Addresses.{is_ipv4};
 ghost use Rattle.control.specs.Serving.{Gives, are_ipv4};
 ghost use Rattle.control.specs.Control.{create_permission};
 ghost use Rattle.tables.specs.PermitLaws.{StandsFor};
-ghost use Rattle.control.specs.Peers.{peers_of, with_peer};
+ghost use Rattle.control.specs.Peers.{peers_of, peers_with};
 
 use crate::owning::{error_of, own_allocation};
 use crate::reply::Grant;
@@ -51,7 +51,7 @@ fn has_ip(peers: &[Addr], peer: &Addr) -> bool
 
 /// Adds an address, unless its IP address is in the list or the list is full.
 fn add_peer(peers: &mut ArrayVec<Addr, MAX_PEERS>, peer: Addr)
-    ensures { peers.new.items ≡ with_peer peers.old.items peer }
+    ensures { peers.new.items ≡ peers_with peers.old.items peer }
 {
     if !has_ip(peers, &peer) && !peers.is_full() {
         peers.push(peer);

@@ -4,7 +4,7 @@ ghost use Rattle.std.specs.Prelude.{◌≡◌, ◌≤◌, length};
 ghost use Rattle.tables.specs.Moments.{moment_of};
 ghost use Rattle.tables.specs.Rows.{rows_at};
 ghost use Rattle.control.specs.Serving.{Gives};
-ghost use Rattle.control.specs.Control.{refresh};
+ghost use Rattle.control.specs.Control.{refresh_decision};
 
 use crate::lifetime::refresh_for;
 use crate::owning::{error_of, own_allocation};
@@ -26,7 +26,7 @@ pub(crate) fn refresh(
     message: &Message<'_>,
     now: u64,
 ) -> Result<Grant, ErrorCode>
-    ensures gives { Gives (refresh client user message.now (rows_at now tables.old)) tables.old result tables.new }
+    ensures gives { Gives (refresh_decision client user message.now (rows_at now tables.old)) tables.old result tables.new }
     ensures moment { (tables.old.moment ≤ tables.new.moment)
         × (tables.new.moment ≤ moment_of tables.old.moment now) }
     ensures slots { length tables.new.slots ≡ length tables.old.slots }

@@ -5,7 +5,7 @@ ghost use Rattle.credentials.specs.Checks.{first_value};
 ghost use Rattle.stun.specs.declared.registry.attribute.TheConstants.{CHANNEL_NUMBER as CHANNEL_TYPE, LIFETIME as LIFETIME_TYPE, XOR_PEER_ADDRESS as PEER_TYPE, REQUESTED_ADDRESS_FAMILY as FAMILY_TYPE, REQUESTED_TRANSPORT as TRANSPORT_TYPE};
 ghost use Rattle.attributes.specs.Addresses.{address_in};
 ghost use Rattle.attributes.specs.Values.{number_of_value};
-ghost use Rattle.control.specs.Values.{optional, required_value};
+ghost use Rattle.control.specs.Values.{optional_value, required_value};
 
 use attributes::{
     Addr, channel_number, lifetime, read_xor_addr, requested_family, requested_transport,
@@ -28,7 +28,7 @@ pub(crate) fn transport_of(message: &Message<'_>) -> Result<u8, ErrorCode>
 
 /// Returns the family of REQUESTED-ADDRESS-FAMILY, if it is there.
 pub(crate) fn family_of(message: &Message<'_>) -> Result<Option<u8>, ErrorCode>
-    ensures { result ≡ optional (number_of_value 1) (first_value message.now FAMILY_TYPE) }
+    ensures { result ≡ optional_value (number_of_value 1) (first_value message.now FAMILY_TYPE) }
 {
     let Some(value) = message.value_of(REQUESTED_ADDRESS_FAMILY) else {
         return Ok(None);
@@ -39,7 +39,7 @@ pub(crate) fn family_of(message: &Message<'_>) -> Result<Option<u8>, ErrorCode>
 
 /// Returns the seconds of LIFETIME, if it is there.
 pub(crate) fn lifetime_of(message: &Message<'_>) -> Result<Option<u32>, ErrorCode>
-    ensures { result ≡ optional (number_of_value 4) (first_value message.now LIFETIME_TYPE) }
+    ensures { result ≡ optional_value (number_of_value 4) (first_value message.now LIFETIME_TYPE) }
 {
     let Some(value) = message.value_of(LIFETIME) else {
         return Ok(None);

@@ -251,7 +251,7 @@ fn check(
     config: &Config,
     exchanges: &[Exchange],
 ) -> Result<(), Fail> {
-    for exchange in exchanges {
+    for (row, exchange) in exchanges.iter().enumerate() {
         let class = if exchange.code == 0 {
             Class::Success
         } else {
@@ -266,7 +266,11 @@ fn check(
             code: exchange.code,
             lifetime: exchange.lifetime,
         };
-        assert_eq!(rt; ask(rt, tables, config, &exchange.request)?, said);
+        assert_eq!(rt;
+            ask(rt, tables, config, &exchange.request)?,
+            said,
+            "row {row}"
+        );
     }
     Ok(())
 }

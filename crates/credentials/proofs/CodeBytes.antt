@@ -2,7 +2,7 @@
 use Rattle.std.proofs.Common.{◌≡◌, ℕ, ◌+◌, ◌/◌, ◌%◌, List, [], ◌∷◌, ◌++◌, length, take, drop, Option, Some, None, sym, ap, ◌∙◌, arith, length-append}
 use Rattle.std.specs.Prelude.{option_map}
 use Rattle.stun.specs.Endian.{big_bytes}
-use Rattle.stun.specs.Messages.{Padded, Parts, header, attributes_bytes, before_first, before_integrity}
+use Rattle.stun.specs.Messages.{PaddedAttribute, Parts, header, attributes_bytes, before_first, before_integrity}
 use Rattle.credentials.specs.Hmac.{hmac}
 use Rattle.credentials.specs.Integrity.{covered_bytes, code_under}
 
@@ -13,7 +13,7 @@ same_length n =
     λ i. high i ∷ low i ∷ []
 
 -- the bytes before it, whatever the length in their header, with the length that is covered
-pub covered : (front : List ℕ) (p : Parts) (n : ℕ) (attributes : List Padded) → length p.transaction_id ≡ 12 → front ≡ header p.kind n p.transaction_id ++ attributes_bytes attributes
+pub covered : (front : List ℕ) (p : Parts) (n : ℕ) (attributes : List PaddedAttribute) → length p.transaction_id ≡ 12 → front ≡ header p.kind n p.transaction_id ++ attributes_bytes attributes
     → take 2 front ++ (big_bytes 2 ((length front + 4) % 65536) ++ drop 4 front) ≡ covered_bytes p attributes
 covered front p n attributes id e =
     let bytes : List ℕ = attributes_bytes attributes in
@@ -22,8 +22,8 @@ covered front p n attributes id e =
     let length_is : big_bytes 2 ((length whole + 4) % 65536) ≡ big_bytes 2 (length bytes + 24) = same_length (length whole) ∙ ap (big_bytes 2) size in
     ap (λ (f : List ℕ). take 2 f ++ (big_bytes 2 ((length f + 4) % 65536) ++ drop 4 f)) e ∙ ap (λ (b : List ℕ). take 2 whole ++ (b ++ drop 4 whole)) length_is
 
-code_at : (key front code : List ℕ) (p : Parts) (o : Option (List Padded))
-    → ((f : List Padded) → front ≡ header p.kind (length (attributes_bytes p.attributes)) p.transaction_id ++ attributes_bytes f → code ≡ hmac key (covered_bytes p f))
+code_at : (key front code : List ℕ) (p : Parts) (o : Option (List PaddedAttribute))
+    → ((f : List PaddedAttribute) → front ≡ header p.kind (length (attributes_bytes p.attributes)) p.transaction_id ++ attributes_bytes f → code ≡ hmac key (covered_bytes p f))
     → option_map (λ f. header p.kind (length (attributes_bytes p.attributes)) p.transaction_id ++ attributes_bytes f) o ≡ Some front → Some code ≡ option_map (λ f. hmac key (covered_bytes p f)) o
 code_at key front code p None is e = absurd cc
 code_at key front code p (Some f) is e =
@@ -32,5 +32,5 @@ code_at key front code p (Some f) is e =
 
 -- a code over the bytes before the first MESSAGE-INTEGRITY is the right one
 pub code_of_front : (key front code : List ℕ) (p : Parts)
-    → ((f : List Padded) → front ≡ header p.kind (length (attributes_bytes p.attributes)) p.transaction_id ++ attributes_bytes f → code ≡ hmac key (covered_bytes p f)) → Some front ≡ before_integrity p → Some code ≡ code_under key p
+    → ((f : List PaddedAttribute) → front ≡ header p.kind (length (attributes_bytes p.attributes)) p.transaction_id ++ attributes_bytes f → code ≡ hmac key (covered_bytes p f)) → Some front ≡ before_integrity p → Some code ≡ code_under key p
 code_of_front key front code p is given = code_at key front code p (before_first p.attributes) is (sym given)

@@ -1,7 +1,7 @@
 //! Signs messages (RFC 8489, section 14.5).
 
 ghost use Rattle.std.specs.Prelude.{◌≡◌, ◌≤◌, ◌+◌, ◌++◌, ℕ, List, length, None, Ok, OnOk, OnErr};
-ghost use Rattle.stun.specs.Messages.{Padded, Parts, header, attributes_bytes, before_first};
+ghost use Rattle.stun.specs.Messages.{PaddedAttribute, Parts, header, attributes_bytes, before_first};
 ghost use Rattle.stun.specs.Registry.{message_integrity};
 ghost use Rattle.stun.specs.Builders.{used_of, capacity_of, SameBuffer, Appends, HasNoRoom};
 ghost use Rattle.credentials.specs.Hmac.{hmac};
@@ -19,7 +19,7 @@ use stun::{Builder, NoRoom};
 /// of that attribute (RFC 8489, section 14.5), whatever length it had.
 pub(crate) fn code_over(front: &[u8], key: &Key) -> [u8; 20]
     requires { 20 ≤ length front.now }
-    ensures { (p : Parts) (n : ℕ) (attributes : List Padded) → length p.transaction_id ≡ 12
+    ensures { (p : Parts) (n : ℕ) (attributes : List PaddedAttribute) → length p.transaction_id ≡ 12
         → front.now ≡ header p.kind n p.transaction_id ++ attributes_bytes attributes
         → result ≡ hmac (key_bytes key.now) (covered_bytes p attributes) }
 {

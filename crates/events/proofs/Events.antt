@@ -10,8 +10,8 @@ use Rattle.std.proofs.lemmas.Str.{IsUtf8-from_ascii}
 use Rattle.control.specs.Configs.{is_nonce}
 use Rattle.events.specs.Events.{Event, Nonce}
 use Rattle.events.specs.Lines.{line_of, IsEvent}
-use Rattle.events.specs.Reading.{split_at, event_in, event_by, client_in, peer_in, datagram_in, nonce_in}
-use Rattle.events.specs.Options.{◌>>=◌}
+use Rattle.events.specs.Reading.{parts_around, event_in, event_by, client_in_text, peer_in, datagram_in_text, nonce_in}
+use Rattle.fallible.specs.Options.{◌>>=◌}
 use Rattle.events.specs.ReadingLaws.{event_in-line_of, event_in-is}
 
 module _ {P : Type 0} (slots : ℕ) (line : List ℕ) (read : P → Event) (r : Option P) (same : option_map read r ≡ event_in slots line) where
@@ -46,10 +46,10 @@ no_nonce text bad = elim (cases_Bool (is_nonce text)) [
   | inr f ↦ sym (cond-false (is_nonce text) (Some (Nonce text)) None f)
 ]
 
-pub named_nonce : (slots : ℕ) (line kind text : List ℕ) → split_at 0x20 line ≡ Some (kind, text) → bytes_eq kind (codes "c") ≡ false → bytes_eq kind (codes "p") ≡ false → bytes_eq kind (codes "n") ≡ true
+pub named_nonce : (slots : ℕ) (line kind text : List ℕ) → parts_around 0x20 line ≡ Some (kind, text) → bytes_eq kind (codes "c") ≡ false → bytes_eq kind (codes "p") ≡ false → bytes_eq kind (codes "n") ≡ true
     → event_in slots line ≡ nonce_in text
 named_nonce slots line kind text split no_c no_p is_n =
     ap (λ (o : Option (List ℕ × List ℕ)). o >>= (λ p. event_by slots p.0 p.1)) split
-    ∙ cond-false (bytes_eq kind (codes "c")) (datagram_in client_in text) _ no_c
-    ∙ cond-false (bytes_eq kind (codes "p")) (datagram_in (peer_in slots) text) _ no_p
+    ∙ cond-false (bytes_eq kind (codes "c")) (datagram_in_text client_in_text text) _ no_c
+    ∙ cond-false (bytes_eq kind (codes "p")) (datagram_in_text (peer_in slots) text) _ no_p
     ∙ cond-true (bytes_eq kind (codes "n")) (nonce_in text) None is_n

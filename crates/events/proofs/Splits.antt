@@ -5,7 +5,7 @@ use Rattle.std.proofs.Math.Numerals.{add-one}
 use Rattle.std.proofs.Math.Seq.{drop-cons, take-suc}
 use Rattle.std.proofs.lemmas.Bool.{cond-true, cond-false}
 use Rattle.std.proofs.lemmas.List.{drop_all}
-use Rattle.events.specs.Reading.{split_at}
+use Rattle.events.specs.Reading.{parts_around}
 
 -- a split, after what was passed over
 abbrev pub before : List ℕ → List ℕ × List ℕ → List ℕ × List ℕ
@@ -15,8 +15,8 @@ before_nothing : (o : Option (List ℕ × List ℕ)) → o ≡ option_map (befor
 before_nothing None = refl
 before_nothing (Some p) = refl
 
-pub starts : (s : ℕ) (bytes : List ℕ) → split_at s bytes ≡ option_map (before (take 0 bytes)) (split_at s (drop 0 bytes))
-starts s bytes = before_nothing (split_at s bytes)
+pub starts : (s : ℕ) (bytes : List ℕ) → parts_around s bytes ≡ option_map (before (take 0 bytes)) (parts_around s (drop 0 bytes))
+starts s bytes = before_nothing (parts_around s bytes)
 
 module _ (s : ℕ) (bytes : List ℕ) (front : ℕ) (inside : front < length bytes) where
   abbrev here : ℕ
@@ -31,21 +31,21 @@ module _ (s : ℕ) (bytes : List ℕ) (front : ℕ) (inside : front < length byt
     step : (l : List ℕ) → take front bytes ++ here ∷ l ≡ take (suc front) bytes ++ l
     step l = sym (append_assoc (take front bytes) (here ∷ []) l) ∙ ap (λ f. f ++ l) (sym (take-suc bytes front 0 inside))
 
-  pub goes_on : (here == s) ≡ false → split_at s bytes ≡ option_map (before (take front bytes)) (split_at s (drop front bytes))
-      → split_at s bytes ≡ option_map (before (take (front + 1) bytes)) (split_at s (drop (front + 1) bytes))
+  pub goes_on : (here == s) ≡ false → parts_around s bytes ≡ option_map (before (take front bytes)) (parts_around s (drop front bytes))
+      → parts_around s bytes ≡ option_map (before (take (front + 1) bytes)) (parts_around s (drop (front + 1) bytes))
   goes_on other so_far =
       so_far
-      ∙ ap (λ l. option_map (before (take front bytes)) (split_at s l)) rest_is
-      ∙ ap (option_map (before (take front bytes))) (cond-false (here == s) _ (option_map (λ p. (here ∷ p.0, p.1)) (split_at s (drop (suc front) bytes))) other)
-      ∙ more (split_at s (drop (suc front) bytes))
-      ∙ (λ i. option_map (before (take (sym (add-one front) i) bytes)) (split_at s (drop (sym (add-one front) i) bytes)))
+      ∙ ap (λ l. option_map (before (take front bytes)) (parts_around s l)) rest_is
+      ∙ ap (option_map (before (take front bytes))) (cond-false (here == s) _ (option_map (λ p. (here ∷ p.0, p.1)) (parts_around s (drop (suc front) bytes))) other)
+      ∙ more (parts_around s (drop (suc front) bytes))
+      ∙ (λ i. option_map (before (take (sym (add-one front) i) bytes)) (parts_around s (drop (sym (add-one front) i) bytes)))
 
-  pub found : (here == s) ≡ true → split_at s bytes ≡ option_map (before (take front bytes)) (split_at s (drop front bytes)) → Some (take front bytes, drop 1 (drop front bytes)) ≡ split_at s bytes
+  pub found : (here == s) ≡ true → parts_around s bytes ≡ option_map (before (take front bytes)) (parts_around s (drop front bytes)) → Some (take front bytes, drop 1 (drop front bytes)) ≡ parts_around s bytes
   found same so_far =
       (λ i. Some (sym (append-nil (take front bytes)) i, drop 1 (rest_is i)))
       ∙ ap (option_map (before (take front bytes))) (sym (cond-true (here == s) (Some ([], drop (suc front) bytes)) _ same))
-      ∙ ap (λ l. option_map (before (take front bytes)) (split_at s l)) (sym rest_is)
+      ∙ ap (λ l. option_map (before (take front bytes)) (parts_around s l)) (sym rest_is)
       ∙ sym so_far
 
-pub ends : (s : ℕ) (bytes : List ℕ) (front : ℕ) → length bytes ≤ front → split_at s bytes ≡ option_map (before (take front bytes)) (split_at s (drop front bytes)) → None ≡ split_at s bytes
-ends s bytes front all so_far = sym (so_far ∙ ap (λ l. option_map (before (take front bytes)) (split_at s l)) (drop_all front bytes all))
+pub ends : (s : ℕ) (bytes : List ℕ) (front : ℕ) → length bytes ≤ front → parts_around s bytes ≡ option_map (before (take front bytes)) (parts_around s (drop front bytes)) → None ≡ parts_around s bytes
+ends s bytes front all so_far = sym (so_far ∙ ap (λ l. option_map (before (take front bytes)) (parts_around s l)) (drop_all front bytes all))

@@ -2,7 +2,6 @@
 pub mod Actions
 pub mod Events
 pub mod Lines
-pub mod Options
 pub mod Parsing
 pub mod Reading
 pub mod ReadingLaws

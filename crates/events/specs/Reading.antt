@@ -11,15 +11,15 @@ use Rattle.attributes.specs.declared.address.Addr.TheVariants.{V4}
 use Rattle.control.specs.Configs.{is_nonce}
 use Rattle.semantics.specs.declared.limits.TheConstants.{MAX_DATAGRAM}
 use Rattle.events.specs.Events.{Event, Datagram, Nonce}
-use Rattle.events.specs.Options.{◌>>=◌}
+use Rattle.fallible.specs.Options.{◌>>=◌}
 use Rattle.events.specs.declared.meta.Source.{Source}
 use Rattle.events.specs.declared.meta.Source.TheVariants.{Client, Peer}
 
 -- what precedes and what follows the first of a separator
-abbrev pub split_at : ℕ → List ℕ → Option (List ℕ × List ℕ)
-split_at separator [] = None
-split_at separator (b ∷ bytes) =
-    if b == separator then Some ([], bytes) else option_map (λ p. (b ∷ p.0, p.1)) (split_at separator bytes)
+abbrev pub parts_around : ℕ → List ℕ → Option (List ℕ × List ℕ)
+parts_around separator [] = None
+parts_around separator (b ∷ bytes) =
+    if b == separator then Some ([], bytes) else option_map (λ p. (b ∷ p.0, p.1)) (parts_around separator bytes)
 
 -- ---- fields
 
@@ -30,18 +30,18 @@ decimal_in limit text =
 
 abbrev pub ipv4_in : List ℕ → Option (List ℕ)
 ipv4_in text = do
-  a ← split_at 0x2e text
-  b ← split_at 0x2e a.1
-  c ← split_at 0x2e b.1
+  a ← parts_around 0x2e text
+  b ← parts_around 0x2e a.1
+  c ← parts_around 0x2e b.1
   first ← decimal_in 256 a.0
   second ← decimal_in 256 b.0
   third ← decimal_in 256 c.0
   fourth ← decimal_in 256 c.1
   Some (first ∷ second ∷ third ∷ fourth ∷ [])
 
-abbrev pub address_in : List ℕ → Option Addr
-address_in text = do
-  parts ← split_at 0x3a text
+abbrev pub address_in_text : List ℕ → Option Addr
+address_in_text text = do
+  parts ← parts_around 0x3a text
   ip ← ipv4_in parts.0
   port ← decimal_in 0x10000 parts.1
   Some (V4 ip port)
@@ -62,25 +62,25 @@ content_in text =
 
 -- ---- lines
 
-abbrev pub client_in : List ℕ → Option (Source × List ℕ)
-client_in text = do
-  parts ← split_at 0x20 text
-  client ← address_in parts.0
+abbrev pub client_in_text : List ℕ → Option (Source × List ℕ)
+client_in_text text = do
+  parts ← parts_around 0x20 text
+  client ← address_in_text parts.0
   Some (Client client, parts.1)
 
 abbrev pub peer_in : ℕ → List ℕ → Option (Source × List ℕ)
 peer_in slots text = do
-  first ← split_at 0x20 text
-  second ← split_at 0x20 first.1
+  first ← parts_around 0x20 text
+  second ← parts_around 0x20 first.1
   slot ← decimal_in slots first.0
-  peer ← address_in second.0
+  peer ← address_in_text second.0
   Some (Peer slot peer, second.1)
 
 -- what follows the side: the source as its side has it
-abbrev pub datagram_in : (List ℕ → Option (Source × List ℕ)) → List ℕ → Option Event
-datagram_in source text = do
-  first ← split_at 0x20 text
-  second ← split_at 0x20 first.1
+abbrev pub datagram_in_text : (List ℕ → Option (Source × List ℕ)) → List ℕ → Option Event
+datagram_in_text source text = do
+  first ← parts_around 0x20 text
+  second ← parts_around 0x20 first.1
   now ← decimal_in (2 ^ 64) first.0
   tx ← digits_in 12 second.0
   from ← source second.1
@@ -92,12 +92,12 @@ nonce_in text = if is_nonce text then Some (Nonce text) else None
 
 abbrev pub event_by : ℕ → List ℕ → List ℕ → Option Event
 event_by slots kind text =
-    if bytes_eq kind (codes "c") then datagram_in client_in text
-    else (if bytes_eq kind (codes "p") then datagram_in (peer_in slots) text
+    if bytes_eq kind (codes "c") then datagram_in_text client_in_text text
+    else (if bytes_eq kind (codes "p") then datagram_in_text (peer_in slots) text
     else (if bytes_eq kind (codes "n") then nonce_in text else None))
 
 -- the event of a line, if it has one
 abbrev pub event_in : ℕ → List ℕ → Option Event
 event_in slots line = do
-  parts ← split_at 0x20 line
+  parts ← parts_around 0x20 line
   event_by slots parts.0 parts.1

@@ -23,8 +23,8 @@ use Rattle.events.specs.Lines.{bytes_text, side_text, source_text, datagram_text
 use Rattle.events.specs.declared.meta.Meta.{Meta}
 use Rattle.events.specs.declared.meta.Source.{Source}
 use Rattle.events.specs.declared.meta.Source.TheVariants.{Client, Peer}
-use Rattle.events.specs.Options.{◌>>=◌}
-use Rattle.events.specs.Reading.{split_at, decimal_in, has_upper, digits_in, ipv4_in, address_in, content_in, client_in, peer_in, datagram_in, nonce_in, event_in}
+use Rattle.fallible.specs.Options.{◌>>=◌}
+use Rattle.events.specs.Reading.{parts_around, decimal_in, has_upper, digits_in, ipv4_in, address_in_text, content_in, client_in_text, peer_in, datagram_in_text, nonce_in, event_in}
 
 -- ---- texts without a separator
 
@@ -38,12 +38,12 @@ is_free-append s (x ∷ xs) ys free rest =
     let parts = and_parts (not (x == s)) (is_free s xs) free in
     and_from (not (x == s)) (is_free s (xs ++ ys)) parts.0 (is_free-append s xs ys parts.1 rest)
 
-not_false : (b : Bool) → not b ≡ true → b ≡ false
+not_false : (test : Bool) → not test ≡ true → test ≡ false
 not_false true h = sym h
 not_false false h = refl
 
-not_true : (b : Bool) → b ≡ false → not b ≡ true
-not_true b e = ap not e
+not_true : (test : Bool) → test ≡ false → not test ≡ true
+not_true test e = ap not e
 
 differs : (b s : ℕ) → b ≢ s → (b == s) ≡ false
 differs b s ne = elim (cases_Bool (b == s)) [ inl t ↦ absurd (ne (eqb-true b s t)) | inr f ↦ f ]
@@ -51,37 +51,37 @@ differs b s ne = elim (cases_Bool (b == s)) [ inl t ↦ absurd (ne (eqb-true b s
 one_free : (b s : ℕ) → b ≢ s → is_free s (b ∷ []) ≡ true
 one_free b s ne = and_from (not (b == s)) true (not_true (b == s) (differs b s ne)) refl
 
-or_left : (a b : Bool) → (a || b) ≡ false → a ≡ false
-or_left true b e = e
-or_left false b e = refl
+or_left : (test g : Bool) → (test || g) ≡ false → test ≡ false
+or_left true g e = e
+or_left false g e = refl
 
-or_right : (a b : Bool) → (a || b) ≡ false → b ≡ false
-or_right true b e = absurd cc
-or_right false b e = e
+or_right : (g test : Bool) → (g || test) ≡ false → test ≡ false
+or_right true g e = absurd cc
+or_right false g e = e
 
-or_both : (a b : Bool) → a ≡ false → b ≡ false → (a || b) ≡ false
-or_both a b e f = λ i. e i || f i
+or_both : (g test : Bool) → g ≡ false → test ≡ false → (g || test) ≡ false
+or_both g test e h = λ i. e i || h i
 
 -- what precedes a separator, and what follows it
-pub split_at-free : (s : ℕ) (front rest : List ℕ) → is_free s front ≡ true → split_at s (front ++ s ∷ rest) ≡ Some (front, rest)
+pub split_at-free : (s : ℕ) (front rest : List ℕ) → is_free s front ≡ true → parts_around s (front ++ s ∷ rest) ≡ Some (front, rest)
 split_at-free s [] rest free = cond-true (s == s) (Some ([], rest)) _ (eq-eqb s s refl)
 split_at-free s (b ∷ front) rest free =
     let parts = and_parts (not (b == s)) (is_free s front) free in
-    cond-false (b == s) _ (option_map (λ p. (b ∷ p.0, p.1)) (split_at s (front ++ s ∷ rest))) (not_false (b == s) parts.0)
+    cond-false (b == s) _ (option_map (λ p. (b ∷ p.0, p.1)) (parts_around s (front ++ s ∷ rest))) (not_false (b == s) parts.0)
     ∙ ap (option_map (λ (p : List ℕ × List ℕ). (b ∷ p.0, p.1))) (split_at-free s front rest parts.1)
 
 mapped : (b : ℕ) (o : Option (List ℕ × List ℕ)) (p : List ℕ × List ℕ) → option_map (λ q. (b ∷ q.0, q.1)) o ≡ Some p → (q : List ℕ × List ℕ) × (o ≡ Some q) × ((b ∷ q.0, q.1) ≡ p)
 mapped b None p e = absurd (none-some p e)
 mapped b (Some q) p e = (q, refl, same_Some (b ∷ q.0, q.1) p e)
 
-pub split_at-joins : (s : ℕ) (bytes : List ℕ) (p : List ℕ × List ℕ) → split_at s bytes ≡ Some p → bytes ≡ p.0 ++ s ∷ p.1
+pub split_at-joins : (s : ℕ) (bytes : List ℕ) (p : List ℕ × List ℕ) → parts_around s bytes ≡ Some p → bytes ≡ p.0 ++ s ∷ p.1
 split_at-joins s [] p e = absurd (none-some p e)
 split_at-joins s (b ∷ bytes) p e = elim (cases_Bool (b == s)) [
   | inl t ↦
       let is : ([], bytes) ≡ p = same_Some ([], bytes) p (sym (cond-true (b == s) (Some ([], bytes)) _ t) ∙ e) in
       (λ i. eqb-true b s t i ∷ bytes) ∙ (λ i. (is i).0 ++ s ∷ (is i).1)
   | inr f ↦
-      let more = mapped b (split_at s bytes) p (sym (cond-false (b == s) _ (option_map (λ q. (b ∷ q.0, q.1)) (split_at s bytes)) f) ∙ e) in
+      let more = mapped b (parts_around s bytes) p (sym (cond-false (b == s) _ (option_map (λ q. (b ∷ q.0, q.1)) (parts_around s bytes)) f) ∙ e) in
       ap (λ l. b ∷ l) (split_at-joins s bytes more.0 more.1) ∙ (λ i. (more.2 i).0 ++ s ∷ (more.2 i).1)
 ]
 
@@ -200,13 +200,13 @@ digit_is c v e lower =
 value_small : (c v : ℕ) → hex_digit_value c ≡ Some v → is_upper c ≡ false → v < 16
 value_small c v e lower = elim (by_value c v e lower) [ inl h ↦ omega (arith, h.0) | inr h ↦ h.1 ]
 
-then_ok : {A B : Type 0} (r : Result A FromHexError) (f : A → Result B FromHexError) (y : B) → hex.◌>>=◌ r f ≡ Ok y → (x : A) × (r ≡ Ok x) × (f x ≡ Ok y)
+then_ok : {A B : Type 0} (result : Result A FromHexError) (f : A → Result B FromHexError) (y : B) → hex.◌>>=◌ result f ≡ Ok y → (x : A) × (result ≡ Ok x) × (f x ≡ Ok y)
 then_ok (Ok x) f y h = (x, refl, h)
 then_ok (Err e) f y h = cc h
 
-digit_read : (c i v : ℕ) (o : Option ℕ) → digit_or_error c i o ≡ Ok v → o ≡ Some v
+digit_read : (c i v : ℕ) (option : Option ℕ) → digit_or_error c i option ≡ Ok v → option ≡ Some v
 digit_read c i v None e = cc e
-digit_read c i v (Some w) e = ap (λ (r : Result ℕ FromHexError). result_ok r) e
+digit_read c i v (Some w) e = ap (λ (result : Result ℕ FromHexError). result_ok result) e
 
 decoded-encodes : (i : ℕ) (text bytes : List ℕ) → has_upper text ≡ false → decode_pairs i text ≡ Ok bytes → text ≡ encode_lower bytes
 unfolding decode_pairs encode_with
@@ -223,7 +223,7 @@ decoded-encodes i (a ∷ b ∷ rest) bytes lower e =
     let b_lower = or_left (is_upper b) (has_upper rest) (or_right (is_upper a) (has_upper (b ∷ rest)) lower) in
     let rest_lower = or_right (is_upper b) (has_upper rest) (or_right (is_upper a) (has_upper (b ∷ rest)) lower) in
     let small = value_small b low.0 l_is b_lower in
-    let byte : high.0 * 16 + low.0 ≡ pair.0 = ap (λ (r : Result ℕ FromHexError). result_unwrap_or r 0) low.2 in
+    let byte : high.0 * 16 + low.0 ≡ pair.0 = ap (λ (digit : Result ℕ FromHexError). result_unwrap_or digit 0) low.2 in
     let upper_half : pair.0 / 16 ≡ high.0 = omega (arith, byte, small) in
     let lower_half : pair.0 % 16 ≡ low.0 = omega (arith, byte, small) in
     let whole : pair.0 ∷ more.0 ≡ bytes = ap (λ (r : Result (List ℕ) FromHexError). result_unwrap_or r []) more.2 in
@@ -253,9 +253,9 @@ digits_in-is n text bytes e = elim (cases_Bool (has_upper text)) [
 joined : (front rest : List ℕ) (s : ℕ) → (front ++ s ∷ []) ++ rest ≡ front ++ s ∷ rest
 joined front rest s = append_assoc front (s ∷ []) rest
 
-then_some : {A B : Type 0} (o : Option A) (f : A → Option B) (y : B) → (o >>= f) ≡ Some y → (x : A) × (o ≡ Some x) × (f x ≡ Some y)
-then_some None f y e = absurd (none-some y e)
-then_some (Some x) f y e = (x, refl, e)
+then_some : {A B : Type 0} (option : Option A) (t : A → Option B) (y : B) → (option >>= t) ≡ Some y → (x : A) × (option ≡ Some x) × (t x ≡ Some y)
+then_some None t y e = absurd (none-some y e)
+then_some (Some x) t y e = (x, refl, e)
 
 -- four bytes as decimal numbers with points between them
 abbrev dotted_four : ℕ → ℕ → ℕ → ℕ → List ℕ
@@ -306,9 +306,9 @@ pub record AreFour (ip text : List ℕ) : Type 0 where
 
 ipv4_in-is : (text ip : List ℕ) → ipv4_in text ≡ Some ip → AreFour ip text
 ipv4_in-is text ip e =
-    let a = then_some (split_at 0x2e text) _ ip e in
-    let b = then_some (split_at 0x2e a.0.1) _ ip a.2 in
-    let c = then_some (split_at 0x2e b.0.1) _ ip b.2 in
+    let a = then_some (parts_around 0x2e text) _ ip e in
+    let b = then_some (parts_around 0x2e a.0.1) _ ip a.2 in
+    let c = then_some (parts_around 0x2e b.0.1) _ ip b.2 in
     let first = then_some (decimal_in 256 a.0.0) _ ip c.2 in
     let second = then_some (decimal_in 256 b.0.0) _ ip first.2 in
     let third = then_some (decimal_in 256 c.0.0) _ ip second.2 in
@@ -344,7 +344,7 @@ dotted_free s a b c d outside a_small b_small c_small d_small =
     (is_free-append s (decimal c) _ (free c c_small) (and_from (not (0x2e == s)) _ point (free d d_small))))))
 
 -- an address is read from its text, which has no blank
-pub address_in-text : (address : Addr) → IsIpv4Address address → (address_in (address_text address) ≡ Some address) × (is_free 0x20 (address_text address) ≡ true)
+pub address_in-text : (address : Addr) → IsIpv4Address address → (address_in_text (address_text address) ≡ Some address) × (is_free 0x20 (address_text address) ≡ true)
 address_in-text (V6 ip port) is = absurd is
 address_in-text (V4 [] port) is = absurd (omega (arith, is.long))
 address_in-text (V4 (a ∷ []) port) is = absurd (omega (arith, is.long))
@@ -359,7 +359,7 @@ address_in-text (V4 (a ∷ b ∷ c ∷ d ∷ []) port) is =
     let b_small : b < 256 = is.bytes 1 in
     let c_small : c < 256 = is.bytes 2 in
     let d_small : d < 256 = is.bytes 3 in
-    let parsed : address_in (host ++ 0x3a ∷ decimal port) ≡ Some (V4 (a ∷ b ∷ c ∷ d ∷ []) port) =
+    let parsed : address_in_text (host ++ 0x3a ∷ decimal port) ≡ Some (V4 (a ∷ b ∷ c ∷ d ∷ []) port) =
     rw (
       split_at-free 0x3a host (decimal port) (dotted_free 0x3a a b c d (inr (omega arith)) a_small b_small c_small d_small),
       ipv4_in-four a b c d a_small b_small c_small d_small,
@@ -367,11 +367,11 @@ address_in-text (V4 (a ∷ b ∷ c ∷ d ∷ []) port) is =
     ) refl in
     let free : is_free 0x20 (host ++ 0x3a ∷ decimal port) ≡ true =
     is_free-append 0x20 host (0x3a ∷ decimal port) (dotted_free 0x20 a b c d (inl (omega arith)) a_small b_small c_small d_small) (decimal-free 0x20 port (inl (omega arith)) small) in
-    (ap address_in text ∙ parsed, ap (is_free 0x20) text ∙ free)
+    (ap address_in_text text ∙ parsed, ap (is_free 0x20) text ∙ free)
 
-pub address_in-is : (text : List ℕ) (address : Addr) → address_in text ≡ Some address → IsIpv4Address address × (text ≡ address_text address)
+pub address_in-is : (text : List ℕ) (address : Addr) → address_in_text text ≡ Some address → IsIpv4Address address × (text ≡ address_text address)
 address_in-is text address e =
-    let parts = then_some (split_at 0x3a text) _ address e in
+    let parts = then_some (parts_around 0x3a text) _ address e in
     let ip = then_some (ipv4_in parts.0.0) _ address parts.2 in
     let port = then_some (decimal_in 0x10000 parts.0.1) _ address ip.2 in
     let port_is = decimal_in-is 0x10000 parts.0.1 port.0 port.1 in
@@ -429,7 +429,7 @@ content_in-is text bytes e = elim (cases_Bool (bytes_eq text (codes "-"))) [
 
 -- the reader of a side's sources
 abbrev pub source_in : ℕ → Source → List ℕ → Option (Source × List ℕ)
-source_in slots (Client client) = client_in
+source_in slots (Client client) = client_in_text
 source_in slots (Peer slot peer) = peer_in slots
 
 source_in-text : (slots : ℕ) (from : Source) (rest : List ℕ) → slots < 2 ^ 64 → IsSource slots from → source_in slots from (source_text from ++ 0x20 ∷ rest) ≡ Some (from, rest)
@@ -450,26 +450,26 @@ source_in-text slots (Peer slot peer) rest few is =
 
 -- a source that was read, and the text that it was read from
 abbrev IsRead : ℕ → List ℕ → Source × List ℕ → Type 0
-IsRead slots text p = IsSource slots p.0 × (text ≡ source_text p.0 ++ 0x20 ∷ p.1)
+IsRead slots text source = IsSource slots source.0 × (text ≡ source_text source.0 ++ 0x20 ∷ source.1)
 
-client_in-is : (slots : ℕ) (text : List ℕ) (p : Source × List ℕ) → client_in text ≡ Some p → IsRead slots text p × (codes "c" ≡ side_text p.0)
-client_in-is slots text p e =
-    let parts = then_some (split_at 0x20 text) _ p e in
-    let client = then_some (address_in parts.0.0) _ p parts.2 in
+client_in-is : (slots : ℕ) (text : List ℕ) (source : Source × List ℕ) → client_in_text text ≡ Some source → IsRead slots text source × (codes "c" ≡ side_text source.0)
+client_in-is slots text source e =
+    let parts = then_some (parts_around 0x20 text) _ source e in
+    let client = then_some (address_in_text parts.0.0) _ source parts.2 in
     let is = address_in-is parts.0.0 client.0 client.1 in
-    let same : (Client client.0, parts.0.1) ≡ p = same_Some (Client client.0, parts.0.1) p client.2 in
+    let same : (Client client.0, parts.0.1) ≡ source = same_Some (Client client.0, parts.0.1) source client.2 in
     let P : Source × List ℕ → Type 0 = λ q. IsRead slots text q × (codes "c" ≡ side_text q.0) in
     subst P same ((is.0, split_at-joins 0x20 text parts.0 parts.1 ∙ (λ i. is.1 i ++ 0x20 ∷ parts.0.1)), refl)
 
-peer_in-is : (slots : ℕ) (text : List ℕ) (p : Source × List ℕ) → peer_in slots text ≡ Some p → IsRead slots text p × (codes "p" ≡ side_text p.0)
-peer_in-is slots text p e =
-    let first = then_some (split_at 0x20 text) _ p e in
-    let second = then_some (split_at 0x20 first.0.1) _ p first.2 in
-    let slot = then_some (decimal_in slots first.0.0) _ p second.2 in
-    let peer = then_some (address_in second.0.0) _ p slot.2 in
+peer_in-is : (slots : ℕ) (text : List ℕ) (source : Source × List ℕ) → peer_in slots text ≡ Some source → IsRead slots text source × (codes "p" ≡ side_text source.0)
+peer_in-is slots text source e =
+    let first = then_some (parts_around 0x20 text) _ source e in
+    let second = then_some (parts_around 0x20 first.0.1) _ source first.2 in
+    let slot = then_some (decimal_in slots first.0.0) _ source second.2 in
+    let peer = then_some (address_in_text second.0.0) _ source slot.2 in
     let slot_is = decimal_in-is slots first.0.0 slot.0 slot.1 in
     let is = address_in-is second.0.0 peer.0 peer.1 in
-    let same : (Peer slot.0 peer.0, second.0.1) ≡ p = same_Some (Peer slot.0 peer.0, second.0.1) p peer.2 in
+    let same : (Peer slot.0 peer.0, second.0.1) ≡ source = same_Some (Peer slot.0 peer.0, second.0.1) source peer.2 in
     let whole : text ≡ (decimal slot.0 ++ 0x20 ∷ address_text peer.0) ++ 0x20 ∷ second.0.1 =
     split_at-joins 0x20 text first.0 first.1
     ∙ (λ i. slot_is.1 i ++ 0x20 ∷ split_at-joins 0x20 first.0.1 second.0 second.1 i)
@@ -482,7 +482,7 @@ peer_in-is slots text p e =
 
 datagram_in-text : (slots : ℕ) (source : List ℕ → Option (Source × List ℕ)) (given : Meta) (bytes : List ℕ)
     → source (source_text given.from ++ 0x20 ∷ bytes_text bytes) ≡ Some (given.from, bytes_text bytes)
-    → IsEvent slots (Datagram given bytes) → datagram_in source (datagram_text given bytes) ≡ Some (Datagram given bytes)
+    → IsEvent slots (Datagram given bytes) → datagram_in_text source (datagram_text given bytes) ≡ Some (Datagram given bytes)
 datagram_in-text slots source given bytes from is =
     let rest = source_text given.from ++ 0x20 ∷ bytes_text bytes in
     rw (
@@ -495,22 +495,22 @@ datagram_in-text slots source given bytes from is =
     ) refl
 
 -- a datagram that was read, where its source was read of a side
-datagram_in-is : (slots : ℕ) (side : List ℕ) (source : List ℕ → Option (Source × List ℕ)) (text : List ℕ) (e : Event)
+datagram_in-is : (slots : ℕ) (side : List ℕ) (source : List ℕ → Option (Source × List ℕ)) (text : List ℕ) (j : Event)
     → ((t : List ℕ) (p : Source × List ℕ) → source t ≡ Some p → IsRead slots t p × (side ≡ side_text p.0))
-    → datagram_in source text ≡ Some e → IsEvent slots e × (side ++ 0x20 ∷ text ≡ line_of e)
-datagram_in-is slots side source text e reads h =
-    let first = then_some (split_at 0x20 text) _ e h in
-    let second = then_some (split_at 0x20 first.0.1) _ e first.2 in
-    let now = then_some (decimal_in (2 ^ 64) first.0.0) _ e second.2 in
-    let tx = then_some (digits_in 12 second.0.0) _ e now.2 in
-    let from = then_some (source second.0.1) _ e tx.2 in
-    let bytes = then_some (content_in from.0.1) _ e from.2 in
+    → datagram_in_text source text ≡ Some j → IsEvent slots j × (side ++ 0x20 ∷ text ≡ line_of j)
+datagram_in-is slots side source text j reads h =
+    let first = then_some (parts_around 0x20 text) _ j h in
+    let second = then_some (parts_around 0x20 first.0.1) _ j first.2 in
+    let now = then_some (decimal_in (2 ^ 64) first.0.0) _ j second.2 in
+    let tx = then_some (digits_in 12 second.0.0) _ j now.2 in
+    let from = then_some (source second.0.1) _ j tx.2 in
+    let bytes = then_some (content_in from.0.1) _ j from.2 in
     let now_is = decimal_in-is (2 ^ 64) first.0.0 now.0 now.1 in
     let tx_is = digits_in-is 12 second.0.0 tx.0 tx.1 in
     let from_is = reads second.0.1 from.0 from.1 in
     let bytes_are = content_in-is from.0.1 bytes.0 bytes.1 in
     let given : Meta = record { now = now.0; tx = tx.0; from = from.0.0 } in
-    let same : Datagram given bytes.0 ≡ e = same_Some (Datagram given bytes.0) e bytes.2 in
+    let same : Datagram given bytes.0 ≡ j = same_Some (Datagram given bytes.0) j bytes.2 in
     let whole : text ≡ datagram_text given bytes.0 =
     split_at-joins 0x20 text first.0 first.1
     ∙ (λ i. now_is.1 i ++ 0x20 ∷ split_at-joins 0x20 first.0.1 second.0 second.1 i)
@@ -522,50 +522,50 @@ datagram_in-is slots side source text e reads h =
 -- ---- lines
 
 -- the side names the reader of its source
-by_side : (slots : ℕ) (from : Source) (text : List ℕ) → event_in slots (side_text from ++ 0x20 ∷ text) ≡ datagram_in (source_in slots from) text
+by_side : (slots : ℕ) (from : Source) (text : List ℕ) → event_in slots (side_text from ++ 0x20 ∷ text) ≡ datagram_in_text (source_in slots from) text
 by_side slots (Client client) text = refl
 by_side slots (Peer slot peer) text = refl
 
 -- the event of an event's line
-pub event_in-line_of : (slots : ℕ) (e : Event) → slots < 2 ^ 64 → IsEvent slots e → event_in slots (line_of e) ≡ Some e
+pub event_in-line_of : (slots : ℕ) (j : Event) → slots < 2 ^ 64 → IsEvent slots j → event_in slots (line_of j) ≡ Some j
 event_in-line_of slots (Datagram given bytes) few is =
     by_side slots given.from (datagram_text given bytes)
     ∙ datagram_in-text slots (source_in slots given.from) given bytes (source_in-text slots given.from (bytes_text bytes) few is.3) is
 event_in-line_of slots (Nonce text) few is = cond-true (is_nonce text) (Some (Nonce text)) None is
 
-nonce_in-is : (text : List ℕ) (e : Event) → nonce_in text ≡ Some e → (is_nonce text ≡ true) × (Nonce text ≡ e)
-nonce_in-is text e h = elim (cases_Bool (is_nonce text)) [
-  | inl t ↦ (t, same_Some (Nonce text) e (sym (cond-true (is_nonce text) (Some (Nonce text)) None t) ∙ h))
-  | inr f ↦ absurd (none-some e (sym (cond-false (is_nonce text) (Some (Nonce text)) None f) ∙ h))
+nonce_in-is : (text : List ℕ) (j : Event) → nonce_in text ≡ Some j → (is_nonce text ≡ true) × (Nonce text ≡ j)
+nonce_in-is text j h = elim (cases_Bool (is_nonce text)) [
+  | inl t ↦ (t, same_Some (Nonce text) j (sym (cond-true (is_nonce text) (Some (Nonce text)) None t) ∙ h))
+  | inr f ↦ absurd (none-some j (sym (cond-false (is_nonce text) (Some (Nonce text)) None f) ∙ h))
 ]
 
 -- an event that was read, and the line that it was read from
-pub event_in-is : (slots : ℕ) (line : List ℕ) (e : Event) → event_in slots line ≡ Some e → IsEvent slots e × (line ≡ line_of e)
-event_in-is slots line e h =
-    let parts = then_some (split_at 0x20 line) _ e h in
+pub event_in-is : (slots : ℕ) (line : List ℕ) (j : Event) → event_in slots line ≡ Some j → IsEvent slots j × (line ≡ line_of j)
+event_in-is slots line j h =
+    let parts = then_some (parts_around 0x20 line) _ j h in
     let kind : List ℕ = parts.0.0 in
     let text : List ℕ = parts.0.1 in
-    let P : List ℕ → Type 0 = λ l. IsEvent slots e × (l ≡ line_of e) in
+    let P : List ℕ → Type 0 = λ l. IsEvent slots j × (l ≡ line_of j) in
     let whole : line ≡ kind ++ 0x20 ∷ text = split_at-joins 0x20 line parts.0 parts.1 in
     let named : (side : List ℕ) → bytes_eq kind side ≡ true → side ++ 0x20 ∷ text ≡ line = λ side t. (λ i. sym ((bytes_eq-Decides kind side).0 t) i ++ 0x20 ∷ text) ∙ sym whole in
     subst P refl (elim (cases_Bool (bytes_eq kind (codes "c"))) [
       | inl t ↦
-          let is = datagram_in-is slots (codes "c") client_in text e (client_in-is slots) (sym (cond-true (bytes_eq kind (codes "c")) (datagram_in client_in text) _ t) ∙ parts.2) in
+          let is = datagram_in-is slots (codes "c") client_in_text text j (client_in-is slots) (sym (cond-true (bytes_eq kind (codes "c")) (datagram_in_text client_in_text text) _ t) ∙ parts.2) in
           (is.0, sym (named (codes "c") t) ∙ is.1)
       | inr f ↦
-          let second = sym (cond-false (bytes_eq kind (codes "c")) (datagram_in client_in text) _ f) ∙ parts.2 in
+          let second = sym (cond-false (bytes_eq kind (codes "c")) (datagram_in_text client_in_text text) _ f) ∙ parts.2 in
           elim (cases_Bool (bytes_eq kind (codes "p"))) [
             | inl t ↦
-                let is = datagram_in-is slots (codes "p") (peer_in slots) text e (peer_in-is slots) (sym (cond-true (bytes_eq kind (codes "p")) (datagram_in (peer_in slots) text) _ t) ∙ second) in
+                let is = datagram_in-is slots (codes "p") (peer_in slots) text j (peer_in-is slots) (sym (cond-true (bytes_eq kind (codes "p")) (datagram_in_text (peer_in slots) text) _ t) ∙ second) in
                 (is.0, sym (named (codes "p") t) ∙ is.1)
             | inr g ↦
-                let third = sym (cond-false (bytes_eq kind (codes "p")) (datagram_in (peer_in slots) text) _ g) ∙ second in
+                let third = sym (cond-false (bytes_eq kind (codes "p")) (datagram_in_text (peer_in slots) text) _ g) ∙ second in
                 elim (cases_Bool (bytes_eq kind (codes "n"))) [
                   | inl t ↦
-                      let is = nonce_in-is text e (sym (cond-true (bytes_eq kind (codes "n")) (nonce_in text) None t) ∙ third) in
+                      let is = nonce_in-is text j (sym (cond-true (bytes_eq kind (codes "n")) (nonce_in text) None t) ∙ third) in
                       let Q : Event → Type 0 = λ d. IsEvent slots d × (line ≡ line_of d) in
                       subst Q is.1 (is.0, sym (named (codes "n") t))
-                  | inr k ↦ absurd (none-some e (sym (cond-false (bytes_eq kind (codes "n")) (nonce_in text) None k) ∙ third))
+                  | inr k ↦ absurd (none-some j (sym (cond-false (bytes_eq kind (codes "n")) (nonce_in text) None k) ∙ third))
                 ]
           ]
     ])

@@ -4,8 +4,8 @@ ghost use Rattle.std.specs.Prelude.{◌≡◌, ℕ, ◌^◌, ◌≤◌, List, If
 ghost use Rattle.semantics.specs.declared.limits.TheConstants.{MAX_DATAGRAM};
 ghost use Rattle.events.specs.Events.{Event};
 ghost use Rattle.events.specs.Lines.{line_of, IsEvent};
-ghost use Rattle.events.specs.Parsing.{event_of, IsShort, pair_of, source_of, source_of_side};
-ghost use Rattle.events.specs.Reading.{split_at, decimal_in, ipv4_in, address_in, has_upper, digits_in, content_in, client_in, peer_in, datagram_in, nonce_in, event_in};
+ghost use Rattle.events.specs.Parsing.{event_of, FitsRoom, pair_of, source_and_rest, source_of_side};
+ghost use Rattle.events.specs.Reading.{parts_around, decimal_in, ipv4_in, address_in_text, has_upper, digits_in, content_in, client_in_text, peer_in, datagram_in_text, nonce_in, event_in};
 
 use crate::meta::{Meta, Source};
 use attributes::Addr;
@@ -24,7 +24,7 @@ pub enum Parsed<'a> {
 
 /// Returns what precedes and what follows the first of a separator.
 fn split_at(bytes: &[u8], separator: u8) -> Option<(&[u8], &[u8])>
-    ensures { option_map pair_of result ≡ split_at separator bytes.now }
+    ensures { option_map pair_of result ≡ parts_around separator bytes.now }
 {
     for front in 0..bytes.len() {
         if bytes[front] == separator {
@@ -84,7 +84,7 @@ fn ipv4(text: &[u8]) -> Option<[u8; 4]>
 
 /// Returns the address of a text `a.b.c.d:port`.
 fn address(text: &[u8]) -> Option<Addr>
-    ensures { result ≡ address_in text.now }
+    ensures { result ≡ address_in_text text.now }
 {
     let (ip, port) = split_at(text, b':')?;
     let ip = ipv4(ip)?;
@@ -129,7 +129,7 @@ fn content(text: &[u8], room: &mut [u8]) -> Option<usize>
 
 /// Reads a client's address, and returns it as a source with the text after it.
 fn client(text: &[u8]) -> Option<(Source, &[u8])>
-    ensures { option_map source_of result ≡ client_in text.now }
+    ensures { option_map source_and_rest result ≡ client_in_text text.now }
 {
     let (client, rest) = split_at(text, b' ')?;
     Some((Source::Client(address(client)?), rest))
@@ -137,7 +137,7 @@ fn client(text: &[u8]) -> Option<(Source, &[u8])>
 
 /// Reads a slot and a peer's address, and returns them as a source with the text after them.
 fn peer(text: &[u8], slots: usize) -> Option<(Source, &[u8])>
-    ensures { option_map source_of result ≡ peer_in slots text.now }
+    ensures { option_map source_and_rest result ≡ peer_in slots text.now }
 {
     let (slot, rest) = split_at(text, b' ')?;
     let (peer, rest) = split_at(rest, b' ')?;
@@ -167,7 +167,7 @@ enum Side {
 
 /// Reads the source of a side's datagram, and returns it with the text after it.
 fn source(side: Side, text: &[u8], slots: usize) -> Option<(Source, &[u8])>
-    ensures { option_map source_of result ≡ source_of_side side slots text.now }
+    ensures { option_map source_and_rest result ≡ source_of_side side slots text.now }
 {
     match side {
         Side::Client => client(text),
@@ -178,8 +178,8 @@ fn source(side: Side, text: &[u8], slots: usize) -> Option<(Source, &[u8])>
 /// Reads what follows the side of a datagram. Its bytes are read over the first bytes of a room.
 fn datagram<'a>(side: Side, text: &[u8], slots: usize, room: &mut [u8]) -> Option<Parsed<'a>>
     requires { length room.old ≡ MAX_DATAGRAM }
-    ensures reads { option_map (event_of room.new) result ≡ datagram_in (source_of_side side slots) text.now }
-    ensures few { IfSome result IsShort }
+    ensures reads { option_map (event_of room.new) result ≡ datagram_in_text (source_of_side side slots) text.now }
+    ensures few { IfSome result FitsRoom }
 {
     let (now, rest) = split_at(text, b' ')?;
     let (tx, rest) = split_at(rest, b' ')?;
@@ -194,7 +194,7 @@ fn datagram<'a>(side: Side, text: &[u8], slots: usize, room: &mut [u8]) -> Optio
 /// Reads a nonce.
 fn nonce(text: &[u8]) -> Option<Parsed<'_>>
     ensures reads { (room : List ℕ) → option_map (event_of room) result ≡ nonce_in text.now }
-    ensures few { IfSome result IsShort }
+    ensures few { IfSome result FitsRoom }
 {
     let Ok(text) = std::str::from_utf8(text) else {
         return None;
@@ -210,7 +210,7 @@ fn nonce(text: &[u8]) -> Option<Parsed<'_>>
 fn read_line<'a>(line: &'a [u8], slots: usize, room: &mut [u8]) -> Option<Parsed<'a>>
     requires { length room.old ≡ MAX_DATAGRAM }
     ensures reads { option_map (event_of room.new) result ≡ event_in slots line.now }
-    ensures few { IfSome result IsShort }
+    ensures few { IfSome result FitsRoom }
 {
     let (kind, text) = split_at(line, b' ')?;
     if kind == b"c".as_slice() {
@@ -236,7 +236,7 @@ pub fn parse<'a>(line: &'a [u8], slots: usize, room: &mut [u8]) -> Option<Parsed
         × (line.now ≡ line_of (event_of room.new p))) }
     ensures only { (e : Event) → IsEvent slots e → line.now ≡ line_of e
         → IsSomeAnd result (λ p. event_of room.new p ≡ e) }
-    ensures few { IfSome result IsShort }
+    ensures few { IfSome result FitsRoom }
 {
     read_line(line, slots, room)
 }

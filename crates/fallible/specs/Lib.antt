@@ -1,1 +1,2 @@
 pub mod Fallible
+pub mod Options

@@ -6,7 +6,7 @@ use Rattle.attributes.specs.declared.address.Addr.{Addr}
 use Rattle.tables.specs.Rows.{Rows}
 use Rattle.tables.specs.LookUps.{peer_of, channel_of, has_permission}
 use Rattle.helpers.specs.Records.{address_of, address_record}
-use Rattle.helpers.specs.Nothing.{finds_nothing}
+use Rattle.helpers.specs.Nothing.{empty_answer}
 
 -- 1 and the record of a peer, or 0 and eight zeros
 abbrev pub peer_answer : Option Addr → ℕ × AddressRecord
@@ -28,9 +28,9 @@ slot_answer slot rows id number address =
     if id == 1 then peer_answer (peer_of slot number rows)
     else (if id == 2 then number_answer (if is_valid address then channel_of slot (address_of address) rows else None)
     else (if id == 3 then test_answer (is_valid address && has_permission slot (address_of address) rows)
-    else finds_nothing id number address))
+    else empty_answer id number address))
 
 -- in a slot, if there is one
-abbrev pub look_up : Option ℕ → Rows → ℕ → ℕ → AddressRecord → ℕ × AddressRecord
-look_up None rows = finds_nothing
-look_up (Some slot) rows = slot_answer slot rows
+abbrev pub look_up_answer : Option ℕ → Rows → ℕ → ℕ → AddressRecord → ℕ × AddressRecord
+look_up_answer None rows = empty_answer
+look_up_answer (Some slot) rows = slot_answer slot rows

@@ -3,5 +3,5 @@ use Rattle.std.specs.Prelude.{ℕ, replicate}
 use Rattle.semantics.specs.Machine.{AddressRecord}
 
 -- 0, and a record of zeros
-abbrev pub finds_nothing : ℕ → ℕ → AddressRecord → ℕ × AddressRecord
-finds_nothing id number address = (0, replicate 8 0)
+abbrev pub empty_answer : ℕ → ℕ → AddressRecord → ℕ × AddressRecord
+empty_answer id number address = (0, replicate 8 0)

@@ -4,12 +4,12 @@ use Rattle.std.proofs.Common.{refl, arith}
 use Rattle.std.proofs.lemmas.List.Elements.{All-replicate}
 use Rattle.semantics.specs.Machine.{AreBytes}
 use Rattle.semantics.specs.Runs.{IsLawful}
-use Rattle.helpers.specs.Nothing.{finds_nothing}
+use Rattle.helpers.specs.Nothing.{empty_answer}
 
 zeros : AreBytes 8 (replicate 8 0)
 zeros = record { count = refl; fit = All-replicate (λ (b : ℕ). b < 256) 8 0 (omega arith) }
 
-pub nothing_is_lawful : IsLawful finds_nothing
+pub nothing_is_lawful : IsLawful empty_answer
 nothing_is_lawful = record {
   channel_peer = λ n address word bytes. (omega arith, zeros);
   channel_to = λ n address word bytes. omega arith;

@@ -5,7 +5,7 @@ ghost use Rattle.semantics.specs.Calls.{is_valid};
 ghost use Rattle.semantics.specs.Runs.{IsLawful};
 ghost use Rattle.tables.specs.Rows.{rows_at};
 ghost use Rattle.helpers.specs.LawfulLaws.{IsLawful-prop};
-ghost use Rattle.helpers.specs.LookUps.{look_up};
+ghost use Rattle.helpers.specs.LookUps.{look_up_answer};
 
 use crate::lookups::Helpers;
 use crate::record::{address_of, address_record};
@@ -21,7 +21,7 @@ pub struct Lookup<'a> {
     pub tables: &'a Tables,
     pub moment: u64,
     pub slot: Option<usize>,
-    pub ghost lawful: { IsLawful (look_up slot (rows_at moment tables.now)) } by { IsLawful-prop (look_up slot (rows_at moment tables.now)) },
+    pub ghost lawful: { IsLawful (look_up_answer slot (rows_at moment tables.now)) } by { IsLawful-prop (look_up_answer slot (rows_at moment tables.now)) },
 }
 
 /// An answer that finds nothing.
@@ -97,9 +97,9 @@ impl<'a> Lookup<'a> {
 
 impl Helpers for Lookup<'_> {
     ghost use Rattle.tables.specs.Rows.{rows_at};
-    ghost use Rattle.helpers.specs.LookUps.{look_up};
+    ghost use Rattle.helpers.specs.LookUps.{look_up_answer};
 
-    ghost answers = { λ l. look_up l.slot (rows_at l.moment l.tables.now) };
+    ghost answers = { λ l. look_up_answer l.slot (rows_at l.moment l.tables.now) };
 
     ghost lawful = { λ l. l.lawful };
 

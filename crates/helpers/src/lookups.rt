@@ -2,7 +2,7 @@
 
 ghost use Rattle.std.specs.Prelude.{◌≡◌, ℕ, List};
 ghost use Rattle.semantics.specs.Runs.{IsLawful};
-ghost use Rattle.helpers.specs.Nothing.{finds_nothing};
+ghost use Rattle.helpers.specs.Nothing.{empty_answer};
 ghost use Rattle.helpers.specs.NothingLaws.{nothing_is_lawful};
 
 /// The helpers 1 to 3, which look up channels and permissions in the slot of a run.
@@ -27,7 +27,7 @@ pub trait Helpers {
 pub struct NoAllocation;
 
 impl Helpers for NoAllocation {
-    ghost answers = { λ h. finds_nothing };
+    ghost answers = { λ h. empty_answer };
 
     ghost lawful = { λ h. nothing_is_lawful };
 

@@ -25,9 +25,9 @@ pub record Operations (D : Type 0) : Type 0 where
   pub covers : D → D → Bool
 
 -- a pair of words is among those that a refinement keeps
-abbrev pub Keeps : {D : Type 0} → (D → ℕ → Type 0) → Option (D × D) → ℕ → ℕ → Type 0
-Keeps Member None m n = ⊥
-Keeps Member (Some refined) m n = Member refined.0 m × Member refined.1 n
+abbrev pub KeepsPair : {D : Type 0} → (D → ℕ → Type 0) → Option (D × D) → ℕ → ℕ → Type 0
+KeepsPair Member None m n = ⊥
+KeepsPair Member (Some refined) m n = Member refined.0 m × Member refined.1 n
 
 -- both of a pair have a member
 pub record HasMembers {D : Type 0} (Member : D → ℕ → Type 0) (pair : D × D) : Type 0 where
@@ -46,7 +46,7 @@ pub record AreSound {D : Type 0} (ops : Operations D) (Member : D → ℕ → Ty
   pub bounds : (x : D) (n : ℕ) → Member x n → ((ops.bounds x).lo ≤ n) × (n ≤ (ops.bounds x).hi)
   pub alu : (op : AluOp) (w : Width) (x y : D) (m n : ℕ) → Member x m → Member y n → Member (ops.alu op w x y) (alu op w m n)
   pub unary : (op : UnaryOp) (x : D) (n : ℕ) → Member x n → Member (ops.unary op x) (unary op n)
-  pub refine : (test : Test) (w : Width) (x y : D) (m n : ℕ) → Member x m → Member y n → passes test w m n ≡ true → Keeps Member (ops.refine test w x y) m n
+  pub refine : (test : Test) (w : Width) (x y : D) (m n : ℕ) → Member x m → Member y n → passes test w m n ≡ true → KeepsPair Member (ops.refine test w x y) m n
   pub covers : (x y : D) (n : ℕ) → ops.covers x y ≡ true → Member y n → Member x n
 
 -- What refusals that are real need besides: an exact number has itself as its bounds, and what a refinement leaves of

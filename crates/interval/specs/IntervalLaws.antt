@@ -4,7 +4,7 @@ use Rattle.std.specs.Prelude.{nat_le}
 use Rattle.std.proofs.lemmas.Bool.{leb-true, and_parts}
 use Rattle.interval.specs.declared.domain.Bounds.{Bounds}
 use Rattle.interval.specs.Domains.{AreSound, ArePrecise}
-use Rattle.interval.specs.Intervals.{IsMember, interval_ops, contains}
+use Rattle.interval.specs.Intervals.{LiesBetween, interval_ops, contains}
 use Rattle.interval.specs.IntervalLaws.Members.{is_member, between}
 use Rattle.interval.specs.IntervalLaws.Operators.{alu_sound}
 use Rattle.interval.specs.IntervalLaws.OneOperand.{unary_sound}
@@ -16,7 +16,7 @@ pub mod Refinements
 pub mod Narrow
 pub mod Passing
 
-covers_member : (x y : Bounds) (n : ℕ) → contains x y ≡ true → IsMember y n → IsMember x n
+covers_member : (x y : Bounds) (n : ℕ) → contains x y ≡ true → LiesBetween y n → LiesBetween x n
 covers_member x y n e h =
     let ends = and_parts (nat_le x.lo y.lo) (nat_le y.hi x.hi) e in
     record {
@@ -25,7 +25,7 @@ covers_member x y n e h =
       below = omega (arith, h.below, leb-true y.hi x.hi ends.1);
     }
 
-pub interval_laws : AreSound interval_ops IsMember
+pub interval_laws : AreSound interval_ops LiesBetween
 interval_laws = record {
   words = λ x n h. h.word;
   top = λ n lt. is_member _ n (between 0 (2 ^ 64 - 1) n (omega arith) (omega arith) (omega arith));
@@ -38,7 +38,7 @@ interval_laws = record {
   covers = covers_member;
 }
 
-pub interval_precise : ArePrecise interval_ops IsMember
+pub interval_precise : ArePrecise interval_ops LiesBetween
 interval_precise = record {
   exact = λ n lt. refl;
   refine = λ test w x y m n pair h k e. refine_precise test w x y m n h k pair e;

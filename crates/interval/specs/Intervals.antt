@@ -21,7 +21,7 @@ abbrev pub from_to : ℕ → ℕ → Bounds
 from_to lo hi = record { lo = lo; hi = hi }
 
 -- a word lies between the two ends, those included
-pub record IsMember (x : Bounds) (n : ℕ) : Type 0 where
+pub record LiesBetween (x : Bounds) (n : ℕ) : Type 0 where
   pub word : n < 2 ^ 64
   pub above : x.lo ≤ n
   pub below : n ≤ x.hi
@@ -84,7 +84,7 @@ interval_alu op w x y = if is_single x && is_single y then single (alu op w x.lo
 
 -- the low w bits of a number, which are the number itself where it has no more
 abbrev pub low : ℕ → Bounds → Bounds
-low w x = if nat_lt x.hi (2 ^ w) then x else from_to 0 (2 ^ w - 1)
+low bits x = if nat_lt x.hi (2 ^ bits) then x else from_to 0 (2 ^ bits - 1)
 
 abbrev pub ranged_unary : UnaryOp → Bounds → Bounds
 ranged_unary (Mov w) x = x
@@ -113,7 +113,7 @@ if_any x = if nat_le x.lo x.hi then Some x else None
 abbrev pub both : Option Bounds → Option Bounds → Option (Bounds × Bounds)
 both (Some x) (Some y) = Some (x, y)
 both (Some x) None = None
-both None y = None
+both None other = None
 
 abbrev pub exchanged_pair : Option (Bounds × Bounds) → Option (Bounds × Bounds)
 exchanged_pair (Some pair) = Some (pair.1, pair.0)

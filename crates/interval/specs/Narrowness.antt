@@ -10,7 +10,7 @@ use Rattle.insn.specs.declared.operator.UnaryOp.TheVariants.{Mov, Neg, SignExten
 use Rattle.insn.specs.declared.operator.SwapOp.TheVariants.{ToLittle, ToBig, Reverse}
 use Rattle.insn.specs.declared.condition.Condition.TheVariants.{Eq, Gt, Ge, Set, Ne, SignedGt, SignedGe, Lt, Le, SignedLt, SignedLe}
 use Rattle.interval.specs.Domains.{passes}
-use Rattle.interval.specs.Intervals.{IsMember}
+use Rattle.interval.specs.Intervals.{LiesBetween}
 use Rattle.interval.specs.declared.domain.Bounds.{Bounds}
 use Rattle.interval.specs.declared.domain.Test.{Test}
 use Rattle.interval.specs.declared.domain.Test.TheVariants.{Holds, Fails}
@@ -31,8 +31,8 @@ pub record ArePositive (w : Width) (x y : Bounds) : Type 0 where
 pub record IsResult (op : AluOp) (w : Width) (x y : Bounds) (k : ℕ) : Type 0 where
   pub m : ℕ
   pub n : ℕ
-  pub of_left : IsMember x m
-  pub of_right : IsMember y n
+  pub of_left : LiesBetween x m
+  pub of_right : LiesBetween y n
   pub gives : alu op w m n ≡ k
 
 -- both ends are results, so no smaller interval has all results
@@ -98,8 +98,8 @@ result_modulus (Swap op z) = 2 ^ bits (swap_width z)
 
 -- each member that is left passes the test with a member of the other operand
 pub record ArePassing (test : Test) (w : Width) (x y : Bounds) (left : Bounds × Bounds) : Type 0 where
-  pub first : (m : ℕ) → IsMember left.0 m → (n : ℕ) × IsMember y n × (passes test w m n ≡ true)
-  pub second : (n : ℕ) → IsMember left.1 n → (m : ℕ) × IsMember x m × (passes test w m n ≡ true)
+  pub first : (m : ℕ) → LiesBetween left.0 m → (n : ℕ) × LiesBetween y n × (passes test w m n ≡ true)
+  pub second : (n : ℕ) → LiesBetween left.1 n → (m : ℕ) × LiesBetween x m × (passes test w m n ≡ true)
 
 abbrev pub OnLeft : Option (Bounds × Bounds) → (Bounds × Bounds → Type 0) → Type 0
 OnLeft None P = Unit {0}

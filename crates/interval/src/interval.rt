@@ -1,7 +1,7 @@
 //! Intervals of 64-bit words.
 
 ghost use Rattle.std.specs.Prelude.{◌≡◌, ◌≤◌};
-ghost use Rattle.interval.specs.Intervals.{interval_ops, IsMember, all, from_to, single, is_single};
+ghost use Rattle.interval.specs.Intervals.{interval_ops, LiesBetween, all, from_to, single, is_single};
 ghost use Rattle.interval.specs.IntervalLaws.{interval_laws};
 ghost use Rattle.std.proofs.Common.{arith};
 
@@ -77,7 +77,7 @@ impl Interval {
 impl Domain for Interval {
     ghost ops = { interval_ops };
 
-    ghost Member = { IsMember };
+    ghost Member = { LiesBetween };
 
     fn top() -> Interval {
         Interval::all(Width::W64)

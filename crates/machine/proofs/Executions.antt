@@ -8,7 +8,7 @@ use Rattle.semantics.specs.declared.plan.Plan.{Plan}
 use Rattle.semantics.specs.Slots.{fetch, last_slot, IsAt}
 use Rattle.semantics.specs.SlotLaws.{at_start}
 use Rattle.semantics.specs.Runs as runs
-use Rattle.semantics.specs.Runs.{Run, step_by_effect, step_of_fetched, visits_of, after, onwards, run}
+use Rattle.semantics.specs.Runs.{Run, step_by_effect, step_of_fetched, visits_of, run_after, run_onwards, run}
 use Rattle.semantics.specs.declared.value.Value.{Value}
 use Rattle.semantics.specs.declared.reason.Reason.{Reason}
 use Rattle.semantics.specs.declared.reason.Reason.TheVariants.{JumpIntoWide, FallsOffEnd}
@@ -16,7 +16,7 @@ use Rattle.semantics.specs.declared.fetching.Fetched.{Fetched}
 use Rattle.semantics.specs.declared.fetching.Fetched.TheVariants.{Begins, Inside, Past}
 use Rattle.semantics.specs.declared.fetching.Position.{Position}
 use Rattle.semantics.specs.declared.fetching.Visit.{Visit}
-use Rattle.machine.specs.Contexts.{Answers, around}
+use Rattle.machine.specs.Contexts.{HelperAnswers, environment_around}
 use Rattle.machine.specs.Tracing.{Reports}
 use Rattle.machine.specs.Execution.{IsRecordOf, state_at, result_of, whole_run, GoesAhead, IsWholeRun}
 use Rattle.machine.specs.declared.execution.StepResult.{StepResult}
@@ -25,7 +25,7 @@ use Rattle.machine.specs.declared.execution.StepResult.TheVariants as code
 abbrev visit : ℕ → Insn → Visit
 visit slot i = record { slot = slot; insn = i }
 
-after_after : (a b : List Visit) (r : Run) → after a (after b r) ≡ after (a ++ b) r
+after_after : (a b : List Visit) (r : Run) → run_after a (run_after b r) ≡ run_after (a ++ b) r
 after_after a b r = λ i. record r { path = sym (append_assoc a b r.path) i }
 
 whole_fuel : (n : ℕ) → n + 1 ≡ n + 1 - 0
@@ -39,28 +39,28 @@ less_one n steps = omega arith
 
 -- The loop is at a position after a path, and what is left of the run goes on from there, in the memory that the steps
 -- so far have made of the first one.
-pub record HasRun {Log : Type 0} (Logs : Log → Visit → Log → Type 0) (program : List Insn) (answers : Answers) (context : List ℕ) (first memory : Memory) (plan : Plan) (at : Position) (registers : List Value) (steps : ℕ) (old new : Log) : Type 0 where
+pub record HasRun {Log : Type 0} (Logs : Log → Visit → Log → Type 0) (program : List Insn) (answers : HelperAnswers) (context : List ℕ) (first memory : Memory) (plan : Plan) (at : Position) (registers : List Value) (steps : ℕ) (old new : Log) : Type 0 where
   pub is_at : IsAt program at
   pub path : List Visit
   pub count : length path ≡ steps
   pub early : steps ≤ at.index
-  pub so_far : (c : Context) → IsRecordOf context first.length c → whole_run (around c answers) program first ≡ after path (run (around c answers) program (length program + 1 - steps) (state_at at.slot registers memory plan))
+  pub so_far : (c : Context) → IsRecordOf context first.length c → whole_run (environment_around c answers) program first ≡ run_after path (run (environment_around c answers) program (length program + 1 - steps) (state_at at.slot registers memory plan))
   pub logged : Reports Logs old path new
 
-pub starts : {Log : Type 0} (Logs : Log → Visit → Log → Type 0) (program : List Insn) (answers : Answers) (context : List ℕ) (memory : Memory) (old : Log) → HasRun Logs program answers context memory memory no_plan (record { slot = 0; index = 0 }) first_registers 0 old old
+pub starts : {Log : Type 0} (Logs : Log → Visit → Log → Type 0) (program : List Insn) (answers : HelperAnswers) (context : List ℕ) (memory : Memory) (old : Log) → HasRun Logs program answers context memory memory no_plan (record { slot = 0; index = 0 }) first_registers 0 old old
 starts Logs program answers context memory old = record {
   is_at = at_start program;
   path = [];
   count = refl;
   early = omega arith;
-  so_far = λ c is. ap (λ (k : ℕ). run (around c answers) program k (state_at 0 first_registers memory no_plan)) (whole_fuel (length program));
+  so_far = λ c is. ap (λ (k : ℕ). run (environment_around c answers) program k (state_at 0 first_registers memory no_plan)) (whole_fuel (length program));
   logged = refl;
 }
 
 -- one turn of the loop, at what is at the slot
 abbrev turned_to : Environment → List Insn → Memory → Plan → ℕ → List Value → ℕ → List Visit → List Visit → runs.StepResult → Run
 turned_to w program memory plan slot registers steps path more r =
-    after (path ++ more) (onwards (state_at slot registers memory plan) r (λ next. run w program (length program - steps) next))
+    run_after (path ++ more) (run_onwards (state_at slot registers memory plan) r (λ next. run w program (length program - steps) next))
 
 reports-push : {Log : Type 0} (Logs : Log → Visit → Log → Type 0) (old new last : Log) (path : List Visit) (v : Visit) → Reports Logs old path new → Logs new v last → Reports Logs old (path ++ v ∷ []) last
 reports-push Logs old new last [] v same logs = (last, subst (λ t. Logs t v last) (sym same) logs, refl)
@@ -70,28 +70,28 @@ end_count : (path : List Visit) (v : Visit) (steps : ℕ) → length path ≡ st
 end_count path v steps e = omega (arith, length-append (path ++ v ∷ []) [], length-append path (v ∷ []))
 
 -- the result of a step that makes these registers, this memory and this plan of those before it
-abbrev StepsTo : List Insn → Answers → List ℕ → ℕ → ℕ → List Value → Memory → Plan → Insn → List Value → Memory → Plan → StepResult → Type 0
+abbrev StepsTo : List Insn → HelperAnswers → List ℕ → ℕ → ℕ → List Value → Memory → Plan → Insn → List Value → Memory → Plan → StepResult → Type 0
 StepsTo program answers context size slot registers memory plan i registers' memory' plan' result =
-    (c : Context) → IsRecordOf context size c → result_of slot registers' memory' plan' result ≡ step_by_effect (around c answers) program (state_at slot registers memory plan) i (effect c memory registers i)
+    (c : Context) → IsRecordOf context size c → result_of slot registers' memory' plan' result ≡ step_by_effect (environment_around c answers) program (state_at slot registers memory plan) i (effect c memory registers i)
 
-module _ {Log : Type 0} (Logs : Log → Visit → Log → Type 0) (program : List Insn) (answers : Answers) (context : List ℕ) (first memory : Memory) (plan : Plan) (at : Position) (registers : List Value) (steps : ℕ) (old new : Log) (has : HasRun Logs program answers context first memory plan at registers steps old new) where
+module _ {Log : Type 0} (Logs : Log → Visit → Log → Type 0) (program : List Insn) (answers : HelperAnswers) (context : List ℕ) (first memory : Memory) (plan : Plan) (at : Position) (registers : List Value) (steps : ℕ) (old new : Log) (has : HasRun Logs program answers context first memory plan at registers steps old new) where
   turned : (f : Fetched) → fetch program at.slot ≡ f → (c : Context) → IsRecordOf context first.length c
-      → whole_run (around c answers) program first ≡ turned_to (around c answers) program memory plan at.slot registers steps has.path (visits_of at.slot f) (step_of_fetched (around c answers) program (state_at at.slot registers memory plan) f)
+      → whole_run (environment_around c answers) program first ≡ turned_to (environment_around c answers) program memory plan at.slot registers steps has.path (visits_of at.slot f) (step_of_fetched (environment_around c answers) program (state_at at.slot registers memory plan) f)
   turned f here c is =
       let s : State = state_at at.slot registers memory plan in
       let fuel : length program + 1 - steps ≡ suc (length program - steps) = one_more (length program) steps at.index has.early has.is_at.inside in
       has.so_far c is
-      ∙ ap (λ (k : ℕ). after has.path (run (around c answers) program k s)) fuel
-      ∙ ap (λ (q : Fetched). after has.path (after (visits_of at.slot q) (onwards s (step_of_fetched (around c answers) program s q) (λ next. run (around c answers) program (length program - steps) next)))) here
-      ∙ after_after has.path (visits_of at.slot f) (onwards s (step_of_fetched (around c answers) program s f) (λ next. run (around c answers) program (length program - steps) next))
+      ∙ ap (λ (k : ℕ). run_after has.path (run (environment_around c answers) program k s)) fuel
+      ∙ ap (λ (q : Fetched). run_after has.path (run_after (visits_of at.slot q) (run_onwards s (step_of_fetched (environment_around c answers) program s q) (λ next. run (environment_around c answers) program (length program - steps) next)))) here
+      ∙ after_after has.path (visits_of at.slot f) (run_onwards s (step_of_fetched (environment_around c answers) program s f) (λ next. run (environment_around c answers) program (length program - steps) next))
 
   -- a step after the run so far
   stepped_to : (i : Insn) (r : StepResult) (registers' : List Value) (memory' : Memory) (plan' : Plan) → fetch program at.slot ≡ Begins i → StepsTo program answers context first.length at.slot registers memory plan i registers' memory' plan' r
       → (c : Context) → IsRecordOf context first.length c
-      → whole_run (around c answers) program first ≡ turned_to (around c answers) program memory plan at.slot registers steps has.path (visit at.slot i ∷ []) (result_of at.slot registers' memory' plan' r)
+      → whole_run (environment_around c answers) program first ≡ turned_to (environment_around c answers) program memory plan at.slot registers steps has.path (visit at.slot i ∷ []) (result_of at.slot registers' memory' plan' r)
   stepped_to i r registers' memory' plan' here result c is =
       turned (Begins i) here c is
-      ∙ ap (λ (q : runs.StepResult). turned_to (around c answers) program memory plan at.slot registers steps has.path (visit at.slot i ∷ []) q) (sym (result c is))
+      ∙ ap (λ (q : runs.StepResult). turned_to (environment_around c answers) program memory plan at.slot registers steps has.path (visit at.slot i ∷ []) q) (sym (result c is))
 
   logged_more : (last : Log) (v : Visit) → Logs new v last → Reports Logs old (has.path ++ v ∷ []) last
   logged_more last v logs = reports-push Logs old new last has.path v has.logged logs
@@ -111,7 +111,7 @@ module _ {Log : Type 0} (Logs : Log → Visit → Log → Type 0) (program : Lis
     early = omega (arith, has.early, ahead.later);
     so_far = λ c is.
         stepped_to i (code.Goes to) registers' memory' plan' here result c is
-        ∙ ap (λ (k : ℕ). after (has.path ++ visit at.slot i ∷ []) (run (around c answers) program k (state_at to.slot registers' memory' plan'))) (less_one (length program) steps);
+        ∙ ap (λ (k : ℕ). run_after (has.path ++ visit at.slot i ∷ []) (run (environment_around c answers) program k (state_at to.slot registers' memory' plan'))) (less_one (length program) steps);
     logged = logged_more last (visit at.slot i) logs;
   }
 
@@ -126,18 +126,18 @@ module _ {Log : Type 0} (Logs : Log → Visit → Log → Type 0) (program : Lis
         ending = λ c is. (ap (λ (r : Run). r.ending) (whole c is), ap (λ (r : Run). length r.path) (whole c is) ∙ end_count has.path (visit at.slot i) steps has.count);
         memory_is = λ c is. ap (λ (r : Run). r.state.memory) (whole c is) ∙ sym kept;
         plan_is = λ c is. ap (λ (r : Run). r.state.plan) (whole c is) ∙ sym planned;
-        logged = λ c is. logged_whole last (has.path ++ visit at.slot i ∷ []) (whole_run (around c answers) program first) (logged_more last (visit at.slot i) logs) (ap (λ (r : Run). r.path) (whole c is));
+        logged = λ c is. logged_whole last (has.path ++ visit at.slot i ∷ []) (whole_run (environment_around c answers) program first) (logged_more last (visit at.slot i) logs) (ap (λ (r : Run). r.path) (whole c is));
       }
 
   -- a run that is stuck after a path
   stuck_after : (more : List Visit) (left : Memory) (plan' : Plan) (last : Log) (reason : Reason) (slot : ℕ) → left ≡ memory → plan' ≡ plan → Reports Logs old (has.path ++ more) last
-      → ((c : Context) → IsRecordOf context first.length c → whole_run (around c answers) program first ≡ turned_to (around c answers) program memory plan at.slot registers steps has.path more (runs.Sticks reason slot))
+      → ((c : Context) → IsRecordOf context first.length c → whole_run (environment_around c answers) program first ≡ turned_to (environment_around c answers) program memory plan at.slot registers steps has.path more (runs.Sticks reason slot))
       → IsWholeRun Logs program answers context first left plan' old last (Err (record { reason = reason; slot = slot }))
   stuck_after more left plan' last reason slot kept planned logs whole = record {
     ending = λ c is. ap (λ (r : Run). r.ending) (whole c is);
     memory_is = λ c is. ap (λ (r : Run). r.state.memory) (whole c is) ∙ sym kept;
     plan_is = λ c is. ap (λ (r : Run). r.state.plan) (whole c is) ∙ sym planned;
-    logged = λ c is. logged_whole last (has.path ++ more) (whole_run (around c answers) program first) logs (ap (λ (r : Run). r.path) (whole c is));
+    logged = λ c is. logged_whole last (has.path ++ more) (whole_run (environment_around c answers) program first) logs (ap (λ (r : Run). r.path) (whole c is));
   }
 
   pub over_at_stuck : (registers' : List Value) (left : Memory) (plan' : Plan) (reason : Reason) (last : Log) (i : Insn) → fetch program at.slot ≡ Begins i → Logs new (visit at.slot i) last

@@ -3,7 +3,7 @@ use Rattle.std.proofs.Common.{◌≡◌, ℕ, ◌+◌, ◌≤◌, true, false, L
 use Rattle.std.specs.Prelude.{IfSome}
 use Rattle.std.proofs.lemmas.List.{length-drop}
 use Rattle.insn.specs.declared.instruction.Insn.{Insn}
-use Rattle.semantics.specs.Access.{put}
+use Rattle.semantics.specs.Access.{overlay}
 use Rattle.semantics.specs.Calls.{IsWindow}
 use Rattle.semantics.specs.Extents.{start_extent, run_extent}
 use Rattle.semantics.specs.Machine.{IsContext, Environment, context_bytes, start, datagram_area}
@@ -16,14 +16,14 @@ use Rattle.flat.specs.Following.{given_in}
 use Rattle.flat.specs.FlatRuns.{IsStart, IsRun}
 use Rattle.flat.specs.FlatLaws.{laid_out_is_flat, laid_out_after, rest_from_headroom}
 use Rattle.flat.specs.declared.running.Ended.{Ended}
-use Rattle.machine.specs.Contents.{Contents, datagram_of, area_size}
+use Rattle.machine.specs.Contents.{Contents, datagram_of, frame_area_size}
 use Rattle.machine.specs.FrameFields.{HoldsDatagram}
-use Rattle.machine.specs.Contexts.{Answers, context_of}
+use Rattle.machine.specs.Contexts.{HelperAnswers, context_of}
 use Rattle.machine.specs.Execution.{RunsFlat}
 use Rattle.machine.specs.Tracing.{environment_of, safe_run_of}
 use Rattle.machine.proofs.Frames.{datagram_length, frame_left}
 
-module _ (answers : Answers) (lawful : IsLawful answers) (program : List Insn) (f : Contents) (flat : List ℕ) (area_is : f.area ≡ drop headroom_index flat) (stack : List (Option ℕ)) (holds : HoldsDatagram f.area stack f.length true f.window)
+module _ (answers : HelperAnswers) (lawful : IsLawful answers) (program : List Insn) (f : Contents) (flat : List ℕ) (area_is : f.area ≡ drop headroom_index flat) (stack : List (Option ℕ)) (holds : HoldsDatagram f.area stack f.length true f.window)
     (is_context : IsContext (context_of f.context)) (is_datagram : IsDatagram (datagram_of f)) where
   abbrev w : Environment
   w = environment_of f answers
@@ -45,7 +45,7 @@ module _ (answers : Answers) (lawful : IsLawful answers) (program : List Insn) (
 
   -- an area with the context record in its place, as the code writes it
   abbrev laid : List ℕ
-  laid = put STACK_BYTES (pointers (length d) ++ drop 16 (context_bytes (context_of f.context) (length d))) flat
+  laid = overlay STACK_BYTES (pointers (length d) ++ drop 16 (context_bytes (context_of f.context) (length d))) flat
 
   pub is_start : (g : Given) (written : List ℕ) → given_in w (length d) ≡ g → written ≡ laid → IsStart g w d written
   is_start g written given e = record {
@@ -84,7 +84,7 @@ module _ (answers : Answers) (lawful : IsLawful answers) (program : List Insn) (
       left = frame_left f (drop headroom_index left) ended.plan (safe_run_of program f answers) bytes_are rest_is run.plan;
     }
 
-    window_inside : (window : Option (ℕ × ℕ)) → IfSome window (IsWindow (length d)) → IfSome window (λ x. x.0 + x.1 ≤ area_size)
+    window_inside : (window : Option (ℕ × ℕ)) → IfSome window (IsWindow (length d)) → IfSome window (λ x. x.0 + x.1 ≤ frame_area_size)
     window_inside None h = tt
     window_inside (Some x) h = omega (arith, h.0, is_datagram.short)
 

@@ -13,14 +13,14 @@ use Rattle.semantics.specs.Runs.{Run}
 use Rattle.semantics.specs.Calls.{IsWindow}
 use Rattle.semantics.specs.Extents.{HasExtent, start_extent, run_extent}
 use Rattle.semantics.specs.StartLaws.{length-headroom, length-surrounded}
-use Rattle.machine.specs.Contents.{Contents, area_size, datagram_of, window_of, with_room}
+use Rattle.machine.specs.Contents.{Contents, frame_area_size, datagram_of, window_of, with_room}
 use Rattle.machine.specs.FrameFields.{HoldsDatagram, IsFrame}
 use Rattle.machine.specs.declared.context.Context.{Context}
 use Rattle.machine.specs.FrameLaws.{datagram_inside}
 use Rattle.semantics.specs.Views.{memory_with}
 use Rattle.semantics.specs.declared.fetching.Visit.{Visit}
 use Rattle.helpers.specs.Records.{address_of}
-use Rattle.machine.specs.Contexts.{Answers, context_of}
+use Rattle.machine.specs.Contexts.{HelperAnswers, context_of}
 use Rattle.machine.specs.Execution.{IsRecordOf, IsWholeRun, RunsOver}
 use Rattle.machine.specs.Tracing.{environment_of, run_of, left_by, IsFrameRun, Shows}
 use Rattle.attributes.specs.declared.address.Addr.{Addr}
@@ -83,7 +83,7 @@ frame_left f area plan r bytes following planned =
     λ i. record f { area = whole i; is_started = false; window = sym window i }
 
 -- a run in the memory of a started frame is the frame's run
-pub frame_run : {Log : Type 0} (Logs : Log → Visit → Log → Type 0) (program : List Insn) (answers : Answers) (f : Contents) (context : List ℕ) (stack empty stack' : List (Option ℕ)) (area : List ℕ) (plan : Plan) (old new : Log) (result : Result Exited Stuck)
+pub frame_run : {Log : Type 0} (Logs : Log → Visit → Log → Type 0) (program : List Insn) (answers : HelperAnswers) (f : Contents) (context : List ℕ) (stack empty stack' : List (Option ℕ)) (area : List ℕ) (plan : Plan) (old new : Log) (result : Result Exited Stuck)
     → HoldsDatagram f.area stack f.length true f.window → IsContext (context_of f.context) → context ≡ context_bytes (context_of f.context) f.length
     → empty ≡ empty_stack
     → IsWholeRun Logs program answers context (memory_with empty (take (67 + f.length) f.area) f.length) (memory_with stack' (take (67 + f.length) area) f.length) plan old new result
@@ -105,7 +105,7 @@ frame_run Logs program answers f context stack empty stack' area plan old new re
     }
 
 -- the outcome of a run that exits, with its plan
-pub exits_with : {Log : Type 0} (Logs : Log → Visit → Log → Type 0) (answers : Answers) (program : List Insn) (before after : Contents) (plan : Plan) (old new : Log) (exited : Exited) (destination : Option Addr)
+pub exits_with : {Log : Type 0} (Logs : Log → Visit → Log → Type 0) (answers : HelperAnswers) (program : List Insn) (before after : Contents) (plan : Plan) (old new : Log) (exited : Exited) (destination : Option Addr)
     → RunsOver Logs answers program before after plan old new (Ok exited) → destination ≡ option_map address_of plan.destination
     → IsFrameRun Logs answers program before after old new (Ok (record { verdict = exited.verdict; steps = exited.steps; window = plan.window; destination = destination }))
 exits_with Logs answers program before after plan old new exited destination runs e = record {
@@ -119,7 +119,7 @@ exits_with Logs answers program before after plan old new exited destination run
   logged = runs.logged;
 }
 
-pub sticks_with : {Log : Type 0} (Logs : Log → Visit → Log → Type 0) (answers : Answers) (program : List Insn) (before after : Contents) (plan : Plan) (old new : Log) (stuck : Stuck)
+pub sticks_with : {Log : Type 0} (Logs : Log → Visit → Log → Type 0) (answers : HelperAnswers) (program : List Insn) (before after : Contents) (plan : Plan) (old new : Log) (stuck : Stuck)
     → RunsOver Logs answers program before after plan old new (Err stuck) → IsFrameRun Logs answers program before after old new (Err stuck)
 sticks_with Logs answers program before after plan old new stuck runs = record { ending = runs.ending; left = runs.left; logged = runs.logged }
 
@@ -146,7 +146,7 @@ length_written old new len e =
     ap (λ (k : ℕ). length (take k (new ++ drop (length new) old))) e ∙ length-take-le (length old) (new ++ drop (length new) old) whole
 
 -- a frame that is not started, with another area, stack and window
-pub is_unstarted : (flat new : List ℕ) (stack new_stack : List (Option ℕ)) (n : ℕ) (started : Bool) (window new_window : Option (ℕ × ℕ)) (context : Context) → length new ≡ 66134 → length new_stack ≡ STACK_BYTES → IfSome new_window (λ w. w.0 + w.1 ≤ area_size)
+pub is_unstarted : (flat new : List ℕ) (stack new_stack : List (Option ℕ)) (n : ℕ) (started : Bool) (window new_window : Option (ℕ × ℕ)) (context : Context) → length new ≡ 66134 → length new_stack ≡ STACK_BYTES → IfSome new_window (λ w. w.0 + w.1 ≤ frame_area_size)
     → IsFrame flat stack n started window context → IsFrame new new_stack n false new_window context
 is_unstarted flat new stack new_stack n started window new_window context long cells inside is = record {
   long = long;
@@ -240,7 +240,7 @@ shows_left f after r long extent e =
     let window : option_map (window_of (left_by f r)) r.state.plan.window ≡ option_map (λ w. take w.1 (drop w.0 bytes)) r.state.plan.window = window_front size r.state.plan.window bytes rest extent.bytes extent.plan.window in
     subst (λ (g : Contents). Shows g size r) (sym e) (record { extent = extent; datagram = datagram; window = window })
 
-pub shows_run : {Log : Type 0} (Logs : Log → Visit → Log → Type 0) (answers : Answers) (program : List Insn) (before after : Contents) (plan : Plan) (old new : Log) (result : Result Exited Stuck)
+pub shows_run : {Log : Type 0} (Logs : Log → Visit → Log → Type 0) (answers : HelperAnswers) (program : List Insn) (before after : Contents) (plan : Plan) (old new : Log) (result : Result Exited Stuck)
     → length (datagram_of before) ≡ before.length → RunsOver Logs answers program before after plan old new result → Shows after (length (datagram_of before)) (run_of program before answers)
 shows_run Logs answers program before after plan old new result long runs =
     let extent = run_extent (environment_of before answers) program (length (datagram_of before)) (length program + 1) (start (datagram_of before)) (start_extent (datagram_of before)) in

@@ -15,8 +15,8 @@ pub record Contents : Type 0 where
   pub window : Option (ℕ × ℕ)
 
 -- the number of bytes of an area
-abbrev pub area_size : ℕ
-area_size = HEADROOM + MAX_DATAGRAM + TAILROOM
+abbrev pub frame_area_size : ℕ
+frame_area_size = HEADROOM + MAX_DATAGRAM + TAILROOM
 
 -- the room for a datagram
 abbrev pub room_of : Contents → List ℕ
@@ -44,7 +44,7 @@ pub record IsStartedOver (old new : Contents) (given : Context) (n : ℕ) : Type
 
 -- a new frame: zeros, the empty datagram, not started, no window
 pub record IsNew (f : Contents) : Type 0 where
-  pub area : length f.area ≡ area_size
+  pub area : length f.area ≡ frame_area_size
   pub zeros : All (λ b. b ≡ 0) f.area
   pub length : f.length ≡ 0
   pub is_started : f.is_started ≡ false

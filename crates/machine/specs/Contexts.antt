@@ -15,9 +15,9 @@ abbrev pub context_of : Context → machine.Context
 context_of c = record { side = side_number c.side; source = address_record c.source; transaction_id = c.tx }
 
 -- the answers of helpers
-abbrev pub Answers : Type 0
-Answers = ℕ → ℕ → AddressRecord → ℕ × AddressRecord
+abbrev pub HelperAnswers : Type 0
+HelperAnswers = ℕ → ℕ → AddressRecord → ℕ × AddressRecord
 
 -- the environment of a run
-abbrev pub around : machine.Context → Answers → machine.Environment
-around c answers = record { context = c; answer = answers }
+abbrev pub environment_around : machine.Context → HelperAnswers → machine.Environment
+environment_around model answers = record { context = model; answer = answers }

@@ -14,7 +14,7 @@ use Rattle.semantics.specs.declared.effect.Effect.TheVariants as effects
 use Rattle.semantics.specs.declared.fetching.Visit.{Visit}
 use Rattle.semantics.specs.declared.fetching.Position.{Position}
 use Rattle.flat.specs.declared.running.Ended.{Ended}
-use Rattle.machine.specs.Contexts.{Answers, around, context_of}
+use Rattle.machine.specs.Contexts.{HelperAnswers, environment_around, context_of}
 use Rattle.machine.specs.Contents.{Contents, datagram_of}
 use Rattle.machine.specs.Tracing.{run_of, safe_run_of, left_by, Reports}
 use Rattle.machine.specs.declared.execution.StepResult.{StepResult}
@@ -46,9 +46,9 @@ result_of slot registers memory plan (code.Sticks reason) = Sticks reason slot
 
 -- The step of an instruction in one state, by the definitions, in any context with this record: its result, and the state
 -- that it leaves.
-abbrev pub MakesStep : Answers → List ℕ → List Insn → Insn → State → State → StepResult → Type 0
+abbrev pub MakesStep : HelperAnswers → List ℕ → List Insn → Insn → State → State → StepResult → Type 0
 MakesStep answers context program i old new result = (c : Context) → IsRecordOf context old.memory.length c
-    → result_of old.slot new.registers new.memory new.plan result ≡ step_by_effect (around c answers) program old i (effect c old.memory old.registers i)
+    → result_of old.slot new.registers new.memory new.plan result ≡ step_by_effect (environment_around c answers) program old i (effect c old.memory old.registers i)
 
 -- after every effect but a jump and an exit the run goes on to the next instruction
 abbrev pub GoesStraight : Effect → Type 0
@@ -61,10 +61,10 @@ pub record GoesAhead (program : List Insn) (at to : Position) : Type 0 where
   pub is_at : IsAt program to
   pub later : at.index < to.index
 
-abbrev pub IfGoes : StepResult → (Position → Type 0) → Type 0
-IfGoes (code.Goes to) P = P to
-IfGoes (code.Exits verdict) P = Unit {0}
-IfGoes (code.Sticks reason) P = Unit {0}
+abbrev pub IfGoesTo : StepResult → (Position → Type 0) → Type 0
+IfGoesTo (code.Goes to) P = P to
+IfGoesTo (code.Exits verdict) P = Unit {0}
+IfGoesTo (code.Sticks reason) P = Unit {0}
 
 -- what holds of a step that ends the run, by an exit or stuck
 abbrev pub IfEnds : StepResult → Type 0 → Type 0
@@ -83,22 +83,22 @@ EndsAs (Err stuck) r = r.ending ≡ runs.Stuck stuck.reason stuck.slot
 
 -- The run of a program over memory, with a context record of these bytes and helpers that give these answers: how it ends,
 -- the memory and the plan that it leaves, and the log of a sink before and after it.
-pub record IsWholeRun {Log : Type 0} (Logs : Log → Visit → Log → Type 0) (program : List Insn) (answers : Answers) (context : List ℕ) (memory left : Memory) (plan : Plan) (old new : Log) (result : Result Exited Stuck) : Type 0 where
-  pub ending : (c : Context) → IsRecordOf context memory.length c → EndsAs result (whole_run (around c answers) program memory)
-  pub memory_is : (c : Context) → IsRecordOf context memory.length c → (whole_run (around c answers) program memory).state.memory ≡ left
-  pub plan_is : (c : Context) → IsRecordOf context memory.length c → (whole_run (around c answers) program memory).state.plan ≡ plan
-  pub logged : (c : Context) → IsRecordOf context memory.length c → Reports Logs old (whole_run (around c answers) program memory).path new
+pub record IsWholeRun {Log : Type 0} (Logs : Log → Visit → Log → Type 0) (program : List Insn) (answers : HelperAnswers) (context : List ℕ) (memory left : Memory) (plan : Plan) (old new : Log) (result : Result Exited Stuck) : Type 0 where
+  pub ending : (c : Context) → IsRecordOf context memory.length c → EndsAs result (whole_run (environment_around c answers) program memory)
+  pub memory_is : (c : Context) → IsRecordOf context memory.length c → (whole_run (environment_around c answers) program memory).state.memory ≡ left
+  pub plan_is : (c : Context) → IsRecordOf context memory.length c → (whole_run (environment_around c answers) program memory).state.plan ≡ plan
+  pub logged : (c : Context) → IsRecordOf context memory.length c → Reports Logs old (whole_run (environment_around c answers) program memory).path new
 
 -- The run of a program over a started frame: how it ends, the plan and the frame that it leaves, and the log of a sink before
 -- and after it.
-pub record RunsOver {Log : Type 0} (Logs : Log → Visit → Log → Type 0) (answers : Answers) (program : List Insn) (before after : Contents) (plan : Plan) (old new : Log) (result : Result Exited Stuck) : Type 0 where
+pub record RunsOver {Log : Type 0} (Logs : Log → Visit → Log → Type 0) (answers : HelperAnswers) (program : List Insn) (before after : Contents) (plan : Plan) (old new : Log) (result : Result Exited Stuck) : Type 0 where
   pub ending : EndsAs result (run_of program before answers)
   pub plan_is : (run_of program before answers).state.plan ≡ plan
   pub left : after ≡ left_by before (run_of program before answers)
   pub logged : Reports Logs old (run_of program before answers).path new
 
 -- The flat run over a started frame: its end, with the plan, and the frame as the run leaves it.
-pub record RunsFlat (answers : Answers) (program : List Insn) (before after : Contents) (ended : Ended) : Type 0 where
+pub record RunsFlat (answers : HelperAnswers) (program : List Insn) (before after : Contents) (ended : Ended) : Type 0 where
   pub is_datagram : IsDatagram (datagram_of before)
   pub length_is : length (datagram_of before) ≡ before.length
   pub is_context : IsContext (context_of before.context)

@@ -4,18 +4,18 @@ use Rattle.semantics.specs.Machine.{IsContext, datagram_area}
 use Rattle.semantics.specs.declared.limits.TheConstants.{STACK_BYTES, HEADROOM, MAX_DATAGRAM, TAILROOM}
 use Rattle.flat.specs.Layout as layout
 use Rattle.flat.specs.Layout.{headroom_index}
-use Rattle.machine.specs.Contents.{area_size}
+use Rattle.machine.specs.Contents.{frame_area_size}
 use Rattle.machine.specs.Contexts.{context_of}
 use Rattle.machine.specs.declared.context.Context.{Context}
 
 -- A frame's memory: an area, and a stack of 512 cells. Where the frame is started, its datagram has zeros round it. A
 -- window lies in the area.
 pub record HoldsDatagram (area : List ℕ) (stack : List (Option ℕ)) (count : ℕ) (is_started : Bool) (window : Option (ℕ × ℕ)) : Type 0 where
-  pub long : length area ≡ area_size
+  pub long : length area ≡ frame_area_size
   pub short : count ≤ MAX_DATAGRAM
   pub cells : length stack ≡ STACK_BYTES
   pub ready : is_started ≡ true → take (HEADROOM + TAILROOM + count) area ≡ datagram_area (take count (drop HEADROOM area))
-  pub inside : IfSome window (λ w. w.0 + w.1 ≤ area_size)
+  pub inside : IfSome window (λ w. w.0 + w.1 ≤ frame_area_size)
 
 -- a frame's memory, in an area that has it from headroom on, and a context of the definitions' sizes
 pub record IsFrame (flat : List ℕ) (stack : List (Option ℕ)) (count : ℕ) (is_started : Bool) (window : Option (ℕ × ℕ)) (context : Context) : Type 0 where

@@ -12,7 +12,7 @@ use Rattle.semantics.specs.declared.fetching.Visit.{Visit}
 use Rattle.machine.specs.Tracing.{Reports}
 
 -- its writer, by the name of the borrow; what the writer holds, where that is known; and the writer's first fault
-pub record Written : Type 0 where
+pub record WriterState : Type 0 where
   pub writer : GName
   pub contents : Option (List ℕ)
   pub fault : Option Error
@@ -26,7 +26,7 @@ abbrev pub step_lines : List Visit → List ℕ
 step_lines path = flat_map (λ v. step_line v.slot v.insn) path
 
 -- one more step: where the writer had no fault, it holds the line of the step more; after a fault nothing changes
-pub record WritesLine (old : Written) (v : Visit) (new : Written) : Type 0 where
+pub record WritesLine (old : WriterState) (v : Visit) (new : WriterState) : Type 0 where
   pub same_writer : new.writer ≡ old.writer
   pub clean : new.fault ≡ None → old.fault ≡ None
   pub written : new.fault ≡ None → Appends old.contents new.contents (step_line v.slot v.insn)
@@ -45,19 +45,19 @@ appends_more (Some xs) (Some ys) None front back f b = absurd b
 appends_more (Some xs) (Some ys) (Some zs) front back f b = b ∙ ap (λ (l : List ℕ). l ++ back) f ∙ append_assoc xs front back
 
 -- the lines of a path, where the writer had no fault
-pub record WritesLines (old : Written) (path : List Visit) (new : Written) : Type 0 where
+pub record WritesLines (old : WriterState) (path : List Visit) (new : WriterState) : Type 0 where
   pub same_writer : new.writer ≡ old.writer
   pub clean : new.fault ≡ None → old.fault ≡ None
   pub written : new.fault ≡ None → Appends old.contents new.contents (step_lines path)
 
-pub lines_written : (old : Written) (path : List Visit) (new : Written) → Reports WritesLine old path new → WritesLines old path new
-lines_written old [] new same = subst (λ (w : Written). WritesLines old [] w) same (record {
+pub lines_written : (old : WriterState) (path : List Visit) (new : WriterState) → Reports WritesLine old path new → WritesLines old path new
+lines_written old [] new same = subst (λ (w : WriterState). WritesLines old [] w) same (record {
   same_writer = refl;
   clean = λ none. none;
   written = λ none. appends_nothing old.contents;
 })
 lines_written old (v ∷ path) new logs =
-    let between : Written = logs.0 in
+    let between : WriterState = logs.0 in
     let first = logs.1 in
     let more = lines_written between path new logs.2 in
     record {

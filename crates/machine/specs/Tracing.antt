@@ -10,24 +10,24 @@ use Rattle.semantics.specs.Access.{part}
 use Rattle.semantics.specs.Extents.{HasExtent}
 use Rattle.machine.specs.Contents.{Contents, datagram_of, window_of}
 use Rattle.helpers.specs.Records.{address_of}
-use Rattle.machine.specs.Contexts.{Answers, around, context_of}
+use Rattle.machine.specs.Contexts.{HelperAnswers, environment_around, context_of}
 use Rattle.machine.specs.declared.outcome.Outcome.{Outcome}
 use Rattle.machine.specs.declared.outcome.Stuck.{Stuck}
 
 -- the environment of a run over a frame
-abbrev pub environment_of : Contents → Answers → Environment
-environment_of f answers = around (context_of f.context) answers
+abbrev pub environment_of : Contents → HelperAnswers → Environment
+environment_of f answers = environment_around (context_of f.context) answers
 
 -- the run over a datagram, to its end
 abbrev pub run_over : Environment → List Insn → List ℕ → Run
 run_over w code datagram = run w code (length code + 1) (start datagram)
 
 -- the run of a started frame, to its end
-abbrev pub run_of : List Insn → Contents → Answers → Run
+abbrev pub run_of : List Insn → Contents → HelperAnswers → Run
 run_of code f answer = run_over (environment_of f answer) code (datagram_of f)
 
 -- the run of a started frame, of at most as many steps as the program has instructions
-abbrev pub safe_run_of : List Insn → Contents → Answers → Run
+abbrev pub safe_run_of : List Insn → Contents → HelperAnswers → Run
 safe_run_of code f answer = run (environment_of f answer) code (length code) (start (datagram_of f))
 
 -- the outcome of a run that exits
@@ -59,7 +59,7 @@ EndsWith (Ok o) r = IsOutcome o r
 EndsWith (Err stuck) r = r.ending ≡ runs.Stuck stuck.reason stuck.slot
 
 -- the same run, with the plan in its outcome
-pub record IsFrameRun {Log : Type 0} (Logs : Log → Visit → Log → Type 0) (answers : Answers) (program : List Insn) (before after : Contents) (old new : Log) (result : Result Outcome Stuck) : Type 0 where
+pub record IsFrameRun {Log : Type 0} (Logs : Log → Visit → Log → Type 0) (answers : HelperAnswers) (program : List Insn) (before after : Contents) (old new : Log) (result : Result Outcome Stuck) : Type 0 where
   pub ending : EndsWith result (run_of program before answers)
   pub left : after ≡ left_by before (run_of program before answers)
   pub logged : Reports Logs old (run_of program before answers).path new

@@ -12,8 +12,8 @@ ghost use Rattle.semantics.specs.declared.fetching.Fetched.TheVariants.{Begins};
 ghost use Rattle.semantics.specs.declared.limits.TheConstants.{STACK_BYTES, HEADROOM, MAX_DATAGRAM, TAILROOM};
 ghost use Rattle.semantics.specs.declared.helper.TheConstants.{RECORD_BYTES};
 ghost use Rattle.semantics.specs.Views.{memory_with};
-ghost use Rattle.machine.specs.Contexts.{around};
-ghost use Rattle.machine.specs.Execution.{state_at, MakesStep, GoesAhead, GoesStraight, IfGoes, IfEnds};
+ghost use Rattle.machine.specs.Contexts.{environment_around};
+ghost use Rattle.machine.specs.Execution.{state_at, MakesStep, GoesAhead, GoesStraight, IfGoesTo, IfEnds};
 ghost use Rattle.machine.specs.Execution.{HasWindowInside, IsRecordOf, IsContextRecord, IsWholeRun};
 
 use crate::outcome::Stuck;
@@ -192,7 +192,7 @@ fn apply<H: Helpers>(
     ensures applied { (c : Context) (program : List Insn) (slot : ℕ) (i : Insn)
         → Goes (state_at (slot + slots_of i) state.new.registers (memory_with stack.new bytes.new given.now.length)
         state.new.plan)
-        ≡ step_by_effect (around c (H.answers given.now.helpers.now)) program
+        ≡ step_by_effect (environment_around c (H.answers given.now.helpers.now)) program
         (state_at slot state.old.registers (memory_with stack.old bytes.old given.now.length) state.old.plan) i
         (Ok effect) }
     ensures inside { HasWindowInside given.now.length state.new.plan }
@@ -237,7 +237,7 @@ fn execute_step<H: Helpers>(
         (state_at state.old.at.slot state.old.registers (memory_with stack.old bytes.old given.now.length) state.old.plan)
         (state_at state.old.at.slot state.new.registers (memory_with stack.new bytes.new given.now.length) state.new.plan)
         result }
-    ensures ahead { IfGoes result (GoesAhead given.now.code.now state.old.at) }
+    ensures ahead { IfGoesTo result (GoesAhead given.now.code.now state.old.at) }
     ensures inside { HasWindowInside given.now.length state.new.plan }
     ensures kept { IfEnds result
         (memory_with stack.new bytes.new given.now.length ≡ memory_with stack.old bytes.old given.now.length) }

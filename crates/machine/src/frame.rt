@@ -239,6 +239,7 @@ impl Frame {
         is_context(context);
         surround_in(&mut self.flat, n);
         self.length = n;
+        // part by part: one load of the whole would wait for the narrower stores of the caller
         let Context { side, source, tx } = *context;
         self.context = Context { side, source, tx };
         self.window = None;

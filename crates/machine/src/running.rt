@@ -47,6 +47,7 @@ pub fn run<H: Helpers>(program: &Verified, frame: &mut Frame, helpers: &H) -> Ou
         (safe_run_of program.now frame.old (H.answers helpers.now)) }
 {
     let ended = run_area(program, frame, helpers);
+    // the program is safe, and has at most 4,096 slots
     program.code();
     Outcome {
         verdict: ended.verdict,

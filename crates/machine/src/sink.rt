@@ -140,9 +140,9 @@ impl<'a, W: Write> Lines<'a, W> {
 }
 
 impl<W: Write> Sink for Lines<'_, W> {
-    ghost use Rattle.machine.specs.Lines.{Written, WritesLine};
+    ghost use Rattle.machine.specs.Lines.{WriterState, WritesLine};
 
-    ghost Log = { Written };
+    ghost Log = { WriterState };
 
     ghost log = { λ l. record {
       writer = l.writer.ghost_name;

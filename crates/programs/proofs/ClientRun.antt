@@ -20,7 +20,7 @@ use Rattle.attributes.specs.declared.address.Addr.{Addr}
 use Rattle.attributes.specs.declared.address.Addr.TheVariants.{V4}
 use Rattle.helpers.specs.LookUps.{peer_answer, test_answer}
 use Rattle.helpers.specs.Records.{address_record, address_of}
-use Rattle.semantics.specs.Access.{part, put, cells_bytes}
+use Rattle.semantics.specs.Access.{part, overlay, cells_bytes}
 use Rattle.semantics.specs.Calls.{is_valid, no_address}
 use Rattle.semantics.specs.ContextLaws.{length_field}
 use Rattle.semantics.specs.Machine.{AreBytes, AddressRecord, State, Environment, start, datagram_area, empty_stack}
@@ -29,7 +29,7 @@ use Rattle.semantics.specs.StartLaws.{part_datagram}
 use Rattle.semantics.specs.SwapLaws.{swapped_word}
 use Rattle.semantics.specs.declared.value.Value.TheVariants.{Nothing, Scalar, Ctx, Stack, Data, End}
 use Rattle.programs.specs.Client.{client_program}
-use Rattle.events.specs.Options.{◌>>=◌, guard}
+use Rattle.fallible.specs.Options.{◌>>=◌, guard}
 use Rattle.programs.specs.PlainSends.{padded_length, IsSendHeader, IsAddressFirst, IsDataFirst}
 use Rattle.programs.specs.Rules.{channel_data}
 use Rattle.programs.specs.Runs.{datagram_in, window_in, destination_in}
@@ -199,13 +199,13 @@ module _ (w : Environment) (d : List ℕ) (peer : ℕ → Option Addr) (permitte
     λ ipv4. let is_ipv4 : slice_index (part 8 k d) 1 ≡ 1 = omega (arith, ipv4, family_is family is_family, same_family, family_small) in
         λ b1 is_b1. λ in2 v is_v. λ v1 is_v1. λ v2 is_v2. λ v3 is_v3. λ b2 is_b2. λ in4 u is_u. λ u1 is_u1. λ u2 is_u2. λ u3 is_u3. λ b3 is_b3.
         let whole_record : b1 ++ b2 ++ b3 ≡ address_record (address_of_value (part 8 k d)) = pieces d fit k inside b1 b2 b3 v v1 v2 v3 u u1 u2 u3 is_b1 is_v is_v1 is_v2 is_v3 is_b2 is_u is_u1 is_u2 is_u3 is_b3 in
-        let holds : (found : List ℕ) → cells_bytes (part 8 504 (put 508 (map Some b3) (put 506 (map Some b2) (put 504 (map Some b1) empty_stack)))) ≡ Some found → found ≡ address_record (address_of_value (part 8 k d)) =
+        let holds : (found : List ℕ) → cells_bytes (part 8 504 (overlay 508 (map Some b3) (overlay 506 (map Some b2) (overlay 504 (map Some b1) empty_stack)))) ≡ Some found → found ≡ address_record (address_of_value (part 8 k d)) =
         λ found e. pieces_are b1 b2 b3 found (ap length is_b1) (ap length is_b2) (ap length is_b3) e ∙ whole_record in
         λ rec is_rec. λ ok bytes is_ok is_bytes.
         let ok_is : ok ≡ (test_answer (permitted (address_of_value (part 8 k d)))).0 = is_ok ∙ ap (λ (r : List ℕ). (w.answer 3 0 r).0) (holds rec is_rec) ∙ permissions _ _ (fits d fit k inside) in (
           λ zero. let no = not_allowed (permitted (address_of_value (part 8 k d))) ok ok_is zero in denied_ends ok _ no.1 is_ipv4 no.0,
           λ some. let allows = is_allowed (permitted (address_of_value (part 8 k d))) ok ok_is some in
-              send_exits_meet (put 508 (map Some b3) (put 506 (map Some b2) (put 504 (map Some b1) empty_stack))) ok f n total at (address_record (address_of_value (part 8 k d))) holds refl front whole
+              send_exits_meet (overlay 508 (map Some b3) (overlay 506 (map Some b2) (overlay 504 (map Some b1) empty_stack))) ok f n total at (address_record (address_of_value (part 8 k d))) holds refl front whole
               (λ s e. ends 2 s (λ one. omega (arith, one)) (e ∙ relayed is_ipv4 allows)),
         ),
   )
@@ -483,7 +483,7 @@ module _ (w : Environment) (d : List ℕ) (peer : ℕ → Option Addr) (permitte
                         let bytes_are : bytes ≡ (peer_answer (peer (big_number 2 d))).1 = is_bytes ∙ ap (λ a. a.1) answer ∙ ap (λ (x : ℕ). (peer_answer (peer x)).1) n_is in (
                           λ zero. let none = not_found (peer (big_number 2 d)) v v_is zero in discarded v _ none.1 low (unbound message none.0),
                           λ some_peer. let is = found (peer (big_number 2 d)) v bytes (peers (big_number 2 d)) v_is bytes_are some_peer in
-                              send_exits_meet (put 504 (map Some bytes) empty_stack) v 68 m total 4 bytes (λ taken e. record_is bytes taken is.count e) is.valid refl inside
+                              send_exits_meet (overlay 504 (map Some bytes) empty_stack) v 68 m total 4 bytes (λ taken e. record_is bytes taken is.count e) is.valid refl inside
                               (λ s e. relays s some low high (e ∙ bound m bytes message is m_is)),
                         ),
                   ),

@@ -16,16 +16,16 @@ use Rattle.tables.specs.Rows.{Rows}
 use Rattle.tables.specs.WellFormed.{AreWellFormed}
 use Rattle.tables.specs.WellFormedLaws.{peer_of-address}
 use Rattle.helpers.specs.LawfulLaws.{record_bytes, look_up_is_lawful}
-use Rattle.helpers.specs.LookUps.{look_up}
+use Rattle.helpers.specs.LookUps.{look_up_answer}
 use Rattle.semantics.specs.Machine.{Environment, State}
 use Rattle.semantics.specs.Runs.{Exited, IsPossible, IsSafe}
 use Rattle.events.specs.Events.{ToPeer}
 use Rattle.events.specs.declared.meta.Source.TheVariants.{Client}
 use Rattle.programs.specs.Client.{client_program}
 use Rattle.programs.specs.FastPart.{begins_as_stun, begins_as_channel_data, is_plain_send}
-use Rattle.events.specs.Options.{◌>>=◌}
+use Rattle.fallible.specs.Options.{◌>>=◌}
 use Rattle.programs.specs.PlainSends.{padded_length, PassesTests}
-use Rattle.programs.specs.Relaying.{IsStart, Relays, ServesClient}
+use Rattle.programs.specs.Relaying.{IsRelayStart, Relays, ServesClient}
 use Rattle.programs.specs.Rules.{client_slot, channel_data, send, send_from, to_peer}
 use Rattle.programs.specs.declared.verdict.TheConstants.{PASSES}
 use Rattle.programs.specs.Runs.{environment_for, run_for, window_in, destination_in}
@@ -74,7 +74,7 @@ abbrev peers_of : Option ℕ → Rows → ℕ → Option Addr
 peers_of None rows number = None
 peers_of (Some slot) rows number = peer_of slot number rows
 
-looks_up : (slot : Option ℕ) (rows : Rows) → LooksUp (look_up slot rows) (peers_of slot rows)
+looks_up : (slot : Option ℕ) (rows : Rows) → LooksUp (look_up_answer slot rows) (peers_of slot rows)
 looks_up None rows number = refl
 looks_up (Some slot) rows number = refl
 
@@ -87,13 +87,13 @@ abbrev permitted_in : Option ℕ → Rows → Addr → Bool
 permitted_in None rows address = false
 permitted_in (Some slot) rows address = has_permission slot address rows
 
-looks_up_permissions : (slot : Option ℕ) (rows : Rows) → LooksUpPermissions (look_up slot rows) (permitted_in slot rows)
+looks_up_permissions : (slot : Option ℕ) (rows : Rows) → LooksUpPermissions (look_up_answer slot rows) (permitted_in slot rows)
 looks_up_permissions None rows ip port fits = refl
 looks_up_permissions (Some slot) rows ip port fits = refl
 
 -- ---- the start and the end
 
-is_possible : (client : Addr) (tx : List ℕ) (rows : Rows) (datagram : List ℕ) → IsStart client tx rows datagram → IsPossible (environment_for tx (Client client) rows)
+is_possible : (client : Addr) (tx : List ℕ) (rows : Rows) (datagram : List ℕ) → IsRelayStart client tx rows datagram → IsPossible (environment_for tx (Client client) rows)
 is_possible client tx rows datagram start = record {
   context = record { side = omega arith; source = record_bytes client (ipv4-is_address client start.is_ipv4); transaction_id = start.transaction_id };
   helpers = look_up_is_lawful rows start.well_formed (client_slot client rows);
@@ -123,10 +123,10 @@ by_the_rules_of_send (Some at) rows p sent e = ap (option_map (to_peer at)) e
 
 -- where code is safe, it serves the client's side
 abbrev pub ServesIfSafe : List Insn → Type 0
-ServesIfSafe code = IsSafe code → (client : Addr) (tx : List ℕ) (rows : Rows) (datagram : List ℕ) → IsStart client tx rows datagram → ServesClient code tx client rows datagram
+ServesIfSafe code = IsSafe code → (client : Addr) (tx : List ℕ) (rows : Rows) (datagram : List ℕ) → IsRelayStart client tx rows datagram → ServesClient code tx client rows datagram
 
 module _ (found : (p : Parts) (bytes : List ℕ) → message_in bytes ≡ Some p → AreParts p × (bytes ≡ parts_bytes p)) (every : (p : Parts) (bytes : List ℕ) → AreParts p → bytes ≡ parts_bytes p → message_in bytes ≡ Some p)
-    (safe : IsSafe client_program) (client : Addr) (tx : List ℕ) (rows : Rows) (datagram : List ℕ) (start : IsStart client tx rows datagram) where
+    (safe : IsSafe client_program) (client : Addr) (tx : List ℕ) (rows : Rows) (datagram : List ℕ) (start : IsRelayStart client tx rows datagram) where
   abbrev w : Environment
   w = environment_for tx (Client client) rows
 

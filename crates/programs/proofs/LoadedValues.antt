@@ -9,7 +9,7 @@ use Rattle.insn.specs.Words.{unary}
 use Rattle.insn.specs.declared.operator.UnaryOp.TheVariants.{Swap}
 use Rattle.insn.specs.declared.operator.SwapOp.TheVariants.{ToBig}
 use Rattle.insn.specs.declared.size.SwapSize.TheVariants as swap
-use Rattle.semantics.specs.Access.{part, put, cells_bytes, cells_number}
+use Rattle.semantics.specs.Access.{part, overlay, cells_bytes, cells_number}
 use Rattle.std.proofs.lemmas.List.{length-append}
 use Rattle.semantics.specs.AccessLaws.{put_after_put}
 use Rattle.semantics.specs.CallLaws.{length-cells, cells_read_back, cells_number_inside}
@@ -72,11 +72,11 @@ some_is : {X : Type 0} (x y : X) → Some x ≡ Some y → x ≡ y
 some_is x y e = cc
 
 -- a record that was written there
-pub record_is : (bytes found : List ℕ) → length bytes ≡ 8 → cells_bytes (part 8 504 (put 504 (map Some bytes) empty_stack)) ≡ Some found → found ≡ bytes
+pub record_is : (bytes found : List ℕ) → length bytes ≡ 8 → cells_bytes (part 8 504 (overlay 504 (map Some bytes) empty_stack)) ≡ Some found → found ≡ bytes
 record_is bytes found size e = some_is found bytes (sym e ∙ cells_read_back 8 504 bytes empty_stack size (omega (arith, length-empty_stack)))
 
 -- and the number in some of its bytes
-pub stack_number : (k j v : ℕ) (bytes : List ℕ) → length bytes ≡ 8 → j + k ≤ 8 → cells_number (part k (504 + j) (put 504 (map Some bytes) empty_stack)) ≡ Some v → v ≡ little_number k (part k j bytes)
+pub stack_number : (k j v : ℕ) (bytes : List ℕ) → length bytes ≡ 8 → j + k ≤ 8 → cells_number (part k (504 + j) (overlay 504 (map Some bytes) empty_stack)) ≡ Some v → v ≡ little_number k (part k j bytes)
 stack_number k j v bytes size le e =
     some_is v (little_number k (part k j bytes)) (sym e ∙ cells_number_inside 504 j k bytes empty_stack (omega (arith, size, le)) (omega (arith, size, length-empty_stack)))
 
@@ -159,14 +159,14 @@ some_append [] b = refl
 some_append (x ∷ a) b = ap (λ (cells : List (Option ℕ)). Some x ∷ cells) (some_append a b)
 
 -- a record that was written in three pieces
-pub pieces_are : (b1 b2 b3 found : List ℕ) → length b1 ≡ 2 → length b2 ≡ 2 → length b3 ≡ 4 → cells_bytes (part 8 504 (put 508 (map Some b3) (put 506 (map Some b2) (put 504 (map Some b1) empty_stack)))) ≡ Some found → found ≡ b1 ++ b2 ++ b3
+pub pieces_are : (b1 b2 b3 found : List ℕ) → length b1 ≡ 2 → length b2 ≡ 2 → length b3 ≡ 4 → cells_bytes (part 8 504 (overlay 508 (map Some b3) (overlay 506 (map Some b2) (overlay 504 (map Some b1) empty_stack)))) ≡ Some found → found ≡ b1 ++ b2 ++ b3
 pieces_are b1 b2 b3 found l1 l2 l3 e =
     let m1 : length (map Some b1) ≡ 2 = length-cells b1 ∙ l1 in
     let l12 : length (b1 ++ b2) ≡ 4 = omega (arith, length-append b1 b2, l1, l2) in
     let m12 : length (map Some (b1 ++ b2)) ≡ 4 = length-cells (b1 ++ b2) ∙ l12 in
-    let stack : put 508 (map Some b3) (put 506 (map Some b2) (put 504 (map Some b1) empty_stack)) ≡ put 504 (map Some (b1 ++ b2 ++ b3)) empty_stack =
-    ap (put 508 (map Some b3)) (put_after_put 504 506 (map Some b1) (map Some b2) empty_stack (omega (arith, m1)) ∙ ap (λ (cells : List (Option ℕ)). put 504 cells empty_stack) (some_append b1 b2))
-    ∙ put_after_put 504 508 (map Some (b1 ++ b2)) (map Some b3) empty_stack (omega (arith, m12)) ∙ ap (λ (cells : List (Option ℕ)). put 504 cells empty_stack) (some_append (b1 ++ b2) b3) in
+    let stack : overlay 508 (map Some b3) (overlay 506 (map Some b2) (overlay 504 (map Some b1) empty_stack)) ≡ overlay 504 (map Some (b1 ++ b2 ++ b3)) empty_stack =
+    ap (overlay 508 (map Some b3)) (put_after_put 504 506 (map Some b1) (map Some b2) empty_stack (omega (arith, m1)) ∙ ap (λ (cells : List (Option ℕ)). overlay 504 cells empty_stack) (some_append b1 b2))
+    ∙ put_after_put 504 508 (map Some (b1 ++ b2)) (map Some b3) empty_stack (omega (arith, m12)) ∙ ap (λ (cells : List (Option ℕ)). overlay 504 cells empty_stack) (some_append (b1 ++ b2) b3) in
     record_is (b1 ++ b2 ++ b3) found (omega (arith, length-append (b1 ++ b2) b3, l12, l3)) (sym (ap (λ (cells : List (Option ℕ)). cells_bytes (part 8 504 cells)) stack) ∙ e)
 
 -- ---- numbers that are written

@@ -13,14 +13,14 @@ use Rattle.attributes.specs.declared.address.Addr.{Addr}
 use Rattle.attributes.specs.declared.address.Addr.TheVariants.{V4}
 use Rattle.helpers.specs.LookUps.{test_answer, number_answer}
 use Rattle.helpers.specs.Records.{address_record}
-use Rattle.semantics.specs.Access.{put}
+use Rattle.semantics.specs.Access.{overlay}
 use Rattle.semantics.specs.ContextLaws.{length_field, source_part, id_head_part, id_tail_part}
 use Rattle.semantics.specs.Machine.{AddressRecord, AreBytes, IsContext, State, Environment, start, datagram_area, empty_stack}
 use Rattle.semantics.specs.declared.value.Value.TheVariants.{Nothing, Scalar, Ctx, Stack, Data}
 use Rattle.semantics.specs.declared.limits.TheConstants.{MAX_DATAGRAM}
 use Rattle.semantics.specs.Runs.{IsDatagram}
 use Rattle.semantics.specs.SwapLaws.{stored_again_8, stored_again_4, stored_half}
-use Rattle.events.specs.Options.{◌>>=◌, guard}
+use Rattle.fallible.specs.Options.{◌>>=◌, guard}
 use Rattle.programs.specs.Peer.{peer_program}
 use Rattle.programs.specs.Rules.{peer_data}
 use Rattle.programs.specs.Runs.{window_in}
@@ -140,7 +140,7 @@ module _ (w : Environment) (d ip : List ℕ) (port : ℕ) (fits : HasWidth 4 ip 
   at_indication num src n b0 = record (start d) {
     slot = 24;
     registers = Scalar num ∷ Nothing ∷ Nothing ∷ Nothing ∷ Nothing ∷ Nothing ∷ Ctx ∷ Scalar src ∷ Scalar n ∷ Data (pos 0) ∷ Stack (pos 0) ∷ [];
-    memory = record { stack = put 504 (map Some b0) empty_stack; bytes = datagram_area d; length = length d };
+    memory = record { stack = overlay 504 (map Some b0) empty_stack; bytes = datagram_area d; length = length d };
   }
 
   indication_precondition : (num src n : ℕ) (b0 : List ℕ) → allowed ≡ true → number ≡ None → n ≡ length d → b0 ≡ address_record (V4 ip port) → precondition w peer_program is_cut IsEnd 40 (at_indication num src n b0)

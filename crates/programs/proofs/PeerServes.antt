@@ -12,14 +12,14 @@ use Rattle.tables.specs.Rows.{Rows}
 use Rattle.tables.specs.WellFormed.{AreWellFormed}
 use Rattle.tables.specs.WellFormedLaws.{channel_of-number}
 use Rattle.helpers.specs.LawfulLaws.{record_bytes, look_up_is_lawful}
-use Rattle.helpers.specs.LookUps.{look_up, number_answer}
+use Rattle.helpers.specs.LookUps.{look_up_answer, number_answer}
 use Rattle.semantics.specs.Machine.{Environment}
 use Rattle.semantics.specs.Runs.{IsPossible, IsSafe}
 use Rattle.events.specs.Events.{ToClient}
 use Rattle.events.specs.declared.meta.Source.TheVariants.{Peer}
-use Rattle.events.specs.Options.{◌>>=◌}
+use Rattle.fallible.specs.Options.{◌>>=◌}
 use Rattle.programs.specs.Peer.{peer_program}
-use Rattle.programs.specs.Relaying.{IsStart, ServesPeer}
+use Rattle.programs.specs.Relaying.{IsRelayStart, ServesPeer}
 use Rattle.programs.specs.Rules.{client_at}
 use Rattle.programs.specs.Runs.{environment_for}
 use Rattle.programs.proofs.LoadedValues.{port_back}
@@ -33,7 +33,7 @@ if_some P None each = tt
 if_some P (Some x) each = each x refl
 
 answers_peer : (slot : ℕ) (ip : List ℕ) (port : ℕ) (rows : Rows) → HasWidth 4 ip port → AreWellFormed rows
-    → AnswersPeer (look_up (Some slot) rows) (V4 ip port) (has_permission slot (V4 ip port) rows) (channel_of slot (V4 ip port) rows)
+    → AnswersPeer (look_up_answer (Some slot) rows) (V4 ip port) (has_permission slot (V4 ip port) rows) (channel_of slot (V4 ip port) rows)
 answers_peer slot ip port rows fits formed = record {
   permits = refl;
   numbers = ap (λ (n : ℕ). (number_answer (channel_of slot (V4 ip n) rows)).0) (port_back port fits.small);
@@ -42,7 +42,7 @@ answers_peer slot ip port rows fits formed = record {
 
 -- ---- the start and the end
 
-is_possible : (slot : ℕ) (peer : Addr) (tx : List ℕ) (rows : Rows) (datagram : List ℕ) → IsStart peer tx rows datagram → IsPossible (environment_for tx (Peer slot peer) rows)
+is_possible : (slot : ℕ) (peer : Addr) (tx : List ℕ) (rows : Rows) (datagram : List ℕ) → IsRelayStart peer tx rows datagram → IsPossible (environment_for tx (Peer slot peer) rows)
 is_possible slot peer tx rows datagram start = record {
   context = record { side = omega arith; source = record_bytes peer (ipv4-is_address peer start.is_ipv4); transaction_id = start.transaction_id };
   helpers = look_up_is_lawful rows start.well_formed (Some slot);
@@ -60,7 +60,7 @@ to_the_client false window (Some to) = refl
 
 -- where code is safe, it serves the peers' side
 abbrev pub ServesIfSafe : List Insn → Type 0
-ServesIfSafe code = IsSafe code → (slot : ℕ) (peer : Addr) (tx : List ℕ) (rows : Rows) (datagram : List ℕ) → IsStart peer tx rows datagram → ServesPeer code tx slot peer rows datagram
+ServesIfSafe code = IsSafe code → (slot : ℕ) (peer : Addr) (tx : List ℕ) (rows : Rows) (datagram : List ℕ) → IsRelayStart peer tx rows datagram → ServesPeer code tx slot peer rows datagram
 
 pub peer_program_serves : ServesIfSafe peer_program
 peer_program_serves safe slot (V6 ip port) tx rows datagram start = absurd start.is_ipv4

@@ -18,7 +18,7 @@ use Rattle.stun.specs.declared.registry.attribute.TheConstants.{XOR_PEER_ADDRESS
 use Rattle.attributes.specs.Addresses.{address_value, xor_bytes, cookie_half}
 use Rattle.attributes.specs.declared.address.Addr.TheVariants.{V4}
 use Rattle.helpers.specs.Records.{address_record}
-use Rattle.semantics.specs.Access.{part, put}
+use Rattle.semantics.specs.Access.{part, overlay}
 use Rattle.semantics.specs.AccessLaws.{put_after_put}
 use Rattle.semantics.specs.Machine.{AreBytes, datagram_area}
 use Rattle.semantics.specs.StartLaws.{part_datagram, part_of_header, datagram_and_zeros}
@@ -29,7 +29,7 @@ use Rattle.programs.proofs.LoadedValues.{byte_below}
 -- ---- ChannelData
 
 pub channel_window : (b1 b2 d : List ℕ) (n t : ℕ) → b1 ≡ big_bytes 2 n → b2 ≡ big_bytes 2 (length d) → t ≡ length d + 4
-    → part t 60 (put 62 b2 (put 60 b1 (datagram_area d))) ≡ channel_bytes (record { number = n; bytes = d })
+    → part t 60 (overlay 62 b2 (overlay 60 b1 (datagram_area d))) ≡ channel_bytes (record { number = n; bytes = d })
 channel_window b1 b2 d n t e f is =
     let long1 : length b1 ≡ 2 = ap length e in
     let long2 : length b2 ≡ 2 = ap length f in
@@ -64,12 +64,12 @@ pub record AreHeader (ip tx : List ℕ) (port n p : ℕ) (b1 b2 b3 b4 b5 b6 b7 b
   pub data_kind : b10 ≡ 0 ∷ 0x13 ∷ []
   pub size : b11 ≡ big_bytes 2 n
 
-three_puts : (i : ℕ) (a b c s : List ℕ) (j k : ℕ) → j ≡ i + length a → k ≡ j + length b → put k c (put j b (put i a s)) ≡ put i (a ++ b ++ c) s
+three_puts : (i : ℕ) (a b c s : List ℕ) (j k : ℕ) → j ≡ i + length a → k ≡ j + length b → overlay k c (overlay j b (overlay i a s)) ≡ overlay i (a ++ b ++ c) s
 three_puts i a b c s j k e f =
-    ap (put k c) (put_after_put i j a b s e) ∙ put_after_put i k (a ++ b) c s (omega (arith, e, f, length-append a b))
+    ap (overlay k c) (put_after_put i j a b s e) ∙ put_after_put i k (a ++ b) c s (omega (arith, e, f, length-append a b))
 
-then_put : (i j : ℕ) (a b c s : List ℕ) → a ≡ put i b s → j ≡ i + length b → put j c a ≡ put i (b ++ c) s
-then_put i j a b c s e f = ap (put j c) e ∙ put_after_put i j b c s f
+then_put : (i j : ℕ) (a b c s : List ℕ) → a ≡ overlay i b s → j ≡ i + length b → overlay j c a ≡ overlay i (b ++ c) s
+then_put i j a b c s e f = ap (overlay j c) e ∙ put_after_put i j b c s f
 
 pub length-masked : (ip : List ℕ) → length (xor_bytes 4 ip magic_cookie) ≡ 4
 unfolding xor_bytes
@@ -85,7 +85,7 @@ unfolding xor_bytes
 length-after_header ip port n = refl
 
 six_puts : (b6 b7 b8 b9 b10 b11 s : List ℕ) → length b6 ≡ 4 → length b7 ≡ 2 → length b8 ≡ 2 → length b9 ≡ 4 → length b10 ≡ 2
-    → put 62 b11 (put 60 b10 (put 56 b9 (put 54 b8 (put 52 b7 (put 48 b6 s))))) ≡ put 48 (b6 ++ b7 ++ b8 ++ b9 ++ b10 ++ b11) s
+    → overlay 62 b11 (overlay 60 b10 (overlay 56 b9 (overlay 54 b8 (overlay 52 b7 (overlay 48 b6 s))))) ≡ overlay 48 (b6 ++ b7 ++ b8 ++ b9 ++ b10 ++ b11) s
 six_puts b6 b7 b8 b9 b10 b11 s l6 l7 l8 l9 l10 =
     let m7 : length (b6 ++ b7) ≡ 6 = omega (arith, length-append b6 b7, l6, l7) in
     let m8 : length (b6 ++ b7 ++ b8) ≡ 8 = omega (arith, length-append (b6 ++ b7) b8, m7, l8) in
@@ -102,7 +102,7 @@ padding_is_short n = omega arith
 
 pub indication_window : (ip d tx : List ℕ) (port p t : ℕ) (b1 b2 b3 b4 b5 b6 b7 b8 b9 b10 b11 : List ℕ) → length tx ≡ 12 → AreHeader ip tx port (length d) p b1 b2 b3 b4 b5 b6 b7 b8 b9 b10 b11
     → p ≡ length d + padding_count (length d) → t ≡ 36 + p
-    → part t 28 (put 62 b11 (put 60 b10 (put 56 b9 (put 54 b8 (put 52 b7 (put 48 b6 (put 44 b5 (put 36 b4 (put 32 b3 (put 30 b2 (put 28 b1 (datagram_area d)))))))))))) ≡ parts_bytes (indication ip port tx d)
+    → part t 28 (overlay 62 b11 (overlay 60 b10 (overlay 56 b9 (overlay 54 b8 (overlay 52 b7 (overlay 48 b6 (overlay 44 b5 (overlay 36 b4 (overlay 32 b3 (overlay 30 b2 (overlay 28 b1 (datagram_area d)))))))))))) ≡ parts_bytes (indication ip port tx d)
 indication_window ip d tx port p t b1 b2 b3 b4 b5 b6 b7 b8 b9 b10 b11 id are is_p is_t =
     let s : List ℕ = datagram_area d in
     let l1 : length b1 ≡ 2 = ap length are.kind in
@@ -120,10 +120,10 @@ indication_window ip d tx port p t b1 b2 b3 b4 b5 b6 b7 b8 b9 b10 b11 id are is_
     let attributes : attributes_bytes (indication ip port tx d).attributes ≡ after_header ip port (length d) ++ tail = attributes_are ip d tx port in
     let count : length (attributes_bytes (indication ip port tx d).attributes) ≡ 16 + p =
     ap length attributes ∙ length-append (after_header ip port (length d)) tail ∙ omega (arith, length-after_header ip port (length d), length-append d (replicate (padding_count (length d)) 0), length-replicate {A = ℕ} (padding_count (length d)) 0, is_p) in
-    let stored : put 62 b11 (put 60 b10 (put 56 b9 (put 54 b8 (put 52 b7 (put 48 b6 (put 44 b5 (put 36 b4 (put 32 b3 (put 30 b2 (put 28 b1 s)))))))))) ≡ put 28 ((front ++ tx) ++ attributes_front) s =
+    let stored : overlay 62 b11 (overlay 60 b10 (overlay 56 b9 (overlay 54 b8 (overlay 52 b7 (overlay 48 b6 (overlay 44 b5 (overlay 36 b4 (overlay 32 b3 (overlay 30 b2 (overlay 28 b1 s)))))))))) ≡ overlay 28 ((front ++ tx) ++ attributes_front) s =
     six_puts b6 b7 b8 b9 b10 b11 _ (ap length are.address) (ap length are.family) (ap length are.port_is) (ap length are.ip_is ∙ length-masked ip) (ap length are.data_kind)
-    ∙ ap (put 48 attributes_front)
-    (put_after_put 36 44 b4 b5 _ (omega (arith, l4)) ∙ ap₂ (λ (a l : List ℕ). put 36 a l) l45 (three_puts 28 b1 b2 b3 s 30 32 (omega (arith, l1)) (omega (arith, l2))) ∙ put_after_put 28 36 front tx s (omega (arith, lf)))
+    ∙ ap (overlay 48 attributes_front)
+    (put_after_put 36 44 b4 b5 _ (omega (arith, l4)) ∙ ap₂ (λ (a l : List ℕ). overlay 36 a l) l45 (three_puts 28 b1 b2 b3 s 30 32 (omega (arith, l1)) (omega (arith, l2))) ∙ put_after_put 28 36 front tx s (omega (arith, lf)))
     ∙ put_after_put 28 48 (front ++ tx) attributes_front s (omega (arith, lm)) in
     ap (part t 28) stored ∙ part_of_header 36 t p 28 ((front ++ tx) ++ attributes_front) d la refl is_t
     ∙ ap (λ (l : List ℕ). ((front ++ tx) ++ attributes_front) ++ l) (datagram_and_zeros p (padding_count (length d)) d is_p (padding_is_short (length d)))

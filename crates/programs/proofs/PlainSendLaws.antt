@@ -6,7 +6,7 @@ use Rattle.std.proofs.lemmas.Bool.{and_parts}
 use Rattle.std.proofs.lemmas.Option.{same_Some}
 use Rattle.insn.specs.Endian.{big_number}
 use Rattle.stun.specs.Datagrams.{message_in}
-use Rattle.stun.specs.Messages.{Parts, Padded, AreParts, IsPadded, parts_bytes, padding_count}
+use Rattle.stun.specs.Messages.{Parts, PaddedAttribute, AreParts, IsPadded, parts_bytes, padding_count}
 use Rattle.attributes.specs.declared.address.Addr.{Addr}
 use Rattle.semantics.specs.Access.{part}
 use Rattle.semantics.specs.Runs.{IsDatagram}
@@ -27,7 +27,7 @@ no_bytes [] e = refl
 no_bytes (b ∷ bytes) e = absurd (omega (arith, e))
 
 -- an attribute of an IPv4 address, which has no padding
-short_address_is : (a : Padded) → IsPadded a → is_short_address a ≡ true → (a ≡ record { kind = 0x12; value = a.value; padding = [] }) × (length a.value ≡ 8)
+short_address_is : (a : PaddedAttribute) → IsPadded a → is_short_address a ≡ true → (a ≡ record { kind = 0x12; value = a.value; padding = [] }) × (length a.value ≡ 8)
 short_address_is a padded_a is =
     let two = and_parts (a.kind == 0x12) (length a.value == 8) is in
     let kind : a.kind ≡ 0x12 = eqb-true _ _ two.0 in
@@ -35,14 +35,14 @@ short_address_is a padded_a is =
     let none : a.padding ≡ [] = no_bytes a.padding (padded_a.padding ∙ ap padding_count eight) in
     ((λ i. record { kind = kind i; value = a.value; padding = none i }), eight)
 
-content_is : (a : Padded) → is_content a ≡ true → a ≡ record { kind = 0x13; value = a.value; padding = a.padding }
+content_is : (a : PaddedAttribute) → is_content a ≡ true → a ≡ record { kind = 0x13; value = a.value; padding = a.padding }
 content_is a is = let kind : a.kind ≡ 0x13 = eqb-true _ _ is in λ i. record { kind = kind i; value = a.value; padding = a.padding }
 
 module _ (d : List ℕ) (p : Parts) (fit : IsDatagram d) (are : AreParts p) (bytes : d ≡ parts_bytes p) (kind : p.kind ≡ 0x16) where
-  spelled_by : (attributes : List Padded) → p.attributes ≡ attributes → d ≡ parts_bytes (record { kind = 0x16; transaction_id = p.transaction_id; attributes = attributes })
+  spelled_by : (attributes : List PaddedAttribute) → p.attributes ≡ attributes → d ≡ parts_bytes (record { kind = 0x16; transaction_id = p.transaction_id; attributes = attributes })
   spelled_by attributes e = bytes ∙ (λ i. parts_bytes (record { kind = kind i; transaction_id = p.transaction_id; attributes = e i }))
 
-  two_attributes : (a b : Padded) → p.attributes ≡ a ∷ b ∷ [] → ((is_short_address a && is_content b) ≡ true) ⊎ ((is_content a && is_short_address b) ≡ true) → PassesTests d
+  two_attributes : (a b : PaddedAttribute) → p.attributes ≡ a ∷ b ∷ [] → ((is_short_address a && is_content b) ≡ true) ⊎ ((is_content a && is_short_address b) ≡ true) → PassesTests d
   two_attributes a b e (inl is) =
       let both = and_parts (is_short_address a) (is_content b) is in
       let are_padded : IsPadded a × (IsPadded b × Unit {0}) = subst (AllByRecursion IsPadded) e are.attributes in
@@ -56,7 +56,7 @@ module _ (d : List ℕ) (p : Parts) (fit : IsDatagram d) (are : AreParts p) (byt
       let content = content_is a both.0 in
       inr (data_first_back d p.transaction_id b.value a.value a.padding are.transaction_id address.1 are_padded.0.padding fit.short (spelled_by _ (e ∙ (λ i. content i ∷ address.0 i ∷ []))))
 
-  tests_of : (attributes : List Padded) → p.attributes ≡ attributes → are_address_and_content attributes ≡ true → PassesTests d
+  tests_of : (attributes : List PaddedAttribute) → p.attributes ≡ attributes → are_address_and_content attributes ≡ true → PassesTests d
   tests_of [] e is = absurd cc
   tests_of (a ∷ []) e is = absurd cc
   tests_of (a ∷ b ∷ []) e is = two_attributes a b e (either_true (is_short_address a && is_content b) (is_content a && is_short_address b) is)

@@ -24,11 +24,11 @@ use Rattle.insn.specs.declared.instruction.Insn.{Insn}
 use Rattle.fallible.specs.Fallible.{◌>>=◌}
 use Rattle.semantics.specs.Access.{location, number_in, cells_number, cells_bytes, part, headroom_first, written_at}
 use Rattle.semantics.specs.Calls.{helper_of, no_address, is_valid, record_at}
-use Rattle.semantics.specs.Loading.{load, load_field, load_signed, read_number}
+use Rattle.semantics.specs.Loading.{load, load_field, load_signed, reached_number}
 use Rattle.semantics.specs.Machine.{State, AddressRecord, Environment, context_bytes, start}
 use Rattle.semantics.specs.Effects.{unary_effect, load_effect, jump_if_effect, register_value, operand_value, writable, register_write, pointer_to, alu_result, unary_result, comparison_result, comparison_of_places, pointer, stored_number, store_effect, context_argument, number_argument, stack_argument, record_argument, helper_effect, verdict_of, effect}
 use Rattle.semantics.specs.Slots.{fetch, target}
-use Rattle.semantics.specs.Runs.{StepResult, Goes, Exits, Sticks, Ending, Exited, Stuck, Running, step_by_effect, Run, step_to, step_of_fetched, step, onwards, run, write_register, IsSafe, IsPossible, IsDatagram, state_after_answer, state_with_plan, with_window, with_destination}
+use Rattle.semantics.specs.Runs.{StepResult, Goes, Exits, Sticks, Ending, Exited, Stuck, Running, step_by_effect, Run, step_to, step_of_fetched, step, run_onwards, run, registers_with, IsSafe, IsPossible, IsDatagram, state_after_answer, state_with_plan, with_window, with_destination}
 use Rattle.semantics.specs.RunLaws.{exits_the_same}
 use Rattle.machine.specs.Tracing.{run_over}
 use Rattle.semantics.specs.declared.access.Location.{Location}
@@ -125,7 +125,7 @@ module _ (w : Environment) (code : List Insn) (cuts : ℕ → Bool) (Post : ℕ 
   jumps_to s offset k = IfOk (target code s.slot offset) (λ slot. k (record s { slot = slot }))
 
   abbrev writes_register : State → Insn → Reg → Value → (State → Type 0) → Type 0
-  writes_register s i r v k = k (record s { slot = after_insn s i; registers = write_register s r v })
+  writes_register s i r v k = k (record s { slot = after_insn s i; registers = registers_with s r v })
 
   -- a number that is computed gets a name and an equation
   abbrev writes_named : State → Insn → Reg → Value → (State → Type 0) → Type 0
@@ -369,7 +369,7 @@ module _ (w : Environment) (code : List Insn) (cuts : ℕ → Bool) (Post : ℕ 
 
     data_meets : (z : Size) (dst : Reg) (q d place : ℤ) → (q +ℤ d) ≡ place → reads_data s i z dst place k
         → EffectMeets s i k (load w.context s.memory (Data q) d z >>= λ v. Ok (effects.Write dst v))
-    unfolding read_number
+    unfolding reached_number
     data_meets z dst q d (pos p) e h = rw e (found_meets z dst p (nat_le (p + byte_count z) s.memory.length) refl h)
     data_meets z dst q d (negsuc p) e h = absurd h
 
@@ -390,7 +390,7 @@ module _ (w : Environment) (code : List Insn) (cuts : ℕ → Bool) (Post : ℕ 
 
     reads_meets : (z : Size) (dst : Reg) (base : Value) (d : ℤ) → reads s i z dst base d k
         → EffectMeets s i k (load w.context s.memory base d z >>= λ v. Ok (effects.Write dst v))
-    unfolding read_number
+    unfolding reached_number
     reads_meets z dst Ctx d h = after_result (load_field (context_bytes w.context s.memory.length) d z) (λ v. writes_named s i dst v k) (λ v. Ok (effects.Write dst v)) (λ v x. writes_named_meets dst v x) h
     reads_meets z dst (Data q) d h = data_meets z dst q d (q +ℤ d) refl h
     reads_meets z dst base d h = found_at z dst (location s.memory.length base d (byte_count z)) h
@@ -534,7 +534,7 @@ module _ (w : Environment) (code : List Insn) (cuts : ℕ → Bool) (Post : ℕ 
   of_fetched_meets s Past k h = tt
 
   goes_on : (s : State) (o : StepResult) (m : ℕ) (k : State → Type 0) → ((next : State) → k next → EndMeets (run w code m next).ending (run w code m next).state) → StepMeets s o k
-      → EndMeets (onwards s o (λ next. run w code m next)).ending (onwards s o (λ next. run w code m next)).state
+      → EndMeets (run_onwards s o (λ next. run w code m next)).ending (run_onwards s o (λ next. run w code m next)).state
   goes_on s (Goes next) m k ends h = ends next h
   goes_on s (Exits v) m k ends h = h
   goes_on s (Sticks reason slot) m k ends h = tt

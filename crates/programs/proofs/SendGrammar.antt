@@ -6,7 +6,7 @@ use Rattle.std.proofs.lemmas.List.Elements.{All-take, All-drop}
 use Rattle.std.proofs.lemmas.Nat.{be_bytes_2, be_bytes_4}
 use Rattle.insn.specs.Endian.{big_number, big_bytes}
 use Rattle.insn.specs.Numbers.{big_from-take}
-use Rattle.stun.specs.Messages.{Parts, Padded, AreParts, parts_bytes, attributes_bytes, padding_count, header}
+use Rattle.stun.specs.Messages.{Parts, PaddedAttribute, AreParts, parts_bytes, attributes_bytes, padding_count, header}
 use Rattle.semantics.specs.Access.{part}
 use Rattle.semantics.specs.AccessLaws.{part_more}
 use Rattle.semantics.specs.Runs.{IsDatagram}
@@ -162,13 +162,13 @@ module _ (d : List ℕ) (fit : IsDatagram d) where
 -- ---- and back
 
 module _ (d tx v x pad : List ℕ) (id : length tx ≡ 12) (eight : length v ≡ 8) (padding : length pad ≡ padding_count (length x)) (short : length d ≤ 65507) where
-  abbrev pub address_attribute_of : Padded
+  abbrev pub address_attribute_of : PaddedAttribute
   address_attribute_of = record { kind = 0x0012; value = v; padding = [] }
 
-  abbrev pub data_attribute_of : Padded
+  abbrev pub data_attribute_of : PaddedAttribute
   data_attribute_of = record { kind = 0x0013; value = x; padding = pad }
 
-  module _ (attributes : List Padded) (is : d ≡ parts_bytes (record { kind = 0x0016; transaction_id = tx; attributes = attributes })) where
+  module _ (attributes : List PaddedAttribute) (is : d ≡ parts_bytes (record { kind = 0x0016; transaction_id = tx; attributes = attributes })) where
     abbrev after_the_header : List ℕ
     after_the_header = attributes_bytes attributes
 
@@ -201,7 +201,7 @@ module _ (d tx v x pad : List ℕ) (id : length tx ≡ 12) (eight : length v ≡
 
   pub address_first_back : d ≡ parts_bytes (record { kind = 0x0016; transaction_id = tx; attributes = address_attribute_of ∷ data_attribute_of ∷ [] }) → IsAddressFirst d
   address_first_back is =
-      let attributes : List Padded = address_attribute_of ∷ data_attribute_of ∷ [] in
+      let attributes : List PaddedAttribute = address_attribute_of ∷ data_attribute_of ∷ [] in
       let all : List ℕ = attributes_bytes attributes in
       let value_long : length (v ++ []) ≡ 8 = omega (arith, length-append v [], eight) in
       let size : length all ≡ 16 + (length x + length pad) = omega (arith, length-append (v ++ []) data_bytes, value_long, data_long) in
@@ -221,7 +221,7 @@ module _ (d tx v x pad : List ℕ) (id : length tx ≡ 12) (eight : length v ≡
 
   pub data_first_back : d ≡ parts_bytes (record { kind = 0x0016; transaction_id = tx; attributes = data_attribute_of ∷ address_attribute_of ∷ [] }) → IsDataFirst d
   data_first_back is =
-      let attributes : List Padded = data_attribute_of ∷ address_attribute_of ∷ [] in
+      let attributes : List PaddedAttribute = data_attribute_of ∷ address_attribute_of ∷ [] in
       let all : List ℕ = attributes_bytes attributes in
       let value_long : length (x ++ pad) ≡ length x + length pad = length-append x pad in
       let size : length all ≡ 16 + (length x + length pad) = omega (arith, length-append (x ++ pad) address_bytes, value_long, address_long) in

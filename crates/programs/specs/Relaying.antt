@@ -18,7 +18,7 @@ use Rattle.programs.specs.Runs.{run_for, datagram_in, sent_by}
 use Rattle.programs.specs.declared.verdict.TheConstants.{PASSES}
 
 -- A start that a relay makes: rows of its tables, a source over IPv4, a transaction id, and a datagram.
-pub record IsStart (address : Addr) (tx : List ℕ) (rows : Rows) (datagram : List ℕ) : Type 0 where
+pub record IsRelayStart (address : Addr) (tx : List ℕ) (rows : Rows) (datagram : List ℕ) : Type 0 where
   pub well_formed : AreWellFormed rows
   pub is_ipv4 : IsIpv4Address address
   pub transaction_id : AreBytes 12 tx

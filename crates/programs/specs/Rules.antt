@@ -16,7 +16,7 @@ use Rattle.tables.specs.Rows.{Rows}
 use Rattle.tables.specs.LookUps.{allocation_of, allocation_at, peer_of, channel_of, has_permission}
 use Rattle.semantics.specs.declared.limits.TheConstants.{MAX_DATAGRAM}
 use Rattle.events.specs.Events.{Sending, ToPeer, ToClient}
-use Rattle.events.specs.Options.{◌>>=◌, guard}
+use Rattle.fallible.specs.Options.{◌>>=◌, guard}
 
 -- the type of a Send indication, and of a Data indication
 abbrev pub send_indication : ℕ
@@ -69,7 +69,7 @@ abbrev pub client_at : ℕ → Rows → Option Addr
 client_at slot rows = option_map (λ a. a.client) (allocation_at slot rows)
 
 abbrev pub to_peer : ℕ → Addr × List ℕ → Sending
-to_peer slot p = ToPeer slot p.0 p.1
+to_peer slot pair = ToPeer slot pair.0 pair.1
 
 abbrev pub channel_data_from : Addr → Rows → List ℕ → Option Sending
 channel_data_from client rows datagram = do

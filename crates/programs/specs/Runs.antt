@@ -6,9 +6,9 @@ use Rattle.semantics.specs.Machine.{Environment, State}
 use Rattle.semantics.specs.Runs.{Run}
 use Rattle.semantics.specs.declared.limits.TheConstants.{HEADROOM}
 use Rattle.attributes.specs.declared.address.Addr.{Addr}
-use Rattle.helpers.specs.LookUps.{look_up}
+use Rattle.helpers.specs.LookUps.{look_up_answer}
 use Rattle.helpers.specs.Records.{address_of}
-use Rattle.machine.specs.Contexts.{around, context_of}
+use Rattle.machine.specs.Contexts.{environment_around, context_of}
 use Rattle.machine.specs.Tracing.{run_over}
 use Rattle.machine.specs.declared.context.Context.{Context}
 use Rattle.machine.specs.declared.context.Side.TheVariants as side
@@ -16,7 +16,7 @@ use Rattle.tables.specs.Rows.{Rows}
 use Rattle.events.specs.Events.{Sending, ToPeer, ToClient}
 use Rattle.events.specs.declared.meta.Source.{Source}
 use Rattle.events.specs.declared.meta.Source.TheVariants.{Client, Peer}
-use Rattle.events.specs.Options.{◌>>=◌}
+use Rattle.fallible.specs.Options.{◌>>=◌}
 use Rattle.programs.specs.declared.verdict.TheConstants.{SENDS}
 use Rattle.programs.specs.Rules.{client_slot, client_at}
 
@@ -33,7 +33,7 @@ slot_for (Peer slot peer) rows = Some slot
 
 -- with look-ups in the rows that count
 abbrev pub environment_for : List ℕ → Source → Rows → Environment
-environment_for tx from rows = around (context_of (context_for tx from)) (look_up (slot_for from rows) rows)
+environment_for tx from rows = environment_around (context_of (context_for tx from)) (look_up_answer (slot_for from rows) rows)
 
 abbrev pub run_for : List Insn → List ℕ → Source → Rows → List ℕ → Run
 run_for code tx from rows bytes = run_over (environment_for tx from rows) code bytes

@@ -10,7 +10,7 @@ ghost use Rattle.attributes.specs.declared.address.Addr.{Addr};
 ghost use Rattle.tables.specs.Rows.{Rows};
 ghost use Rattle.programs.specs.FastPart.{is_plain_send};
 ghost use Rattle.programs.specs.PlainSends.{PassesTests};
-ghost use Rattle.programs.specs.Relaying.{IsStart, ServesClient};
+ghost use Rattle.programs.specs.Relaying.{IsRelayStart, ServesClient};
 
 use insn::bytes_encode_one_program;
 use stun::message_in_has_the_parts;
@@ -250,7 +250,7 @@ end:
 pub fn client_serves()
     ensures { (code : List Insn) → Encodes code CLIENT.now → IsSafe code
         → (client : Addr) (tx : List ℕ) (rows : Rows) (datagram : List ℕ)
-        → IsStart client tx rows datagram → ServesClient code tx client rows datagram }
+        → IsRelayStart client tx rows datagram → ServesClient code tx client rows datagram }
 {
     bytes_encode_one_program();
     message_in_has_the_parts();

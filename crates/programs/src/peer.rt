@@ -6,7 +6,7 @@ ghost use Rattle.insn.specs.declared.instruction.Insn.{Insn};
 ghost use Rattle.semantics.specs.Runs.{IsSafe};
 ghost use Rattle.attributes.specs.declared.address.Addr.{Addr};
 ghost use Rattle.tables.specs.Rows.{Rows};
-ghost use Rattle.programs.specs.Relaying.{IsStart, ServesPeer};
+ghost use Rattle.programs.specs.Relaying.{IsRelayStart, ServesPeer};
 
 use insn::bytes_encode_one_program;
 
@@ -159,7 +159,7 @@ none:
 pub fn peer_serves()
     ensures { (code : List Insn) → Encodes code PEER.now → IsSafe code
         → (slot : ℕ) (peer : Addr) (tx : List ℕ) (rows : Rows) (datagram : List ℕ)
-        → IsStart peer tx rows datagram → ServesPeer code tx slot peer rows datagram }
+        → IsRelayStart peer tx rows datagram → ServesPeer code tx slot peer rows datagram }
 {
     bytes_encode_one_program();
 }

@@ -17,26 +17,26 @@ use Rattle.programs.specs.declared.verdict.TheConstants.{PASSES, SENDS}
 use Rattle.relay.specs.ByPrograms.{by_programs, by_run, by_ending, by_verdict, is_there}
 use Rattle.relay.specs.ByRules.{from_client}
 use Rattle.relay.specs.Found.{HasRun, run_at, reply_of_passing, window_shown}
-use Rattle.relay.specs.Relays.{Contents, state_of, datagram_at}
+use Rattle.relay.specs.Relays.{RelayContents, state_of, datagram_at}
 use Rattle.relay.specs.Steps.{HasStepped, outcome_of}
-use Rattle.relay.specs.Systems.{Reply, no_answer, reply_of_relaying, outcome_at, if_ipv4, with_nonce, address_of_source}
+use Rattle.relay.specs.Systems.{SystemReply, no_answer, reply_of_relaying, outcome_at, if_ipv4, with_nonce, address_of_source}
 use Rattle.relay.proofs.SameNonce.{from_client_same}
 
-module _ (old : Contents) (given : Meta) (n moment : ℕ) where
+module _ (old : RelayContents) (given : Meta) (n moment : ℕ) where
   -- the reply at a moment
-  abbrev pub reply_at : Reply
+  abbrev pub reply_at : SystemReply
   reply_at = if_ipv4 (by_programs old.programs) (with_nonce old.config old.config.nonce.bytes) moment given.tx given.from old.rows (datagram_at old n)
 
   -- the relay at the moment
-  abbrev pub at_moment : Contents
+  abbrev pub at_moment : RelayContents
   at_moment = record old { greatest = moment }
 
   -- the reply by the run
-  abbrev run_reply : Reply
+  abbrev run_reply : SystemReply
   run_reply = by_run (with_nonce old.config old.config.nonce.bytes) moment given.from old.rows (length (datagram_at old n)) (run_at at_moment given n)
 
   -- a reply of a system makes a step
-  pub steps : (new : Contents) → moment ≡ moment_of old.greatest given.now → new.rows ≡ reply_at.rows → new.greatest ≡ moment → new.config ≡ old.config → new.programs ≡ old.programs → HasStepped old new (outcome_of old given n)
+  pub steps : (new : RelayContents) → moment ≡ moment_of old.greatest given.now → new.rows ≡ reply_at.rows → new.greatest ≡ moment → new.config ≡ old.config → new.programs ≡ old.programs → HasStepped old new (outcome_of old given n)
   steps new is rows greatest config programs =
       let P : ℕ → Type 0 = λ m. HasStepped old new (outcome_at m (state_of old) (if_ipv4 (by_programs old.programs) (with_nonce old.config old.config.nonce.bytes) m given.tx given.from old.rows (datagram_at old n))) in
       subst P is (record {
@@ -46,9 +46,9 @@ module _ (old : Contents) (given : Meta) (n moment : ℕ) where
       })
 
   -- where all but the frame is as it was, and the rows are
-  pub stays : (new : Contents) → moment ≡ moment_of old.greatest given.now → new ≡ record at_moment { frame = new.frame } → reply_at.rows ≡ old.rows → HasStepped old new (outcome_of old given n)
+  pub stays : (new : RelayContents) → moment ≡ moment_of old.greatest given.now → new ≡ record at_moment { frame = new.frame } → reply_at.rows ≡ old.rows → HasStepped old new (outcome_of old given n)
   stays new is kept rows = steps new is
-      (ap (λ (r : Contents). r.rows) kept ∙ sym rows) (ap (λ (r : Contents). r.greatest) kept) (ap (λ (r : Contents). r.config) kept) (ap (λ (r : Contents). r.programs) kept)
+      (ap (λ (r : RelayContents). r.rows) kept ∙ sym rows) (ap (λ (r : RelayContents). r.greatest) kept) (ap (λ (r : RelayContents). r.config) kept) (ap (λ (r : RelayContents). r.programs) kept)
 
   pub answers : moment ≡ moment_of old.greatest given.now → reply_at.answer ≡ (outcome_of old given n).answer
   answers is = ap (λ (m : ℕ). (if_ipv4 (by_programs old.programs) (with_nonce old.config old.config.nonce.bytes) m given.tx given.from old.rows (datagram_at old n)).answer) is
@@ -61,7 +61,7 @@ module _ (old : Contents) (given : Meta) (n moment : ℕ) where
     of true false e = refl
     of true true e = absurd cc
 
-  module _ (o : Outcome) (shown : Contents) (served : (is_ipv4 (address_of_source given.from) && is_there given.from old.rows) ≡ true)
+  module _ (o : Outcome) (shown : RelayContents) (served : (is_ipv4 (address_of_source given.from) && is_there given.from old.rows) ≡ true)
       (ran : HasRun (length (datagram_at old n)) o shown.frame (run_at at_moment given n)) where
     abbrev config : Config
     config = with_nonce old.config old.config.nonce.bytes

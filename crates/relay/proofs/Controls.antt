@@ -24,7 +24,7 @@ use Rattle.programs.specs.Rules.{send_indication, send_from, channel_data_from}
 use Rattle.events.specs.Events.{ToClient}
 use Rattle.relay.specs.ByRules.{requests, request_among, request_of, decision_and_key, reply_with, reply_to_request, control, message, from_client}
 use Rattle.relay.specs.Found.{reply_sent}
-use Rattle.relay.specs.Systems.{Reply, no_answer, reply_of_relaying}
+use Rattle.relay.specs.Systems.{SystemReply, no_answer, reply_of_relaying}
 
 -- ---- the request of a type
 
@@ -71,7 +71,7 @@ AreChecked = (p : Parts) (realm : List ℕ) (users : Accounts) (nonce : List ℕ
     → IsChecked p realm users nonce r → r ≡ check_result p realm users nonce
 
 module _ (are_checked : AreChecked) (config : Config) (now : ℕ) (client : Addr) (p : Parts) (old new : Rows) (written : List ℕ) where
-  abbrev reply_of : Reply
+  abbrev reply_of : SystemReply
   reply_of = record { answer = reply_sent client written; rows = new }
 
   with_decision : (r : Request) (key : Option (List ℕ)) (d : Decision) → IsAnswer config r client p key d old new written → reply_with config r client p old (d, key) ≡ reply_of
@@ -104,7 +104,7 @@ reply_is_sent client n out fits some = of (take n out) (omega (arith, length-tak
   of (b ∷ bytes) h = refl
 
 module _ (config : Config) (now : ℕ) (client : Addr) (rows : Rows) (datagram : List ℕ) where
-  abbrev by_message : Option Parts → Reply
+  abbrev by_message : Option Parts → SystemReply
   by_message m = message config now client rows m
 
   -- ChannelData

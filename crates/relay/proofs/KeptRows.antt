@@ -12,7 +12,7 @@ use Rattle.semantics.specs.Runs.{IsDatagram}
 use Rattle.stun.specs.Attributes.{value_of, attributes_left}
 use Rattle.stun.specs.Datagrams.{message_in, is_message}
 use Rattle.stun.specs.Endian.{big_number}
-use Rattle.stun.specs.Messages.{Attribute, Padded, Parts, up_to_integrity, attribute_of}
+use Rattle.stun.specs.Messages.{Attribute, PaddedAttribute, Parts, up_to_integrity, attribute_of}
 use Rattle.stun.specs.Numbers.{big_from-lt, length-bytes_high_first}
 use Rattle.stun.specs.Ranges.{is_between}
 use Rattle.stun.specs.Reading.{first_attributes, after_first, parts_in}
@@ -27,7 +27,7 @@ use Rattle.attributes.specs.Values.{number_of_value}
 use Rattle.credentials.specs.Checks.{first_value}
 use Rattle.credentials.specs.declared.checking.AuthError.{AuthError}
 use Rattle.fallible.specs.Fallible.{◌>>=◌, check}
-use Rattle.control.specs.Control.{Decision, rows_of, result_of_change, acceptable_lifetime, allocate_beside, allocate, own_allocation, refresh, refresh_for, requested_family, requested_lifetime, create_permission, peers_in, channel_bind, is_repeated, user_or_error, attribute_test, decision_for_user, decision, binding}
+use Rattle.control.specs.Control.{Decision, rows_of, result_of_change, acceptable_lifetime, allocate_beside, allocate_decision, own_allocation, refresh_decision, refresh_for, requested_family, requested_lifetime, create_permission, peers_in, channel_bind, is_repeated, user_or_error, attribute_test, decision_for_user, decision, binding}
 use Rattle.control.specs.Values.{required_value}
 use Rattle.control.specs.declared.config.Config.{Config}
 use Rattle.control.specs.declared.reply.Grant.{Grant}
@@ -64,7 +64,7 @@ fit_at bytes fit i = elim (cases_lt i (length bytes)) [
   | inr past ↦ let none : slice_index bytes i ≡ 0 = get_or_past bytes i 0 past in omega (arith, none)
 ]
 
-abbrev HasFitValue : Padded → Type 0
+abbrev HasFitValue : PaddedAttribute → Type 0
 HasFitValue a = AreFit a.value
 
 attributes_fit : (n : ℕ) (bytes : List ℕ) → AreFit bytes → AllByRecursion HasFitValue (first_attributes n bytes)
@@ -79,15 +79,15 @@ abbrev first_among : ℕ → List Attribute → Option (List ℕ)
 first_among kind attributes = slice_get (map (λ (a : Attribute). a.value) attributes) 0
 
 -- the first value of a type is one of the attributes'
-value_fits : (kind : ℕ) (attributes : List Padded) (value : List ℕ) → AllByRecursion HasFitValue attributes → value_of kind (attributes_left attributes) ≡ Some value → AreFit value
+value_fits : (kind : ℕ) (attributes : List PaddedAttribute) (value : List ℕ) → AllByRecursion HasFitValue attributes → value_of kind (attributes_left attributes) ≡ Some value → AreFit value
 value_fits kind [] value fit found = absurd (none-some value found)
 value_fits kind (a ∷ rest) value fit found = elim (cases_Bool (a.kind == kind)) [
   | inl same ↦ subst AreFit (same_Some a.value value (sym (ap (first_among kind) (cond-true (a.kind == kind) _ _ same)) ∙ found)) fit.0
   | inr other ↦
       let later = sym (ap (first_among kind) (cond-false (a.kind == kind) _ _ other)) ∙ found in
       elim (cases_Bool (a.kind == message_integrity)) [
-        | inl last ↦ absurd (none-some value (sym (ap (λ (l : List Padded). value_of kind (map attribute_of l)) (cond-true (a.kind == message_integrity) [] (up_to_integrity rest) last)) ∙ later))
-        | inr more ↦ value_fits kind rest value fit.1 (sym (ap (λ (l : List Padded). value_of kind (map attribute_of l)) (cond-false (a.kind == message_integrity) [] (up_to_integrity rest) more)) ∙ later)
+        | inl last ↦ absurd (none-some value (sym (ap (λ (l : List PaddedAttribute). value_of kind (map attribute_of l)) (cond-true (a.kind == message_integrity) [] (up_to_integrity rest) last)) ∙ later))
+        | inr more ↦ value_fits kind rest value fit.1 (sym (ap (λ (l : List PaddedAttribute). value_of kind (map attribute_of l)) (cond-false (a.kind == message_integrity) [] (up_to_integrity rest) more)) ∙ later)
       ]
 ]
 
@@ -156,27 +156,27 @@ passed true error x e = refl
 passed false error x e = absurd cc
 
 module _ (client : Addr) (user : ℕ) (p : Parts) (rows : Rows) (are : AreWellFormed rows) where
-  keeps_allocate : IsIpv4Address client → Keeps (allocate client user p rows)
+  keeps_allocate : IsIpv4Address client → Keeps (allocate_decision client user p rows)
   keeps_allocate ipv4 = beside (allocation_of client rows) where
     beside : (o : Option Allocation) → Keeps (allocate_beside o client user p rows)
     beside None = after (acceptable_lifetime p) _ (λ lifetime _.
-        change (tables.allocate client user p.transaction_id lifetime rows) (λ slot. Allocated slot lifetime) (allocate-well_formed client user p.transaction_id lifetime rows are ipv4))
+        change (tables.allocation_change client user p.transaction_id lifetime rows) (λ slot. Allocated slot lifetime) (allocate-well_formed client user p.transaction_id lifetime rows are ipv4))
     beside (Some a) = after (check (is_repeated a user p) _) _ (λ _ _. tt)
 
-  keeps_refresh : Keeps (refresh client user p rows)
+  keeps_refresh : Keeps (refresh_decision client user p rows)
   keeps_refresh =
       after (own_allocation client user rows) _ (λ a _.
       after (requested_family p) _ (λ family _.
       after (check _ _) _ (λ _ _.
       after (requested_lifetime p) _ (λ requested _.
-      change (tables.refresh a.slot (refresh_for requested) rows) (λ _. Refreshed (refresh_for requested)) (refresh-well_formed a.slot (refresh_for requested) rows are)))))
+      change (tables.refresh_change a.slot (refresh_for requested) rows) (λ _. Refreshed (refresh_for requested)) (refresh-well_formed a.slot (refresh_for requested) rows are)))))
 
   keeps_permissions : Keeps (create_permission client user p rows)
   keeps_permissions =
       after (own_allocation client user rows) _ (λ a _.
       after (peers_in p) _ (λ peers _.
       after (check _ _) _ (λ _ _.
-      change (tables.permit a.slot peers rows) (λ _. Done) (permit-well_formed a.slot peers rows are))))
+      change (tables.permit_change a.slot peers rows) (λ _. Done) (permit-well_formed a.slot peers rows are))))
 
   keeps_bind : ((value : List ℕ) → first_value p XOR_PEER_ADDRESS ≡ Some value → AreFit value) → Keeps (channel_bind client user p rows)
   keeps_bind fit =
@@ -185,7 +185,7 @@ module _ (client : Addr) (user : ℕ) (p : Parts) (rows : Rows) (are : AreWellFo
       after (required_value (address_in p.transaction_id) (first_value p XOR_PEER_ADDRESS)) _ (λ peer found.
       after (check (is_between FIRST_CHANNEL LAST_CHANNEL number) _) _ (λ u between.
       after (check (is_ipv4 peer) _) _ (λ v ipv4.
-      change (tables.bind a.slot number peer rows) (λ _. Done) (bind-well_formed a.slot number peer rows are (in_range number (passed _ _ u between)) (is_peer peer found (passed _ _ v ipv4))))))))
+      change (tables.bind_change a.slot number peer rows) (λ _. Done) (bind-well_formed a.slot number peer rows are (in_range number (passed _ _ u between)) (is_peer peer found (passed _ _ v ipv4))))))))
     where
       in_range : (number : ℕ) → is_between FIRST_CHANNEL LAST_CHANNEL number ≡ true → IsChannelNumber number
       in_range number between =

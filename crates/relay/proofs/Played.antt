@@ -13,33 +13,33 @@ use Rattle.events.specs.Lines.{line_of, answer_line, IsEvent}
 use Rattle.events.specs.Reading.{event_in}
 use Rattle.events.specs.ReadingLaws.{event_in-line_of, event_in-is}
 use Rattle.relay.specs.ReadLines.{IsLine}
-use Rattle.relay.specs.Relays.{Contents, state_of}
-use Rattle.relay.specs.Replays.{text_of, IsText, answer_text, answers_text, after_line, answer_to, system_of, IsSameRelay, HasPlayed, HasPlayedAll, answers_of, StopsAtLine, StopsShort}
-use Rattle.relay.specs.Systems.{State, System, Outcome, step, after}
+use Rattle.relay.specs.Relays.{RelayContents, state_of}
+use Rattle.relay.specs.Replays.{text_of_events, IsText, answer_text, answers_text, after_line, answer_to, system_of, IsSameRelay, HasPlayed, HasPlayedAll, answers_of_events, StopsAtLine, StopsShort}
+use Rattle.relay.specs.Systems.{SystemState, System, SystemOutcome, system_step, state_after_events}
 use Rattle.relay.specs.declared.reading.TheConstants.{MAX_LINE}
 use Rattle.relay.proofs.FirstLines.{taken}
 use Rattle.relay.proofs.LineLengths.{line_short}
 
 -- ---- one event more
 
-text_of-push : (events : List Event) (e : Event) → text_of (events ++ e ∷ []) ≡ text_of events ++ (line_of e ++ 10 ∷ [])
+text_of-push : (events : List Event) (e : Event) → text_of_events (events ++ e ∷ []) ≡ text_of_events events ++ (line_of e ++ 10 ∷ [])
 text_of-push [] e = refl
-text_of-push (d ∷ events) e = ap (λ l. line_of d ++ 10 ∷ l) (text_of-push events e) ∙ sym (append_assoc (line_of d) (10 ∷ text_of events) (line_of e ++ 10 ∷ []))
+text_of-push (d ∷ events) e = ap (λ l. line_of d ++ 10 ∷ l) (text_of-push events e) ∙ sym (append_assoc (line_of d) (10 ∷ text_of_events events) (line_of e ++ 10 ∷ []))
 
 module _ (system : System) (config : Config) where
-  abbrev next : State → Event → State
-  next s e = (step system config s e).state
+  abbrev next : SystemState → Event → SystemState
+  next s e = (system_step system config s e).state
 
-  after-push : (s : State) (events : List Event) (e : Event) → after system config s (events ++ e ∷ []) ≡ next (after system config s events) e
+  after-push : (s : SystemState) (events : List Event) (e : Event) → state_after_events system config s (events ++ e ∷ []) ≡ next (state_after_events system config s events) e
   after-push s [] e = refl
   after-push s (d ∷ events) e = after-push (next s d) events e
 
-  answers-push : (s : State) (events : List Event) (e : Event)
-      → answers_text system config s (events ++ e ∷ []) ≡ answers_text system config s events ++ answer_text system config (after system config s events) e
+  answers-push : (s : SystemState) (events : List Event) (e : Event)
+      → answers_text system config s (events ++ e ∷ []) ≡ answers_text system config s events ++ answer_text system config (state_after_events system config s events) e
   answers-push s [] e = append-nil (answer_text system config s e)
   answers-push s (d ∷ events) e =
       ap (λ l. answer_text system config s d ++ l) (answers-push (next s d) events e)
-      ∙ sym (append_assoc (answer_text system config s d) (answers_text system config (next s d) events) (answer_text system config (after system config (next s d) events) e))
+      ∙ sym (append_assoc (answer_text system config s d) (answers_text system config (next s d) events) (answer_text system config (state_after_events system config (next s d) events) e))
 
 take_past : (front most : List ℕ) (n : ℕ) → take (length front + n) (front ++ most) ≡ front ++ take n most
 take_past [] most n = let none : 0 + n ≡ n = omega arith in ap (λ k. take k most) none
@@ -51,7 +51,7 @@ take_past (x ∷ front) most n =
 
 -- whole lines were read, or all that there was, of which the last line had no line feed
 abbrev pub HasRead : List Event → Option (List ℕ) → Option (List ℕ) → Type 0
-HasRead events read left = Consumes read left (text_of events) ⊎ IfSome read (λ text. (left ≡ Some []) × (text ++ 10 ∷ [] ≡ text_of events))
+HasRead events read left = Consumes read left (text_of_events events) ⊎ IfSome read (λ text. (left ≡ Some []) × (text ++ 10 ∷ [] ≡ text_of_events events))
 
 -- the next line was read, and is the event's
 read_more : (a b c : Option (List ℕ)) (events : List Event) (line : List ℕ) (e : Event) → HasRead events a b
@@ -64,17 +64,17 @@ read_more (Some x) (Some y) c events line e (inl h) more drops is = elim (taken 
   | inl t ↦
       let whole : y ≡ line_of e ++ 10 ∷ drop_through 10 y = t ∙ ap (λ l. l ++ 10 ∷ drop_through 10 y) (sym more.1 ∙ is) in
       let split : line_of e ++ 10 ∷ drop_through 10 y ≡ (line_of e ++ 10 ∷ []) ++ drop_through 10 y = sym (append_assoc (line_of e) (10 ∷ []) (drop_through 10 y)) in
-      inl (subst (λ o. Consumes (Some x) o (text_of (events ++ e ∷ []))) (sym drops)
-      (h ∙ ap (λ l. text_of events ++ l) (whole ∙ split) ∙ sym (append_assoc (text_of events) (line_of e ++ 10 ∷ []) (drop_through 10 y)) ∙ ap (λ l. l ++ drop_through 10 y) (sym (text_of-push events e))))
+      inl (subst (λ o. Consumes (Some x) o (text_of_events (events ++ e ∷ []))) (sym drops)
+      (h ∙ ap (λ l. text_of_events events ++ l) (whole ∙ split) ∙ sym (append_assoc (text_of_events events) (line_of e ++ 10 ∷ []) (drop_through 10 y)) ∙ ap (λ l. l ++ drop_through 10 y) (sym (text_of-push events e))))
   | inr t ↦
       let whole : y ≡ line_of e = t.0 ∙ sym more.1 ∙ is in
-      inr (drops ∙ ap Some t.1, ap (λ l. l ++ 10 ∷ []) (h ∙ ap (λ l. text_of events ++ l) whole) ∙ append_assoc (text_of events) (line_of e) (10 ∷ []) ∙ sym (text_of-push events e))
+      inr (drops ∙ ap Some t.1, ap (λ l. l ++ 10 ∷ []) (h ∙ ap (λ l. text_of_events events ++ l) whole) ∙ append_assoc (text_of_events events) (line_of e) (10 ∷ []) ∙ sym (text_of-push events e))
 ]
 
 all_read : (a b : Option (List ℕ)) (events : List Event) → HasRead events a b → IsAtEnd b → IfSome a (λ text. IsText text events)
 all_read None b events h e = tt
 all_read (Some x) None events (inl h) e = absurd h
-all_read (Some x) (Some y) events (inl h) e = inl (h ∙ ap (λ l. text_of events ++ l) e ∙ append-nil (text_of events))
+all_read (Some x) (Some y) events (inl h) e = inl (h ∙ ap (λ l. text_of_events events ++ l) e ∙ append-nil (text_of_events events))
 all_read (Some x) b events (inr h) e = inr h.1
 
 left_at_end : (a b c : Option (List ℕ)) (events : List Event) → HasRead events a b → IsAtEnd b → DropsThrough b c 10 → IfSome a (λ _. c ≡ Some [])
@@ -83,23 +83,23 @@ left_at_end (Some x) None c events (inl h) e d = absurd h
 left_at_end (Some x) None c events (inr h) e d = absurd (none-some [] h.0)
 left_at_end (Some x) (Some y) c events h e d = d ∙ ap (λ l. Some (drop_through 10 l)) e
 
-begins : (a b : Option (List ℕ)) (events : List Event) → HasRead events a b → IfSome a (λ text. (rest : List ℕ) × (text ++ 10 ∷ [] ≡ text_of events ++ rest))
+begins : (a b : Option (List ℕ)) (events : List Event) → HasRead events a b → IfSome a (λ text. (rest : List ℕ) × (text ++ 10 ∷ [] ≡ text_of_events events ++ rest))
 begins None b events h = tt
 begins (Some x) None events (inl h) = absurd h
-begins (Some x) (Some y) events (inl h) = (y ++ 10 ∷ [], ap (λ l. l ++ 10 ∷ []) h ∙ append_assoc (text_of events) y (10 ∷ []))
-begins (Some x) b events (inr h) = ([], h.1 ∙ sym (append-nil (text_of events)))
+begins (Some x) (Some y) events (inl h) = (y ++ 10 ∷ [], ap (λ l. l ++ 10 ∷ []) h ∙ append_assoc (text_of_events events) y (10 ∷ []))
+begins (Some x) b events (inr h) = ([], h.1 ∙ sym (append-nil (text_of_events events)))
 
 -- ---- under way
 
 -- the events of `count` lines were read and answered
-pub record IsUnderWay (count : ℕ) (read left : Option (List ℕ)) (old new : Contents) (held holds : Option (List ℕ)) : Type 0 where
+pub record IsUnderWay (count : ℕ) (read left : Option (List ℕ)) (old new : RelayContents) (held holds : Option (List ℕ)) : Type 0 where
   pub events : List Event
   pub number : length events ≡ count
   pub played : HasPlayed events old new
   pub has_read : HasRead events read left
-  pub written : Appends held holds (answers_of old events)
+  pub written : Appends held holds (answers_of_events old events)
 
-pub starts : (read : Option (List ℕ)) (old : Contents) (held : Option (List ℕ)) → IsUnderWay 0 read read old old held held
+pub starts : (read : Option (List ℕ)) (old : RelayContents) (held : Option (List ℕ)) → IsUnderWay 0 read read old old held held
 starts read old held = record {
   events = [];
   number = refl;
@@ -109,11 +109,11 @@ starts read old held = record {
 }
 
 -- a step of a relay whose nonce may have changed is one of the system
-same_step : (old now : Contents) (s : State) (e : Event) → IsSameRelay old now → step (system_of now) now.config s e ≡ step (system_of old) old.config s e
-same_step old now s (Datagram given bytes) same = λ i. step (system_of (record now { programs = same.programs i })) (same.config i) s (Datagram given bytes)
+same_step : (old now : RelayContents) (s : SystemState) (e : Event) → IsSameRelay old now → system_step (system_of now) now.config s e ≡ system_step (system_of old) old.config s e
+same_step old now s (Datagram given bytes) same = λ i. system_step (system_of (record now { programs = same.programs i })) (same.config i) s (Datagram given bytes)
 same_step old now s (Nonce text) same = refl
 
-trans_same : (a b c : Contents) → IsSameRelay a b → IsSameRelay b c → IsSameRelay a c
+trans_same : (a b c : RelayContents) → IsSameRelay a b → IsSameRelay b c → IsSameRelay a c
 trans_same a b c x y = record { programs = y.programs ∙ x.programs; config = y.config ∙ (λ i. record (x.config i) { nonce = c.config.nonce }) }
 
 some_value : (o : Option Event) → is_some o ≡ true → (e : Event) × (o ≡ Some e)
@@ -125,7 +125,7 @@ none_value None h = refl
 none_value (Some e) h = absurd cc
 
 -- all events were read
-pub ends : (count : ℕ) (read left left' : Option (List ℕ)) (old now : Contents) (held holds : Option (List ℕ)) → IsUnderWay count read left old now held holds
+pub ends : (count : ℕ) (read left left' : Option (List ℕ)) (old now : RelayContents) (held holds : Option (List ℕ)) → IsUnderWay count read left old now held holds
     → IsAtEnd left → DropsThrough left left' 10 → HasPlayedAll read left' old now held holds
 ends count read left left' old now held holds so_far ended drops = record {
   events = so_far.events;
@@ -135,27 +135,27 @@ ends count read left left' old now held holds so_far ended drops = record {
   written = so_far.written;
 }
 
-module _ (count : ℕ) (read left : Option (List ℕ)) (old now : Contents) (held holds : Option (List ℕ)) (so_far : IsUnderWay count read left old now held holds) where
+module _ (count : ℕ) (read left : Option (List ℕ)) (old now : RelayContents) (held holds : Option (List ℕ)) (so_far : IsUnderWay count read left old now held holds) where
   -- what one more event makes
-  played_more : (new : Contents) (e : Event) → IsEvent old.config.slots e → state_of new ≡ (step (system_of now) now.config (state_of now) e).state → IsSameRelay now new → HasPlayed (so_far.events ++ e ∷ []) old new
+  played_more : (new : RelayContents) (e : Event) → IsEvent old.config.slots e → state_of new ≡ (system_step (system_of now) now.config (state_of now) e).state → IsSameRelay now new → HasPlayed (so_far.events ++ e ∷ []) old new
   played_more new e event stepped same = record {
     are_events = All-push (IsEvent old.config.slots) so_far.events e so_far.played.are_events event;
     state =
         stepped
-        ∙ ap (λ (o : Outcome). o.state) (same_step old now (state_of now) e so_far.played.same)
-        ∙ ap (λ (s : State). (step (system_of old) old.config s e).state) so_far.played.state
+        ∙ ap (λ (o : SystemOutcome). o.state) (same_step old now (state_of now) e so_far.played.same)
+        ∙ ap (λ (s : SystemState). (system_step (system_of old) old.config s e).state) so_far.played.state
         ∙ sym (after-push (system_of old) old.config (state_of old) so_far.events e);
     same = trans_same old now new so_far.played.same same;
   }
 
-  answer_is : (e : Event) → answer_text (system_of now) now.config (state_of now) e ≡ answer_text (system_of old) old.config (after (system_of old) old.config (state_of old) so_far.events) e
-  answer_is e = ap (λ (o : Outcome). answer_line o.answer ++ 10 ∷ []) (same_step old now (state_of now) e so_far.played.same) ∙ ap (λ (s : State). answer_text (system_of old) old.config s e) so_far.played.state
+  answer_is : (e : Event) → answer_text (system_of now) now.config (state_of now) e ≡ answer_text (system_of old) old.config (state_after_events (system_of old) old.config (state_of old) so_far.events) e
+  answer_is e = ap (λ (o : SystemOutcome). answer_line o.answer ++ 10 ∷ []) (same_step old now (state_of now) e so_far.played.same) ∙ ap (λ (s : SystemState). answer_text (system_of old) old.config s e) so_far.played.state
 
   slots_same : now.config.slots ≡ old.config.slots
   slots_same = ap (λ (c : Config). c.slots) so_far.played.same.config
 
   -- the event of the line that was read
-  module _ (left' : Option (List ℕ)) (line : List ℕ) (new : Contents) (few : now.config.slots < 2 ^ 64)
+  module _ (left' : Option (List ℕ)) (line : List ℕ) (new : RelayContents) (few : now.config.slots < 2 ^ 64)
       (more : IfSome left (λ xs. (xs ≢ []) × IsLine line xs)) (drops : length line ≤ MAX_LINE → DropsThrough left left' 10)
       (stepped : state_of new ≡ after_line (system_of now) now.config (state_of now) (event_in now.config.slots line)) (same : IsSameRelay now new) where
     -- a line that is an event's was read whole
@@ -178,7 +178,7 @@ module _ (count : ℕ) (read left : Option (List ℕ)) (old now : Contents) (hel
         let e : Event = found.0 in
         let is = event_in-is now.config.slots line e found.1 in
         let event : IsEvent old.config.slots e = subst (λ n. IsEvent n e) slots_same is.0 in
-        let text : out ≡ answer_text (system_of old) old.config (after (system_of old) old.config (state_of old) so_far.events) e =
+        let text : out ≡ answer_text (system_of old) old.config (state_after_events (system_of old) old.config (state_of old) so_far.events) e =
         answer ∙ ap (answer_to (system_of now) now.config (state_of now)) found.1 ∙ answer_is e in
         record {
           events = so_far.events ++ e ∷ [];
@@ -186,7 +186,7 @@ module _ (count : ℕ) (read left : Option (List ℕ)) (old now : Contents) (hel
           played = played_more new e event (stepped ∙ ap (after_line (system_of now) now.config (state_of now)) found.1) same;
           has_read = read_more read left left' so_far.events line e so_far.has_read (whole_line e found.1) (drops (short e found.1)) is.1;
           written = subst (Appends held holds') (sym (answers-push (system_of old) old.config (state_of old) so_far.events e))
-              (Appends-trans held holds holds' (answers_of old so_far.events) _ so_far.written (subst (Appends holds holds') text wrote));
+              (Appends-trans held holds holds' (answers_of_events old so_far.events) _ so_far.written (subst (Appends holds holds') text wrote));
         }
 
     -- no event: nothing was played
@@ -205,7 +205,7 @@ module _ (count : ℕ) (read left : Option (List ℕ)) (old now : Contents) (hel
 
     not_the_end : (a b : Option (List ℕ)) (events : List Event) → HasRead events a b → IfSome b (λ xs. (xs ≢ []) × IsLine line xs)
         → ((e : Event) → IsEvent old.config.slots e → line ≢ line_of e)
-        → IfSome a (λ text. (rest : List ℕ) × (text ≡ text_of events ++ rest) × (rest ≢ []) × ((e : Event) → IsEvent old.config.slots e → first_piece 10 rest ≢ line_of e))
+        → IfSome a (λ text. (rest : List ℕ) × (text ≡ text_of_events events ++ rest) × (rest ≢ []) × ((e : Event) → IsEvent old.config.slots e → first_piece 10 rest ≢ line_of e))
     not_the_end None b events h more bad = tt
     not_the_end (Some x) None events (inl h) more bad = absurd h
     not_the_end (Some x) None events (inr h) more bad = absurd (none-some [] h.0)
@@ -224,13 +224,13 @@ module _ (count : ℕ) (read left : Option (List ℕ)) (old now : Contents) (hel
 
     -- all answers so far were written, and the last event's perhaps in part
     cut : (e : Event) (holds' : Option (List ℕ)) (n : ℕ) → event_in now.config.slots line ≡ Some e
-        → Appends holds holds' (take n (answer_text (system_of old) old.config (after (system_of old) old.config (state_of old) so_far.events) e)) → StopsShort read old new held holds'
+        → Appends holds holds' (take n (answer_text (system_of old) old.config (state_after_events (system_of old) old.config (state_of old) so_far.events) e)) → StopsShort read old new held holds'
     cut e holds' n found wrote =
         let is = event_in-is now.config.slots line e found in
         let event : IsEvent old.config.slots e = subst (λ n. IsEvent n e) slots_same is.0 in
-        let front = answers_of old so_far.events in
-        let most = answer_text (system_of old) old.config (after (system_of old) old.config (state_of old) so_far.events) e in
-        let whole : answers_of old (so_far.events ++ e ∷ []) ≡ front ++ most = answers-push (system_of old) old.config (state_of old) so_far.events e in
+        let front = answers_of_events old so_far.events in
+        let most = answer_text (system_of old) old.config (state_after_events (system_of old) old.config (state_of old) so_far.events) e in
+        let whole : answers_of_events old (so_far.events ++ e ∷ []) ≡ front ++ most = answers-push (system_of old) old.config (state_of old) so_far.events e in
         record {
           events = so_far.events ++ e ∷ [];
           played = played_more new e event (stepped ∙ ap (after_line (system_of now) now.config (state_of now)) found) same;
@@ -243,7 +243,7 @@ module _ (count : ℕ) (read left : Option (List ℕ)) (old now : Contents) (hel
         → out ≡ answer_to (system_of now) now.config (state_of now) (event_in now.config.slots line) → Appends holds holds' (take n out) → StopsShort read old new held holds'
     stops_in holds' out n known answer wrote =
         let found = some_value (event_in now.config.slots line) known in
-        let text : out ≡ answer_text (system_of old) old.config (after (system_of old) old.config (state_of old) so_far.events) found.0 =
+        let text : out ≡ answer_text (system_of old) old.config (state_after_events (system_of old) old.config (state_of old) so_far.events) found.0 =
         answer ∙ ap (answer_to (system_of now) now.config (state_of now)) found.1 ∙ answer_is found.0 in
         cut found.0 holds' n found.1 (subst (λ l. Appends holds holds' (take n l)) text wrote)
 
@@ -255,8 +255,8 @@ module _ (count : ℕ) (read left : Option (List ℕ)) (old now : Contents) (hel
         events = so_far.events;
         played = unplayed e;
         text = begins read left so_far.events so_far.has_read;
-        count = length (answers_of old so_far.events);
-        written = subst (Appends held holds) (sym (take_all (length (answers_of old so_far.events)) (answers_of old so_far.events) (omega arith))) so_far.written;
+        count = length (answers_of_events old so_far.events);
+        written = subst (Appends held holds) (sym (take_all (length (answers_of_events old so_far.events)) (answers_of_events old so_far.events) (omega arith))) so_far.written;
       }
       of (Some d) e = cut d holds 0 e (Appends-nil holds)
 
@@ -266,8 +266,8 @@ module _ (count : ℕ) (read left : Option (List ℕ)) (old now : Contents) (hel
     events = so_far.events;
     played = so_far.played;
     text = begins read left so_far.events so_far.has_read;
-    count = length (answers_of old so_far.events);
-    written = subst (Appends held holds) (sym (take_all (length (answers_of old so_far.events)) (answers_of old so_far.events) (omega arith))) so_far.written;
+    count = length (answers_of_events old so_far.events);
+    written = subst (Appends held holds) (sym (take_all (length (answers_of_events old so_far.events)) (answers_of_events old so_far.events) (omega arith))) so_far.written;
   }
 
 -- what holds whatever the error

@@ -7,26 +7,26 @@ use Rattle.semantics.specs.declared.limits.TheConstants.{MAX_DATAGRAM}
 use Rattle.events.specs.Events.{Event, Datagram, Sending}
 use Rattle.events.specs.Lines.{answer_line}
 use Rattle.events.specs.declared.meta.Meta.{Meta}
-use Rattle.relay.specs.Relays.{Contents, state_of}
+use Rattle.relay.specs.Relays.{RelayContents, state_of}
 use Rattle.relay.specs.Replays.{system_of, after_line, answer_to}
 use Rattle.relay.specs.Steps.{HasStepped, outcome_of}
-use Rattle.relay.specs.Systems.{Outcome, step}
+use Rattle.relay.specs.Systems.{SystemOutcome, system_step}
 
-module _ (old : Contents) (room : List ℕ) (given : Meta) (n : ℕ) (read : Option Event)
+module _ (old : RelayContents) (room : List ℕ) (given : Meta) (n : ℕ) (read : Option Event)
     (had : length (room_of old.frame) ≡ MAX_DATAGRAM) (has : length room ≡ MAX_DATAGRAM) (is : Some (Datagram given (take n room)) ≡ read) where
-  abbrev pub with_bytes : Contents
+  abbrev pub with_bytes : RelayContents
   with_bytes = record old { frame = with_room old.frame room }
 
   -- the datagram of the step is the event's
-  outcome_is : outcome_of with_bytes given n ≡ step (system_of old) old.config (state_of old) (Datagram given (take n room))
-  outcome_is = λ i. step (system_of old) old.config (state_of old) (Datagram given (take n (room_written old.frame room had has i)))
+  outcome_is : outcome_of with_bytes given n ≡ system_step (system_of old) old.config (state_of old) (Datagram given (take n room))
+  outcome_is = λ i. system_step (system_of old) old.config (state_of old) (Datagram given (take n (room_written old.frame room had has i)))
 
-  pub state_is : (new : Contents) → HasStepped with_bytes new (outcome_of with_bytes given n) → state_of new ≡ after_line (system_of old) old.config (state_of old) read
-  state_is new stepped = stepped.state ∙ ap (λ (o : Outcome). o.state) outcome_is ∙ ap (after_line (system_of old) old.config (state_of old)) is
+  pub state_is : (new : RelayContents) → HasStepped with_bytes new (outcome_of with_bytes given n) → state_of new ≡ after_line (system_of old) old.config (state_of old) read
+  state_is new stepped = stepped.state ∙ ap (λ (o : SystemOutcome). o.state) outcome_is ∙ ap (after_line (system_of old) old.config (state_of old)) is
 
   pub answer_is : (sent : Option Sending) (before out : List ℕ) → sent ≡ (outcome_of with_bytes given n).answer → before ≡ [] → out ≡ before ++ answer_line sent ++ 10 ∷ [] → out ≡ answer_to (system_of old) old.config (state_of old) read
   answer_is sent before out sends empty wrote =
       wrote
       ∙ (λ i. empty i ++ answer_line (sends i) ++ 10 ∷ [])
-      ∙ ap (λ (o : Outcome). answer_line o.answer ++ 10 ∷ []) outcome_is
+      ∙ ap (λ (o : SystemOutcome). answer_line o.answer ++ 10 ∷ []) outcome_is
       ∙ ap (answer_to (system_of old) old.config (state_of old)) is

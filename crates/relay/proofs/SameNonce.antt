@@ -20,7 +20,7 @@ use Rattle.events.specs.Events.{ToClient}
 use Rattle.programs.specs.FastPart.{begins_as_stun}
 use Rattle.programs.specs.Rules.{send_indication, send_from, channel_data_from}
 use Rattle.relay.specs.ByRules.{check_of, reply_with, reply_to_request, message, from_client, request_of}
-use Rattle.relay.specs.Systems.{Reply, reply_of_relaying, with_nonce}
+use Rattle.relay.specs.Systems.{SystemReply, reply_of_relaying, with_nonce}
 
 module _ (c : Config) where
   abbrev d : Config
@@ -60,7 +60,7 @@ module _ (c : Config) where
 
     message_same : (m : Option Parts) → message d now client rows m ≡ message c now client rows m
     message_same None = refl
-    message_same (Some p) = ap (λ (reply : Reply). if p.kind == send_indication then reply_of_relaying rows (send_from client (rows_at now rows) p) else reply) (answered_same p (request_of p.kind))
+    message_same (Some p) = ap (λ (reply : SystemReply). if p.kind == send_indication then reply_of_relaying rows (send_from client (rows_at now rows) p) else reply) (answered_same p (request_of p.kind))
 
     pub from_client_same : (bytes : List ℕ) → from_client d now client rows bytes ≡ from_client c now client rows bytes
-    from_client_same bytes = ap (λ (reply : Reply). if begins_as_stun bytes then reply else reply_of_relaying rows (channel_data_from client (rows_at now rows) bytes)) (message_same (message_in bytes))
+    from_client_same bytes = ap (λ (reply : SystemReply). if begins_as_stun bytes then reply else reply_of_relaying rows (channel_data_from client (rows_at now rows) bytes)) (message_same (message_in bytes))

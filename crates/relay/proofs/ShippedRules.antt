@@ -27,11 +27,11 @@ use Rattle.tables.specs.WellFormed.{AreWellFormed}
 use Rattle.tables.specs.WellFormedLaws.{of_ipv4, rows_at-well_formed}
 use Rattle.tables.specs.declared.held.Held.{Held}
 use Rattle.events.specs.Events.{Sending, ToClient}
-use Rattle.events.specs.Options.{◌>>=◌}
+use Rattle.fallible.specs.Options.{◌>>=◌}
 use Rattle.events.specs.declared.meta.Source.{Source}
 use Rattle.events.specs.declared.meta.Source.TheVariants.{Client, Peer}
 use Rattle.programs.specs.FastPart.{begins_as_stun, begins_as_channel_data, is_plain_send, are_address_and_content}
-use Rattle.programs.specs.Relaying.{IsStart, Relays, PassesOn, ServesClient, ServesPeer}
+use Rattle.programs.specs.Relaying.{IsRelayStart, Relays, PassesOn, ServesClient, ServesPeer}
 use Rattle.programs.specs.Rules.{send_indication, channel_data, channel_data_from, client_slot, client_at, peer_data, to_peer}
 use Rattle.programs.specs.Runs.{run_for}
 use Rattle.programs.specs.declared.client.TheConstants.{CLIENT}
@@ -40,7 +40,7 @@ use Rattle.programs.specs.declared.verdict.TheConstants.{PASSES}
 use Rattle.relay.specs.ByPrograms.{Programs, by_programs, by_run, by_ending, is_there}
 use Rattle.relay.specs.ByRules.{by_rules, from_client}
 use Rattle.relay.specs.Shipped.{AreShipped}
-use Rattle.relay.specs.Systems.{Reply, no_answer, reply_of_relaying, address_of_source, if_ipv4}
+use Rattle.relay.specs.Systems.{SystemReply, no_answer, reply_of_relaying, address_of_source, if_ipv4}
 use Rattle.relay.proofs.Controls.{is_relayed, is_sent}
 
 module _ (config : Config) (now : ℕ) (tx : List ℕ) (rows : Rows) (datagram : List ℕ) (code : List Insn) where
@@ -51,7 +51,7 @@ module _ (config : Config) (now : ℕ) (tx : List ℕ) (rows : Rows) (datagram :
   run_from from = run_for code tx from counting datagram
 
   -- what the run of the code gives
-  abbrev pub given : Source → Reply
+  abbrev pub given : Source → SystemReply
   given from = by_run config now from rows (length datagram) (run_from from)
 
   differs : (verdict : ℕ) → verdict ≢ PASSES → (verdict == PASSES) ≡ false
@@ -145,16 +145,16 @@ module _ (config : Config) (now : ℕ) (tx : List ℕ) (rows : Rows) (datagram :
 -- what the two laws of the programs state
 abbrev pub ClientServes : Type 0
 ClientServes = (code : List Insn) → Encodes code CLIENT.now → IsSafe code
-    → (client : Addr) (tx : List ℕ) (rows : Rows) (datagram : List ℕ) → IsStart client tx rows datagram → ServesClient code tx client rows datagram
+    → (client : Addr) (tx : List ℕ) (rows : Rows) (datagram : List ℕ) → IsRelayStart client tx rows datagram → ServesClient code tx client rows datagram
 
 abbrev pub PeerServes : Type 0
 PeerServes = (code : List Insn) → Encodes code PEER.now → IsSafe code
-    → (slot : ℕ) (peer : Addr) (tx : List ℕ) (rows : Rows) (datagram : List ℕ) → IsStart peer tx rows datagram → ServesPeer code tx slot peer rows datagram
+    → (slot : ℕ) (peer : Addr) (tx : List ℕ) (rows : Rows) (datagram : List ℕ) → IsRelayStart peer tx rows datagram → ServesPeer code tx slot peer rows datagram
 
 module _ (serves_client : ClientServes) (serves_peer : PeerServes) (programs : Programs) (are : AreShipped programs)
     (config : Config) (now : ℕ) (tx : List ℕ) (rows : Rows) (datagram : List ℕ)
     (well_formed : AreWellFormed rows) (is_id : AreBytes 12 tx) (is : IsDatagram datagram) where
-  start : (address : Addr) → IsIpv4Address address → IsStart address tx (rows_at now rows) datagram
+  start : (address : Addr) → IsIpv4Address address → IsRelayStart address tx (rows_at now rows) datagram
   start address ipv4 = record { well_formed = rows_at-well_formed now rows well_formed; is_ipv4 = ipv4; transaction_id = is_id; is_datagram = is }
 
   -- a source over IPv4

@@ -18,7 +18,7 @@ use Rattle.events.specs.declared.meta.Source.TheVariants.{Client, Peer}
 use Rattle.relay.specs.ByPrograms.{Programs, by_programs}
 use Rattle.relay.specs.ByRules.{by_rules}
 use Rattle.relay.specs.Shipped.{AreShipped, AnswerAlike}
-use Rattle.relay.specs.Systems.{State, Outcome, step, outcome_at, answers, after, no_answer, with_nonce, address_of_source}
+use Rattle.relay.specs.Systems.{SystemState, SystemOutcome, system_step, outcome_at, answers, state_after_events, no_answer, with_nonce, address_of_source}
 use Rattle.relay.proofs.KeptRows.{keeps}
 use Rattle.relay.proofs.ShippedRules.{ClientServes, PeerServes, same_reply}
 
@@ -32,20 +32,20 @@ is_served slots (Peer slot peer) is = is.1
 module _ (serves_client : ClientServes) (serves_peer : PeerServes) (programs : Programs) (are : AreShipped programs) (config : Config) where
   -- ---- one event
 
-  pub same_datagram : (s : State) (given : Meta) (bytes : List ℕ) → AreWellFormed s.rows → AreBytes 12 given.tx → IsDatagram bytes → IsAddress (address_of_source given.from)
-      → step (by_programs programs) config s (Datagram given bytes) ≡ step by_rules config s (Datagram given bytes)
+  pub same_datagram : (s : SystemState) (given : Meta) (bytes : List ℕ) → AreWellFormed s.rows → AreBytes 12 given.tx → IsDatagram bytes → IsAddress (address_of_source given.from)
+      → system_step (by_programs programs) config s (Datagram given bytes) ≡ system_step by_rules config s (Datagram given bytes)
   same_datagram s given bytes rows is_id is address =
       ap (outcome_at (moment_of s.greatest given.now) s)
       (same_reply serves_client serves_peer programs are (with_nonce config s.nonce) (moment_of s.greatest given.now) given.tx s.rows bytes rows is_id is given.from address)
 
   module _ (slots : ℕ) where
-    same_step : (s : State) (e : Event) → AreWellFormed s.rows → IsEvent slots e → step (by_programs programs) config s e ≡ step by_rules config s e
+    same_step : (s : SystemState) (e : Event) → AreWellFormed s.rows → IsEvent slots e → system_step (by_programs programs) config s e ≡ system_step by_rules config s e
     same_step s (Datagram given bytes) rows (now, long, fit, from, short, are_bytes) =
         same_datagram s given bytes rows (record { count = long; fit = are_fit given.tx fit }) (record { short = short; bytes_fit = are_fit bytes are_bytes })
         (ipv4-is_address (address_of_source given.from) (is_served slots given.from from))
     same_step s (Nonce text) rows is = refl
 
-    kept_step : (s : State) (e : Event) → AreWellFormed s.rows → IsEvent slots e → AreWellFormed (step by_rules config s e).state.rows
+    kept_step : (s : SystemState) (e : Event) → AreWellFormed s.rows → IsEvent slots e → AreWellFormed (system_step by_rules config s e).state.rows
     kept_step s (Datagram given bytes) rows (now, long, fit, from, short, are_bytes) = of (is_ipv4 (address_of_source given.from)) where
       of : (b : Bool) → AreWellFormed (if b then by_rules (with_nonce config s.nonce) (moment_of s.greatest given.now) given.tx given.from s.rows bytes else no_answer s.rows).rows
       of true = keeps (with_nonce config s.nonce) (moment_of s.greatest given.now) given.tx given.from s.rows bytes rows (is_served slots given.from from) (record { short = short; bytes_fit = are_fit bytes are_bytes })
@@ -54,13 +54,13 @@ module _ (serves_client : ClientServes) (serves_peer : PeerServes) (programs : P
 
     -- ---- a list of events
 
-    pub alike : (s : State) (events : List Event) → AreWellFormed s.rows → All (IsEvent slots) events → AnswerAlike (by_programs programs) by_rules config s events
+    pub alike : (s : SystemState) (events : List Event) → AreWellFormed s.rows → All (IsEvent slots) events → AnswerAlike (by_programs programs) by_rules config s events
     alike s [] rows all = record { answers = refl; after = refl }
     alike s (e ∷ events) rows all =
         let is = All-head (IsEvent slots) e events all in
         let one = same_step s e rows is in
-        let rest = alike (step by_rules config s e).state events (kept_step s e rows is) (All-tail (IsEvent slots) e events all) in
+        let rest = alike (system_step by_rules config s e).state events (kept_step s e rows is) (All-tail (IsEvent slots) e events all) in
         record {
-          answers = ap (λ (o : Outcome). o.answer ∷ answers (by_programs programs) config o.state events) one ∙ ap (λ l. (step by_rules config s e).answer ∷ l) rest.answers;
-          after = ap (λ (o : Outcome). after (by_programs programs) config o.state events) one ∙ rest.after;
+          answers = ap (λ (o : SystemOutcome). o.answer ∷ answers (by_programs programs) config o.state events) one ∙ ap (λ l. (system_step by_rules config s e).answer ∷ l) rest.answers;
+          after = ap (λ (o : SystemOutcome). state_after_events (by_programs programs) config o.state events) one ∙ rest.after;
         }

@@ -10,7 +10,7 @@ use Rattle.events.specs.declared.meta.Source.TheVariants.{Client, Peer}
 use Rattle.programs.specs.Runs.{run_for, datagram_in, sent_by}
 use Rattle.programs.specs.declared.verdict.TheConstants.{PASSES}
 use Rattle.relay.specs.ByRules.{from_client}
-use Rattle.relay.specs.Systems.{Reply, no_answer, reply_of_relaying, System}
+use Rattle.relay.specs.Systems.{SystemReply, no_answer, reply_of_relaying, System}
 
 -- the programs of the two sides
 pub record Programs : Type 0 where
@@ -23,22 +23,22 @@ program_for programs (Peer slot peer) = programs.peer
 
 -- a datagram that is passed on goes by the rules if it is a client's, as it is at the exit, and is discarded if it is a
 -- peer's
-abbrev pub reply_where_passed_on : Config → ℕ → Source → Rows → List ℕ → Reply
+abbrev pub reply_where_passed_on : Config → ℕ → Source → Rows → List ℕ → SystemReply
 reply_where_passed_on config now (Client client) rows bytes = from_client config now client rows bytes
 reply_where_passed_on config now (Peer slot peer) rows bytes = no_answer rows
 
-abbrev pub by_verdict : Config → ℕ → Source → Rows → ℕ → Run → ℕ → Reply
+abbrev pub by_verdict : Config → ℕ → Source → Rows → ℕ → Run → ℕ → SystemReply
 by_verdict config now from rows size r verdict =
     if verdict == PASSES then reply_where_passed_on config now from rows (datagram_in size r.state)
     else reply_of_relaying rows (sent_by from (rows_at now rows) verdict r.state)
 
 -- a stuck run sends nothing
-abbrev pub by_ending : Config → ℕ → Source → Rows → ℕ → Run → Ending → Reply
+abbrev pub by_ending : Config → ℕ → Source → Rows → ℕ → Run → Ending → SystemReply
 by_ending config now from rows size r (runs.Exited verdict) = by_verdict config now from rows size r verdict
 by_ending config now from rows size r (runs.Stuck reason slot) = no_answer rows
 by_ending config now from rows size r runs.Running = no_answer rows
 
-abbrev pub by_run : Config → ℕ → Source → Rows → ℕ → Run → Reply
+abbrev pub by_run : Config → ℕ → Source → Rows → ℕ → Run → SystemReply
 by_run config now from rows size r = by_ending config now from rows size r r.ending
 
 -- a peer's datagram comes to a slot that is there

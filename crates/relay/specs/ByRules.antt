@@ -20,7 +20,7 @@ use Rattle.events.specs.Events.{ToClient}
 use Rattle.events.specs.declared.meta.Source.TheVariants.{Client, Peer}
 use Rattle.programs.specs.FastPart.{begins_as_stun}
 use Rattle.programs.specs.Rules.{send_indication, channel_data_from, send_from, peer_data_to}
-use Rattle.relay.specs.Systems.{Reply, no_answer, reply_of_relaying, System}
+use Rattle.relay.specs.Systems.{SystemReply, no_answer, reply_of_relaying, System}
 
 -- ---- requests
 
@@ -51,30 +51,30 @@ decision_and_key config now request.Binding client p rows = (binding p, None)
 decision_and_key config now (request.Turn r) client p rows =
     (decision r (check_of config p) client p (rows_at now rows), key_for config (check_of config p))
 
-abbrev pub reply_with : Config → Request → Addr → Parts → Rows → Decision × Option (List ℕ) → Reply
+abbrev pub reply_with : Config → Request → Addr → Parts → Rows → Decision × Option (List ℕ) → SystemReply
 reply_with config r client p rows d = record {
   answer = Some (ToClient client (parts_bytes (reply_to config r client p d.1 (grant_of d.0))));
   rows = rows_of rows d.0;
 }
 
-abbrev pub reply_to_request : Config → ℕ → Addr → Parts → Rows → Option Request → Reply
+abbrev pub reply_to_request : Config → ℕ → Addr → Parts → Rows → Option Request → SystemReply
 reply_to_request config now client p rows None = no_answer rows
 reply_to_request config now client p rows (Some r) = reply_with config r client p rows (decision_and_key config now r client p rows)
 
 -- the answer to a message of a client: a message that is no request gets none
-abbrev pub control : Config → ℕ → Addr → Parts → Rows → Reply
+abbrev pub control : Config → ℕ → Addr → Parts → Rows → SystemReply
 control config now client p rows = reply_to_request config now client p rows (request_of p.kind)
 
 -- ---- datagrams
 
 -- a Send indication is relayed, and every other message handled
-abbrev pub message : Config → ℕ → Addr → Rows → Option Parts → Reply
+abbrev pub message : Config → ℕ → Addr → Rows → Option Parts → SystemReply
 message config now client rows None = no_answer rows
 message config now client rows (Some p) =
     if p.kind == send_indication then reply_of_relaying rows (send_from client (rows_at now rows) p) else control config now client p rows
 
 -- the first two bits 00 begin a STUN message, and 01 ChannelData
-abbrev pub from_client : Config → ℕ → Addr → Rows → List ℕ → Reply
+abbrev pub from_client : Config → ℕ → Addr → Rows → List ℕ → SystemReply
 from_client config now client rows bytes =
     if begins_as_stun bytes then message config now client rows (message_in bytes)
     else reply_of_relaying rows (channel_data_from client (rows_at now rows) bytes)

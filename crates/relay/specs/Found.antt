@@ -7,9 +7,9 @@ use Rattle.machine.specs.Contents as machine
 use Rattle.machine.specs.Contents.{datagram_of, window_of}
 use Rattle.machine.specs.Tracing.{IsOutcome}
 use Rattle.machine.specs.declared.outcome.Outcome.{Outcome}
-use Rattle.helpers.specs.LookUps.{look_up}
+use Rattle.helpers.specs.LookUps.{look_up_answer}
 use Rattle.helpers.specs.declared.lookup.Lookup.{Lookup}
-use Rattle.machine.specs.Contexts.{Answers}
+use Rattle.machine.specs.Contexts.{HelperAnswers}
 use Rattle.tables.specs.Rows.{Rows, rows_at}
 use Rattle.events.specs.Events.{Sending, ToClient}
 use Rattle.programs.specs.Rules.{channel_data_from, send_from}
@@ -18,31 +18,31 @@ use Rattle.events.specs.declared.meta.Meta.{Meta}
 use Rattle.semantics.specs.Runs.{Run}
 use Rattle.relay.specs.ByPrograms.{program_for}
 use Rattle.relay.specs.ByRules.{from_client}
-use Rattle.relay.specs.Systems.{Reply}
-use Rattle.relay.specs.Relays.{Contents, datagram_at}
+use Rattle.relay.specs.Systems.{SystemReply}
+use Rattle.relay.specs.Relays.{RelayContents, datagram_at}
 use Rattle.relay.specs.declared.found.Found.{Found}
 use Rattle.relay.specs.declared.found.Found.TheVariants as found
 
 -- the answers of look-ups
-abbrev pub answers_of : Lookup → Answers
-answers_of l = look_up l.slot (rows_at l.moment l.tables.now)
+abbrev pub answers_of_look_up : Lookup → HelperAnswers
+answers_of_look_up l = look_up_answer l.slot (rows_at l.moment l.tables.now)
 
 -- what a frame shows of its window
 abbrev pub window_shown : machine.Contents → Option (List ℕ)
 window_shown f = option_map (λ w. window_of f w) f.window
 
 -- the outcome, and what the frame shows, of a run over a datagram of a length
-pub record HasRun (size : ℕ) (o : Outcome) (f : machine.Contents) (r : Run) : Type 0 where
-  pub outcome : IsOutcome o r
-  pub datagram : datagram_of f ≡ datagram_in size r.state
-  pub window : window_shown f ≡ window_in r.state
+pub record HasRun (size : ℕ) (o : Outcome) (f : machine.Contents) (run : Run) : Type 0 where
+  pub outcome : IsOutcome o run
+  pub datagram : datagram_of f ≡ datagram_in size run.state
+  pub window : window_shown f ≡ window_in run.state
 
 -- the run of a step
-abbrev pub run_at : Contents → Meta → ℕ → Run
+abbrev pub run_at : RelayContents → Meta → ℕ → Run
 run_at r given n = run_for (program_for r.programs given.from) given.tx given.from (rows_at r.greatest r.rows) (datagram_at r n)
 
 -- the reply to a client's datagram that is passed on
-abbrev pub reply_of_passing : Contents → Addr → Reply
+abbrev pub reply_of_passing : RelayContents → Addr → SystemReply
 reply_of_passing r client = from_client r.config r.greatest client r.rows (datagram_of r.frame)
 
 -- the reply to a client, if there is one
@@ -55,7 +55,7 @@ abbrev pub send_in : Addr → Rows → Option Parts → Option Sending
 send_in client rows None = None
 send_in client rows (Some p) = send_from client rows p
 
-abbrev pub sending_of_found : Contents → Found → Option Sending
+abbrev pub sending_of_found : RelayContents → Found → Option Sending
 sending_of_found r found.Nothing = None
 sending_of_found r (found.Window from destination) = planned_sending from (rows_at r.greatest r.rows) destination (window_shown r.frame)
 sending_of_found r (found.ChannelData client) = channel_data_from client (rows_at r.greatest r.rows) (datagram_of r.frame)

@@ -9,12 +9,12 @@ use Rattle.tables.specs.declared.moment.TheConstants.{LATEST}
 use Rattle.machine.specs.Contents as machine
 use Rattle.machine.specs.Contents.{room_of}
 use Rattle.relay.specs.ByPrograms.{Programs}
-use Rattle.relay.specs.Systems.{State}
+use Rattle.relay.specs.Systems.{SystemState}
 use Rattle.control.specs.declared.reply.TheConstants.{REPLY_BYTES}
 
 -- the configuration with the current nonce, the programs, the rows, the greatest moment that was seen, the frame of runs,
 -- and the room for replies
-pub record Contents : Type 0 where
+pub record RelayContents : Type 0 where
   pub config : Config
   pub programs : Programs
   pub rows : Rows
@@ -22,11 +22,11 @@ pub record Contents : Type 0 where
   pub frame : machine.Contents
   pub reply : List ℕ
 
-abbrev pub state_of : Contents → State
+abbrev pub state_of : RelayContents → SystemState
 state_of r = record { rows = r.rows; greatest = r.greatest; nonce = r.config.nonce.bytes }
 
 -- the datagram of a step: the first n bytes of the room
-abbrev pub datagram_at : Contents → ℕ → List ℕ
+abbrev pub datagram_at : RelayContents → ℕ → List ℕ
 datagram_at r n = take n (room_of r.frame)
 
 -- the configuration has no fault, the tables have its slots, no greater moment than the latest was seen, and there is room
@@ -37,7 +37,7 @@ pub record IsRelay (config : Config) (rows : Rows) (greatest : ℕ) (reply : Lis
   pub latest : greatest ≤ LATEST
   pub room : length reply ≡ REPLY_BYTES
 
-abbrev pub coded_contents : Coded Config → Coded (List Insn) → Coded Rows → Coded machine.Contents → Coded Contents
+abbrev pub coded_contents : Coded Config → Coded (List Insn) → Coded Rows → Coded machine.Contents → Coded RelayContents
 coded_contents config code rows frame =
     code_by (Config × (List Insn × (List Insn × (Rows × (ℕ × (machine.Contents × List ℕ))))))
     (coded× config (coded× code (coded× code (coded× rows (coded× coded_ℕ (coded× frame (coded_list coded_ℕ)))))))

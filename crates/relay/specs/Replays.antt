@@ -6,88 +6,88 @@ use Rattle.control.specs.declared.config.Config.{Config}
 use Rattle.events.specs.Events.{Event, Sending}
 use Rattle.events.specs.Lines.{line_of, answer_line, IsEvent}
 use Rattle.relay.specs.ByPrograms.{by_programs}
-use Rattle.relay.specs.Relays.{Contents, state_of}
-use Rattle.relay.specs.Systems.{State, System, step, answers, after}
+use Rattle.relay.specs.Relays.{RelayContents, state_of}
+use Rattle.relay.specs.Systems.{SystemState, System, system_step, answers, state_after_events}
 
 -- ---- texts
 
 -- the lines of some events, each ended by a line feed
-abbrev pub text_of : List Event → List ℕ
-text_of [] = []
-text_of (e ∷ events) = line_of e ++ 10 ∷ text_of events
+abbrev pub text_of_events : List Event → List ℕ
+text_of_events [] = []
+text_of_events (e ∷ events) = line_of e ++ 10 ∷ text_of_events events
 
 -- a text is the lines of these events: each ended by a line feed, the last one possibly not
 abbrev pub IsText : List ℕ → List Event → Type 0
-IsText text events = (text ≡ text_of events) ⊎ (text ++ 10 ∷ [] ≡ text_of events)
+IsText text events = (text ≡ text_of_events events) ⊎ (text ++ 10 ∷ [] ≡ text_of_events events)
 
 -- the line of an answer, ended by a line feed
 abbrev pub line_text : Option Sending → List ℕ
 line_text answer = answer_line answer ++ 10 ∷ []
 
-abbrev pub lines_of : List (Option Sending) → List ℕ
-lines_of [] = []
-lines_of (answer ∷ rest) = line_text answer ++ lines_of rest
+abbrev pub answer_lines : List (Option Sending) → List ℕ
+answer_lines [] = []
+answer_lines (answer ∷ rest) = line_text answer ++ answer_lines rest
 
 -- the line of the answer to an event, and those of the answers to some events
-abbrev pub answer_text : System → Config → State → Event → List ℕ
-answer_text system config s e = line_text (step system config s e).answer
+abbrev pub answer_text : System → Config → SystemState → Event → List ℕ
+answer_text system config s e = line_text (system_step system config s e).answer
 
-abbrev pub answers_text : System → Config → State → List Event → List ℕ
-answers_text system config s events = lines_of (answers system config s events)
+abbrev pub answers_text : System → Config → SystemState → List Event → List ℕ
+answers_text system config s events = answer_lines (answers system config s events)
 
 -- ---- one line
 
 -- the state after the event of a line, if it has one, and the line of its answer
-abbrev pub after_line : System → Config → State → Option Event → State
+abbrev pub after_line : System → Config → SystemState → Option Event → SystemState
 after_line system config s None = s
-after_line system config s (Some e) = (step system config s e).state
+after_line system config s (Some e) = (system_step system config s e).state
 
-abbrev pub answer_to : System → Config → State → Option Event → List ℕ
+abbrev pub answer_to : System → Config → SystemState → Option Event → List ℕ
 answer_to system config s None = []
 answer_to system config s (Some e) = answer_text system config s e
 
 -- ---- replays
 
 -- the system of a relay's programs
-abbrev pub system_of : Contents → System
+abbrev pub system_of : RelayContents → System
 system_of r = by_programs r.programs
 
 -- the programs are the same, and all of the configuration but its nonce
-pub record IsSameRelay (old new : Contents) : Type 0 where
+pub record IsSameRelay (old new : RelayContents) : Type 0 where
   pub programs : new.programs ≡ old.programs
   pub config : new.config ≡ record old.config { nonce = new.config.nonce }
 
 -- the events of a relay that were read, and the relay after them
-pub record HasPlayed (events : List Event) (old new : Contents) : Type 0 where
+pub record HasPlayed (events : List Event) (old new : RelayContents) : Type 0 where
   pub are_events : All (IsEvent old.config.slots) events
-  pub state : state_of new ≡ after (system_of old) old.config (state_of old) events
+  pub state : state_of new ≡ state_after_events (system_of old) old.config (state_of old) events
   pub same : IsSameRelay old new
 
 -- the answers of a relay's programs to some events
-abbrev pub answers_of : Contents → List Event → List ℕ
-answers_of r events = answers_text (system_of r) r.config (state_of r) events
+abbrev pub answers_of_events : RelayContents → List Event → List ℕ
+answers_of_events r events = answers_text (system_of r) r.config (state_of r) events
 
 -- the reader was read to its end, its bytes are the lines of events, and the lines of all their answers were written
-pub record HasPlayedAll (read left : Option (List ℕ)) (old new : Contents) (held holds : Option (List ℕ)) : Type 0 where
+pub record HasPlayedAll (read left : Option (List ℕ)) (old new : RelayContents) (held holds : Option (List ℕ)) : Type 0 where
   pub events : List Event
   pub played : HasPlayed events old new
   pub is_text : IfSome read (λ text. IsText text events)
   pub at_end : IfSome read (λ _. left ≡ Some [])
-  pub written : Appends held holds (answers_of old events)
+  pub written : Appends held holds (answers_of_events old events)
 
 -- the line after those of some events is no event's, and the answers to these were written
-pub record StopsAtLine (n : ℕ) (read : Option (List ℕ)) (old new : Contents) (held holds : Option (List ℕ)) : Type 0 where
+pub record StopsAtLine (n : ℕ) (read : Option (List ℕ)) (old new : RelayContents) (held holds : Option (List ℕ)) : Type 0 where
   pub events : List Event
   pub played : HasPlayed events old new
   pub number : length events + 1 ≡ n
-  pub text : IfSome read (λ text. (rest : List ℕ) × (text ≡ text_of events ++ rest) × (rest ≢ [])
+  pub text : IfSome read (λ text. (rest : List ℕ) × (text ≡ text_of_events events ++ rest) × (rest ≢ [])
       × ((e : Event) → IsEvent old.config.slots e → first_piece 10 rest ≢ line_of e))
-  pub written : Appends held holds (answers_of old events)
+  pub written : Appends held holds (answers_of_events old events)
 
 -- a beginning of the answers to events that were read whole was written
-pub record StopsShort (read : Option (List ℕ)) (old new : Contents) (held holds : Option (List ℕ)) : Type 0 where
+pub record StopsShort (read : Option (List ℕ)) (old new : RelayContents) (held holds : Option (List ℕ)) : Type 0 where
   pub events : List Event
   pub played : HasPlayed events old new
-  pub text : IfSome read (λ text. (rest : List ℕ) × (text ++ 10 ∷ [] ≡ text_of events ++ rest))
+  pub text : IfSome read (λ text. (rest : List ℕ) × (text ++ 10 ∷ [] ≡ text_of_events events ++ rest))
   pub count : ℕ
-  pub written : Appends held holds (take count (answers_of old events))
+  pub written : Appends held holds (take count (answers_of_events old events))

@@ -6,7 +6,7 @@ use Rattle.loader.specs.Loads.{IsLoaded}
 use Rattle.programs.specs.declared.client.TheConstants.{CLIENT}
 use Rattle.programs.specs.declared.peer.TheConstants.{PEER}
 use Rattle.relay.specs.ByPrograms.{Programs}
-use Rattle.relay.specs.Systems.{State, System, answers, after}
+use Rattle.relay.specs.Systems.{SystemState, System, answers, state_after_events}
 
 -- both programs are the shipped ones
 pub record AreShipped (programs : Programs) : Type 0 where
@@ -14,6 +14,6 @@ pub record AreShipped (programs : Programs) : Type 0 where
   pub peer : IsLoaded programs.peer PEER.now
 
 -- from a state on, two systems send the same for each of some events, and come to the same state
-pub record AnswerAlike (one other : System) (config : Config) (s : State) (events : List Event) : Type 0 where
+pub record AnswerAlike (one other : System) (config : Config) (s : SystemState) (events : List Event) : Type 0 where
   pub answers : answers one config s events ≡ answers other config s events
-  pub after : after one config s events ≡ after other config s events
+  pub after : state_after_events one config s events ≡ state_after_events other config s events

@@ -2,7 +2,7 @@
 
 ghost use Rattle.std.specs.Prelude.{◌≡◌, ◌≤◌, ℕ, List, length, take};
 ghost use Rattle.relay.specs.Found.{sending_of_found, reply_sent, HasRoomFor};
-ghost use Rattle.relay.specs.Relays.{Contents};
+ghost use Rattle.relay.specs.Relays.{RelayContents};
 
 use attributes::Addr;
 use events::Source;
@@ -31,7 +31,7 @@ pub(crate) enum Found {
 /// Returns the finding of a reply of `count` bytes, 0 where there is none.
 #[tactic(auto, using(crate::proofs::Controls::reply_is_sent))]
 pub(crate) fn reply_found(client: Addr, count: usize) -> Found
-    ensures sends { (r : Contents) → count ≤ length r.reply → sending_of_found r result ≡ reply_sent client (take count r.reply) }
+    ensures sends { (r : RelayContents) → count ≤ length r.reply → sending_of_found r result ≡ reply_sent client (take count r.reply) }
     ensures room { (reply : List ℕ) → count ≤ length reply → HasRoomFor result reply }
 {
     if count == 0 {

@@ -38,13 +38,13 @@ pub struct Relay {
 }
 
 impl Model for Relay {
-    ghost use Rattle.relay.specs.Relays.{Contents, IsRelay, coded_contents};
+    ghost use Rattle.relay.specs.Relays.{RelayContents, IsRelay, coded_contents};
     ghost use Rattle.control.specs.contracts.config.Config as configs;
     ghost use Rattle.loader.specs.contracts.loaded.Loaded as programs;
     ghost use Rattle.tables.specs.contracts.storage.Tables as rows;
     ghost use Rattle.machine.specs.contracts.frame.Frame as frames;
 
-    ghost Value = { Contents };
+    ghost Value = { RelayContents };
 
     ghost coded = { coded_contents configs.the_row.coded programs.the_row.coded rows.the_row.coded frames.the_row.coded };
 
@@ -89,7 +89,7 @@ impl Relay {
     ghost use Rattle.relay.specs.Found.{sending_of_found, run_at, reply_of_passing, HasRun, HasRoomFor};
     ghost use Rattle.relay.specs.Relays.{state_of, datagram_at};
     ghost use Rattle.relay.specs.Shipped.{AreShipped};
-    ghost use Rattle.relay.specs.Steps.{outcome_of, ruled_outcome_of, after_step, lends_room, HasStepped};
+    ghost use Rattle.relay.specs.Steps.{outcome_of, ruled_outcome_of, after_step, lends_relay_room, HasStepped};
     ghost use Rattle.relay.specs.Systems.{first};
     ghost use Rattle.relay.specs.declared.error.RelayError.TheVariants.{BadConfig};
 
@@ -157,7 +157,7 @@ impl Relay {
     pub fn area(&mut self) -> &mut [u8]
         ensures value { result.now ≡ room_of self.old.frame }
         ensures len { length result.now ≡ MAX_DATAGRAM }
-        ensures* writes_back { sem 𝓛 (lends_room self.entry result) }
+        ensures* writes_back { sem 𝓛 (lends_relay_room self.entry result) }
     {
         self.frame.area()
     }

@@ -3,12 +3,12 @@
 ghost use Rattle.std.specs.Prelude.{◌≡◌, ◌≤◌, length, take};
 ghost use Rattle.semantics.specs.declared.limits.TheConstants.{MAX_DATAGRAM};
 ghost use Rattle.machine.specs.Contents.{room_of};
-ghost use Rattle.machine.specs.Contexts.{around, context_of};
+ghost use Rattle.machine.specs.Contexts.{environment_around, context_of};
 ghost use Rattle.machine.specs.Tracing.{run_over};
 ghost use Rattle.tables.specs.Rows.{rows_at};
 ghost use Rattle.programs.specs.Runs.{context_for, slot_for};
 ghost use Rattle.relay.specs.ByPrograms.{program_for};
-ghost use Rattle.relay.specs.Found.{HasRun, answers_of};
+ghost use Rattle.relay.specs.Found.{HasRun, answers_of_look_up};
 
 use crate::rules::client_slot;
 use events::{Meta, Source};
@@ -66,7 +66,7 @@ pub(crate) fn run_over(
 ) -> Outcome
     requires { n ≤ MAX_DATAGRAM }
     ensures { HasRun (length (take n (room_of frame.old))) result frame.new
-        (run_over (around (context_of context.now) (answers_of helpers.now)) program.now (take n (room_of frame.old))) }
+        (run_over (environment_around (context_of context.now) (answers_of_look_up helpers.now)) program.now (take n (room_of frame.old))) }
 {
     let _ = frame.room();
     frame.start(context, n);

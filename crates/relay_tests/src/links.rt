@@ -7,20 +7,29 @@ use relay::Relay;
 use semantics::MAX_DATAGRAM;
 use serving::{Link, LinkFault, Place, ServeError, serve_once};
 use std::alloc::Global;
+use std::process::Abort;
 use std::test::Fail;
+use tables::uncounted::allocation_at;
 
 /// The slots of the relay.
 const SLOTS: usize = 2;
+
+/// The moment of the first events.
+const FIRST: u64 = 1000;
 
 /// What happens to a datagram.
 #[derive(Clone, Copy, Debug, PartialEq, Eq)]
 enum Fate {
     /// It comes, and is answered.
     Served,
-    /// It never comes.
+    /// It never comes: no receive is made.
     Lost,
+    /// Its receive finds nothing.
+    Late,
     /// Its receive fails.
     ReceiveFails,
+    /// Its receive counts more bytes than a datagram may have.
+    TooLong,
     /// The send of its answer fails.
     SendFails,
 }
@@ -41,13 +50,19 @@ impl Link for Wire<'_> {
         _place: Place,
         into: &mut [u8],
     ) -> Result<Option<(usize, Addr)>, LinkFault> {
+        match self.fate {
+            Fate::Lost | Fate::Late => return Ok(None),
+            Fate::TooLong => return Ok(Some((MAX_DATAGRAM + 1, self.from))),
+            Fate::ReceiveFails => return Err(LinkFault),
+            Fate::Served | Fate::SendFails => {}
+        }
         let n = self.datagram.len();
         match into.get_mut(..n) {
-            Some(room) if self.fate != Fate::ReceiveFails => {
+            Some(room) => {
                 room.copy_from_slice(self.datagram);
                 Ok(Some((n, self.from)))
             }
-            _ => Err(LinkFault),
+            None => Err(LinkFault),
         }
     }
 
@@ -124,9 +139,52 @@ fn answers_without(alloc: Global, index: usize) -> Result<Vec<u8>, Fail> {
     Ok(lines)
 }
 
+/// Checks that the tables of two relays have the same rows.
+fn check_rows(rt: &impl Abort, relay: &Relay, other: &Relay, index: usize) {
+    let (tables, others) = (relay.tables(), other.tables());
+    for slot in 0..SLOTS {
+        let found = allocation_at(tables, slot, FIRST);
+        assert_eq!(rt; found, allocation_at(others, slot, FIRST), "event {index}");
+        let (found, wanted) = (
+            tables.permissions(slot, FIRST),
+            others.permissions(slot, FIRST),
+        );
+        assert_eq!(rt; found.as_slice(), wanted.as_slice(), "event {index}");
+        let (found, wanted) = (tables.channels(slot, FIRST), others.channels(slot, FIRST));
+        assert_eq!(rt; found.as_slice(), wanted.as_slice(), "event {index}");
+    }
+}
+
+/// What comes of a datagram that isn't received.
+const UNRECEIVED: [(Fate, Result<bool, ServeError>); 3] = [
+    (Fate::Late, Ok(false)),
+    (Fate::ReceiveFails, Err(ServeError::Receive)),
+    (Fate::TooLong, Err(ServeError::Receive)),
+];
+
+/// Compares the tables at each event with those of a relay whose link has no fault: they are as before where the event isn't
+/// received, and as after it where its answer isn't sent.
+fn check_tables(rt: &impl Abort, alloc: Global) -> Result<(), Fail> {
+    let (mut relay, mut other) = (shipped(alloc)?, shipped(alloc)?);
+    let mut log = Vec::new(alloc);
+    for (index, &(line, answer)) in STORY.iter().enumerate() {
+        for (fate, wanted) in UNRECEIVED {
+            let result = serve(alloc, &mut relay, line, fate, &mut log)?;
+            assert!(rt; result == wanted, "{fate:?} {index}");
+            check_rows(rt, &relay, &other, index);
+        }
+        let result = serve(alloc, &mut relay, line, Fate::SendFails, &mut log)?;
+        assert_eq!(rt; result.is_err(), answer != "-", "send {index}");
+        serve(alloc, &mut other, line, Fate::Served, &mut log)?.ok();
+        check_rows(rt, &relay, &other, index);
+    }
+    Ok(())
+}
+
 #[test]
 fn a_link_that_fails_loses_one_datagram(rt: HostRuntime) -> Result<(), Fail> {
     let alloc = rt.alloc();
+    check_tables(&rt, alloc)?;
     let all = answers_without(alloc, STORY.len())?;
     for index in 0..=STORY.len() {
         let (sent, _) = story(alloc, index, Fate::Lost)?;

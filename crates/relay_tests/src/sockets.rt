@@ -14,12 +14,12 @@ use stun::registry::attribute::{
 };
 use stun::{Builder, NoRoom};
 
-/// The transaction id of every request.
+/// The transaction id of every request but [`BINDING`].
 const TX: [u8; 12] = [1, 2, 3, 4, 5, 6, 7, 8, 9, 10, 11, 12];
 
 /// A Binding request.
 const BINDING: [u8; 20] = [
-    0x00, 0x01, 0, 0, 0x21, 0x12, 0xa4, 0x42, 1, 2, 3, 4, 5, 6, 7, 8, 9, 10, 11, 12,
+    0x00, 0x01, 0, 0, 0x21, 0x12, 0xa4, 0x42, 0, 0, 0, 0, 0, 0, 0, 0, 0, 0, 0, 0,
 ];
 
 /// The sockets of a server: that of clients, and that of slot 0.
@@ -261,8 +261,8 @@ impl Session {
 fn binding_response(port: u16) -> [u8; 32] {
     let [high, low] = (port ^ 0x2112).to_be_bytes();
     [
-        0x01, 0x01, 0, 12, 0x21, 0x12, 0xa4, 0x42, 1, 2, 3, 4, 5, 6, 7, 8, 9, 10, 11, 12, 0x00,
-        0x20, 0, 8, 0, 1, high, low, 0x5e, 0x12, 0xa4, 0x43,
+        0x01, 0x01, 0, 12, 0x21, 0x12, 0xa4, 0x42, 0, 0, 0, 0, 0, 0, 0, 0, 0, 0, 0, 0, 0x00, 0x20,
+        0, 8, 0, 1, high, low, 0x5e, 0x12, 0xa4, 0x43,
     ]
 }
 

@@ -72,6 +72,15 @@ struct Server<'a> {
     stats: Option<Timer>,
 }
 
+/// What a server waits with. Its memory is taken before the server listens.
+#[derive(Drop)]
+struct Waiting {
+    poll: Poll,
+    events: Events,
+    /// Which places may have datagrams, by their tokens.
+    ready: Vec<bool>,
+}
+
 /// Parses a number of an option.
 fn number_of<'a>(option: &'static str, text: &'a str) -> Result<u64, Fault<'a>> {
     number(text).ok_or(Fault::Value { option, text })
@@ -270,29 +279,48 @@ impl Server<'_> {
 
     /// Serves until the process is stopped, and waits while no socket is ready.
     /// See docs/DECISIONS.md, "A server waits by readiness".
-    fn run<R: Files + Net + Clock + AllocGlobal, E: Write>(
+    fn run<R: Files + Clock + AllocGlobal, E: Write>(
         &mut self,
         rt: &R,
         err: &mut E,
+        mut waiting: Waiting,
     ) -> Result<(), Fault<'static>> {
-        let mut poll = Poll::new(rt).map_err(|_| Fault::Wait)?;
-        self.sockets.register(&poll).map_err(|_| Fault::Wait)?;
-        let mut events = Events::with_capacity(rt.alloc(), EVENTS).map_err(|_| Fault::Memory)?;
-        let mut ready = vec![in rt.alloc(); true; self.sockets.count()].map_err(|_| Fault::Memory)?;
         let longest = self.longest_wait();
         let mut more = true;
         for _ in 0..u64::MAX {
             let wait = if more { Some(Duration::ZERO) } else { longest };
-            poll.poll(&mut events, wait).map_err(|_| Fault::Wait)?;
+            waiting.wait(wait)?;
             self.tend(rt, err);
             more = if more {
-                mark(&events, &mut ready);
-                self.drain_ready(rt, err, &mut ready)
+                mark(&waiting.events, &mut waiting.ready);
+                self.drain_ready(rt, err, &mut waiting.ready)
             } else {
-                self.drain_reported(rt, err, &events, &mut ready)
+                self.drain_reported(rt, err, &waiting.events, &mut waiting.ready)
             };
         }
         Ok(())
+    }
+}
+
+impl Waiting {
+    /// Returns what the server of these sockets waits with. Each place is ready at first, since datagrams may have come.
+    fn new<R: Net + AllocGlobal>(rt: &R, sockets: &mut Sockets) -> Result<Waiting, Fault<'static>> {
+        let poll = Poll::new(rt).map_err(|_| Fault::Wait)?;
+        sockets.register(&poll).map_err(|_| Fault::Wait)?;
+        let events = Events::with_capacity(rt.alloc(), EVENTS).map_err(|_| Fault::Memory)?;
+        let ready = vec![in rt.alloc(); true; sockets.count()].map_err(|_| Fault::Memory)?;
+        Ok(Waiting {
+            poll,
+            events,
+            ready,
+        })
+    }
+
+    /// Waits until a socket is ready, or for a time; without a time, until a socket is ready.
+    fn wait(&mut self, time: Option<Duration>) -> Result<(), Fault<'static>> {
+        self.poll
+            .poll(&mut self.events, time)
+            .map_err(|_| Fault::Wait)
     }
 }
 
@@ -357,17 +385,22 @@ fn serve_sockets<'a, R: Files + Print + Net + Clock + RandomSource + AllocGlobal
 ) -> Result<(), Fault<'a>> {
     let arguments = parse(texts)?;
     let mut server = start(rt, arguments, options)?;
-    announce(rt, &server.sockets).map_err(|_| Fault::Output)?;
     match arguments.rounds {
         Some(rounds) => {
+            announce(rt, &server.sockets).map_err(|_| Fault::Output)?;
             server.make_rounds(rt, err, rounds);
             Ok(())
         }
-        None => server.run(rt, err),
+        None => {
+            let waiting = Waiting::new(rt, &mut server.sockets)?;
+            announce(rt, &server.sockets).map_err(|_| Fault::Output)?;
+            server.run(rt, err, waiting)
+        }
     }
 }
 
 /// Serves clients and peers, prints the line of the first fault to `err`, and returns the exit status.
+/// See docs/DECISIONS.md, "`serve` is a command".
 pub(crate) fn serve<R: Files + Print + Net + Clock + RandomSource + AllocGlobal, E: Write>(
     rt: &R,
     err: &mut E,

@@ -10,7 +10,7 @@ use Rattle.machine.specs.Lines.{step_lines, appends_more}
 use Rattle.machine.specs.Tracing.{IsOutcome}
 use Rattle.machine.specs.declared.outcome.Outcome.{Outcome}
 use Rattle.machine.specs.declared.outcome.Stuck.{Stuck}
-use Rattle.report.specs.Statuses.{IsPrinted, IsWritten, PrintsRefusal, Succeeds}
+use Rattle.report.specs.Statuses.{IsPrinted, IsReportWritten, PrintsRefusal, Succeeds}
 use Rattle.report.specs.Texts.{end_text, ending_text, exit_text, trace_text}
 use Rattle.report.specs.Traces.{digits_of, traced_run, EncodeDatagram, TraceEnds, PrintsTrace, IsExit, IsStuck}
 use Rattle.report.specs.declared.error.ReportError.{ReportError}
@@ -54,7 +54,7 @@ module _ (hex : Option (Bor (List ℕ))) (file : List ℕ) (code : List Insn) (d
 
   pub trace_written : (old between new : Option (List ℕ)) (ended : Result Outcome Stuck) (result : Result ℕ ReportError) → IfOk ended (λ o. IsOutcome o r) → IfErr ended (λ s. r.ending ≡ runs.Stuck s.reason s.slot)
       → Appends old between (step_lines r.path) → OnOk result (Appends between new (end_text ended))
-      → IfOk result (λ status. MatchResult ended (λ o. status ≡ 0) (λ e. status ≡ 1)) → IfOk result (IsWritten (Trace hex) file old new)
+      → IfOk result (λ status. MatchResult ended (λ o. status ≡ 0) (λ e. status ≡ 1)) → IfOk result (IsReportWritten (Trace hex) file old new)
   trace_written old between new ended (Err e) is stuck steps ending status = tt
   trace_written old between new (Ok o) (Ok n) is stuck steps ending status = record {
     success = λ zero. prints IsExit old new (subst IsExit (sym is.verdict) tt) (both old between new (Ok o) is stuck steps ending);

@@ -82,13 +82,13 @@ pub record IsPrinted (asked : Ask) (file : List ℕ) (status : ℕ) : Type 0 whe
   pub refusal : status ≡ 1 → PrintsRefusal asked file
 
 -- the report is written with this status
-pub record IsWritten (asked : Ask) (file : List ℕ) (old new : Option (List ℕ)) (status : ℕ) : Type 0 where
+pub record IsReportWritten (asked : Ask) (file : List ℕ) (old new : Option (List ℕ)) (status : ℕ) : Type 0 where
   pub success : status ≡ 0 → Writes asked file old new
   pub refusal : status ≡ 1 → WritesRefusal asked file old new
 
 -- an error that is a refusal has written nothing
 abbrev pub IsUnwritten : Option (List ℕ) → Option (List ℕ) → ReportError → Type 0
-IsUnwritten old new e = status_of e ≡ 1 → Keeps old new
+IsUnwritten old new fault = status_of fault ≡ 1 → Keeps old new
 
 -- decoding fails so
 abbrev pub IsNoProgram : List ℕ → ReportError → Type 0
@@ -116,7 +116,7 @@ MayFail (ask.Disassemble slots) file error.Output = HasProgram file
 
 -- the error is a refusal, of the digits or of the file
 abbrev pub FailsByRefusal : Ask → List ℕ → Type 0
-FailsByRefusal asked file = MayFail asked file error.Data ⊎ ((e : DecodeError) × MayFail asked file (error.Program e))
+FailsByRefusal asked file = MayFail asked file error.Data ⊎ ((refusal : DecodeError) × MayFail asked file (error.Program refusal))
 
 -- the request is refused, by a printed report or by an error
 abbrev pub IsRefusal : Ask → List ℕ → Type 0

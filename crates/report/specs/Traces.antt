@@ -9,7 +9,7 @@ use Rattle.insn.specs.declared.instruction.Insn.{Insn}
 use Rattle.semantics.specs.declared.limits.TheConstants.{MAX_DATAGRAM}
 use Rattle.semantics.specs.Machine.{Context}
 use Rattle.semantics.specs.Runs.{Run, Ending, Exited, Stuck, Running}
-use Rattle.helpers.specs.Nothing.{finds_nothing}
+use Rattle.helpers.specs.Nothing.{empty_answer}
 use Rattle.machine.specs.Tracing.{run_over}
 use Rattle.report.specs.Texts.{trace_text}
 
@@ -41,7 +41,7 @@ HasNoDatagram digits = (datagram : List ℕ) → EncodeDatagram digits datagram 
 
 -- the run of the code over the datagram, without any allocation
 abbrev pub traced_run : List Insn → List ℕ → Run
-traced_run code datagram = run_over (record { context = trace_context; answer = finds_nothing }) code datagram
+traced_run code datagram = run_over (record { context = trace_context; answer = empty_answer }) code datagram
 
 -- the file encodes a program, the digits encode a datagram, and the run has an ending of this kind
 pub record TraceEnds (digits file : List ℕ) (IsEnding : Ending → Type 0) : Type 0 where

@@ -9,7 +9,7 @@ ghost use Rattle.machine.specs.Contexts.{context_of};
 ghost use Rattle.report.specs.Traces.{digits_of, trace_context, EncodeDatagram, HasNoDatagram};
 ghost use Rattle.report.specs.declared.error.ReportError.TheVariants.{Data, Output};
 ghost use Rattle.report.specs.declared.reporting.Ask.TheVariants.{Disassemble, Trace, Verify};
-ghost use Rattle.report.specs.Statuses.{IsNoProgram, IsPrinted, IsRefusal, IsUnwritten, IsWritten, MayFail, Succeeds};
+ghost use Rattle.report.specs.Statuses.{IsNoProgram, IsPrinted, IsRefusal, IsUnwritten, IsReportWritten, MayFail, Succeeds};
 ghost use Rattle.report.specs.Statuses.{Writes, WritesIfRefused};
 ghost use Rattle.report.specs.Texts.{end_text, program_text};
 
@@ -58,7 +58,7 @@ macro_rules! line {
 /// See docs/DECISIONS.md, "One form of a count".
 fn report_verify<W: Write>(alloc: Global, file: &[u8], out: &mut W) -> Result<u8, ReportError>
     ensures printed { IfOk result (IsPrinted Verify file.now) }
-    ensures written { IfOk result (IsWritten Verify file.now (W.contents out.old) (W.contents out.new)) }
+    ensures written { IfOk result (IsReportWritten Verify file.now (W.contents out.old) (W.contents out.new)) }
     ensures failed { IfErr result (MayFail Verify file.now) }
 {
     match load(alloc, file) {
@@ -150,7 +150,7 @@ fn report_disassembly<W: Write>(
     out: &mut W,
 ) -> Result<u8, ReportError>
     ensures printed { IfOk result (IsPrinted (Disassemble slots) file.now) }
-    ensures written { IfOk result (IsWritten (Disassemble slots) file.now (W.contents out.old) (W.contents out.new)) }
+    ensures written { IfOk result (IsReportWritten (Disassemble slots) file.now (W.contents out.old) (W.contents out.new)) }
     ensures unwritten { IfErr result (IsUnwritten (W.contents out.old) (W.contents out.new)) }
     ensures failed { IfErr result (MayFail (Disassemble slots) file.now) }
 {
@@ -186,7 +186,7 @@ fn report_trace<W: Write>(
     out: &mut W,
 ) -> Result<u8, ReportError>
     ensures printed { IfOk result (IsPrinted (Trace hex.entry) file.now) }
-    ensures written { IfOk result (IsWritten (Trace hex.entry) file.now (W.contents out.old) (W.contents out.new)) }
+    ensures written { IfOk result (IsReportWritten (Trace hex.entry) file.now (W.contents out.old) (W.contents out.new)) }
     ensures unwritten { IfErr result (IsUnwritten (W.contents out.old) (W.contents out.new)) }
     ensures failed { IfErr result (MayFail (Trace hex.entry) file.now) }
 {
@@ -201,7 +201,7 @@ fn report_trace<W: Write>(
 /// Prints the report, flushes the output and returns the status.
 fn print<W: Write>(alloc: Global, ask: Ask<'_>, file: &[u8], out: &mut W) -> Result<u8, ReportError>
     ensures printed { IfOk result (IsPrinted ask.entry file.now) }
-    ensures written { IfOk result (IsWritten ask.entry file.now (W.contents out.old) (W.contents out.new)) }
+    ensures written { IfOk result (IsReportWritten ask.entry file.now (W.contents out.old) (W.contents out.new)) }
     ensures unwritten { IfErr result (IsUnwritten (W.contents out.old) (W.contents out.new)) }
     ensures failed { IfErr result (MayFail ask.entry file.now) }
 {

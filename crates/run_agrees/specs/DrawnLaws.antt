@@ -2,11 +2,12 @@
 use Rattle.std.specs.Prelude.{ℕ, ◌≤◌, ◌<◌, ◌%◌, Bool, true, false, if◌then◌else◌}
 use Rattle.std.proofs.Common.{refl, arith}
 use Rattle.std.proofs.lemmas.List.Elements.{All-from_recursion, All-replicate}
+use Rattle.semantics.specs.Calls.{no_address}
 use Rattle.semantics.specs.Machine.{AddressRecord, AreBytes}
 use Rattle.semantics.specs.Runs.{IsLawful}
-use Rattle.run_agrees.specs.Drawn.{no_record, drawn_record, drawn_answer}
+use Rattle.run_agrees.specs.Drawn.{drawn_record, drawn_answer}
 
-zeros : AreBytes 8 no_record
+zeros : AreBytes 8 no_address
 zeros = record { count = refl; fit = All-replicate (λ (b : ℕ). b < 256) 8 0 (omega arith) }
 
 bytes_of : (valid : Bool) → AreBytes 8 (drawn_record valid)
@@ -28,11 +29,11 @@ abbrev HasRecord : ℕ × AddressRecord → Type 0
 HasRecord answer = AreBytes 8 answer.1
 
 peer : (found : Bool) (valid : Bool)
-    → AtMost 1 (if found then (1, drawn_record valid) else (0, no_record)) × HasRecord (if found then (1, drawn_record valid) else (0, no_record))
+    → AtMost 1 (if found then (1, drawn_record valid) else (0, no_address)) × HasRecord (if found then (1, drawn_record valid) else (0, no_address))
 peer true valid = (omega arith, bytes_of valid)
 peer false valid = (omega arith, zeros)
 
-allowed : (found : Bool) → AtMost 1 (if found then (1, no_record) else (0, no_record))
+allowed : (found : Bool) → AtMost 1 (if found then (1, no_address) else (0, no_address))
 allowed true = omega arith
 allowed false = omega arith
 

@@ -4,12 +4,12 @@ use Rattle.std.proofs.Common.{refl, arith}
 use Rattle.std.proofs.lemmas.List.Elements.{All-from_recursion}
 use Rattle.semantics.specs.Machine.{AreBytes}
 use Rattle.semantics.specs.Runs.{IsLawful}
-use Rattle.run_speed.specs.Constant.{record_of_peer, constant_answers}
+use Rattle.run_speed.specs.Constant.{constant_record, constant_answers}
 
-bytes_of_peer : AreBytes 8 record_of_peer
+bytes_of_peer : AreBytes 8 constant_record
 bytes_of_peer = record {
   count = refl;
-  fit = All-from_recursion (λ (b : ℕ). b < 256) record_of_peer
+  fit = All-from_recursion (λ (b : ℕ). b < 256) constant_record
       (omega arith, (omega arith, (omega arith, (omega arith, (omega arith, (omega arith, (omega arith, (omega arith, tt))))))));
 }
 

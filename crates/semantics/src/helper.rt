@@ -6,7 +6,7 @@ ghost use Rattle.semantics.specs.Calls.{helper_number, helper_of, signature_of, 
 ghost use Rattle.semantics.specs.declared.limits.TheConstants.{STACK_BYTES, MAX_DATAGRAM};
 
 use crate::access::index_in_stack;
-use crate::limits::{HEADROOM, MAX_DATAGRAM, TAILROOM};
+use crate::limits::{HEADROOM, MAX_CHANNEL, MAX_DATAGRAM, TAILROOM};
 use crate::value::Value;
 
 /// The number of bytes of an address record.
@@ -73,7 +73,7 @@ impl Helper {
                     Argument::Unused,
                     Argument::Unused,
                 ],
-                0x4fff,
+                MAX_CHANNEL,
             ),
             Helper::Permitted | Helper::Destination => (
                 [

@@ -22,7 +22,7 @@ pub use fetching::{Branch, Fetched, Position, Visit, fetch, last, target};
 pub use helper::{
     Argument, Helper, Inputs, Question, RECORD_BYTES, Signature, destination_at, window_within,
 };
-pub use limits::{HEADROOM, MAX_DATAGRAM, MAX_OFFSET, STACK_BYTES, TAILROOM, sizes};
+pub use limits::{HEADROOM, MAX_CHANNEL, MAX_DATAGRAM, MAX_OFFSET, STACK_BYTES, TAILROOM, sizes};
 pub use loading::{CONTEXT_BYTES, ContextField, field_at};
 pub use memory::Memory;
 pub use plan::Plan;

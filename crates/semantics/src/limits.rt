@@ -1,7 +1,7 @@
-//! The sizes of the machine's memory, and how far a pointer may lead.
+//! The sizes of the machine's memory, how far a pointer may lead, and the greatest channel.
 
 ghost use Rattle.std.specs.Prelude.{◌≡◌, ◌^◌, pos};
-ghost use Rattle.semantics.specs.declared.limits.TheConstants.{STACK_BYTES, HEADROOM, MAX_DATAGRAM, TAILROOM, MAX_OFFSET};
+ghost use Rattle.semantics.specs.declared.limits.TheConstants.{STACK_BYTES, HEADROOM, MAX_DATAGRAM, TAILROOM, MAX_OFFSET, MAX_CHANNEL};
 
 /// The number of bytes of the stack, at the places -512 to -1.
 pub const STACK_BYTES: usize = 512;
@@ -18,9 +18,13 @@ pub const TAILROOM: usize = 3;
 /// The greatest offset of a pointer, to either side.
 pub const MAX_OFFSET: i64 = 1_048_576;
 
-/// States the sizes in bytes, and the greatest offset.
+/// The greatest channel number, which helper 2 answers (RFC 8656, section 12).
+pub const MAX_CHANNEL: u64 = 0x4fff;
+
+/// States the sizes in bytes, the greatest offset, and the greatest channel.
 pub fn sizes()
     ensures stack { STACK_BYTES ≡ 512 }
+    ensures channel { MAX_CHANNEL ≡ 0x4fff }
     ensures headroom { HEADROOM ≡ 64 }
     ensures datagram { MAX_DATAGRAM ≡ 65507 }
     ensures tailroom { TAILROOM ≡ 3 }

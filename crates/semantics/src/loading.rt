@@ -3,7 +3,7 @@
 ghost use Rattle.std.specs.Prelude.{◌≡◌, ◌≤◌, ◌<◌, ◌+◌, ◌^◌, ℕ, length, IfSome};
 ghost use Rattle.insn.specs.Endian.{little_number};
 ghost use Rattle.semantics.specs.Access.{cells_number, number_in, part, IsInside};
-ghost use Rattle.semantics.specs.Loading.{field_at, field_number, field_value, load_field, read_number, load, load_signed};
+ghost use Rattle.semantics.specs.Loading.{field_at, field_number, field_value, load_field, reached_number, load, load_signed};
 ghost use Rattle.semantics.specs.Machine.{Context, IsContext, context_bytes};
 ghost use Rattle.semantics.specs.Views.{memory_of};
 
@@ -145,11 +145,11 @@ fn number_in(memory: &Memory<'_>, n: usize, at: Location) -> Result<u64, Reason>
 }
 
 /// Returns the number in the `n` bytes that `base` with a displacement reaches.
-#[tactic(auto, unfolding(crate::specs::Loading::read_number))]
+#[tactic(auto, unfolding(crate::specs::Loading::reached_number))]
 fn number_at(memory: &Memory<'_>, base: Value, displacement: i16, n: usize) -> Result<u64, Reason>
     requires some { 1 ≤ n }
     requires few { n ≤ 8 }
-    ensures { result ≡ read_number (memory_of memory.now) base displacement n }
+    ensures { result ≡ reached_number (memory_of memory.now) base displacement n }
 {
     let at = locate(memory, base, displacement, n)?;
     number_in(memory, n, at)

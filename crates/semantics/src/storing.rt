@@ -3,7 +3,7 @@
 ghost use Rattle.std.specs.Prelude.{◌≡◌, ◌≤◌, ◌+◌, ℕ, Some, map, take, length};
 ghost use Rattle.insn.specs.Codes.{byte_count};
 ghost use Rattle.insn.specs.Endian.{little_bytes};
-ghost use Rattle.semantics.specs.Access.{put, written_at, IsInside};
+ghost use Rattle.semantics.specs.Access.{overlay, written_at, IsInside};
 ghost use Rattle.semantics.specs.Views.{memory_with};
 
 use crate::access::Location;
@@ -13,7 +13,7 @@ use insn::{Size, write_little_endian};
 #[tactic(auto, using(crate::specs::AccessLaws::put_none))]
 pub fn put_cells(cells: &mut [Option<u8>], index: usize, bytes: &[u8])
     requires { index + length bytes.now ≤ length cells.old }
-    ensures { cells.new ≡ put index (map Some bytes.now) cells.old }
+    ensures { cells.new ≡ overlay index (map Some bytes.now) cells.old }
 {
     for i in 0..bytes.len() {
         cells[index + i] = Some(bytes[i]);
@@ -24,7 +24,7 @@ pub fn put_cells(cells: &mut [Option<u8>], index: usize, bytes: &[u8])
 fn put_number(bytes: &mut [u8], index: usize, n: usize, value: u64)
     requires few { n ≤ 8 }
     requires inside { index + n ≤ length bytes.old }
-    ensures { bytes.new ≡ put index (little_bytes n value) bytes.old }
+    ensures { bytes.new ≡ overlay index (little_bytes n value) bytes.old }
 {
     write_little_endian(&mut bytes[index..index + n], value);
 }

@@ -10,14 +10,14 @@ use Rattle.machine.specs.Contents.{room_of, with_room}
 use Rattle.machine.specs.FrameLaws.{room_written}
 use Rattle.semantics.specs.declared.limits.TheConstants.{MAX_DATAGRAM}
 use Rattle.relay.specs.ByRules.{by_rules}
-use Rattle.relay.specs.Relays.{Contents, state_of}
+use Rattle.relay.specs.Relays.{RelayContents, state_of}
 use Rattle.relay.specs.Replays.{system_of}
 use Rattle.relay.specs.Shipped.{AreShipped}
 use Rattle.relay.specs.Steps as relay
 use Rattle.relay.specs.Steps.{HasStepped}
-use Rattle.relay.specs.Systems.{Outcome, step}
+use Rattle.relay.specs.Systems.{SystemOutcome, system_step}
 use Rattle.serving.specs.Calls.{Call, Received, HasReported}
-use Rattle.serving.specs.Serving.{IsServed, HasSent, IsSent, send_of, result_of, outcome_of, ruled_outcome_of, source_at}
+use Rattle.serving.specs.Serving.{IsServed, HasSent, IsSent, send_of, result_of_send, outcome_of_bytes, ruled_outcome_of_bytes, source_at}
 use Rattle.serving.specs.declared.link.LinkFault.{LinkFault}
 use Rattle.serving.specs.declared.link.Place.{Place}
 use Rattle.serving.specs.declared.serving.ServeError.{ServeError}
@@ -31,27 +31,27 @@ reported_more (Some calls) (Some called) after first more f m =
 
 -- an answer that was sent
 pub is_sent : (answer : Option Sending) (sending : Sending) (before after : Option (List Call)) (result : Result Bool ServeError) → answer ≡ Some sending
-    → ((called : Result (Unit {0}) LinkFault) × HasReported before after (send_of sending called ∷ []) × (result ≡ result_of called)) → IsSent answer before after result
+    → ((called : Result (Unit {0}) LinkFault) × HasReported before after (send_of sending called ∷ []) × (result ≡ result_of_send called)) → IsSent answer before after result
 is_sent answer sending before after result is (called, reported, same) =
     subst (λ o. IsSent o before after result) (sym is) (record { sends = send_of sending called ∷ []; reported = reported; sent = (called, refl, same) })
 
-module _ (place : Place) (now : ℕ) (tx : List ℕ) (old : Contents) (buffer : List ℕ) (n : ℕ) (from : Addr)
+module _ (place : Place) (now : ℕ) (tx : List ℕ) (old : RelayContents) (buffer : List ℕ) (n : ℕ) (from : Addr)
     (short : n ≤ MAX_DATAGRAM) (had : length (room_of old.frame) ≡ MAX_DATAGRAM) (has : length buffer ≡ MAX_DATAGRAM)
     (source : Source) (source_is : source ≡ source_at place from) where
   -- the relay with what was received in its room
-  abbrev pub with_buffer : Contents
+  abbrev pub with_buffer : RelayContents
   with_buffer = record old { frame = with_room old.frame buffer }
 
   abbrev pub given : Source → Meta
   given source = record { now = now; tx = tx; from = source }
 
-  outcome_is : relay.outcome_of with_buffer (given source) n ≡ outcome_of old (given (source_at place from)) (take n buffer)
-  outcome_is = λ i. step (system_of old) old.config (state_of old) (Datagram (given (source_is i)) (take n (room_written old.frame buffer had has i)))
+  outcome_is : relay.outcome_of with_buffer (given source) n ≡ outcome_of_bytes old (given (source_at place from)) (take n buffer)
+  outcome_is = λ i. system_step (system_of old) old.config (state_of old) (Datagram (given (source_is i)) (take n (room_written old.frame buffer had has i)))
 
-  ruled_is : relay.ruled_outcome_of with_buffer (given source) n ≡ ruled_outcome_of old (given (source_at place from)) (take n buffer)
-  ruled_is = λ i. step by_rules old.config (state_of old) (Datagram (given (source_is i)) (take n (room_written old.frame buffer had has i)))
+  ruled_is : relay.ruled_outcome_of with_buffer (given source) n ≡ ruled_outcome_of_bytes old (given (source_at place from)) (take n buffer)
+  ruled_is = λ i. system_step by_rules old.config (state_of old) (Datagram (given (source_is i)) (take n (room_written old.frame buffer had has i)))
 
-  pub handles : (new : Contents) (answer : Option Sending) (before between after : Option (List Call)) (received : Result (Option (ℕ × Addr)) LinkFault) (result : Result Bool ServeError)
+  pub handles : (new : RelayContents) (answer : Option Sending) (before between after : Option (List Call)) (received : Result (Option (ℕ × Addr)) LinkFault) (result : Result Bool ServeError)
       → received ≡ Ok (Some (n, from)) → HasReported before between (Received place buffer received ∷ [])
       → HasStepped with_buffer new (relay.outcome_of with_buffer (given source) n) → answer ≡ (relay.outcome_of with_buffer (given source) n).answer → IsSent answer between after result
       → (AreShipped old.programs → relay.outcome_of with_buffer (given source) n ≡ relay.ruled_outcome_of with_buffer (given source) n)
@@ -59,13 +59,14 @@ module _ (place : Place) (now : ℕ) (tx : List ℕ) (old : Contents) (buffer : 
   handles new answer before between after received result is reported stepped answers sent rules = record {
     received = Ok (Some (n, from));
     buffer = buffer;
+    room = has;
     sends = sent.sends;
     reported = reported_more before between after (Received place buffer (Ok (Some (n, from))) ∷ []) sent.sends (subst (λ r. HasReported before between (Received place buffer r ∷ [])) is reported) sent.reported;
     served = inl (
       short,
       record {
-        stepped = record { state = stepped.state ∙ ap (λ (o : Outcome). o.state) outcome_is; config = stepped.config; programs = stepped.programs };
-        sent = subst (λ a. HasSent a sent.sends result) (answers ∙ ap (λ (o : Outcome). o.answer) outcome_is) sent.sent;
+        stepped = record { state = stepped.state ∙ ap (λ (o : SystemOutcome). o.state) outcome_is; config = stepped.config; programs = stepped.programs };
+        sent = subst (λ a. HasSent a sent.sends result) (answers ∙ ap (λ (o : SystemOutcome). o.answer) outcome_is) sent.sent;
         rules = λ are. sym outcome_is ∙ rules are ∙ ruled_is;
       },
     );

@@ -1,16 +1,16 @@
 -- Meaning. One turn of a server: one receive, one step of the relay on what came, and one send of its answer.
-use Rattle.std.specs.Prelude.{◌≡◌, ℕ, ◌<◌, ◌≤◌, ◌⊎◌, List, [], ◌∷◌, take, Bool, true, false, Option, None, Some, Result, Ok, Err}
+use Rattle.std.specs.Prelude.{◌≡◌, ℕ, ◌<◌, ◌≤◌, ◌⊎◌, List, [], ◌∷◌, length, take, Bool, true, false, Option, None, Some, Result, Ok, Err}
 use Rattle.attributes.specs.declared.address.Addr.{Addr}
 use Rattle.events.specs.Events.{Sending, ToPeer, ToClient, Datagram}
 use Rattle.events.specs.declared.meta.Meta.{Meta}
 use Rattle.events.specs.declared.meta.Source.{Source}
 use Rattle.events.specs.declared.meta.Source.TheVariants as source
 use Rattle.relay.specs.ByRules.{by_rules}
-use Rattle.relay.specs.Relays.{Contents, state_of}
+use Rattle.relay.specs.Relays.{RelayContents, state_of}
 use Rattle.relay.specs.Replays.{system_of}
 use Rattle.relay.specs.Shipped.{AreShipped}
 use Rattle.relay.specs.Steps.{HasStepped}
-use Rattle.relay.specs.Systems.{Outcome, step}
+use Rattle.relay.specs.Systems.{SystemOutcome, system_step}
 use Rattle.semantics.specs.declared.limits.TheConstants.{MAX_DATAGRAM}
 use Rattle.serving.specs.Calls.{Call, Received, Sent, HasReported}
 use Rattle.serving.specs.declared.link.LinkFault.{LinkFault}
@@ -31,15 +31,15 @@ abbrev pub send_of : Sending → Result (Unit {0}) LinkFault → Call
 send_of (ToPeer slot peer bytes) answer = Sent (place.Slot slot) peer bytes answer
 send_of (ToClient client bytes) answer = Sent place.Client client bytes answer
 
-abbrev pub result_of : Result (Unit {0}) LinkFault → Result Bool ServeError
-result_of (Ok sent) = Ok true
-result_of (Err fault) = Err error.Send
+abbrev pub result_of_send : Result (Unit {0}) LinkFault → Result Bool ServeError
+result_of_send (Ok sent) = Ok true
+result_of_send (Err fault) = Err error.Send
 
 -- where there is no answer, nothing is sent; an answer is sent once
 abbrev pub HasSent : Option Sending → List Call → Result Bool ServeError → Type 0
 HasSent None sends result = (sends ≡ []) × (result ≡ Ok true)
 HasSent (Some sending) sends result =
-    (answer : Result (Unit {0}) LinkFault) × (sends ≡ send_of sending answer ∷ []) × (result ≡ result_of answer)
+    (answer : Result (Unit {0}) LinkFault) × (sends ≡ send_of sending answer ∷ []) × (result ≡ result_of_send answer)
 
 -- the same, as the link reports it
 pub record IsSent (answer : Option Sending) (before after : Option (List Call)) (result : Result Bool ServeError) : Type 0 where
@@ -50,38 +50,39 @@ pub record IsSent (answer : Option Sending) (before after : Option (List Call)) 
 -- ---- what was received
 
 -- rows, greatest moment, nonce, configuration and programs are as before, and nothing is sent
-pub record IsUntouched (old new : Contents) (sends : List Call) : Type 0 where
+pub record IsUntouched (old new : RelayContents) (sends : List Call) : Type 0 where
   pub state : state_of new ≡ state_of old
   pub config : new.config ≡ old.config
   pub programs : new.programs ≡ old.programs
   pub unsent : sends ≡ []
 
 -- what the relay's system makes of a datagram
-abbrev pub outcome_of : Contents → Meta → List ℕ → Outcome
-outcome_of r given bytes = step (system_of r) r.config (state_of r) (Datagram given bytes)
+abbrev pub outcome_of_bytes : RelayContents → Meta → List ℕ → SystemOutcome
+outcome_of_bytes r given bytes = system_step (system_of r) r.config (state_of r) (Datagram given bytes)
 
 -- what the rules make of it
-abbrev pub ruled_outcome_of : Contents → Meta → List ℕ → Outcome
-ruled_outcome_of r given bytes = step by_rules r.config (state_of r) (Datagram given bytes)
+abbrev pub ruled_outcome_of_bytes : RelayContents → Meta → List ℕ → SystemOutcome
+ruled_outcome_of_bytes r given bytes = system_step by_rules r.config (state_of r) (Datagram given bytes)
 
 -- the relay has stepped, and the answer was sent; with the shipped programs these are the rules'
-pub record HasHandled (old new : Contents) (given : Meta) (bytes : List ℕ) (sends : List Call) (result : Result Bool ServeError) : Type 0 where
-  pub stepped : HasStepped old new (outcome_of old given bytes)
-  pub sent : HasSent (outcome_of old given bytes).answer sends result
-  pub rules : AreShipped old.programs → outcome_of old given bytes ≡ ruled_outcome_of old given bytes
+pub record HasHandled (old new : RelayContents) (given : Meta) (bytes : List ℕ) (sends : List Call) (result : Result Bool ServeError) : Type 0 where
+  pub stepped : HasStepped old new (outcome_of_bytes old given bytes)
+  pub sent : HasSent (outcome_of_bytes old given bytes).answer sends result
+  pub rules : AreShipped old.programs → outcome_of_bytes old given bytes ≡ ruled_outcome_of_bytes old given bytes
 
 -- a fault, nothing, or a datagram; one longer than a datagram may be is a fault
-abbrev pub HasServed : Contents → Contents → Place → ℕ → List ℕ → List ℕ → Result (Option (ℕ × Addr)) LinkFault → List Call → Result Bool ServeError → Type 0
+abbrev pub HasServed : RelayContents → RelayContents → Place → ℕ → List ℕ → List ℕ → Result (Option (ℕ × Addr)) LinkFault → List Call → Result Bool ServeError → Type 0
 HasServed old new place now tx buffer (Err fault) sends result = IsUntouched old new sends × (result ≡ Err error.Receive)
 HasServed old new place now tx buffer (Ok None) sends result = IsUntouched old new sends × (result ≡ Ok false)
 HasServed old new place now tx buffer (Ok (Some (n, from))) sends result =
     ((n ≤ MAX_DATAGRAM) × HasHandled old new (record { now = now; tx = tx; from = source_at place from }) (take n buffer) sends result)
     ⊎ ((MAX_DATAGRAM < n) × IsUntouched old new sends × (result ≡ Err error.Receive))
 
--- a turn at a place: one receive there, and what follows from its answer
-pub record IsServed (place : Place) (now : ℕ) (tx : List ℕ) (old new : Contents) (before after : Option (List Call)) (result : Result Bool ServeError) : Type 0 where
+-- a turn at a place: one receive there, into the whole room of the relay, and what follows from its answer
+pub record IsServed (place : Place) (now : ℕ) (tx : List ℕ) (old new : RelayContents) (before after : Option (List Call)) (result : Result Bool ServeError) : Type 0 where
   pub received : Result (Option (ℕ × Addr)) LinkFault
   pub buffer : List ℕ
+  pub room : length buffer ≡ MAX_DATAGRAM
   pub sends : List Call
   pub reported : HasReported before after (Received place buffer received ∷ sends)
   pub served : HasServed old new place now tx buffer received sends result

@@ -2,7 +2,7 @@
 
 ghost use Rattle.std.specs.Prelude.{◌≡◌, [], ◌∷◌, Result};
 ghost use Rattle.events.specs.Actions.{sending_of};
-ghost use Rattle.serving.specs.Serving.{IsServed, IsSent, result_of, source_at};
+ghost use Rattle.serving.specs.Serving.{IsServed, IsSent, result_of_send, source_at};
 ghost use Rattle.serving.specs.Calls.{Sent, HasReported};
 ghost use Rattle.serving.specs.declared.link.LinkFault.{LinkFault};
 
@@ -45,7 +45,7 @@ fn send_from<L: Link>(
     bytes: &[u8],
 ) -> Result<bool, ServeError>
     ensures { (answer : Result (Unit {0}) LinkFault)
-        × HasReported (L.calls link.old) (L.calls link.new) (Sent place to bytes.now answer ∷ []) × (result ≡ result_of answer) }
+        × HasReported (L.calls link.old) (L.calls link.new) (Sent place to bytes.now answer ∷ []) × (result ≡ result_of_send answer) }
 {
     match link.send(place, to, bytes) {
         Ok(()) => Ok(true),

@@ -33,14 +33,14 @@ pub record IsConfigOf (s : Setup) (users : List User) (c : Config) : Type 0 wher
 abbrev pub IsProgram : Option (Bor (List ℕ)) → List Insn → Type 0
 IsProgram bytes code = IsSomeAnd bytes (λ b. IsLoaded code b.now)
 
-abbrev pub IsMemory : LoadError → Type 0
-IsMemory (Decode e) = e ≡ decode.Memory
-IsMemory (Verify e) = (slot : ℕ) × (e ≡ verify.Memory slot)
+abbrev pub IsMemoryRefusal : LoadError → Type 0
+IsMemoryRefusal (Decode e) = e ≡ decode.Memory
+IsMemoryRefusal (Verify e) = (slot : ℕ) × (e ≡ verify.Memory slot)
 
 -- why no program is loaded: the bytes weren't read, or are refused, not for want of memory
 abbrev pub IsProgramFault : Option (Bor (List ℕ)) → ProgramError → Type 0
 IsProgramFault bytes program.File = bytes ≡ None
-IsProgramFault bytes (program.Refused e) = IsSomeAnd bytes (λ b. IsLoadRefusal b.now e) × ¬ (IsMemory e)
+IsProgramFault bytes (program.Refused e) = IsSomeAnd bytes (λ b. IsLoadRefusal b.now e) × ¬ (IsMemoryRefusal e)
 IsProgramFault bytes program.Memory = Unit {0}
 
 -- the bytes were read, and encode a safe program
@@ -48,10 +48,10 @@ abbrev pub IsLoadable : Option (Bor (List ℕ)) → Type 0
 IsLoadable bytes = (code : List Insn) × IsProgram bytes code
 
 -- the fault is the first: of the nonce's length, the client's program, the peers' program, and the fields
-abbrev pub IsFault : Setup → List User → SetupError → Type 0
-IsFault s users setup.Nonce = MOST_NONCE < length s.nonce.now
-IsFault s users (setup.Client e) = (length s.nonce.now ≤ MOST_NONCE) × IsProgramFault s.client e
-IsFault s users (setup.Peer e) = (length s.nonce.now ≤ MOST_NONCE) × (IsLoadable s.client × IsProgramFault s.peer e)
-IsFault s users (setup.Field field) = (length s.nonce.now ≤ MOST_NONCE) × (IsLoadable s.client × (IsLoadable s.peer
+abbrev pub IsSetupFault : Setup → List User → SetupError → Type 0
+IsSetupFault s users setup.Nonce = MOST_NONCE < length s.nonce.now
+IsSetupFault s users (setup.Client e) = (length s.nonce.now ≤ MOST_NONCE) × IsProgramFault s.client e
+IsSetupFault s users (setup.Peer e) = (length s.nonce.now ≤ MOST_NONCE) × (IsLoadable s.client × IsProgramFault s.peer e)
+IsSetupFault s users (setup.Field field) = (length s.nonce.now ≤ MOST_NONCE) × (IsLoadable s.client × (IsLoadable s.peer
     × ((c : Config) × (IsConfigOf s users c × (fault c ≡ Some field)))))
-IsFault s users setup.Memory = Unit {0}
+IsSetupFault s users setup.Memory = Unit {0}

@@ -4,7 +4,7 @@ ghost use Rattle.std.specs.Prelude.{◌≡◌, ◌<◌, ◌≤◌, length, IfOk,
 ghost use Rattle.control.specs.Configs.{fault};
 ghost use Rattle.relay.specs.Relays.{state_of};
 ghost use Rattle.relay.specs.Systems.{first};
-ghost use Rattle.setup.specs.Setups.{IsConfigOf, IsFault, IsProgram, IsProgramFault, MOST_NONCE};
+ghost use Rattle.setup.specs.Setups.{IsConfigOf, IsSetupFault, IsProgram, IsProgramFault, MOST_NONCE};
 ghost use Rattle.setup.specs.declared.error.SetupError.TheVariants as errors;
 
 use crate::error::{ProgramError, SetupError};
@@ -79,7 +79,7 @@ pub fn relay_of(alloc: Global, setup: &Setup<'_>, users: Vec<User>) -> Result<Re
     ensures config { IfOk result (λ r. IsConfigOf setup.now users.items r.config) }
     ensures client { IfOk result (λ r. IsProgram setup.now.client r.programs.client) }
     ensures peer { IfOk result (λ r. IsProgram setup.now.peer r.programs.peer) }
-    ensures refused { IfErr result (IsFault setup.now users.items) }
+    ensures refused { IfErr result (IsSetupFault setup.now users.items) }
 {
     let nonce = nonce(setup.nonce)?;
     let client = program(alloc, setup.client).map_err(SetupError::Client)?;

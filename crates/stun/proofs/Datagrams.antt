@@ -5,8 +5,8 @@ use Rattle.std.proofs.lemmas.List.{length-append, length-drop, length-take-le, t
 use Rattle.byteorder.specs.Endian.{big_bytes, big_number}
 use Rattle.byteorder.specs.Numbers.{big_number-reads_back}
 use Rattle.stun.specs.Registry.{magic_cookie}
-use Rattle.stun.specs.Messages.{Padded, IsPadded, Parts, AreParts, padding_count, attributes_bytes, header, parts_bytes}
-use Rattle.stun.specs.Refusals.{number_at, HasLength, IsRefused}
+use Rattle.stun.specs.Messages.{PaddedAttribute, IsPadded, Parts, AreParts, padding_count, attributes_bytes, header, parts_bytes}
+use Rattle.stun.specs.Refusals.{number_at, HasLength, IsRefusedMessage}
 use Rattle.stun.specs.Reading.{attributes_in, parts_in, AreAttributes, HasHeader, EncodesParts}
 use Rattle.stun.specs.declared.refusal.StunError.{StunError}
 use Rattle.stun.specs.declared.refusal.StunError.TheVariants.{TooShort, NotStun, BadCookie, BadLength, AttributeOverrun}
@@ -84,7 +84,7 @@ parts_are bytes p are spelled =
 fours_more : (n k m : ℕ) → m % 4 ≡ 0 → k ≡ 4 + n + padding_count n + m → k % 4 ≡ 0
 fours_more n k m e is = omega arith
 
-pub fours : (list : List Padded) → AllByRecursion IsPadded list → length (attributes_bytes list) % 4 ≡ 0
+pub fours : (list : List PaddedAttribute) → AllByRecursion IsPadded list → length (attributes_bytes list) % 4 ≡ 0
 fours [] all = refl
 fours (a ∷ list) all =
     fours_more (length a.value) (length (attributes_bytes (a ∷ list))) (length (attributes_bytes list)) (fours list all.1) (length_of_attribute a (attributes_bytes list) all.0)
@@ -115,25 +115,25 @@ accepted bytes body has there are = record { header_is = has; attributes = subst
 
 -- ---- refusals
 
-refused_is_not_accepted : (bytes : List ℕ) (e : StunError) → IsRefused bytes e → IsAccepted bytes → ⊥
+refused_is_not_accepted : (bytes : List ℕ) (e : StunError) → IsRefusedMessage bytes e → IsAccepted bytes → ⊥
 refused_is_not_accepted bytes TooShort refused is = omega (arith, refused, is.header_is.long)
 refused_is_not_accepted bytes NotStun refused is = omega (arith, refused.1, is.header_is.kind)
 refused_is_not_accepted bytes BadCookie refused is = refused.2 is.header_is.cookie
 refused_is_not_accepted bytes BadLength refused is = refused.3 is.header_is.has_length
 refused_is_not_accepted bytes AttributeOverrun refused is = refused.4 (attributes_in (drop 20 bytes)) is.attributes.padded is.attributes.spelled
 
-pub refused_is_no_message : (bytes : List ℕ) (e : StunError) (p : Parts) → IsRefused bytes e → AreParts p → bytes ≡ parts_bytes p → ⊥
+pub refused_is_no_message : (bytes : List ℕ) (e : StunError) (p : Parts) → IsRefusedMessage bytes e → AreParts p → bytes ≡ parts_bytes p → ⊥
 refused_is_no_message bytes e p refused are spelled =
     refused_is_not_accepted bytes e refused (subst IsAccepted (sym spelled) (parts_are_accepted p are))
 
 pub parts_unique : (p q : Parts) → AreParts p → AreParts q → parts_bytes p ≡ parts_bytes q → p ≡ q
 parts_unique p q are other e = sym (parts_are (parts_bytes p) p are refl) ∙ parts_are (parts_bytes p) q other e
 
-pub overrun_is_refused : (bytes : List ℕ) → 20 ≤ length bytes → number_at 2 0 bytes < 0x4000 → number_at 4 4 bytes ≡ magic_cookie → HasLength bytes → (AreAttributes (drop 20 bytes) → ⊥) → IsRefused bytes AttributeOverrun
+pub overrun_is_refused : (bytes : List ℕ) → 20 ≤ length bytes → number_at 2 0 bytes < 0x4000 → number_at 4 4 bytes ≡ magic_cookie → HasLength bytes → (AreAttributes (drop 20 bytes) → ⊥) → IsRefusedMessage bytes AttributeOverrun
 overrun_is_refused bytes long kind cookie has none =
     (long, kind, cookie, has, λ list all spelled. none (are_attributes_of (drop 20 bytes) list all spelled))
 
-pub refusal_unique : (bytes : List ℕ) (d e : StunError) → IsRefused bytes d → IsRefused bytes e → d ≡ e
+pub refusal_unique : (bytes : List ℕ) (d e : StunError) → IsRefusedMessage bytes d → IsRefusedMessage bytes e → d ≡ e
 refusal_unique bytes TooShort TooShort p q = refl
 refusal_unique bytes TooShort NotStun p q = absurd (omega (arith, p, q.0))
 refusal_unique bytes TooShort BadCookie p q = absurd (omega (arith, p, q.0))
@@ -160,6 +160,6 @@ refusal_unique bytes AttributeOverrun BadCookie p q = absurd (q.2 p.2)
 refusal_unique bytes AttributeOverrun BadLength p q = absurd (q.3 p.3)
 refusal_unique bytes AttributeOverrun AttributeOverrun p q = refl
 
-pub overrun : (bytes body : List ℕ) → HasHeader bytes → body ≡ drop 20 bytes → (AreAttributes body → ⊥) → IsRefused bytes AttributeOverrun
+pub overrun : (bytes body : List ℕ) → HasHeader bytes → body ≡ drop 20 bytes → (AreAttributes body → ⊥) → IsRefusedMessage bytes AttributeOverrun
 overrun bytes body has there none =
     overrun_is_refused bytes has.long has.kind has.cookie has.has_length (λ are. none (subst AreAttributes (sym there) are))

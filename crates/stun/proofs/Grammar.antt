@@ -4,7 +4,7 @@ use Rattle.std.specs.List.{AllByRecursion}
 use Rattle.std.proofs.lemmas.List.{length-append, length-drop, length-take-le, take-append-drop, drop-drop, nil_from_length, append-nil}
 use Rattle.byteorder.specs.Endian.{big_bytes, big_number}
 use Rattle.byteorder.specs.Numbers.{big_number-reads_back}
-use Rattle.stun.specs.Messages.{Padded, IsPadded, padding_count, attribute_bytes, attributes_bytes}
+use Rattle.stun.specs.Messages.{PaddedAttribute, IsPadded, padding_count, attribute_bytes, attributes_bytes}
 use Rattle.stun.specs.Refusals.{number_at}
 use Rattle.stun.specs.Reading.{first_padded, after_first, first_attributes, attributes_in, BeginsWith, AreAttributes}
 
@@ -28,11 +28,11 @@ pieces v p r n m en em =
     let third = piece_drop (v ++ p) r (n + m) (omega (arith, en, em, length-append v p)) in
     (first, second, third)
 
-pub record IsFirst (a : Padded) (rest bytes : List ℕ) : Type 0 where
+pub record IsFirst (a : PaddedAttribute) (rest bytes : List ℕ) : Type 0 where
   pub padded : first_padded bytes ≡ a
   pub after : after_first bytes ≡ rest
 
-pub first_is : (a : Padded) (r : List ℕ) → IsPadded a → IsFirst a r (attribute_bytes a ++ r)
+pub first_is : (a : PaddedAttribute) (r : List ℕ) → IsPadded a → IsFirst a r (attribute_bytes a ++ r)
 first_is a r is =
     let bytes = attribute_bytes a ++ r in
     let kind_is : number_at 2 0 bytes ≡ a.kind = big_number-reads_back 2 a.kind ((big_bytes 2 (length a.value) ++ a.value ++ a.padding) ++ r) (omega (arith, is.kind)) in
@@ -125,10 +125,10 @@ begins_with bytes value rest kind n m long small kind_is n_is m_is room value_is
       value_is = value_is ∙ ap (λ (l : ℕ). take l (drop 4 bytes)) n_is;
     }
 
-pub length_of_attribute : (a : Padded) (r : List ℕ) → IsPadded a → length (attribute_bytes a ++ r) ≡ 4 + length a.value + padding_count (length a.value) + length r
+pub length_of_attribute : (a : PaddedAttribute) (r : List ℕ) → IsPadded a → length (attribute_bytes a ++ r) ≡ 4 + length a.value + padding_count (length a.value) + length r
 length_of_attribute a r is = omega (arith, length-append (a.value ++ a.padding) r, length-append a.value a.padding, is.padding)
 
-pub overruns : (bytes : List ℕ) (a : Padded) (r : List ℕ) (n m : ℕ) → IsPadded a → bytes ≡ attribute_bytes a ++ r → n ≡ number_at 2 2 bytes → m ≡ n + padding_count n → length (drop 4 bytes) < m → ⊥
+pub overruns : (bytes : List ℕ) (a : PaddedAttribute) (r : List ℕ) (n m : ℕ) → IsPadded a → bytes ≡ attribute_bytes a ++ r → n ≡ number_at 2 2 bytes → m ≡ n + padding_count n → length (drop 4 bytes) < m → ⊥
 overruns bytes a r n m is spelled n_is m_is short =
     let length_is : number_at 2 2 (attribute_bytes a ++ r) ≡ length a.value = big_number-reads_back 2 (length a.value) ((a.value ++ a.padding) ++ r) (omega (arith, is.value)) in
     let here : n ≡ length a.value = n_is ∙ ap (number_at 2 2) spelled ∙ length_is in
@@ -137,7 +137,7 @@ overruns bytes a r n m is spelled n_is m_is short =
 
 -- ---- all attributes
 
-attributes_are_from : (n : ℕ) (list : List Padded) → AllByRecursion IsPadded list → length (attributes_bytes list) ≤ n → first_attributes n (attributes_bytes list) ≡ list
+attributes_are_from : (n : ℕ) (list : List PaddedAttribute) → AllByRecursion IsPadded list → length (attributes_bytes list) ≤ n → first_attributes n (attributes_bytes list) ≡ list
 attributes_are_from zero [] all few = refl
 attributes_are_from (suc n) [] all few = refl
 attributes_are_from zero (a ∷ list) all few = absurd (omega (arith, few, length_of_attribute a (attributes_bytes list) all.0))
@@ -147,10 +147,10 @@ attributes_are_from (suc n) (a ∷ list) all few =
     λ i. first.padded i ∷ rest i
 
 -- the attributes of their bytes
-pub attributes_are : (bytes : List ℕ) (list : List Padded) → AllByRecursion IsPadded list → bytes ≡ attributes_bytes list → attributes_in bytes ≡ list
+pub attributes_are : (bytes : List ℕ) (list : List PaddedAttribute) → AllByRecursion IsPadded list → bytes ≡ attributes_bytes list → attributes_in bytes ≡ list
 attributes_are bytes list all spelled = ap attributes_in spelled ∙ attributes_are_from (length (attributes_bytes list)) list all (omega arith)
 
-pub are_attributes_of : (bytes : List ℕ) (list : List Padded) → AllByRecursion IsPadded list → bytes ≡ attributes_bytes list → AreAttributes bytes
+pub are_attributes_of : (bytes : List ℕ) (list : List PaddedAttribute) → AllByRecursion IsPadded list → bytes ≡ attributes_bytes list → AreAttributes bytes
 are_attributes_of bytes list all spelled =
     let are = sym (attributes_are bytes list all spelled) in
     record {
@@ -165,7 +165,7 @@ no_attributes bytes none = are_attributes_of bytes [] tt (nil_from_length bytes 
 not_nothing : (bytes : List ℕ) (kind : ℕ) (value rest : List ℕ) → BeginsWith bytes kind value rest → bytes ≡ [] → ⊥
 not_nothing bytes kind value rest first nothing = omega (arith, ap length nothing, ap length first.spelled, length_of_attribute (first_padded bytes) rest first.padded)
 
-after_one : (bytes : List ℕ) (kind : ℕ) (value rest : List ℕ) → BeginsWith bytes kind value rest → (list : List Padded) → AllByRecursion IsPadded list → bytes ≡ attributes_bytes list → AreAttributes rest
+after_one : (bytes : List ℕ) (kind : ℕ) (value rest : List ℕ) → BeginsWith bytes kind value rest → (list : List PaddedAttribute) → AllByRecursion IsPadded list → bytes ≡ attributes_bytes list → AreAttributes rest
 after_one bytes kind value rest first [] all spelled = absurd (not_nothing bytes kind value rest first spelled)
 after_one bytes kind value rest first (a ∷ list) all spelled =
     let one = first_is a (attributes_bytes list) all.0 in
@@ -185,18 +185,18 @@ attributes_split bytes kind value rest first are =
 
 -- ---- lists of attributes
 
-pub bytes_append : (front back : List Padded) → attributes_bytes (front ++ back) ≡ attributes_bytes front ++ attributes_bytes back
+pub bytes_append : (front back : List PaddedAttribute) → attributes_bytes (front ++ back) ≡ attributes_bytes front ++ attributes_bytes back
 bytes_append [] back = refl
 bytes_append (a ∷ front) back = ap (λ b. attribute_bytes a ++ b) (bytes_append front back) ∙ sym (append_assoc (attribute_bytes a) (attributes_bytes front) (attributes_bytes back))
 
-pub push_bytes : (front : List Padded) (a : Padded) → attributes_bytes (front ++ a ∷ []) ≡ attributes_bytes front ++ attribute_bytes a
+pub push_bytes : (front : List PaddedAttribute) (a : PaddedAttribute) → attributes_bytes (front ++ a ∷ []) ≡ attributes_bytes front ++ attribute_bytes a
 push_bytes front a = bytes_append front (a ∷ []) ∙ ap (λ b. attributes_bytes front ++ b) (append-nil (attribute_bytes a))
 
-pub push_all : (front : List Padded) (a : Padded) → AllByRecursion IsPadded front → IsPadded a → AllByRecursion IsPadded (front ++ a ∷ [])
+pub push_all : (front : List PaddedAttribute) (a : PaddedAttribute) → AllByRecursion IsPadded front → IsPadded a → AllByRecursion IsPadded (front ++ a ∷ [])
 push_all [] a all is = (is, tt)
 push_all (b ∷ front) a all is = (all.0, push_all front a all.1 is)
 
-pub none_begin : (bytes : List ℕ) → 0 < length bytes → ((a : Padded) (r : List ℕ) → IsPadded a → bytes ≡ attribute_bytes a ++ r → ⊥)
-    → (list : List Padded) → AllByRecursion IsPadded list → bytes ≡ attributes_bytes list → ⊥
+pub none_begin : (bytes : List ℕ) → 0 < length bytes → ((a : PaddedAttribute) (r : List ℕ) → IsPadded a → bytes ≡ attribute_bytes a ++ r → ⊥)
+    → (list : List PaddedAttribute) → AllByRecursion IsPadded list → bytes ≡ attributes_bytes list → ⊥
 none_begin bytes some none [] all spelled = omega (arith, ap length spelled)
 none_begin bytes some none (a ∷ list) all spelled = none a (attributes_bytes list) all.0 spelled

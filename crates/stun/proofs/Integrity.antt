@@ -7,7 +7,7 @@ use Rattle.std.specs.List.{AllByRecursion}
 use Rattle.std.proofs.lemmas.Bool.{eq-eqb, ne_eqb}
 use Rattle.std.proofs.lemmas.List.{length-append, append-nil, nil_from_length}
 use Rattle.stun.specs.Registry.{message_integrity}
-use Rattle.stun.specs.Messages.{Padded, IsPadded, Parts, AreParts, attribute_of, attribute_bytes, attributes_bytes, header, up_to_integrity, before_first, before_integrity, message_of, parts_bytes, Message, IsMessage}
+use Rattle.stun.specs.Messages.{PaddedAttribute, IsPadded, Parts, AreParts, attribute_of, attribute_bytes, attributes_bytes, header, up_to_integrity, before_first, before_integrity, message_of, parts_bytes, Message, IsMessage}
 use Rattle.stun.specs.Attributes.{attributes_left}
 use Rattle.stun.specs.Reading.{first_padded, attributes_in, parts_in, integrity_at, BeginsWith, AreAttributes, EncodesParts, IsRead}
 use Rattle.stun.proofs.Grammar.{attributes_split, attributes_tail, none_begin, attributes_are, are_attributes_of, bytes_append, push_bytes, push_all, piece_take}
@@ -15,11 +15,11 @@ use Rattle.stun.proofs.Datagrams.{parts_unique}
 
 -- ---- the iterator
 
-no_first : (bytes : List ℕ) (list : List Padded) → AllByRecursion IsPadded list → bytes ≡ attributes_bytes list → ((a : Padded) (r : List ℕ) → IsPadded a → bytes ≡ attribute_bytes a ++ r → ⊥) → list ≡ []
+no_first : (bytes : List ℕ) (list : List PaddedAttribute) → AllByRecursion IsPadded list → bytes ≡ attributes_bytes list → ((a : PaddedAttribute) (r : List ℕ) → IsPadded a → bytes ≡ attribute_bytes a ++ r → ⊥) → list ≡ []
 no_first bytes [] all spelled none = refl
 no_first bytes (a ∷ list) all spelled none = absurd (none a (attributes_bytes list) all.0 spelled)
 
-pub nothing_left : (bytes : List ℕ) → AreAttributes bytes → ((a : Padded) (r : List ℕ) → IsPadded a → bytes ≡ attribute_bytes a ++ r → ⊥) → attributes_in bytes ≡ []
+pub nothing_left : (bytes : List ℕ) → AreAttributes bytes → ((a : PaddedAttribute) (r : List ℕ) → IsPadded a → bytes ≡ attribute_bytes a ++ r → ⊥) → attributes_in bytes ≡ []
 nothing_left bytes are none = no_first bytes (attributes_in bytes) are.padded are.spelled none
 
 split_of : (bytes : List ℕ) (kind : ℕ) (value rest : List ℕ) → BeginsWith bytes kind value rest → AreAttributes bytes → attributes_in bytes ≡ first_padded bytes ∷ attributes_in rest
@@ -46,12 +46,12 @@ more_left bytes kind value rest first are other =
 
 -- ---- the first MESSAGE-INTEGRITY
 
-abbrev bytes_count : List Padded → ℕ
+abbrev bytes_count : List PaddedAttribute → ℕ
 bytes_count front = length (attributes_bytes front)
 
 -- what the scan keeps: the attributes that it has passed
 pub record Scanned (bytes rest : List ℕ) (at : Option ℕ) : Type 0 where
-  pub front : List Padded
+  pub front : List PaddedAttribute
   pub padded : AllByRecursion IsPadded front
   pub parts : bytes ≡ attributes_bytes front ++ rest
   pub rest_are : AreAttributes bytes → AreAttributes rest
@@ -72,7 +72,7 @@ mapped_test : {A B : Type 0} (f : A → B) (test : Bool) (x : A) → option_map 
 mapped_test f true x = refl
 mapped_test f false x = refl
 
-pushed_after : (test : Bool) (b : Padded) (front : List Padded) (a : Padded) → before_first (front ++ a ∷ []) ≡ option_or (before_first front) (then_some (a.kind == message_integrity) front)
+pushed_after : (test : Bool) (b : PaddedAttribute) (front : List PaddedAttribute) (a : PaddedAttribute) → before_first (front ++ a ∷ []) ≡ option_or (before_first front) (then_some (a.kind == message_integrity) front)
     → (if test then Some [] else option_map (λ f. b ∷ f) (before_first (front ++ a ∷ [])))
     ≡ option_or (if test then Some [] else option_map (λ f. b ∷ f) (before_first front)) (then_some (a.kind == message_integrity) (b ∷ front))
 pushed_after true b front a same = refl
@@ -81,7 +81,7 @@ pushed_after false b front a same =
     ∙ mapped_or (λ f. b ∷ f) (before_first front) (then_some (a.kind == message_integrity) front)
     ∙ ap (option_or (option_map (λ f. b ∷ f) (before_first front))) (mapped_test (λ f. b ∷ f) (a.kind == message_integrity) front)
 
-first_pushed : (front : List Padded) (a : Padded) → before_first (front ++ a ∷ []) ≡ option_or (before_first front) (then_some (a.kind == message_integrity) front)
+first_pushed : (front : List PaddedAttribute) (a : PaddedAttribute) → before_first (front ++ a ∷ []) ≡ option_or (before_first front) (then_some (a.kind == message_integrity) front)
 first_pushed [] a = test_is (a.kind == message_integrity) []
 first_pushed (b ∷ front) a = pushed_after (b.kind == message_integrity) b front a (first_pushed front a)
 
@@ -104,7 +104,7 @@ scanned_more bytes rest at kind value after scanned first =
           ∙ ap (option_map bytes_count) (sym (first_pushed front a));
     }
 
-pub scan_overruns : (bytes rest : List ℕ) (at : Option ℕ) → Scanned bytes rest at → 0 < length rest → ((a : Padded) (r : List ℕ) → IsPadded a → rest ≡ attribute_bytes a ++ r → ⊥) → AreAttributes bytes → ⊥
+pub scan_overruns : (bytes rest : List ℕ) (at : Option ℕ) → Scanned bytes rest at → 0 < length rest → ((a : PaddedAttribute) (r : List ℕ) → IsPadded a → rest ≡ attribute_bytes a ++ r → ⊥) → AreAttributes bytes → ⊥
 scan_overruns bytes rest at scanned some none are =
     let left = scanned.rest_are are in
     none_begin rest some none (attributes_in rest) left.padded left.spelled
@@ -117,8 +117,8 @@ scanned_all bytes rest at scanned none =
 -- ---- the bytes before it
 
 -- attributes begin with those before the first MESSAGE-INTEGRITY
-front_step : (test : Bool) (a : Padded) (list : List Padded) (o : Option (List Padded)) (f : List Padded) → ((g : List Padded) → o ≡ Some g → (r : List Padded) × (list ≡ g ++ r))
-    → (if test then Some [] else option_map (λ g. a ∷ g) o) ≡ Some f → (r : List Padded) × (a ∷ list ≡ f ++ r)
+front_step : (test : Bool) (a : PaddedAttribute) (list : List PaddedAttribute) (o : Option (List PaddedAttribute)) (f : List PaddedAttribute) → ((g : List PaddedAttribute) → o ≡ Some g → (r : List PaddedAttribute) × (list ≡ g ++ r))
+    → (if test then Some [] else option_map (λ g. a ∷ g) o) ≡ Some f → (r : List PaddedAttribute) × (a ∷ list ≡ f ++ r)
 front_step true a list o f following e = let none : [] ≡ f = cc in (a ∷ list, ap (λ g. g ++ a ∷ list) none)
 front_step false a list None f following e = absurd cc
 front_step false a list (Some g) f following e =
@@ -126,7 +126,7 @@ front_step false a list (Some g) f following e =
     let rest = following g refl in
     (rest.0, ap (λ l. a ∷ l) rest.1 ∙ ap (λ l. l ++ rest.0) is)
 
-after_front : (list f : List Padded) → before_first list ≡ Some f → (r : List Padded) × (list ≡ f ++ r)
+after_front : (list f : List PaddedAttribute) → before_first list ≡ Some f → (r : List PaddedAttribute) × (list ≡ f ++ r)
 after_front [] f e = absurd cc
 after_front (a ∷ list) f e = front_step (a.kind == message_integrity) a list (before_first list) f (after_front list) e
 
@@ -136,7 +136,7 @@ header_of p = header p.kind (length (attributes_bytes p.attributes)) p.transacti
 header_length : (p : Parts) → AreParts p → length (header_of p) ≡ 20
 header_length p are = omega (arith, are.transaction_id)
 
-front_is : (p : Parts) (f : List Padded) → AreParts p → before_first p.attributes ≡ Some f
+front_is : (p : Parts) (f : List PaddedAttribute) → AreParts p → before_first p.attributes ≡ Some f
     → (take (20 + bytes_count f) (parts_bytes p) ≡ header_of p ++ attributes_bytes f) × (20 + bytes_count f ≤ length (parts_bytes p))
 front_is p f are found =
     let rest = after_front p.attributes f found in
@@ -148,7 +148,7 @@ front_is p f are found =
     let size : 20 + bytes_count f ≡ length (x ++ front) = omega (arith, header_length p are, length-append x front) in
     (ap (take (20 + bytes_count f)) whole ∙ piece_take (x ++ front) after (20 + bytes_count f) size, omega (arith, ap length whole, size, length-append (x ++ front) after))
 
-found_in : (bytes front : List ℕ) (n : ℕ) (o : Option (List Padded)) → EncodesParts bytes → before_first (parts_in bytes).attributes ≡ o → Some n ≡ option_map bytes_count o
+found_in : (bytes front : List ℕ) (n : ℕ) (o : Option (List PaddedAttribute)) → EncodesParts bytes → before_first (parts_in bytes).attributes ≡ o → Some n ≡ option_map bytes_count o
     → (20 + n ≤ length bytes) × (front ≡ take (20 + n) bytes → Some front ≡ option_map (λ f. header_of (parts_in bytes) ++ attributes_bytes f) o)
 found_in bytes front n None is same at = absurd cc
 found_in bytes front n (Some f) is same at =

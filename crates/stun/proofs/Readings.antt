@@ -5,25 +5,25 @@ use Rattle.std.specs.List.{AllByRecursion, list_all}
 use Rattle.std.proofs.lemmas.Bool.{cases_Bool, cond-true, cond-false, and_parts, and_from, lt-ltb, ltb-true}
 use Rattle.std.proofs.lemmas.Option.{none-some, same_Some}
 use Rattle.std.proofs.lemmas.Slice.Eq.{bytes_eq-Decides}
-use Rattle.stun.specs.Messages.{Padded, IsPadded, Parts, AreParts, attributes_bytes, parts_bytes, padding_count}
+use Rattle.stun.specs.Messages.{PaddedAttribute, IsPadded, Parts, AreParts, attributes_bytes, parts_bytes, padding_count}
 use Rattle.stun.specs.Reading.{parts_in, EncodesParts}
 use Rattle.stun.specs.Datagrams.{is_padded, are_parts, is_message, message_in}
 use Rattle.stun.proofs.Datagrams.{body_is, parts_are}
 
-is_padded_from : (a : Padded) → IsPadded a → is_padded a ≡ true
+is_padded_from : (a : PaddedAttribute) → IsPadded a → is_padded a ≡ true
 is_padded_from a h = and_from _ _ (and_from _ _ (lt-ltb a.kind 0x10000 h.kind) (lt-ltb (length a.value) 0x10000 h.value)) (eq-eqb _ _ h.padding)
 
-all_padded_from : (list : List Padded) → AllByRecursion IsPadded list → list_all is_padded list ≡ true
+all_padded_from : (list : List PaddedAttribute) → AllByRecursion IsPadded list → list_all is_padded list ≡ true
 all_padded_from [] h = refl
 all_padded_from (a ∷ rest) h = and_from _ _ (is_padded_from a h.0) (all_padded_from rest h.1)
 
-padded_if : (a : Padded) → is_padded a ≡ true → IsPadded a
+padded_if : (a : PaddedAttribute) → is_padded a ≡ true → IsPadded a
 padded_if a h =
     let first = and_parts (nat_lt a.kind 0x10000 && nat_lt (length a.value) 0x10000) (length a.padding == padding_count (length a.value)) h in
     let two = and_parts (nat_lt a.kind 0x10000) (nat_lt (length a.value) 0x10000) first.0 in
     record { kind = ltb-true _ _ two.0; value = ltb-true _ _ two.1; padding = eqb-true _ _ first.1 }
 
-all_padded_if : (list : List Padded) → list_all is_padded list ≡ true → AllByRecursion IsPadded list
+all_padded_if : (list : List PaddedAttribute) → list_all is_padded list ≡ true → AllByRecursion IsPadded list
 all_padded_if [] h = tt
 all_padded_if (a ∷ rest) h = let two = and_parts (is_padded a) (list_all is_padded rest) h in (padded_if a two.0, all_padded_if rest two.1)
 

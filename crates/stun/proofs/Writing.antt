@@ -6,7 +6,7 @@ use Rattle.byteorder.specs.Numbers.{big_number-reads_back}
 use Rattle.stun.specs.Registry.{magic_cookie}
 use Rattle.stun.specs.Messages.{Parts, AreParts, padding_count, attribute_bytes, attributes_bytes, header, parts_bytes, zero_padded, with_attribute, empty_message, attribute_length}
 use Rattle.stun.specs.Refusals.{number_at}
-use Rattle.stun.specs.Building.{IsBuilding, message_bytes, building_parts, used_in, room_in, over, with_piece, Begins, IsAppended}
+use Rattle.stun.specs.Building.{IsBuilding, message_bytes, building_parts, used_in, room_in, bytes_over, with_piece, IsBegun, IsAppended}
 use Rattle.stun.proofs.Grammar.{piece_take, piece_drop, push_bytes, push_all}
 use Rattle.stun.proofs.Datagrams.{parts_are, fours, length_of_parts}
 
@@ -117,7 +117,7 @@ length_of_with p kind value are = omega (arith, length-append p.transaction_id (
 -- an attribute is written after the message, and the header's length after it
 pushed : (b b1 b2 : List ℕ) (kind : ℕ) (value : List ℕ) (at total : ℕ) → IsBuilding b → b1 ≡ with_piece at (attribute_bytes (zero_padded kind value)) b → b2 ≡ with_piece 2 (big_bytes 2 total) b1
     → at ≡ 20 + number_at 2 2 b → total ≡ number_at 2 2 b + (4 + length value + padding_count (length value))
-    → b2 ≡ over (with_attribute (building_parts b) kind value) b
+    → b2 ≡ bytes_over (with_attribute (building_parts b) kind value) b
 unfolding building_parts
 pushed b b1 b2 kind value at total is e1 e2 at_is total_is =
     let p = building_parts b in
@@ -140,7 +140,7 @@ pushed b b1 b2 kind value at total is e1 e2 at_is total_is =
     ∙ sym (append_assoc (header p.kind (length (attributes_bytes q.attributes)) p.transaction_id) (attributes_bytes q.attributes) (drop (length (parts_bytes q)) b))
 
 -- the buffer after a push, and its parts
-pushed_stands : (b new : List ℕ) (kind : ℕ) (value : List ℕ) → IsBuilding b → new ≡ over (with_attribute (building_parts b) kind value) b → kind < 0x10000 → number_at 2 2 b + (4 + length value + padding_count (length value)) < 0x10000
+pushed_stands : (b new : List ℕ) (kind : ℕ) (value : List ℕ) → IsBuilding b → new ≡ bytes_over (with_attribute (building_parts b) kind value) b → kind < 0x10000 → number_at 2 2 b + (4 + length value + padding_count (length value)) < 0x10000
     → Stands (with_attribute (building_parts b) kind value) (drop (length (parts_bytes (with_attribute (building_parts b) kind value))) b) new
 unfolding building_parts
 pushed_stands b new kind value is spelled small short =
@@ -184,7 +184,7 @@ ended b message is there =
 pub id_of : (p : Parts) (bytes : List ℕ) → AreParts p → bytes ≡ parts_bytes p → take 12 (drop 8 bytes) ≡ p.transaction_id
 id_of p bytes are there = ap (λ b. take 12 (drop 8 b)) there ∙ piece_take p.transaction_id (attributes_bytes p.attributes) 12 (sym are.transaction_id)
 
-length_over : (p : Parts) (b : List ℕ) → length (parts_bytes p) ≤ length b → length (over p b) ≡ length b
+length_over : (p : Parts) (b : List ℕ) → length (parts_bytes p) ≤ length b → length (bytes_over p b) ≡ length b
 length_over p b fits = omega (arith, length-append (parts_bytes p) (drop (length (parts_bytes p)) b), length-drop (length (parts_bytes p)) b)
 
 with_length : (b : List ℕ) (kind : ℕ) (value : List ℕ) → IsBuilding b → length (parts_bytes (with_attribute (building_parts b) kind value)) ≡ used_in b + attribute_length value
@@ -207,7 +207,7 @@ appended b b1 new kind value n padding before total is small n_is padding_is bef
     let long : length (parts_bytes q) ≡ used_in b + attribute_length value = with_length b kind value is in
     let same = same_room b new (ap length spelled ∙ length_over q b (omega (arith, long, used_is b is, most))) in
     let used : used_in new ≡ used_in b + attribute_length value = ap (λ p. length (parts_bytes p)) stand.parts ∙ long in
-    (stand.building, record { parts = stand.parts; bytes = spelled ∙ ap (λ p. over p b) (sym stand.parts); used = used; room = same; fits = omega (arith, used, same, room) })
+    (stand.building, record { parts = stand.parts; bytes = spelled ∙ ap (λ p. bytes_over p b) (sym stand.parts); used = used; room = same; fits = omega (arith, used, same, room) })
 
 -- ---- a message with no attributes
 
@@ -217,10 +217,10 @@ started_are kind id small long = record { kind = small; transaction_id = long; a
 zero_first : (n : ℕ) → 0 + n ≡ n
 zero_first n = omega arith
 
-pub started_over : (b new : List ℕ) (kind : ℕ) (id : List ℕ) → new ≡ with_piece 0 (parts_bytes (empty_message kind id)) b → new ≡ over (empty_message kind id) b
+pub started_over : (b new : List ℕ) (kind : ℕ) (id : List ℕ) → new ≡ with_piece 0 (parts_bytes (empty_message kind id)) b → new ≡ bytes_over (empty_message kind id) b
 started_over b new kind id e = e ∙ ap (λ n. parts_bytes (empty_message kind id) ++ drop n b) (zero_first (length (parts_bytes (empty_message kind id))))
 
-pub begun : (b new : List ℕ) (kind : ℕ) (id : List ℕ) → kind < 0x4000 → length id ≡ 12 → 20 ≤ length b → new ≡ with_piece 0 (parts_bytes (empty_message kind id)) b → IsBuilding new × Begins kind id b new
+pub begun : (b new : List ℕ) (kind : ℕ) (id : List ℕ) → kind < 0x4000 → length id ≡ 12 → 20 ≤ length b → new ≡ with_piece 0 (parts_bytes (empty_message kind id)) b → IsBuilding new × IsBegun kind id b new
 unfolding used_in
 begun b new kind id small long room e =
     let are = started_are kind id small long in

@@ -1,7 +1,7 @@
 -- Meaning. The attributes and values that iterators give, and the types of attributes that are understood.
 use Rattle.std.specs.Prelude.{ℕ, ◌==◌, ◌||◌, leb, Bool, List, [], ◌∷◌, map, Option, slice_get}
 use Rattle.std.specs.List.{filter, list_any}
-use Rattle.stun.specs.Messages.{Attribute, Padded, attribute_of, up_to_integrity}
+use Rattle.stun.specs.Messages.{Attribute, PaddedAttribute, attribute_of, up_to_integrity}
 use Rattle.stun.specs.declared.attributes.Attr.{Attr}
 use Rattle.stun.specs.declared.registry.attribute.TheConstants.{USERNAME, MESSAGE_INTEGRITY, ERROR_CODE, UNKNOWN_ATTRIBUTES, CHANNEL_NUMBER, LIFETIME, XOR_PEER_ADDRESS, DATA, REALM, NONCE, XOR_RELAYED_ADDRESS, REQUESTED_ADDRESS_FAMILY, REQUESTED_TRANSPORT, XOR_MAPPED_ADDRESS}
 
@@ -10,7 +10,7 @@ abbrev pub attribute_of_attr : Attr → Attribute
 attribute_of_attr a = record { kind = a.kind; value = a.value.now }
 
 -- what it gives from here on
-abbrev pub attributes_left : List Padded → List Attribute
+abbrev pub attributes_left : List PaddedAttribute → List Attribute
 attributes_left attributes = map attribute_of (up_to_integrity attributes)
 
 -- the values of all attributes of a type, in their order

@@ -2,7 +2,7 @@
 use Rattle.std.specs.Prelude.{◌≡◌, ℕ, ◌+◌, ◌<◌, ◌≤◌, List}
 use base.Fml.{GName}
 use Rattle.stun.specs.Messages.{Parts, with_attribute, attribute_length}
-use Rattle.stun.specs.Building.{building_parts, over, used_in, room_in}
+use Rattle.stun.specs.Building.{building_parts, bytes_over, used_in, room_in}
 use Rattle.stun.specs.declared.building.Builder.{Builder}
 
 -- the whole buffer
@@ -32,7 +32,7 @@ SameBuffer old new = buffer_name new ≡ buffer_name old
 -- the message has one more attribute, and is over the first bytes of the buffer; all others are as they were
 pub record Appends (kind : ℕ) (value : List ℕ) (old new : Builder) : Type 0 where
   pub parts : parts_of new ≡ with_attribute (parts_of old) kind value
-  pub bytes : bytes_of new ≡ over (parts_of new) (bytes_of old)
+  pub bytes : bytes_of new ≡ bytes_over (parts_of new) (bytes_of old)
   pub used : used_of new ≡ used_of old + attribute_length value
   pub room : capacity_of new ≡ capacity_of old
   pub fits : used_of new ≤ capacity_of new

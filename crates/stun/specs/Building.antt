@@ -26,8 +26,8 @@ unfoldable pub room_in : List ℕ → ℕ
 room_in bytes = min (length bytes) 65552
 
 -- the message of the parts over the first bytes, and the others as they were
-abbrev pub over : Parts → List ℕ → List ℕ
-over p bytes = parts_bytes p ++ drop (length (parts_bytes p)) bytes
+abbrev pub bytes_over : Parts → List ℕ → List ℕ
+bytes_over p bytes = parts_bytes p ++ drop (length (parts_bytes p)) bytes
 
 -- bytes with others over them from an index on
 abbrev pub with_piece : ℕ → List ℕ → List ℕ → List ℕ
@@ -36,9 +36,9 @@ with_piece at piece bytes = take at bytes ++ (piece ++ drop (at + length piece) 
 -- ---- what is written into a buffer
 
 -- a message with no attributes is over the first bytes, and the others are as they were
-pub record Begins (kind : ℕ) (transaction_id old new : List ℕ) : Type 0 where
+pub record IsBegun (kind : ℕ) (transaction_id old new : List ℕ) : Type 0 where
   pub parts : building_parts new ≡ empty_message kind transaction_id
-  pub bytes : new ≡ over (empty_message kind transaction_id) old
+  pub bytes : new ≡ bytes_over (empty_message kind transaction_id) old
   pub used : used_in new ≡ 20
   pub room : room_in new ≡ min (length old) 65552
   pub fits : 20 ≤ length old
@@ -46,7 +46,7 @@ pub record Begins (kind : ℕ) (transaction_id old new : List ℕ) : Type 0 wher
 -- the message that stood there, with one more attribute, is over the first bytes, and the others are as they were
 pub record IsAppended (kind : ℕ) (value old new : List ℕ) : Type 0 where
   pub parts : building_parts new ≡ with_attribute (building_parts old) kind value
-  pub bytes : new ≡ over (building_parts new) old
+  pub bytes : new ≡ bytes_over (building_parts new) old
   pub used : used_in new ≡ used_in old + attribute_length value
   pub room : room_in new ≡ room_in old
   pub fits : used_in new ≤ room_in new

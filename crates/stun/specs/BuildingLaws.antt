@@ -2,11 +2,11 @@
 use Rattle.std.specs.Prelude.{ℕ, List}
 use Rattle.std.specs.List.{AllByRecursion-prop}
 use Rattle.std.specs.Coded.{Coded-set, coded_ℕ, coded_list, le_prop}
-use Rattle.stun.specs.Messages.{Padded, IsPadded, Parts, AreParts}
+use Rattle.stun.specs.Messages.{PaddedAttribute, IsPadded, Parts, AreParts}
 use Rattle.stun.specs.Reading.{parts_in, EncodesParts}
 use Rattle.stun.specs.Building.{IsBuilding, message_bytes}
 
-IsPadded-prop : (a : Padded) → IsProp (IsPadded a)
+IsPadded-prop : (a : PaddedAttribute) → IsProp (IsPadded a)
 IsPadded-prop a x y = λ i. record { kind = le_prop x.kind y.kind i; value = le_prop x.value y.value i; padding = Coded-set coded_ℕ _ _ x.padding y.padding i }
 
 AreParts-prop : (p : Parts) → IsProp (AreParts p)

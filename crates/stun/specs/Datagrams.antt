@@ -1,17 +1,17 @@
 -- Meaning. The message of a datagram, and its channel message, as functions.
 use Rattle.std.specs.Prelude.{ℕ, Bool, ◌&&◌, ◌==◌, List, length, take, drop, bytes_eq, nat_le, nat_lt, Option, None, Some, if◌then◌else◌}
 use Rattle.std.specs.List.{list_all}
-use Rattle.stun.specs.Messages.{Padded, Parts, padding_count, attributes_bytes, parts_bytes}
+use Rattle.stun.specs.Messages.{PaddedAttribute, Parts, padding_count, attributes_bytes, parts_bytes}
 use Rattle.stun.specs.Ranges.{is_between}
 use Rattle.stun.specs.Channels.{ChannelMessage}
 use Rattle.stun.specs.Refusals.{number_at}
 use Rattle.stun.specs.Reading.{parts_in}
-use Rattle.stun.specs.declared.registry.TheConstants.{FIRST_CHANNEL, LAST_CHANNEL}
+use Rattle.stun.specs.declared.registry.TheConstants.{FIRST_CHANNEL_DATA, LAST_CHANNEL_DATA}
 
 -- ---- STUN
 
 -- type and length have 16 bits, and the padding has its length
-abbrev pub is_padded : Padded → Bool
+abbrev pub is_padded : PaddedAttribute → Bool
 is_padded a =
     nat_lt a.kind 0x10000 && nat_lt (length a.value) 0x10000
     && (length a.padding == padding_count (length a.value))
@@ -35,7 +35,7 @@ message_in bytes = if is_message bytes then Some (parts_in bytes) else None
 -- whether a datagram begins with a channel message: a number, a length, and as many bytes of data
 abbrev pub is_channel_data : List ℕ → Bool
 is_channel_data bytes =
-    nat_le 4 (length bytes) && is_between FIRST_CHANNEL LAST_CHANNEL (number_at 2 0 bytes)
+    nat_le 4 (length bytes) && is_between FIRST_CHANNEL_DATA LAST_CHANNEL_DATA (number_at 2 0 bytes)
     && nat_le (number_at 2 2 bytes) (length (drop 4 bytes))
 
 -- that channel message, if there is one

@@ -11,12 +11,12 @@ pub record Attribute : Type 0 where
   pub value : List ℕ
 
 -- an attribute as it is in a datagram, with the bytes that fill its value up to a multiple of four
-pub record Padded : Type 0 where
+pub record PaddedAttribute : Type 0 where
   pub kind : ℕ
   pub value : List ℕ
   pub padding : List ℕ
 
-abbrev pub attribute_of : Padded → Attribute
+abbrev pub attribute_of : PaddedAttribute → Attribute
 attribute_of a = record { kind = a.kind; value = a.value }
 
 -- how many bytes fill n bytes up to a multiple of four
@@ -24,16 +24,16 @@ abbrev pub padding_count : ℕ → ℕ
 padding_count n = (4 - n % 4) % 4
 
 -- type and length have 16 bits, and the padding has its length; its bytes may be any
-pub record IsPadded (a : Padded) : Type 0 where
+pub record IsPadded (a : PaddedAttribute) : Type 0 where
   pub kind : a.kind < 0x10000
   pub value : length a.value < 0x10000
   pub padding : length a.padding ≡ padding_count (length a.value)
 
 -- type, length, value, padding: the length is the value's alone
-abbrev pub attribute_bytes : Padded → List ℕ
+abbrev pub attribute_bytes : PaddedAttribute → List ℕ
 attribute_bytes a = big_bytes 2 a.kind ++ big_bytes 2 (length a.value) ++ a.value ++ a.padding
 
-abbrev pub attributes_bytes : List Padded → List ℕ
+abbrev pub attributes_bytes : List PaddedAttribute → List ℕ
 attributes_bytes attributes = flat_map attribute_bytes attributes
 
 -- ---- datagrams (section 5)
@@ -42,7 +42,7 @@ attributes_bytes attributes = flat_map attribute_bytes attributes
 pub record Parts : Type 0 where
   pub kind : ℕ
   pub transaction_id : List ℕ
-  pub attributes : List Padded
+  pub attributes : List PaddedAttribute
 
 -- a type of 14 bits, an id of 96, and attributes whose length has 16 bits
 pub record AreParts (p : Parts) : Type 0 where
@@ -66,7 +66,7 @@ pub record Message : Type 0 where
   pub attributes : List Attribute
 
 -- what follows the first MESSAGE-INTEGRITY is ignored (section 14.5)
-abbrev pub up_to_integrity : List Padded → List Padded
+abbrev pub up_to_integrity : List PaddedAttribute → List PaddedAttribute
 up_to_integrity [] = []
 up_to_integrity (a ∷ rest) = a ∷ (if a.kind == message_integrity then [] else up_to_integrity rest)
 
@@ -80,7 +80,7 @@ IsMessage m bytes = (p : Parts) × AreParts p × (bytes ≡ parts_bytes p) × (m
 -- ---- what comes before MESSAGE-INTEGRITY
 
 -- the attributes before the first MESSAGE-INTEGRITY, if there is one
-abbrev pub before_first : List Padded → Option (List Padded)
+abbrev pub before_first : List PaddedAttribute → Option (List PaddedAttribute)
 before_first [] = None
 before_first (a ∷ rest) = if a.kind == message_integrity then Some [] else option_map (λ front. a ∷ front) (before_first rest)
 
@@ -91,7 +91,7 @@ before_integrity p = option_map (λ front. header p.kind (length (attributes_byt
 -- ---- what is written
 
 -- an attribute whose padding is zero
-abbrev pub zero_padded : ℕ → List ℕ → Padded
+abbrev pub zero_padded : ℕ → List ℕ → PaddedAttribute
 zero_padded kind value = record { kind = kind; value = value; padding = replicate (padding_count (length value)) 0 }
 
 abbrev pub with_attribute : Parts → ℕ → List ℕ → Parts

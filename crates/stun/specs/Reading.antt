@@ -2,12 +2,12 @@
 use Rattle.std.specs.Prelude.{◌≡◌, ℕ, zero, suc, ◌+◌, ◌<◌, ◌≤◌, List, [], ◌∷◌, ◌++◌, length, take, drop, refl, Option, option_map}
 use Rattle.std.specs.List.{AllByRecursion}
 use Rattle.std.specs.Coded.{Coded, code_by, coded×, coded_list, coded_ℕ}
-use Rattle.stun.specs.Messages.{Padded, IsPadded, Parts, AreParts, padding_count, attribute_bytes, attributes_bytes, parts_bytes, before_first}
+use Rattle.stun.specs.Messages.{PaddedAttribute, IsPadded, Parts, AreParts, padding_count, attribute_bytes, attributes_bytes, parts_bytes, before_first}
 use Rattle.stun.specs.Registry.{magic_cookie}
 use Rattle.stun.specs.Refusals.{number_at, HasLength}
 
 -- an attribute that begins bytes, and what follows it
-abbrev pub first_padded : List ℕ → Padded
+abbrev pub first_padded : List ℕ → PaddedAttribute
 first_padded bytes = record {
   kind = number_at 2 0 bytes;
   value = take (number_at 2 2 bytes) (drop 4 bytes);
@@ -25,12 +25,12 @@ pub record BeginsWith (bytes : List ℕ) (kind : ℕ) (value rest : List ℕ) : 
   pub value_is : value ≡ (first_padded bytes).value
 
 -- at most n attributes
-abbrev pub first_attributes : ℕ → List ℕ → List Padded
+abbrev pub first_attributes : ℕ → List ℕ → List PaddedAttribute
 first_attributes zero bytes = []
 first_attributes (suc n) [] = []
 first_attributes (suc n) (b ∷ bytes) = first_padded (b ∷ bytes) ∷ first_attributes n (after_first (b ∷ bytes))
 
-abbrev pub attributes_in : List ℕ → List Padded
+abbrev pub attributes_in : List ℕ → List PaddedAttribute
 attributes_in bytes = first_attributes (length bytes) bytes
 
 abbrev pub parts_in : List ℕ → Parts
@@ -62,10 +62,10 @@ pub record HasHeader (bytes : List ℕ) : Type 0 where
   pub has_length : HasLength bytes
 
 -- ---- codes of these records: the tuples of their fields
-abbrev pub padded_code : Coded Padded
+abbrev pub padded_code : Coded PaddedAttribute
 padded_code = code_by (ℕ × (List ℕ × List ℕ)) (coded× coded_ℕ (coded× (coded_list coded_ℕ) (coded_list coded_ℕ)))
     (λ a. (a.kind, (a.value, a.padding))) (λ t. record { kind = t.0; value = t.1.0; padding = t.1.1 }) (λ _. refl)
 
 abbrev pub parts_code : Coded Parts
-parts_code = code_by (ℕ × (List ℕ × List Padded)) (coded× coded_ℕ (coded× (coded_list coded_ℕ) (coded_list padded_code)))
+parts_code = code_by (ℕ × (List ℕ × List PaddedAttribute)) (coded× coded_ℕ (coded× (coded_list coded_ℕ) (coded_list padded_code)))
     (λ p. (p.kind, (p.transaction_id, p.attributes))) (λ t. record { kind = t.0; transaction_id = t.1.0; attributes = t.1.1 }) (λ _. refl)

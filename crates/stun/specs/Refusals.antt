@@ -3,7 +3,7 @@ use Rattle.std.specs.Prelude.{◌≡◌, ◌≢◌, ℕ, ◌+◌, ◌%◌, ◌<�
 use Rattle.std.specs.List.{AllByRecursion}
 use Rattle.byteorder.specs.Endian.{big_number}
 use Rattle.stun.specs.Registry.{magic_cookie}
-use Rattle.stun.specs.Messages.{Padded, IsPadded, attributes_bytes}
+use Rattle.stun.specs.Messages.{PaddedAttribute, IsPadded, attributes_bytes}
 use Rattle.stun.specs.declared.refusal.StunError.{StunError}
 use Rattle.stun.specs.declared.refusal.StunError.TheVariants.{TooShort, NotStun, BadCookie, BadLength, AttributeOverrun}
 
@@ -16,10 +16,10 @@ pub record HasLength (bytes : List ℕ) : Type 0 where
   pub fours : number_at 2 2 bytes % 4 ≡ 0
   pub whole : 20 + number_at 2 2 bytes ≡ length bytes
 
-abbrev pub IsRefused : List ℕ → StunError → Type 0
-IsRefused bytes TooShort = length bytes < 20
-IsRefused bytes NotStun = (20 ≤ length bytes) × (0x4000 ≤ number_at 2 0 bytes)
-IsRefused bytes BadCookie = (20 ≤ length bytes) × (number_at 2 0 bytes < 0x4000) × (number_at 4 4 bytes ≢ magic_cookie)
-IsRefused bytes BadLength = (20 ≤ length bytes) × (number_at 2 0 bytes < 0x4000) × (number_at 4 4 bytes ≡ magic_cookie) × (HasLength bytes → ⊥)
-IsRefused bytes AttributeOverrun = (20 ≤ length bytes) × (number_at 2 0 bytes < 0x4000) × (number_at 4 4 bytes ≡ magic_cookie) × HasLength bytes
-    × ((attributes : List Padded) → AllByRecursion IsPadded attributes → drop 20 bytes ≢ attributes_bytes attributes)
+abbrev pub IsRefusedMessage : List ℕ → StunError → Type 0
+IsRefusedMessage bytes TooShort = length bytes < 20
+IsRefusedMessage bytes NotStun = (20 ≤ length bytes) × (0x4000 ≤ number_at 2 0 bytes)
+IsRefusedMessage bytes BadCookie = (20 ≤ length bytes) × (number_at 2 0 bytes < 0x4000) × (number_at 4 4 bytes ≢ magic_cookie)
+IsRefusedMessage bytes BadLength = (20 ≤ length bytes) × (number_at 2 0 bytes < 0x4000) × (number_at 4 4 bytes ≡ magic_cookie) × (HasLength bytes → ⊥)
+IsRefusedMessage bytes AttributeOverrun = (20 ≤ length bytes) × (number_at 2 0 bytes < 0x4000) × (number_at 4 4 bytes ≡ magic_cookie) × HasLength bytes
+    × ((attributes : List PaddedAttribute) → AllByRecursion IsPadded attributes → drop 20 bytes ≢ attributes_bytes attributes)

@@ -1,7 +1,7 @@
 //! The attributes of a message (RFC 8489, section 14).
 
 ghost use Rattle.std.specs.Prelude.{◌≡◌, ℕ, ◌++◌, List, IfOk, IfErr, MatchOption};
-ghost use Rattle.stun.specs.Messages.{Padded, IsPadded, padding_count, attribute_bytes};
+ghost use Rattle.stun.specs.Messages.{PaddedAttribute, IsPadded, padding_count, attribute_bytes};
 ghost use Rattle.std.specs.Iterator.{YieldsFirstBy};
 ghost use Rattle.stun.specs.Attributes.{attributes_left, values_of};
 ghost use Rattle.stun.specs.Reading.{AreAttributes, BeginsWith, attributes_in, integrity_at};
@@ -31,7 +31,7 @@ pub(crate) fn padding_bytes(length: usize) -> usize
 
 /// Splits bytes after their first attribute and its padding, or returns `None` where it overruns them.
 pub(crate) fn split_attribute(bytes: &[u8]) -> Option<(Attr<'_>, &[u8])>
-    ensures { MatchOption result ((a : Padded) (rest : List ℕ) → IsPadded a → bytes.now ≡ attribute_bytes a ++ rest → ⊥)
+    ensures { MatchOption result ((a : PaddedAttribute) (rest : List ℕ) → IsPadded a → bytes.now ≡ attribute_bytes a ++ rest → ⊥)
         (λ r. BeginsWith bytes.now r.0.kind r.0.value.now r.1.now) }
 {
     if bytes.len() < ATTRIBUTE_HEADER_BYTES {
@@ -82,10 +82,10 @@ pub struct Attrs<'a> {
 impl<'a> Model for Attrs<'a> {
     ghost use Rattle.std.specs.Prelude.{List};
     ghost use Rattle.std.specs.Coded.{coded_list};
-    ghost use Rattle.stun.specs.Messages.{Padded};
+    ghost use Rattle.stun.specs.Messages.{PaddedAttribute};
     ghost use Rattle.stun.specs.Reading.{padded_code};
 
-    ghost Value = { List Padded };
+    ghost Value = { List PaddedAttribute };
 
     ghost coded = { coded_list padded_code };
 

@@ -5,7 +5,7 @@ ghost use Rattle.byteorder.specs.Endian.{big_bytes};
 ghost use Rattle.stun.specs.Messages.{attribute_bytes, zero_padded, parts_bytes, empty_message, attribute_length};
 ghost use Rattle.stun.specs.Registry.{magic_cookie};
 ghost use Rattle.stun.specs.Refusals.{number_at};
-ghost use Rattle.stun.specs.Building.{IsBuilding, used_in, room_in, with_piece, Begins, IsAppended};
+ghost use Rattle.stun.specs.Building.{IsBuilding, used_in, room_in, with_piece, IsBegun, IsAppended};
 
 use crate::attributes::{ATTRIBUTE_HEADER_BYTES, padding_bytes};
 use crate::reading::HEADER_BYTES;
@@ -99,7 +99,7 @@ fn write_attribute<V: AttributeValue>(buffer: &mut [u8], at: usize, kind: u16, v
 pub fn begin(buffer: &mut [u8], kind: u16, tx: &[u8; 12]) -> Result<(), NoRoom>
     requires { kind < 0x4000 }
     ensures building { OnOk result (IsBuilding buffer.new) }
-    ensures begins { OnOk result (Begins kind tx.now buffer.old buffer.new) }
+    ensures begins { OnOk result (IsBegun kind tx.now buffer.old buffer.new) }
     ensures no_room { OnErr result (length buffer.old < 20) }
     ensures unchanged { OnErr result (buffer.new ≡ buffer.old) }
 {

@@ -19,7 +19,7 @@ pub struct Builder<'a> {
 impl<'a> Builder<'a> {
     ghost use Rattle.std.specs.Prelude.{◌≡◌, ◌+◌, ◌<◌, ◌≤◌, length, take, OnOk, OnErr, IfOk};
     ghost use Rattle.stun.specs.Messages.{AreParts, parts_bytes, message_of, IsMessage};
-    ghost use Rattle.stun.specs.Building.{IsBuilding, building_parts, used_in, room_in, Begins};
+    ghost use Rattle.stun.specs.Building.{IsBuilding, building_parts, used_in, room_in, IsBegun};
     ghost use Rattle.stun.specs.Builders.{bytes_of, buffer_name, parts_of, used_of, capacity_of, SameBuffer, Appends, HasNoRoom};
     ghost use Rattle.std.specs.Borrow.{sem, Array, u8, RestsIfErr};
 
@@ -32,7 +32,7 @@ impl<'a> Builder<'a> {
         requires { kind < 0x4000 }
         ensures* unchanged { sem 𝓛 (RestsIfErr (Array u8 0) buffer.entry buffer_name result
             (λ last. last ≡ buffer.old)) }
-        ensures begins { IfOk result (λ b. Begins kind tx buffer.old (bytes_of b)) }
+        ensures begins { IfOk result (λ b. IsBegun kind tx buffer.old (bytes_of b)) }
         ensures same_buffer { IfOk result (λ b. buffer_name b ≡ buffer.entry.ghost_name) }
         ensures no_room { OnErr result (length buffer.old < 20) }
     {
@@ -47,7 +47,7 @@ impl<'a> Builder<'a> {
     fn with_header(buffer: &'a mut [u8], kind: u16, tx: [u8; 12]) -> Builder<'a>
         requires kind { kind < 0x4000 }
         requires room { 20 ≤ length buffer.old }
-        ensures begins { Begins kind tx buffer.old (bytes_of result) }
+        ensures begins { IsBegun kind tx buffer.old (bytes_of result) }
         ensures same_buffer { buffer_name result ≡ buffer.entry.ghost_name }
     {
         write_header(buffer, kind, &tx);

@@ -5,7 +5,7 @@ ghost use Rattle.stun.specs.Channels.{ChannelMessage, IsChannelMessage};
 ghost use Rattle.stun.specs.ChannelData.{channel_message};
 ghost use Rattle.stun.specs.Datagrams.{channel_in};
 
-use crate::registry::{FIRST_CHANNEL, LAST_CHANNEL};
+use crate::registry::{FIRST_CHANNEL_DATA, LAST_CHANNEL_DATA};
 use byteorder::{BigEndian, ByteOrder};
 
 /// The length of what precedes the data, in bytes.
@@ -32,7 +32,7 @@ pub fn read_channel(bytes: &[u8]) -> Option<ChannelData<'_>>
     let (_, rest) = bytes.split_at(2);
     let length = BigEndian::read_u16(rest) as usize;
     let (_, rest) = bytes.split_at(CHANNEL_HEADER_BYTES);
-    if number < FIRST_CHANNEL || number > LAST_CHANNEL || length > rest.len() {
+    if number < FIRST_CHANNEL_DATA || number > LAST_CHANNEL_DATA || length > rest.len() {
         return None;
     }
     let (data, _) = rest.split_at(length);

@@ -4,7 +4,7 @@ ghost use Rattle.std.specs.Prelude.{◌≡◌, ℕ, List, IfOk, IfErr, OnOk, IsO
 ghost use Rattle.std.specs.Result.{result_ok};
 ghost use Rattle.stun.specs.Messages.{Message as SpecMessage, Parts, AreParts, parts_bytes, message_of, before_integrity, IsMessage};
 ghost use Rattle.stun.specs.Reading.{HasHeader};
-ghost use Rattle.stun.specs.Refusals.{IsRefused};
+ghost use Rattle.stun.specs.Refusals.{IsRefusedMessage};
 ghost use Rattle.stun.specs.Datagrams.{message_in};
 ghost use Rattle.stun.specs.declared.refusal.StunError.{StunError};
 
@@ -111,7 +111,7 @@ impl<'a> Message<'a> {
 /// Returns the first of S1 to S4.
 fn test_header(bytes: &[u8]) -> Result<(), StunError>
     ensures found { OnOk result (HasHeader bytes.now) }
-    ensures refused { IfErr result (IsRefused bytes.now) }
+    ensures refused { IfErr result (IsRefusedMessage bytes.now) }
 {
     if bytes.len() < HEADER_BYTES {
         return Err(StunError::TooShort);
@@ -142,7 +142,7 @@ pub fn read(bytes: &[u8]) -> Result<Message<'_>, StunError>
     ensures every { (m : SpecMessage) → IsMessage m bytes.now → IsOkAnd result (λ r. message_of r ≡ m) }
     ensures found { IfOk result (λ m. AreParts m × (bytes.now ≡ parts_bytes m)) }
     ensures only { (p : Parts) → AreParts p → bytes.now ≡ parts_bytes p → IsOkAnd result (λ m. m ≡ p) }
-    ensures refused { IfErr result (IsRefused bytes.now) }
+    ensures refused { IfErr result (IsRefusedMessage bytes.now) }
 {
     test_header(bytes)?;
     let (_, attributes) = bytes.split_at(HEADER_BYTES);
@@ -152,13 +152,13 @@ pub fn read(bytes: &[u8]) -> Result<Message<'_>, StunError>
 
 /// States that bytes have at most one refusal.
 pub fn refusals_are_unique()
-    ensures { (bytes : List ℕ) (d e : StunError) → IsRefused bytes d → IsRefused bytes e → d ≡ e }
+    ensures { (bytes : List ℕ) (d e : StunError) → IsRefusedMessage bytes d → IsRefusedMessage bytes e → d ≡ e }
 {}
 
 /// States that bytes which are refused encode no message.
 pub fn refused_is_no_message()
     ensures { (bytes : List ℕ) (e : StunError) (p : Parts)
-        → IsRefused bytes e → AreParts p → bytes ≡ parts_bytes p → ⊥ }
+        → IsRefusedMessage bytes e → AreParts p → bytes ≡ parts_bytes p → ⊥ }
 {}
 
 /// States that a datagram has at most one list of parts.

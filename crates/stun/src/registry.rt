@@ -10,10 +10,10 @@ ghost use Rattle.stun.specs.declared.registry.ErrorCode as errors;
 pub const MAGIC_COOKIE: u32 = 0x2112_A442;
 
 /// The first number of a channel (RFC 8656, section 12.4).
-pub const FIRST_CHANNEL: u16 = 0x4000;
+pub const FIRST_CHANNEL_DATA: u16 = 0x4000;
 
 /// The last number with which a datagram is read as a channel message.
-pub const LAST_CHANNEL: u16 = 0x7FFF;
+pub const LAST_CHANNEL_DATA: u16 = 0x7FFF;
 
 /// A method (RFC 8489, section 18.2; RFC 8656, section 17).
 #[derive(Clone, Copy, Debug, PartialEq, Eq)]

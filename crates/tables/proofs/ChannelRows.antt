@@ -12,7 +12,7 @@ use Rattle.std.proofs.lemmas.List.Elements.{All-filter, All-set}
 use Rattle.std.proofs.lemmas.List.Kept.{AllPairs-filter}
 use Rattle.attributes.specs.declared.address.Addr.{Addr}
 use Rattle.attributes.specs.declared.address.Addr.TheVariants.{V4}
-use Rattle.attributes.specs.AddressOrder.{parts_of, order_by_parts, is_same_address}
+use Rattle.attributes.specs.AddressOrder.{address_parts, order_by_parts, is_same_address}
 use Rattle.attributes.specs.AddressOrderLaws.{parts_order-total, parts_order-antisymmetric}
 use Rattle.tables.specs.Channels.{channels_at, number_to, may_bind, is_none_or}
 use Rattle.tables.specs.MapLaws.{entry_found}
@@ -47,7 +47,7 @@ abbrev pub number_in : Channel → ℕ
 number_in row = row.number
 
 abbrev pub peer_in : Channel → List ℕ × ℕ
-peer_in row = parts_of row.binding.peer
+peer_in row = address_parts row.binding.peer
 
 -- how a row compares with a number and with a peer
 abbrev pub by_number : ℕ → Channel → Ordering
@@ -60,7 +60,7 @@ pub searchable_by_number : (number : ℕ) (rows : List Channel) → AreSortedByN
 searchable_by_number number rows sorted = searchable nat_cmp_total number_in rows number sorted
 
 pub searchable_by_peer : (peer : Addr) (rows : List Channel) → AreSortedByPeer rows → AreAscending (by_peer peer) rows
-searchable_by_peer peer rows sorted = searchable parts_order-total peer_in rows (parts_of peer) sorted
+searchable_by_peer peer rows sorted = searchable parts_order-total peer_in rows (address_parts peer) sorted
 
 -- what a search for a peer gives
 pub is_to-found : (peer : Addr) (rows : List Channel) (i : ℕ) (d : Channel) → IsFoundAt (by_peer peer) rows i → is_to peer (get_or rows i d) ≡ true

@@ -12,7 +12,7 @@ use Rattle.std.proofs.lemmas.Map.Steps.{length-le_from_distinct_below}
 use Rattle.std.proofs.lemmas.List.Edits.{get_or-insert_below, get_or-insert_at, get_or-insert_above, length-insert}
 use Rattle.attributes.specs.declared.address.Addr.{Addr}
 use Rattle.attributes.specs.declared.address.Addr.TheVariants.{V4}
-use Rattle.attributes.specs.AddressOrder.{parts_of, order_by_parts, is_same_address}
+use Rattle.attributes.specs.AddressOrder.{address_parts, order_by_parts, is_same_address}
 use Rattle.attributes.specs.AddressOrderLaws.{parts_order-total, parts_order-antisymmetric, order_by_parts-total}
 use Rattle.tables.specs.LookUps.{is_of}
 use Rattle.tables.specs.RowLaws.{held_at-counts, held_at-ended}
@@ -29,7 +29,7 @@ use Rattle.tables.proofs.Lists.{All-insert}
 use Rattle.tables.proofs.Peers.{tied_when_same, same-found, same-missing}
 
 abbrev pub key_in : Client → List ℕ × ℕ
-key_in row = parts_of row.address
+key_in row = address_parts row.address
 
 -- how a row compares with a client
 abbrev pub by_client : Addr → Client → Ordering
@@ -40,7 +40,7 @@ abbrev pub blank : Client
 blank = record { address = V4 [] 0; slot = 0 }
 
 pub searchable_by_client : (client : Addr) (slots : List (Option Held)) (clients : List Client) → AreClients slots clients → AreAscending (by_client client) clients
-searchable_by_client client slots clients are = searchable parts_order-total key_in clients (parts_of client) are.ascending
+searchable_by_client client slots clients are = searchable parts_order-total key_in clients (address_parts client) are.ascending
 
 -- ---- a look-up
 

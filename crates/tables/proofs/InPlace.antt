@@ -10,7 +10,7 @@ use Rattle.fallible.specs.Fallible.{◌>>=◌, check}
 use Rattle.attributes.specs.Addresses.{IsIpv4Address, ip_of}
 use Rattle.attributes.specs.AddressOrderLaws.{ip_total, ip_antisymmetric}
 use Rattle.attributes.specs.declared.address.Addr.{Addr}
-use Rattle.tables.specs.Changes.{Change, Follows, with_held, refresh, permit, bind, permission_end, with_channel, with_peer}
+use Rattle.tables.specs.Changes.{Change, Follows, with_held, refresh_change, permit_change, bind_change, permission_end, with_channel, with_peer}
 use Rattle.tables.specs.Channels.{ChannelMap, IsChannelNumber, channels_at, may_bind}
 use Rattle.tables.specs.LookUps.{held_in}
 use Rattle.tables.specs.MapLaws.{len-within}
@@ -119,16 +119,16 @@ follows : (change : Change (Unit {0})) (old rows new : Rows) → change ≡ Ok (
 follows change old rows new is same = subst (λ (c : Change (Unit {0})). Follows c old (Ok tt) new) (sym is) (refl, same)
 
 module _ (rows : Rows) (slot : ℕ) (held : Held) (is : held_in rows slot ≡ Some held) where
-  refresh-held : (lifetime : ℕ) → refresh slot lifetime rows ≡ Ok (tt, with_held rows slot (with_end (rows.moment + lifetime) held))
+  refresh-held : (lifetime : ℕ) → refresh_change slot lifetime rows ≡ Ok (tt, with_held rows slot (with_end (rows.moment + lifetime) held))
   refresh-held lifetime = ap (λ (o : Option Held). ok_or o NoAllocation >>= (λ held. Ok (tt, with_held rows slot (with_end (rows.moment + lifetime) held)))) is
 
-  permit-held : (ips : List Addr) → len (with_all held.permissions ips (permission_end rows)) ≤ MAX_PERMISSIONS → permit slot ips rows ≡ Ok (tt, with_held rows slot (with_permissions (permission_end rows) ips held))
+  permit-held : (ips : List Addr) → len (with_all held.permissions ips (permission_end rows)) ≤ MAX_PERMISSIONS → permit_change slot ips rows ≡ Ok (tt, with_held rows slot (with_permissions (permission_end rows) ips held))
   permit-held ips few =
       ap (λ (o : Option Held). ok_or o NoAllocation >>= (λ held. check (nat_le (len (with_all held.permissions ips (permission_end rows))) MAX_PERMISSIONS) Capacity >>= (λ _. Ok (tt, with_held rows slot (with_permissions (permission_end rows) ips held))))) is
       ∙ ap (λ (b : Bool). check b Capacity >>= (λ _. Ok (tt, with_held rows slot (with_permissions (permission_end rows) ips held)))) (le-leb _ _ few)
 
   bind-held : (number : ℕ) (peer : Addr) → IsTrue (may_bind held.channels number peer) → len (with_channel held.channels number peer rows) ≤ MAX_CHANNELS → len (with_peer held.permissions peer rows) ≤ MAX_PERMISSIONS
-      → bind slot number peer rows ≡ Ok (tt, with_held rows slot (with_binding rows.moment number peer held))
+      → bind_change slot number peer rows ≡ Ok (tt, with_held rows slot (with_binding rows.moment number peer held))
   bind-held number peer free few_channels few_permissions =
       let made : Change (Unit {0}) = Ok (tt, with_held rows slot (with_binding rows.moment number peer held)) in
       ap (λ (o : Option Held). ok_or o NoAllocation >>= (λ held. check (may_bind held.channels number peer) Conflict >>= (λ _. check (nat_le (len (with_channel held.channels number peer rows)) MAX_CHANNELS) Capacity
@@ -158,18 +158,18 @@ module _ (last : ℕ) (slots : List (Option Held)) (now : Rows) (shows : ShowsSt
         with_held-stored last slots now shows t later slot new ∙ ap (λ (o : Option Held). record (counting_rows t now) { slots = set (counting_rows t now).slots slot o }) left
 
     pub refresh-follows : (lifetime : ℕ) (new : Held) → new ≡ with_end (t + lifetime) held
-        → Follows (refresh slot lifetime (counting_rows t now)) now (Ok tt) (counting_rows t (record { moment = t; slots = set slots slot (Some new) }))
+        → Follows (refresh_change slot lifetime (counting_rows t now)) now (Ok tt) (counting_rows t (record { moment = t; slots = set slots slot (Some new) }))
     refresh-follows lifetime new same =
         follows _ now _ _ (refresh-held (counting_rows t now) slot (held_counting t held) held_rows lifetime) (made new _ (ap (held_at t) same ∙ left-end t held (t + lifetime)))
 
     pub permit-follows : (ips : List Addr) (new : Held) → new ≡ with_permissions (t + PERMISSION_LIFETIME) ips held → len new.permissions ≤ MAX_PERMISSIONS
-        → Follows (permit slot ips (counting_rows t now)) now (Ok tt) (counting_rows t (record { moment = t; slots = set slots slot (Some new) }))
+        → Follows (permit_change slot ips (counting_rows t now)) now (Ok tt) (counting_rows t (record { moment = t; slots = set slots slot (Some new) }))
     permit-follows ips new same few =
         let fits = few_counting t held.permissions ips (t + PERMISSION_LIFETIME) MAX_PERMISSIONS (subst (λ (h : Held). len h.permissions ≤ MAX_PERMISSIONS) same few) in
         follows _ now _ _ (permit-held (counting_rows t now) slot (held_counting t held) held_rows ips fits) (made new _ (ap (held_at t) same ∙ left-permissions t held (t + PERMISSION_LIFETIME) ips))
 
     pub bind-follows : (number : ℕ) (peer : Addr) (new : Held) → new ≡ with_binding t number peer held → IsTrue (may_bind (channels_at t held.channels) number peer) → len new.permissions ≤ MAX_PERMISSIONS → len new.channels ≤ MAX_CHANNELS
-        → Follows (bind slot number peer (counting_rows t now)) now (Ok tt) (counting_rows t (record { moment = t; slots = set slots slot (Some new) }))
+        → Follows (bind_change slot number peer (counting_rows t now)) now (Ok tt) (counting_rows t (record { moment = t; slots = set slots slot (Some new) }))
     bind-follows number peer new same free few_permissions few_channels =
         let permissions_fit = few_counting t held.permissions (peer ∷ []) (t + PERMISSION_LIFETIME) MAX_PERMISSIONS (subst (λ (h : Held). len h.permissions ≤ MAX_PERMISSIONS) same few_permissions) in
         let channels_fit = few_channels_counting t held.channels number (record { peer = peer; end = t + CHANNEL_LIFETIME }) MAX_CHANNELS (subst (λ (h : Held). len h.channels ≤ MAX_CHANNELS) same few_channels) in

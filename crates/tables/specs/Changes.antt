@@ -38,15 +38,15 @@ first_free rows = position is_none rows.slots
 abbrev pub fresh : Allocation → Held
 fresh allocation = record { allocation = allocation; permissions = empty; channels = empty }
 
-abbrev pub allocate : Addr → ℕ → List ℕ → ℕ → Rows → Change ℕ
-allocate client user tx lifetime rows = do
+abbrev pub allocation_change : Addr → ℕ → List ℕ → ℕ → Rows → Change ℕ
+allocation_change client user tx lifetime rows = do
   _ ← check (is_none (allocation_of client rows)) Mismatch
   slot ← ok_or (first_free rows) Capacity
   Ok (slot, with_held rows slot (fresh (record { slot = slot; client = client; user = user; tx = tx; lifetime = lifetime; end = rows.moment + lifetime })))
 
 -- a new end; with a lifetime of 0 the allocation has ended
-abbrev pub refresh : ℕ → ℕ → Rows → Change (Unit {0})
-refresh slot lifetime rows = do
+abbrev pub refresh_change : ℕ → ℕ → Rows → Change (Unit {0})
+refresh_change slot lifetime rows = do
   held ← ok_or (held_in rows slot) NoAllocation
   Ok (tt, with_held rows slot (record held { allocation = record held.allocation { end = rows.moment + lifetime } }))
 
@@ -55,8 +55,8 @@ refresh slot lifetime rows = do
 abbrev pub permission_end : Rows → ℕ
 permission_end rows = rows.moment + PERMISSION_LIFETIME
 
-abbrev pub permit : ℕ → List Addr → Rows → Change (Unit {0})
-permit slot ips rows = do
+abbrev pub permit_change : ℕ → List Addr → Rows → Change (Unit {0})
+permit_change slot ips rows = do
   held ← ok_or (held_in rows slot) NoAllocation
   _ ← check (nat_le (len (with_all held.permissions ips (permission_end rows))) MAX_PERMISSIONS) Capacity
   Ok (tt, with_held rows slot (record held { permissions = with_all held.permissions ips (permission_end rows) }))
@@ -70,8 +70,8 @@ abbrev pub with_peer : PermissionMap → Addr → Rows → PermissionMap
 with_peer permissions peer rows = insert permissions (ip_of peer) (permission_end rows)
 
 -- binding a channel also permits its peer's IP address
-abbrev pub bind : ℕ → ℕ → Addr → Rows → Change (Unit {0})
-bind slot number peer rows = do
+abbrev pub bind_change : ℕ → ℕ → Addr → Rows → Change (Unit {0})
+bind_change slot number peer rows = do
   held ← ok_or (held_in rows slot) NoAllocation
   _ ← check (may_bind held.channels number peer) Conflict
   _ ← check (nat_le (len (with_channel held.channels number peer rows)) MAX_CHANNELS) Capacity

@@ -19,9 +19,9 @@ second true b p = p
 second false b p = absurd p
 
 less_differs : (r : Ordering) → T (is_lt r) → is_eq r ≡ false
-less_differs Less p = refl
-less_differs Equal p = absurd p
-less_differs Greater p = absurd p
+less_differs Less i = refl
+less_differs Equal i = absurd i
+less_differs Greater i = absurd i
 
 -- ---- a search among the entries
 
@@ -35,13 +35,13 @@ module _ {K X : Type 0} {R : K → K → Ordering} (o : IsTotalOrder R) where
 
   -- an entry of a list in order is the one of its key
   lookup_found : (t : K × X → Bool) (es : List (K × X)) (e : K × X) → T (is_sorted R es) → find t es ≡ Some e → lookup R e.0 es ≡ Some e.1
-  lookup_found t [] e h s = absurd (none-some e s)
-  lookup_found t (x ∷ es) e h s = elim (cases_Bool (t x)) [
+  lookup_found t [] e d s = absurd (none-some e s)
+  lookup_found t (x ∷ es) e d s = elim (cases_Bool (t x)) [
     | inl b ↦ subst (λ (y : K × X). lookup R y.0 (x ∷ es) ≡ Some y.1) (same_Some _ _ (sym (cond-true (t x) _ _ b) ∙ s)) (cond-true (eq_by_cmp R x.0 x.0) _ _ (ap is_eq (tied_itself o x.0)))
     | inr b ↦
         let later = sym (cond-false (t x) _ _ b) ∙ s in
-        let far : eq_by_cmp R e.0 x.0 ≡ false = (eq_by_cmp_equiv o).symm e.0 x.0 ∙ less_differs (R x.0 e.0) (below_found x.0 t es e (first _ _ h) later) in
-        cond-false (eq_by_cmp R e.0 x.0) _ _ far ∙ lookup_found t es e (second _ _ h) later
+        let far : eq_by_cmp R e.0 x.0 ≡ false = (eq_by_cmp_equiv o).symm e.0 x.0 ∙ less_differs (R x.0 e.0) (below_found x.0 t es e (first _ _ d) later) in
+        cond-false (eq_by_cmp R e.0 x.0) _ _ far ∙ lookup_found t es e (second _ _ d) later
   ]
 
   pub entry_found : (t : K × X → Bool) (m : FinMap R X) (e : K × X) → find t (entries m) ≡ Some e → get m e.0 ≡ Some e.1

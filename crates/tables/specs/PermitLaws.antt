@@ -11,7 +11,7 @@ use Rattle.attributes.specs.Addresses.{ip_of}
 use Rattle.attributes.specs.AddressOrder.{ip_cmp}
 use Rattle.attributes.specs.AddressOrderLaws.{ip_total, ip_antisymmetric}
 use Rattle.attributes.specs.declared.address.Addr.{Addr}
-use Rattle.tables.specs.Changes.{Change, permit, permission_end, with_held}
+use Rattle.tables.specs.Changes.{Change, permit_change, permission_end, with_held}
 use Rattle.tables.specs.LookUps.{held_in}
 use Rattle.tables.specs.Permissions.{PermissionMap, with_all}
 use Rattle.tables.specs.Rows.{Rows}
@@ -127,7 +127,7 @@ too_many slot rows held permissions many = elim (cases_Bool (nat_le (len permiss
 ]
 
 -- permissions for some addresses are granted as those for all
-pub permit_alike : (few all : List Addr) → StandsFor few all → (slot : ℕ) (rows : Rows) → permit slot few rows ≡ permit slot all rows
+pub permit_alike : (few all : List Addr) → StandsFor few all → (slot : ℕ) (rows : Rows) → permit_change slot few rows ≡ permit_change slot all rows
 permit_alike few all stands slot rows = elim (held_in rows slot) as (λ held. permit_held few slot rows held ≡ permit_held all slot rows held) [
   | None ↦ refl
   | Some held ↦ elim (stands held.permissions (permission_end rows)) [

@@ -33,8 +33,8 @@ binding_counts t b = counts_at t (option_map (λ b. b.end) b)
 pub permissions_again : (t u : ℕ) (m : PermissionMap) → t ≤ u → permissions_at u (permissions_at t m) ≡ permissions_at u m
 permissions_again t u m le = kept_of_again (counts_at t) (counts_at u) (λ end h. counts_before t u end le h) ip_total ip_antisymmetric m
 
-pub channels_again : (t u : ℕ) (m : ChannelMap) → t ≤ u → channels_at u (channels_at t m) ≡ channels_at u m
-channels_again t u m le = kept_of_again (binding_counts t) (binding_counts u) (λ b h. counts_before t u b.end le h) nat_cmp_total nat_cmp-IsAntisymmetric m
+pub channels_again : (t u : ℕ) (c : ChannelMap) → t ≤ u → channels_at u (channels_at t c) ≡ channels_at u c
+channels_again t u c le = kept_of_again (binding_counts t) (binding_counts u) (λ b h. counts_before t u b.end le h) nat_cmp_total nat_cmp-IsAntisymmetric c
 
 -- ---- what a slot holds
 
@@ -92,9 +92,9 @@ before_in t u slot rows f le each a h =
     ap (option_and_then f) (held_in-counting t slot rows)
     ∙ before t u f le each (held_in rows slot) a (sym (ap (option_and_then f) (held_in-counting u slot rows)) ∙ h)
 
-mapped : {A B : Type 0} (f : A → B) (o : Option A) → option_map f o ≡ option_and_then (λ x. Some (f x)) o
-mapped f None = refl
-mapped f (Some x) = refl
+mapped : {A B : Type 0} (d : A → B) (o : Option A) → option_map d o ≡ option_and_then (λ x. Some (d x)) o
+mapped d None = refl
+mapped d (Some x) = refl
 
 pub allocation_counted : (t u slot : ℕ) (rows : Rows) (a : Allocation) → t ≤ u → allocation_at slot (counting_rows u rows) ≡ Some a → allocation_at slot (counting_rows t rows) ≡ Some a
 allocation_counted t u slot rows a le h =

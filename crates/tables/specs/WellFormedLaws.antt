@@ -15,7 +15,7 @@ use Rattle.attributes.specs.AddressOrderLaws.{ip_total}
 use Rattle.attributes.specs.declared.address.Addr.{Addr}
 use Rattle.attributes.specs.declared.address.Addr.TheVariants.{V4, V6}
 use Rattle.tables.specs.Addresses.{is_ipv4}
-use Rattle.tables.specs.Changes.{Change, Follows, with_held, fresh, first_free, allocate, refresh, permit, bind, permission_end, with_peer}
+use Rattle.tables.specs.Changes.{Change, Follows, with_held, fresh, first_free, allocation_change, refresh_change, permit_change, bind_change, permission_end, with_peer}
 use Rattle.tables.specs.Channels.{ChannelMap, IsChannelNumber, may_bind, number_to}
 use Rattle.tables.specs.LookUps.{held_in, is_of, allocation_of, allocation_at, peer_of, channel_of}
 use Rattle.tables.specs.MapLaws.{entry_found}
@@ -170,7 +170,7 @@ with_held-well_formed slot held rows are is =
 -- ---- changes
 
 module _ {A B : Type 0} (P : B → Type 0) where
-  on_ok : (r : Result A Refused) (f : A → Result B Refused) → ((x : A) → r ≡ Ok x → IfOk (f x) P) → IfOk (r >>= f) P
+  on_ok : (result : Result A Refused) (f : A → Result B Refused) → ((x : A) → result ≡ Ok x → IfOk (f x) P) → IfOk (result >>= f) P
   on_ok (Ok x) f each = each x refl
   on_ok (Err refused) f each = tt
 
@@ -178,25 +178,25 @@ checked : {B : Type 0} (P : B → Type 0) (b : Bool) (refused : Refused) (r : Re
 checked P true refused r each = each refl
 checked P false refused r each = tt
 
-some_ok : {A : Type 0} (o : Option A) (refused : Refused) (x : A) → ok_or o refused ≡ Ok x → o ≡ Some x
+some_ok : {A : Type 0} (option : Option A) (refused : Refused) (x : A) → ok_or option refused ≡ Ok x → option ≡ Some x
 some_ok None refused x e = cc
 some_ok (Some y) refused x e = cc
 
 pub allocate-well_formed : (client : Addr) (user : ℕ) (tx : List ℕ) (lifetime : ℕ) (rows : Rows) → AreWellFormed rows → IsIpv4Address client
-    → IfOk (allocate client user tx lifetime rows) (λ made. AreWellFormed made.1)
+    → IfOk (allocation_change client user tx lifetime rows) (λ made. AreWellFormed made.1)
 allocate-well_formed client user tx lifetime rows are address =
     checked (λ made. AreWellFormed made.1) (is_none (allocation_of client rows)) Mismatch _ (λ _.
     on_ok (λ made. AreWellFormed made.1) (ok_or (first_free rows) Capacity) _ (λ slot free.
     let allocation : Allocation = record { slot = slot; client = client; user = user; tx = tx; lifetime = lifetime; end = rows.moment + lifetime } in
     with_held-well_formed slot (fresh allocation) rows are (fresh-held_at slot allocation refl address)))
 
-pub refresh-well_formed : (slot lifetime : ℕ) (rows : Rows) → AreWellFormed rows → IfOk (refresh slot lifetime rows) (λ made. AreWellFormed made.1)
+pub refresh-well_formed : (slot lifetime : ℕ) (rows : Rows) → AreWellFormed rows → IfOk (refresh_change slot lifetime rows) (λ made. AreWellFormed made.1)
 refresh-well_formed slot lifetime rows are =
     on_ok (λ made. AreWellFormed made.1) (ok_or (held_in rows slot) NoAllocation) _ (λ held there.
     let is = are.held slot held (some_ok (held_in rows slot) NoAllocation held there) in
     with_held-well_formed slot (record held { allocation = record held.allocation { end = rows.moment + lifetime } }) rows are (refreshed-held_at slot (rows.moment + lifetime) held is))
 
-pub permit-well_formed : (slot : ℕ) (ips : List Addr) (rows : Rows) → AreWellFormed rows → IfOk (permit slot ips rows) (λ made. AreWellFormed made.1)
+pub permit-well_formed : (slot : ℕ) (ips : List Addr) (rows : Rows) → AreWellFormed rows → IfOk (permit_change slot ips rows) (λ made. AreWellFormed made.1)
 permit-well_formed slot ips rows are =
     on_ok (λ made. AreWellFormed made.1) (ok_or (held_in rows slot) NoAllocation) _ (λ held there.
     let is = are.held slot held (some_ok (held_in rows slot) NoAllocation held there) in
@@ -205,7 +205,7 @@ permit-well_formed slot ips rows are =
     with_held-well_formed slot (record held { permissions = permissions }) rows are (permitted-held_at slot permissions held (leb-true _ _ few) is)))
 
 pub bind-well_formed : (slot number : ℕ) (peer : Addr) (rows : Rows) → AreWellFormed rows → IsChannelNumber number → IsIpv4Address peer
-    → IfOk (bind slot number peer rows) (λ made. AreWellFormed made.1)
+    → IfOk (bind_change slot number peer rows) (λ made. AreWellFormed made.1)
 bind-well_formed slot number peer rows are range address =
     on_ok (λ made. AreWellFormed made.1) (ok_or (held_in rows slot) NoAllocation) _ (λ held there.
     let is = are.held slot held (some_ok (held_in rows slot) NoAllocation held there) in
@@ -257,7 +257,7 @@ allocation_of-at_slot client rows a are =
           ap (λ n. allocation_at n rows) at ∙ ap (λ o. option_map (λ held. held.allocation) o) holds ∙ there
     ] refl
 
-peer_bound : (slot number : ℕ) (held : Held) (peer : Addr) (o : Option Binding) → IsHeldAt slot held → get held.channels number ≡ o → option_map (λ b. b.peer) o ≡ Some peer → IsIpv4Address peer
+peer_bound : (slot number : ℕ) (held : Held) (peer : Addr) (option : Option Binding) → IsHeldAt slot held → get held.channels number ≡ option → option_map (λ b. b.peer) option ≡ Some peer → IsIpv4Address peer
 peer_bound slot number held peer None is at there = absurd (none-some peer there)
 peer_bound slot number held peer (Some binding) is at there = subst IsIpv4Address (same_Some _ _ there) (is.channels number binding at).peer
 
@@ -269,8 +269,8 @@ peer_of-address slot number rows peer are =
       | Some held ↦ λ is there. peer_bound slot number held peer (get held.channels number) (are.held slot held is) refl there
     ] refl
 
-number_bound : (slot number : ℕ) (held : Held) (peer : Addr) (o : Option (ℕ × Binding)) → IsHeldAt slot held → find (λ e. is_same_address peer e.1.peer) (entries held.channels) ≡ o
-    → option_map (λ e. e.0) o ≡ Some number → IsChannelNumber number
+number_bound : (slot number : ℕ) (held : Held) (peer : Addr) (l : Option (ℕ × Binding)) → IsHeldAt slot held → find (λ e. is_same_address peer e.1.peer) (entries held.channels) ≡ l
+    → option_map (λ e. e.0) l ≡ Some number → IsChannelNumber number
 number_bound slot number held peer None is at there = absurd (none-some number there)
 number_bound slot number held peer (Some e) is at there =
     let bound = entry_found nat_cmp_total (λ e. is_same_address peer e.1.peer) held.channels e at in
@@ -284,7 +284,7 @@ channel_of-number slot peer rows number are =
       | Some held ↦ λ is there. number_bound slot number held peer (find (λ e. is_same_address peer e.1.peer) (entries held.channels)) (are.held slot held is) refl there
     ] refl
 
-number_of_bound : (slot number : ℕ) (held : Held) (peer : Addr) (o : Option Binding) → IsHeldAt slot held → get held.channels number ≡ o → option_map (λ b. b.peer) o ≡ Some peer → IsChannelNumber number
+number_of_bound : (slot number : ℕ) (held : Held) (peer : Addr) (option : Option Binding) → IsHeldAt slot held → get held.channels number ≡ option → option_map (λ b. b.peer) option ≡ Some peer → IsChannelNumber number
 number_of_bound slot number held peer None is at there = absurd (none-some peer there)
 number_of_bound slot number held peer (Some binding) is at there = (is.channels number binding at).in_range
 

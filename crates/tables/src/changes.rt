@@ -15,7 +15,7 @@ impl Tables {
     ghost use Rattle.tables.specs.Channels.{IsChannelNumber};
     ghost use Rattle.tables.specs.Moments.{moment_of};
     ghost use Rattle.tables.specs.Rows.{counting_rows, rows_at};
-    ghost use Rattle.tables.specs.Changes.{Follows, allocate, refresh, permit, bind};
+    ghost use Rattle.tables.specs.Changes.{Follows, allocation_change, refresh_change, permit_change, bind_change};
     ghost use Rattle.tables.specs.declared.moment.TheConstants.{LATEST};
 
     /// Makes an allocation at the lowest free slot, with no permissions and no channels, and returns the slot. Its end is
@@ -32,7 +32,7 @@ impl Tables {
         lifetime: u32,
     ) -> Result<usize, Refused>
         requires ipv4 { IsTrue (is_ipv4 client) }
-        ensures follows { Follows (allocate client user tx lifetime (rows_at now self.old)) self.old result self.new }
+        ensures follows { Follows (allocation_change client user tx lifetime (rows_at now self.old)) self.old result self.new }
         ensures inside { IfOk result (λ slot. slot < length self.old.slots) }
         ensures moment { (self.old.moment ≤ self.new.moment) × (self.new.moment ≤ moment_of self.old.moment now) }
         ensures slots { length self.new.slots ≡ length self.old.slots }
@@ -69,7 +69,7 @@ impl Tables {
     /// # Errors
     /// `NoAllocation` where the slot has none.
     pub fn refresh(&mut self, now: u64, slot: usize, lifetime: u32) -> Result<(), Refused>
-        ensures follows { Follows (refresh slot lifetime (rows_at now self.old)) self.old result self.new }
+        ensures follows { Follows (refresh_change slot lifetime (rows_at now self.old)) self.old result self.new }
         ensures moment { (self.old.moment ≤ self.new.moment) × (self.new.moment ≤ moment_of self.old.moment now) }
         ensures slots { length self.new.slots ≡ length self.old.slots }
     {
@@ -90,7 +90,7 @@ impl Tables {
     /// [`MAX_PERMISSIONS`]: crate::MAX_PERMISSIONS
     pub fn permit(&mut self, now: u64, slot: usize, ips: &[Addr]) -> Result<(), Refused>
         requires ipv4 { IsTrue (list_all is_ipv4 ips.now) }
-        ensures follows { Follows (permit slot ips.now (rows_at now self.old)) self.old result self.new }
+        ensures follows { Follows (permit_change slot ips.now (rows_at now self.old)) self.old result self.new }
         ensures moment { (self.old.moment ≤ self.new.moment) × (self.new.moment ≤ moment_of self.old.moment now) }
         ensures slots { length self.new.slots ≡ length self.old.slots }
     {
@@ -106,7 +106,7 @@ impl Tables {
     fn permit_swept(&mut self, slot: usize, moment: u64, ips: &[Addr]) -> Result<(), Refused>
         requires later { self.old.moment ≤ moment }
         requires latest { moment ≤ LATEST }
-        ensures follows { Follows (permit slot ips.now (counting_rows moment self.old)) self.old result self.new }
+        ensures follows { Follows (permit_change slot ips.now (counting_rows moment self.old)) self.old result self.new }
         ensures moment { (self.old.moment ≤ self.new.moment) × (self.new.moment ≤ moment) }
         ensures slots { length self.new.slots ≡ length self.old.slots }
     {
@@ -134,7 +134,7 @@ impl Tables {
     pub fn bind(&mut self, now: u64, slot: usize, number: u16, peer: Addr) -> Result<(), Refused>
         requires range { IsChannelNumber number }
         requires ipv4 { IsTrue (is_ipv4 peer) }
-        ensures follows { Follows (bind slot number peer (rows_at now self.old)) self.old result self.new }
+        ensures follows { Follows (bind_change slot number peer (rows_at now self.old)) self.old result self.new }
         ensures moment { (self.old.moment ≤ self.new.moment) × (self.new.moment ≤ moment_of self.old.moment now) }
         ensures slots { length self.new.slots ≡ length self.old.slots }
     {
@@ -158,7 +158,7 @@ impl Tables {
         requires latest { moment ≤ LATEST }
         requires range { IsChannelNumber number }
         requires ipv4 { IsTrue (is_ipv4 peer) }
-        ensures follows { Follows (bind slot number peer (counting_rows moment self.old)) self.old result self.new }
+        ensures follows { Follows (bind_change slot number peer (counting_rows moment self.old)) self.old result self.new }
         ensures moment { (self.old.moment ≤ self.new.moment) × (self.new.moment ≤ moment) }
         ensures slots { length self.new.slots ≡ length self.old.slots }
     {

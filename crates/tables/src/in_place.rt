@@ -11,7 +11,7 @@ impl Tables {
     ghost use Rattle.tables.specs.Channels.{IsChannelNumber};
     ghost use Rattle.tables.specs.Rows.{counting_rows};
     ghost use Rattle.tables.specs.LookUps.{held_in};
-    ghost use Rattle.tables.specs.Changes.{Follows, refresh, permit, bind};
+    ghost use Rattle.tables.specs.Changes.{Follows, refresh_change, permit_change, bind_change};
     ghost use Rattle.tables.specs.declared.moment.TheConstants.{LATEST};
 
     /// Gives the allocation at a slot a new end, if it counts at a moment, and returns whether it does. Else nothing is
@@ -19,7 +19,7 @@ impl Tables {
     pub(crate) fn refresh_in_place(&mut self, slot: usize, moment: u64, lifetime: u32) -> bool
         requires later { self.old.moment ≤ moment }
         requires latest { moment ≤ LATEST }
-        ensures made { OnTrue result (Follows (refresh slot lifetime (counting_rows moment self.old)) self.old (Ok tt) self.new) }
+        ensures made { OnTrue result (Follows (refresh_change slot lifetime (counting_rows moment self.old)) self.old (Ok tt) self.new) }
         ensures none { OnFalse result (held_in (counting_rows moment self.old) slot ≡ None) }
         ensures unchanged { OnFalse result (self.new ≡ self.old) }
         ensures moment { OnTrue result (self.new.moment ≡ moment) }
@@ -44,7 +44,7 @@ impl Tables {
     pub(crate) fn permit_in_place(&mut self, slot: usize, moment: u64, ips: &[Addr]) -> bool
         requires later { self.old.moment ≤ moment }
         requires latest { moment ≤ LATEST }
-        ensures made { OnTrue result (Follows (permit slot ips.now (counting_rows moment self.old)) self.old (Ok tt) self.new) }
+        ensures made { OnTrue result (Follows (permit_change slot ips.now (counting_rows moment self.old)) self.old (Ok tt) self.new) }
         ensures unchanged { OnFalse result (self.new ≡ self.old) }
         ensures moment { OnTrue result (self.new.moment ≡ moment) }
         ensures slots { length self.new.slots ≡ length self.old.slots }
@@ -76,7 +76,7 @@ impl Tables {
         requires latest { moment ≤ LATEST }
         requires range { IsChannelNumber number }
         requires ipv4 { IsTrue (is_ipv4 peer) }
-        ensures made { OnTrue result (Follows (bind slot number peer (counting_rows moment self.old)) self.old (Ok tt) self.new) }
+        ensures made { OnTrue result (Follows (bind_change slot number peer (counting_rows moment self.old)) self.old (Ok tt) self.new) }
         ensures unchanged { OnFalse result (self.new ≡ self.old) }
         ensures moment { OnTrue result (self.new.moment ≡ moment) }
         ensures slots { length self.new.slots ≡ length self.old.slots }

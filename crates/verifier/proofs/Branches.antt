@@ -1,12 +1,13 @@
 -- Branches of the instructions of a program whose layout is good lead ahead, to instructions.
 use Rattle.std.proofs.Common.{◌≡◌, ℕ, ◌+◌, ◌<◌, ◌≤◌, Bool, true, false, cond, List, Result, Ok, Err, refl, sym, ap, ◌∙◌, subst, arith}
-use Rattle.std.specs.Prelude.{ℤ, pos, Some, ◌+ℤ◌, ◌<ℤ◌, int_le, unsigned_abs, IsOk}
+use Rattle.std.specs.Prelude.{ℤ, pos, Option, Some, None, IfSome, ◌+ℤ◌, ◌<ℤ◌, int_le, unsigned_abs, IsOk}
 use Rattle.std.proofs.lemmas.Int.{ints}
-use Rattle.insn.specs.Encoding.{slots_of}
+use Rattle.insn.specs.Encoding.{slots_of, slot_count}
+use Rattle.insn.specs.declared.decoding.TheConstants.{MAX_SLOTS}
 use Rattle.insn.specs.declared.instruction.Insn.{Insn}
 use Rattle.fallible.specs.Fallible.{◌>>=◌}
 use Rattle.semantics.specs.Slots.{fetch, target, landing}
-use Rattle.semantics.specs.SlotLaws.{some_slots}
+use Rattle.semantics.specs.SlotLaws.{some_slots, begins_inside}
 use Rattle.semantics.specs.Flow.{Flow, Straight, Jumps, Forks, flow_of, flow_distance, flow_slot, branch_slot}
 use Rattle.semantics.specs.Flow as flow
 use Rattle.semantics.specs.declared.fetching.Branch.{Branch}
@@ -22,6 +23,7 @@ use Rattle.absstate.specs.StepLaws.MemoryValues.{abs_is}
 use Rattle.absstate.specs.declared.abstract_state.AbsState.{AbsState}
 use Rattle.absstate.specs.declared.abstract_step.Next.{Next}
 use Rattle.absstate.specs.declared.abstract_step.Next.TheVariants as next
+use Rattle.operations.specs.Operations.{LeadsInside, HasJumpsInside}
 use Rattle.verifier.specs.Layout.{distance_checked, fetched_checked, HasGoodJumps, EndsInExit}
 use Rattle.verifier.proofs.Positions.{one_goes_on, two_goes_on, next_begins, target_begins, landing_ok}
 
@@ -80,6 +82,34 @@ flow_begins code slot n k flow.Ends branch next e = next e
 -- and to an instruction, where the last instruction is the exit
 pub branch_begins : (code : List Insn) (slot n : ℕ) (i : Insn) (branch : Branch) → EndsInExit code → fetch code slot ≡ Begins i → (successors_of i ≡ Ends → ⊥) → branch_slot code slot i branch ≡ Ok n → (j : Insn) × (fetch code n ≡ Begins j)
 branch_begins code slot n i branch exit here on e = flow_begins code slot n (slots_of i) (flow_of i) branch (next_is code slot n i exit here on) e
+
+-- ---- the slots that jumps lead to
+
+goal_is : (a : ℤ) (slot n : ℕ) (b : Bool) (p : Fetched) → int_le a (pos slot) ≡ b → cond b (Err reasons.JumpBackward) (landing p (unsigned_abs a)) ≡ Ok n → pos n ≡ a
+goal_is a slot n true p e f = absurd cc
+goal_is a slot n false p e f =
+    let above : pos slot <ℤ a = not_le a (pos slot) e in
+    ap pos (sym (landing_ok p (unsigned_abs a) n f).2) ∙ abs_is a (omega (arith, ints))
+
+leads_inside : (code : List Insn) (slot n : ℕ) (d : ℤ) → slot_count code ≤ MAX_SLOTS → target code slot d ≡ Ok n → LeadsInside slot d
+leads_inside code slot n d few e =
+    let a : ℤ = pos (slot + 1) +ℤ d in
+    let is : pos n ≡ a = goal_is a slot n (int_le a (pos slot)) (fetch code (unsigned_abs a)) refl e in
+    let there = target_begins code slot n d e in
+    let inside : n < slot_count code = begins_inside code n there.0 there.1 in
+    record { first = omega (arith, ints, is); last = omega (arith, ints, is, inside, few) }
+
+target_inside : (code : List Insn) (slot : ℕ) (d : ℤ) (r : Result ℕ Reason) → slot_count code ≤ MAX_SLOTS → target code slot d ≡ r → ◌≡◌ {A = Result (Unit {0}) Reason} (r >>= λ goal. Ok tt) (Ok tt) → LeadsInside slot d
+target_inside code slot d (Ok n) few is e = leads_inside code slot n d few is
+target_inside code slot d (Err reason) few is e = absurd cc
+
+distance_inside : (code : List Insn) (slot : ℕ) (o : Option ℤ) → slot_count code ≤ MAX_SLOTS → distance_checked code slot o ≡ Ok tt → IfSome o (LeadsInside slot)
+distance_inside code slot None few e = tt
+distance_inside code slot (Some d) few e = target_inside code slot d (target code slot d) few refl e
+
+-- where no jump is faulty, each leads to one of the few slots
+pub jumps_inside : (code : List Insn) → slot_count code ≤ MAX_SLOTS → HasGoodJumps code → HasJumpsInside code
+jumps_inside code few jumps slot i here = distance_inside code slot (flow_distance (flow_of i)) few (ap (fetched_checked code slot) (sym here) ∙ jumps slot)
 
 -- an instruction with a state after it goes on
 pub state_goes_on : {D : Type 0} (i : Insn) (answer : Next D) (branch : Branch) (b : AbsState D) → successors_in answer ≡ successors_of i → state_after answer branch ≡ Some b → successors_of i ≡ Ends → ⊥

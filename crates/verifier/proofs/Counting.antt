@@ -3,7 +3,7 @@ use Rattle.std.proofs.Common.{◌≡◌, ℕ, zero, suc, ◌+◌, ◌-◌, ◌<�
 use Rattle.std.specs.List.{flat_map}
 use Rattle.std.proofs.lemmas.List.{length-map}
 use Rattle.insn.specs.declared.instruction.Insn.{Insn}
-use Rattle.semantics.specs.Slots.{fetch, target, ahead}
+use Rattle.semantics.specs.Slots.{fetch, target, instructions_ahead}
 use Rattle.semantics.specs.SlotLaws.{ahead_falls}
 use Rattle.insn.specs.Encoding.{slots_of}
 use Rattle.semantics.specs.Flow.{Flow, Straight, Jumps, Forks, flow_of, flow_slot, flow_branches, branches, branch_slot}
@@ -14,7 +14,7 @@ use Rattle.semantics.specs.declared.fetching.Fetched.{Fetched}
 use Rattle.semantics.specs.declared.fetching.Fetched.TheVariants.{Begins, Inside, Past}
 use Rattle.semantics.specs.declared.fetching.Branch.{Branch}
 use Rattle.semantics.specs.declared.fetching.Branch.TheVariants.{NotTaken, Taken}
-use Rattle.verifier.specs.PendingStates.{count_from, counts_from}
+use Rattle.verifier.specs.PendingStates.{count_of_beginnings, counts_from}
 use Rattle.absstate.specs.Successors.{One, Two, flow_successors, successors_of, successors_in}
 use Rattle.verifier.specs.Walk.{LeadsTo, IsNext, IsLeft, GoesOn}
 use Rattle.absstate.specs.declared.abstract_state.AbsState.{AbsState}
@@ -51,12 +51,12 @@ pub counted_at : (code : List Insn) (slot m : ℕ) (i : Insn) → fetch code slo
 counted_at code slot m i here = ap (λ (p : Fetched). length (paths_at code slot p (λ next. beginnings_from code m next))) here
 
 -- an instruction and those after it
-pub fuel_is : (code : List Insn) (slot : ℕ) (i : Insn) → fetch code slot ≡ Begins i → ahead code slot ≡ suc (ahead code slot - 1)
+pub fuel_is : (code : List Insn) (slot : ℕ) (i : Insn) → fetch code slot ≡ Begins i → instructions_ahead code slot ≡ suc (instructions_ahead code slot - 1)
 fuel_is code slot i begins = omega (arith, ahead_falls code slot (slot + 1) i begins (next_rises slot)) where
   next_rises : (n : ℕ) → n < n + 1
   next_rises n = omega arith
 
-after : (code : List Insn) (slot to : ℕ) (i : Insn) → fetch code slot ≡ Begins i → slot < to → ahead code to ≤ ahead code slot - 1
+after : (code : List Insn) (slot to : ℕ) (i : Insn) → fetch code slot ≡ Begins i → slot < to → instructions_ahead code to ≤ instructions_ahead code slot - 1
 after code slot to i begins rises = omega (arith, ahead_falls code slot to i begins rises)
 
 onwards_is : (branch : Branch) (r : Result ℕ Reason) (n : ℕ) (f : ℕ → List (List Branch)) → r ≡ Ok n → length (path_onwards branch r f) ≡ length (f n)
@@ -64,11 +64,11 @@ onwards_is branch r n f e = ap (λ (q : Result ℕ Reason). length (path_onwards
 
 -- the beginnings through a branch are at least those from the pending state that it leads to
 branch_counts : {D : Type 0} (code : List Insn) (slot : ℕ) (i : Insn) → fetch code slot ≡ Begins i → (branch : Branch) (known : AbsState D) (p : Pending D) → LeadsTo code slot i branch known p
-    → count_from code p ≤ length (path_onwards branch (branch_slot code slot i branch) (λ next. beginnings_from code (ahead code slot - 1) next))
+    → count_of_beginnings code p ≤ length (path_onwards branch (branch_slot code slot i branch) (λ next. beginnings_from code (instructions_ahead code slot - 1) next))
 branch_counts code slot i begins branch known p point =
-    let m : ℕ = ahead code slot - 1 in
+    let m : ℕ = instructions_ahead code slot - 1 in
     let is = onwards_is branch (branch_slot code slot i branch) p.slot (λ next. beginnings_from code m next) point.leads in
-    let fewer = more_fuel code (ahead code p.slot) m p.slot (after code slot p.slot i begins (branch_rises code slot p.slot i branch point.leads)) in
+    let fewer = more_fuel code (instructions_ahead code p.slot) m p.slot (after code slot p.slot i begins (branch_rises code slot p.slot i branch point.leads)) in
     omega (arith, is, fewer)
 
 abbrev all_onwards : List Insn → ℕ → Insn → ℕ → List (List Branch)
@@ -110,19 +110,19 @@ two_branches code slot m i e = two_ways code slot (slots_of i) m (flow_of i) e
 -- the number of beginnings from the current state, if there is one
 abbrev pub count_next : {D : Type 0} → List Insn → Option (Pending D) → ℕ
 count_next code None = 0
-count_next code (Some p) = count_from code p
+count_next code (Some p) = count_of_beginnings code p
 
 module _ {D : Type 0} (code : List Insn) (slot : ℕ) (i : Insn) (begins : fetch code slot ≡ Begins i) where
-  next_counts : (branch : Branch) (state : Option (AbsState D)) (on : Option (Pending D)) → IsNext code slot i branch state on → count_next code on ≤ length (branch_onwards code slot i branch (ahead code slot - 1))
+  next_counts : (branch : Branch) (state : Option (AbsState D)) (on : Option (Pending D)) → IsNext code slot i branch state on → count_next code on ≤ length (branch_onwards code slot i branch (instructions_ahead code slot - 1))
   next_counts branch None None is = omega arith
   next_counts branch None (Some p) is = absurd is
   next_counts branch (Some state) None is = absurd is
   next_counts branch (Some state) (Some p) is = branch_counts code slot i begins branch state p is
 
-  left_counts : (branch : Branch) (state : Option (AbsState D)) (left : List (Pending D)) → IsLeft code slot i branch state left → counts_from code left ≤ length (branch_onwards code slot i branch (ahead code slot - 1))
+  left_counts : (branch : Branch) (state : Option (AbsState D)) (left : List (Pending D)) → IsLeft code slot i branch state left → counts_from code left ≤ length (branch_onwards code slot i branch (instructions_ahead code slot - 1))
   left_counts branch None left is = let none : counts_from code left ≡ 0 = ap (counts_from code) is in omega (arith, none)
   left_counts branch (Some state) left is =
-      let one : counts_from code left ≡ 0 + count_from code is.0 = ap (counts_from code) is.2 in
+      let one : counts_from code left ≡ 0 + count_of_beginnings code is.0 = ap (counts_from code) is.2 in
       omega (arith, one, branch_counts code slot i begins branch state is.0 is.1)
 
   -- where no state follows a branch, nothing is followed or left
@@ -131,20 +131,20 @@ module _ {D : Type 0} (code : List Insn) (slot : ℕ) (i : Insn) (begins : fetch
   no_next (Some p) is = absurd is
 
   onwards_count : (answer : Next D) → successors_in answer ≡ successors_of i → (on : Option (Pending D)) (left : List (Pending D)) → GoesOn code slot i answer on left
-      → count_next code on + counts_from code left ≤ length (all_onwards code slot i (ahead code slot - 1))
+      → count_next code on + counts_from code left ≤ length (all_onwards code slot i (instructions_ahead code slot - 1))
   onwards_count (next.On b) successors_are on left goes =
       let none : counts_from code left ≡ 0 = ap (counts_from code) goes.1 in
-      omega (arith, none, next_counts NotTaken (Some b) on goes.0, one_branch code slot (ahead code slot - 1) i successors_are)
+      omega (arith, none, next_counts NotTaken (Some b) on goes.0, one_branch code slot (instructions_ahead code slot - 1) i successors_are)
   onwards_count (next.Fork not_taken taken) successors_are on left goes =
-      omega (arith, next_counts NotTaken not_taken on goes.0, left_counts Taken taken left goes.1, two_branches code slot (ahead code slot - 1) i successors_are)
+      omega (arith, next_counts NotTaken not_taken on goes.0, left_counts Taken taken left goes.1, two_branches code slot (instructions_ahead code slot - 1) i successors_are)
   onwards_count next.Exit successors_are on left goes =
       let none : counts_from code left ≡ 0 = ap (counts_from code) goes.1 in
       omega (arith, none, no_next on goes.0)
 
 -- a step takes one of the beginnings from its pending state
 pub counts_before : {D : Type 0} (code : List Insn) (here : Pending D) (i : Insn) → fetch code here.slot ≡ Begins i → (answer : Next D) → successors_in answer ≡ successors_of i → (on : Option (Pending D)) (left : List (Pending D)) → GoesOn code here.slot i answer on left
-    → 1 + (count_next code on + counts_from code left) ≤ count_from code here
+    → 1 + (count_next code on + counts_from code left) ≤ count_of_beginnings code here
 counts_before code here i begins answer successors_are on left goes =
-    let m : ℕ = ahead code here.slot - 1 in
-    let fuel : count_from code here ≡ length (beginnings_from code (suc m) here.slot) = ap (λ (k : ℕ). length (beginnings_from code k here.slot)) (fuel_is code here.slot i begins) in
+    let m : ℕ = instructions_ahead code here.slot - 1 in
+    let fuel : count_of_beginnings code here ≡ length (beginnings_from code (suc m) here.slot) = ap (λ (k : ℕ). length (beginnings_from code k here.slot)) (fuel_is code here.slot i begins) in
     omega (arith, fuel, counted_at code here.slot m i begins, onwards_count code here.slot i begins answer successors_are on left goes)

@@ -17,14 +17,14 @@ use Rattle.semantics.specs.declared.fetching.Fetched.TheVariants.{Begins}
 use Rattle.semantics.specs.declared.fetching.Branch.{Branch}
 use Rattle.semantics.specs.declared.fetching.Branch.TheVariants.{NotTaken, Taken}
 use Rattle.interval.specs.Domains.{Operations, AreSound, ArePrecise}
-use Rattle.absstate.specs.AbstractStates.{first_state}
+use Rattle.absstate.specs.AbstractStates.{first_abstract_state}
 use Rattle.absstate.specs.AbstractSteps as abstract
 use Rattle.absstate.specs.Membership.{Strict, IsMember}
 use Rattle.absstate.specs.MemberSteps.{state_after}
 use Rattle.absstate.specs.StepLaws.MemoryValues.{abs_is}
 use Rattle.absstate.specs.StepLaws.Members.{at_first, first_member, loosens_itself, loosens_then}
 use Rattle.absstate.specs.StepReasons.{IsAboutPlaces}
-use Rattle.absstate.specs.StepLaws.Anchors.{ArePlain, greater, greater_left, greater_right, greater_least, reach_of, reach_of_plain}
+use Rattle.absstate.specs.StepLaws.Anchors.{NameNoMadeAnchor, greater_number, greater_left, greater_right, greater_least, reach_of, reach_of_plain}
 use Rattle.absstate.specs.StepLaws.Following.{step_is}
 use Rattle.absstate.specs.StepLaws.Opening.{Opens, step_rises, step_opens}
 use Rattle.absstate.specs.StepLaws.Plainness.{step_plain}
@@ -64,7 +64,7 @@ equal_of a b p q = omega (arith, ints)
 
 -- ---- the first pending state
 
-first_plain : (D : Type 0) → ArePlain (first_state {D = D}).registers
+first_plain : (D : Type 0) → NameNoMadeAnchor (first_abstract_state {D = D}).registers
 first_plain D zero h = h
 first_plain D (suc zero) h = h
 first_plain D (suc (suc zero)) h = h
@@ -95,12 +95,12 @@ environment_is_possible = record {
 }
 
 module _ {D : Type 0} (ops : Operations D) (Member : D → ℕ → Type 0) (sound : AreSound ops Member) where
-  pub first_reached : (code : List Insn) → IsReached Member code (record { slot = 0; state = first_state })
+  pub first_reached : (code : List Insn) → IsReached Member code (record { slot = 0; state = first_abstract_state })
   first_reached code = record {
     not_negative = omega (arith, ints);
     floor = pos 0;
     proved = omega (arith, ints);
-    reach = equal_at_most (reach_of (first_state {D = D}).registers) (pos 0) refl;
+    reach = equal_at_most (reach_of (first_abstract_state {D = D}).registers) (pos 0) refl;
     over = λ n le.
         let member = first_member Member Strict (replicate n 0) (zeros_fit n) in
         record {
@@ -110,7 +110,7 @@ module _ {D : Type 0} (ops : Operations D) (Member : D → ℕ → Type 0) (soun
           last = start (replicate n 0);
           loosened = start (replicate n 0);
           reaches = refl;
-          loosens = loosens_itself Member sound.words at_first first_state (start (replicate n 0)) member;
+          loosens = loosens_itself Member sound.words at_first first_abstract_state (start (replicate n 0)) member;
           slot = refl;
           size = let zero_byte : ℕ = 0 in length-replicate n zero_byte;
           member = record { places = at_first; at = member };
@@ -134,7 +134,7 @@ module _ {D : Type 0} (ops : Operations D) (Member : D → ℕ → Type 0) (soun
 
   -- ---- the pending states after an accepted step
 
-  module _ (precise : ArePrecise ops Member) (code : List Insn) (jumps : HasGoodJumps code) (here : Pending D) (i : Insn) (begins : fetch code here.slot ≡ Begins i) (fit : Fits i) (answer : Next D) (is : abstract.step ops here.state i ≡ Ok answer) (reached : IsReached Member code here) where
+  module _ (precise : ArePrecise ops Member) (code : List Insn) (jumps : HasGoodJumps code) (here : Pending D) (i : Insn) (begins : fetch code here.slot ≡ Begins i) (fit : Fits i) (answer : Next D) (is : abstract.abstract_step ops here.state i ≡ Ok answer) (reached : IsReached Member code here) where
     branch_reached : (branch : Branch) (b : AbsState D) (p : Pending D) → state_after answer branch ≡ Some b → LeadsTo code here.slot i branch b p → IsReached Member code p
     branch_reached branch b p after point =
         let n : ℕ = unsigned_abs reached.floor in
@@ -144,8 +144,8 @@ module _ {D : Type 0} (ops : Operations D) (Member : D → ℕ → Type 0) (soun
         let rises = step_rises ops Member sound some_environment code r.member.places here.state r.loosened r.member.at i fit environment_is_possible answer is branch b after in
         let proved_is : b.proved ≡ p.state.proved = ap (λ (c : AbsState D). c.proved) (sym point.state_is) in
         let more : here.state.proved ≤ℤ p.state.proved = at_most here.state.proved b.proved p.state.proved rises (equal_at_most b.proved p.state.proved proved_is) in
-        let higher : ℤ = greater reached.floor p.state.proved in
-        let floor : ℤ = greater higher (reach_of p.state.registers) in
+        let higher : ℤ = greater_number reached.floor p.state.proved in
+        let floor : ℤ = greater_number higher (reach_of p.state.registers) in
         let over_higher : higher ≤ℤ floor = greater_left higher (reach_of p.state.registers) in
         let over_floor : reached.floor ≤ℤ floor = at_most reached.floor higher floor (greater_left reached.floor p.state.proved) over_higher in
         let over_proved : p.state.proved ≤ℤ floor = at_most p.state.proved higher floor (greater_right reached.floor p.state.proved) over_higher in
@@ -166,8 +166,8 @@ module _ {D : Type 0} (ops : Operations D) (Member : D → ℕ → Type 0) (soun
               (ap (λ (k : ℕ). branch_slot code k i branch) over.slot ∙ point.leads) long reaches);
           plain = λ sums.
               let before = reached.plain sums in
-              let plain_b : ArePlain b.registers = step_plain ops Member sound precise here.state before.0 i fit (sums here.slot i begins) answer is branch b after in
-              let plain : ArePlain p.state.registers = subst (λ (c : AbsState D). ArePlain c.registers) (sym point.state_is) plain_b in
+              let plain_b : NameNoMadeAnchor b.registers = step_plain ops Member sound precise here.state before.0 i fit (sums here.slot i begins) answer is branch b after in
+              let plain : NameNoMadeAnchor p.state.registers = subst (λ (c : AbsState D). NameNoMadeAnchor c.registers) (sym point.state_is) plain_b in
               let none : reach_of p.state.registers ≡ pos 0 = reach_of_plain p.state.registers plain in
               let low : reached.floor ≤ℤ p.state.proved = at_most reached.floor here.state.proved p.state.proved before.1 more in
               let higher_is : higher ≤ℤ p.state.proved = greater_least reached.floor p.state.proved p.state.proved low (equal_at_most p.state.proved p.state.proved refl) in
@@ -198,7 +198,7 @@ module _ {D : Type 0} (ops : Operations D) (Member : D → ℕ → Type 0) (soun
       let same : pos n ≡ reached.floor = abs_is reached.floor positive in
       let r = reached.over n (equal_at_most reached.floor (pos n) (sym same)) in
       let sums : IsAboutPlaces reason refusal.insn → HasNoSums code = claimed refusal.insn refusal.begins in
-      let plain : IsAboutPlaces reason refusal.insn → ArePlain here.state.registers = λ about. (reached.plain (sums about)).0 in
+      let plain : IsAboutPlaces reason refusal.insn → NameNoMadeAnchor here.state.registers = λ about. (reached.plain (sums about)).0 in
       let size : reason ≡ DatagramBounds → pos r.loosened.memory.length ≡ here.state.proved =
       λ e. ap (λ (k : ℕ). pos k) r.size ∙ same ∙ equal_of reached.floor here.state.proved (reached.plain (sums (subst (λ (x : Reason). IsAboutPlaces x refusal.insn) (sym e) tt))).1 reached.proved in
       let f = refusing.refusal_is_real ops Member sound precise r.member.places here.state r.loosened r.member.at refusal.insn refusal.fits reason refusal.step_is plain size in

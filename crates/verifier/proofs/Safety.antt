@@ -4,10 +4,10 @@ use Rattle.std.specs.Prelude.{IfSome}
 use Rattle.insn.specs.Encoding.{Fits}
 use Rattle.insn.specs.declared.instruction.Insn.{Insn}
 use Rattle.semantics.specs.Machine.{State, Environment}
-use Rattle.semantics.specs.Slots.{fetch, ahead}
+use Rattle.semantics.specs.Slots.{fetch, instructions_ahead}
 use Rattle.semantics.specs.SlotLaws.{ahead_falls}
 use Rattle.semantics.specs.Flow.{branch_slot}
-use Rattle.semantics.specs.Runs.{StepResult, Goes, Exits, Sticks, Run, IsPossible, onwards, step, run}
+use Rattle.semantics.specs.Runs.{StepResult, Goes, Exits, Sticks, Run, IsPossible, run_onwards, step, run}
 use Rattle.semantics.specs.RunLaws.{exits_the_same}
 use Rattle.semantics.specs.declared.limits.TheConstants.{MAX_DATAGRAM}
 use Rattle.semantics.specs.declared.reason.Reason.{Reason}
@@ -17,7 +17,7 @@ use Rattle.semantics.specs.declared.fetching.Branch.TheVariants.{NotTaken, Taken
 use Rattle.interval.specs.Domains.{Operations, AreSound}
 use Rattle.absstate.specs.AbstractSteps as abstract
 use Rattle.absstate.specs.Membership.{Loose, IsMember}
-use Rattle.absstate.specs.MemberSteps.{IsAfterSome, state_after, Follows}
+use Rattle.absstate.specs.MemberSteps.{IsAfterSome, state_after, MemberFollows}
 use Rattle.absstate.specs.StepLaws.Following.{steps_follow}
 use Rattle.absstate.specs.declared.abstract_state.AbsState.{AbsState}
 use Rattle.absstate.specs.declared.abstract_step.Next.{Next}
@@ -32,28 +32,28 @@ same_slot : (r : Result ℕ Reason) (m n : ℕ) → r ≡ Ok m → r ≡ Ok n �
 same_slot r m n p q = cc
 
 module _ {D : Type 0} (Member : D → ℕ → Type 0) (code : List Insn) (i : Insn) (s : State) (here : fetch code s.slot ≡ Begins i) where
-  one_less : ahead code s.slot ≡ suc (ahead code s.slot - 1)
+  one_less : instructions_ahead code s.slot ≡ suc (instructions_ahead code s.slot - 1)
   one_less = fuel_is code s.slot i here
 
   -- a run exits where its step leads to a member of a pending state ahead of which every run exits
   exits_by : (w : Environment) (p : Pending D) (t : State) → IsPossible w → step w code s ≡ Goes t → t.slot ≡ p.slot → t.memory.length ≤ MAX_DATAGRAM → IsMember Member Loose p.state t → AllRunsExit Member code p → s.slot < p.slot → ExitsFrom w code s
   exits_by w p t real goes slot short member good rises =
       let ends = good w t real slot short member in
-      let m : ℕ = ahead code s.slot - 1 in
-      let left : ahead code t.slot ≤ m = omega (arith, ahead_falls code s.slot p.slot i here rises, ap (ahead code) slot) in
-      let same = exits_the_same w code (ahead code t.slot) m t ends.0 left ends.1 in (
+      let m : ℕ = instructions_ahead code s.slot - 1 in
+      let left : instructions_ahead code t.slot ≤ m = omega (arith, ahead_falls code s.slot p.slot i here rises, ap (instructions_ahead code) slot) in
+      let same = exits_the_same w code (instructions_ahead code t.slot) m t ends.0 left ends.1 in (
         ends.0,
         ap (λ (k : ℕ). (run w code k s).ending) one_less
-            ∙ ap (λ (o : StepResult). (onwards s o (λ next. run w code m next)).ending) goes
+            ∙ ap (λ (o : StepResult). (run_onwards s o (λ next. run w code m next)).ending) goes
             ∙ ap (λ (r : Run). r.ending) same ∙ ends.1,
       )
 
   exits_now : (w : Environment) (verdict : ℕ) → step w code s ≡ Exits verdict → ExitsFrom w code s
   exits_now w verdict exits =
-      let m : ℕ = ahead code s.slot - 1 in (
+      let m : ℕ = instructions_ahead code s.slot - 1 in (
         verdict,
         ap (λ (k : ℕ). (run w code k s).ending) one_less
-            ∙ ap (λ (o : StepResult). (onwards s o (λ next. run w code m next)).ending) exits,
+            ∙ ap (λ (o : StepResult). (run_onwards s o (λ next. run w code m next)).ending) exits,
       )
 
 of_one : {D : Type 0} (P : Pending D → Type 0) (left : List (Pending D)) (q : Pending D) → left ≡ q ∷ [] → All P left → P q
@@ -75,7 +75,7 @@ module _ {D : Type 0} (Member : D → ℕ → Type 0) (code : List Insn) (i : In
   good_left None left t next good goes after = absurd after
   good_left (Some b) left t next good goes after = good_branch Taken b next.0 t next.1 goes after (of_one (AllRunsExit Member code) left next.0 next.2 good)
 
-  good_from : (answer : Next D) (on : Option (Pending D)) (left : List (Pending D)) → GoesOn code s.slot i answer on left → IfSome on (AllRunsExit Member code) → All (AllRunsExit Member code) left → (r : StepResult) → step w code s ≡ r → Follows Member w code Loose s i answer r → ExitsFrom w code s
+  good_from : (answer : Next D) (on : Option (Pending D)) (left : List (Pending D)) → GoesOn code s.slot i answer on left → IfSome on (AllRunsExit Member code) → All (AllRunsExit Member code) left → (r : StepResult) → step w code s ≡ r → MemberFollows Member w code Loose s i answer r → ExitsFrom w code s
   good_from answer on left goes good goods (Goes t) is (NotTaken, taken, after) = good_next (state_after answer NotTaken) on t goes.0 good is after
   good_from answer on left goes good goods (Goes t) is (Taken, taken, after) = good_left (state_after answer Taken) left t goes.1 goods is after
   good_from answer on left goes good goods (Exits verdict) is follows = exits_now Member code i s here w verdict is
@@ -85,7 +85,7 @@ goes_on_at : {D : Type 0} (code : List Insn) (m n : ℕ) (i : Insn) (answer : Ne
 goes_on_at code m n i answer on left e h = subst (λ (k : ℕ). GoesOn code k i answer on left) (sym e) h
 
 -- every run from a pending state exits, where that holds of the states that the walk goes on to
-pub good_before : {D : Type 0} (ops : Operations D) (Member : D → ℕ → Type 0) → AreSound ops Member → (code : List Insn) → HasGoodJumps code → (here : Pending D) (i : Insn) → fetch code here.slot ≡ Begins i → Fits i → (answer : Next D) → abstract.step ops here.state i ≡ Ok answer
+pub good_before : {D : Type 0} (ops : Operations D) (Member : D → ℕ → Type 0) → AreSound ops Member → (code : List Insn) → HasGoodJumps code → (here : Pending D) (i : Insn) → fetch code here.slot ≡ Begins i → Fits i → (answer : Next D) → abstract.abstract_step ops here.state i ≡ Ok answer
     → (on : Option (Pending D)) (left : List (Pending D)) → GoesOn code here.slot i answer on left → IfSome on (AllRunsExit Member code) → All (AllRunsExit Member code) left → AllRunsExit Member code here
 good_before ops Member sound code jumps here i begins fit answer is on left goes good goods w s real at short member =
     let begins_at : fetch code s.slot ≡ Begins i = ap (fetch code) at ∙ begins in

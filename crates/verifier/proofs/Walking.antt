@@ -7,7 +7,7 @@ use Rattle.std.proofs.lemmas.List.Elements.{All-take, All-drop, All-append, All-
 use Rattle.std.proofs.lemmas.List.Sums.{sum_by-append, sum_by_push}
 use Rattle.insn.specs.Encoding.{Fits}
 use Rattle.insn.specs.declared.instruction.Insn.{Insn}
-use Rattle.semantics.specs.Slots.{fetch, ahead}
+use Rattle.semantics.specs.Slots.{fetch, instructions_ahead}
 use Rattle.semantics.specs.SlotLaws.{ahead_start}
 use Rattle.semantics.specs.Machine.{start}
 use Rattle.semantics.specs.Runs.{IsSafe, run}
@@ -29,7 +29,7 @@ use Rattle.absstate.specs.declared.abstract_step.Next.{Next}
 use Rattle.verifier.specs.Keeping.{kept_at, keeps_at, states_with, kept_with, is_covered, Keeps}
 use Rattle.verifier.specs.Layout.{IsLaidOut, StartsAt}
 use Rattle.verifier.specs.declared.kept.Kept.{Kept}
-use Rattle.verifier.specs.PendingStates.{AllRunsExit, IsReached, count_from, counts_from}
+use Rattle.verifier.specs.PendingStates.{AllRunsExit, IsReached, count_of_beginnings, counts_from}
 use Rattle.verifier.specs.Refusing.{IsReal, MayRefuseOver}
 use Rattle.verifier.specs.Walk.{first_pending, BeginsInside, LeadsTo, IsNext, IsLeft, GoesOn, Advances, IsStepRefusal, IsCovered, Skips, Settles, IsWalkStep, waiting_states, state_to_follow}
 use Rattle.verifier.specs.declared.refusal.Refusal.{Refusal}
@@ -52,7 +52,7 @@ fault_reason (Ok n) reason h e = absurd cc
 fault_reason (Err f) reason h e = subst IsStepReason (let is : f ≡ reason = cc in is) h
 
 -- an accepted step of a path, after which some states are left pending
-pub advances : {D : Type 0} (ops : Operations D) (code : List Insn) (here : Pending D) (old new : List (Pending D)) (i : Insn) → fetch code here.slot ≡ Begins i → Fits i → (answer : Next D) → abstract.step ops here.state i ≡ Ok answer
+pub advances : {D : Type 0} (ops : Operations D) (code : List Insn) (here : Pending D) (old new : List (Pending D)) (i : Insn) → fetch code here.slot ≡ Begins i → Fits i → (answer : Next D) → abstract.abstract_step ops here.state i ≡ Ok answer
     → (on : Option (Pending D)) (left : List (Pending D)) → new ≡ old ++ left → GoesOn code here.slot i answer on left → Advances ops code here old on new
 advances ops code here old new i begins fits answer is on left new_is goes = record {
   insn = i;
@@ -91,13 +91,13 @@ module _ {D : Type 0} (P : Pending D → Type 0) where
 
 waiting_count : {D : Type 0} (code : List Insn) (on : Option (Pending D)) (pending : List (Pending D)) → counts_from code (waiting_states on pending) ≡ count_next code on + counts_from code pending
 waiting_count code None pending = omega arith
-waiting_count code (Some p) pending = omega (arith, sum_by_push (count_from code) pending p)
+waiting_count code (Some p) pending = omega (arith, sum_by_push (count_of_beginnings code) pending p)
 
-some_begins : {D : Type 0} (code : List Insn) (here : Pending D) → BeginsInside code here → 1 ≤ count_from code here
+some_begins : {D : Type 0} (code : List Insn) (here : Pending D) → BeginsInside code here → 1 ≤ count_of_beginnings code here
 some_begins code here inside =
     let i : Insn = inside.0 in
-    let fuel : count_from code here ≡ length (beginnings_from code (suc (ahead code here.slot - 1)) here.slot) = ap (λ (k : ℕ). length (beginnings_from code k here.slot)) (fuel_is code here.slot i inside.1) in
-    omega (arith, fuel, counted_at code here.slot (ahead code here.slot - 1) i inside.1)
+    let fuel : count_of_beginnings code here ≡ length (beginnings_from code (suc (instructions_ahead code here.slot - 1)) here.slot) = ap (λ (k : ℕ). length (beginnings_from code k here.slot)) (fuel_is code here.slot i inside.1) in
+    omega (arith, fuel, counted_at code here.slot (instructions_ahead code here.slot - 1) i inside.1)
 
 -- ---- the states after a step
 
@@ -200,8 +200,8 @@ module _ {D : Type 0} (ops : Operations D) (Member : D → ℕ → Type 0) (soun
     reached = λ precise. one (IsReached Member code) (first_reached ops Member sound code);
     counted =
         let zero_pending : counts_from code pending ≡ 0 = ap (counts_from code) none in
-        let all : count_from code (first_pending {D = D}) ≡ length (beginnings code) = ap (λ (k : ℕ). length (beginnings_from code k 0)) (ahead_start code) in
-        omega (arith, zero_pending, all, sum_by_push (count_from code) pending first_pending);
+        let all : count_of_beginnings code (first_pending {D = D}) ≡ length (beginnings code) = ap (λ (k : ℕ). length (beginnings_from code k 0)) (ahead_start code) in
+        omega (arith, zero_pending, all, sum_by_push (count_of_beginnings code) pending first_pending);
     kept = λ n. subst (All (IsKept (pending ++ first_pending ∷ []) n)) (sym (nothing n)) (All-nil (IsKept (pending ++ first_pending ∷ []) n));
   } where
     one : (P : Pending D → Type 0) → P first_pending → All P (pending ++ first_pending ∷ [])
@@ -211,7 +211,7 @@ module _ {D : Type 0} (ops : Operations D) (Member : D → ℕ → Type 0) (soun
 
   module _ (made : ℕ) (here : Pending D) (old new : List (Pending D)) (on : Option (Pending D)) (states more : ℕ → List (AbsState D)) (keeps : Bool) (laid_out : IsLaidOut code) (walking : IsWalking made (old ++ here ∷ []) states) (adv : Advances ops code here old on new) (kept_is : (n : ℕ) → more n ≡ kept_with keeps here states n) where
     successors_are : successors_in adv.accepted ≡ successors_of adv.insn
-    successors_are = answer_successors (abstract.step ops here.state adv.insn) adv.insn adv.accepted (step_successors ops here.state adv.insn) adv.step_is
+    successors_are = answer_successors (abstract.abstract_step ops here.state adv.insn) adv.insn adv.accepted (step_successors ops here.state adv.insn) adv.step_is
 
     -- a fact of the earlier pending states, and of those after the step, holds of all that wait
     all_new : (P : Pending D → Type 0) → All P old → IfSome on P → All P adv.left → All P (waiting_states on new)
@@ -254,14 +254,14 @@ module _ {D : Type 0} (ops : Operations D) (Member : D → ℕ → Type 0) (soun
     stepped =
         let inside = goes_inside code here laid_out adv.insn adv.begins adv.accepted successors_are on adv.left adv.goes_on in
         let counts = counts_before code here adv.insn adv.begins adv.accepted successors_are on adv.left adv.goes_on in
-        let sums : counts_from code new ≡ counts_from code old + counts_from code adv.left = ap (counts_from code) adv.new_is ∙ sum_by-append (count_from code) old adv.left in
+        let sums : counts_from code new ≡ counts_from code old + counts_from code adv.left = ap (counts_from code) adv.new_is ∙ sum_by-append (count_of_beginnings code) old adv.left in
         record {
           inside = all_new (BeginsInside code) (firsts (BeginsInside code) old (here ∷ []) walking.inside) inside.0 inside.1;
           good = good_first;
           reached = λ precise.
               let reached = reached_after ops Member sound precise code laid_out.jumps here adv.insn adv.begins adv.fits adv.accepted adv.step_is (last_of (IsReached Member code) old here (walking.reached precise)) on adv.left adv.goes_on in
               all_new (IsReached Member code) (firsts (IsReached Member code) old (here ∷ []) (walking.reached precise)) reached.0 reached.1;
-          counted = omega (arith, walking.counted, counts, sums, waiting_count code on new, sum_by_push (count_from code) old here);
+          counted = omega (arith, walking.counted, counts, sums, waiting_count code on new, sum_by_push (count_of_beginnings code) old here);
           kept = λ n. subst (All (IsKept (waiting_states on new) n)) (sym (kept_is n)) (all_kept n (keeps && (n == here.slot)) (same_slots keeps n here.slot));
         }
 
@@ -283,7 +283,7 @@ module _ {D : Type 0} (ops : Operations D) (Member : D → ℕ → Type 0) (soun
       inside = firsts (BeginsInside code) rest (p ∷ []) walking.inside;
       good = λ goods. walking.good (All-push (AllRunsExit Member code) rest p goods (skipped (All-weaker (AllRunsExit Member code) (IsGoodAbove p.slot) (λ q h high. h) rest goods)));
       reached = λ precise. firsts (IsReached Member code) rest (p ∷ []) (walking.reached precise);
-      counted = omega (arith, walking.counted, sum_by_push (count_from code) rest p);
+      counted = omega (arith, walking.counted, sum_by_push (count_of_beginnings code) rest p);
       kept = λ n. All-weaker (IsKept (rest ++ p ∷ []) n) (IsKept rest n) (λ k kept goods. kept (All-push (IsGoodAbove n) rest p goods (λ high. skipped (above n (omega (arith, high)) goods)))) (states n) (walking.kept n);
     }
 
@@ -319,7 +319,7 @@ module _ {D : Type 0} (ops : Operations D) (Member : D → ℕ → Type 0) (soun
   real code budget made here pending states (refusal.Stuck reason slot) laid_out walking refused =
       inr (
         laid_out,
-        fault_reason (abstract.step ops here.state refused.1.insn) reason (step_reasons ops here.state refused.1.insn) refused.1.step_is,
+        fault_reason (abstract.abstract_step ops here.state refused.1.insn) reason (step_reasons ops here.state refused.1.insn) refused.1.step_is,
         λ precise. subst (IsReal code reason) (sym refused.0) (refusal_is_real ops Member sound precise code here reason (last_of (IsReached Member code) pending here (walking.reached precise)) refused.1),
       )
   real code budget made here pending states (refusal.Budget slot) laid_out walking refused = absurd refused
@@ -327,4 +327,4 @@ module _ {D : Type 0} (ops : Operations D) (Member : D → ℕ → Type 0) (soun
 
   -- after the budget's steps there is a beginning of a path more than they
   pub more_paths : (code : List Insn) (made : ℕ) (here : Pending D) (pending : List (Pending D)) (states : ℕ → List (AbsState D)) → IsWalking ops Member sound code made (pending ++ here ∷ []) states → made < length (beginnings code)
-  more_paths code made here pending states walking = omega (arith, walking.counted, sum_by_push (count_from code) pending here, some_begins code here (last_of (BeginsInside code) pending here walking.inside))
+  more_paths code made here pending states walking = omega (arith, walking.counted, sum_by_push (count_of_beginnings code) pending here, some_begins code here (last_of (BeginsInside code) pending here walking.inside))

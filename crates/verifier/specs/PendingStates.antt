@@ -4,12 +4,12 @@ use Rattle.insn.specs.Encoding.{slot_count}
 use Rattle.insn.specs.declared.decoding.TheConstants.{MAX_SLOTS}
 use Rattle.insn.specs.declared.instruction.Insn.{Insn}
 use Rattle.semantics.specs.Machine.{State, Environment, start}
-use Rattle.semantics.specs.Slots.{ahead}
+use Rattle.semantics.specs.Slots.{instructions_ahead}
 use Rattle.semantics.specs.Runs.{Exited, run, IsPossible, IsSafe}
 use Rattle.semantics.specs.declared.limits.TheConstants.{MAX_DATAGRAM}
 use Rattle.semantics.specs.LooseRuns.{Loosens, LooselyReaches, beginnings_from}
 use Rattle.absstate.specs.Membership.{Loose, Strict, IsMember}
-use Rattle.absstate.specs.StepLaws.Anchors.{ArePlain, reach_of}
+use Rattle.absstate.specs.StepLaws.Anchors.{NameNoMadeAnchor, reach_of}
 use Rattle.verifier.specs.Refusing.{HasNoSums}
 use Rattle.verifier.specs.declared.walk.Pending.{Pending}
 
@@ -17,7 +17,7 @@ use Rattle.verifier.specs.declared.walk.Pending.{Pending}
 
 -- a run from a state exits within as many steps as instructions are ahead
 abbrev pub ExitsFrom : Environment → List Insn → State → Type 0
-ExitsFrom w code s = (verdict : ℕ) × ((run w code (ahead code s.slot) s).ending ≡ Exited verdict)
+ExitsFrom w code s = (verdict : ℕ) × ((run w code (instructions_ahead code s.slot) s).ending ≡ Exited verdict)
 
 -- every run exits so, in a possible environment, from every member of a pending state with a datagram of at most 65,507
 -- bytes
@@ -59,13 +59,13 @@ pub record IsReached {D : Type 0} (Member : D → ℕ → Type 0) (code : List I
   pub proved : p.state.proved ≤ℤ floor
   pub reach : reach_of p.state.registers ≤ℤ floor
   pub over : (n : ℕ) → floor ≤ℤ pos n → IsReachedOver Member code p n
-  pub plain : HasNoSums code → ArePlain p.state.registers × (floor ≤ℤ p.state.proved)
+  pub plain : HasNoSums code → NameNoMadeAnchor p.state.registers × (floor ≤ℤ p.state.proved)
 
 -- ---- beginnings of paths
 
 -- the number of the beginnings of paths from a pending state on
-abbrev pub count_from : {D : Type 0} → List Insn → Pending D → ℕ
-count_from code p = length (beginnings_from code (ahead code p.slot) p.slot)
+abbrev pub count_of_beginnings : {D : Type 0} → List Insn → Pending D → ℕ
+count_of_beginnings code p = length (beginnings_from code (instructions_ahead code p.slot) p.slot)
 
 abbrev pub counts_from : {D : Type 0} → List Insn → List (Pending D) → ℕ
-counts_from code pending = sum_by (count_from code) pending
+counts_from code pending = sum_by (count_of_beginnings code) pending

@@ -9,8 +9,8 @@ use Rattle.semantics.specs.declared.fetching.Fetched.TheVariants.{Begins}
 use Rattle.semantics.specs.declared.fetching.Branch.{Branch}
 use Rattle.semantics.specs.declared.fetching.Branch.TheVariants.{NotTaken, Taken}
 use Rattle.interval.specs.Domains.{Operations}
-use Rattle.absstate.specs.AbstractStates.{first_state}
-use Rattle.absstate.specs.AbstractSteps.{step}
+use Rattle.absstate.specs.AbstractStates.{first_abstract_state}
+use Rattle.absstate.specs.AbstractSteps.{abstract_step}
 use Rattle.absstate.specs.MemberSteps.{state_after}
 use Rattle.absstate.specs.declared.abstract_state.AbsState.{AbsState}
 use Rattle.absstate.specs.declared.abstract_step.Next.{Next}
@@ -63,7 +63,7 @@ pub record Advances {D : Type 0} (ops : Operations D) (code : List Insn) (here :
   pub begins : fetch code here.slot ≡ Begins insn
   pub fits : Fits insn
   pub accepted : Next D
-  pub step_is : step ops here.state insn ≡ Ok accepted
+  pub step_is : abstract_step ops here.state insn ≡ Ok accepted
   pub left : List (Pending D)
   pub new_is : new ≡ old ++ left
   pub goes_on : GoesOn code here.slot insn accepted next left
@@ -73,7 +73,7 @@ pub record IsRefusedAt {D : Type 0} (ops : Operations D) (code : List Insn) (her
   pub insn : Insn
   pub begins : fetch code here.slot ≡ Begins insn
   pub fits : Fits insn
-  pub step_is : step ops here.state insn ≡ Err reason
+  pub step_is : abstract_step ops here.state insn ≡ Err reason
 
 -- an allocation failure, with the instruction at a slot in hand
 abbrev pub IsOutOfMemory : ℕ → Refusal → Type 0
@@ -89,7 +89,7 @@ IsStepRefusal ops code here (refusal.Memory slot) = slot ≡ here.slot
 
 -- the state from which the walk starts
 abbrev pub first_pending : {D : Type 0} → Pending D
-first_pending = record { slot = 0; state = first_state }
+first_pending = record { slot = 0; state = first_abstract_state }
 
 -- the states from which paths are still to be followed, the next one last
 abbrev pub waiting_states : {D : Type 0} → Option (Pending D) → List (Pending D) → List (Pending D)

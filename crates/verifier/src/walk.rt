@@ -13,7 +13,7 @@ ghost use Rattle.verifier.specs.Refusing.{MayRefuseOver, IsVerdict, IsVerdictOve
 ghost use Rattle.verifier.specs.Keeping.{kept_at};
 ghost use Rattle.verifier.specs.Walk.{IsStepRefusal, BeginsInside, IsNext, IsOutOfMemory, Leaves, Advances, Settles, IsWalkStep, state_to_follow};
 ghost use Rattle.verifier.specs.Walks.{EndsWalk};
-ghost use Rattle.interval.specs.Intervals.{IsMember, interval_ops};
+ghost use Rattle.interval.specs.Intervals.{LiesBetween, interval_ops};
 ghost use Rattle.semantics.specs.declared.fetching.Branch.TheVariants.{NotTaken, Taken};
 
 use crate::kept::Kept;
@@ -345,7 +345,7 @@ pub fn verify<L: Ledger>(
     ensures code { IfOk result (λ v. v ≡ code.now) }
     ensures verdict { IsVerdict code.now budget result }
     ensures counts { CountsSteps budget steps.old steps.new result }
-    ensures walked { EndsWalk interval_ops IsMember code.now steps.old steps.new result }
+    ensures walked { EndsWalk interval_ops LiesBetween code.now steps.old steps.new result }
 {
     verify_with::<Interval, L>(alloc, code, budget, steps)
 }

@@ -4,7 +4,7 @@ ghost use Rattle.std.specs.Prelude.{◌≡◌, ℕ, ◌-◌, ◌^◌, ◌<◌, �
 ghost use Rattle.std.proofs.Common.{refl, sym, ap, ◌∙◌, arith};
 ghost use Rattle.std.proofs.lemmas.Bool.{cond_both, eqb-true, true≢false};
 ghost use Rattle.insn.specs.Words.{alu, unary};
-ghost use Rattle.interval.specs.Domains.{passes, Keeps};
+ghost use Rattle.interval.specs.Domains.{passes, KeepsPair};
 ghost use Rattle.interval.specs.IntervalLaws.Operators.{alu_fits};
 ghost use Rattle.interval.specs.IntervalLaws.OneOperand.{unary_fits};
 
@@ -129,7 +129,7 @@ impl Domain for Known {
         | Exact a ↦ elim [
           | Exact b ↦ λ m n h k e.
               cond_both (passes test w a b) (Some (Exact a, Exact b)) None
-              (λ r. Keeps (elim [ Exact m ↦ λ n. (n < 2 ^ 64) × (m ≡ n) | Unknown ↦ λ n. n < 2 ^ 64 ]) r m n)
+              (λ r. KeepsPair (elim [ Exact m ↦ λ n. (n < 2 ^ 64) × (m ≡ n) | Unknown ↦ λ n. n < 2 ^ 64 ]) r m n)
               (λ t. (h, k))
               (λ t. absurd (true≢false (sym e ∙ sym (λ i. passes test w (h.1 i) (k.1 i)) ∙ t)))
           | Unknown ↦ λ m n h k e. (h, k)

@@ -10,7 +10,7 @@ use lib.Dec.{T, ltb}
 use lib.Arith.{le→nltb}
 use Rattle.absstate.specs.AbstractStates.{id_of, greatest_id, proved_up_to}
 use Rattle.absstate.specs.AbstractSteps.{proved_within}
-use Rattle.absstate.specs.Membership.{Places, IsPlace}
+use Rattle.absstate.specs.Membership.{Places, IsAnchorPlace}
 use Rattle.absstate.specs.declared.abstract_state.AbstractValue.{AbstractValue}
 use Rattle.absstate.specs.declared.abstract_state.AbstractValue.TheVariants.{Nothing, Data}
 use Rattle.absstate.specs.declared.abstract_state.Anchor.TheVariants.{Made}
@@ -36,30 +36,30 @@ abbrev pub reach_at : {D : Type 0} → AbstractValue D → ℤ
 reach_at (Data (Made id low high proved) k) = (high +ℤ k) +ℤ pos 1
 reach_at _ = pos 0
 
-abbrev pub greater : ℤ → ℤ → ℤ
-greater x y = if int_lt x y then y else x
+abbrev pub greater_number : ℤ → ℤ → ℤ
+greater_number x y = if int_lt x y then y else x
 
-pub greater_left : (x y : ℤ) → x ≤ℤ greater x y
+pub greater_left : (x y : ℤ) → x ≤ℤ greater_number x y
 greater_left x y = by (int_lt x y) refl where
   by : (b : Bool) → int_lt x y ≡ b → x ≤ℤ (if b then y else x)
   by true e = let lt : x <ℤ y = lt_of x y e in omega (arith, ints)
   by false e = omega (arith, ints)
 
-pub greater_right : (x y : ℤ) → y ≤ℤ greater x y
+pub greater_right : (x y : ℤ) → y ≤ℤ greater_number x y
 greater_right x y = by (int_lt x y) refl where
   by : (b : Bool) → int_lt x y ≡ b → y ≤ℤ (if b then y else x)
   by true e = omega (arith, ints)
   by false e = let le : y ≤ℤ x = not_lt x y e in omega (arith, ints)
 
-pub greater_least : (x y z : ℤ) → x ≤ℤ z → y ≤ℤ z → greater x y ≤ℤ z
-greater_least x y z p q = by (int_lt x y) where
+pub greater_least : (x y z : ℤ) → x ≤ℤ z → y ≤ℤ z → greater_number x y ≤ℤ z
+greater_least x y z e q = by (int_lt x y) where
   by : (b : Bool) → (if b then y else x) ≤ℤ z
   by true = q
-  by false = p
+  by false = e
 
 abbrev pub reach_of : {D : Type 0} → List (AbstractValue D) → ℤ
 reach_of [] = pos 0
-reach_of (v ∷ vs) = greater (reach_of vs) (reach_at v)
+reach_of (v ∷ vs) = greater_number (reach_of vs) (reach_at v)
 
 pub reach_positive : {D : Type 0} (registers : List (AbstractValue D)) → pos 0 ≤ℤ reach_of registers
 reach_positive [] = omega (arith, ints)
@@ -71,19 +71,19 @@ reach_at_most (v ∷ vs) zero = greater_right (reach_of vs) (reach_at v)
 reach_at_most (v ∷ vs) (suc n) = let rest = reach_at_most vs n in let more = greater_left (reach_of vs) (reach_at v) in omega (arith, ints, rest, more)
 
 -- no register names an anchor that was made
-abbrev pub ArePlain : {D : Type 0} → List (AbstractValue D) → Type 0
-ArePlain registers = (n : ℕ) → IsMade (slice_index_or registers n Nothing) → ⊥
+abbrev pub NameNoMadeAnchor : {D : Type 0} → List (AbstractValue D) → Type 0
+NameNoMadeAnchor registers = (n : ℕ) → IsMade (slice_index_or registers n Nothing) → ⊥
 
 reach_plain : {D : Type 0} (v : AbstractValue D) → (IsMade v → ⊥) → reach_at v ≡ pos 0
 reach_plain (Data (Made id low high proved) k) plain = absurd (plain tt)
 reach_plain v plain = refl
 
-pub reach_of_plain : {D : Type 0} (registers : List (AbstractValue D)) → ArePlain registers → reach_of registers ≡ pos 0
+pub reach_of_plain : {D : Type 0} (registers : List (AbstractValue D)) → NameNoMadeAnchor registers → reach_of registers ≡ pos 0
 reach_of_plain [] plain = refl
 reach_of_plain (v ∷ vs) plain =
     let first : reach_at v ≡ pos 0 = reach_plain v (plain 0) in
     let rest : reach_of vs ≡ pos 0 = reach_of_plain vs (λ n. plain (suc n)) in
-    (λ i. greater (rest i) (first i))
+    (λ i. greater_number (rest i) (first i))
 
 -- ---- places
 
@@ -125,12 +125,12 @@ signed_high n le = sel_no (ltb n (2 ^ 63)) (pos n) (negsuc (2 ^ 64 - suc n)) (le
 
 -- numbers between bounds on one side lie, with their sign, between the ends
 pub signed_between : (lo n hi : ℕ) → lo ≤ n → n ≤ hi → n < 2 ^ 64 → cast_signed w64 lo ≤ℤ cast_signed w64 hi → (cast_signed w64 lo ≤ℤ cast_signed w64 n) × (cast_signed w64 n ≤ℤ cast_signed w64 hi)
-signed_between lo n hi p q fits side = elim (cases_lt hi (2 ^ 63)) [
+signed_between lo n hi e q fits side = elim (cases_lt hi (2 ^ 63)) [
   | inl lt ↦
-      let a = signed_low lo (omega (arith, p, q, lt)) in
+      let a = signed_low lo (omega (arith, e, q, lt)) in
       let b = signed_low n (omega (arith, q, lt)) in
       let c = signed_low hi lt in
-      (subst (λ (z : ℤ). z ≤ℤ cast_signed w64 n) (sym a) (subst (λ (z : ℤ). pos lo ≤ℤ z) (sym b) (omega (arith, ints, p))), subst (λ (z : ℤ). z ≤ℤ cast_signed w64 hi) (sym b) (subst (λ (z : ℤ). pos n ≤ℤ z) (sym c) (omega (arith, ints, q))))
+      (subst (λ (z : ℤ). z ≤ℤ cast_signed w64 n) (sym a) (subst (λ (z : ℤ). pos lo ≤ℤ z) (sym b) (omega (arith, ints, e))), subst (λ (z : ℤ). z ≤ℤ cast_signed w64 hi) (sym b) (subst (λ (z : ℤ). pos n ≤ℤ z) (sym c) (omega (arith, ints, q))))
   | inr ge ↦
       let c = signed_high hi ge in
       elim (cases_lt lo (2 ^ 63)) [
@@ -140,20 +140,20 @@ signed_between lo n hi p q fits side = elim (cases_lt hi (2 ^ 63)) [
             absurd (omega (arith, ints, bad))
         | inr ge' ↦
             let a = signed_high lo ge' in
-            let b = signed_high n (omega (arith, p, ge')) in
-            (subst (λ (z : ℤ). z ≤ℤ cast_signed w64 n) (sym a) (subst (λ (z : ℤ). negsuc (2 ^ 64 - suc lo) ≤ℤ z) (sym b) (omega (arith, ints, p, fits))), subst (λ (z : ℤ). z ≤ℤ cast_signed w64 hi) (sym b) (subst (λ (z : ℤ). negsuc (2 ^ 64 - suc n) ≤ℤ z) (sym c) (omega (arith, ints, q, fits))))
+            let b = signed_high n (omega (arith, e, ge')) in
+            (subst (λ (z : ℤ). z ≤ℤ cast_signed w64 n) (sym a) (subst (λ (z : ℤ). negsuc (2 ^ 64 - suc lo) ≤ℤ z) (sym b) (omega (arith, ints, e, fits))), subst (λ (z : ℤ). z ≤ℤ cast_signed w64 hi) (sym b) (subst (λ (z : ℤ). negsuc (2 ^ 64 - suc n) ≤ℤ z) (sym c) (omega (arith, ints, q, fits))))
       ]
 ]
 
 -- ---- what is proved
 
-raised_cases : (proved n : ℤ) (b : Bool) (P : ℤ → Type 0) → P proved → P n → P (if b then n else proved)
-raised_cases proved n true P p q = q
-raised_cases proved n false P p q = p
+raised_cases : (proved x : ℤ) (b : Bool) (P : ℤ → Type 0) → P proved → P x → P (if b then x else proved)
+raised_cases proved x true P e q = q
+raised_cases proved x false P e q = e
 
 -- what is raised to a reach that holds holds
-pub raised_reaches : (place proved n : ℤ) (size : ℕ) → (place +ℤ proved) ≤ℤ pos size → (place +ℤ n) ≤ℤ pos size → (place +ℤ proved_up_to proved n) ≤ℤ pos size
-raised_reaches place proved n size p q = raised_cases proved n (int_lt proved n && int_le n (pos 2147483647)) (λ (z : ℤ). (place +ℤ z) ≤ℤ pos size) p q
+pub raised_reaches : (place proved x : ℤ) (size : ℕ) → (place +ℤ proved) ≤ℤ pos size → (place +ℤ x) ≤ℤ pos size → (place +ℤ proved_up_to proved x) ≤ℤ pos size
+raised_reaches place proved x size e q = raised_cases proved x (int_lt proved x && int_le x (pos 2147483647)) (λ (z : ℤ). (place +ℤ z) ≤ℤ pos size) e q
 
 -- what is proved of an anchor after a sum, from a place that is near
 pub within_reaches : (place p : ℤ) (size : ℕ) → place ≤ℤ pos 1048576 → (place +ℤ p) ≤ℤ pos size → (place +ℤ proved_within p) ≤ℤ pos size
@@ -164,17 +164,17 @@ within_reaches place p size near reach = by (int_lt p (negsuc 2097151)) (int_lt 
   by false false e f = reach
 
 -- a place and a number between ends: the new place lies between the new ends, and the datagram reaches as far as before
-pub sum_place : (low high proved place k least greatest by_low by by_high p : ℤ) (size : ℕ) → IsPlace size low high proved place → by_low ≤ℤ by → by ≤ℤ by_high → least ≡ ((low +ℤ k) +ℤ by_low) → greatest ≡ ((high +ℤ k) +ℤ by_high) → greatest ≤ℤ pos 1048576 → p ≡ ((place +ℤ k) +ℤ by)
-    → IsPlace size least greatest (proved_within (proved -ℤ (greatest -ℤ high))) p
-sum_place low high proved place k least greatest by_low by by_high p size is a b c d near e =
-    let below : p ≤ℤ greatest = omega (arith, ints, is.greatest, b, d, e) in
+pub sum_place : (low high proved place k least greatest by_low by by_high p : ℤ) (size : ℕ) → IsAnchorPlace size low high proved place → by_low ≤ℤ by → by ≤ℤ by_high → least ≡ ((low +ℤ k) +ℤ by_low) → greatest ≡ ((high +ℤ k) +ℤ by_high) → greatest ≤ℤ pos 1048576 → p ≡ ((place +ℤ k) +ℤ by)
+    → IsAnchorPlace size least greatest (proved_within (proved -ℤ (greatest -ℤ high))) p
+sum_place low high proved place k least greatest by_low by by_high p size is a q c f near e =
+    let below : p ≤ℤ greatest = omega (arith, ints, is.greatest, q, f, e) in
     record {
       least = omega (arith, ints, is.least, a, c, e);
       greatest = below;
-      reaches = within_reaches p (proved -ℤ (greatest -ℤ high)) size (omega (arith, ints, below, near)) (omega (arith, ints, is.reaches, b, d, e));
+      reaches = within_reaches p (proved -ℤ (greatest -ℤ high)) size (omega (arith, ints, below, near)) (omega (arith, ints, is.reaches, q, f, e));
     }
 
 -- an access that is known to lie inside does
-pub access_inside : (low high proved place k d first : ℤ) (n size : ℕ) → IsPlace size low high proved place → (first -ℤ low) ≤ℤ (k +ℤ d) → ((k +ℤ d) +ℤ pos n) ≤ℤ proved
+pub access_inside : (low high proved place k d first : ℤ) (n size : ℕ) → IsAnchorPlace size low high proved place → (first -ℤ low) ≤ℤ (k +ℤ d) → ((k +ℤ d) +ℤ pos n) ≤ℤ proved
     → (first ≤ℤ ((place +ℤ k) +ℤ d)) × ((((place +ℤ k) +ℤ d) +ℤ pos n) ≤ℤ pos size)
-access_inside low high proved place k d first n size is a b = (omega (arith, ints, is.least, a), omega (arith, ints, is.reaches, b))
+access_inside low high proved place k d first n size is a e = (omega (arith, ints, is.least, a), omega (arith, ints, is.reaches, e))

@@ -12,7 +12,7 @@ use Rattle.semantics.specs.declared.value.Value.TheVariants as value
 use Rattle.interval.specs.Domains.{Operations, AreSound}
 use Rattle.absstate.specs.AbstractStates.{low_of, high_of, proved_of, abstract_at, is_marked}
 use Rattle.absstate.specs.Covers.{same_int, covers_anchor, covers_value, covers_values, have_one_anchor, stands_for, share_alike, covers_marks, covers}
-use Rattle.absstate.specs.Membership.{Loose, Strict, Places, place_of, IsPlace, IsAnchored, IsHeld, IsValue, IsMember}
+use Rattle.absstate.specs.Membership.{Loose, Strict, Places, place_of, IsAnchorPlace, IsAnchored, IsHeld, IsValue, IsMember}
 use Rattle.absstate.specs.declared.abstract_state.Anchor.{Anchor}
 use Rattle.absstate.specs.declared.abstract_state.Anchor.TheVariants.{First, Made}
 use Rattle.absstate.specs.declared.abstract_state.AbstractValue.{AbstractValue}
@@ -49,38 +49,38 @@ places_for places (v ∷ vs) (u ∷ us) id = if names v id then place_in places 
 places_for places (v ∷ vs) [] id = pos 0
 places_for places [] us id = pos 0
 
-same_places : {D : Type 0} (places : Places) (u x : AbstractValue D) → have_one_anchor u x ≡ true → place_in places u ≡ place_in places x
+same_places : {D : Type 0} (places : Places) (u w : AbstractValue D) → have_one_anchor u w ≡ true → place_in places u ≡ place_in places w
 same_places places (known.Data First k) (known.Data First l) e = refl
 same_places places (known.Data (Made id low high proved) k) (known.Data (Made other low' high' proved') l) e = ap places (eqb-true id other e)
-same_places places u x e = absurd cc
+same_places places u w e = absurd cc
 
-named_shared : {D : Type 0} (id : ℕ) (v w : AbstractValue D) → names v id ≡ true → names w id ≡ true → have_one_anchor v w ≡ true
+named_shared : {D : Type 0} (id : ℕ) (u w : AbstractValue D) → names u id ≡ true → names w id ≡ true → have_one_anchor u w ≡ true
 named_shared id (known.Data (Made i low high proved) k) (known.Data (Made j low' high' proved') l) e f =
     let p : i ≡ id = eqb-true i id e in
     let q : j ≡ id = eqb-true j id f in
     let r : i ≡ j = p ∙ sym q in
-    ap (λ (m : ℕ). m == j) r ∙ itself j where
+    ap (λ (c : ℕ). c == j) r ∙ itself j where
       itself : (n : ℕ) → (n == n) ≡ true
       itself n = search rules
-named_shared id v w e f = absurd cc
+named_shared id u w e f = absurd cc
 
 implied : (x y : Bool) → (not x || y) ≡ true → x ≡ true → y ≡ true
 implied true y e f = e
 implied false y e f = absurd cc
 
-stands_at : {D : Type 0} (v u : AbstractValue D) (vs us : List (AbstractValue D)) (n : ℕ) → stands_for v u vs us ≡ true → n < length vs → n < length us → have_one_anchor v (slice_index_or vs n known.Nothing) ≡ true → have_one_anchor u (slice_index_or us n known.Nothing) ≡ true
-stands_at v u [] us n e lt lt' f = absurd (omega (arith, lt))
-stands_at v u (w ∷ ws) [] n e lt lt' f = absurd (omega (arith, lt'))
-stands_at v u (w ∷ ws) (x ∷ xs) zero e lt lt' f = implied (have_one_anchor v w) (have_one_anchor u x) (first_of_and (not (have_one_anchor v w) || have_one_anchor u x) (stands_for v u ws xs) e) f
-stands_at v u (w ∷ ws) (x ∷ xs) (suc n) e lt lt' f = stands_at v u ws xs n (rest_of_and (not (have_one_anchor v w) || have_one_anchor u x) (stands_for v u ws xs) e) (omega (arith, lt)) (omega (arith, lt')) f
+stands_at : {D : Type 0} (w u : AbstractValue D) (vs us : List (AbstractValue D)) (n : ℕ) → stands_for w u vs us ≡ true → n < length vs → n < length us → have_one_anchor w (slice_index_or vs n known.Nothing) ≡ true → have_one_anchor u (slice_index_or us n known.Nothing) ≡ true
+stands_at w u [] us n e lt lt' f = absurd (omega (arith, lt))
+stands_at o u (w ∷ ws) [] n e lt lt' f = absurd (omega (arith, lt'))
+stands_at o u (w ∷ ws) (x ∷ xs) zero e lt lt' f = implied (have_one_anchor o w) (have_one_anchor u x) (first_of_and (not (have_one_anchor o w) || have_one_anchor u x) (stands_for o u ws xs) e) f
+stands_at o u (w ∷ ws) (x ∷ xs) (suc n) e lt lt' f = stands_at o u ws xs n (rest_of_and (not (have_one_anchor o w) || have_one_anchor u x) (stands_for o u ws xs) e) (omega (arith, lt)) (omega (arith, lt')) f
 
 place_stands : {D : Type 0} (places : Places) (id : ℕ) (vs us : List (AbstractValue D)) (n : ℕ) → share_alike vs us ≡ true → n < length vs → n < length us → names (slice_index_or vs n known.Nothing) id ≡ true → places_for places vs us id ≡ place_in places (slice_index_or us n known.Nothing)
 place_stands places id [] us n e lt lt' f = absurd (omega (arith, lt))
 place_stands places id (v ∷ vs) [] n e lt lt' f = absurd (omega (arith, lt'))
-place_stands places id (v ∷ vs) (u ∷ us) zero e lt lt' f = ap (λ (b : Bool). if b then place_in places u else places_for places vs us id) f
+place_stands places id (v ∷ vs) (u ∷ us) zero e lt lt' f = ap (λ (x : Bool). if x then place_in places u else places_for places vs us id) f
 place_stands places id (v ∷ vs) (u ∷ us) (suc n) e lt lt' f =
     by (names v id) refl (place_stands places id vs us n (rest_of_and (stands_for v u vs us) (share_alike vs us) e) (omega (arith, lt)) (omega (arith, lt')) f) where
-      by : (b : Bool) → names v id ≡ b → places_for places vs us id ≡ place_in places (slice_index_or us n known.Nothing) → (if b then place_in places u else places_for places vs us id) ≡ place_in places (slice_index_or us n known.Nothing)
+      by : (x : Bool) → names v id ≡ x → places_for places vs us id ≡ place_in places (slice_index_or us n known.Nothing) → (if x then place_in places u else places_for places vs us id) ≡ place_in places (slice_index_or us n known.Nothing)
       by true g rest = same_places places u (slice_index_or us n known.Nothing) (stands_at v u vs us n (first_of_and (stands_for v u vs us) (share_alike vs us) e) (omega (arith, lt)) (omega (arith, lt')) (named_shared id v (slice_index_or vs n known.Nothing) g f))
       by false g rest = rest
 
@@ -92,49 +92,49 @@ values_at ops a b (v ∷ vs) [] n e lt lt' = absurd (omega (arith, lt'))
 values_at ops a b (v ∷ vs) (u ∷ us) zero e lt lt' = first_of_and (covers_value ops a b v u) (covers_values ops a b vs us) e
 values_at ops a b (v ∷ vs) (u ∷ us) (suc n) e lt lt' = values_at ops a b vs us n (rest_of_and (covers_value ops a b v u) (covers_values ops a b vs us) e) (omega (arith, lt)) (omega (arith, lt'))
 
-int_same : (x y : ℤ) → same_int x y ≡ true → x ≡ y
-int_same x y e = let p = le_of x y (first_of_and (int_le x y) (int_le y x) e) in let q = le_of y x (rest_of_and (int_le x y) (int_le y x) e) in omega (arith, ints, p, q)
+int_same : (p k : ℤ) → same_int p k ≡ true → p ≡ k
+int_same k l e = let p = le_of k l (first_of_and (int_le k l) (int_le l k) e) in let q = le_of l k (rest_of_and (int_le k l) (int_le l k) e) in omega (arith, ints, p, q)
 
 between_zero : (p : ℤ) → pos 0 ≤ℤ p → p ≤ℤ pos 0 → p ≡ pos 0
 between_zero p e f = omega (arith, ints)
 
 module _ {D : Type 0} (ops : Operations D) (Member : D → ℕ → Type 0) (sound : AreSound ops Member) (places more : Places) (size : ℕ) (a b : AbsState D) (reaches : b.proved ≤ℤ pos size) where
   -- the place of the covered anchor is one of the anchor that covers it
-  anchor_covered : (x y : Anchor) → covers_anchor a b x y ≡ true → IsAnchored places size y → IsPlace size (low_of x) (high_of x) (proved_of a x) (place_of places y)
-  anchor_covered x y e is =
-      let at = place_is places size b y reaches is in
-      let ends = first_of_and (int_le (low_of x) (low_of y) && int_le (high_of y) (high_of x)) (int_le (proved_of a x) (proved_of b y)) e in
-      let low = le_of (low_of x) (low_of y) (first_of_and (int_le (low_of x) (low_of y)) (int_le (high_of y) (high_of x)) ends) in
-      let high = le_of (high_of y) (high_of x) (rest_of_and (int_le (low_of x) (low_of y)) (int_le (high_of y) (high_of x)) ends) in
-      let proved = le_of (proved_of a x) (proved_of b y) (rest_of_and (int_le (low_of x) (low_of y) && int_le (high_of y) (high_of x)) (int_le (proved_of a x) (proved_of b y)) e) in
+  anchor_covered : (anchor r : Anchor) → covers_anchor a b anchor r ≡ true → IsAnchored places size r → IsAnchorPlace size (low_of anchor) (high_of anchor) (proved_of a anchor) (place_of places r)
+  anchor_covered r anchor e is =
+      let at = place_is places size b anchor reaches is in
+      let ends = first_of_and (int_le (low_of r) (low_of anchor) && int_le (high_of anchor) (high_of r)) (int_le (proved_of a r) (proved_of b anchor)) e in
+      let low = le_of (low_of r) (low_of anchor) (first_of_and (int_le (low_of r) (low_of anchor)) (int_le (high_of anchor) (high_of r)) ends) in
+      let high = le_of (high_of anchor) (high_of r) (rest_of_and (int_le (low_of r) (low_of anchor)) (int_le (high_of anchor) (high_of r)) ends) in
+      let proved = le_of (proved_of a r) (proved_of b anchor) (rest_of_and (int_le (low_of r) (low_of anchor) && int_le (high_of anchor) (high_of r)) (int_le (proved_of a r) (proved_of b anchor)) e) in
       record { least = omega (arith, ints, low, at.least); greatest = omega (arith, ints, high, at.greatest); reaches = omega (arith, ints, proved, at.reaches) }
 
-  data_covered : (x y : Anchor) (k l : ℤ) (v : Value) → k ≡ l → covers_anchor a b x y ≡ true → ((id : ℕ) → names {D = D} (known.Data x k) id ≡ true → more id ≡ place_of places y) → IsHeld Member places size (known.Data y l) v → IsHeld Member more size (known.Data x k) v
-  data_covered First y k l v same e stands h =
-      let at = anchor_covered First y e h.1 in
-      let zero_place : place_of places y ≡ pos 0 = between_zero (place_of places y) at.least at.greatest in
+  data_covered : (r anchor : Anchor) (k l : ℤ) (v : Value) → k ≡ l → covers_anchor a b r anchor ≡ true → ((id : ℕ) → names {D = D} (known.Data r k) id ≡ true → more id ≡ place_of places anchor) → IsHeld Member places size (known.Data anchor l) v → IsHeld Member more size (known.Data r k) v
+  data_covered First r k l v same e stands h =
+      let at = anchor_covered First r e h.1 in
+      let zero_place : place_of places r ≡ pos 0 = between_zero (place_of places r) at.least at.greatest in
       (0, tt, h.2 ∙ ap value.Data ((λ i. zero_place i +ℤ sym same i)))
-  data_covered (Made id low high proved) y k l v same e stands h =
-      let at = anchor_covered (Made id low high proved) y e h.1 in
-      let to : more id ≡ place_of places y = stands id (itself id) in
-      (0, subst (IsPlace size low high proved) (sym to) at, h.2 ∙ ap value.Data ((λ i. sym to i +ℤ sym same i))) where
+  data_covered (Made id low high proved) r k l v same e stands h =
+      let at = anchor_covered (Made id low high proved) r e h.1 in
+      let to : more id ≡ place_of places r = stands id (itself id) in
+      (0, subst (IsAnchorPlace size low high proved) (sym to) at, h.2 ∙ ap value.Data ((λ i. sym to i +ℤ sym same i))) where
         itself : (n : ℕ) → (n == n) ≡ true
         itself n = search rules
 
-  value_covered : (k o : AbstractValue D) (v : Value) → covers_value ops a b k o ≡ true → ((id : ℕ) → names k id ≡ true → more id ≡ place_in places o) → IsValue Member Loose places size o v → IsValue Member Loose more size k v
+  value_covered : (u o : AbstractValue D) (v : Value) → covers_value ops a b u o ≡ true → ((id : ℕ) → names u id ≡ true → more id ≡ place_in places o) → IsValue Member Loose places size o v → IsValue Member Loose more size u v
   value_covered known.Nothing o v e stands h = λ f. absurd cc
   value_covered (known.Scalar x) (known.Scalar y) v e stands h = (h.0, sound.covers x y h.0 e h.1, h.2)
   value_covered known.Ctx known.Ctx v e stands h = h
   value_covered (known.Stack k) (known.Stack l) v e stands h = (h.0, tt, h.2 ∙ ap value.Stack (sym (int_same k l e)))
   value_covered (known.Data x k) (known.Data y l) v e stands h = data_covered x y k l v (int_same k l (first_of_and (same_int k l) (covers_anchor a b x y) e)) (rest_of_and (same_int k l) (covers_anchor a b x y) e) stands h
   value_covered known.End known.End v e stands h = h
-  value_covered k o v e stands h = absurd cc
+  value_covered u o v e stands h = absurd cc
 
 -- ---- marks
 
-covered_mark : (m o : Bool) → (not m || o) ≡ true → m ≡ true → o ≡ true
-covered_mark true o e f = e
-covered_mark false o e f = absurd cc
+covered_mark : (m x : Bool) → (not m || x) ≡ true → m ≡ true → x ≡ true
+covered_mark true x e f = e
+covered_mark false x e f = absurd cc
 
 marks_at : (ms os : List Bool) (n : ℕ) → covers_marks ms os ≡ true → slice_index_or ms n false ≡ true → slice_index_or os n false ≡ true
 marks_at [] os n e f = absurd cc

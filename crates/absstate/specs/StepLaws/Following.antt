@@ -15,10 +15,10 @@ use Rattle.semantics.specs.declared.helper.Helper.TheVariants as helper
 use Rattle.semantics.specs.declared.helper.Question.{Question}
 use Rattle.semantics.specs.declared.access.Location.{Location}
 use Rattle.semantics.specs.declared.access.Location.TheVariants.{InStack, InBytes}
-use Rattle.semantics.specs.declared.limits.TheConstants.{MAX_DATAGRAM}
+use Rattle.semantics.specs.declared.limits.TheConstants.{MAX_DATAGRAM, MAX_CHANNEL}
 use Rattle.semantics.specs.Effects as effects
 use Rattle.semantics.specs.Slots.{fetch, target}
-use Rattle.semantics.specs.Runs.{Goes, IsPossible, registers_after_call, answered_at, state_after_answer, plan_answer, with_window, with_destination, state_with_plan, step_by_effect, step_to, step_of_fetched, step, write_register}
+use Rattle.semantics.specs.Runs.{Goes, IsPossible, registers_after_call, answered_at, state_after_answer, plan_answer, with_window, with_destination, state_with_plan, step_by_effect, step_to, step_of_fetched, step, registers_with}
 use Rattle.semantics.specs.Flow.{Flow, flow_of, flow_slot, branch_slot}
 use Rattle.semantics.specs.Flow as flow
 use Rattle.semantics.specs.LooseRuns.{effect_of_branch}
@@ -32,7 +32,7 @@ use Rattle.interval.specs.Domains.{Operations, AreSound}
 use Rattle.absstate.specs.AbstractStates.{with_answer}
 use Rattle.absstate.specs.AbstractSteps as abstract
 use Rattle.absstate.specs.Membership.{Mode, Places, IsMemberAt, IsMember}
-use Rattle.absstate.specs.MemberSteps.{IsAfter, IsAfterSome, IsTakenBy, IsTaken, Follows, StepsFollow}
+use Rattle.absstate.specs.MemberSteps.{IsAfter, IsAfterSome, IsTakenBy, IsTaken, MemberFollows, StepsFollow}
 use Rattle.absstate.specs.declared.abstract_state.AbsState.{AbsState}
 use Rattle.absstate.specs.declared.abstract_step.Next.{Next}
 use Rattle.absstate.specs.declared.abstract_step.Next.TheVariants as next
@@ -43,9 +43,9 @@ use Rattle.absstate.specs.StepLaws.Tagged.{written_proper}
 use Rattle.absstate.specs.StepLaws.Simulation.{IsAsked, IsEffectOf, steps_agree}
 
 abbrev none_claimed : Reason → Type 0
-none_claimed r = ⊥
+none_claimed reason = ⊥
 
-agreed : {A B : Type 0} (F : A → B → Type 0) (x : Result A Reason) (y : Result B Reason) (v : A) → Agree none_claimed F x y → x ≡ Ok v → (u : B) × (y ≡ Ok u) × F v u
+agreed : {A B : Type 0} (F : A → B → Type 0) (result : Result A Reason) (y : Result B Reason) (v : A) → Agree none_claimed F result y → result ≡ Ok v → (u : B) × (y ≡ Ok u) × F v u
 agreed F (Ok a) (Ok b) v agree e = (b, refl, subst (λ z. F z b) (let is : a ≡ v = cc in is) agree)
 agreed F (Ok a) (Err f) v agree e = absurd agree
 agreed F (Err f) y v agree e = absurd cc
@@ -67,14 +67,14 @@ small_answer (Some x) = omega arith
 pub step_is : (w : Environment) (code : List Insn) (s : State) (i : Insn) (r : Result Effect Reason) → fetch code s.slot ≡ Begins i → effects.effect w.context s.memory s.registers i ≡ r → step w code s ≡ step_by_effect w code s i r
 step_is w code s i r here e = ap (step_of_fetched w code s) here ∙ ap (step_by_effect w code s i) e
 
-ok_of : (r : Result ℕ Reason) → IsOk r → (n : ℕ) × (r ≡ Ok n)
+ok_of : (result : Result ℕ Reason) → IsOk result → (n : ℕ) × (result ≡ Ok n)
 ok_of (Ok n) ok = (n, refl)
 ok_of (Err e) ok = absurd cc
 
-same_slot : (m n : ℕ) → ◌≡◌ {A = Result ℕ Reason} (Ok m) (Ok n) → m ≡ n
-same_slot m n e = cc
+same_slot : (k n : ℕ) → ◌≡◌ {A = Result ℕ Reason} (Ok k) (Ok n) → k ≡ n
+same_slot k n e = cc
 
-landed_at : (s : State) (r : Result ℕ Reason) (n : ℕ) → r ≡ Ok n → step_to s r ≡ Goes (record s { slot = n })
+landed_at : (s : State) (result : Result ℕ Reason) (n : ℕ) → result ≡ Ok n → step_to s result ≡ Goes (record s { slot = n })
 landed_at s (Ok m) n e = ap (λ (k : ℕ). Goes (record s { slot = k })) (same_slot m n e)
 landed_at s (Err f) n e = absurd cc
 
@@ -103,16 +103,16 @@ module _ {D : Type 0} (ops : Operations D) (Member : D → ℕ → Type 0) (soun
     arithmetic = λ c. absurd c;
   }
 
-  pub accepted_agree : (mode : Mode) (places : Places) (a : AbsState D) (s : State) → IsMemberAt Member mode places a s → (c : Context) → IsContext c → (i : Insn) → Fits i → (answer : Next D) → abstract.step ops a i ≡ Ok answer
-      → (e : Effect) × (effects.effect c s.memory s.registers i ≡ Ok e) × IsEffectOf ops Member sound mode places a s i answer e
-  accepted_agree mode places a s member c real i fit answer is =
-      agreed (IsEffectOf ops Member sound mode places a s i) (abstract.step ops a i) (effects.effect c s.memory s.registers i) answer (steps_agree ops Member sound none_claimed mode places a s member c real i fit (no_claims mode a s i)) is
+  pub accepted_agree : (mode : Mode) (places : Places) (a : AbsState D) (s : State) → IsMemberAt Member mode places a s → (context : Context) → IsContext context → (i : Insn) → Fits i → (answer : Next D) → abstract.abstract_step ops a i ≡ Ok answer
+      → (e : Effect) × (effects.effect context s.memory s.registers i ≡ Ok e) × IsEffectOf ops Member sound mode places a s i answer e
+  accepted_agree mode places a s member context real i fit answer is =
+      agreed (IsEffectOf ops Member sound mode places a s i) (abstract.abstract_step ops a i) (effects.effect context s.memory s.registers i) answer (steps_agree ops Member sound none_claimed mode places a s member context real i fit (no_claims mode a s i)) is
 
   -- the state after a call is a member: of a look-up, and of a change of the plan
-  in_range : (n hi : ℕ) → hi ≤ 0x4fff → n ≤ hi → Member (ops.range 0 hi) n
+  in_range : (n hi : ℕ) → hi ≤ MAX_CHANNEL → n ≤ hi → Member (ops.range 0 hi) n
   in_range n hi small le = sound.range 0 hi n (omega (arith, small)) (omega arith) le
 
-  bounded : (h : Helper) → (signature_of h).greatest ≤ 0x4fff
+  bounded : (h : Helper) → (signature_of h).greatest ≤ MAX_CHANNEL
   bounded helper.ChannelPeer = omega arith
   bounded helper.ChannelTo = omega arith
   bounded helper.Permitted = omega arith
@@ -143,13 +143,13 @@ module _ {D : Type 0} (ops : Operations D) (Member : D → ℕ → Type 0) (soun
     exists at = record { places = places; at = at }
 
     after : (branch : Branch) (b : AbsState D) → ((to : ℕ) → IsMemberAt Member mode places b (record s { slot = to })) → (n : ℕ) → branch_slot code s.slot i branch ≡ Ok n → IsAfter Member code mode s i branch b (record s { slot = n })
-    after branch b h n leads = record { leads = leads; size = refl; member = exists (h n) }
+    after branch b e n leads = record { leads = leads; size = refl; member = exists (e n) }
 
     -- that branch is taken, by the effect of the instruction
     taken_by : (r : Result Effect Reason) (f : Flow) (branch : Branch) → effects.effect w.context s.memory s.registers i ≡ r → flow_of i ≡ f → IsTakenBy f r branch → IsTaken w s i branch
-    taken_by r f branch is flows h = subst (λ (x : Flow). IsTakenBy x (effects.effect w.context s.memory s.registers i) branch) (sym flows) (subst (λ (x : Result Effect Reason). IsTakenBy f x branch) (sym is) h)
+    taken_by r f branch is flows e = subst (λ (flow : Flow). IsTakenBy flow (effects.effect w.context s.memory s.registers i) branch) (sym flows) (subst (λ (known : Result Effect Reason). IsTakenBy f known branch) (sym is) e)
 
-    effect_follows : s.memory.length ≤ MAX_DATAGRAM → (answer : Next D) (e : Effect) → effects.effect w.context s.memory s.registers i ≡ Ok e → IsEffectOf ops Member sound mode places a s i answer e → Follows Member w code mode s i answer (step_by_effect w code s i (Ok e))
+    effect_follows : s.memory.length ≤ MAX_DATAGRAM → (answer : Next D) (d : Effect) → effects.effect w.context s.memory s.registers i ≡ Ok d → IsEffectOf ops Member sound mode places a s i answer d → MemberFollows Member w code mode s i answer (step_by_effect w code s i (Ok d))
     effect_follows short (next.On b) (effect.Write r v) has is = (
       NotTaken,
       taken_by (Ok (effect.Write r v)) flow.Straight NotTaken has is.3 tt,
@@ -158,7 +158,7 @@ module _ {D : Type 0} (ops : Operations D) (Member : D → ℕ → Type 0) (soun
         size = refl;
         member = record {
           places = is.2.more;
-          at = subst (λ (c : AbsState D). IsMemberAt Member mode is.2.more c (record s { slot = s.slot + slots_of i; registers = write_register s r v })) (sym is.1)
+          at = subst (λ (c : AbsState D). IsMemberAt Member mode is.2.more c (record s { slot = s.slot + slots_of i; registers = registers_with s r v })) (sym is.1)
               (member_written Member mode is.2.more a s (member_extends Member mode places a s member is.2.more is.2.extends) r is.0 v (s.slot + slots_of i) (is.2.result.held short)
               (written_proper w code s i r v (s.slot + slots_of i) real here fit member.tagged (step_is w code s i (Ok (effect.Write r v)) here has)));
         };
@@ -203,14 +203,14 @@ module _ {D : Type 0} (ops : Operations D) (Member : D → ℕ → Type 0) (soun
     )
     effect_follows short (next.On b) (effect.Jump offset) has is =
         let to = ok_of (branch_slot code s.slot i NotTaken) (good NotTaken) in
-        subst (Follows Member w code mode s i (next.On b)) (sym (jump_goes w code s i offset NotTaken to.0 is.1 to.1))
+        subst (MemberFollows Member w code mode s i (next.On b)) (sym (jump_goes w code s i offset NotTaken to.0 is.1 to.1))
         (NotTaken, taken_by (Ok (effect.Jump offset)) (flow.Jumps offset) NotTaken has is.1 tt, after NotTaken b (λ n. subst (λ (c : AbsState D). IsMemberAt Member mode places c (record s { slot = n })) (sym is.0) (member_moved Member mode places a s member n)) to.0 to.1)
     effect_follows short (next.On b) effect.Pass has is = absurd is
     effect_follows short (next.On b) (effect.Exit verdict) has is = absurd is
-    effect_follows short (next.Fork not_taken taken) e has f =
-        let to = ok_of (branch_slot code s.slot i f.branch) (good f.branch) in
-        subst (Follows Member w code mode s i (next.Fork not_taken taken)) (sym (ap (λ (x : Effect). step_by_effect w code s i (Ok x)) f.effect_is ∙ branch_goes w code s i f.offset f.branch to.0 (ap flow_of f.jump) to.1))
-        (f.branch, taken_by (Ok e) (flow.Forks f.offset) f.branch has (ap flow_of f.jump) (ap Ok f.effect_is), subst (λ (o : Option (AbsState D)). IsAfterSome Member code mode s i f.branch o (record s { slot = to.0 })) (sym f.after_is) (after f.branch f.after f.member to.0 to.1))
+    effect_follows short (next.Fork not_taken taken) d has e =
+        let to = ok_of (branch_slot code s.slot i e.branch) (good e.branch) in
+        subst (MemberFollows Member w code mode s i (next.Fork not_taken taken)) (sym (ap (λ (effect : Effect). step_by_effect w code s i (Ok effect)) e.effect_is ∙ branch_goes w code s i e.offset e.branch to.0 (ap flow_of e.jump) to.1))
+        (e.branch, taken_by (Ok d) (flow.Forks e.offset) e.branch has (ap flow_of e.jump) (ap Ok e.effect_is), subst (λ (option : Option (AbsState D)). IsAfterSome Member code mode s i e.branch option (record s { slot = to.0 })) (sym e.after_is) (after e.branch e.after e.member to.0 to.1))
     effect_follows short next.Exit (effect.Exit verdict) has is = tt
     effect_follows short next.Exit (effect.Write r v) has is = absurd is
     effect_follows short next.Exit (effect.Store at z n) has is = absurd is
@@ -221,11 +221,11 @@ module _ {D : Type 0} (ops : Operations D) (Member : D → ℕ → Type 0) (soun
     effect_follows short next.Exit effect.Pass has is = absurd is
 
   -- an accepted step is followed from every member
-  pub steps_follow : (a : AbsState D) (i : Insn) → Fits i → (answer : Next D) → abstract.step ops a i ≡ Ok answer → StepsFollow Member a i answer
+  pub steps_follow : (a : AbsState D) (i : Insn) → Fits i → (answer : Next D) → abstract.abstract_step ops a i ≡ Ok answer → StepsFollow Member a i answer
   steps_follow a i fit answer is w code mode s real here good short member =
       let agree = accepted_agree mode member.places a s member.at w.context real.context i fit answer is in
-      subst (Follows Member w code mode s i answer) (sym (step_is w code s i (Ok agree.0) here agree.1)) (effect_follows w code mode member.places a s member.at i fit real here good short answer agree.0 agree.1 agree.2)
+      subst (MemberFollows Member w code mode s i answer) (sym (step_is w code s i (Ok agree.0) here agree.1)) (effect_follows w code mode member.places a s member.at i fit real here good short answer agree.0 agree.1 agree.2)
 
-  pub followed : (a : AbsState D) (i : Insn) → Fits i → (answer : Result (Next D) Reason) → answer ≡ abstract.step ops a i → IfOk answer (λ next. StepsFollow Member a i next)
+  pub followed : (a : AbsState D) (i : Insn) → Fits i → (answer : Result (Next D) Reason) → answer ≡ abstract.abstract_step ops a i → IfOk answer (λ next. StepsFollow Member a i next)
   followed a i fit (Ok answer) is = steps_follow a i fit answer (sym is)
   followed a i fit (Err e) is = tt

@@ -16,7 +16,7 @@ use Rattle.insn.specs.declared.instruction.Insn.TheVariants as insn
 use Rattle.semantics.specs.Machine.{State}
 use Rattle.semantics.specs.Effects as effects
 use Rattle.semantics.specs.Effects.{value_at}
-use Rattle.semantics.specs.Runs.{write_register}
+use Rattle.semantics.specs.Runs.{registers_with}
 use Rattle.semantics.specs.LooseRuns.{Bound, Loosens, bound_of, effect_of_branch, HoldsOf}
 use Rattle.semantics.specs.declared.value.Value.{Value}
 use Rattle.semantics.specs.declared.value.Value.TheVariants as value
@@ -24,7 +24,7 @@ use Rattle.semantics.specs.declared.effect.Effect.{Effect}
 use Rattle.semantics.specs.declared.effect.Effect.TheVariants as effect
 use Rattle.semantics.specs.declared.fetching.Branch.{Branch}
 use Rattle.semantics.specs.declared.fetching.Branch.TheVariants.{NotTaken, Taken}
-use Rattle.interval.specs.Domains.{Operations, AreSound, ArePrecise, HasMembers, passes, Keeps}
+use Rattle.interval.specs.Domains.{Operations, AreSound, ArePrecise, HasMembers, passes, KeepsPair}
 use Rattle.interval.specs.declared.domain.Test.{Test}
 use Rattle.interval.specs.declared.domain.Test.TheVariants.{Holds, Fails}
 use Rattle.absstate.specs.AbstractStates.{with_value, with_least}
@@ -46,13 +46,13 @@ effect_taken : (offset : ℤ) (taken : Bool) → (if taken then effect.Jump offs
 effect_taken offset true = refl
 effect_taken offset false = refl
 
-proved_within : (proved n size : ℤ) (b : Bool) → int_lt proved n ≡ b → (if b then n else proved) ≤ℤ size → n ≤ℤ size
-proved_within proved n size true e le = le
-proved_within proved n size false e le = let above : n ≤ℤ proved = not_lt proved n e in omega (arith, ints)
+proved_within : (proved d size : ℤ) (test : Bool) → int_lt proved d ≡ test → (if test then d else proved) ≤ℤ size → d ≤ℤ size
+proved_within proved d size true e le = le
+proved_within proved d size false e le = let above : d ≤ℤ proved = not_lt proved d e in omega (arith, ints)
 
-pub proved_rises : (proved n : ℤ) (b : Bool) → int_lt proved n ≡ b → proved ≤ℤ (if b then n else proved)
-proved_rises proved n true e = let below : proved <ℤ n = lt_of proved n e in omega (arith, ints)
-proved_rises proved n false e = omega (arith, ints)
+pub proved_rises : (proved d : ℤ) (test : Bool) → int_lt proved d ≡ test → proved ≤ℤ (if test then d else proved)
+proved_rises proved d true e = let below : proved <ℤ d = lt_of proved d e in omega (arith, ints)
+proved_rises proved d false e = omega (arith, ints)
 
 -- a loosening of a state, at another slot, is a strict member
 pub record IsOpened {D : Type 0} (Member : D → ℕ → Type 0) (places : Places) (b : AbsState D) (s : State) (to : ℕ) : Type 0 where
@@ -84,9 +84,9 @@ module _ {D : Type 0} (ops : Operations D) (Member : D → ℕ → Type 0) (soun
 
     abbrev pub replaced : (r : Reg) (x y : D) (m n to : ℕ) → Member x m → value_at s.registers r ≡ value.Scalar m → Member y n → IsOpened Member places (with_value a r (known.Scalar y)) s to
     replaced r x y m n to h e g = record {
-      state = record s { slot = to; registers = write_register s r (value.Scalar n) };
+      state = record s { slot = to; registers = registers_with s r (value.Scalar n) };
       loosens =
-          members_loosen Member sound.words places (with_value a r (known.Scalar ops.top)) (record s { slot = to }) (record s { slot = to; registers = write_register s r (value.Scalar n) })
+          members_loosen Member sound.words places (with_value a r (known.Scalar ops.top)) (record s { slot = to }) (record s { slot = to; registers = registers_with s r (value.Scalar n) })
           (member_known Member Strict places a s member r (known.Scalar ops.top) to (register_held r x m h e))
           (member_written Member Strict places a s member r (known.Scalar ops.top) (value.Scalar n) to (word_held n (sound.words y n g)) (sound.words y n g))
           refl refl refl;
@@ -97,8 +97,8 @@ module _ {D : Type 0} (ops : Operations D) (Member : D → ℕ → Type 0) (soun
     both_replaced : (src : Reg) (x y : D) (left : D × D) (m n to : ℕ) → Member x m → Member y n → value_at s.registers dst ≡ value.Scalar m → value_at s.registers src ≡ value.Scalar n → HasMembers Member left
         → IsOpened Member places (with_value (with_value a dst (known.Scalar left.0)) src (known.Scalar left.1)) s to
     both_replaced src x y left m n to h g dst_is src_is has =
-        let first : State = record s { slot = to; registers = write_register s dst (value.Scalar has.first) } in
-        let both : State = record s { slot = to; registers = write_register first src (value.Scalar has.second) } in
+        let first : State = record s { slot = to; registers = registers_with s dst (value.Scalar has.first) } in
+        let both : State = record s { slot = to; registers = registers_with first src (value.Scalar has.second) } in
         let wide : AbsState D = with_value a dst (known.Scalar ops.top) in
         let first_word : has.first < 2 ^ 64 = sound.words left.0 has.first has.of_first in
         let second_word : has.second < 2 ^ 64 = sound.words left.1 has.second has.of_second in
@@ -149,7 +149,7 @@ module _ {D : Type 0} (ops : Operations D) (Member : D → ℕ → Type 0) (soun
 
   -- The branches of a conditional jump: the machine takes one of them, to a member, and loosely any that can be taken, where
   -- its bound holds.
-  pub record Forks (mode : Mode) (places : Places) (a : AbsState D) (s : State) (i : Insn) (not_taken taken : Option (AbsState D)) (e : Effect) : Type 0 where
+  pub record Forks (mode : Mode) (places : Places) (a : AbsState D) (s : State) (i : Insn) (not_taken taken : Option (AbsState D)) (effect : Effect) : Type 0 where
     pub width : Width
     pub condition : Condition
     pub dst : Reg
@@ -159,7 +159,7 @@ module _ {D : Type 0} (ops : Operations D) (Member : D → ℕ → Type 0) (soun
     pub second : Value
     pub operand_is : effects.operand_value width s.registers operand ≡ Ok second
     pub branch : Branch
-    pub effect_is : e ≡ effect_of_branch offset branch
+    pub effect_is : effect ≡ effect_of_branch offset branch
     pub after : AbsState D
     pub after_is : state_after (next.Fork not_taken taken) branch ≡ Some after
     pub member : (to : ℕ) → IsMemberAt Member mode places after (record s { slot = to })
@@ -175,22 +175,22 @@ module _ {D : Type 0} (ops : Operations D) (Member : D → ℕ → Type 0) (soun
   module _ (mode : Mode) (places : Places) (a : AbsState D) (s : State) (member : IsMemberAt Member mode places a s) (w : Width) (c : Condition) (dst : Reg) (o : Operand) (offset : ℤ) where
     -- two numbers
     module _ (x y : D) (m n : ℕ) (h : Member x m) (g : Member y n) (dst_is : value_at s.registers dst ≡ value.Scalar m) (o_is : effects.operand_value w s.registers o ≡ Ok (value.Scalar n)) where
-      passed_by : (r : Option (D × D)) → Keeps Member r m n → (after : AbsState D) × (abstract.state_with_operands a dst o r ≡ Some after) × ((to : ℕ) → IsMemberAt Member mode places after (record s { slot = to }))
+      passed_by : (e : Option (D × D)) → KeepsPair Member e m n → (after : AbsState D) × (abstract.state_with_operands a dst o e ≡ Some after) × ((to : ℕ) → IsMemberAt Member mode places after (record s { slot = to }))
       passed_by None kept = absurd kept
       passed_by (Some left) kept = (abstract.with_operands a dst o left, refl, λ to. operands_known mode places a s member dst w o left m n to dst_is o_is kept.0 kept.1)
 
-      refined_rises : (r : Option (D × D)) (b : AbsState D) → abstract.state_with_operands a dst o r ≡ Some b → a.proved ≤ℤ b.proved
+      refined_rises : (e : Option (D × D)) (b : AbsState D) → abstract.state_with_operands a dst o e ≡ Some b → a.proved ≤ℤ b.proved
       refined_rises None b e = absurd cc
       refined_rises (Some left) b e = subst (λ (z : AbsState D). a.proved ≤ℤ z.proved) (some_is (abstract.with_operands a dst o left) b e) (operands_proved a dst o left)
 
-      refined_opens : (strict : IsMemberAt Member Strict places a s) (r : Option (D × D)) → ((left : D × D) → r ≡ Some left → HasMembers Member left) → (b : AbsState D) → abstract.state_with_operands a dst o r ≡ Some b → (to : ℕ) → IsOpened Member places b s to
+      refined_opens : (strict : IsMemberAt Member Strict places a s) (e : Option (D × D)) → ((left : D × D) → e ≡ Some left → HasMembers Member left) → (b : AbsState D) → abstract.state_with_operands a dst o e ≡ Some b → (to : ℕ) → IsOpened Member places b s to
       refined_opens strict None has b e to = absurd cc
       refined_opens strict (Some left) has b e to = subst (λ (z : AbsState D). IsOpened Member places z s to) (some_is (abstract.with_operands a dst o left) b e) (operands_opened places a s strict dst w o x y left m n to h g dst_is o_is (has left refl))
 
-      numbers_fork : (test : Test) (branch : Branch) (e : Effect) → e ≡ effect_of_branch offset branch → passes test w m n ≡ true
+      numbers_fork : (test : Test) (branch : Branch) (effect : Effect) → effect ≡ effect_of_branch offset branch → passes test w m n ≡ true
           → state_after (next.Fork (abstract.state_past_test ops a (Fails c) w dst o x y) (abstract.state_past_test ops a (Holds c) w dst o x y)) branch ≡ abstract.state_past_test ops a test w dst o x y
-          → Forks mode places a s (insn.JumpIf w c dst o offset) (abstract.state_past_test ops a (Fails c) w dst o x y) (abstract.state_past_test ops a (Holds c) w dst o x y) e
-      numbers_fork test branch e e_is passed way_is =
+          → Forks mode places a s (insn.JumpIf w c dst o offset) (abstract.state_past_test ops a (Fails c) w dst o x y) (abstract.state_past_test ops a (Holds c) w dst o x y) effect
+      numbers_fork test branch effect e_is passed way_is =
           let after = passed_by (ops.refine test w x y) (sound.refine test w x y m n h g passed) in
           record {
             width = w;
@@ -220,7 +220,7 @@ module _ {D : Type 0} (ops : Operations D) (Member : D → ℕ → Type 0) (soun
             opens precise strict NotTaken b f le le' to = refined_opens (subst (λ (k : Mode). IsMemberAt Member k places a s) strict member) (ops.refine (Fails c) w x y) (λ left. precise.refine (Fails c) w x y m n left h g) b f to
             opens precise strict Taken b f le le' to = refined_opens (subst (λ (k : Mode). IsMemberAt Member k places a s) strict member) (ops.refine (Holds c) w x y) (λ left. precise.refine (Holds c) w x y m n left h g) b f to
 
-      pub fork_by : (t : Bool) → holds c w m n ≡ t → Forks mode places a s (insn.JumpIf w c dst o offset) (abstract.state_past_test ops a (Fails c) w dst o x y) (abstract.state_past_test ops a (Holds c) w dst o x y) (if t then effect.Jump offset else effect.Pass)
+      pub fork_by : (test : Bool) → holds c w m n ≡ test → Forks mode places a s (insn.JumpIf w c dst o offset) (abstract.state_past_test ops a (Fails c) w dst o x y) (abstract.state_past_test ops a (Holds c) w dst o x y) (if test then effect.Jump offset else effect.Pass)
       fork_by true e = numbers_fork (Holds c) Taken (effect.Jump offset) refl e refl
       fork_by false e = numbers_fork (Fails c) NotTaken effect.Pass refl (ap not e) refl
 
@@ -268,12 +268,12 @@ module _ {D : Type 0} (ops : Operations D) (Member : D → ℕ → Type 0) (soun
         extra = extra;
         within = within;
         rises = λ way b e. subst (λ (z : AbsState D). a.proved ≤ℤ z.proved) (least_is way b e) (least_rises a anchor (abstract.least_of (bound way)));
-        holds_of = λ way b e le le'. subst (λ (z : Option Bound). HoldsOf z s.memory.length) (sym (bound_is way)) (bound_from_least (place_of places anchor) (bound way) s.memory.length (least_holds way b e le le'));
+        holds_of = λ way b e le le'. subst (λ (found : Option Bound). HoldsOf found s.memory.length) (sym (bound_is way)) (bound_from_least (place_of places anchor) (bound way) s.memory.length (least_holds way b e le le'));
         opens = λ precise strict way b e le le' to. least_opens (subst (λ (k : Mode). IsMemberAt Member k places a s) strict member) (abstract.least_of (bound way)) (least_holds way b e le le') b (least_is way b e) to;
       }
 
       pub forked : (t : Implied) (taken : Bool) → Implies bound (λ way. bound_on_places (place_of places anchor) (bound way)) s.memory.length t taken
           → Forks mode places a s (insn.JumpIf w c dst o offset) (Some (with_least a anchor t.not_taken)) (Some (with_least a anchor t.taken)) (if taken then effect.Jump offset else effect.Pass)
       forked t taken implies =
-          subst (λ (z : Implied). Forks mode places a s (insn.JumpIf w c dst o offset) (Some (with_least a anchor z.not_taken)) (Some (with_least a anchor z.taken)) (if taken then effect.Jump offset else effect.Pass)) (sym implies.0)
+          subst (λ (l : Implied). Forks mode places a s (insn.JumpIf w c dst o offset) (Some (with_least a anchor l.not_taken)) (Some (with_least a anchor l.taken)) (if taken then effect.Jump offset else effect.Pass)) (sym implies.0)
           (places_forked taken implies.1)

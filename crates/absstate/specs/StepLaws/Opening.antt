@@ -15,7 +15,7 @@ use Rattle.semantics.specs.Calls.{signature_of}
 use Rattle.semantics.specs.Machine.{Memory, State, Environment}
 use Rattle.semantics.specs.Effects as effects
 use Rattle.semantics.specs.Slots.{fetch}
-use Rattle.semantics.specs.Runs.{Goes, IsPossible, state_after_answer, plan_answer, with_window, with_destination, state_with_plan, step_by_effect, step, write_register}
+use Rattle.semantics.specs.Runs.{Goes, IsPossible, state_after_answer, plan_answer, with_window, with_destination, state_with_plan, step_by_effect, step, registers_with}
 use Rattle.semantics.specs.declared.helper.Helper.TheVariants as helper
 use Rattle.semantics.specs.Flow.{flow_of, branch_slot}
 use Rattle.semantics.specs.Flow as flow
@@ -55,13 +55,13 @@ pub record Opens {D : Type 0} (Member : D → ℕ → Type 0) (w : Environment) 
   pub size : loosened.memory.length ≡ s.memory.length
   pub member : IsMember Member Strict b loosened
 
-same_state : {D : Type 0} (x y : AbsState D) → ◌≡◌ {A = Option (AbsState D)} (Some x) (Some y) → x ≡ y
-same_state x y e = cc
+same_state : {D : Type 0} (x b : AbsState D) → ◌≡◌ {A = Option (AbsState D)} (Some x) (Some b) → x ≡ b
+same_state x b e = cc
 
 same_slot : (m n : ℕ) → ◌≡◌ {A = Result ℕ Reason} (Ok m) (Ok n) → m ≡ n
 same_slot m n e = cc
 
-region_proved : {D : Type 0} (a : AbsState D) (n : ℕ) (r : Region) → a.proved ≡ (abstract.with_region a n r).proved
+region_proved : {D : Type 0} (a : AbsState D) (n : ℕ) (region : Region) → a.proved ≡ (abstract.with_region a n region).proved
 region_proved a n (regions.InStack i) = refl
 region_proved a n regions.InBytes = refl
 
@@ -69,14 +69,14 @@ out_proved : {D : Type 0} (a : AbsState D) (x : D) (out : Option ℕ) → a.prov
 out_proved a x None = refl
 out_proved a x (Some i) = refl
 
-within_both : (x y z : ℤ) → x ≤ℤ y → y ≤ℤ z → x ≤ℤ z
-within_both x y z p q = omega (arith, ints)
+within_both : (c y z : ℤ) → c ≤ℤ y → y ≤ℤ z → c ≤ℤ z
+within_both c y z p q = omega (arith, ints)
 
-at_most : (x y : ℤ) → x ≡ y → x ≤ℤ y
-at_most x y e = omega (arith, ints)
+at_most : (c y : ℤ) → c ≡ y → c ≤ℤ y
+at_most c y e = omega (arith, ints)
 
 module _ {D : Type 0} (ops : Operations D) (Member : D → ℕ → Type 0) (sound : AreSound ops Member) (w : Environment) (code : List Insn) (places : Places) (a : AbsState D) (s : State) (member : IsMemberAt Member Strict places a s) (i : Insn) (fit : Fits i) where
-  effect_rises : (answer : Next D) (e : Effect) → IsEffectOf ops Member sound Strict places a s i answer e → (branch : Branch) (b : AbsState D) → state_after answer branch ≡ Some b → a.proved ≤ℤ b.proved
+  effect_rises : (answer : Next D) (o : Effect) → IsEffectOf ops Member sound Strict places a s i answer o → (branch : Branch) (b : AbsState D) → state_after answer branch ≡ Some b → a.proved ≤ℤ b.proved
   effect_rises (next.On c) (effect.Write r v) is NotTaken b e = at_most a.proved b.proved (sym (ap (λ (x : AbsState D). x.proved) is.1) ∙ ap (λ (x : AbsState D). x.proved) (same_state c b e))
   effect_rises (next.On c) (effect.Jump offset) is NotTaken b e = at_most a.proved b.proved (sym (ap (λ (x : AbsState D). x.proved) is.0) ∙ ap (λ (x : AbsState D). x.proved) (same_state c b e))
   effect_rises (next.On c) (effect.Store at z n) is NotTaken b e = at_most a.proved b.proved (region_proved a (byte_count z) is.0 ∙ sym (ap (λ (x : AbsState D). x.proved) is.1) ∙ ap (λ (x : AbsState D). x.proved) (same_state c b e))
@@ -89,7 +89,7 @@ module _ {D : Type 0} (ops : Operations D) (Member : D → ℕ → Type 0) (soun
   effect_rises (next.Fork not_taken taken) o f branch b e = f.rises branch b e
   effect_rises next.Exit o is branch b e = absurd cc
 
-  module _ (real : IsPossible w) (answer : Next D) (is : abstract.step ops a i ≡ Ok answer) where
+  module _ (real : IsPossible w) (answer : Next D) (is : abstract.abstract_step ops a i ≡ Ok answer) where
     -- after an accepted step, no less is proved of the datagram's length
     pub step_rises : (branch : Branch) (b : AbsState D) → state_after answer branch ≡ Some b → a.proved ≤ℤ b.proved
     step_rises branch b e = let agree = accepted_agree ops Member sound Strict places a s member w.context real.context i fit answer is in effect_rises answer agree.0 agree.2 branch b e
@@ -105,14 +105,14 @@ module _ {D : Type 0} (ops : Operations D) (Member : D → ℕ → Type 0) (soun
 
       -- a register is written: where the datagram is too long for what is known, its number is replaced
       write_opens : (r : Reg) (v : Value) (k : AbstractValue D) → b ≡ with_value a r k → IsResultAnew ops Member sound places s.memory.length a k v → flow_of i ≡ flow.Straight
-          → step w code s ≡ Goes (record s { slot = s.slot + slots_of i; registers = write_register s r v }) → Opens Member w code s n b
+          → step w code s ≡ Goes (record s { slot = s.slot + slots_of i; registers = registers_with s r v }) → Opens Member w code s n b
       write_opens r v k is anew past goes =
           let more : Places = anew.more in
           let at = member_extends Member Strict places a s member more anew.extends in
           let result = anew.result in
           let to : ℕ = s.slot + slots_of i in
-          let written : State = record s { slot = to; registers = write_register s r v } in
-          let like : State = record s { slot = to; registers = write_register s r result.like } in
+          let written : State = record s { slot = to; registers = registers_with s r v } in
+          let like : State = record s { slot = to; registers = registers_with s r result.like } in
           let proper : IsProper v = written_proper w code s i r v to real here fit member.tagged goes in
           let like_proper : IsProper result.like = same_kind_proper v result.like (held_kind Member sound.words more s.memory.length s.memory.length result.wide v result.like result.wide_held result.wide_like) proper in
           opens_to written like goes
@@ -125,7 +125,7 @@ module _ {D : Type 0} (ops : Operations D) (Member : D → ℕ → Type 0) (soun
       itself : (t : State) → step w code s ≡ Goes t → t.slot ≡ n → t.memory.length ≡ s.memory.length → IsMemberAt Member Strict places b t → Opens Member w code s n b
       itself t goes slot_is size now = opens_to t t goes (loosens_itself Member sound.words places b t now) slot_is size places now
 
-      effect_opens : (e : Effect) → IsEffectOf ops Member sound Strict places a s i (next.On b) e → step w code s ≡ step_by_effect w code s i (Ok e) → Opens Member w code s n b
+      effect_opens : (o : Effect) → IsEffectOf ops Member sound Strict places a s i (next.On b) o → step w code s ≡ step_by_effect w code s i (Ok o) → Opens Member w code s n b
       effect_opens (effect.Write r v) is goes = write_opens r v is.0 is.1 is.2 is.3 goes
       effect_opens (effect.Store at z k) is goes =
           let bytes = little_bytes (byte_count z) k in
@@ -147,38 +147,38 @@ module _ {D : Type 0} (ops : Operations D) (Member : D → ℕ → Type 0) (soun
       effect_opens effect.Pass is goes = absurd is
       effect_opens (effect.Exit verdict) is goes = absurd is
 
-    fork_opens : (not_taken taken : Option (AbsState D)) (e : Effect) → effects.effect w.context s.memory s.registers i ≡ Ok e → Forks ops Member sound Strict places a s i not_taken taken e
+    fork_opens : (not_taken taken : Option (AbsState D)) (o : Effect) → effects.effect w.context s.memory s.registers i ≡ Ok o → Forks ops Member sound Strict places a s i not_taken taken o
         → (branch : Branch) (b : AbsState D) (n : ℕ) → state_after (next.Fork not_taken taken) branch ≡ Some b → branch_slot code s.slot i branch ≡ Ok n → b.proved ≤ℤ pos s.memory.length → reach_of a.registers ≤ℤ pos s.memory.length → Opens Member w code s n b
-    fork_opens not_taken taken e effect_is f branch b n after leads le reach =
-        let extra : f.extra ≤ℤ pos s.memory.length = within_both f.extra (reach_of a.registers) (pos s.memory.length) f.within reach in
-        let opened = f.opens precise refl branch b after le extra n in
+    fork_opens not_taken taken o effect_is d branch b n after leads le reach =
+        let extra : d.extra ≤ℤ pos s.memory.length = within_both d.extra (reach_of a.registers) (pos s.memory.length) d.within reach in
+        let opened = d.opens precise refl branch b after le extra n in
         record {
           state = record s { slot = n };
           goes = inr (
             branch,
             record {
-              width = f.width;
-              condition = f.condition;
-              dst = f.dst;
-              operand = f.operand;
-              offset = f.offset;
-              value = f.second;
-              here = here ∙ ap Begins f.jump;
-              decided = e;
-              not_stuck = ap (effects.effect w.context s.memory s.registers) (sym f.jump) ∙ effect_is;
-              operand_is = f.operand_is;
-              is_open = f.holds_of branch b after le extra;
-              goes = ap (λ (j : Insn). step_by_effect w code s j (Ok (effect_of_branch f.offset branch))) (sym f.jump) ∙ branch_goes w code s i f.offset branch n (ap flow_of f.jump) leads;
+              width = d.width;
+              condition = d.condition;
+              dst = d.dst;
+              operand = d.operand;
+              offset = d.offset;
+              value = d.second;
+              here = here ∙ ap Begins d.jump;
+              decided = o;
+              not_stuck = ap (effects.effect w.context s.memory s.registers) (sym d.jump) ∙ effect_is;
+              operand_is = d.operand_is;
+              is_open = d.holds_of branch b after le extra;
+              goes = ap (λ (j : Insn). step_by_effect w code s j (Ok (effect_of_branch d.offset branch))) (sym d.jump) ∙ branch_goes w code s i d.offset branch n (ap flow_of d.jump) leads;
             },
           );
           loosened = opened.state;
           loosens = opened.loosens;
           slot_is = opened.loosens.slot;
-          size = ap (λ (m : Memory). m.length) opened.memory;
+          size = ap (λ (g : Memory). g.length) opened.memory;
           member = record { places = places; at = opened.member };
         }
 
-    pub step_opens : (answer : Next D) → abstract.step ops a i ≡ Ok answer → (branch : Branch) (b : AbsState D) (n : ℕ) → state_after answer branch ≡ Some b → branch_slot code s.slot i branch ≡ Ok n → b.proved ≤ℤ pos s.memory.length → reach_of a.registers ≤ℤ pos s.memory.length → Opens Member w code s n b
+    pub step_opens : (answer : Next D) → abstract.abstract_step ops a i ≡ Ok answer → (branch : Branch) (b : AbsState D) (n : ℕ) → state_after answer branch ≡ Some b → branch_slot code s.slot i branch ≡ Ok n → b.proved ≤ℤ pos s.memory.length → reach_of a.registers ≤ℤ pos s.memory.length → Opens Member w code s n b
     step_opens (next.On c) is NotTaken b n e leads le reach =
         let agree = accepted_agree ops Member sound Strict places a s member w.context real.context i fit (next.On c) is in
         effect_opens b n leads agree.0 (subst (λ (x : AbsState D). IsEffectOf ops Member sound Strict places a s i (next.On x) agree.0) (same_state c b e) agree.2) (step_is w code s i (Ok agree.0) here agree.1)

@@ -51,12 +51,12 @@ use Rattle.absstate.specs.declared.abstract_step.Next.TheVariants as next
 use Rattle.absstate.specs.declared.branching.Implied.{Implied}
 use Rattle.absstate.specs.declared.memory.Region.{Region}
 use Rattle.absstate.specs.declared.memory.Region.TheVariants as regions
-use Rattle.absstate.specs.StepLaws.Anchors.{IsMade, ArePlain}
+use Rattle.absstate.specs.StepLaws.Anchors.{IsMade, NameNoMadeAnchor}
 use Rattle.absstate.specs.StepLaws.Refusing.{exact_sum}
 
 -- ---- lists of values
 
-pub plain_set : {D : Type 0} (registers : List (AbstractValue D)) → ArePlain registers → (n : ℕ) (v : AbstractValue D) → (IsMade v → ⊥) → ArePlain (slice_set registers n v)
+pub plain_set : {D : Type 0} (registers : List (AbstractValue D)) → NameNoMadeAnchor registers → (n : ℕ) (v : AbstractValue D) → (IsMade v → ⊥) → NameNoMadeAnchor (slice_set registers n v)
 plain_set [] plain n v h k = plain k
 plain_set (x ∷ xs) plain zero v h zero = h
 plain_set (x ∷ xs) plain zero v h (suc k) = plain (suc k)
@@ -64,11 +64,11 @@ plain_set (x ∷ xs) plain (suc n) v h zero = plain 0
 plain_set (x ∷ xs) plain (suc n) v h (suc k) = plain_set xs (λ j. plain (suc j)) n v h k
 
 -- what holds of each result of the second of two steps, and of the value of the first, holds of that of both
-with_each : {A B : Type 0} (Q : A → Type 0) (P : B → Type 0) (x : Result A Reason) (f : A → Result B Reason) → IfOk x Q → ((v : A) → Q v → IfOk (f v) P) → IfOk (x >>= f) P
+with_each : {A B : Type 0} (Q : A → Type 0) (P : B → Type 0) (result : Result A Reason) (f : A → Result B Reason) → IfOk result Q → ((v : A) → Q v → IfOk (f v) P) → IfOk (result >>= f) P
 with_each Q P (Ok v) f holds h = h v holds
 with_each Q P (Err e) f holds h = tt
 
-every : {A B : Type 0} (P : B → Type 0) (x : Result A Reason) (f : A → Result B Reason) → ((v : A) → IfOk (f v) P) → IfOk (x >>= f) P
+every : {A B : Type 0} (P : B → Type 0) (result : Result A Reason) (f : A → Result B Reason) → ((v : A) → IfOk (f v) P) → IfOk (result >>= f) P
 every P (Ok v) f h = h v
 every P (Err e) f h = tt
 
@@ -91,14 +91,14 @@ no_lowest o w k b bar = refl
 
 no_single : (anchor : Anchor) (o : AluOp) (w : Width) (k : ℤ) (n : ℕ) → (IsSumOf w o → ⊥) → abstract.single_sum anchor o w k n ≡ None
 no_single First o w k n bar = no_place o w k n bar
-no_single (Made id low high proved) o w k n bar = ap (λ (x : Option ℤ). abstract.with_both x (moved_place o w (high +ℤ k) n) (λ least greatest. abstract.short_offset (least -ℤ low))) (no_place o w (low +ℤ k) n bar)
+no_single (Made id low high proved) o w k n bar = ap (λ (option : Option ℤ). abstract.with_both option (moved_place o w (high +ℤ k) n) (λ least greatest. abstract.short_offset (least -ℤ low))) (no_place o w (low +ℤ k) n bar)
 
 module _ {D : Type 0} where
   no_sum : (a : AbsState D) (anchor : Anchor) (o : AluOp) (w : Width) (k : ℤ) (b : Bounds) → (IsSumOf w o → ⊥) → abstract.data_sum a anchor o w k b ≡ None
   no_sum a anchor o w k b bar = by (b.lo == b.hi) where
-    by : (t : Bool) → (if t then option_map (λ (z : ℤ). known.Data anchor z) (abstract.single_sum anchor o w k b.lo) else abstract.made_sum a anchor o w k b) ≡ None
-    by true = ap (option_map (λ (z : ℤ). known.Data anchor z)) (no_single anchor o w k b.lo bar)
-    by false = ap (λ (x : Option ℤ). abstract.with_both x (abstract.highest o w (high_of anchor +ℤ k) b) (abstract.made_between a anchor b)) (no_lowest o w (low_of anchor +ℤ k) b bar)
+    by : (t : Bool) → (if t then option_map (λ (d : ℤ). known.Data anchor d) (abstract.single_sum anchor o w k b.lo) else abstract.made_sum a anchor o w k b) ≡ None
+    by true = ap (option_map (λ (d : ℤ). known.Data anchor d)) (no_single anchor o w k b.lo bar)
+    by false = ap (λ (option : Option ℤ). abstract.with_both option (abstract.highest o w (high_of anchor +ℤ k) b) (abstract.made_between a anchor b)) (no_lowest o w (low_of anchor +ℤ k) b bar)
 
 module _ {D : Type 0} (ops : Operations D) (Member : D → ℕ → Type 0) (sound : AreSound ops Member) (precise : ArePrecise ops Member) where
   -- ---- values that are read
@@ -112,7 +112,7 @@ module _ {D : Type 0} (ops : Operations D) (Member : D → ℕ → Type 0) (soun
   abbrev stack_at : ℤ → AbstractValue D
   stack_at k = known.Stack k
 
-  held_plain : (v : AbstractValue D) → Plain v → IfOk (abstract.content_of v) Plain
+  held_plain : (v : AbstractValue D) → Plain v → IfOk (abstract.abstract_content v) Plain
   held_plain known.Nothing h = tt
   held_plain (known.Scalar n) h = h
   held_plain known.Ctx h = h
@@ -122,127 +122,127 @@ module _ {D : Type 0} (ops : Operations D) (Member : D → ℕ → Type 0) (soun
 
   -- the states after a step
   abbrev Stays : Next D → Type 0
-  Stays answer = (branch : Branch) (b : AbsState D) → state_after answer branch ≡ Some b → ArePlain b.registers
+  Stays answer = (branch : Branch) (a : AbsState D) → state_after answer branch ≡ Some a → NameNoMadeAnchor a.registers
 
-  some_is : (x y : AbsState D) → ◌≡◌ {A = Option (AbsState D)} (Some x) (Some y) → x ≡ y
-  some_is x y e = cc
+  some_is : (a state : AbsState D) → ◌≡◌ {A = Option (AbsState D)} (Some a) (Some state) → a ≡ state
+  some_is a state e = cc
 
-  on_stays : (b : AbsState D) → ArePlain b.registers → Stays (next.On b)
-  on_stays b plain NotTaken c e = subst (λ (x : AbsState D). ArePlain x.registers) (some_is b c e) plain
-  on_stays b plain Taken c e = absurd cc
+  on_stays : (a : AbsState D) → NameNoMadeAnchor a.registers → Stays (next.On a)
+  on_stays a plain NotTaken c e = subst (λ (state : AbsState D). NameNoMadeAnchor state.registers) (some_is a c e) plain
+  on_stays a plain Taken c e = absurd cc
 
   abbrev PlainBranch : Option (AbsState D) → Type 0
-  PlainBranch o = (b : AbsState D) → o ≡ Some b → ArePlain b.registers
+  PlainBranch m = (a : AbsState D) → m ≡ Some a → NameNoMadeAnchor a.registers
 
-  fork_stays : (m n : Option (AbsState D)) → PlainBranch m → PlainBranch n → Stays (next.Fork m n)
-  fork_stays m n p q NotTaken b e = p b e
-  fork_stays m n p q Taken b e = q b e
+  fork_stays : (m option : Option (AbsState D)) → PlainBranch m → PlainBranch option → Stays (next.Fork m option)
+  fork_stays m option l g NotTaken b e = l b e
+  fork_stays m option l g Taken b e = g b e
 
   exit_stays : Stays next.Exit
   exit_stays branch b e = absurd cc
 
-  module _ (a : AbsState D) (plain : ArePlain a.registers) where
-    with_plain : (r : Reg) (v : AbstractValue D) → Plain v → ArePlain (with_value a r v).registers
+  module _ (a : AbsState D) (plain : NameNoMadeAnchor a.registers) where
+    with_plain : (r : Reg) (v : AbstractValue D) → Plain v → NameNoMadeAnchor (with_value a r v).registers
     with_plain r v h = plain_set a.registers plain (number_of r) v h
 
-    read_plain : (r : Reg) → IfOk (abstract.register_value a r) Plain
+    read_plain : (r : Reg) → IfOk (abstract.abstract_register_value a r) Plain
     read_plain r = held_plain (abstract_at a.registers r) (plain (number_of r))
 
-    operand_plain : (w : Width) (o : Operand) → IfOk (abstract.operand_abstract ops w a o) Plain
+    operand_plain : (w : Width) (operand : Operand) → IfOk (abstract.operand_abstract ops w a operand) Plain
     operand_plain w (operand.Reg r) = read_plain r
     operand_plain w (operand.Imm n) = λ h. h
 
-    written_stays : (dst : Reg) (r : Result (AbstractValue D) Reason) → IfOk r Plain → IfOk (abstract.register_write a dst r) Stays
-    written_stays dst r h = every Stays (writable dst) _ (λ u. with_each Plain Stays r _ h (λ v is. on_stays (with_value a dst v) (with_plain dst v is)))
+    written_stays : (dst : Reg) (result : Result (AbstractValue D) Reason) → IfOk result Plain → IfOk (abstract.abstract_register_write a dst result) Stays
+    written_stays dst result h = every Stays (writable dst) _ (λ u. with_each Plain Stays result _ h (λ v is. on_stays (with_value a dst v) (with_plain dst v is)))
 
     -- ---- arithmetic
 
-    mapped_plain : (anchor : Anchor) (k : ℤ) → Plain (data_at anchor k) → (o : Option ℤ) → IfOk (ok_or (option_map (data_at anchor) o) PointerArithmetic) Plain
+    mapped_plain : (anchor : Anchor) (k : ℤ) → Plain (data_at anchor k) → (option : Option ℤ) → IfOk (ok_or (option_map (data_at anchor) option) PointerArithmetic) Plain
     mapped_plain anchor k h None = tt
     mapped_plain First k h (Some z) = h
     mapped_plain (Made id low high proved) k h (Some z) = h
 
-    moved_plain : (o : Option ℤ) → IfOk (abstract.pointer_to stack_at o) Plain
+    moved_plain : (option : Option ℤ) → IfOk (abstract.abstract_pointer_to stack_at option) Plain
     moved_plain None = tt
     moved_plain (Some k) = λ h. h
 
     -- a sum with a constant
-    imm_plain : (w : Width) (o : AluOp) (n : ℕ) → n < 2 ^ 64 → (x : AbstractValue D) → Plain x → IfOk (abstract.alu_result ops a o w x (known.Scalar (ops.exact n))) Plain
+    imm_plain : (w : Width) (o : AluOp) (n : ℕ) → n < 2 ^ 64 → (x : AbstractValue D) → Plain x → IfOk (abstract.abstract_alu_result ops a o w x (known.Scalar (ops.exact n))) Plain
     imm_plain w o n fits (known.Scalar m) h = λ g. g
-    imm_plain w o n fits (known.Data anchor k) h = subst (λ (r : Option (AbstractValue D)). IfOk (ok_or r PointerArithmetic) Plain) (sym (exact_sum ops Member sound precise a anchor o w k n fits)) (mapped_plain anchor k h (abstract.single_sum anchor o w k n))
+    imm_plain w o n fits (known.Data anchor k) h = subst (λ (option : Option (AbstractValue D)). IfOk (ok_or option PointerArithmetic) Plain) (sym (exact_sum ops Member sound precise a anchor o w k n fits)) (mapped_plain anchor k h (abstract.single_sum anchor o w k n))
     imm_plain w o n fits (known.Stack k) h = moved_plain (abstract.moved_by o w k (abstract.single_of ops (ops.exact n)))
     imm_plain w o n fits x h = tt
 
     -- another operator, or one of 32 bits
-    other_plain : (w : Width) (o : AluOp) → (IsSumOf w o → ⊥) → (x y : AbstractValue D) → IfOk (abstract.alu_result ops a o w x y) Plain
+    other_plain : (w : Width) (o : AluOp) → (IsSumOf w o → ⊥) → (x y : AbstractValue D) → IfOk (abstract.abstract_alu_result ops a o w x y) Plain
     other_plain w o bar (known.Scalar m) (known.Scalar n) = λ g. g
-    other_plain w o bar (known.Data anchor k) (known.Scalar n) = subst (λ (r : Option (AbstractValue D)). IfOk (ok_or r PointerArithmetic) Plain) (sym (no_sum a anchor o w k (ops.bounds n) bar)) tt
+    other_plain w o bar (known.Data anchor k) (known.Scalar n) = subst (λ (option : Option (AbstractValue D)). IfOk (ok_or option PointerArithmetic) Plain) (sym (no_sum a anchor o w k (ops.bounds n) bar)) tt
     other_plain w o bar (known.Stack k) (known.Scalar n) = moved_plain (abstract.moved_by o w k (abstract.single_of ops n))
     other_plain w o bar x y = tt
 
     alu_stays : (w : Width) (o : AluOp) (dst : Reg) (second : Operand) → OperandFits second → (IsRegisterSum (insn.Alu w o dst second) → ⊥) → IfOk (abstract.alu_step ops a w o dst second) Stays
     alu_stays w o dst (operand.Imm n) fit bar =
-        with_each Plain Stays (abstract.register_value a dst) _ (read_plain dst) (λ x h. written_stays dst (abstract.alu_result ops a o w x (known.Scalar (ops.exact (imm_word w n)))) (imm_plain w o (imm_word w n) (imm_below w n fit) x h))
+        with_each Plain Stays (abstract.abstract_register_value a dst) _ (read_plain dst) (λ x h. written_stays dst (abstract.abstract_alu_result ops a o w x (known.Scalar (ops.exact (imm_word w n)))) (imm_plain w o (imm_word w n) (imm_below w n fit) x h))
     alu_stays w o dst (operand.Reg r) fit bar =
-        every Stays (abstract.register_value a dst) _ (λ x. every Stays (abstract.register_value a r) _ (λ y. written_stays dst (abstract.alu_result ops a o w x y) (other_plain w o (not_sum w o bar) x y))) where
+        every Stays (abstract.abstract_register_value a dst) _ (λ x. every Stays (abstract.abstract_register_value a r) _ (λ y. written_stays dst (abstract.abstract_alu_result ops a o w x y) (other_plain w o (not_sum w o bar) x y))) where
           not_sum : (w : Width) (o : AluOp) → (IsRegisterSum (insn.Alu w o dst (operand.Reg r)) → ⊥) → IsSumOf w o → ⊥
           not_sum W64 op.Add bar h = bar tt
           not_sum W64 op.Sub bar h = bar tt
           not_sum w o bar h = h
 
-    one_plain : (o : UnaryOp) (x : AbstractValue D) → IfOk (abstract.number_of_one ops o x) Plain
-    one_plain o (known.Scalar m) = λ h. h
-    one_plain o x = tt
+    one_plain : (u : UnaryOp) (x : AbstractValue D) → IfOk (abstract.abstract_number_of_one ops u x) Plain
+    one_plain u (known.Scalar m) = λ h. h
+    one_plain u x = tt
 
-    unary_plain : (o : UnaryOp) (x : AbstractValue D) → Plain x → IfOk (abstract.unary_result ops o x) Plain
+    unary_plain : (u : UnaryOp) (x : AbstractValue D) → Plain x → IfOk (abstract.abstract_unary_result ops u x) Plain
     unary_plain (Mov W64) x h = h
     unary_plain (Mov W32) x h = one_plain (Mov W32) x
     unary_plain (Neg w) x h = one_plain (Neg w) x
     unary_plain (SignExtend e) x h = one_plain (SignExtend e) x
     unary_plain (Swap s z) x h = one_plain (Swap s z) x
 
-    unary_stays : (w : Width) (o : UnaryOp) (dst : Reg) (second : Operand) → IfOk (abstract.unary_step ops a w o dst second) Stays
-    unary_stays w o dst second = with_each Plain Stays (abstract.operand_abstract ops w a second) _ (operand_plain w second) (λ x h. written_stays dst (abstract.unary_result ops o x) (unary_plain o x h))
+    unary_stays : (w : Width) (u : UnaryOp) (dst : Reg) (second : Operand) → IfOk (abstract.unary_step ops a w u dst second) Stays
+    unary_stays w u dst second = with_each Plain Stays (abstract.operand_abstract ops w a second) _ (operand_plain w second) (λ x h. written_stays dst (abstract.abstract_unary_result ops u x) (unary_plain u x h))
 
     -- ---- conditional jumps
 
-    kept_plain : (dst : Reg) (o : Operand) (left : D × D) → ArePlain (abstract.with_operands a dst o left).registers
+    kept_plain : (dst : Reg) (operand : Operand) (left : D × D) → NameNoMadeAnchor (abstract.with_operands a dst operand left).registers
     kept_plain dst (operand.Imm n) left = with_plain dst (known.Scalar left.0) (λ h. h)
     kept_plain dst (operand.Reg src) left =
-        cond_both (number_of dst == number_of src) a (with_value (with_value a dst (known.Scalar left.0)) src (known.Scalar left.1)) (λ b. ArePlain b.registers) (λ e. plain)
+        cond_both (number_of dst == number_of src) a (with_value (with_value a dst (known.Scalar left.0)) src (known.Scalar left.1)) (λ b. NameNoMadeAnchor b.registers) (λ e. plain)
         (λ e. plain_set (with_value a dst (known.Scalar left.0)).registers (with_plain dst (known.Scalar left.0) (λ h. h)) (number_of src) (known.Scalar left.1) (λ h. h))
 
-    refined_plain : (dst : Reg) (o : Operand) (r : Option (D × D)) → PlainBranch (abstract.state_with_operands a dst o r)
-    refined_plain dst o None b e = absurd cc
-    refined_plain dst o (Some left) b e = subst (λ (x : AbsState D). ArePlain x.registers) (some_is (abstract.with_operands a dst o left) b e) (kept_plain dst o left)
+    refined_plain : (dst : Reg) (operand : Operand) (h : Option (D × D)) → PlainBranch (abstract.state_with_operands a dst operand h)
+    refined_plain dst operand None b e = absurd cc
+    refined_plain dst operand (Some left) b e = subst (λ (state : AbsState D). NameNoMadeAnchor state.registers) (some_is (abstract.with_operands a dst operand left) b e) (kept_plain dst operand left)
 
     least_plain : (least : Option ℤ) → PlainBranch (Some (with_least a First least))
-    least_plain None b e = subst (λ (x : AbsState D). ArePlain x.registers) (some_is a b e) plain
-    least_plain (Some n) b e = subst (λ (x : AbsState D). ArePlain x.registers) (some_is (with_least a First (Some n)) b e) plain
+    least_plain None b e = subst (λ (state : AbsState D). NameNoMadeAnchor state.registers) (some_is a b e) plain
+    least_plain (Some n) b e = subst (λ (state : AbsState D). NameNoMadeAnchor state.registers) (some_is (with_least a First (Some n)) b e) plain
 
-    at_first : (r : Result Implied Reason) → IfOk (abstract.at_anchor First r >>= λ t. Ok (next.Fork (Some (with_least a t.0 t.1.not_taken)) (Some (with_least a t.0 t.1.taken)))) Stays
+    at_first : (result : Result Implied Reason) → IfOk (abstract.at_anchor First result >>= λ t. Ok (next.Fork (Some (with_least a t.0 t.1.not_taken)) (Some (with_least a t.0 t.1.taken)))) Stays
     at_first (Ok i) = fork_stays (Some (with_least a First i.not_taken)) (Some (with_least a First i.taken)) (least_plain i.not_taken) (least_plain i.taken)
     at_first (Err e) = tt
 
-    places_stay : (w : Width) (c : Condition) (x y : AbstractValue D) → Plain x → Plain y → IfOk (abstract.places_fork a w c x y) Stays
+    places_stay : (w : Width) (c : Condition) (x y : AbstractValue D) → Plain x → Plain y → IfOk (abstract.fork_of_places a w c x y) Stays
     places_stay w c (known.Scalar x) y p q = tt
-    places_stay W64 c (known.Data First k) known.End p q = at_first (abstract.order_implies c (data_bound c k))
+    places_stay W64 c (known.Data First k) known.End p q = at_first (abstract.order_implication c (data_bound c k))
     places_stay W64 c (known.Data (Made id low high proved) k) known.End p q = absurd (p tt)
-    places_stay W64 c known.End (known.Data First k) p q = at_first (abstract.order_implies c (data_bound (converse c) k))
+    places_stay W64 c known.End (known.Data First k) p q = at_first (abstract.order_implication c (data_bound (converse c) k))
     places_stay W64 c known.End (known.Data (Made id low high proved) k) p q = absurd (q tt)
     places_stay w c x y p q = tt
 
-    fork_plain : (w : Width) (c : Condition) (dst : Reg) (o : Operand) (x y : AbstractValue D) → Plain x → Plain y → IfOk (abstract.fork ops a w c dst o x y) Stays
-    fork_plain w c dst o (known.Scalar x) (known.Scalar y) p q =
-        fork_stays (abstract.state_past_test ops a (Fails c) w dst o x y) (abstract.state_past_test ops a (Holds c) w dst o x y) (refined_plain dst o (ops.refine (Fails c) w x y)) (refined_plain dst o (ops.refine (Holds c) w x y))
-    fork_plain w c dst o x y p q = places_stay w c x y p q
+    fork_plain : (w : Width) (c : Condition) (dst : Reg) (operand : Operand) (x y : AbstractValue D) → Plain x → Plain y → IfOk (abstract.fork ops a w c dst operand x y) Stays
+    fork_plain w c dst operand (known.Scalar x) (known.Scalar y) p q =
+        fork_stays (abstract.state_past_test ops a (Fails c) w dst operand x y) (abstract.state_past_test ops a (Holds c) w dst operand x y) (refined_plain dst operand (ops.refine (Fails c) w x y)) (refined_plain dst operand (ops.refine (Holds c) w x y))
+    fork_plain w c dst operand x y p q = places_stay w c x y p q
 
-    branch_stays : (w : Width) (c : Condition) (dst : Reg) (o : Operand) → IfOk (abstract.branch_step ops a w c dst o) Stays
-    branch_stays w c dst o = with_each Plain Stays (abstract.register_value a dst) _ (read_plain dst) (λ x p. with_each Plain Stays (abstract.operand_abstract ops w a o) _ (operand_plain w o) (λ y q. fork_plain w c dst o x y p q))
+    branch_stays : (w : Width) (c : Condition) (dst : Reg) (operand : Operand) → IfOk (abstract.branch_step ops a w c dst operand) Stays
+    branch_stays w c dst operand = with_each Plain Stays (abstract.abstract_register_value a dst) _ (read_plain dst) (λ x p. with_each Plain Stays (abstract.operand_abstract ops w a operand) _ (operand_plain w operand) (λ y q. fork_plain w c dst operand x y p q))
 
     -- ---- memory
 
-    field_plain : (f : ContextField) → Plain (abstract.field_known ops f)
+    field_plain : (field : ContextField) → Plain (abstract.field_known ops field)
     field_plain field.Datagram = λ h. h
     field_plain field.End = λ h. h
     field_plain field.Length = λ h. h
@@ -251,10 +251,10 @@ module _ {D : Type 0} (ops : Operations D) (Member : D → ℕ → Type 0) (soun
     field_plain field.IdTail = λ h. h
     field_plain field.Side = λ h. h
 
-    number_plain : (x : AbstractValue D) (d : ℤ) (n : ℕ) (number : D) → IfOk (abstract.load_number a x d n number) Plain
+    number_plain : (x : AbstractValue D) (d : ℤ) (n : ℕ) (number : D) → IfOk (abstract.abstract_load_number a x d n number) Plain
     number_plain x d n number = every Plain (abstract.readable a x d n) _ (λ u h. h)
 
-    load_plain : (x : AbstractValue D) (d : ℤ) (z : Size) → IfOk (abstract.load ops a x d z) Plain
+    load_plain : (x : AbstractValue D) (d : ℤ) (z : Size) → IfOk (abstract.abstract_load ops a x d z) Plain
     load_plain known.Ctx d z = every Plain (ok_or (field_at d z) ContextAccess) _ (λ f. field_plain f)
     load_plain known.Nothing d z = number_plain known.Nothing d (byte_count z) (abstract.number_of_size ops z)
     load_plain (known.Scalar n) d z = number_plain (known.Scalar n) d (byte_count z) (abstract.number_of_size ops z)
@@ -263,20 +263,20 @@ module _ {D : Type 0} (ops : Operations D) (Member : D → ℕ → Type 0) (soun
     load_plain known.End d z = number_plain known.End d (byte_count z) (abstract.number_of_size ops z)
 
     loaded_stays : (loaded : AbstractValue D → Result (AbstractValue D) Reason) (dst base : Reg) → ((x : AbstractValue D) → IfOk (loaded x) Plain) → IfOk (abstract.loaded_step a loaded dst base) Stays
-    loaded_stays loaded dst base h = every Stays (abstract.register_value a base) _ (λ x. written_stays dst (loaded x) (h x))
+    loaded_stays loaded dst base h = every Stays (abstract.abstract_register_value a base) _ (λ x. written_stays dst (loaded x) (h x))
 
-    region_plain : (n : ℕ) (r : Region) → ArePlain (abstract.with_region a n r).registers
+    region_plain : (n : ℕ) (region : Region) → NameNoMadeAnchor (abstract.with_region a n region).registers
     region_plain n (regions.InStack i) = plain
     region_plain n regions.InBytes = plain
 
-    store_stays : (z : Size) (base : Reg) (o : Operand) (d : ℤ) → IfOk (abstract.store_step ops a z base o d) Stays
-    store_stays z base o d =
-        every Stays (abstract.register_value a base) _ (λ to. every Stays (abstract.operand_abstract ops W64 a o) _ (λ v. every Stays (abstract.pointer to) _ (λ u. every Stays (abstract.storable v) _
+    store_stays : (z : Size) (base : Reg) (operand : Operand) (d : ℤ) → IfOk (abstract.store_step ops a z base operand d) Stays
+    store_stays z base operand d =
+        every Stays (abstract.abstract_register_value a base) _ (λ to. every Stays (abstract.operand_abstract ops W64 a operand) _ (λ v. every Stays (abstract.abstract_pointer to) _ (λ u. every Stays (abstract.storable v) _
         (λ t. every Stays (abstract.access_region a to d (byte_count z)) _ (λ r. on_stays (abstract.with_region a (byte_count z) r) (region_plain (byte_count z) r))))))
 
     -- ---- calls
 
-    answer_plain : (x : D) → ArePlain (with_answer a x).registers
+    answer_plain : (x : D) → NameNoMadeAnchor (with_answer a x).registers
     answer_plain x =
         let p0 = with_plain reg.R0 (known.Scalar x) (λ h. h) in
         let p1 = plain_set _ p0 1 known.Nothing (λ h. h) in
@@ -285,12 +285,12 @@ module _ {D : Type 0} (ops : Operations D) (Member : D → ℕ → Type 0) (soun
         let p4 = plain_set _ p3 4 known.Nothing (λ h. h) in
         plain_set _ p4 5 known.Nothing (λ h. h)
 
-    out_plain : (x : D) (out : Option ℕ) → ArePlain (with_out (with_answer a x) out).registers
+    out_plain : (x : D) (out : Option ℕ) → NameNoMadeAnchor (with_out (with_answer a x) out).registers
     out_plain x None = answer_plain x
     out_plain x (Some i) = answer_plain x
 
-    helper_stays : (h : Helper) → IfOk (abstract.helper_step ops a h) Stays
-    helper_stays h = every Stays (abstract.out_of a (signature_of h).arguments) _ (λ out. on_stays (abstract.state_after_call ops a h out) (out_plain (ops.range 0 (signature_of h).greatest) out))
+    helper_stays : (helper : Helper) → IfOk (abstract.helper_step ops a helper) Stays
+    helper_stays helper = every Stays (abstract.out_of a (signature_of helper).arguments) _ (λ out. on_stays (abstract.state_after_call ops a helper out) (out_plain (ops.range 0 (signature_of helper).greatest) out))
 
     exits_stay : (v : AbstractValue D) → IfOk (abstract.exit_with v) Stays
     exits_stay (known.Scalar n) = exit_stays
@@ -298,7 +298,7 @@ module _ {D : Type 0} (ops : Operations D) (Member : D → ℕ → Type 0) (soun
 
     -- ---- every form
 
-    stays : (i : Insn) → Fits i → (IsRegisterSum i → ⊥) → IfOk (abstract.step ops a i) Stays
+    stays : (i : Insn) → Fits i → (IsRegisterSum i → ⊥) → IfOk (abstract.abstract_step ops a i) Stays
     stays (insn.Alu w o dst second) fit bar = alu_stays w o dst second fit bar
     stays (insn.Mov w dst o) fit bar = unary_stays w (Mov w) dst o
     stays (insn.Neg w dst) fit bar = unary_stays w (Neg w) dst (operand.Reg dst)
@@ -307,17 +307,17 @@ module _ {D : Type 0} (ops : Operations D) (Member : D → ℕ → Type 0) (soun
     stays (insn.Jump offset) fit bar = on_stays a plain
     stays (insn.LongJump offset) fit bar = on_stays a plain
     stays (insn.JumpIf w c dst o offset) fit bar = branch_stays w c dst o
-    stays (insn.Load z dst base d) fit bar = loaded_stays (λ x. abstract.load ops a x d z) dst base (λ x. load_plain x d z)
-    stays (insn.LoadSigned z dst base d) fit bar = loaded_stays (λ x. abstract.load_signed ops a x d z) dst base (λ x. number_plain x d (byte_count (unsigned_size z)) ops.top)
+    stays (insn.Load z dst base d) fit bar = loaded_stays (λ x. abstract.abstract_load ops a x d z) dst base (λ x. load_plain x d z)
+    stays (insn.LoadSigned z dst base d) fit bar = loaded_stays (λ x. abstract.abstract_load_signed ops a x d z) dst base (λ x. number_plain x d (byte_count (unsigned_size z)) ops.top)
     stays (insn.Store z base o d) fit bar = store_stays z base o d
     stays (insn.LoadImm dst n) fit bar = written_stays dst (Ok (known.Scalar (ops.exact n))) (λ h. h)
     stays (insn.Call n) fit bar = every Stays (ok_or (helper_of n) UnknownHelper) _ (λ h. helper_stays h)
-    stays insn.Exit fit bar = every Stays (abstract.register_value a reg.R0) _ exits_stay
+    stays insn.Exit fit bar = every Stays (abstract.abstract_register_value a reg.R0) _ exits_stay
 
-    accepted : (r : Result (Next D) Reason) (answer : Next D) → IfOk r Stays → r ≡ Ok answer → Stays answer
+    accepted : (result : Result (Next D) Reason) (answer : Next D) → IfOk result Stays → result ≡ Ok answer → Stays answer
     accepted (Ok x) answer h e = subst Stays (let is : x ≡ answer = cc in is) h
     accepted (Err f) answer h e = absurd cc
 
     -- a step that adds bar register to another one
-    pub step_plain : (i : Insn) → Fits i → (IsRegisterSum i → ⊥) → (answer : Next D) → abstract.step ops a i ≡ Ok answer → (branch : Branch) (b : AbsState D) → state_after answer branch ≡ Some b → ArePlain b.registers
-    step_plain i fit bar answer is = accepted (abstract.step ops a i) answer (stays i fit bar) is
+    pub step_plain : (i : Insn) → Fits i → (IsRegisterSum i → ⊥) → (answer : Next D) → abstract.abstract_step ops a i ≡ Ok answer → (branch : Branch) (state : AbsState D) → state_after answer branch ≡ Some state → NameNoMadeAnchor state.registers
+    step_plain i fit bar answer is = accepted (abstract.abstract_step ops a i) answer (stays i fit bar) is

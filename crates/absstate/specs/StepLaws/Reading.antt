@@ -24,7 +24,7 @@ use Rattle.semantics.specs.declared.helper.Inputs.{Inputs}
 use Rattle.semantics.specs.Machine.{AddressRecord, AreBytes, Context, IsContext, State}
 use Rattle.semantics.specs.Effects as effects
 use Rattle.semantics.specs.Loading as loading
-use Rattle.semantics.specs.Loading.{read_number}
+use Rattle.semantics.specs.Loading.{reached_number}
 use Rattle.semantics.specs.declared.limits.TheConstants.{TAILROOM}
 use Rattle.semantics.specs.declared.reason.Reason.{Reason}
 use Rattle.semantics.specs.declared.reason.Reason.TheVariants.{DatagramBounds, HelperArgument}
@@ -33,13 +33,13 @@ use Rattle.semantics.specs.declared.value.Value.TheVariants as value
 use Rattle.interval.specs.Domains.{Operations, AreSound}
 use Rattle.absstate.specs.AbstractSteps as abstract
 use Rattle.absstate.specs.AbstractSteps.{access_region, readable}
-use Rattle.absstate.specs.Membership.{Mode, Places, IsNumberOf, IsHeld, IsMemberAt, value_of}
+use Rattle.absstate.specs.Membership.{Mode, Places, IsNumberOf, IsHeld, IsMemberAt, concrete_value}
 use Rattle.absstate.specs.declared.abstract_state.Anchor.TheVariants.{First, Made}
 use Rattle.absstate.specs.declared.abstract_state.AbstractValue.{AbstractValue}
 use Rattle.absstate.specs.declared.abstract_state.AbstractValue.TheVariants as known
 use Rattle.absstate.specs.declared.abstract_state.AbsState.{AbsState}
 use Rattle.absstate.specs.StepLaws.Agreement.{Agree, and_then}
-use Rattle.absstate.specs.StepLaws.MemoryValues.{IsRegionOf, IsRead, stack_located, datagram_located, tailroom_located, region_read, record_read}
+use Rattle.absstate.specs.StepLaws.MemoryValues.{IsRegionOf, IsReadNumber, stack_located, datagram_located, tailroom_located, region_read, record_read}
 use Rattle.absstate.specs.StepLaws.Sums.{place_is}
 use Rattle.absstate.specs.StepLaws.Anchors.{IsMade}
 use Rattle.absstate.specs.StepLaws.Arithmetic.{read_agrees, AreClaims}
@@ -73,7 +73,7 @@ module _ {D : Type 0} (ops : Operations D) (Member : D → ℕ → Type 0) (soun
   -- ---- memory
 
   pub locations_agree : (x : AbstractValue D) → (claimed DatagramBounds → IsMade x → ⊥) → (m : ℕ) (d : ℤ) (n : ℕ) → IsNumberOf Member places s.memory.length x m
-      → Agree claimed (IsRegionOf n) (abstract.access_region a x d n) (location s.memory.length (value_of places x m) d n)
+      → Agree claimed (IsRegionOf n) (abstract.access_region a x d n) (location s.memory.length (concrete_value places x m) d n)
   unfolding access_region
   locations_agree known.Nothing plain m d n h = λ c. refl
   locations_agree (known.Scalar k) plain m d n h = λ c. refl
@@ -83,33 +83,33 @@ module _ {D : Type 0} (ops : Operations D) (Member : D → ℕ → Type 0) (soun
       datagram_located claimed s.memory.length (pos 0) (pos 0) a.proved (pos 0) k d n (place_is places s.memory.length a First member.reaches h) (λ c. (refl, refl, claims.bounds c))
   locations_agree (known.Data (Made id low high proved) k) plain m d n h =
       datagram_located claimed s.memory.length low high proved (places id) k d n h (λ c. absurd (plain c tt))
-  locations_agree known.End plain m d n h = subst (λ (z : ℤ). Agree claimed (IsRegionOf n) (abstract.in_bytes z n (pos 0) (pos TAILROOM)) (location s.memory.length value.End d n)) (zero_more d) (tailroom_located claimed s.memory.length d n)
+  locations_agree known.End plain m d n h = subst (λ (b : ℤ). Agree claimed (IsRegionOf n) (abstract.region_in_datagram b n (pos 0) (pos TAILROOM)) (location s.memory.length value.End d n)) (zero_more d) (tailroom_located claimed s.memory.length d n)
 
   reads_agree : (x : AbstractValue D) → (claimed DatagramBounds → IsMade x → ⊥) → (m : ℕ) (d : ℤ) (n : ℕ) → IsNumberOf Member places s.memory.length x m
-      → Agree claimed (IsRead n) (abstract.readable a x d n) (loading.read_number s.memory (value_of places x m) d n)
-  unfolding readable read_number
+      → Agree claimed (IsReadNumber n) (abstract.readable a x d n) (loading.reached_number s.memory (concrete_value places x m) d n)
+  unfolding readable reached_number
   reads_agree x plain m d n h =
-      and_then claimed (IsRegionOf n) (IsRead n) (abstract.access_region a x d n) (location s.memory.length (value_of places x m) d n) _ _ (locations_agree x plain m d n h)
+      and_then claimed (IsRegionOf n) (IsReadNumber n) (abstract.access_region a x d n) (location s.memory.length (concrete_value places x m) d n) _ _ (locations_agree x plain m d n h)
       (λ r at p q is. region_read claimed mode claims.cells a.marks s.memory member.tagged.memory member.cells n r at is)
 
   -- what is known of the number that is read has it as a member, extended or not
   numbers_agree : (extend : ℕ → ℕ) (number : D) (x : AbstractValue D) → (claimed DatagramBounds → IsMade x → ⊥) → (m : ℕ) (d : ℤ) (n : ℕ) → ((k : ℕ) → k < 256 ^ n → Member number (extend k)) → IsNumberOf Member places s.memory.length x m
-      → Agree claimed (IsHeld Member places s.memory.length) (abstract.load_number a x d n number) (loading.read_number s.memory (value_of places x m) d n >>= λ k. Ok (value.Scalar (extend k)))
+      → Agree claimed (IsHeld Member places s.memory.length) (abstract.abstract_load_number a x d n number) (loading.reached_number s.memory (concrete_value places x m) d n >>= λ k. Ok (value.Scalar (extend k)))
   numbers_agree extend number x plain m d n is h =
-      and_then claimed (IsRead n) (IsHeld Member places s.memory.length) (abstract.readable a x d n) (loading.read_number s.memory (value_of places x m) d n) _ _
+      and_then claimed (IsReadNumber n) (IsHeld Member places s.memory.length) (abstract.readable a x d n) (loading.reached_number s.memory (concrete_value places x m) d n) _ _
       (reads_agree x plain m d n h) (λ u k p q small. (extend k, is k small, refl))
 
   of_size : (z : Size) (k : ℕ) → k < 256 ^ byte_count z → Member (abstract.number_of_size ops z) k
   of_size z k small = sound.range 0 (256 ^ byte_count z - 1) k (size_fits z) (omega arith) (omega (arith, small))
 
   number_agrees : (x : AbstractValue D) → (claimed DatagramBounds → IsMade x → ⊥) → (m : ℕ) (d : ℤ) (z : Size) → IsNumberOf Member places s.memory.length x m
-      → Agree claimed (IsResult Member places s.memory.length) (abstract.load_number a x d (byte_count z) (abstract.number_of_size ops z)) (loading.read_number s.memory (value_of places x m) d (byte_count z) >>= λ k. Ok (value.Scalar k))
+      → Agree claimed (IsResult Member places s.memory.length) (abstract.abstract_load_number a x d (byte_count z) (abstract.number_of_size ops z)) (loading.reached_number s.memory (concrete_value places x m) d (byte_count z) >>= λ k. Ok (value.Scalar k))
   number_agrees x plain m d z h =
-      held_results claimed Member places s.memory.length (abstract.load_number a x d (byte_count z) (abstract.number_of_size ops z)) _
+      held_results claimed Member places s.memory.length (abstract.abstract_load_number a x d (byte_count z) (abstract.number_of_size ops z)) _
       (numbers_agree (λ k. k) (abstract.number_of_size ops z) x plain m d (byte_count z) (of_size z) h)
 
   pub load_agrees : (c : Context) → IsContext c → (x : AbstractValue D) → (claimed DatagramBounds → IsMade x → ⊥) → (m : ℕ) (d : ℤ) (z : Size) → IsNumberOf Member places s.memory.length x m
-      → Agree claimed (IsResult Member places s.memory.length) (abstract.load ops a x d z) (loading.load c s.memory (value_of places x m) d z)
+      → Agree claimed (IsResult Member places s.memory.length) (abstract.abstract_load ops a x d z) (loading.load c s.memory (concrete_value places x m) d z)
   load_agrees c real known.Ctx plain m d z h = fields_agree ops Member sound claimed places c real s.memory.length d z
   load_agrees c real known.Nothing plain m d z h = number_agrees known.Nothing plain m d z h
   load_agrees c real (known.Scalar n) plain m d z h = number_agrees (known.Scalar n) plain m d z h
@@ -117,19 +117,19 @@ module _ {D : Type 0} (ops : Operations D) (Member : D → ℕ → Type 0) (soun
   load_agrees c real (known.Data anchor k) plain m d z h = number_agrees (known.Data anchor k) plain m d z h
   load_agrees c real known.End plain m d z h = number_agrees known.End plain m d z h
 
-  pub signed_agrees : (x : AbstractValue D) → (claimed DatagramBounds → IsMade x → ⊥) → (m : ℕ) (d : ℤ) (z : SignedSize) → IsNumberOf Member places s.memory.length x m
-      → Agree claimed (IsResult Member places s.memory.length) (abstract.load_signed ops a x d z) (loading.load_signed s.memory (value_of places x m) d z)
-  signed_agrees x plain m d z h =
-      held_results claimed Member places s.memory.length (abstract.load_signed ops a x d z) (loading.load_signed s.memory (value_of places x m) d z)
-      (numbers_agree (sign_extended z) ops.top x plain m d (byte_count (unsigned_size z)) (λ k small. sound.top (sign_extended z k) (sign_extended_word z k)) h)
+  pub signed_agrees : (x : AbstractValue D) → (claimed DatagramBounds → IsMade x → ⊥) → (m : ℕ) (d : ℤ) (size : SignedSize) → IsNumberOf Member places s.memory.length x m
+      → Agree claimed (IsResult Member places s.memory.length) (abstract.abstract_load_signed ops a x d size) (loading.load_signed s.memory (concrete_value places x m) d size)
+  signed_agrees x plain m d size h =
+      held_results claimed Member places s.memory.length (abstract.abstract_load_signed ops a x d size) (loading.load_signed s.memory (concrete_value places x m) d size)
+      (numbers_agree (sign_extended size) ops.top x plain m d (byte_count (unsigned_size size)) (λ k small. sound.top (sign_extended size k) (sign_extended_word size k)) h)
 
   -- ---- calls
 
-  context_agrees_at : (r : Reg) → Agree claimed (λ (u v : Unit {0}). Unit {0}) (abstract.context_argument a r) (effects.context_argument s.registers r)
+  context_agrees_at : (r : Reg) → Agree claimed (λ (u v : Unit {0}). Unit {0}) (abstract.abstract_context_argument a r) (effects.context_argument s.registers r)
   context_agrees_at r =
-      and_then claimed (IsHeld Member places s.memory.length) (λ (u v : Unit {0}). Unit {0}) (abstract.register_value a r) (effects.register_value s.registers r) _ _ (read_agrees ops Member sound claimed mode places claims.registers a s member r)
-      (λ x u p q held. subst (λ (v : Value). Agree claimed (λ (u v : Unit {0}). Unit {0}) (abstract.context_value r x) (context_value r v)) (sym held.2) (contexts r x held.0 held.1)) where
-        contexts : (r : Reg) (x : AbstractValue D) (m : ℕ) → IsNumberOf Member places s.memory.length x m → Agree claimed (λ (u v : Unit {0}). Unit {0}) (abstract.context_value r x) (context_value r (value_of places x m))
+      and_then claimed (IsHeld Member places s.memory.length) (λ (u v : Unit {0}). Unit {0}) (abstract.abstract_register_value a r) (effects.register_value s.registers r) _ _ (read_agrees ops Member sound claimed mode places claims.registers a s member r)
+      (λ x u p q held. subst (λ (v : Value). Agree claimed (λ (u v : Unit {0}). Unit {0}) (abstract.abstract_context_value r x) (context_value r v)) (sym held.2) (contexts r x held.0 held.1)) where
+        contexts : (r : Reg) (x : AbstractValue D) (m : ℕ) → IsNumberOf Member places s.memory.length x m → Agree claimed (λ (u v : Unit {0}). Unit {0}) (abstract.abstract_context_value r x) (context_value r (concrete_value places x m))
         contexts r known.Ctx m h = tt
         contexts r known.Nothing m h = λ c. refl
         contexts r (known.Scalar n) m h = λ c. refl
@@ -137,11 +137,11 @@ module _ {D : Type 0} (ops : Operations D) (Member : D → ℕ → Type 0) (soun
         contexts r (known.Data anchor k) m h = λ c. refl
         contexts r known.End m h = λ c. refl
 
-  number_agrees_at : (r : Reg) → Agree claimed IsWord (abstract.number_argument a r) (effects.number_argument s.registers r)
+  number_agrees_at : (r : Reg) → Agree claimed IsWord (abstract.abstract_number_argument a r) (effects.number_argument s.registers r)
   number_agrees_at r =
-      and_then claimed (IsHeld Member places s.memory.length) IsWord (abstract.register_value a r) (effects.register_value s.registers r) _ _ (read_agrees ops Member sound claimed mode places claims.registers a s member r)
-      (λ x u p q held. subst (λ (v : Value). Agree claimed IsWord (abstract.number_value r x) (number_value r v)) (sym held.2) (numbers r x held.0 held.1)) where
-        numbers : (r : Reg) (x : AbstractValue D) (m : ℕ) → IsNumberOf Member places s.memory.length x m → Agree claimed IsWord (abstract.number_value r x) (number_value r (value_of places x m))
+      and_then claimed (IsHeld Member places s.memory.length) IsWord (abstract.abstract_register_value a r) (effects.register_value s.registers r) _ _ (read_agrees ops Member sound claimed mode places claims.registers a s member r)
+      (λ x u p q held. subst (λ (v : Value). Agree claimed IsWord (abstract.abstract_number_value r x) (number_value r v)) (sym held.2) (numbers r x held.0 held.1)) where
+        numbers : (r : Reg) (x : AbstractValue D) (m : ℕ) → IsNumberOf Member places s.memory.length x m → Agree claimed IsWord (abstract.abstract_number_value r x) (number_value r (concrete_value places x m))
         numbers r (known.Scalar n) m h = sound.words n m h
         numbers r known.Nothing m h = λ c. refl
         numbers r known.Ctx m h = λ c. refl
@@ -153,11 +153,11 @@ module _ {D : Type 0} (ops : Operations D) (Member : D → ℕ → Type 0) (soun
   found_index r None short = λ c. refl
   found_index r (Some m) short = (refl, short m refl)
 
-  stack_agrees_at : (r : Reg) → Agree claimed IsSameIndex (abstract.stack_argument a r) (effects.stack_argument s.registers r)
+  stack_agrees_at : (r : Reg) → Agree claimed IsSameIndex (abstract.abstract_stack_argument a r) (effects.stack_argument s.registers r)
   stack_agrees_at r =
-      and_then claimed (IsHeld Member places s.memory.length) IsSameIndex (abstract.register_value a r) (effects.register_value s.registers r) _ _ (read_agrees ops Member sound claimed mode places claims.registers a s member r)
-      (λ x u p q held. subst (λ (v : Value). Agree claimed IsSameIndex (abstract.stack_value r x) (stack_value r v)) (sym held.2) (indices r x held.0 held.1)) where
-        indices : (r : Reg) (x : AbstractValue D) (m : ℕ) → IsNumberOf Member places s.memory.length x m → Agree claimed IsSameIndex (abstract.stack_value r x) (stack_value r (value_of places x m))
+      and_then claimed (IsHeld Member places s.memory.length) IsSameIndex (abstract.abstract_register_value a r) (effects.register_value s.registers r) _ _ (read_agrees ops Member sound claimed mode places claims.registers a s member r)
+      (λ x u p q held. subst (λ (v : Value). Agree claimed IsSameIndex (abstract.abstract_stack_value r x) (stack_value r v)) (sym held.2) (indices r x held.0 held.1)) where
+        indices : (r : Reg) (x : AbstractValue D) (m : ℕ) → IsNumberOf Member places s.memory.length x m → Agree claimed IsSameIndex (abstract.abstract_stack_value r x) (stack_value r (concrete_value places x m))
         indices r (known.Stack k) m h = found_index r (index_within (k +ℤ pos 0) 8 stack_first stack_first (pos 0)) (λ n e. index_short (k +ℤ pos 0) 8 n e)
         indices r known.Nothing m h = λ c. refl
         indices r (known.Scalar n) m h = λ c. refl
@@ -165,27 +165,27 @@ module _ {D : Type 0} (ops : Operations D) (Member : D → ℕ → Type 0) (soun
         indices r (known.Data anchor k) m h = λ c. refl
         indices r known.End m h = λ c. refl
 
-  record_agrees_at : (r : Reg) → Agree claimed IsRecord (abstract.record_argument a r) (effects.record_argument s.memory s.registers r)
+  record_agrees_at : (r : Reg) → Agree claimed IsRecord (abstract.abstract_record_argument a r) (effects.record_argument s.memory s.registers r)
   record_agrees_at r =
-      and_then claimed IsSameIndex IsRecord (abstract.stack_argument a r) (effects.stack_argument s.registers r) _ _ (stack_agrees_at r)
+      and_then claimed IsSameIndex IsRecord (abstract.abstract_stack_argument a r) (effects.stack_argument s.registers r) _ _ (stack_agrees_at r)
       (λ m n p q same. subst (λ (k : ℕ). Agree claimed IsRecord (abstract.record_readable a.marks m) (record_at s.memory k)) same.0 (region_record m same.1)) where
         region_record : (m : ℕ) → m + 8 ≤ 512 → Agree claimed IsRecord (abstract.record_readable a.marks m) (record_at s.memory m)
         region_record m short = record_read claimed mode claims.cells a.marks s.memory member.tagged.memory member.cells m short
 
-  argument_agrees : (r : Reg) (x : Argument) (out : Option ℕ) (given : Inputs) → IsGiven out given → Agree claimed IsGiven (abstract.with_argument a r x out) (effects.with_argument s.memory s.registers r x given)
+  argument_agrees : (r : Reg) (argument : Argument) (out : Option ℕ) (given : Inputs) → IsGiven out given → Agree claimed IsGiven (abstract.abstract_with_argument a r argument out) (effects.with_argument s.memory s.registers r argument given)
   argument_agrees r argument.Unused out given is = is
-  argument_agrees r argument.Context out given is = and_then claimed (λ (u v : Unit {0}). Unit {0}) IsGiven (abstract.context_argument a r) (effects.context_argument s.registers r) _ _ (context_agrees_at r) (λ u v p q t. is)
-  argument_agrees r argument.Number out given is = and_then claimed IsWord IsGiven (abstract.number_argument a r) (effects.number_argument s.registers r) _ _ (number_agrees_at r) (λ u n p q word. (word, is.1, is.2, is.3))
+  argument_agrees r argument.Context out given is = and_then claimed (λ (u v : Unit {0}). Unit {0}) IsGiven (abstract.abstract_context_argument a r) (effects.context_argument s.registers r) _ _ (context_agrees_at r) (λ u v p q t. is)
+  argument_agrees r argument.Number out given is = and_then claimed IsWord IsGiven (abstract.abstract_number_argument a r) (effects.number_argument s.registers r) _ _ (number_agrees_at r) (λ u n p q word. (word, is.1, is.2, is.3))
   argument_agrees r argument.RecordIn out given is =
-      and_then claimed IsRecord IsGiven (abstract.record_argument a r) (effects.record_argument s.memory s.registers r) _ _ (record_agrees_at r) (λ u address p q are. (is.0, are, is.2, is.3))
+      and_then claimed IsRecord IsGiven (abstract.abstract_record_argument a r) (effects.record_argument s.memory s.registers r) _ _ (record_agrees_at r) (λ u address p q are. (is.0, are, is.2, is.3))
   argument_agrees r argument.RecordOut out given is =
-      and_then claimed IsSameIndex IsGiven (abstract.stack_argument a r) (effects.stack_argument s.registers r) _ _ (stack_agrees_at r) (λ m n p q same. (is.0, is.1, ap (λ (k : ℕ). Some k) same.0, same.1))
+      and_then claimed IsSameIndex IsGiven (abstract.abstract_stack_argument a r) (effects.stack_argument s.registers r) _ _ (stack_agrees_at r) (λ m n p q same. (is.0, is.1, ap (λ (k : ℕ). Some k) same.0, same.1))
 
   pub inputs_agree : (xs : List Argument) → Agree claimed IsGiven (abstract.out_of a xs) (effects.inputs s.memory s.registers xs)
   inputs_agree xs =
-      and_then claimed IsGiven IsGiven (abstract.with_argument a reg.R1 (argument_at xs 0) None) (effects.with_argument s.memory s.registers reg.R1 (argument_at xs 0) no_inputs) _ _
+      and_then claimed IsGiven IsGiven (abstract.abstract_with_argument a reg.R1 (argument_at xs 0) None) (effects.with_argument s.memory s.registers reg.R1 (argument_at xs 0) no_inputs) _ _
       (argument_agrees reg.R1 (argument_at xs 0) None no_inputs (omega arith, no_address_bytes, refl, tt))
-      (λ o given p q is. and_then claimed IsGiven IsGiven (abstract.with_argument a reg.R2 (argument_at xs 1) o) (effects.with_argument s.memory s.registers reg.R2 (argument_at xs 1) given) _ _ (argument_agrees reg.R2 (argument_at xs 1) o given is)
-      (λ o given p q is. and_then claimed IsGiven IsGiven (abstract.with_argument a reg.R3 (argument_at xs 2) o) (effects.with_argument s.memory s.registers reg.R3 (argument_at xs 2) given) _ _ (argument_agrees reg.R3 (argument_at xs 2) o given is)
-      (λ o given p q is. and_then claimed IsGiven IsGiven (abstract.with_argument a reg.R4 (argument_at xs 3) o) (effects.with_argument s.memory s.registers reg.R4 (argument_at xs 3) given) _ _ (argument_agrees reg.R4 (argument_at xs 3) o given is)
+      (λ o given p q is. and_then claimed IsGiven IsGiven (abstract.abstract_with_argument a reg.R2 (argument_at xs 1) o) (effects.with_argument s.memory s.registers reg.R2 (argument_at xs 1) given) _ _ (argument_agrees reg.R2 (argument_at xs 1) o given is)
+      (λ o given p q is. and_then claimed IsGiven IsGiven (abstract.abstract_with_argument a reg.R3 (argument_at xs 2) o) (effects.with_argument s.memory s.registers reg.R3 (argument_at xs 2) given) _ _ (argument_agrees reg.R3 (argument_at xs 2) o given is)
+      (λ o given p q is. and_then claimed IsGiven IsGiven (abstract.abstract_with_argument a reg.R4 (argument_at xs 3) o) (effects.with_argument s.memory s.registers reg.R4 (argument_at xs 3) given) _ _ (argument_agrees reg.R4 (argument_at xs 3) o given is)
       (λ o given p q is. argument_agrees reg.R5 (argument_at xs 4) o given is))))

@@ -46,7 +46,7 @@ use Rattle.absstate.specs.StepLaws.Agreement.{Agree}
 use Rattle.absstate.specs.StepLaws.Bounds.{le_of}
 use Rattle.absstate.specs.StepLaws.MemoryValues.{first_of_and, rest_of_and}
 use Rattle.absstate.specs.StepLaws.Members.{loosens_itself}
-use Rattle.absstate.specs.StepLaws.Anchors.{IsMade, ArePlain}
+use Rattle.absstate.specs.StepLaws.Anchors.{IsMade, NameNoMadeAnchor}
 use Rattle.absstate.specs.StepLaws.Arithmetic.{StraysBy, Strays, strays_same, held_is, held_known, ok_is, AreClaims}
 use Rattle.absstate.specs.StepLaws.Forking.{replaced}
 use Rattle.absstate.specs.StepLaws.Simulation.{IsEffectOf, steps_agree}
@@ -57,8 +57,8 @@ and_false : (b : Bool) → (b && false) ≡ false
 and_false true = refl
 and_false false = refl
 
-le_is_false : (a b : ℤ) → b <ℤ a → int_le a b ≡ false
-le_is_false a b h = grind (arith, ints)
+le_is_false : (z k : ℤ) → k <ℤ z → int_le z k ≡ false
+le_is_false z k h = grind (arith, ints)
 
 is_too_far : (z : ℤ) → pos 1048576 <ℤ z → near_place z ≡ None
 is_too_far z h =
@@ -100,11 +100,11 @@ data_strays op w k = ap (effects.pointer_to value.Data) (moves_off op w k)
 stack_strays : (op : AluOp) (w : Width) (k : ℤ) → effects.alu_result op w (value.Stack k) (value.Scalar (stray_if (is_near k))) ≡ Err PointerArithmetic
 stack_strays op w k = ap (effects.pointer_to value.Stack) (moves_off op w k)
 
-refused : {A B : Type 0} (claimed : Reason → Type 0) (F : A → B → Type 0) (x : Result A Reason) (y : Result B Reason) (e : Reason) → Agree claimed F x y → x ≡ Err e → claimed e → y ≡ Err e
-refused claimed F (Ok a) y e agree is c = absurd cc
-refused claimed F (Err f) (Ok b) e agree is c = absurd (agree (subst claimed (let same : e ≡ f = cc in same) c))
-refused claimed F (Err f) (Err g) e agree is c =
-    let same : e ≡ f = cc in
+refused : {A B : Type 0} (claimed : Reason → Type 0) (F : A → B → Type 0) (result : Result A Reason) (l : Result B Reason) (r : Reason) → Agree claimed F result l → result ≡ Err r → claimed r → l ≡ Err r
+refused claimed F (Ok a) l r agree is c = absurd cc
+refused claimed F (Err f) (Ok b) r agree is c = absurd (agree (subst claimed (let same : r ≡ f = cc in same) c))
+refused claimed F (Err f) (Err g) r agree is c =
+    let same : r ≡ f = cc in
     let other : f ≡ g = agree (subst claimed same c) in
     ap Err (sym other ∙ sym same)
 
@@ -115,7 +115,7 @@ module _ {D : Type 0} (ops : Operations D) (Member : D → ℕ → Type 0) (soun
   -- ---- single numbers
 
   single_if : (bounds : Bounds) (n : ℕ) → bounds ≡ record { lo = n; hi = n } → (if bounds.lo == bounds.hi then Some bounds.lo else None) ≡ Some n
-  single_if bounds n e = ap (λ (b : Bounds). if b.lo == b.hi then Some b.lo else None) e ∙ ap (λ (t : Bool). if t then Some n else None) (same_number n)
+  single_if bounds n e = ap (λ (d : Bounds). if d.lo == d.hi then Some d.lo else None) e ∙ ap (λ (t : Bool). if t then Some n else None) (same_number n)
 
   exact_single : (n : ℕ) → n < 2 ^ 64 → abstract.single_of ops (ops.exact n) ≡ Some n
   exact_single n fits = single_if (ops.bounds (ops.exact n)) n (precise.exact n fits)
@@ -126,12 +126,12 @@ module _ {D : Type 0} (ops : Operations D) (Member : D → ℕ → Type 0) (soun
       ap (abstract.data_sum a anchor op w k) (precise.exact n fits)
       ∙ ap (λ (t : Bool). if t then option_map (λ (z : ℤ). known.Data anchor z) (abstract.single_sum anchor op w k n) else abstract.made_sum a anchor op w k (record { lo = n; hi = n })) (same_number n)
 
-  none_mapped : (o : Option ℤ) (anchor : Anchor) → ◌≡◌ {A = Option (AbstractValue D)} (option_map (λ (z : ℤ). known.Data anchor z) o) None → o ≡ None
+  none_mapped : (option : Option ℤ) (anchor : Anchor) → ◌≡◌ {A = Option (AbstractValue D)} (option_map (λ (z : ℤ). known.Data anchor z) option) None → option ≡ None
   none_mapped None anchor e = refl
   none_mapped (Some z) anchor e = absurd cc
 
-  no_value : (v : AbstractValue D) → ◌≡◌ {A = Option (AbstractValue D)} (Some v) None → ⊥
-  no_value v e = absurd cc
+  no_value : (x : AbstractValue D) → ◌≡◌ {A = Option (AbstractValue D)} (Some x) None → ⊥
+  no_value x e = absurd cc
 
   -- The machine is stuck for that reason at a loosening of a strict member.
   pub record IsStuckFrom (s : State) (i : Insn) (reason : Reason) : Type 0 where
@@ -145,9 +145,9 @@ module _ {D : Type 0} (ops : Operations D) (Member : D → ℕ → Type 0) (soun
   refused_alike (Err f) reason e = cc
 
   module _ (places : Places) (a : AbsState D) (s : State) (member : IsMemberAt Member Strict places a s) (reason : Reason)
-      (bounds : reason ≡ DatagramBounds → (pos s.memory.length ≡ a.proved) × ArePlain a.registers) where
+      (bounds : reason ≡ DatagramBounds → (pos s.memory.length ≡ a.proved) × NameNoMadeAnchor a.registers) where
     -- the member itself
-    stuck_itself : (i : Insn) → Fits i → abstract.step ops a i ≡ Err reason → (reason ≡ PointerArithmetic → Strays ops Member sound a s i) → IsStuckFrom s i reason
+    stuck_itself : (i : Insn) → Fits i → abstract.abstract_step ops a i ≡ Err reason → (reason ≡ PointerArithmetic → Strays ops Member sound a s i) → IsStuckFrom s i reason
     stuck_itself i fit is strays =
         let claims : AreClaims ops Member sound (λ e. e ≡ reason) Strict a s i = record {
           registers = λ c. refl;
@@ -160,7 +160,7 @@ module _ {D : Type 0} (ops : Operations D) (Member : D → ℕ → Type 0) (soun
           state = s;
           loosens = loosens_itself Member sound.words places a s member;
           stuck = λ c real.
-              refused (λ e. e ≡ reason) (IsEffectOf ops Member sound Strict places a s i) (abstract.step ops a i) (effects.effect c s.memory s.registers i) reason
+              refused (λ e. e ≡ reason) (IsEffectOf ops Member sound Strict places a s i) (abstract.abstract_step ops a i) (effects.effect c s.memory s.registers i) reason
               (steps_agree ops Member sound (λ e. e ≡ reason) Strict places a s member c real i fit claims) is refl;
         }
 
@@ -186,43 +186,43 @@ module _ {D : Type 0} (ops : Operations D) (Member : D → ℕ → Type 0) (soun
       scalar_is : (m : ℕ) (v : Value) → ◌≡◌ {A = Result Value Reason} (Ok (value.Scalar m)) (Ok v) → value.Scalar m ≡ v
       scalar_is m v e = cc
 
-      imm_strays : (n : ℤ) → OperandFits (operand.Imm n) → ArePlain a.registers → Strays ops Member sound a s (insn.Alu w op dst (operand.Imm n))
-      imm_strays n fit plain x y u v p p' q q' =
-          strays_same ops Member sound a op w (abstract_at a.registers dst) x (known.Scalar (ops.exact (imm_word w n))) y (effects.value_at s.registers dst) u (value.Scalar (imm_word w n)) v
-          (held_known ops Member sound (abstract_at a.registers dst) x p) (ok_is ops Member sound (known.Scalar (ops.exact (imm_word w n))) y p') (held_is (effects.value_at s.registers dst) u q) (scalar_is (imm_word w n) v q')
-          (imm_by (imm_word w n) (imm_below w n fit) (abstract_at a.registers dst) (effects.value_at s.registers dst) (plain (number_of dst)) (member.registers dst))
+      imm_strays : (z : ℤ) → OperandFits (operand.Imm z) → NameNoMadeAnchor a.registers → Strays ops Member sound a s (insn.Alu w op dst (operand.Imm z))
+      imm_strays z fit plain x y u v p p' q q' =
+          strays_same ops Member sound a op w (abstract_at a.registers dst) x (known.Scalar (ops.exact (imm_word w z))) y (effects.value_at s.registers dst) u (value.Scalar (imm_word w z)) v
+          (held_known ops Member sound (abstract_at a.registers dst) x p) (ok_is ops Member sound (known.Scalar (ops.exact (imm_word w z))) y p') (held_is (effects.value_at s.registers dst) u q) (scalar_is (imm_word w z) v q')
+          (imm_by (imm_word w z) (imm_below w z fit) (abstract_at a.registers dst) (effects.value_at s.registers dst) (plain (number_of dst)) (member.registers dst))
 
       -- ---- a sum with a register
 
-      module _ (r : Reg) where
+      module _ (reg : Reg) where
         sum : Insn
-        sum = insn.Alu w op dst (operand.Reg r)
+        sum = insn.Alu w op dst (operand.Reg reg)
 
         -- the step, where both registers are known
-        step_at : (x y : AbstractValue D) → abstract_at a.registers dst ≡ x → abstract_at a.registers r ≡ y → abstract.content_of x ≡ Ok x → abstract.content_of y ≡ Ok y → abstract.step ops a sum ≡ abstract.register_write a dst (abstract.alu_result ops a op w x y)
+        step_at : (x y : AbstractValue D) → abstract_at a.registers dst ≡ x → abstract_at a.registers reg ≡ y → abstract.abstract_content x ≡ Ok x → abstract.abstract_content y ≡ Ok y → abstract.abstract_step ops a sum ≡ abstract.abstract_register_write a dst (abstract.abstract_alu_result ops a op w x y)
         unfolding sum
         step_at x y p q e f =
-            (λ i. abstract.content_of (p i) >>= λ x'. abstract.content_of (q i) >>= λ y'. abstract.register_write a dst (abstract.alu_result ops a op w x' y'))
-            ∙ (λ i. e i >>= λ x'. f i >>= λ y'. abstract.register_write a dst (abstract.alu_result ops a op w x' y'))
+            (λ i. abstract.abstract_content (p i) >>= λ x'. abstract.abstract_content (q i) >>= λ y'. abstract.abstract_register_write a dst (abstract.abstract_alu_result ops a op w x' y'))
+            ∙ (λ i. e i >>= λ x'. f i >>= λ y'. abstract.abstract_register_write a dst (abstract.abstract_alu_result ops a op w x' y'))
 
-        effect_at : (t : State) (u v : Value) → effects.value_at t.registers dst ≡ u → effects.value_at t.registers r ≡ v → effects.content_of u ≡ Ok u → effects.content_of v ≡ Ok v → (c : Context) → effects.effect c t.memory t.registers sum ≡ effects.register_write dst (effects.alu_result op w u v)
+        effect_at : (s : State) (u v : Value) → effects.value_at s.registers dst ≡ u → effects.value_at s.registers reg ≡ v → effects.content_of u ≡ Ok u → effects.content_of v ≡ Ok v → (context : Context) → effects.effect context s.memory s.registers sum ≡ effects.register_write dst (effects.alu_result op w u v)
         unfolding sum
-        effect_at t u v p q e f c =
+        effect_at s u v p q e f context =
             (λ i. effects.content_of (p i) >>= λ u'. effects.content_of (q i) >>= λ v'. effects.register_write dst (effects.alu_result op w u' v'))
             ∙ (λ i. e i >>= λ u'. f i >>= λ v'. effects.register_write dst (effects.alu_result op w u' v'))
 
         -- the number of the second register is replaced by one that leads out of range
-        stuck_off : (x : AbstractValue D) (y : D) (u : Value) (n : ℕ) → abstract_at a.registers dst ≡ x → abstract_at a.registers r ≡ known.Scalar y → (x ≡ known.Scalar y → ⊥) → effects.value_at s.registers dst ≡ u → n < 2 ^ 64
-            → abstract.content_of x ≡ Ok x → effects.content_of u ≡ Ok u → abstract.alu_result ops a op w x (known.Scalar y) ≡ Err PointerArithmetic → effects.alu_result op w u (value.Scalar n) ≡ Err PointerArithmetic → abstract.step ops a sum ≡ Err reason → IsStuckFrom s sum reason
+        stuck_off : (x : AbstractValue D) (y : D) (u : Value) (n : ℕ) → abstract_at a.registers dst ≡ x → abstract_at a.registers reg ≡ known.Scalar y → (x ≡ known.Scalar y → ⊥) → effects.value_at s.registers dst ≡ u → n < 2 ^ 64
+            → abstract.abstract_content x ≡ Ok x → effects.content_of u ≡ Ok u → abstract.abstract_alu_result ops a op w x (known.Scalar y) ≡ Err PointerArithmetic → effects.alu_result op w u (value.Scalar n) ≡ Err PointerArithmetic → abstract.abstract_step ops a sum ≡ Err reason → IsStuckFrom s sum reason
         stuck_off x y u n p q other u_is fits held held_u none strays is =
-            let apart : number_of dst ≡ number_of r → ⊥ = λ same. other (sym p ∙ ap (λ (k : ℕ). slice_index_or a.registers k known.Nothing) same ∙ q) in
-            let number : IsHeld Member places s.memory.length (known.Scalar y) (effects.value_at s.registers r) = subst (λ (k : AbstractValue D). IsValue Member Strict places s.memory.length k (effects.value_at s.registers r)) q (member.registers r) in
-            let opened = replaced ops Member sound places a s member dst r y ops.top number.0 n s.slot number.1 number.2 (sound.top n fits) in
+            let apart : number_of dst ≡ number_of reg → ⊥ = λ same. other (sym p ∙ ap (λ (number : ℕ). slice_index_or a.registers number known.Nothing) same ∙ q) in
+            let number : IsHeld Member places s.memory.length (known.Scalar y) (effects.value_at s.registers reg) = subst (λ (value : AbstractValue D). IsValue Member Strict places s.memory.length value (effects.value_at s.registers reg)) q (member.registers reg) in
+            let opened = replaced ops Member sound places a s member dst reg y ops.top number.0 n s.slot number.1 number.2 (sound.top n fits) in
             let new : State = opened.state in
-            let dst_is : effects.value_at new.registers dst ≡ u = get_or-set_other s.registers (number_of r) (number_of dst) (value.Scalar n) value.Nothing apart ∙ u_is in
-            let r_is : effects.value_at new.registers r ≡ value.Scalar n = get_or-set_at s.registers (number_of r) (number_of r) (value.Scalar n) value.Nothing refl (omega (arith, in_eleven r, member.tagged.count)) in
+            let dst_is : effects.value_at new.registers dst ≡ u = get_or-set_other s.registers (number_of reg) (number_of dst) (value.Scalar n) value.Nothing apart ∙ u_is in
+            let r_is : effects.value_at new.registers reg ≡ value.Scalar n = get_or-set_at s.registers (number_of reg) (number_of reg) (value.Scalar n) value.Nothing refl (omega (arith, in_eleven reg, member.tagged.count)) in
             let abstract_is : ◌≡◌ {A = Result (Next D) Reason} (writable dst >>= λ t. Err PointerArithmetic) (Err reason) =
-            sym (step_at x (known.Scalar y) p q held refl ∙ ap (abstract.register_write a dst) none) ∙ is in
+            sym (step_at x (known.Scalar y) p q held refl ∙ ap (abstract.abstract_register_write a dst) none) ∙ is in
             record {
               state = new;
               loosens = opened.loosens;
@@ -230,30 +230,30 @@ module _ {D : Type 0} (ops : Operations D) (Member : D → ℕ → Type 0) (soun
             }
 
         -- no sum, or one that is accepted
-        no_stray : (x y : AbstractValue D) → abstract_at a.registers dst ≡ x → abstract_at a.registers r ≡ y → Fits sum → ((u v : Value) → StraysBy ops Member sound a op w x y u v) → abstract.step ops a sum ≡ Err reason → IsStuckFrom s sum reason
+        no_stray : (x y : AbstractValue D) → abstract_at a.registers dst ≡ x → abstract_at a.registers reg ≡ y → Fits sum → ((u v : Value) → StraysBy ops Member sound a op w x y u v) → abstract.abstract_step ops a sum ≡ Err reason → IsStuckFrom s sum reason
         unfolding sum
-        no_stray x y p q fit h is =
-            stuck_itself sum fit is (λ e x' y' u v p' q' f f'. strays_same ops Member sound a op w x x' y y' u u v v (sym p ∙ held_known ops Member sound (abstract_at a.registers dst) x' p') (sym q ∙ held_known ops Member sound (abstract_at a.registers r) y' q') refl refl (h u v))
+        no_stray x y p q fit g is =
+            stuck_itself sum fit is (λ e x' y' u v p' q' f f'. strays_same ops Member sound a op w x x' y y' u u v v (sym p ∙ held_known ops Member sound (abstract_at a.registers dst) x' p') (sym q ∙ held_known ops Member sound (abstract_at a.registers reg) y' q') refl refl (g u v))
 
-        data_stuck : (anchor : Anchor) (k : ℤ) (y : D) (o : Option (AbstractValue D)) → abstract.data_sum a anchor op w k (ops.bounds y) ≡ o → abstract_at a.registers dst ≡ known.Data anchor k → abstract_at a.registers r ≡ known.Scalar y → Fits sum → abstract.step ops a sum ≡ Err reason → IsStuckFrom s sum reason
+        data_stuck : (anchor : Anchor) (k : ℤ) (y : D) (o : Option (AbstractValue D)) → abstract.data_sum a anchor op w k (ops.bounds y) ≡ o → abstract_at a.registers dst ≡ known.Data anchor k → abstract_at a.registers reg ≡ known.Scalar y → Fits sum → abstract.abstract_step ops a sum ≡ Err reason → IsStuckFrom s sum reason
         data_stuck anchor k y None e p q fit is =
             let place : ℤ = place_of places anchor +ℤ k in
             let held : IsHeld Member places s.memory.length (known.Data anchor k) (effects.value_at s.registers dst) = subst (λ (x : AbstractValue D). IsValue Member Strict places s.memory.length x (effects.value_at s.registers dst)) p (member.registers dst) in
             stuck_off (known.Data anchor k) y (value.Data place) (stray_if (is_near place)) p q (λ f. absurd cc) held.2 (stray_fits (is_near place)) refl refl (ap (λ (o : Option (AbstractValue D)). ok_or o PointerArithmetic) e) (data_strays op w place) is
         data_stuck anchor k y (Some v) e p q fit is = no_stray (known.Data anchor k) (known.Scalar y) p q fit (λ u u' none. absurd (no_value v (sym e ∙ none))) is
 
-        stack_stuck : (k : ℤ) (y : D) (o : Option ℕ) → abstract.single_of ops y ≡ o → abstract_at a.registers dst ≡ known.Stack k → abstract_at a.registers r ≡ known.Scalar y → Fits sum → abstract.step ops a sum ≡ Err reason → IsStuckFrom s sum reason
+        stack_stuck : (k : ℤ) (y : D) (option : Option ℕ) → abstract.single_of ops y ≡ option → abstract_at a.registers dst ≡ known.Stack k → abstract_at a.registers reg ≡ known.Scalar y → Fits sum → abstract.abstract_step ops a sum ≡ Err reason → IsStuckFrom s sum reason
         stack_stuck k y None e p q fit is =
             let held : IsHeld Member places s.memory.length (known.Stack k) (effects.value_at s.registers dst) = subst (λ (x : AbstractValue D). IsValue Member Strict places s.memory.length x (effects.value_at s.registers dst)) p (member.registers dst) in
-            stuck_off (known.Stack k) y (value.Stack k) (stray_if (is_near k)) p q (λ f. absurd cc) held.2 (stray_fits (is_near k)) refl refl (ap (λ (o : Option ℕ). abstract.pointer_to known.Stack (abstract.moved_by op w k o)) e) (stack_strays op w k) is
+            stuck_off (known.Stack k) y (value.Stack k) (stray_if (is_near k)) p q (λ f. absurd cc) held.2 (stray_fits (is_near k)) refl refl (ap (λ (option : Option ℕ). abstract.abstract_pointer_to known.Stack (abstract.moved_by op w k option)) e) (stack_strays op w k) is
         stack_stuck k y (Some n) e p q fit is = no_stray (known.Stack k) (known.Scalar y) p q fit (λ u v none. absurd (let bad : Some n ≡ None = sym e ∙ none in cc)) is
 
-        sum_stuck : (x y : AbstractValue D) → abstract_at a.registers dst ≡ x → abstract_at a.registers r ≡ y → Fits sum → abstract.step ops a sum ≡ Err reason → IsStuckFrom s sum reason
+        sum_stuck : (x y : AbstractValue D) → abstract_at a.registers dst ≡ x → abstract_at a.registers reg ≡ y → Fits sum → abstract.abstract_step ops a sum ≡ Err reason → IsStuckFrom s sum reason
         sum_stuck (known.Data anchor k) (known.Scalar y) p q fit is = data_stuck anchor k y (abstract.data_sum a anchor op w k (ops.bounds y)) refl p q fit is
         sum_stuck (known.Stack k) (known.Scalar y) p q fit is = stack_stuck k y (abstract.single_of ops y) refl p q fit is
         sum_stuck x y p q fit is = no_stray x y p q fit (λ u v. tt) is
 
-    stuck_from : (i : Insn) → Fits i → abstract.step ops a i ≡ Err reason → (IsAboutPlaces reason i → ArePlain a.registers) → IsStuckFrom s i reason
+    stuck_from : (i : Insn) → Fits i → abstract.abstract_step ops a i ≡ Err reason → (IsAboutPlaces reason i → NameNoMadeAnchor a.registers) → IsStuckFrom s i reason
     unfolding sum
     stuck_from (insn.Alu w op dst (operand.Reg r)) fit is plain = sum_stuck w op dst r (abstract_at a.registers dst) (abstract_at a.registers r) refl refl fit is
     stuck_from (insn.Alu w op dst (operand.Imm n)) fit is plain = stuck_itself (insn.Alu w op dst (operand.Imm n)) fit is (λ e. imm_strays w op dst n fit (plain (subst (λ (r : Reason). IsAboutPlaces r (insn.Alu w op dst (operand.Imm n))) (sym e) tt)))
@@ -262,6 +262,6 @@ module _ {D : Type 0} (ops : Operations D) (Member : D → ℕ → Type 0) (soun
   -- The machine is stuck at a loosening of a strict member. Where a bound of the datagram is the reason, the datagram has no
   -- more bytes than are proved, and no register names an anchor that was made; where a constant is added to a pointer, no
   -- register does either.
-  pub refusal_is_real : (places : Places) (a : AbsState D) (s : State) → IsMemberAt Member Strict places a s → (i : Insn) → Fits i → (reason : Reason) → abstract.step ops a i ≡ Err reason
-      → (IsAboutPlaces reason i → ArePlain a.registers) → (reason ≡ DatagramBounds → pos s.memory.length ≡ a.proved) → IsStuckFrom s i reason
+  pub refusal_is_real : (places : Places) (a : AbsState D) (s : State) → IsMemberAt Member Strict places a s → (i : Insn) → Fits i → (reason : Reason) → abstract.abstract_step ops a i ≡ Err reason
+      → (IsAboutPlaces reason i → NameNoMadeAnchor a.registers) → (reason ≡ DatagramBounds → pos s.memory.length ≡ a.proved) → IsStuckFrom s i reason
   refusal_is_real places a s member i fit reason is plain size = stuck_from places a s member reason (λ e. (size e, plain (subst (λ (r : Reason). IsAboutPlaces r i) (sym e) tt))) i fit is plain

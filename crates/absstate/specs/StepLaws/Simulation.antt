@@ -46,7 +46,7 @@ use Rattle.absstate.specs.declared.branching.Implied.{Implied}
 use Rattle.absstate.specs.AbstractStates.{abstract_at, greatest_id, with_value, with_least}
 use Rattle.absstate.specs.AbstractSteps as abstract
 use Rattle.absstate.specs.AbstractSteps.{access_region}
-use Rattle.absstate.specs.Membership.{Mode, Places, IsNumberOf, IsHeld, IsMemberAt, IsPlace, IsAnchored, place_of, value_of}
+use Rattle.absstate.specs.Membership.{Mode, Places, IsNumberOf, IsHeld, IsMemberAt, IsAnchorPlace, IsAnchored, place_of, concrete_value}
 use Rattle.absstate.specs.declared.abstract_state.Anchor.{Anchor}
 use Rattle.absstate.specs.declared.abstract_state.Anchor.TheVariants.{First, Made}
 use Rattle.absstate.specs.StepLaws.Anchors.{Extends, extends_itself}
@@ -73,30 +73,30 @@ module _ {D : Type 0} (ops : Operations D) (Member : D → ℕ → Type 0) (soun
   -- ---- what follows
 
   -- a question to lawful helpers: the answer lies within its bound, and the record that is written has eight bytes
-  pub record IsAsked (a : AbsState D) (i : Insn) (b : AbsState D) (q : Question) (out : Option ℕ) : Type 0 where
+  pub record IsAsked (a : AbsState D) (i : Insn) (state : AbsState D) (q : Question) (out : Option ℕ) : Type 0 where
     pub asked : Helper
-    pub after : b ≡ abstract.state_after_call ops a asked out
+    pub after : state ≡ abstract.state_after_call ops a asked out
     pub past : GoesPast i
     pub room : IfSome out (λ j. j + 8 ≤ 512)
     pub lawful : (answer : ℕ → ℕ → AddressRecord → ℕ × AddressRecord) → IsLawful answer → ((answer q.helper q.number q.address).0 ≤ (signature_of asked).greatest) × IfSome out (λ j. AreBytes 8 (answer q.helper q.number q.address).1)
 
   -- a result, with the anchors at places at which those that registers name stay
-  pub record IsResultAnew (places : Places) (size : ℕ) (a : AbsState D) (k : AbstractValue D) (v : Value) : Type 0 where
+  pub record IsResultAnew (places : Places) (size : ℕ) (a : AbsState D) (x : AbstractValue D) (v : Value) : Type 0 where
     pub more : Places
     pub extends : Extends (greatest_id a.registers) places more
-    pub result : IsResult Member more size k v
+    pub result : IsResult Member more size x v
 
   -- the effect of an instruction, and the abstract state after it
   abbrev pub IsEffectOf : Mode → Places → AbsState D → State → Insn → Next D → Effect → Type 0
   IsEffectOf mode places a s i (next.On b) (effect.Write r v) = (known : AbstractValue D) × (b ≡ with_value a r known) × IsResultAnew places s.memory.length a known v × GoesPast i
-  IsEffectOf mode places a s i (next.On b) (effect.Store at z n) = (r : Region) × (b ≡ abstract.with_region a (byte_count z) r) × IsRegionOf (byte_count z) r at × GoesPast i
+  IsEffectOf mode places a s i (next.On b) (effect.Store at z n) = (region : Region) × (b ≡ abstract.with_region a (byte_count z) region) × IsRegionOf (byte_count z) region at × GoesPast i
   IsEffectOf mode places a s i (next.On b) (effect.Ask q out) = IsAsked a i b q out
   IsEffectOf mode places a s i (next.On b) (effect.SetWindow window) = (b ≡ abstract.state_after_call ops a helper.Window None) × GoesPast i
   IsEffectOf mode places a s i (next.On b) (effect.SetDestination destination) = (b ≡ abstract.state_after_call ops a helper.Destination None) × GoesPast i
   IsEffectOf mode places a s i (next.On b) (effect.Jump offset) = (b ≡ a) × (flow_of i ≡ Jumps offset)
   IsEffectOf mode places a s i (next.On b) effect.Pass = ⊥
   IsEffectOf mode places a s i (next.On b) (effect.Exit verdict) = ⊥
-  IsEffectOf mode places a s i (next.Fork not_taken taken) e = Forks ops Member sound mode places a s i not_taken taken e
+  IsEffectOf mode places a s i (next.Fork not_taken taken) effect = Forks ops Member sound mode places a s i not_taken taken effect
   IsEffectOf mode places a s i next.Exit (effect.Exit verdict) = Unit {0}
   IsEffectOf mode places a s i next.Exit (effect.Write r v) = ⊥
   IsEffectOf mode places a s i next.Exit (effect.Store at z n) = ⊥
@@ -111,12 +111,12 @@ module _ {D : Type 0} (ops : Operations D) (Member : D → ℕ → Type 0) (soun
     abbrev Claims : Insn → Type 0
     Claims i = AreClaims ops Member sound claimed mode a s i
 
-    strays_if : (w : Width) (op : AluOp) (o : Operand) (dst : Reg) → OperandFits o → Claims (insn.Alu w op dst o) → (x y : AbstractValue D) (u v : Value) → abstract.register_value a dst ≡ Ok x → abstract.operand_abstract ops w a o ≡ Ok y
+    strays_if : (w : Width) (op : AluOp) (o : Operand) (dst : Reg) → OperandFits o → Claims (insn.Alu w op dst o) → (x y : AbstractValue D) (u v : Value) → abstract.abstract_register_value a dst ≡ Ok x → abstract.operand_abstract ops w a o ≡ Ok y
         → effects.register_value s.registers dst ≡ Ok u → effects.operand_value w s.registers o ≡ Ok v → claimed PointerArithmetic → StraysBy ops Member sound a op w x y u v
-    strays_if w op o dst fit claims x y u v p p' q q' c = claims.arithmetic c x y u v p p' q q'
+    strays_if w op o dst fit claims x y u v p p' h q' l = claims.arithmetic l x y u v p p' h q'
 
     -- a result is written
-    anew_written : (i : Insn) (dst : Reg) (r : Result (AbstractValue D) Reason) (r' : Result Value Reason) → GoesPast i → Agree claimed (IsResultAnew places s.memory.length a) r r' → Agree claimed (IsEffectOf mode places a s i) (abstract.register_write a dst r) (effects.register_write dst r')
+    anew_written : (i : Insn) (dst : Reg) (r : Result (AbstractValue D) Reason) (r' : Result Value Reason) → GoesPast i → Agree claimed (IsResultAnew places s.memory.length a) r r' → Agree claimed (IsEffectOf mode places a s i) (abstract.abstract_register_write a dst r) (effects.register_write dst r')
     anew_written i dst r r' past agree =
         same_test claimed (IsEffectOf mode places a s i) (writable dst) _ _
         (and_then claimed (IsResultAnew places s.memory.length a) (IsEffectOf mode places a s i) r r' _ _ agree (λ k v p q result. (k, refl, result, past)))
@@ -133,40 +133,40 @@ module _ {D : Type 0} (ops : Operations D) (Member : D → ℕ → Type 0) (soun
     held_anew (Err e) (Ok v) h = h
     held_anew (Err e) (Err f) h = h
 
-    result_written : (i : Insn) (dst : Reg) (r : Result (AbstractValue D) Reason) (r' : Result Value Reason) → GoesPast i → Agree claimed (IsResult Member places s.memory.length) r r' → Agree claimed (IsEffectOf mode places a s i) (abstract.register_write a dst r) (effects.register_write dst r')
+    result_written : (i : Insn) (dst : Reg) (r : Result (AbstractValue D) Reason) (r' : Result Value Reason) → GoesPast i → Agree claimed (IsResult Member places s.memory.length) r r' → Agree claimed (IsEffectOf mode places a s i) (abstract.abstract_register_write a dst r) (effects.register_write dst r')
     result_written i dst r r' past agree = anew_written i dst r r' past (anew r r' agree)
 
-    written_agrees : (i : Insn) (dst : Reg) (r : Result (AbstractValue D) Reason) (r' : Result Value Reason) → GoesPast i → Agree claimed (IsHeld Member places s.memory.length) r r' → Agree claimed (IsEffectOf mode places a s i) (abstract.register_write a dst r) (effects.register_write dst r')
+    written_agrees : (i : Insn) (dst : Reg) (r : Result (AbstractValue D) Reason) (r' : Result Value Reason) → GoesPast i → Agree claimed (IsHeld Member places s.memory.length) r r' → Agree claimed (IsEffectOf mode places a s i) (abstract.abstract_register_write a dst r) (effects.register_write dst r')
     written_agrees i dst r r' past agree = result_written i dst r r' past (held_results claimed Member places s.memory.length r r' agree)
 
     alu_agrees : (w : Width) (op : AluOp) (dst : Reg) (o : Operand) → OperandFits o → Claims (insn.Alu w op dst o)
         → Agree claimed (IsEffectOf mode places a s (insn.Alu w op dst o)) (abstract.alu_step ops a w op dst o) (effects.alu_effect s.registers w op dst o)
     alu_agrees w op dst o fit claims =
-        and_then claimed (IsHeld Member places s.memory.length) (IsEffectOf mode places a s (insn.Alu w op dst o)) (abstract.register_value a dst) (effects.register_value s.registers dst) _ _
+        and_then claimed (IsHeld Member places s.memory.length) (IsEffectOf mode places a s (insn.Alu w op dst o)) (abstract.abstract_register_value a dst) (effects.register_value s.registers dst) _ _
         (read_agrees ops Member sound claimed mode places claims.registers a s member dst)
         (λ x u p q held_x. and_then claimed (IsHeld Member places s.memory.length) (IsEffectOf mode places a s (insn.Alu w op dst o)) (abstract.operand_abstract ops w a o) (effects.operand_value w s.registers o) _ _
         (operand_agrees ops Member sound claimed mode places claims.registers a s member w o fit)
-        (λ y v p' q' held_y. anew_written (insn.Alu w op dst o) dst (abstract.alu_result ops a op w x y) (effects.alu_result op w u v) refl
-        (held_anew (abstract.alu_result ops a op w x y) (effects.alu_result op w u v) (result_held ops Member sound claimed places s.memory.length a member.reaches op w x y u v held_x held_y (strays_if w op o dst fit claims x y u v p p' q q')))))
+        (λ y v p' q' held_y. anew_written (insn.Alu w op dst o) dst (abstract.abstract_alu_result ops a op w x y) (effects.alu_result op w u v) refl
+        (held_anew (abstract.abstract_alu_result ops a op w x y) (effects.alu_result op w u v) (result_held ops Member sound claimed places s.memory.length a member.reaches op w x y u v held_x held_y (strays_if w op o dst fit claims x y u v p p' q q')))))
 
     unary_agrees : (i : Insn) (w : Width) (op : UnaryOp) (dst : Reg) (o : Operand) → GoesPast i → OperandFits o → Claims i
         → Agree claimed (IsEffectOf mode places a s i) (abstract.unary_step ops a w op dst o) (effects.unary_effect s.registers w op dst o)
     unary_agrees i w op dst o past fit claims =
         and_then claimed (IsHeld Member places s.memory.length) (IsEffectOf mode places a s i) (abstract.operand_abstract ops w a o) (effects.operand_value w s.registers o) _ _
         (operand_agrees ops Member sound claimed mode places claims.registers a s member w o fit)
-        (λ x u p q held. written_agrees i dst (abstract.unary_result ops op x) (effects.unary_result op u) past (unary_held ops Member sound claimed places s.memory.length a member.reaches op x u held))
+        (λ x u p q held. written_agrees i dst (abstract.abstract_unary_result ops op x) (effects.unary_result op u) past (unary_held ops Member sound claimed places s.memory.length a member.reaches op x u held))
 
-    module _ (w : Width) (c : Condition) (dst : Reg) (o : Operand) (offset : ℤ) where
+    module _ (w : Width) (condition : Condition) (dst : Reg) (o : Operand) (offset : ℤ) where
       abbrev ForksAgree : AbstractValue D → AbstractValue D → Value → Value → Type 0
-      ForksAgree x y u v = Agree claimed (IsEffectOf mode places a s (insn.JumpIf w c dst o offset)) (abstract.fork ops a w c dst o x y) (effects.comparison_result s.memory.length w c u v >>= λ taken. Ok (if taken then effect.Jump offset else effect.Pass))
+      ForksAgree x y u v = Agree claimed (IsEffectOf mode places a s (insn.JumpIf w condition dst o offset)) (abstract.fork ops a w condition dst o x y) (effects.comparison_result s.memory.length w condition u v >>= λ taken. Ok (if taken then effect.Jump offset else effect.Pass))
 
-    at_agrees : (anchor : Anchor) (bound real : Branch → Option Bound) (w : Width) (c : Condition) (dst : Reg) (o : Operand) (offset : ℤ) (r : Result Implied Reason) (r' : Result Bool Reason) → Agree claimed (Implies bound real s.memory.length) r r'
-        → ((t : Implied) (taken : Bool) → Implies bound real s.memory.length t taken → IsEffectOf mode places a s (insn.JumpIf w c dst o offset) (next.Fork (Some (with_least a anchor t.not_taken)) (Some (with_least a anchor t.taken))) (if taken then effect.Jump offset else effect.Pass))
-        → Agree claimed (IsEffectOf mode places a s (insn.JumpIf w c dst o offset)) (abstract.at_anchor anchor r >>= λ t. Ok (next.Fork (Some (with_least a t.0 t.1.not_taken)) (Some (with_least a t.0 t.1.taken)))) (r' >>= λ taken. Ok (if taken then effect.Jump offset else effect.Pass))
-    at_agrees anchor bound real w c dst o offset (Ok t) (Ok taken) agree on = on t taken agree
-    at_agrees anchor bound real w c dst o offset (Ok t) (Err e) agree on = absurd agree
-    at_agrees anchor bound real w c dst o offset (Err e) (Ok taken) agree on = agree
-    at_agrees anchor bound real w c dst o offset (Err e) (Err f) agree on = agree
+    at_agrees : (anchor : Anchor) (bound real : Branch → Option Bound) (w : Width) (condition : Condition) (dst : Reg) (o : Operand) (offset : ℤ) (result : Result Implied Reason) (r' : Result Bool Reason) → Agree claimed (Implies bound real s.memory.length) result r'
+        → ((t : Implied) (taken : Bool) → Implies bound real s.memory.length t taken → IsEffectOf mode places a s (insn.JumpIf w condition dst o offset) (next.Fork (Some (with_least a anchor t.not_taken)) (Some (with_least a anchor t.taken))) (if taken then effect.Jump offset else effect.Pass))
+        → Agree claimed (IsEffectOf mode places a s (insn.JumpIf w condition dst o offset)) (abstract.at_anchor anchor result >>= λ t. Ok (next.Fork (Some (with_least a t.0 t.1.not_taken)) (Some (with_least a t.0 t.1.taken)))) (r' >>= λ taken. Ok (if taken then effect.Jump offset else effect.Pass))
+    at_agrees anchor bound real w condition dst o offset (Ok t) (Ok taken) agree on = on t taken agree
+    at_agrees anchor bound real w condition dst o offset (Ok t) (Err e) agree on = absurd agree
+    at_agrees anchor bound real w condition dst o offset (Err e) (Ok taken) agree on = agree
+    at_agrees anchor bound real w condition dst o offset (Err e) (Err f) agree on = agree
 
     abbrev extra_of : Anchor → ℤ → ℤ
     extra_of anchor k = reach_at {D = D} (known.Data anchor k)
@@ -175,14 +175,14 @@ module _ {D : Type 0} (ops : Operations D) (Member : D → ℕ → Type 0) (soun
     abbrev IsWithin : AbstractValue D → Type 0
     IsWithin x = reach_at x ≤ℤ reach_of a.registers
 
-    read_within : (r : Reg) (x : AbstractValue D) → abstract.register_value a r ≡ Ok x → IsWithin x
-    read_within r x p = subst IsWithin (held_known ops Member sound (abstract_at a.registers r) x p) (reach_at_most a.registers (number_of r))
+    read_within : (reg : Reg) (x : AbstractValue D) → abstract.abstract_register_value a reg ≡ Ok x → IsWithin x
+    read_within reg x p = subst IsWithin (held_known ops Member sound (abstract_at a.registers reg) x p) (reach_at_most a.registers (number_of reg))
 
     operand_within : (w : Width) (o : Operand) (y : AbstractValue D) → abstract.operand_abstract ops w a o ≡ Ok y → IsWithin y
     operand_within w (operand.Reg r) y p = read_within r y p
     operand_within w (operand.Imm n) y p = subst IsWithin (ok_is ops Member sound (known.Scalar (ops.exact (imm_word w n))) y p) (reach_positive a.registers)
 
-    made_enough : (id : ℕ) (low high proved : ℤ) (k : ℤ) (b : Option Bound) → IsNearBound k b → IsPlace s.memory.length low high proved (places id) → ((high +ℤ k) +ℤ pos 1) ≤ℤ pos s.memory.length → IsLeast (places id) (abstract.least_of b) s.memory.length
+    made_enough : (id : ℕ) (low high proved : ℤ) (k : ℤ) (b : Option Bound) → IsNearBound k b → IsAnchorPlace s.memory.length low high proved (places id) → ((high +ℤ k) +ℤ pos 1) ≤ℤ pos s.memory.length → IsLeast (places id) (abstract.least_of b) s.memory.length
     made_enough id low high proved k None near is le = tt
     made_enough id low high proved k (Some (AtMost j)) near is le = omega (arith, ints, near, le, is.greatest)
     made_enough id low high proved k (Some (Below j)) near is le = omega (arith, ints, near, le, is.greatest)
@@ -192,51 +192,51 @@ module _ {D : Type 0} (ops : Operations D) (Member : D → ℕ → Type 0) (soun
     bound_enough (Made id low high proved) k b near is le le' = made_enough id low high proved k b near is le'
 
     implies_shifted : (bound real : Branch → Option Bound) (place : ℤ) (t : Implied) (taken : Bool) → ((way : Branch) → real way ≡ bound_on_places place (bound way)) → Implies bound real s.memory.length t taken → Implies bound (λ way. bound_on_places place (bound way)) s.memory.length t taken
-    implies_shifted bound real place t taken is h = (h.0, subst (λ (b : Option Bound). HoldsOf b s.memory.length) (is (branch_if taken)) h.1)
+    implies_shifted bound real place t taken is f = (f.0, subst (λ (b : Option Bound). HoldsOf b s.memory.length) (is (branch_if taken)) f.1)
 
-    data_fork : (c : Condition) (dst : Reg) (o : Operand) (offset : ℤ) (anchor : Anchor) (k : ℤ) → IsWithin (known.Data anchor k) → IsAnchored places s.memory.length anchor → value_at s.registers dst ≡ value.Data (place_of places anchor +ℤ k) → effects.operand_value W64 s.registers o ≡ Ok value.End → ForksAgree W64 c dst o offset (known.Data anchor k) known.End (value.Data (place_of places anchor +ℤ k)) value.End
-    data_fork c dst o offset anchor k within h dst_is o_is =
-        at_agrees anchor (data_bound c k) (data_bound c (place_of places anchor +ℤ k)) W64 c dst o offset (abstract.order_implies c (data_bound c k)) (effects.comparison_of_places c (place_of places anchor +ℤ k) (pos s.memory.length)) (first_agree claimed k (place_of places anchor +ℤ k) s.memory.length c)
-        (λ t taken implies. forked ops Member sound mode places a s member W64 c dst o offset anchor (data_bound c k) (extra_of anchor k) within (λ way. bound_enough anchor k (data_bound c k way) (near_bound k c way) h) value.End o_is
-        (λ way. ap (λ (v : Value). bound_of c v value.End way) dst_is ∙ data_shifts (place_of places anchor) k c way) t taken
-        (implies_shifted (data_bound c k) (data_bound c (place_of places anchor +ℤ k)) (place_of places anchor) t taken (data_shifts (place_of places anchor) k c) implies))
+    data_fork : (condition : Condition) (dst : Reg) (o : Operand) (offset : ℤ) (anchor : Anchor) (k : ℤ) → IsWithin (known.Data anchor k) → IsAnchored places s.memory.length anchor → value_at s.registers dst ≡ value.Data (place_of places anchor +ℤ k) → effects.operand_value W64 s.registers o ≡ Ok value.End → ForksAgree W64 condition dst o offset (known.Data anchor k) known.End (value.Data (place_of places anchor +ℤ k)) value.End
+    data_fork condition dst o offset anchor k within h dst_is o_is =
+        at_agrees anchor (data_bound condition k) (data_bound condition (place_of places anchor +ℤ k)) W64 condition dst o offset (abstract.order_implication condition (data_bound condition k)) (effects.comparison_of_places condition (place_of places anchor +ℤ k) (pos s.memory.length)) (first_agree claimed k (place_of places anchor +ℤ k) s.memory.length condition)
+        (λ t taken implies. forked ops Member sound mode places a s member W64 condition dst o offset anchor (data_bound condition k) (extra_of anchor k) within (λ way. bound_enough anchor k (data_bound condition k way) (near_bound k condition way) h) value.End o_is
+        (λ way. ap (λ (v : Value). bound_of condition v value.End way) dst_is ∙ data_shifts (place_of places anchor) k condition way) t taken
+        (implies_shifted (data_bound condition k) (data_bound condition (place_of places anchor +ℤ k)) (place_of places anchor) t taken (data_shifts (place_of places anchor) k condition) implies))
 
-    end_fork : (c : Condition) (dst : Reg) (o : Operand) (offset : ℤ) (anchor : Anchor) (k : ℤ) → IsWithin (known.Data anchor k) → IsAnchored places s.memory.length anchor → value_at s.registers dst ≡ value.End → effects.operand_value W64 s.registers o ≡ Ok (value.Data (place_of places anchor +ℤ k)) → ForksAgree W64 c dst o offset known.End (known.Data anchor k) value.End (value.Data (place_of places anchor +ℤ k))
-    end_fork c dst o offset anchor k within h dst_is o_is =
-        at_agrees anchor (data_bound (converse c) k) (data_bound (converse c) (place_of places anchor +ℤ k)) W64 c dst o offset (abstract.order_implies c (data_bound (converse c) k)) (effects.comparison_of_places c (pos s.memory.length) (place_of places anchor +ℤ k)) (second_agree claimed k (place_of places anchor +ℤ k) s.memory.length c)
-        (λ t taken implies. forked ops Member sound mode places a s member W64 c dst o offset anchor (data_bound (converse c) k) (extra_of anchor k) within (λ way. bound_enough anchor k (data_bound (converse c) k way) (near_bound k (converse c) way) h) (value.Data (place_of places anchor +ℤ k)) o_is
-        (λ way. ap (λ (v : Value). bound_of c v (value.Data (place_of places anchor +ℤ k)) way) dst_is ∙ data_shifts (place_of places anchor) k (converse c) way) t taken
-        (implies_shifted (data_bound (converse c) k) (data_bound (converse c) (place_of places anchor +ℤ k)) (place_of places anchor) t taken (data_shifts (place_of places anchor) k (converse c)) implies))
+    end_fork : (condition : Condition) (dst : Reg) (o : Operand) (offset : ℤ) (anchor : Anchor) (k : ℤ) → IsWithin (known.Data anchor k) → IsAnchored places s.memory.length anchor → value_at s.registers dst ≡ value.End → effects.operand_value W64 s.registers o ≡ Ok (value.Data (place_of places anchor +ℤ k)) → ForksAgree W64 condition dst o offset known.End (known.Data anchor k) value.End (value.Data (place_of places anchor +ℤ k))
+    end_fork condition dst o offset anchor k within h dst_is o_is =
+        at_agrees anchor (data_bound (converse condition) k) (data_bound (converse condition) (place_of places anchor +ℤ k)) W64 condition dst o offset (abstract.order_implication condition (data_bound (converse condition) k)) (effects.comparison_of_places condition (pos s.memory.length) (place_of places anchor +ℤ k)) (second_agree claimed k (place_of places anchor +ℤ k) s.memory.length condition)
+        (λ t taken implies. forked ops Member sound mode places a s member W64 condition dst o offset anchor (data_bound (converse condition) k) (extra_of anchor k) within (λ way. bound_enough anchor k (data_bound (converse condition) k way) (near_bound k (converse condition) way) h) (value.Data (place_of places anchor +ℤ k)) o_is
+        (λ way. ap (λ (v : Value). bound_of condition v (value.Data (place_of places anchor +ℤ k)) way) dst_is ∙ data_shifts (place_of places anchor) k (converse condition) way) t taken
+        (implies_shifted (data_bound (converse condition) k) (data_bound (converse condition) (place_of places anchor +ℤ k)) (place_of places anchor) t taken (data_shifts (place_of places anchor) k (converse condition)) implies))
 
-    forks_agree : (w : Width) (c : Condition) (dst : Reg) (o : Operand) (offset : ℤ) (x y : AbstractValue D) (m n : ℕ) → IsWithin x → IsWithin y → IsNumberOf Member places s.memory.length x m → IsNumberOf Member places s.memory.length y n → value_at s.registers dst ≡ value_of places x m → effects.operand_value w s.registers o ≡ Ok (value_of places y n)
-        → ForksAgree w c dst o offset x y (value_of places x m) (value_of places y n)
-    forks_agree w c dst o offset (known.Scalar x) (known.Scalar y) m n wx wy h g dst_is o_is = fork_by ops Member sound mode places a s member w c dst o offset x y m n h g dst_is o_is (holds c w m n) refl
-    forks_agree W64 c dst o offset (known.Data anchor k) known.End m n wx wy h g dst_is o_is = data_fork c dst o offset anchor k wx h dst_is o_is
-    forks_agree W64 c dst o offset known.End (known.Data anchor k) m n wx wy h g dst_is o_is = end_fork c dst o offset anchor k wy g dst_is o_is
-    forks_agree w c dst o offset x y m n wx wy h g dst_is o_is = λ claim. refl
+    forks_agree : (w : Width) (condition : Condition) (dst : Reg) (o : Operand) (offset : ℤ) (x y : AbstractValue D) (m j : ℕ) → IsWithin x → IsWithin y → IsNumberOf Member places s.memory.length x m → IsNumberOf Member places s.memory.length y j → value_at s.registers dst ≡ concrete_value places x m → effects.operand_value w s.registers o ≡ Ok (concrete_value places y j)
+        → ForksAgree w condition dst o offset x y (concrete_value places x m) (concrete_value places y j)
+    forks_agree w condition dst o offset (known.Scalar x) (known.Scalar y) m j wx wy h g dst_is o_is = fork_by ops Member sound mode places a s member w condition dst o offset x y m j h g dst_is o_is (holds condition w m j) refl
+    forks_agree W64 condition dst o offset (known.Data anchor k) known.End m j wx wy h g dst_is o_is = data_fork condition dst o offset anchor k wx h dst_is o_is
+    forks_agree W64 condition dst o offset known.End (known.Data anchor k) m j wx wy h g dst_is o_is = end_fork condition dst o offset anchor k wy g dst_is o_is
+    forks_agree w condition dst o offset x y m j wx wy h g dst_is o_is = λ claim. refl
 
-    fork_held : (w : Width) (c : Condition) (dst : Reg) (o : Operand) (offset : ℤ) (x y : AbstractValue D) (u v : Value) → IsWithin x → IsWithin y → IsHeld Member places s.memory.length x u → IsHeld Member places s.memory.length y v → effects.register_value s.registers dst ≡ Ok u → effects.operand_value w s.registers o ≡ Ok v → ForksAgree w c dst o offset x y u v
-    fork_held w c dst o offset x y u v wx wy hx hy p q =
-        subst (λ (u' : Value). ForksAgree w c dst o offset x y u' v) (sym hx.2) (subst (λ (v' : Value). ForksAgree w c dst o offset x y (value_of places x hx.0) v') (sym hy.2)
-        (forks_agree w c dst o offset x y hx.0 hy.0 wx wy hx.1 hy.1 (held_is (value_at s.registers dst) u p ∙ hx.2) (q ∙ ap Ok hy.2)))
+    fork_held : (w : Width) (condition : Condition) (dst : Reg) (o : Operand) (offset : ℤ) (x y : AbstractValue D) (u v : Value) → IsWithin x → IsWithin y → IsHeld Member places s.memory.length x u → IsHeld Member places s.memory.length y v → effects.register_value s.registers dst ≡ Ok u → effects.operand_value w s.registers o ≡ Ok v → ForksAgree w condition dst o offset x y u v
+    fork_held w condition dst o offset x y u v wx wy hx hy p h =
+        subst (λ (u' : Value). ForksAgree w condition dst o offset x y u' v) (sym hx.2) (subst (λ (v' : Value). ForksAgree w condition dst o offset x y (concrete_value places x hx.0) v') (sym hy.2)
+        (forks_agree w condition dst o offset x y hx.0 hy.0 wx wy hx.1 hy.1 (held_is (value_at s.registers dst) u p ∙ hx.2) (h ∙ ap Ok hy.2)))
 
-    jumps_agree : (w : Width) (c : Condition) (dst : Reg) (o : Operand) (offset : ℤ) → OperandFits o → Claims (insn.JumpIf w c dst o offset)
-        → Agree claimed (IsEffectOf mode places a s (insn.JumpIf w c dst o offset)) (abstract.branch_step ops a w c dst o) (effects.jump_if_effect s.registers s.memory.length w c dst o offset)
-    jumps_agree w c dst o offset fit claims =
-        and_then claimed (IsHeld Member places s.memory.length) (IsEffectOf mode places a s (insn.JumpIf w c dst o offset)) (abstract.register_value a dst) (effects.register_value s.registers dst) _ _
+    jumps_agree : (w : Width) (condition : Condition) (dst : Reg) (o : Operand) (offset : ℤ) → OperandFits o → Claims (insn.JumpIf w condition dst o offset)
+        → Agree claimed (IsEffectOf mode places a s (insn.JumpIf w condition dst o offset)) (abstract.branch_step ops a w condition dst o) (effects.jump_if_effect s.registers s.memory.length w condition dst o offset)
+    jumps_agree w condition dst o offset fit claims =
+        and_then claimed (IsHeld Member places s.memory.length) (IsEffectOf mode places a s (insn.JumpIf w condition dst o offset)) (abstract.abstract_register_value a dst) (effects.register_value s.registers dst) _ _
         (read_agrees ops Member sound claimed mode places claims.registers a s member dst)
-        (λ x u p q held_x. and_then claimed (IsHeld Member places s.memory.length) (IsEffectOf mode places a s (insn.JumpIf w c dst o offset)) (abstract.operand_abstract ops w a o) (effects.operand_value w s.registers o) _ _
+        (λ x u p q held_x. and_then claimed (IsHeld Member places s.memory.length) (IsEffectOf mode places a s (insn.JumpIf w condition dst o offset)) (abstract.operand_abstract ops w a o) (effects.operand_value w s.registers o) _ _
         (operand_agrees ops Member sound claimed mode places claims.registers a s member w o fit)
-        (λ y v p' q' held_y. fork_held w c dst o offset x y u v (read_within dst x p) (operand_within w o y p') held_x held_y q q'))
+        (λ y v p' q' held_y. fork_held w condition dst o offset x y u v (read_within dst x p) (operand_within w o y p') held_x held_y q q'))
 
-    plain_at : (i : Insn) → Claims i → (r : Reg) (x : AbstractValue D) → abstract.register_value a r ≡ Ok x → claimed DatagramBounds → IsMade x → ⊥
-    plain_at i claims r x p c is = claims.plain c r (subst IsMade (sym (held_known ops Member sound (abstract_at a.registers r) x p)) is)
+    plain_at : (i : Insn) → Claims i → (reg : Reg) (x : AbstractValue D) → abstract.abstract_register_value a reg ≡ Ok x → claimed DatagramBounds → IsMade x → ⊥
+    plain_at i claims reg x p c is = claims.plain c reg (subst IsMade (sym (held_known ops Member sound (abstract_at a.registers reg) x p)) is)
 
     loads_agree : (i : Insn) (known_of : AbstractValue D → Result (AbstractValue D) Reason) (loaded : Value → Result Value Reason) (dst base : Reg) → GoesPast i → Claims i
-        → ((x : AbstractValue D) → (claimed DatagramBounds → IsMade x → ⊥) → (m : ℕ) → IsNumberOf Member places s.memory.length x m → Agree claimed (IsResult Member places s.memory.length) (known_of x) (loaded (value_of places x m)))
+        → ((x : AbstractValue D) → (claimed DatagramBounds → IsMade x → ⊥) → (m : ℕ) → IsNumberOf Member places s.memory.length x m → Agree claimed (IsResult Member places s.memory.length) (known_of x) (loaded (concrete_value places x m)))
         → Agree claimed (IsEffectOf mode places a s i) (abstract.loaded_step a known_of dst base) (effects.loaded_effect s.registers loaded dst base)
     loads_agree i known_of loaded dst base past claims agree =
-        and_then claimed (IsHeld Member places s.memory.length) (IsEffectOf mode places a s i) (abstract.register_value a base) (effects.register_value s.registers base) _ _
+        and_then claimed (IsHeld Member places s.memory.length) (IsEffectOf mode places a s i) (abstract.abstract_register_value a base) (effects.register_value s.registers base) _ _
         (read_agrees ops Member sound claimed mode places claims.registers a s member base)
         (λ x u p q held. result_written i dst (known_of x) (loaded u) past
         (subst (λ (u' : Value). Agree claimed (IsResult Member places s.memory.length) (known_of x) (loaded u')) (sym held.2) (agree x (plain_at i claims base x p) held.0 held.1)))
@@ -246,82 +246,82 @@ module _ {D : Type 0} (ops : Operations D) (Member : D → ℕ → Type 0) (soun
     stores_agree : (z : Size) (base : Reg) (o : Operand) (d : ℤ) → OperandFits o → Claims (insn.Store z base o d)
         → Agree claimed (IsEffectOf mode places a s (insn.Store z base o d)) (abstract.store_step ops a z base o d) (effects.store_effect s.registers s.memory.length z base o d)
     stores_agree z base o d fit claims =
-        and_then claimed (IsHeld Member places s.memory.length) (IsEffectOf mode places a s (insn.Store z base o d)) (abstract.register_value a base) (effects.register_value s.registers base) _ _
+        and_then claimed (IsHeld Member places s.memory.length) (IsEffectOf mode places a s (insn.Store z base o d)) (abstract.abstract_register_value a base) (effects.register_value s.registers base) _ _
         (read_agrees ops Member sound claimed mode places claims.registers a s member base)
         (λ x u p q held_x. and_then claimed (IsHeld Member places s.memory.length) (IsEffectOf mode places a s (insn.Store z base o d)) (abstract.operand_abstract ops W64 a o) (effects.operand_value W64 s.registers o) _ _
         (operand_agrees ops Member sound claimed mode places claims.registers a s member W64 o fit)
         (λ y v p' q' held_y. store_held z base o d claims x (plain_at (insn.Store z base o d) claims base x p) y u v held_x held_y)) where
-          pointers_agree : (x : AbstractValue D) (m : ℕ) → IsNumberOf Member places s.memory.length x m → Agree claimed (λ u v. Unit {0}) (abstract.pointer x) (effects.pointer (value_of places x m))
-          pointers_agree (known.Scalar n) m h = λ c. refl
+          pointers_agree : (x : AbstractValue D) (m : ℕ) → IsNumberOf Member places s.memory.length x m → Agree claimed (λ u v. Unit {0}) (abstract.abstract_pointer x) (effects.pointer (concrete_value places x m))
+          pointers_agree (known.Scalar j) m h = λ c. refl
           pointers_agree known.Nothing m h = tt
           pointers_agree known.Ctx m h = tt
           pointers_agree (known.Stack k) m h = tt
           pointers_agree (known.Data anchor k) m h = tt
           pointers_agree known.End m h = tt
 
-          storables_agree : (y : AbstractValue D) (n : ℕ) → IsNumberOf Member places s.memory.length y n → Agree claimed (λ u k. Unit {0}) (abstract.storable y) (effects.stored_number (value_of places y n))
-          storables_agree (known.Scalar number) n h = tt
-          storables_agree known.Nothing n h = λ c. refl
-          storables_agree known.Ctx n h = λ c. refl
-          storables_agree (known.Stack k) n h = λ c. refl
-          storables_agree (known.Data anchor k) n h = λ c. refl
-          storables_agree known.End n h = λ c. refl
+          storables_agree : (y : AbstractValue D) (j : ℕ) → IsNumberOf Member places s.memory.length y j → Agree claimed (λ u k. Unit {0}) (abstract.storable y) (effects.stored_number (concrete_value places y j))
+          storables_agree (known.Scalar number) j h = tt
+          storables_agree known.Nothing j h = λ c. refl
+          storables_agree known.Ctx j h = λ c. refl
+          storables_agree (known.Stack k) j h = λ c. refl
+          storables_agree (known.Data anchor k) j h = λ c. refl
+          storables_agree known.End j h = λ c. refl
 
-          store_numbers : (z : Size) (base : Reg) (o : Operand) (d : ℤ) → Claims (insn.Store z base o d) → (x : AbstractValue D) → (claimed DatagramBounds → IsMade x → ⊥) → (y : AbstractValue D) (m n : ℕ) → IsNumberOf Member places s.memory.length x m → IsNumberOf Member places s.memory.length y n
+          store_numbers : (z : Size) (base : Reg) (o : Operand) (d : ℤ) → Claims (insn.Store z base o d) → (x : AbstractValue D) → (claimed DatagramBounds → IsMade x → ⊥) → (y : AbstractValue D) (m j : ℕ) → IsNumberOf Member places s.memory.length x m → IsNumberOf Member places s.memory.length y j
               → Agree claimed (IsEffectOf mode places a s (insn.Store z base o d))
-              (abstract.pointer x >>= λ u. abstract.storable y >>= λ v. abstract.access_region a x d (byte_count z) >>= λ r. Ok (next.On (abstract.with_region a (byte_count z) r)))
-              (effects.pointer (value_of places x m) >>= λ u. effects.stored_number (value_of places y n) >>= λ k. location s.memory.length (value_of places x m) d (byte_count z) >>= λ at. Ok (effect.Store at z k))
-          store_numbers z base o d claims x plain y m n h g =
-              and_then claimed (λ u v. Unit {0}) (IsEffectOf mode places a s (insn.Store z base o d)) (abstract.pointer x) (effects.pointer (value_of places x m)) _ _ (pointers_agree x m h)
-              (λ u u' p q t. and_then claimed (λ v k. Unit {0}) (IsEffectOf mode places a s (insn.Store z base o d)) (abstract.storable y) (effects.stored_number (value_of places y n)) _ _ (storables_agree y n g)
-              (λ v k p' q' t'. and_then claimed (IsRegionOf (byte_count z)) (IsEffectOf mode places a s (insn.Store z base o d)) (abstract.access_region a x d (byte_count z)) (location s.memory.length (value_of places x m) d (byte_count z)) _ _
+              (abstract.abstract_pointer x >>= λ u. abstract.storable y >>= λ v. abstract.access_region a x d (byte_count z) >>= λ r. Ok (next.On (abstract.with_region a (byte_count z) r)))
+              (effects.pointer (concrete_value places x m) >>= λ u. effects.stored_number (concrete_value places y j) >>= λ k. location s.memory.length (concrete_value places x m) d (byte_count z) >>= λ at. Ok (effect.Store at z k))
+          store_numbers z base o d claims x plain y m j h g =
+              and_then claimed (λ u v. Unit {0}) (IsEffectOf mode places a s (insn.Store z base o d)) (abstract.abstract_pointer x) (effects.pointer (concrete_value places x m)) _ _ (pointers_agree x m h)
+              (λ u u' p q t. and_then claimed (λ v k. Unit {0}) (IsEffectOf mode places a s (insn.Store z base o d)) (abstract.storable y) (effects.stored_number (concrete_value places y j)) _ _ (storables_agree y j g)
+              (λ v k p' q' t'. and_then claimed (IsRegionOf (byte_count z)) (IsEffectOf mode places a s (insn.Store z base o d)) (abstract.access_region a x d (byte_count z)) (location s.memory.length (concrete_value places x m) d (byte_count z)) _ _
               (locations_agree ops Member sound claimed mode places a s member (insn.Store z base o d) claims x plain m d (byte_count z) h)
               (λ r at e f is. (r, refl, is, refl))))
 
           store_held : (z : Size) (base : Reg) (o : Operand) (d : ℤ) → Claims (insn.Store z base o d) → (x : AbstractValue D) → (claimed DatagramBounds → IsMade x → ⊥) → (y : AbstractValue D) (u v : Value) → IsHeld Member places s.memory.length x u → IsHeld Member places s.memory.length y v
               → Agree claimed (IsEffectOf mode places a s (insn.Store z base o d))
-              (abstract.pointer x >>= λ t. abstract.storable y >>= λ t'. abstract.access_region a x d (byte_count z) >>= λ r. Ok (next.On (abstract.with_region a (byte_count z) r)))
+              (abstract.abstract_pointer x >>= λ t. abstract.storable y >>= λ t'. abstract.access_region a x d (byte_count z) >>= λ r. Ok (next.On (abstract.with_region a (byte_count z) r)))
               (effects.pointer u >>= λ t. effects.stored_number v >>= λ k. location s.memory.length u d (byte_count z) >>= λ at. Ok (effect.Store at z k))
           store_held z base o d claims x plain y u v hx hy =
               subst (λ (u' : Value). Agree claimed (IsEffectOf mode places a s (insn.Store z base o d))
-              (abstract.pointer x >>= λ t. abstract.storable y >>= λ t'. abstract.access_region a x d (byte_count z) >>= λ r. Ok (next.On (abstract.with_region a (byte_count z) r)))
+              (abstract.abstract_pointer x >>= λ t. abstract.storable y >>= λ t'. abstract.access_region a x d (byte_count z) >>= λ r. Ok (next.On (abstract.with_region a (byte_count z) r)))
               (effects.pointer u' >>= λ t. effects.stored_number v >>= λ k. location s.memory.length u' d (byte_count z) >>= λ at. Ok (effect.Store at z k))) (sym hx.2)
               (subst (λ (v' : Value). Agree claimed (IsEffectOf mode places a s (insn.Store z base o d))
-              (abstract.pointer x >>= λ t. abstract.storable y >>= λ t'. abstract.access_region a x d (byte_count z) >>= λ r. Ok (next.On (abstract.with_region a (byte_count z) r)))
-              (effects.pointer (value_of places x hx.0) >>= λ t. effects.stored_number v' >>= λ k. location s.memory.length (value_of places x hx.0) d (byte_count z) >>= λ at. Ok (effect.Store at z k))) (sym hy.2)
+              (abstract.abstract_pointer x >>= λ t. abstract.storable y >>= λ t'. abstract.access_region a x d (byte_count z) >>= λ r. Ok (next.On (abstract.with_region a (byte_count z) r)))
+              (effects.pointer (concrete_value places x hx.0) >>= λ t. effects.stored_number v' >>= λ k. location s.memory.length (concrete_value places x hx.0) d (byte_count z) >>= λ at. Ok (effect.Store at z k))) (sym hy.2)
               (store_numbers z base o d claims x plain y hx.0 hy.0 hx.1 hy.1))
 
-    asks : (i : Insn) (h : Helper) (q : Question) (out : Option ℕ) → GoesPast i → IfSome out (λ j. j + 8 ≤ 512) → ((answer : ℕ → ℕ → AddressRecord → ℕ × AddressRecord) → IsLawful answer → ((answer q.helper q.number q.address).0 ≤ (signature_of h).greatest) × IfSome out (λ j. AreBytes 8 (answer q.helper q.number q.address).1))
-        → IsAsked a i (abstract.state_after_call ops a h out) q out
-    asks i h q out past room lawful = record { asked = h; after = refl; past = past; room = room; lawful = lawful }
+    asks : (i : Insn) (asked : Helper) (q : Question) (out : Option ℕ) → GoesPast i → IfSome out (λ j. j + 8 ≤ 512) → ((answer : ℕ → ℕ → AddressRecord → ℕ × AddressRecord) → IsLawful answer → ((answer q.helper q.number q.address).0 ≤ (signature_of asked).greatest) × IfSome out (λ j. AreBytes 8 (answer q.helper q.number q.address).1))
+        → IsAsked a i (abstract.state_after_call ops a asked out) q out
+    asks i helper q out past room lawful = record { asked = helper; after = refl; past = past; room = room; lawful = lawful }
 
     -- helpers that write no record
-    two_read : (x y : Result (Unit {0}) Reason) (out : Option ℕ) → ((x >>= λ u. Ok None) >>= λ first. (y >>= λ u. Ok first) >>= λ second. Ok second) ≡ Ok out → out ≡ None
+    two_read : (result other : Result (Unit {0}) Reason) (out : Option ℕ) → ((result >>= λ u. Ok None) >>= λ first. (other >>= λ u. Ok first) >>= λ second. Ok second) ≡ Ok out → out ≡ None
     two_read (Ok u) (Ok v) out e = cc
     two_read (Ok u) (Err f) out e = absurd cc
-    two_read (Err e') y out e = absurd cc
+    two_read (Err e') result out e = absurd cc
 
-    three_read : (x y z : Result (Unit {0}) Reason) (out : Option ℕ) → ((x >>= λ u. Ok None) >>= λ first. (y >>= λ u. Ok first) >>= λ second. (z >>= λ u. Ok second) >>= λ third. Ok third) ≡ Ok out → out ≡ None
+    three_read : (result other further : Result (Unit {0}) Reason) (out : Option ℕ) → ((result >>= λ u. Ok None) >>= λ first. (other >>= λ u. Ok first) >>= λ second. (further >>= λ u. Ok second) >>= λ third. Ok third) ≡ Ok out → out ≡ None
     three_read (Ok u) (Ok v) (Ok t) out e = cc
     three_read (Ok u) (Ok v) (Err f) out e = absurd cc
-    three_read (Ok u) (Err f) z out e = absurd cc
-    three_read (Err e') y z out e = absurd cc
+    three_read (Ok u) (Err f) result out e = absurd cc
+    three_read (Err e') result further out e = absurd cc
 
-    by_address : (out : Option ℕ) → ((abstract.context_argument a reg.R1 >>= λ u. Ok None) >>= λ first. (abstract.record_argument a reg.R2 >>= λ u. Ok first) >>= λ second. Ok second) ≡ Ok out → out ≡ None
-    by_address out e = two_read (abstract.context_argument a reg.R1) (abstract.record_argument a reg.R2) out e
+    by_address : (out : Option ℕ) → ((abstract.abstract_context_argument a reg.R1 >>= λ u. Ok None) >>= λ first. (abstract.abstract_record_argument a reg.R2 >>= λ u. Ok first) >>= λ second. Ok second) ≡ Ok out → out ≡ None
+    by_address out e = two_read (abstract.abstract_context_argument a reg.R1) (abstract.abstract_record_argument a reg.R2) out e
 
     -- the answer to a question without a record to write
-    looks_up : (i : Insn) (h : Helper) (out : Option ℕ) (given : Inputs) → GoesPast i → out ≡ None → IsGiven out given
-        → ((answer : ℕ → ℕ → AddressRecord → ℕ × AddressRecord) → IsLawful answer → (answer (helper_number h) given.number given.address).0 ≤ (signature_of h).greatest)
-        → IsAsked a i (abstract.state_after_call ops a h out) (question h given.number given.address) given.out
-    looks_up i h None given past e is lawful =
-        subst (λ (o : Option ℕ). IsAsked a i (abstract.state_after_call ops a h None) (question h given.number given.address) o) is.2 (asks i h (question h given.number given.address) None past tt (λ answer lawful_answer. (lawful answer lawful_answer, tt)))
-    looks_up i h (Some j) given past e is lawful = absurd cc
+    looks_up : (i : Insn) (helper : Helper) (out : Option ℕ) (given : Inputs) → GoesPast i → out ≡ None → IsGiven out given
+        → ((answer : ℕ → ℕ → AddressRecord → ℕ × AddressRecord) → IsLawful answer → (answer (helper_number helper) given.number given.address).0 ≤ (signature_of helper).greatest)
+        → IsAsked a i (abstract.state_after_call ops a helper out) (question helper given.number given.address) given.out
+    looks_up i helper None given past e is lawful =
+        subst (λ (option : Option ℕ). IsAsked a i (abstract.state_after_call ops a helper None) (question helper given.number given.address) option) is.2 (asks i helper (question helper given.number given.address) None past tt (λ answer lawful_answer. (lawful answer lawful_answer, tt)))
+    looks_up i helper (Some j) given past e is lawful = absurd cc
 
-    helped : (c : Context) (n : ℤ) (h : Helper) (out : Option ℕ) (given : Inputs) → abstract.out_of a (signature_of h).arguments ≡ Ok out → IsGiven out given
-        → IsEffectOf mode places a s (insn.Call n) (next.On (abstract.state_after_call ops a h out)) (effects.effect_with c s.memory h given)
+    helped : (c : Context) (n : ℤ) (helper : Helper) (out : Option ℕ) (given : Inputs) → abstract.out_of a (signature_of helper).arguments ≡ Ok out → IsGiven out given
+        → IsEffectOf mode places a s (insn.Call n) (next.On (abstract.state_after_call ops a helper out)) (effects.effect_with c s.memory helper given)
     helped c n helper.ChannelPeer out given e is =
-        subst (λ (o : Option ℕ). IsAsked a (insn.Call n) (abstract.state_after_call ops a helper.ChannelPeer out) (question helper.ChannelPeer given.number given.address) o) is.2
+        subst (λ (option : Option ℕ). IsAsked a (insn.Call n) (abstract.state_after_call ops a helper.ChannelPeer out) (question helper.ChannelPeer given.number given.address) option) is.2
         (asks (insn.Call n) helper.ChannelPeer (question helper.ChannelPeer given.number given.address) out refl is.3 (λ answer lawful. let peer = lawful.channel_peer given.number given.address is.0 is.1 in (peer.0, of_out out (answer 1 given.number given.address).1 peer.1))) where
           of_out : (out : Option ℕ) (bytes : AddressRecord) → AreBytes 8 bytes → IfSome out (λ j. AreBytes 8 bytes)
           of_out None bytes are = tt
@@ -329,23 +329,23 @@ module _ {D : Type 0} (ops : Operations D) (Member : D → ℕ → Type 0) (soun
     helped c n helper.ChannelTo out given e is = looks_up (insn.Call n) helper.ChannelTo out given refl (by_address out e) is (λ answer lawful. lawful.channel_to given.number given.address is.0 is.1)
     helped c n helper.Permitted out given e is = looks_up (insn.Call n) helper.Permitted out given refl (by_address out e) is (λ answer lawful. lawful.permitted given.number given.address is.0 is.1)
     helped c n helper.Window out given e is =
-        (ap (λ (o : Option ℕ). abstract.state_after_call ops a helper.Window o) (three_read (abstract.context_argument a reg.R1) (abstract.number_argument a reg.R2) (abstract.number_argument a reg.R3) out e), refl)
-    helped c n helper.Destination out given e is = (ap (λ (o : Option ℕ). abstract.state_after_call ops a helper.Destination o) (by_address out e), refl)
+        (ap (λ (option : Option ℕ). abstract.state_after_call ops a helper.Window option) (three_read (abstract.abstract_context_argument a reg.R1) (abstract.abstract_number_argument a reg.R2) (abstract.abstract_number_argument a reg.R3) out e), refl)
+    helped c n helper.Destination out given e is = (ap (λ (option : Option ℕ). abstract.state_after_call ops a helper.Destination option) (by_address out e), refl)
 
-    helpers_agree : (c : Context) (n : ℤ) (h : Helper) → Claims (insn.Call n) → Agree claimed (IsEffectOf mode places a s (insn.Call n)) (abstract.helper_step ops a h) (effects.helper_effect c s.memory s.registers h)
-    helpers_agree c n h claims =
-        and_then claimed IsGiven (IsEffectOf mode places a s (insn.Call n)) (abstract.out_of a (signature_of h).arguments) (effects.inputs s.memory s.registers (signature_of h).arguments) _ _
-        (inputs_agree ops Member sound claimed mode places a s member (insn.Call n) claims (signature_of h).arguments) (λ out given p q is. helped c n h out given p is)
+    helpers_agree : (c : Context) (n : ℤ) (helper : Helper) → Claims (insn.Call n) → Agree claimed (IsEffectOf mode places a s (insn.Call n)) (abstract.helper_step ops a helper) (effects.helper_effect c s.memory s.registers helper)
+    helpers_agree c n helper claims =
+        and_then claimed IsGiven (IsEffectOf mode places a s (insn.Call n)) (abstract.out_of a (signature_of helper).arguments) (effects.inputs s.memory s.registers (signature_of helper).arguments) _ _
+        (inputs_agree ops Member sound claimed mode places a s member (insn.Call n) claims (signature_of helper).arguments) (λ out given p q is. helped c n helper out given p is)
 
     calls_agree : (c : Context) (n : ℤ) → Claims (insn.Call n) → Agree claimed (IsEffectOf mode places a s (insn.Call n)) (abstract.call_step ops a n) (effects.call_effect c s.memory s.registers n)
     calls_agree c n claims = of_helper (helper_of n) where
-      of_helper : (h : Option Helper) → Agree claimed (IsEffectOf mode places a s (insn.Call n)) (ok_or h UnknownHelper >>= abstract.helper_step ops a) (ok_or h UnknownHelper >>= effects.helper_effect c s.memory s.registers)
+      of_helper : (option : Option Helper) → Agree claimed (IsEffectOf mode places a s (insn.Call n)) (ok_or option UnknownHelper >>= abstract.helper_step ops a) (ok_or option UnknownHelper >>= effects.helper_effect c s.memory s.registers)
       of_helper None = λ claim. refl
-      of_helper (Some h) = helpers_agree c n h claims
+      of_helper (Some option) = helpers_agree c n option claims
 
     -- ---- the end
 
-    exits_agree : (x : AbstractValue D) (m : ℕ) → IsNumberOf Member places s.memory.length x m → Agree claimed (IsEffectOf mode places a s insn.Exit) (abstract.exit_with x) (effects.verdict_of (value_of places x m) >>= λ verdict. Ok (effect.Exit verdict))
+    exits_agree : (x : AbstractValue D) (m : ℕ) → IsNumberOf Member places s.memory.length x m → Agree claimed (IsEffectOf mode places a s insn.Exit) (abstract.exit_with x) (effects.verdict_of (concrete_value places x m) >>= λ verdict. Ok (effect.Exit verdict))
     exits_agree (known.Scalar n) m h = tt
     exits_agree x m h = λ c. refl
 
@@ -353,7 +353,7 @@ module _ {D : Type 0} (ops : Operations D) (Member : D → ℕ → Type 0) (soun
     exit_held x u h = subst (λ (u' : Value). Agree claimed (IsEffectOf mode places a s insn.Exit) (abstract.exit_with x) (effects.verdict_of u' >>= λ verdict. Ok (effect.Exit verdict))) (sym h.2) (exits_agree x h.0 h.1)
 
     -- the abstract step of each form agrees with the machine's
-    pub steps_agree : (c : Context) → IsContext c → (i : Insn) → Fits i → AreClaims ops Member sound claimed mode a s i → Agree claimed (IsEffectOf mode places a s i) (abstract.step ops a i) (effects.effect c s.memory s.registers i)
+    pub steps_agree : (c : Context) → IsContext c → (i : Insn) → Fits i → AreClaims ops Member sound claimed mode a s i → Agree claimed (IsEffectOf mode places a s i) (abstract.abstract_step ops a i) (effects.effect c s.memory s.registers i)
     steps_agree c real (insn.Alu w op dst o) fit claims = alu_agrees w op dst o fit claims
     steps_agree c real (insn.Mov w dst o) fit claims = unary_agrees (insn.Mov w dst o) w (Mov w) dst o refl fit claims
     steps_agree c real (insn.Neg w dst) fit claims = unary_agrees (insn.Neg w dst) w (Neg w) dst (operand.Reg dst) refl tt claims
@@ -362,13 +362,13 @@ module _ {D : Type 0} (ops : Operations D) (Member : D → ℕ → Type 0) (soun
     steps_agree c real (insn.Jump offset) fit claims = (refl, refl)
     steps_agree c real (insn.LongJump offset) fit claims = (refl, refl)
     steps_agree c real (insn.JumpIf w condition dst o offset) fit claims = jumps_agree w condition dst o offset fit.0 claims
-    steps_agree c real (insn.Load z dst base d) fit claims = loads_agree (insn.Load z dst base d) (λ x. abstract.load ops a x d z) (λ v. loading.load c s.memory v d z) dst base refl claims (λ x plain m h. load_agrees ops Member sound claimed mode places a s member (insn.Load z dst base d) claims c real x plain m d z h)
+    steps_agree c real (insn.Load z dst base d) fit claims = loads_agree (insn.Load z dst base d) (λ x. abstract.abstract_load ops a x d z) (λ v. loading.load c s.memory v d z) dst base refl claims (λ x plain m h. load_agrees ops Member sound claimed mode places a s member (insn.Load z dst base d) claims c real x plain m d z h)
     steps_agree c real (insn.LoadSigned z dst base d) fit claims =
-        loads_agree (insn.LoadSigned z dst base d) (λ x. abstract.load_signed ops a x d z) (λ v. loading.load_signed s.memory v d z) dst base refl claims (λ x plain m h. signed_agrees ops Member sound claimed mode places a s member (insn.LoadSigned z dst base d) claims x plain m d z h)
+        loads_agree (insn.LoadSigned z dst base d) (λ x. abstract.abstract_load_signed ops a x d z) (λ v. loading.load_signed s.memory v d z) dst base refl claims (λ x plain m h. signed_agrees ops Member sound claimed mode places a s member (insn.LoadSigned z dst base d) claims x plain m d z h)
     steps_agree c real (insn.Store z base o d) fit claims = stores_agree z base o d fit.0 claims
     steps_agree c real (insn.LoadImm dst n) fit claims = written_agrees (insn.LoadImm dst n) dst (Ok (known.Scalar (ops.exact n))) (Ok (value.Scalar n)) refl (n, sound.exact n fit, refl)
     steps_agree c real (insn.Call n) fit claims = calls_agree c n claims
     steps_agree c real insn.Exit fit claims =
-        and_then claimed (IsHeld Member places s.memory.length) (IsEffectOf mode places a s insn.Exit) (abstract.register_value a reg.R0) (effects.register_value s.registers reg.R0) _ _
+        and_then claimed (IsHeld Member places s.memory.length) (IsEffectOf mode places a s insn.Exit) (abstract.abstract_register_value a reg.R0) (effects.register_value s.registers reg.R0) _ _
         (read_agrees ops Member sound claimed mode places claims.registers a s member reg.R0)
         (λ x u p q held. exit_held x u held)

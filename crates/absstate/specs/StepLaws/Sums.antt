@@ -15,27 +15,27 @@ use Rattle.semantics.specs.Effects.{near_place, moved_place}
 use Rattle.interval.specs.declared.domain.Bounds.{Bounds}
 use Rattle.absstate.specs.AbstractStates.{low_of, high_of, proved_of, greatest_id}
 use Rattle.absstate.specs.AbstractSteps.{with_both, short_offset, moved_offset, lowest, highest, is_one_sided, proved_within, made_anchor, made_sum, data_sum}
-use Rattle.absstate.specs.Membership.{Places, place_of, IsPlace, IsAnchored}
+use Rattle.absstate.specs.Membership.{Places, place_of, IsAnchorPlace, IsAnchored}
 use Rattle.absstate.specs.declared.abstract_state.Anchor.{Anchor}
 use Rattle.absstate.specs.declared.abstract_state.Anchor.TheVariants.{First, Made}
 use Rattle.absstate.specs.declared.abstract_state.AbstractValue.{AbstractValue}
 use Rattle.absstate.specs.declared.abstract_state.AbstractValue.TheVariants.{Data}
 use Rattle.absstate.specs.declared.abstract_state.AbsState.{AbsState}
 use Rattle.absstate.specs.StepLaws.Bounds.{le_of, le_is_true}
-use Rattle.absstate.specs.StepLaws.MemoryValues.{first_of_and, rest_of_and, both}
+use Rattle.absstate.specs.StepLaws.MemoryValues.{first_of_and, rest_of_and, both_true}
 use Rattle.absstate.specs.StepLaws.Anchors.{Extends, extends_itself, with_place, with_place_extends, with_place_at, signed_between, sum_place}
 
 -- ---- near places
 
-some_is : (x y : ℤ) → ◌≡◌ {A = Option ℤ} (Some x) (Some y) → x ≡ y
-some_is x y e = cc
+some_is : (z y : ℤ) → ◌≡◌ {A = Option ℤ} (Some z) (Some y) → z ≡ y
+some_is z y e = cc
 
 record IsNear (z r : ℤ) : Type 0 where
   same : r ≡ z
   low : negsuc 1048575 ≤ℤ z
   high : z ≤ℤ pos 1048576
 
-near_by : (z r : ℤ) (b : Bool) → (int_le (negsuc 1048575) z && int_le z (pos 1048576)) ≡ b → (if b then Some z else None) ≡ Some r → IsNear z r
+near_by : (z r : ℤ) (t : Bool) → (int_le (negsuc 1048575) z && int_le z (pos 1048576)) ≡ t → (if t then Some z else None) ≡ Some r → IsNear z r
 near_by z r true e f = record {
   same = sym (some_is z r f);
   low = le_of (negsuc 1048575) z (first_of_and (int_le (negsuc 1048575) z) (int_le z (pos 1048576)) e);
@@ -47,7 +47,7 @@ near_of : (z r : ℤ) → near_place z ≡ Some r → IsNear z r
 near_of z r e = near_by z r (int_le (negsuc 1048575) z && int_le z (pos 1048576)) refl e
 
 near_from : (z : ℤ) → negsuc 1048575 ≤ℤ z → z ≤ℤ pos 1048576 → near_place z ≡ Some z
-near_from z p q = ap (λ (b : Bool). if b then Some z else None) (both (int_le (negsuc 1048575) z) (int_le z (pos 1048576)) (le_is_true (negsuc 1048575) z p) (le_is_true z (pos 1048576) q))
+near_from z p q = ap (λ (t : Bool). if t then Some z else None) (both_true (int_le (negsuc 1048575) z) (int_le z (pos 1048576)) (le_is_true (negsuc 1048575) z p) (le_is_true z (pos 1048576) q))
 
 -- ---- shifts
 
@@ -122,21 +122,21 @@ pub record IsSum {D : Type 0} (places : Places) (size : ℕ) (a : AbsState D) (o
   pub moved : moved_place op w from n ≡ Some (place_of more anchor +ℤ k)
 
 -- the place of an anchor lies in its interval, and the datagram reaches as far as is proved
-pub place_is : {D : Type 0} (places : Places) (size : ℕ) (a : AbsState D) (anchor : Anchor) → a.proved ≤ℤ pos size → IsAnchored places size anchor → IsPlace size (low_of anchor) (high_of anchor) (proved_of a anchor) (place_of places anchor)
+pub place_is : {D : Type 0} (places : Places) (size : ℕ) (a : AbsState D) (anchor : Anchor) → a.proved ≤ℤ pos size → IsAnchored places size anchor → IsAnchorPlace size (low_of anchor) (high_of anchor) (proved_of a anchor) (place_of places anchor)
 place_is places size a First reaches is = record { least = omega (arith, ints); greatest = omega (arith, ints); reaches = omega (arith, ints, reaches) }
 place_is places size a (Made id low high proved) reaches is = is
 
-with_both_some : {A : Type 0} (x y : Option ℤ) (f : ℤ → ℤ → Option A) (r : A) → with_both x y f ≡ Some r → (u : ℤ) × (v : ℤ) × (x ≡ Some u) × (y ≡ Some v) × (f u v ≡ Some r)
-with_both_some (Some x) (Some y) f r e = (x, y, refl, refl, e)
-with_both_some (Some x) None f r e = absurd cc
-with_both_some None y f r e = absurd cc
+with_both_some : {A : Type 0} (o option : Option ℤ) (i : ℤ → ℤ → Option A) (r : A) → with_both o option i ≡ Some r → (u : ℤ) × (v : ℤ) × (o ≡ Some u) × (option ≡ Some v) × (i u v ≡ Some r)
+with_both_some (Some x) (Some y) i r e = (x, y, refl, refl, e)
+with_both_some (Some x) None i r e = absurd cc
+with_both_some None o i r e = absurd cc
 
-if_some : {A : Type 0} (b : Bool) (x r : A) → (if b then Some x else None) ≡ Some r → (b ≡ true) × (x ≡ r)
+if_some : {A : Type 0} (t : Bool) (x r : A) → (if t then Some x else None) ≡ Some r → (t ≡ true) × (x ≡ r)
 if_some true x r e = (refl, cc)
 if_some false x r e = absurd cc
 
-anchor_is : {D : Type 0} (x y : Anchor) (k l : ℤ) → ◌≡◌ {A = AbstractValue D} (Data x k) (Data y l) → (x ≡ y) × (k ≡ l)
-anchor_is x y k l e = (cc, cc)
+anchor_is : {D : Type 0} (x anchor : Anchor) (k l : ℤ) → ◌≡◌ {A = AbstractValue D} (Data x k) (Data anchor l) → (x ≡ anchor) × (k ≡ l)
+anchor_is x anchor k l e = (cc, cc)
 
 module _ {D : Type 0} (places : Places) (size : ℕ) (a : AbsState D) (reaches : a.proved ≤ℤ pos size) (op : AluOp) (w : Width) (k : ℤ) (b : Bounds) (n : ℕ) (p : b.lo ≤ n) (q : n ≤ b.hi) (fits : n < 2 ^ 64) where
   -- a number that isn't single makes an anchor
@@ -163,7 +163,7 @@ module _ {D : Type 0} (places : Places) (size : ℕ) (a : AbsState D) (reaches :
       (record {
         more = more;
         extends = with_place_extends (greatest_id a.registers) places to;
-        anchored = subst (IsPlace size least greatest (proved_within (proved_of a anchor -ℤ (greatest -ℤ high_of anchor)))) (sym more_is) sum;
+        anchored = subst (IsAnchorPlace size least greatest (proved_within (proved_of a anchor -ℤ (greatest -ℤ high_of anchor)))) (sym more_is) sum;
         moved = moved ∙ ap (λ (z : ℤ). Some z) (omega (arith, ints, more_is));
       }))
 
@@ -190,7 +190,7 @@ module _ {D : Type 0} (places : Places) (size : ℕ) (a : AbsState D) (reaches :
   short_is : (z : ℤ) (r : ℤ) → short_offset z ≡ Some r → z ≡ r
   short_is z r e = (if_some (int_le (negsuc 2147483647) z && int_le z (pos 2147483647)) z r e).1
 
-  made_moved : (m : ℕ) → n ≡ m → (id : ℕ) (low high proved : ℤ) → IsPlace size low high proved (places id) → (made : Anchor) (l : ℤ) → (o : Option ℤ) → moved_offset op w low high k m ≡ o → option_map (known_at (Made id low high proved)) o ≡ Some (Data made l) → IsSum places size a op w (places id +ℤ k) n made l
+  made_moved : (m : ℕ) → n ≡ m → (id : ℕ) (low high proved : ℤ) → IsAnchorPlace size low high proved (places id) → (made : Anchor) (l : ℤ) → (o : Option ℤ) → moved_offset op w low high k m ≡ o → option_map (known_at (Made id low high proved)) o ≡ Some (Data made l) → IsSum places size a op w (places id +ℤ k) n made l
   made_moved m same id low high proved is made l None e f = absurd cc
   made_moved m same id low high proved is made l (Some z) e f =
       let anchor : Anchor = Made id low high proved in

@@ -11,7 +11,7 @@ use Rattle.semantics.specs.Kept.{IsMemory, IsProper, IsTagged}
 use Rattle.semantics.specs.KeptLaws.{in_eleven, step_keeps}
 use Rattle.semantics.specs.LooseRuns.{SameKind}
 use Rattle.semantics.specs.Machine.{Memory, State, Environment}
-use Rattle.semantics.specs.Runs.{Goes, IsPossible, step, write_register}
+use Rattle.semantics.specs.Runs.{Goes, IsPossible, step, registers_with}
 use Rattle.semantics.specs.Slots.{fetch}
 use Rattle.semantics.specs.declared.fetching.Fetched.TheVariants.{Begins}
 use Rattle.semantics.specs.declared.plan.Plan.{Plan}
@@ -23,7 +23,7 @@ pub register_proper : (s : State) (r : Reg) → IsTagged s → IsProper (value_a
 register_proper s r is = is.registers (number_of r) value.Nothing (omega (arith, in_eleven r, is.count))
 
 -- a proper value is written to a register
-pub register_tagged : (s : State) (r : Reg) (v : Value) (slot : ℕ) → IsProper v → IsTagged s → IsTagged (record s { slot = slot; registers = write_register s r v })
+pub register_tagged : (s : State) (r : Reg) (v : Value) (slot : ℕ) → IsProper v → IsTagged s → IsTagged (record s { slot = slot; registers = registers_with s r v })
 register_tagged s r v slot proper is = record {
   count = length-set s.registers (number_of r) v ∙ is.count;
   registers = All-set IsProper s.registers (number_of r) v proper is.registers;
@@ -36,9 +36,9 @@ memory_tagged s m slot plan memory is = record { count = is.count; registers = i
 
 -- a step writes a proper value
 pub written_proper : (w : Environment) (code : List Insn) (s : State) (i : Insn) (r : Reg) (v : Value) (slot : ℕ) → IsPossible w → fetch code s.slot ≡ Begins i → Fits i → IsTagged s
-    → step w code s ≡ Goes (record s { slot = slot; registers = write_register s r v }) → IsProper v
+    → step w code s ≡ Goes (record s { slot = slot; registers = registers_with s r v }) → IsProper v
 written_proper w code s i r v slot real here fit is goes =
-    let next : State = record s { slot = slot; registers = write_register s r v } in
+    let next : State = record s { slot = slot; registers = registers_with s r v } in
     subst IsProper (get_or-set_same s.registers (number_of r) v value.Nothing (omega (arith, in_eleven r, is.count)))
     (register_proper next r (step_keeps w code s next i real here fit is goes))
 

@@ -15,8 +15,9 @@ use Rattle.insn.specs.declared.instruction.Insn.TheVariants as insn
 use Rattle.asm.specs.declared.mnemonic.Mnemonic.{Mnemonic}
 use Rattle.asm.specs.declared.mnemonic.Mnemonic.TheVariants.{Alu, Mov, Neg, SignExtend, Swap, Jump, LongJump, JumpIf, Load, LoadSigned, StoreImm, StoreReg, LoadImm, Call, Exit}
 use Rattle.asm.specs.Lines.{Token}
-use Rattle.asm.specs.Statements.{Name, Written, Plain, AreWritten, spelling_of, IsUnlinked, Statement, Instruction}
-use Rattle.asm.specs.Reading.{Read, ◌>>=◌, end, register, number, integer, operand_in, Target, target, MemoryOperand, address, name_of, only_goal, one, jump, jump_if, store_imm, store_register, exit, instruction}
+use Rattle.asm.specs.Statements.{Name, WrittenArgument, Plain, AreWritten, spelling_of, IsUnlinked, Statement, Instruction}
+use Rattle.fallible.specs.Options.{◌>>=◌}
+use Rattle.asm.specs.Reading.{Parse, end, register_in, number, integer, operand_in, Target, jump_target, MemoryOperand, address, name_of, only_goal, one, jump, jump_if, store_imm, store_register, exit, instruction}
 use Rattle.asm.specs.GrammarLaws.Steps.{bound, onward}
 use Rattle.asm.specs.GrammarLaws.Arguments.{register_reads, number_reads, integer_reads, operand_reads, target_reads, address_reads, SpellsTarget}
 use Rattle.asm.specs.GrammarLaws.Shapes.{last, last_taken, last_given, pair, pair_taken, pair_given, with_comma, comma_taken, comma_given, comma_first, made_last, no_more}
@@ -83,7 +84,7 @@ store_register_of size p src = Instruction (insn.Store size p.base (operand.Reg 
 
 -- of a register and a number
 abbrev load_number_of : Reg → ℕ → Statement
-load_number_of dst n = Instruction (insn.LoadImm dst n) None
+load_number_of dst a = Instruction (insn.LoadImm dst a) None
 
 -- of a number
 abbrev call_of : ℤ → Statement
@@ -98,12 +99,12 @@ abbrev jump_if_of : Width → Condition → Reg → Operand → Target → State
 jump_if_of width c dst o t = Instruction (insn.JumpIf width c dst o t.distance) t.label
 
 -- one register ends the tokens
-one_is : (make : Reg → Insn) (ts : List Token) → one make ts ≡ last register (one_of make) ts
-one_is make ts = made_last (register ts) (one_of make)
+one_is : (make : Reg → Insn) (ts : List Token) → one make ts ≡ last register_in (one_of make) ts
+one_is make ts = made_last (register_in ts) (one_of make)
 
 -- the target of a jump ends the tokens
-jump_is : (make : ℤ → Insn) (ts : List Token) → jump make ts ≡ last target (jump_of make) ts
-jump_is make ts = made_last (target ts) (jump_of make)
+jump_is : (make : ℤ → Insn) (ts : List Token) → jump make ts ≡ last jump_target (jump_of make) ts
+jump_is make ts = made_last (jump_target ts) (jump_of make)
 
 -- a store is an address and a number
 store_imm_is : (size : Size) (ts : List Token) → store_imm size ts ≡ pair address integer (store_imm_of size) ts
@@ -111,8 +112,8 @@ store_imm_is size ts = comma_first (address ts) (λ at. last integer (store_imm_
 
 -- or an address and a register
 store_register_is : (size : Size) (ts : List Token)
-    → store_register size ts ≡ pair address register (store_register_of size) ts
-store_register_is size ts = comma_first (address ts) (λ at. last register (store_register_of size at.value) at.rest)
+    → store_register size ts ≡ pair address register_in (store_register_of size) ts
+store_register_is size ts = comma_first (address ts) (λ at. last register_in (store_register_of size at.value) at.rest)
 
 -- ---- jumps under a condition
 
@@ -136,21 +137,21 @@ jump_if_arguments dst o t = go o t.label
     go (operand.Imm n) (Some name) = refl
 
 -- the target after two commas
-abbrev jump_if_after : Width → Condition → Reg → Read Operand → Option Statement
-jump_if_after width c dst o = only_goal o.rest >>= (λ t. Some (jump_if_of width c dst o.value t))
+abbrev jump_if_after : Width → Condition → Reg → Parse Operand → Option Statement
+jump_if_after width c dst parse = only_goal parse.rest >>= (λ t. Some (jump_if_of width c dst parse.value t))
 
 -- a jump under a condition that is read
 jump_if_taken : (width : Width) (c : Condition) (ts : List Token) (s : Statement) → jump_if width c ts ≡ Some s
     → IsInstructionOf (JumpIf width c) ts s
 jump_if_taken width c ts s e =
-    let dst = bound (with_comma register ts) _ s e in
+    let dst = bound (with_comma register_in ts) _ s e in
     let after = jump_if_after width c dst.0.value in
     let grouped = sym (comma_first (operand_in dst.0.rest) after) ∙ dst.2 in
     let o = bound (with_comma operand_in dst.0.rest) after s grouped in
     let goal = bound (only_goal o.0.rest) _ s o.2 in
-    let first = comma_taken register register_reads ts dst.0 dst.1 in
+    let first = comma_taken register_in register_reads ts dst.0 dst.1 in
     let second = comma_taken operand_in operand_reads dst.0.rest o.0 o.1 in
-    let third = last_taken target target_reads (λ t. t) o.0.rest goal.0 goal.1 in
+    let third = last_taken jump_target target_reads (λ t. t) o.0.rest goal.0 goal.1 in
     let spelled : SpellsTarget goal.0 o.0.rest =
     subst (λ (t : Target). SpellsTarget t o.0.rest) (sym third.2) third.1 in
     let all : JumpIfArguments dst.0.value o.0.value goal.0 ts =
@@ -160,7 +161,7 @@ jump_if_taken width c ts s e =
       goal.0.label,
       sym (same_Some _ s goal.2),
       refl,
-      (spelled.0, subst (λ (ws : List Written). AreWritten ws ts) (sym plain) all),
+      (spelled.0, subst (λ (ws : List WrittenArgument). AreWritten ws ts) (sym plain) all),
     )
 
 -- the arguments of a jump under a condition, read
@@ -170,13 +171,13 @@ jump_if_read : (width : Width) (c : Condition) (dst : Reg) (o : Operand) (t : Ta
 jump_if_read width c dst o t ts (front, after, split, h, (middle, rest, again, k, l)) unlinked =
     let further = jump_if_after width c dst in
     ap (jump_if width c) split
-    ∙ onward (with_comma register (front ++ codes "," ∷ after)) _ (record { value = dst; rest = after }) _
-    (comma_given register register_reads dst front after h)
+    ∙ onward (with_comma register_in (front ++ codes "," ∷ after)) _ (record { value = dst; rest = after }) _
+    (comma_given register_in register_reads dst front after h)
     (comma_first (operand_in after) further
     ∙ ap (λ (us : List Token). with_comma operand_in us >>= further) again
     ∙ onward (with_comma operand_in (middle ++ codes "," ∷ rest)) further (record { value = o; rest = rest }) _
     (comma_given operand_in operand_reads o middle rest k)
-    (onward (only_goal rest) _ t _ (last_given target target_reads (λ x. x) t rest (unlinked, l)) refl))
+    (onward (only_goal rest) _ t _ (last_given jump_target target_reads (λ x. x) t rest (unlinked, l)) refl))
 
 -- a jump under a condition, from its arguments
 jump_if_given : (width : Width) (c : Condition) (dst : Reg) (o : Operand) (t : Target) (ts : List Token)
@@ -184,7 +185,7 @@ jump_if_given : (width : Width) (c : Condition) (dst : Reg) (o : Operand) (t : T
     → jump_if width c ts ≡ Some (jump_if_of width c dst o t)
 jump_if_given width c dst o t ts h =
     let plain = jump_if_arguments dst o t in
-    jump_if_read width c dst o t ts (subst (λ (ws : List Written). AreWritten ws ts) plain h.1) h.0
+    jump_if_read width c dst o t ts (subst (λ (ws : List WrittenArgument). AreWritten ws ts) plain h.1) h.0
 
 -- ---- from the tokens to an instruction
 
@@ -198,41 +199,41 @@ exit_taken ts s e =
 pub instruction_taken : (m : Mnemonic) (ts : List Token) (s : Statement) → instruction m ts ≡ Some s
     → IsInstructionOf m ts s
 instruction_taken (Alu width op) ts s e =
-    let f = pair_taken register operand_in register_reads operand_reads (two_of (insn.Alu width op)) ts s e in
+    let f = pair_taken register_in operand_in register_reads operand_reads (two_of (insn.Alu width op)) ts s e in
     (insn.Alu width op f.0 f.1, None, f.3, refl, (tt, f.2))
 instruction_taken (Mov width) ts s e =
-    let f = pair_taken register operand_in register_reads operand_reads (two_of (insn.Mov width)) ts s e in
+    let f = pair_taken register_in operand_in register_reads operand_reads (two_of (insn.Mov width)) ts s e in
     (insn.Mov width f.0 f.1, None, f.3, refl, (tt, f.2))
 instruction_taken (Neg width) ts s e =
-    let f = last_taken register register_reads _ ts s (sym (one_is (insn.Neg width) ts) ∙ e) in
+    let f = last_taken register_in register_reads _ ts s (sym (one_is (insn.Neg width) ts) ∙ e) in
     (insn.Neg width f.0, None, f.2, refl, (tt, f.1))
 instruction_taken (SignExtend x) ts s e =
-    let f = pair_taken register register register_reads register_reads (two_registers_of (insn.SignExtend x)) ts s e in
+    let f = pair_taken register_in register_in register_reads register_reads (two_registers_of (insn.SignExtend x)) ts s e in
     (insn.SignExtend x f.0 f.1, None, f.3, refl, (tt, f.2))
 instruction_taken (Swap op size) ts s e =
-    let f = last_taken register register_reads _ ts s (sym (one_is (insn.Swap op size) ts) ∙ e) in
+    let f = last_taken register_in register_reads _ ts s (sym (one_is (insn.Swap op size) ts) ∙ e) in
     (insn.Swap op size f.0, None, f.2, refl, (tt, f.1))
 instruction_taken Jump ts s e =
-    let f = last_taken target target_reads _ ts s (sym (jump_is insn.Jump ts) ∙ e) in
+    let f = last_taken jump_target target_reads _ ts s (sym (jump_is insn.Jump ts) ∙ e) in
     (insn.Jump f.0.distance, f.0.label, f.2, refl, f.1)
 instruction_taken LongJump ts s e =
-    let f = last_taken target target_reads _ ts s (sym (jump_is insn.LongJump ts) ∙ e) in
+    let f = last_taken jump_target target_reads _ ts s (sym (jump_is insn.LongJump ts) ∙ e) in
     (insn.LongJump f.0.distance, f.0.label, f.2, refl, f.1)
 instruction_taken (JumpIf width c) ts s e = jump_if_taken width c ts s e
 instruction_taken (Load size) ts s e =
-    let f = pair_taken register address register_reads address_reads (load_of (insn.Load size)) ts s e in
+    let f = pair_taken register_in address register_reads address_reads (load_of (insn.Load size)) ts s e in
     (insn.Load size f.0 f.1.base f.1.displacement, None, f.3, refl, (tt, f.2))
 instruction_taken (LoadSigned size) ts s e =
-    let f = pair_taken register address register_reads address_reads (load_of (insn.LoadSigned size)) ts s e in
+    let f = pair_taken register_in address register_reads address_reads (load_of (insn.LoadSigned size)) ts s e in
     (insn.LoadSigned size f.0 f.1.base f.1.displacement, None, f.3, refl, (tt, f.2))
 instruction_taken (StoreImm size) ts s e =
     let f = pair_taken address integer address_reads integer_reads _ ts s (sym (store_imm_is size ts) ∙ e) in
     (insn.Store size f.0.base (operand.Imm f.1) f.0.displacement, None, f.3, refl, (tt, f.2))
 instruction_taken (StoreReg size) ts s e =
-    let f = pair_taken address register address_reads register_reads _ ts s (sym (store_register_is size ts) ∙ e) in
+    let f = pair_taken address register_in address_reads register_reads _ ts s (sym (store_register_is size ts) ∙ e) in
     (insn.Store size f.0.base (operand.Reg f.1) f.0.displacement, None, f.3, refl, (tt, f.2))
 instruction_taken LoadImm ts s e =
-    let f = pair_taken register number register_reads number_reads load_number_of ts s e in
+    let f = pair_taken register_in number register_reads number_reads load_number_of ts s e in
     (insn.LoadImm f.0 f.1, None, f.3, refl, (tt, f.2))
 instruction_taken Call ts s e =
     let f = last_taken integer integer_reads call_of ts s e in
@@ -253,36 +254,36 @@ target_at distance label = record { distance = distance; label = label }
 pub instruction_given : (i : Insn) (label : Option Name) (ts : List Token) → HasArguments i label ts
     → instruction (mnemonic_of i) ts ≡ Some (Instruction i label)
 instruction_given (insn.Jump distance) label ts h =
-    jump_is insn.Jump ts ∙ last_given target target_reads (jump_of insn.Jump) (target_at distance label) ts h
+    jump_is insn.Jump ts ∙ last_given jump_target target_reads (jump_of insn.Jump) (target_at distance label) ts h
 instruction_given (insn.LongJump distance) label ts h =
-    jump_is insn.LongJump ts ∙ last_given target target_reads (jump_of insn.LongJump) (target_at distance label) ts h
+    jump_is insn.LongJump ts ∙ last_given jump_target target_reads (jump_of insn.LongJump) (target_at distance label) ts h
 instruction_given (insn.JumpIf width c dst o distance) label ts h =
     jump_if_given width c dst o (target_at distance label) ts h
 instruction_given (insn.Alu width op dst o) None ts h =
-    pair_given register operand_in register_reads operand_reads (two_of (insn.Alu width op)) dst o ts h.1
+    pair_given register_in operand_in register_reads operand_reads (two_of (insn.Alu width op)) dst o ts h.1
 instruction_given (insn.Mov width dst o) None ts h =
-    pair_given register operand_in register_reads operand_reads (two_of (insn.Mov width)) dst o ts h.1
+    pair_given register_in operand_in register_reads operand_reads (two_of (insn.Mov width)) dst o ts h.1
 instruction_given (insn.Neg width dst) None ts h =
-    one_is (insn.Neg width) ts ∙ last_given register register_reads (one_of (insn.Neg width)) dst ts h.1
+    one_is (insn.Neg width) ts ∙ last_given register_in register_reads (one_of (insn.Neg width)) dst ts h.1
 instruction_given (insn.SignExtend x dst src) None ts h =
-    pair_given register register register_reads register_reads (two_registers_of (insn.SignExtend x)) dst src ts h.1
+    pair_given register_in register_in register_reads register_reads (two_registers_of (insn.SignExtend x)) dst src ts h.1
 instruction_given (insn.Swap op size dst) None ts h =
-    one_is (insn.Swap op size) ts ∙ last_given register register_reads (one_of (insn.Swap op size)) dst ts h.1
+    one_is (insn.Swap op size) ts ∙ last_given register_in register_reads (one_of (insn.Swap op size)) dst ts h.1
 instruction_given (insn.Load size dst base displacement) None ts h =
     let at = memory_operand base displacement in
-    pair_given register address register_reads address_reads (load_of (insn.Load size)) dst at ts h.1
+    pair_given register_in address register_reads address_reads (load_of (insn.Load size)) dst at ts h.1
 instruction_given (insn.LoadSigned size dst base displacement) None ts h =
     let at = memory_operand base displacement in
-    pair_given register address register_reads address_reads (load_of (insn.LoadSigned size)) dst at ts h.1
+    pair_given register_in address register_reads address_reads (load_of (insn.LoadSigned size)) dst at ts h.1
 instruction_given (insn.Store size base (operand.Imm n) displacement) None ts h =
     let at = memory_operand base displacement in
     store_imm_is size ts ∙ pair_given address integer address_reads integer_reads (store_imm_of size) at n ts h.1
 instruction_given (insn.Store size base (operand.Reg r) displacement) None ts h =
     let at = memory_operand base displacement in
     store_register_is size ts
-    ∙ pair_given address register address_reads register_reads (store_register_of size) at r ts h.1
+    ∙ pair_given address register_in address_reads register_reads (store_register_of size) at r ts h.1
 instruction_given (insn.LoadImm dst value) None ts h =
-    pair_given register number register_reads number_reads load_number_of dst value ts h.1
+    pair_given register_in number register_reads number_reads load_number_of dst value ts h.1
 instruction_given (insn.Call helper) None ts h = last_given integer integer_reads call_of helper ts h.1
 instruction_given insn.Exit None ts h = ap exit h.1
 instruction_given _ (Some name) ts h = absurd h.0

@@ -18,8 +18,8 @@ use Rattle.insn.specs.declared.size.SwapSize.TheVariants as swap
 use Rattle.asm.specs.declared.mnemonic.Mnemonic.{Mnemonic}
 use Rattle.asm.specs.declared.mnemonic.Mnemonic.TheVariants.{Alu, Mov, Neg, SignExtend, Swap, JumpIf, Load, LoadSigned, StoreImm, StoreReg}
 use Rattle.asm.specs.Lines.{Token, IsWord}
-use Rattle.asm.specs.Reading.{name_of, mnemonic_named, among, conversion_mnemonics, control_mnemonics, memory_mnemonics, operators, conditions, operator_named, condition_named, or_else, of_width, by_width}
-use Rattle.asm.specs.GrammarLaws.Steps.{mapped, either, tested_first, found_passes}
+use Rattle.asm.specs.Reading.{name_of, mnemonic_named, mnemonic_among, conversion_mnemonics, control_mnemonics, memory_mnemonics, operators, conditions, operator_named, condition_named, or_else, of_width, by_width}
+use Rattle.asm.specs.GrammarLaws.Steps.{preimage, either, tested_first, found_passes}
 use Rattle.asm.specs.GrammarLaws.Words.{same_text, is_word, word_by_test}
 
 -- ---- from a mnemonic to its name
@@ -63,7 +63,7 @@ named_condition t c e =
     same_text (condition_name c) t (found_passes (λ x. bytes_eq (condition_name x) t) conditions c e)
 
 -- likewise a mnemonic among some
-named_among : (all : List Mnemonic) (t : Token) (m : Mnemonic) → among all t ≡ Some m → name_of m ≡ t
+named_among : (all : List Mnemonic) (t : Token) (m : Mnemonic) → mnemonic_among all t ≡ Some m → name_of m ≡ t
 named_among all t m e = same_text (name_of m) t (found_passes (λ x. bytes_eq (name_of x) t) all m e)
 
 -- a name, and the suffix of its width
@@ -76,10 +76,10 @@ named_operation : (width : Width) (t : Token) (m : Mnemonic)
     → name_of m ≡ with_suffix width t
 named_operation width t m e = elim (either (option_map (Alu width) (operator_named t)) _ m e) [
   | inl alu ↦
-      let found = mapped (Alu width) (operator_named t) m alu in
+      let found = preimage (Alu width) (operator_named t) m alu in
       ap name_of found.2 ∙ ap (with_suffix width) (named_operator t found.0 found.1)
   | inr jump ↦
-      let found = mapped (JumpIf width) (condition_named t) m jump in
+      let found = preimage (JumpIf width) (condition_named t) m jump in
       ap name_of found.2 ∙ ap (with_suffix width) (named_condition t found.0 found.1)
 ]
 
@@ -110,11 +110,11 @@ named_by_width t m e =
 
 -- a word that names a mnemonic is its name
 pub named_mnemonic : (t : Token) (m : Mnemonic) → mnemonic_named t ≡ Some m → name_of m ≡ t
-named_mnemonic t m e = elim (either (among conversion_mnemonics t) _ m e) [
+named_mnemonic t m e = elim (either (mnemonic_among conversion_mnemonics t) _ m e) [
   | inl conversion ↦ named_among conversion_mnemonics t m conversion
-  | inr others ↦ elim (either (among control_mnemonics t) _ m others) [
+  | inr others ↦ elim (either (mnemonic_among control_mnemonics t) _ m others) [
     | inl control ↦ named_among control_mnemonics t m control
-    | inr more ↦ elim (either (among memory_mnemonics t) _ m more) [
+    | inr more ↦ elim (either (mnemonic_among memory_mnemonics t) _ m more) [
       | inl memory ↦ named_among memory_mnemonics t m memory
       | inr operation ↦ named_by_width t m operation
     ]

@@ -3,8 +3,9 @@ use Rattle.std.proofs.Common.{◌≡◌, List, [], ◌∷◌, ◌++◌, Option, 
 use Rattle.std.specs.Prelude.{codes, option_map}
 use Rattle.std.proofs.lemmas.Option.{none-some, same_Some}
 use Rattle.asm.specs.Lines.{Token}
-use Rattle.asm.specs.Reading.{Read, ◌>>=◌, sign, end}
-use Rattle.asm.specs.GrammarLaws.Steps.{bound, onward, grouped}
+use Rattle.fallible.specs.Options.{◌>>=◌}
+use Rattle.asm.specs.Reading.{Parse, sign, end}
+use Rattle.asm.specs.GrammarLaws.Steps.{bound, onward, steps_grouping}
 use Rattle.asm.specs.GrammarLaws.Arguments.{Reader, before, IsReader, sign_taken}
 
 -- ---- definitions
@@ -60,7 +61,7 @@ module _ {X : Type 0} (reader : Reader X) {A : X → List Token → Type 0} (rea
       (ap reader (sym (append-nil ts)) ∙ reads.gives x ts [] h) refl
 
   -- a value and a comma that are read are first
-  pub comma_taken : (ts : List Token) (r : Read X) → with_comma reader ts ≡ Some r
+  pub comma_taken : (ts : List Token) (r : Parse X) → with_comma reader ts ≡ Some r
       → (front : List Token) × (ts ≡ front ++ codes "," ∷ r.rest) × A r.value front
   comma_taken ts r e =
       let read = bound (reader ts) _ r e in
@@ -68,25 +69,25 @@ module _ {X : Type 0} (reader : Reader X) {A : X → List Token → Type 0} (rea
       let found = reads.takes ts read.0 read.1 in
       let split : ts ≡ found.0 ++ codes "," ∷ comma.0 =
       found.1 ∙ ap (λ (us : List Token). found.0 ++ us) (sign_taken (codes ",") read.0.rest comma.0 comma.1) in
-      subst (λ (q : Read X). (front : List Token) × (ts ≡ front ++ codes "," ∷ q.rest) × A q.value front)
+      subst (λ (q : Parse X). (front : List Token) × (ts ≡ front ++ codes "," ∷ q.rest) × A q.value front)
       (same_Some _ r comma.2) (found.0, split, found.2)
 
   -- a value and a comma that are first are read
   pub comma_given : (x : X) (front rest : List Token) → A x front
       → with_comma reader (front ++ codes "," ∷ rest) ≡ before x rest
-  comma_given x front rest h =
+  comma_given x front rest a =
       onward (reader (front ++ codes "," ∷ rest)) _ (record { value = x; rest = codes "," ∷ rest }) _
-      (reads.gives x front (codes "," ∷ rest) h) refl
+      (reads.gives x front (codes "," ∷ rest) a) refl
 
 -- what is made of the last value afterwards
-pub made_last : {X Z : Type 0} (o : Option (Read X)) (made : X → Z)
+pub made_last : {X Z : Type 0} (o : Option (Parse X)) (made : X → Z)
     → option_map made (o >>= (λ x. end x.rest >>= (λ done. Some x.value)))
     ≡ (o >>= (λ x. end x.rest >>= (λ done. Some (made x.value))))
 made_last None made = refl
 made_last (Some x) made = go (end x.rest)
   where
-    go : (o : Option (Unit {0}))
-        → option_map made (o >>= (λ done. Some x.value)) ≡ (o >>= (λ done. Some (made x.value)))
+    go : (option : Option (Unit {0}))
+        → option_map made (option >>= (λ done. Some x.value)) ≡ (option >>= (λ done. Some (made x.value)))
     go None = refl
     go (Some done) = refl
 
@@ -112,8 +113,8 @@ module _ {X Y : Type 0} (first : Reader X) (second : Reader Y) {A : X → List T
       (comma_given first first_reads x front rest h) (last_given second second_reads (made x) y rest k)
 
 -- a value and a comma as a group of their own
-pub comma_first : {X Z : Type 0} (o : Option (Read X)) (f : Read X → Option Z)
+pub comma_first : {X Z : Type 0} (o : Option (Parse X)) (f : Parse X → Option Z)
     → (o >>= (λ x. sign (codes ",") x.rest >>= (λ rest. f (record { value = x.value; rest = rest }))))
     ≡ o >>= (λ x. sign (codes ",") x.rest >>= (λ rest. before x.value rest)) >>= f
 comma_first None f = refl
-comma_first (Some x) f = grouped (sign (codes ",") x.rest) (before x.value) f
+comma_first (Some x) f = steps_grouping (sign (codes ",") x.rest) (before x.value) f

@@ -8,7 +8,7 @@ use Rattle.insn.specs.Spelling.{Register, Integer, Natural, Address, Distance, r
 use Rattle.insn.specs.declared.register.Reg.{Reg}
 use Rattle.insn.specs.declared.instruction.Insn.{Insn}
 use Rattle.asm.specs.Lines.{Token, IsWord, IsSign}
-use Rattle.asm.specs.Statements.{Name, IsNumber, IsSigned, IsInteger, Written, Plain, Label, IsWritten, AreWritten, Statement, Labelled, Instruction, IsInstruction, Says}
+use Rattle.asm.specs.Statements.{Name, IsNumber, IsSigned, IsInteger, WrittenArgument, Plain, Label, IsWritten, AreWritten, Statement, Labelled, Instruction, IsInstruction, Says}
 use Rattle.asm.specs.GrammarLaws.Steps.{each_also, each_append}
 use Rattle.asm.specs.GrammarLaws.Words.{same_text, register_is_word, name_is_word}
 use Rattle.asm.specs.GrammarLaws.Numbers.{number_is_word}
@@ -16,16 +16,16 @@ use Rattle.asm.specs.GrammarLaws.Mnemonics.{mnemonic_is_word}
 use Rattle.asm.specs.GrammarLaws.Instructions.{mnemonic_of, name_of-mnemonic_of}
 
 -- the grammar has this token
-abbrev pub IsProper : Token → Type 0
-IsProper t = IsWord t ⊎ IsSign t
+abbrev pub IsProperToken : Token → Type 0
+IsProperToken t = IsWord t ⊎ IsSign t
 
 -- the grammar has these tokens
 abbrev pub AreProper : List Token → Type 0
-AreProper ts = AllByRecursion IsProper ts
+AreProper ts = AllByRecursion IsProperToken ts
 
 -- a token that may be among arguments
 abbrev IsOfArguments : Token → Type 0
-IsOfArguments t = IsProper t × (bytes_eq t (codes ":") ≡ false)
+IsOfArguments t = IsProperToken t × (bytes_eq t (codes ":") ≡ false)
 
 -- these tokens may be among arguments
 abbrev pub AreOfArguments : List Token → Type 0
@@ -69,8 +69,8 @@ register_token : (r : Reg) → IsOfArguments (register_name r)
 register_token r = word_of_arguments (register_name r) (register_is_word r)
 
 -- the token of a number
-number_tokens : (n : ℕ) (t : Token) → IsNumber n t → IsOfArguments t
-number_tokens n t h = word_of_arguments t (number_is_word n t h)
+number_tokens : (a : ℕ) (t : Token) → IsNumber a t → IsOfArguments t
+number_tokens a t h = word_of_arguments t (number_is_word a t h)
 
 -- the tokens of a signed number
 signed_tokens : (n : ℤ) (ts : List Token) → IsSigned n ts → AreOfArguments ts
@@ -83,7 +83,7 @@ integer_tokens n ts (m, t, h, inl positive) = subst AreOfArguments (sym positive
 integer_tokens n ts (m, t, h, inr negative) = subst AreOfArguments (sym negative.0) (minus, (number_tokens m t h, tt))
 
 -- the tokens of an argument
-written_tokens : (w : Written) (ts : List Token) → IsWritten w ts → AreOfArguments ts
+written_tokens : (w : WrittenArgument) (ts : List Token) → IsWritten w ts → AreOfArguments ts
 written_tokens (Plain (Register r)) ts h = subst AreOfArguments (sym h) (register_token r, tt)
 written_tokens (Plain (Integer n)) ts h = integer_tokens n ts h
 written_tokens (Plain (Natural n)) ts (t, is, h) = subst AreOfArguments (sym is) (number_tokens n t h, tt)
@@ -96,7 +96,7 @@ written_tokens (Label name) ts h =
     subst AreOfArguments (sym h.0) (word_of_arguments name (name_is_word name h.1), tt)
 
 -- the tokens of arguments
-pub arguments_tokens : (ws : List Written) (ts : List Token) → AreWritten ws ts → AreOfArguments ts
+pub arguments_tokens : (ws : List WrittenArgument) (ts : List Token) → AreWritten ws ts → AreOfArguments ts
 arguments_tokens [] ts h = subst AreOfArguments (sym h) tt
 arguments_tokens (w ∷ []) ts h = written_tokens w ts h
 arguments_tokens (w ∷ v ∷ ws) ts (front, rest, split, h, k) =

@@ -8,7 +8,7 @@ use Rattle.insn.specs.declared.instruction.Insn.{Insn}
 use Rattle.asm.specs.Lines.{Token}
 use Rattle.asm.specs.Statements.{Name, spelling_of, Statement, Labelled, Instruction, IsInstruction, Says}
 use Rattle.asm.specs.Reading.{sign, end, name_in, mnemonic_named, instruction, label, statement, label_or, said_by}
-use Rattle.asm.specs.GrammarLaws.Steps.{bound, mapped, onward}
+use Rattle.asm.specs.GrammarLaws.Steps.{bound, preimage, onward}
 use Rattle.asm.specs.GrammarLaws.Words.{named_name, name_is_named}
 use Rattle.asm.specs.GrammarLaws.Mnemonics.{named_mnemonic, mnemonic_is_named}
 use Rattle.asm.specs.GrammarLaws.Arguments.{sign_taken}
@@ -47,12 +47,12 @@ label_or_taken t ts (Some rest) s colon e = label_taken t ts rest s (sign_taken 
 label_or_taken t ts None s colon e = statement_taken t ts s e
 
 -- what the reader reads from tokens, they say
-pub read_is_said : (ts : List Token) (s : Option Statement) → said_by ts ≡ Some s → Says s ts
-read_is_said [] s e = subst (λ (x : Option Statement). Says x []) (same_Some None s e) refl
-read_is_said (t ∷ ts) s e =
-    let found = mapped Some (label_or (sign (codes ":") ts) t ts) s e in
+pub read_is_said : (ts : List Token) (option : Option Statement) → said_by ts ≡ Some option → Says option ts
+read_is_said [] option e = subst (λ (a : Option Statement). Says a []) (same_Some None option e) refl
+read_is_said (t ∷ ts) a e =
+    let found = preimage Some (label_or (sign (codes ":") ts) t ts) a e in
     let says = label_or_taken t ts (sign (codes ":") ts) found.0 refl found.1 in
-    subst (λ (x : Option Statement). Says x (t ∷ ts)) (sym found.2) says
+    subst (λ (option : Option Statement). Says option (t ∷ ts)) (sym found.2) says
 
 -- ---- from what tokens say to the reader
 
@@ -70,7 +70,7 @@ statement_given i target ts h =
     (instruction_given i target h.rest (h.unlinked, h.written))
 
 -- what tokens say, the reader reads from them
-pub said_is_read : (s : Option Statement) (ts : List Token) → Says s ts → said_by ts ≡ Some s
+pub said_is_read : (a : Option Statement) (ts : List Token) → Says a ts → said_by ts ≡ Some a
 said_is_read None ts h = ap said_by h
 said_is_read (Some (Labelled name)) ts h =
     ap said_by h.0 ∙ ap (option_map Some) (onward (name_in name) _ name _ (name_is_named name h.1) refl)

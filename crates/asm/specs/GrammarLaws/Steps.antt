@@ -4,7 +4,8 @@ use Rattle.std.specs.Prelude.{find, option_map, if◌then◌else◌}
 use Rattle.std.specs.List.{list_all, AllByRecursion}
 use Rattle.std.proofs.lemmas.Bool.{cases_Bool, cond-true, cond-false, and_parts, and_from}
 use Rattle.std.proofs.lemmas.Option.{none-some, same_Some}
-use Rattle.asm.specs.Reading.{◌>>=◌, or_else}
+use Rattle.fallible.specs.Options.{◌>>=◌}
+use Rattle.asm.specs.Reading.{or_else}
 
 -- ---- steps
 
@@ -15,21 +16,21 @@ bound None f y e = absurd (none-some y e)
 bound (Some x) f y e = (x, refl, e)
 
 -- a step that gives a value, and the next one
-pub onward : {A B : Type 0} (o : Option A) (f : A → Option B) (x : A) (p : Option B) → o ≡ Some x → f x ≡ p
-    → o >>= f ≡ p
-onward o f x p e next = ap (λ (q : Option _). q >>= f) e ∙ next
+pub onward : {A B : Type 0} (o : Option A) (f : A → Option B) (x : A) (option : Option B) → o ≡ Some x → f x ≡ option
+    → o >>= f ≡ option
+onward o f x option e next = ap (λ (q : Option _). q >>= f) e ∙ next
 
 -- two steps as a group of their own
-pub grouped : {A B C : Type 0} (o : Option A) (f : A → Option B) (g : B → Option C)
+pub steps_grouping : {A B C : Type 0} (o : Option A) (f : A → Option B) (g : B → Option C)
     → (o >>= (λ x. f x >>= g)) ≡ o >>= f >>= g
-grouped None f g = refl
-grouped (Some x) f g = refl
+steps_grouping None f g = refl
+steps_grouping (Some x) f g = refl
 
 -- a value that a function gives, and its argument
-pub mapped : {A B : Type 0} (f : A → B) (o : Option A) (y : B) → option_map f o ≡ Some y
-    → (x : A) × (o ≡ Some x) × (y ≡ f x)
-mapped f None y e = absurd (none-some y e)
-mapped f (Some x) y e = (x, refl, sym (same_Some (f x) y e))
+pub preimage : {A B : Type 0} (a : A → B) (o : Option A) (y : B) → option_map a o ≡ Some y
+    → (x : A) × (o ≡ Some x) × (y ≡ a x)
+preimage a None y e = absurd (none-some y e)
+preimage a (Some x) y e = (x, refl, sym (same_Some (a x) y e))
 
 -- one of two gives the value
 pub either : {A : Type 0} (o p : Option A) (x : A) → or_else o p ≡ Some x → (o ≡ Some x) ⊎ (p ≡ Some x)
@@ -76,8 +77,8 @@ all_pass test (x ∷ xs) h = and_from (test x) (list_all test xs) h.0 (all_pass 
 -- a fact on each element, and another that follows from it
 pub each_also : {A : Type 0} {P Q : A → Type 0} → ((x : A) → P x → Q x) → (xs : List A) → AllByRecursion P xs
     → AllByRecursion Q xs
-each_also f [] h = tt
-each_also f (x ∷ xs) h = (f x h.0, each_also f xs h.1)
+each_also e [] h = tt
+each_also e (x ∷ xs) h = (e x h.0, each_also e xs h.1)
 
 -- a fact on each element of two lists, one after the other
 pub each_append : {A : Type 0} (P : A → Type 0) (xs ys : List A) → AllByRecursion P xs → AllByRecursion P ys

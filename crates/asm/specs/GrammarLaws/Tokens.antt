@@ -73,9 +73,9 @@ word_on front (c ∷ word) rest h =
 
 -- a word that ends is a token, if it has a character
 word_ended : (word line : List ℕ) → EndsWord line → following_tokens word line ≡ with_word word (tokens_of line)
-word_ended word [] h = refl
-word_ended word (c ∷ rest) h =
-    cond-false (is_in_words c) _ _ h ∙ ap (with_word word) (sym (cond-false (is_in_words c) _ _ h))
+word_ended word [] k = refl
+word_ended word (c ∷ rest) k =
+    cond-false (is_in_words c) _ _ k ∙ ap (with_word word) (sym (cond-false (is_in_words c) _ _ k))
 
 -- as a word has
 ended_word : (t : Token) (ts : List Token) → t ≢ [] → with_word t ts ≡ t ∷ ts

@@ -11,17 +11,17 @@ use Rattle.asm.specs.Reading.{tokens_of}
 use Rattle.asm.specs.GrammarLaws.Steps.{each_append}
 use Rattle.asm.specs.GrammarLaws.Words.{register_is_word}
 use Rattle.asm.specs.GrammarLaws.Tokens.{EndsWord, word_read}
-use Rattle.asm.specs.ListingLaws.Words.{HasNoFeed, word_has_no_feed, IsShort, decimal_is_number, decimal_is_word, positive_size, negative_size}
+use Rattle.asm.specs.ListingLaws.Words.{HasNoFeed, word_has_no_feed, IsShortNumber, decimal_is_number, decimal_is_word, positive_size, negative_size}
 
 -- ---- definitions
 
 -- the numbers of an argument have at most 64 bits
 abbrev pub IsSmall : Argument → Type 0
 IsSmall (Register r) = Unit {0}
-IsSmall (Integer n) = IsShort n
+IsSmall (Integer n) = IsShortNumber n
 IsSmall (Natural n) = n < 2 ^ 64
-IsSmall (Address base displacement) = IsShort displacement
-IsSmall (Distance n) = IsShort n
+IsSmall (Address base displacement) = IsShortNumber displacement
+IsSmall (Distance n) = IsShortNumber n
 
 -- a text has these tokens, where no word goes on after it
 abbrev Gives : List ℕ → List Token → Type 0
@@ -57,7 +57,7 @@ minus_gives : (n : ℕ) → n < 2 ^ 64 → Gives (codes "-" ++ decimal n) (codes
 minus_gives n h = λ line e. ap (λ (ts : List Token). codes "-" ∷ ts) (number_gives n h line e)
 
 -- the tokens of an integer
-integer_given : (n : ℤ) → IsShort n → SpelledBy (IsInteger n) (signed_decimal n)
+integer_given : (b : ℤ) → IsShortNumber b → SpelledBy (IsInteger b) (signed_decimal b)
 integer_given (pos n) h =
     let small = positive_size n h in
     (decimal n ∷ [], number_gives n small, (n, decimal n, decimal_is_number n small, inl (refl, refl)))
@@ -68,7 +68,7 @@ integer_given (negsuc n) h =
     (codes "-" ∷ t ∷ [], minus_gives (suc n) small, (suc n, t, number, inr (refl, refl)))
 
 -- the tokens of a number with its sign
-signed_given : (n : ℤ) → IsShort n → SpelledBy (IsSigned n) (with_sign n)
+signed_given : (b : ℤ) → IsShortNumber b → SpelledBy (IsSigned b) (with_sign b)
 signed_given (pos n) h =
     let small = positive_size n h in
     let t : Token = decimal n in
@@ -80,12 +80,12 @@ signed_given (negsuc n) h =
     (codes "-" ∷ t ∷ [], minus_gives (suc n) small, (suc n, t, number, inr (refl, refl)))
 
 -- a word ends before a sign
-ends_at_sign : (n : ℤ) (more : List ℕ) → EndsWord (with_sign n ++ more)
+ends_at_sign : (b : ℤ) (more : List ℕ) → EndsWord (with_sign b ++ more)
 ends_at_sign (pos n) more = refl
 ends_at_sign (negsuc n) more = refl
 
 -- the tokens of an address
-address_given : (base : Reg) (displacement : ℤ) → IsShort displacement
+address_given : (base : Reg) (displacement : ℤ) → IsShortNumber displacement
     → SpelledBy (IsWritten (Plain (Address base displacement))) (argument_text (Address base displacement))
 address_given base displacement h =
     let name : List ℕ = register_name base in
@@ -168,12 +168,12 @@ decimal_has_no_feed : (n : ℕ) → n < 2 ^ 64 → HasNoFeed (decimal n)
 decimal_has_no_feed n h = word_has_no_feed (decimal n) (decimal_is_word n h)
 
 -- nor has an integer
-integer_has_no_feed : (n : ℤ) → IsShort n → HasNoFeed (signed_decimal n)
+integer_has_no_feed : (b : ℤ) → IsShortNumber b → HasNoFeed (signed_decimal b)
 integer_has_no_feed (pos n) h = decimal_has_no_feed n (positive_size n h)
 integer_has_no_feed (negsuc n) h = (refl, decimal_has_no_feed (suc n) (negative_size n h))
 
 -- nor a number with its sign
-signed_has_no_feed : (n : ℤ) → IsShort n → HasNoFeed (with_sign n)
+signed_has_no_feed : (b : ℤ) → IsShortNumber b → HasNoFeed (with_sign b)
 signed_has_no_feed (pos n) h = (refl, decimal_has_no_feed n (positive_size n h))
 signed_has_no_feed (negsuc n) h = (refl, decimal_has_no_feed (suc n) (negative_size n h))
 

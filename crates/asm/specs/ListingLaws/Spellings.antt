@@ -24,8 +24,8 @@ use Rattle.asm.specs.ListingLaws.Arguments.{IsSmall, arguments_written, ends_at_
 
 -- an operand that fits is small
 operand_is_small : (o : Operand) → OperandFits o → IsSmall (argument_of o)
-operand_is_small (operand.Reg r) h = tt
-operand_is_small (operand.Imm n) h = imm_is_short n h
+operand_is_small (operand.Reg r) a = tt
+operand_is_small (operand.Imm n) a = imm_is_short n a
 
 -- and so is each argument of an instruction that fits
 arguments_are_small : (i : Insn) → Fits i → AllByRecursion IsSmall (arguments i)

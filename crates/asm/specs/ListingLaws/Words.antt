@@ -28,15 +28,15 @@ word_has_no_feed t h = each_also no_feed t h.1
 -- ---- numbers
 
 -- a number of at most 64 bits with its sign
-abbrev pub IsShort : ℤ → Type 0
-IsShort z = mag z < 2 ^ 63
+abbrev pub IsShortNumber : ℤ → Type 0
+IsShortNumber z = mag z < 2 ^ 63
 
 -- an offset is one
-pub offset_is_short : (z : ℤ) → FitsSigned w16 z → IsShort z
+pub offset_is_short : (z : ℤ) → FitsSigned w16 z → IsShortNumber z
 offset_is_short z h = omega (arith, h.sfits)
 
 -- and so is an imm
-pub imm_is_short : (z : ℤ) → FitsSigned w32 z → IsShort z
+pub imm_is_short : (z : ℤ) → FitsSigned w32 z → IsShortNumber z
 imm_is_short z h = omega (arith, h.sfits)
 
 -- the digits of a number of 64 bits spell it
@@ -48,9 +48,9 @@ pub decimal_is_word : (n : ℕ) → n < 2 ^ 64 → IsWord (decimal n)
 decimal_is_word n h = number_is_word n (decimal n) (decimal_is_number n h)
 
 -- the size of a positive number
-pub positive_size : (n : ℕ) → IsShort (pos n) → n < 2 ^ 64
+pub positive_size : (n : ℕ) → IsShortNumber (pos n) → n < 2 ^ 64
 positive_size n h = omega (arith, h)
 
 -- the size of a negative number
-pub negative_size : (n : ℕ) → IsShort (negsuc n) → suc n < 2 ^ 64
+pub negative_size : (n : ℕ) → IsShortNumber (negsuc n) → suc n < 2 ^ 64
 negative_size n h = omega (arith, h)

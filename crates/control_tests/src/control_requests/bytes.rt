@@ -63,17 +63,18 @@ fn check_bare(rt: &impl Abort, alloc: Global, config: &Config) -> Result<(), Fai
         (&STRANGE_BINDING, &BINDING_ERROR),
         (&INDICATION, &[]),
     ];
-    for (request, reply) in rows {
+    for (row, (request, reply)) in rows.into_iter().enumerate() {
         let mut out = [0; 1500];
         assert!(rt; config.fault().is_none());
         assert_eq!(rt; tables.slots(), config.slots);
         let message = read(request)?;
         let n = respond(&mut tables, config, 1000, CLIENT, &message, &mut out);
-        assert_eq!(rt; n, reply.len());
-        assert!(rt; out.starts_with(reply));
+        assert_eq!(rt; n, reply.len(), "row {row}");
+        assert!(rt; out.starts_with(reply), "row {row}");
         assert_eq!(rt;
             all_understood(&message),
-            request != STRANGE_BINDING.as_slice()
+            request != STRANGE_BINDING.as_slice(),
+            "row {row}"
         );
     }
     Ok(())
@@ -151,11 +152,11 @@ fn check_signed(rt: &impl Abort, alloc: Global, config: &Config) -> Result<(), F
         (stale, &STALE),
         (FIRST, &ALLOCATED),
     ];
-    for (request, reply) in rows {
+    for (row, (request, reply)) in rows.into_iter().enumerate() {
         let mut out = [0; 1500];
         let n = answer(rt, &mut tables, config, &request, &mut out)?;
-        assert_eq!(rt; n, reply.len());
-        assert!(rt; out.starts_with(reply));
+        assert_eq!(rt; n, reply.len(), "row {row}");
+        assert!(rt; out.starts_with(reply), "row {row}");
     }
     Ok(())
 }

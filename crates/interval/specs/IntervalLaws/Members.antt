@@ -8,7 +8,7 @@ use Rattle.insn.specs.Words.{modulus, cut}
 use Rattle.insn.specs.declared.width.Width.{Width}
 use Rattle.insn.specs.declared.width.Width.TheVariants.{W32, W64}
 use Rattle.interval.specs.declared.domain.Bounds.{Bounds}
-use Rattle.interval.specs.Intervals.{IsMember, from_to, all, operand_bounds, is_single}
+use Rattle.interval.specs.Intervals.{LiesBetween, from_to, all, operand_bounds, is_single}
 
 -- a member of an interval whose ends are below M
 pub record IsWithin (M : ℕ) (x : Bounds) (n : ℕ) : Type 0 where
@@ -22,7 +22,7 @@ pub record LiesInWords (x : Bounds) (n : ℕ) : Type 0 where
   pub above : x.lo ≤ n
   pub below : n ≤ x.hi
 
-pub is_member : (x : Bounds) (n : ℕ) → LiesInWords x n → IsMember x n
+pub is_member : (x : Bounds) (n : ℕ) → LiesInWords x n → LiesBetween x n
 is_member x n h = record { word = omega (arith, h.word, h.below); above = h.above; below = h.below }
 
 pub modulus_fits : (w : Width) → modulus w ≤ 2 ^ 64
@@ -64,11 +64,11 @@ pub cut_any : (w : Width) (n : ℕ) → LiesInWords (all w) (cut w n)
 cut_any w n = between 0 (modulus w - 1) (cut w n) (omega (arith, modulus_fits w, modulus_positive w)) (omega arith) (omega (arith, cut_below w n))
 
 -- where a choice is one of two intervals
-pub chosen : (b : Bool) (x y : Bounds) (n : ℕ) → (b ≡ true → LiesInWords x n) → (b ≡ false → LiesInWords y n) → LiesInWords (if b then x else y) n
-chosen b x y n p q = cond_both b x y (λ z. LiesInWords z n) p q
+pub either_interval : (b : Bool) (x y : Bounds) (n : ℕ) → (b ≡ true → LiesInWords x n) → (b ≡ false → LiesInWords y n) → LiesInWords (if b then x else y) n
+either_interval b x y n p q = cond_both b x y (λ z. LiesInWords z n) p q
 
 -- an operand that is narrowed to a width
-pub narrowed_within : (w : Width) (x : Bounds) (n : ℕ) → IsMember x n → IsWithin (modulus w) (operand_bounds w x) (cut w n)
+pub narrowed_within : (w : Width) (x : Bounds) (n : ℕ) → LiesBetween x n → IsWithin (modulus w) (operand_bounds w x) (cut w n)
 narrowed_within w x n h =
     cond_both (nat_lt x.hi (modulus w)) x (all w) (λ z. IsWithin (modulus w) z (cut w n))
     (λ e.
@@ -81,5 +81,5 @@ narrowed_within w x n h =
 pub the_member : (x : Bounds) (n M : ℕ) → is_single x ≡ true → IsWithin M x n → x.lo ≡ n
 the_member x n M e h = let same = eqb-true x.lo x.hi e in omega (arith, h.above, h.below)
 
-pub only_member : (x : Bounds) (n : ℕ) → is_single x ≡ true → IsMember x n → x.lo ≡ n
+pub only_member : (x : Bounds) (n : ℕ) → is_single x ≡ true → LiesBetween x n → x.lo ≡ n
 only_member x n e h = let same = eqb-true x.lo x.hi e in omega (arith, h.above, h.below)

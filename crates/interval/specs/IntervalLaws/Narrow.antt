@@ -39,31 +39,31 @@ power_fits n m k le lt =
     (λ e. pow-le-pow_right base (leb-true m k e))
     (λ e. let more : suc k ≤ m = leb-false m k e in absurd (omega (arith, le, lt, pow-le-pow_right base more, pow-succ' 2 k)))
 
-module _ (w : Width) (x y : Bounds) (a : AreWords w x) (b : AreWords w y) where
+module _ (w : Width) (x y : Bounds) (a : AreWords w x) (h : AreWords w y) where
   within_left : (m : ℕ) → x.lo ≤ m → m ≤ x.hi → IsWithin (modulus w) x m
   within_left m p q = record { small = a.words; above = p; below = q }
 
   within_right : (n : ℕ) → y.lo ≤ n → n ≤ y.hi → IsWithin (modulus w) y n
-  within_right n p q = record { small = b.words; above = p; below = q }
+  within_right n p q = record { small = h.words; above = p; below = q }
 
   -- two members, and what the operator gives for them
   reaches : (op : AluOp) (m n k : ℕ) → x.lo ≤ m → m ≤ x.hi → y.lo ≤ n → n ≤ y.hi → cut w (whole op w m n) ≡ k → IsResult op w x y k
   reaches op m n k p q r s e =
       let fits = modulus_fits w in
       let left : cut w m ≡ m = cut_small w m (omega (arith, a.words)) in
-      let right : cut w n ≡ n = cut_small w n (omega (arith, b.words)) in
+      let right : cut w n ≡ n = cut_small w n (omega (arith, h.words)) in
       record {
         m = m;
         n = n;
         of_left = record { word = omega (arith, a.words); above = p; below = q };
-        of_right = record { word = omega (arith, b.words); above = r; below = s };
+        of_right = record { word = omega (arith, h.words); above = r; below = s };
         gives = (λ i. cut w (whole op w (left i) (right i))) ∙ e;
       }
 
   row_add : x.hi + y.hi < modulus w → AreResults Add w x y (result_bounds Add w x y)
   row_add lt =
       let p = a.order in
-      let q = b.order in
+      let q = h.order in
       taken (nat_lt (x.hi + y.hi) (modulus w)) (from_to (x.lo + y.lo) (x.hi + y.hi)) (all w) (AreResults Add w x y) (lt-ltb (x.hi + y.hi) (modulus w) lt)
       (record {
         lo = reaches Add x.lo y.lo (x.lo + y.lo) (omega arith) p (omega arith) q (cut_small w (x.lo + y.lo) (omega arith));
@@ -73,14 +73,14 @@ module _ (w : Width) (x y : Bounds) (a : AreWords w x) (b : AreWords w y) where
   difference : (m n : ℕ) → m ≤ x.hi → n ≤ m → n ≤ y.hi → cut w (whole Sub w m n) ≡ m - n
   difference m n p q r =
       let left = a.words in
-      let right = b.words in
+      let right = h.words in
       let same : m + (modulus w - n) ≡ modulus w + (m - n) = omega arith in
       ap (cut w) same ∙ add-mod_left (modulus w) (m - n) ∙ cut_small w (m - n) (omega arith)
 
   row_sub : y.hi ≤ x.lo → AreResults Sub w x y (result_bounds Sub w x y)
   row_sub le =
       let p = a.order in
-      let q = b.order in
+      let q = h.order in
       taken (nat_le y.hi x.lo) (from_to (x.lo - y.hi) (x.hi - y.lo)) (all w) (AreResults Sub w x y) (le-leb y.hi x.lo le)
       (record {
         lo = reaches Sub x.lo y.hi (x.lo - y.hi) (omega arith) p q (omega arith) (difference x.lo y.hi p le (omega arith));
@@ -90,7 +90,7 @@ module _ (w : Width) (x y : Bounds) (a : AreWords w x) (b : AreWords w y) where
   row_mul : x.hi * y.hi < modulus w → AreResults Mul w x y (result_bounds Mul w x y)
   row_mul lt =
       let p = a.order in
-      let q = b.order in
+      let q = h.order in
       taken (nat_lt (x.hi * y.hi) (modulus w)) (from_to (x.lo * y.lo) (x.hi * y.hi)) (all w) (AreResults Mul w x y) (lt-ltb (x.hi * y.hi) (modulus w) lt)
       (record {
         lo = reaches Mul x.lo y.lo (x.lo * y.lo) (omega arith) p (omega arith) q (cut_small w (x.lo * y.lo) (omega (arith, lt, mul-le x.lo y.lo x.hi y.hi p q)));
@@ -108,7 +108,7 @@ module _ (w : Width) (x y : Bounds) (a : AreWords w x) (b : AreWords w y) where
   quotients : (op : AluOp) → 0 < y.lo → ((m n : ℕ) → x.lo ≤ m → m ≤ x.hi → y.lo ≤ n → n ≤ y.hi → whole op w m n ≡ whole Div w m n) → AreResults op w x y (quotient_bounds x y)
   quotients op lt same =
       let p = a.order in
-      let q = b.order in
+      let q = h.order in
       taken (nat_lt 0 y.lo) (from_to (x.lo / y.hi) (x.hi / y.lo)) (from_to 0 x.hi) (AreResults op w x y) (lt-ltb 0 y.lo lt)
       (record {
         lo = reaches op x.lo y.hi (x.lo / y.hi) (omega arith) p q (omega arith) (ap (cut w) (same x.lo y.hi (omega arith) p q (omega arith)) ∙ quotient x.lo y.hi p (omega arith));
@@ -124,7 +124,7 @@ module _ (w : Width) (x y : Bounds) (a : AreWords w x) (b : AreWords w y) where
   row_lsh : y.lo ≡ y.hi → x.hi * 2 ^ (y.lo % bit_count w) < modulus w → AreResults Lsh w x y (result_bounds Lsh w x y)
   row_lsh e lt =
       let p = a.order in
-      let q = b.order in
+      let q = h.order in
       let power = 2 ^ (y.lo % bit_count w) in
       taken (is_single y && nat_lt (x.hi * power) (modulus w)) (from_to (x.lo * power) (x.hi * power)) (all w) (AreResults Lsh w x y)
       (and_from (is_single y) (nat_lt (x.hi * power) (modulus w)) (eq-eqb y.lo y.hi e) (lt-ltb (x.hi * power) (modulus w) lt))
@@ -137,7 +137,7 @@ module _ (w : Width) (x y : Bounds) (a : AreWords w x) (b : AreWords w y) where
   shifts : (op : AluOp) → y.lo ≡ y.hi → ((m n : ℕ) → x.lo ≤ m → m ≤ x.hi → y.lo ≤ n → n ≤ y.hi → whole op w m n ≡ m / 2 ^ (n % bit_count w)) → AreResults op w x y (shifted_right w x y)
   shifts op e same =
       let p = a.order in
-      let q = b.order in
+      let q = h.order in
       let word = a.words in
       let power = 2 ^ (y.lo % bit_count w) in
       taken (is_single y) (from_to (x.lo / power) (x.hi / power)) (from_to 0 x.hi) (AreResults op w x y) (eq-eqb y.lo y.hi e)
@@ -168,7 +168,7 @@ module _ (w : Width) (x y : Bounds) (a : AreWords w x) (b : AreWords w y) where
   ranged_ends Arsh exact = row_arsh exact.0 exact.1
 
   narrowed_are : (op : AluOp) → result_bounds op w (operand_bounds w x) (operand_bounds w y) ≡ result_bounds op w x y
-  narrowed_are op i = result_bounds op w (narrowed_same w x a i) (narrowed_same w y b i)
+  narrowed_are op i = result_bounds op w (narrowed_same w x a i) (narrowed_same w y h i)
 
   -- where the table is exact, both ends are results of members
   pub ends_are_results : (op : AluOp) → IsExact op w x y → AreResults op w x y (interval_alu op w x y)
@@ -179,7 +179,7 @@ module _ (w : Width) (x y : Bounds) (a : AreWords w x) (b : AreWords w y) where
         m = x.lo;
         n = y.lo;
         of_left = record { word = omega (arith, a.words, a.order, modulus_fits w); above = omega arith; below = a.order };
-        of_right = record { word = omega (arith, b.words, b.order, modulus_fits w); above = omega arith; below = b.order };
+        of_right = record { word = omega (arith, h.words, h.order, modulus_fits w); above = omega arith; below = h.order };
         gives = refl;
       } in
       record { lo = result; hi = result })
@@ -200,7 +200,7 @@ module _ (w : Width) (x y : Bounds) (a : AreWords w x) (b : AreWords w y) where
   remainder_end : IsRemainder x y (remainder x y).hi
   remainder_end =
       chosen_end (nat_lt 0 y.lo) (from_to 0 (min x.hi (y.hi - 1))) (from_to 0 x.hi) (IsRemainder x y)
-      (λ e. record { dividend = omega arith; divisor = λ lt. omega (arith, b.order) })
+      (λ e. record { dividend = omega arith; divisor = λ lt. omega (arith, h.order) })
       (λ e. record { dividend = omega arith; divisor = λ lt. absurd (omega (arith, lt, ltb-false 0 y.lo e)) })
 
   shifted_end : (shifted_right w x y).hi ≤ x.hi
@@ -212,7 +212,7 @@ module _ (w : Width) (x y : Bounds) (a : AreWords w x) (b : AreWords w y) where
   unfolding ones
   ones_end k p q =
       let top = max x.hi y.hi in
-      let fits : top < 2 ^ 64 = omega (arith, a.words, b.words, modulus_fits w) in
+      let fits : top < 2 ^ 64 = omega (arith, a.words, h.words, modulus_fits w) in
       let found = leading_length 64 top fits in
       let bits = 64 - leading_zeros w64 top in
       let same : found.0 ≡ bits = omega (arith, found.1) in
@@ -255,17 +255,17 @@ smaller Arsh w x y j k le h = λ p. omega (arith, le, h p)
 
 -- the upper end is at most what the table says
 pub end_is_upper : (op : AluOp) (w : Width) (x y : Bounds) → AreWords w x → AreWords w y → IsUpper op w x y (interval_alu op w x y).hi
-end_is_upper op w x y a b =
+end_is_upper op w x y a p =
     cond_both (is_single x && is_single y) (single (alu op w x.lo y.lo)) (result_bounds op w (operand_bounds w x) (operand_bounds w y)) (λ z. IsUpper op w x y z.hi)
     (λ e.
     let left : IsWithin (modulus w) x x.lo = record { small = a.words; above = omega arith; below = a.order } in
-    let right : IsWithin (modulus w) y y.lo = record { small = b.words; above = omega arith; below = b.order } in
+    let right : IsWithin (modulus w) y y.lo = record { small = p.words; above = omega arith; below = p.order } in
     let first : cut w x.lo ≡ x.lo = cut_small w x.lo (omega (arith, a.words, a.order)) in
-    let second : cut w y.lo ≡ y.lo = cut_small w y.lo (omega (arith, b.words, b.order)) in
+    let second : cut w y.lo ≡ y.lo = cut_small w y.lo (omega (arith, p.words, p.order)) in
     let is : alu op w x.lo y.lo ≡ cut w (whole op w x.lo y.lo) = λ i. cut w (whole op w (first i) (second i)) in
     let lies = row w x y x.lo y.lo left right op in
-    smaller op w x y (alu op w x.lo y.lo) (result_bounds op w x y).hi (omega (arith, is, lies.below)) (ranged_upper w x y a b op))
-    (λ e. subst (λ (z : Bounds). IsUpper op w x y z.hi) (sym (narrowed_are w x y a b op)) (ranged_upper w x y a b op))
+    smaller op w x y (alu op w x.lo y.lo) (result_bounds op w x y).hi (omega (arith, is, lies.below)) (ranged_upper w x y a p op))
+    (λ e. subst (λ (z : Bounds). IsUpper op w x y z.hi) (sym (narrowed_are w x y a p op)) (ranged_upper w x y a p op))
 
 -- ---- operators with one operand
 

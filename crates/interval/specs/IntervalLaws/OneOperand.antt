@@ -20,8 +20,8 @@ use Rattle.insn.specs.declared.operator.Extension.{Extension}
 use Rattle.insn.specs.declared.operator.Extension.TheVariants.{ByteTo32, HalfTo32, ByteTo64, HalfTo64, WordTo64}
 use Rattle.insn.specs.declared.operator.SwapOp.TheVariants.{ToLittle, ToBig, Reverse}
 use Rattle.interval.specs.declared.domain.Bounds.{Bounds}
-use Rattle.interval.specs.Intervals.{IsMember, from_to, single, all, operand_bounds, is_single, low, ranged_unary, operand_width, interval_unary}
-use Rattle.interval.specs.IntervalLaws.Members.{IsWithin, LiesInWords, modulus_fits, number_small, cut_small, cut_below, cut_cut, between, cut_any, chosen, narrowed_within, only_member}
+use Rattle.interval.specs.Intervals.{LiesBetween, from_to, single, all, operand_bounds, is_single, low, ranged_unary, operand_width, interval_unary}
+use Rattle.interval.specs.IntervalLaws.Members.{IsWithin, LiesInWords, modulus_fits, number_small, cut_small, cut_below, cut_cut, between, cut_any, either_interval, narrowed_within, only_member}
 
 -- ---- byte swaps
 
@@ -43,7 +43,7 @@ row_reversed z n = between 0 (2 ^ bits (swap_width z) - 1) (swap_bytes (swap_wid
 
 row_low : (z : SwapSize) (x : Bounds) (n : ℕ) → IsWithin (2 ^ 64) x n → LiesInWords (low (bits (swap_width z)) x) (n % 2 ^ bits (swap_width z))
 row_low z x n a =
-    chosen (nat_lt x.hi (2 ^ bits (swap_width z))) x (from_to 0 (2 ^ bits (swap_width z) - 1)) (n % 2 ^ bits (swap_width z))
+    either_interval (nat_lt x.hi (2 ^ bits (swap_width z))) x (from_to 0 (2 ^ bits (swap_width z) - 1)) (n % 2 ^ bits (swap_width z))
     (λ e.
     let lt = ltb-true x.hi (2 ^ bits (swap_width z)) e in
     let small : n < 2 ^ bits (swap_width z) = omega (arith, a.below, lt) in
@@ -54,7 +54,7 @@ row_low z x n a =
 -- ---- sign extensions
 
 -- a number with the sign of its size clear is extended to itself
-pub extended_is : (z : SignedSize) (n : ℕ) → n < 2 ^ bits (signed_width z) / 2 → sign_extended z n ≡ n
+pub extended_is : (s : SignedSize) (n : ℕ) → n < 2 ^ bits (signed_width s) / 2 → sign_extended s n ≡ n
 extended_is signed.Byte n lt =
     let same : n % 2 ^ 8 ≡ n = omega arith in
     ap (cast_unsigned w64) (to_z_pos w8 (n % 2 ^ 8) (omega arith)) ∙ same
@@ -90,7 +90,7 @@ cut_extended WordTo64 n = ap (λ (k : ℕ). cut W64 (cast_unsigned w64 (cast_sig
 
 row_extended : (e : Extension) (x : Bounds) (n : ℕ) → IsWithin (modulus (target_of e)) x n → LiesInWords (ranged_unary (SignExtend e) x) (unary (SignExtend e) n)
 row_extended e x n a =
-    chosen (nat_lt x.hi (2 ^ bits (signed_width (extended_of e)) / 2)) x (all (target_of e)) (unary (SignExtend e) n)
+    either_interval (nat_lt x.hi (2 ^ bits (signed_width (extended_of e)) / 2)) x (all (target_of e)) (unary (SignExtend e) n)
     (λ t.
     let lt = ltb-true x.hi (2 ^ bits (signed_width (extended_of e)) / 2) t in
     let is : unary (SignExtend e) n ≡ n = ap (cut (target_of e)) (extended_is (extended_of e) n (omega (arith, a.below, lt))) ∙ cut_small (target_of e) n (number_small (modulus (target_of e)) x n a) in
@@ -125,11 +125,11 @@ unary_fits (Swap ToBig z) n = omega (arith, reversed_below z (n % 2 ^ bits (swap
 unary_fits (Swap Reverse z) n = omega (arith, reversed_below z (n % 2 ^ bits (swap_width z)), swap_fits z)
 
 -- an operand that is single is computed on
-pub unary_sound : (op : UnaryOp) (x : Bounds) (n : ℕ) → IsMember x n → LiesInWords (interval_unary op x) (unary op n)
+pub unary_sound : (op : UnaryOp) (x : Bounds) (n : ℕ) → LiesBetween x n → LiesInWords (interval_unary op x) (unary op n)
 unary_sound op x n h =
     let w = operand_width op in
     let is : unary op (cut w n) ≡ unary op n = cut_unary op n h.word in
-    chosen (is_single x) (single (unary op x.lo)) (ranged_unary op (operand_bounds w x)) (unary op n)
+    either_interval (is_single x) (single (unary op x.lo)) (ranged_unary op (operand_bounds w x)) (unary op n)
     (λ e.
     let same : unary op x.lo ≡ unary op n = ap (unary op) (only_member x n e h) in
     let fits = unary_fits op n in

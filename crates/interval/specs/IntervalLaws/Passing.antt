@@ -11,7 +11,7 @@ use Rattle.interval.specs.Domains.{passes}
 use Rattle.interval.specs.declared.domain.Bounds.{Bounds}
 use Rattle.interval.specs.declared.domain.Test.{Test}
 use Rattle.interval.specs.declared.domain.Test.TheVariants.{Holds, Fails}
-use Rattle.interval.specs.Intervals.{IsMember, from_to, is_single, if_any, both, exchanged_pair, greater, at_least, equal, pair_where, can_refine, interval_refine}
+use Rattle.interval.specs.Intervals.{LiesBetween, from_to, is_single, if_any, both, exchanged_pair, greater, at_least, equal, pair_where, can_refine, interval_refine}
 use Rattle.interval.specs.Narrowness.{AreWords, ArePositive, ArePassing, OnLeft, Refines}
 use Rattle.interval.specs.IntervalLaws.Members.{cut_small, modulus_fits, only_member}
 use Rattle.interval.specs.IntervalLaws.Operators.{positive}
@@ -21,13 +21,13 @@ use Rattle.interval.specs.IntervalLaws.Narrow.{positive_is}
 pub record IsPaired (R : ℕ → ℕ → Type 0) (x y : Bounds) (m : ℕ) : Type 0 where
   pub own : m ≤ x.hi
   pub other : ℕ
-  pub of_other : IsMember y other
+  pub of_other : LiesBetween y other
   pub related : R m other
 
 -- each member that is left is paired
 pub record ArePaired (R : ℕ → ℕ → Type 0) (x y : Bounds) (left : Bounds × Bounds) : Type 0 where
-  pub first : (m : ℕ) → IsMember left.0 m → IsPaired R x y m
-  pub second : (n : ℕ) → IsMember left.1 n → IsPaired (λ n m. R m n) y x n
+  pub first : (m : ℕ) → LiesBetween left.0 m → IsPaired R x y m
+  pub second : (n : ℕ) → LiesBetween left.1 n → IsPaired (λ n m. R m n) y x n
 
 exchanged_paired : (R : ℕ → ℕ → Type 0) (x y : Bounds) (pairs : Option (Bounds × Bounds)) → OnLeft pairs (ArePaired R x y) → OnLeft (exchanged_pair pairs) (ArePaired (λ n m. R m n) y x)
 exchanged_paired R x y None h = tt
@@ -42,10 +42,10 @@ if_both P u v p =
 
 module _ (w : Width) (x y : Bounds) (a : AreWords w x) (b : AreWords w y) where
   -- the ends are members
-  lowest : IsMember y y.lo
+  lowest : LiesBetween y y.lo
   lowest = record { word = omega (arith, b.words, b.order, modulus_fits w); above = omega arith; below = b.order }
 
-  greatest : IsMember x x.hi
+  greatest : LiesBetween x x.hi
   greatest = record { word = omega (arith, a.words, modulus_fits w); above = a.order; below = omega arith }
 
   pub greater_paired : OnLeft (greater x y) (ArePaired (λ m n. n < m) x y)
@@ -88,7 +88,7 @@ module _ (w : Width) (x y : Bounds) (a : AreWords w x) (b : AreWords w y) where
 
   -- and positive ones with their signs too
   signed_held : ArePositive w x y → (test : ℤ → ℤ → Bool) (m n : ℕ) (t : Bool) → m ≤ x.hi → n ≤ y.hi → test (pos m) (pos n) ≡ t → test (cast_signed (int_width w) m) (cast_signed (int_width w) n) ≡ t
-  signed_held s test m n t p q e = (λ i. test (positive w m (omega (arith, p, s.left)) i) (positive w n (omega (arith, q, s.right)) i)) ∙ e
+  signed_held h test m n t p q e = (λ i. test (positive w m (omega (arith, p, h.left)) i) (positive w n (omega (arith, q, h.right)) i)) ∙ e
 
   -- pairs that are related pass
   Suffices : Test → (ℕ → ℕ → Type 0) → Type 0

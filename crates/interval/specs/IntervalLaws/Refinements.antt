@@ -8,24 +8,24 @@ use Rattle.insn.specs.Words.{int_width, modulus, compares, holds}
 use Rattle.insn.specs.declared.width.Width.{Width}
 use Rattle.insn.specs.declared.condition.Condition.{Condition}
 use Rattle.insn.specs.declared.condition.Condition.TheVariants.{Eq, Gt, Ge, Set, Ne, SignedGt, SignedGe, Lt, Le, SignedLt, SignedLe}
-use Rattle.interval.specs.Domains.{passes, Keeps, HasMembers}
+use Rattle.interval.specs.Domains.{passes, KeepsPair, HasMembers}
 use Rattle.interval.specs.declared.domain.Bounds.{Bounds}
 use Rattle.interval.specs.declared.domain.Test.{Test}
 use Rattle.interval.specs.declared.domain.Test.TheVariants.{Holds, Fails}
-use Rattle.interval.specs.Intervals.{IsMember, from_to, is_single, are_positive, if_any, both, exchanged_pair, greater, at_least, equal, is_signed, where_it_holds, where_it_fails, condition_of, pair_where, can_refine, interval_refine}
+use Rattle.interval.specs.Intervals.{LiesBetween, from_to, is_single, are_positive, if_any, both, exchanged_pair, greater, at_least, equal, is_signed, where_it_holds, where_it_fails, condition_of, pair_where, can_refine, interval_refine}
 use Rattle.interval.specs.IntervalLaws.Members.{LiesInWords, is_member, only_member, cut_small, modulus_fits}
 use Rattle.interval.specs.IntervalLaws.Operators.{positive}
 
 abbrev AreKept : Option (Bounds × Bounds) → ℕ → ℕ → Type 0
-AreKept pairs m n = Keeps LiesInWords pairs m n
+AreKept pairs m n = KeepsPair LiesInWords pairs m n
 
 -- both intervals have a member, so both are left
 both_kept : (lo hi lo' hi' m n : ℕ) → hi < 2 ^ 64 → lo ≤ m → m ≤ hi → hi' < 2 ^ 64 → lo' ≤ n → n ≤ hi' → AreKept (both (if_any (from_to lo hi)) (if_any (from_to lo' hi'))) m n
-both_kept lo hi lo' hi' m n p a b q c d =
+both_kept lo hi lo' hi' m n p a b q h d =
     cond_both (nat_le lo hi) (Some (from_to lo hi)) None (λ r. AreKept (both r (if_any (from_to lo' hi'))) m n)
     (λ e.
     cond_both (nat_le lo' hi') (Some (from_to lo' hi')) None (λ r. AreKept (both (Some (from_to lo hi)) r) m n)
-    (λ f. (record { word = p; above = a; below = b }, record { word = q; above = c; below = d }))
+    (λ f. (record { word = p; above = a; below = b }, record { word = q; above = h; below = d }))
     (λ f. let no = leb-false lo' hi' f in absurd (omega arith)))
     (λ e. let no = leb-false lo hi e in absurd (omega arith))
 
@@ -103,15 +103,15 @@ module _ (x y : Bounds) (m n : ℕ) (a : LiesInWords x m) (b : LiesInWords y n) 
     passing (Fails c) own small_m small_n h = failing c own (sym (same_holds c small_m small_n) ∙ not-true (holds c w m n) h)
 
 -- the pairs that are left of members are kept, whatever a member is: a word between the ends, and each such word where the greater end is a word
-kept_as : (pairs : Option (Bounds × Bounds)) (m n : ℕ) → AreKept pairs m n → Keeps IsMember pairs m n
+kept_as : (pairs : Option (Bounds × Bounds)) (m n : ℕ) → AreKept pairs m n → KeepsPair LiesBetween pairs m n
 kept_as None m n h = h
 kept_as (Some pair) m n h = (is_member pair.0 m h.0, is_member pair.1 n h.1)
 
-module _ (x y : Bounds) (m n : ℕ) (h : IsMember x m) (k : IsMember y n) (w : Width) where
-  first_lies : IsMember x m
+module _ (x y : Bounds) (m n : ℕ) (h : LiesBetween x m) (k : LiesBetween y n) (w : Width) where
+  first_lies : LiesBetween x m
   first_lies = h
 
-  second_lies : IsMember y n
+  second_lies : LiesBetween y n
   second_lies = k
 
   -- the greatest members of both are words of the width, and where the condition reads signs, the members are their own signed numbers
@@ -142,10 +142,10 @@ module _ (x y : Bounds) (m n : ℕ) (h : IsMember x m) (k : IsMember y n) (w : W
         own = λ t. absurd (true≢false (sym t ∙ s));
       }
 
-  member_of : (z : Bounds) (i : ℕ) → z.hi < modulus w → IsMember z i → LiesInWords z i
+  member_of : (z : Bounds) (i : ℕ) → z.hi < modulus w → LiesBetween z i → LiesInWords z i
   member_of z i lt j = record { word = omega (arith, modulus_fits w); above = j.above; below = j.below }
 
-  refined : (test : Test) → can_refine test w x y ≡ true → passes test w m n ≡ true → Keeps IsMember (pair_where test x y) m n
+  refined : (test : Test) → can_refine test w x y ≡ true → passes test w m n ≡ true → KeepsPair LiesBetween (pair_where test x y) m n
   unfolding AreOwn
   refined test e passed =
       let known = readable (is_signed (condition_of test)) (condition_of test) refl e in
@@ -153,25 +153,25 @@ module _ (x y : Bounds) (m n : ℕ) (h : IsMember x m) (k : IsMember y n) (w : W
       let b = member_of y n known.second_small second_lies in
       kept_as (pair_where test x y) m n (passing x y m n a b w test known.own (omega (arith, known.first_small, a.below)) (omega (arith, known.second_small, b.below)) passed)
 
-  pub refine_sound : (test : Test) → passes test w m n ≡ true → Keeps IsMember (interval_refine test w x y) m n
+  pub refine_sound : (test : Test) → passes test w m n ≡ true → KeepsPair LiesBetween (interval_refine test w x y) m n
   refine_sound test passed =
-      cond_both (is_single x && is_single y) (if passes test w x.lo y.lo then Some (x, y) else None) (if can_refine test w x y then pair_where test x y else Some (x, y)) (λ r. Keeps IsMember r m n)
+      cond_both (is_single x && is_single y) (if passes test w x.lo y.lo then Some (x, y) else None) (if can_refine test w x y then pair_where test x y else Some (x, y)) (λ r. KeepsPair LiesBetween r m n)
       (λ e.
       let both = and_parts (is_single x) (is_single y) e in
       let first : x.lo ≡ m = only_member x m both.0 first_lies in
       let second : y.lo ≡ n = only_member y n both.1 second_lies in
       let same : passes test w x.lo y.lo ≡ true = (λ i. passes test w (first i) (second i)) ∙ passed in
-      cond_both (passes test w x.lo y.lo) (Some (x, y)) None (λ r. Keeps IsMember r m n) (λ t. (h, k)) (λ t. absurd (true≢false (sym same ∙ t))))
-      (λ e. cond_both (can_refine test w x y) (pair_where test x y) (Some (x, y)) (λ r. Keeps IsMember r m n) (λ t. refined test t passed) (λ t. (h, k)))
+      cond_both (passes test w x.lo y.lo) (Some (x, y)) None (λ r. KeepsPair LiesBetween r m n) (λ t. (h, k)) (λ t. absurd (true≢false (sym same ∙ t))))
+      (λ e. cond_both (can_refine test w x y) (pair_where test x y) (Some (x, y)) (λ r. KeepsPair LiesBetween r m n) (λ t. refined test t passed) (λ t. (h, k)))
 
 -- ---- what is left has members
 
 -- two intervals, if they are left, have their least words as members
 abbrev AreLeft : Option (Bounds × Bounds) → Type 0
 AreLeft None = Unit {0}
-AreLeft (Some pair) = IsMember pair.0 pair.0.lo × IsMember pair.1 pair.1.lo
+AreLeft (Some pair) = LiesBetween pair.0 pair.0.lo × LiesBetween pair.1 pair.1.lo
 
-least_member : (x : Bounds) (n : ℕ) → IsMember x n → IsMember x x.lo
+least_member : (x : Bounds) (n : ℕ) → LiesBetween x n → LiesBetween x x.lo
 least_member x n h = record { word = omega (arith, h.word, h.above); above = omega arith; below = omega (arith, h.above, h.below) }
 
 if_left : (x y : Bounds) → x.hi < 2 ^ 64 → y.hi < 2 ^ 64 → AreLeft (both (if_any x) (if_any y))
@@ -230,7 +230,7 @@ module _ (x y : Bounds) (p : x.hi < 2 ^ 64) (q : y.hi < 2 ^ 64) (as_they_are : A
   passing_left (Holds c) = holding_left c
   passing_left (Fails c) = failing_left c
 
-module _ (test : Test) (w : Width) (x y : Bounds) (m n : ℕ) (h : IsMember x m) (k : IsMember y n) where
+module _ (test : Test) (w : Width) (x y : Bounds) (m n : ℕ) (h : LiesBetween x m) (k : LiesBetween y n) where
   as_they_are : AreLeft (Some (x, y))
   as_they_are = (least_member x m h, least_member y n k)
 
@@ -246,5 +246,5 @@ module _ (test : Test) (w : Width) (x y : Bounds) (m n : ℕ) (h : IsMember x m)
       (λ t. as_they_are))
 
   -- what is left of intervals with members has members
-  pub refine_precise : (pair : Bounds × Bounds) → interval_refine test w x y ≡ Some pair → HasMembers IsMember pair
+  pub refine_precise : (pair : Bounds × Bounds) → interval_refine test w x y ≡ Some pair → HasMembers LiesBetween pair
   refine_precise pair e = let least = subst AreLeft e all_left in record { first = pair.0.lo; second = pair.1.lo; of_first = least.0; of_second = least.1 }

@@ -2,8 +2,8 @@
 
 use std::process::Abort;
 use stun::registry::{
-    Class, ErrorCode, FIRST_CHANNEL, LAST_CHANNEL, MAGIC_COOKIE, MessageType, Method, attribute,
-    family, is_understood,
+    Class, ErrorCode, FIRST_CHANNEL_DATA, LAST_CHANNEL_DATA, MAGIC_COOKIE, MessageType, Method,
+    attribute, family, is_understood,
 };
 
 /// A method and its number: Binding of RFC 8489, section 18.2, the others of RFC 8656, section 17.
@@ -180,7 +180,7 @@ const ATTRIBUTES: [AttributeRow; 14] = [
 fn check_attributes(rt: &impl Abort) {
     for row in ATTRIBUTES {
         let number = row.number;
-        assert_eq!(rt; row.ours, number);
+        assert_eq!(rt; row.ours, number, "type {number}");
         assert!(rt; is_understood(number), "type {number}");
     }
 }
@@ -278,7 +278,7 @@ fn the_numbers_are_the_standards(rt: HostRuntime) {
     // RFC 8489, section 5
     assert_eq!(rt; MAGIC_COOKIE.to_be_bytes(), [0x21, 0x12, 0xa4, 0x42]);
     // RFC 8656, section 12
-    assert_eq!(rt; (FIRST_CHANNEL, LAST_CHANNEL), (0x4000, 0x7fff));
+    assert_eq!(rt; (FIRST_CHANNEL_DATA, LAST_CHANNEL_DATA), (0x4000, 0x7fff));
     // RFC 8489, section 14.1
     assert_eq!(rt; (family::IPV4, family::IPV6), (0x01, 0x02));
     check_types(&rt);

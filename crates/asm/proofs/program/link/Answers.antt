@@ -2,7 +2,7 @@ use Rattle.std.proofs.Common.{◌≡◌, ◌+◌, arith, ap, sym, ◌∙◌, sub
 use Rattle.std.proofs.lemmas.Result.{err_from_is_err_and}
 use Rattle.asm.specs.Lines.{lines_of}
 use Rattle.asm.specs.Parsing.{said_in}
-use Rattle.asm.specs.Scanning.{following_lines, lines_left, Begins}
+use Rattle.asm.specs.Scanning.{following_lines, lines_left, TextBegins}
 use Rattle.asm.specs.declared.refusal.AsmError.TheVariants as error
 use Rattle.asm.proofs.Links.{linked_none, linked_insn, linked_past, no_fault, slot_within, slot_fits, unknown_label}
 use Rattle.asm.proofs.program.link.Goals as goal
@@ -33,7 +33,7 @@ returns-in_err-jump-clause-refused c =
     (lines_of c.args.text.now) c.args.table.now c.loop-rest.number c.loop-rest.slot c.loop-rest.rest c.in-Some.text
     c.in-Insn.insn _ _
     c.loop-rest.code.items k c.in-Some.is
-    (subst (λ l. Begins c.in-Some.text.now (said_in l) (following_lines c.in_ok-line.after)) c.in-Insn.is
+    (subst (λ l. TextBegins c.in-Some.text.now (said_in l) (following_lines c.in_ok-line.after)) c.in-Insn.is
     c.in_ok-line.ensures.read)
     (sym c.in_err-jump.ensures.ok_part ∙ c.linked.ensures k.said k.holds k.few))
 
@@ -47,7 +47,7 @@ loop-rest-preserved-in_ok-push c = record {
       (linked_insn (lines_of c.args.text.now) c.args.table.now c.loop-rest.number c.loop-rest.slot c.loop-rest.rest
       c.in-Some.text c.in-Insn.insn _ _
       c.loop-rest.code.items c.in_ok-jump.jump k c.in-Some.is
-      (subst (λ l. Begins c.in-Some.text.now (said_in l) (following_lines c.in_ok-line.after)) c.in-Insn.is
+      (subst (λ l. TextBegins c.in-Some.text.now (said_in l) (following_lines c.in_ok-line.after)) c.in-Insn.is
       c.in_ok-line.ensures.read)
       (sym c.in_ok-jump.ensures.ok_part ∙ c.linked.ensures k.said k.holds k.few));
   room = omega (arith, c.in_ok-line.ensures.fewer, ap lines_left c.in-Some.is);

@@ -1,6 +1,6 @@
 use Rattle.std.proofs.Common.{◌≡◌, ℕ, Bool, true, false, List, ◌++◌, length, take, drop, refl, sym, ap, ◌∙◌, subst}
 use Rattle.insn.specs.declared.instruction.Insn.{Insn}
-use Rattle.semantics.specs.Access.{put}
+use Rattle.semantics.specs.Access.{overlay}
 use Rattle.semantics.specs.Machine.{Environment, context_bytes}
 use Rattle.semantics.specs.Runs.{IsDatagram}
 use Rattle.semantics.specs.declared.limits.TheConstants.{STACK_BYTES}
@@ -12,7 +12,7 @@ use Rattle.flat.specs.FlatLaws.{fields_of_context}
 use Rattle.helpers.specs.Records.{address_record}
 use Rattle.machine.specs.Contents.{Contents, datagram_of}
 use Rattle.machine.specs.FrameFields.{HoldsDatagram, IsFrame}
-use Rattle.machine.specs.Contexts.{Answers, context_of, side_number}
+use Rattle.machine.specs.Contexts.{HelperAnswers, context_of, side_number}
 use Rattle.machine.specs.Execution.{RunsFlat}
 use Rattle.machine.specs.Tracing.{environment_of}
 use Rattle.machine.proofs.Frames.{written}
@@ -24,17 +24,17 @@ run_flat-ended-requires-clause-start g c =
     let flat : List ℕ = c.frame.inside.flat.items in
     let f : Contents = record { area = drop 560 flat; length = c.frame.inside.length; is_started = c.frame.inside.is_started; context = c.frame.inside.context; window = c.frame.inside.window } in
     let d : List ℕ = datagram_of f in
-    let answers : Answers = g.H.Helpers.answers c.args.helpers.now in
+    let answers : HelperAnswers = g.H.Helpers.answers c.args.helpers.now in
     let started : c.frame.inside.is_started ≡ true = ap (λ (h : Contents). h.is_started) c.frame.view_is ∙ c.requires in
     let holds : HoldsDatagram f.area c.frame.inside.stack.items f.length true f.window = subst (λ (b : Bool). HoldsDatagram f.area c.frame.inside.stack.items f.length b f.window) started c.frame.invariant.holds in
     let size : length c.datagram-size.result.now ≡ length d = ap length (c.datagram-size.ensures.bytes ∙ sym (ap datagram_of c.frame.view_is)) in
     let is_datagram : IsDatagram d = subst (λ (h : Contents). IsDatagram (datagram_of h)) (sym c.frame.view_is) c.datagram-size.ensures.short in
     let side : c.from.result ≡ side_number f.context.side = c.from.ensures ∙ c.side_number-side.ensures in
     let source : c.address_record-source.result ≡ address_record f.context.source = c.address_record-source.ensures in
-    let laid : c.lay_out.new.area ≡ put STACK_BYTES (pointers (length d) ++ drop 16 (context_bytes (context_of f.context) (length d))) flat =
+    let laid : c.lay_out.new.area ≡ overlay STACK_BYTES (pointers (length d) ++ drop 16 (context_bytes (context_of f.context) (length d))) flat =
     c.lay_out.ensures
-    ∙ (λ i. put STACK_BYTES (pointers (size i) ++ context_fields (size i) (source i) f.context.tx (c.side_number-side.ensures i)) (c.deref_mut.ensures.value i))
-    ∙ (λ i. put STACK_BYTES (pointers (length d) ++ sym (fields_of_context (context_of f.context) (length d)) i) flat) in
+    ∙ (λ i. overlay STACK_BYTES (pointers (size i) ++ context_fields (size i) (source i) f.context.tx (c.side_number-side.ensures i)) (c.deref_mut.ensures.value i))
+    ∙ (λ i. overlay STACK_BYTES (pointers (length d) ++ sym (fields_of_context (context_of f.context) (length d)) i) flat) in
     let between : c.deref_mut-2.result.now ≡ c.lay_out.new.area = c.deref_mut-2.ensures.value ∙ written c.lay_out.new.area flat c.frame.inside.flat.len (c.lay_out.auto.area ∙ c.deref_mut.ensures.len) in
     let given : given_in (environment_of f answers) (length d) ≡ given_of answers (length c.datagram-size.result.now) c.from.result = λ i. given_of answers (sym size i) (sym side i) in (
       environment_of f answers,
@@ -47,7 +47,7 @@ invariant_of-frame g c =
     let flat : List ℕ = c.frame.inside.flat.items in
     let f : Contents = record { area = drop 560 flat; length = c.frame.inside.length; is_started = c.frame.inside.is_started; context = c.frame.inside.context; window = c.frame.inside.window } in
     let d : List ℕ = datagram_of f in
-    let answers : Answers = g.H.Helpers.answers c.args.helpers.now in
+    let answers : HelperAnswers = g.H.Helpers.answers c.args.helpers.now in
     let w : Environment = environment_of f answers in
     let started : c.frame.inside.is_started ≡ true = ap (λ (h : Contents). h.is_started) c.frame.view_is ∙ c.requires in
     let holds : HoldsDatagram f.area c.frame.inside.stack.items f.length true f.window = subst (λ (b : Bool). HoldsDatagram f.area c.frame.inside.stack.items f.length b f.window) started c.frame.invariant.holds in
@@ -55,10 +55,10 @@ invariant_of-frame g c =
     let is_datagram : IsDatagram d = subst (λ (h : Contents). IsDatagram (datagram_of h)) (sym c.frame.view_is) c.datagram-size.ensures.short in
     let side : c.from.result ≡ side_number f.context.side = c.from.ensures ∙ c.side_number-side.ensures in
     let source : c.address_record-source.result ≡ address_record f.context.source = c.address_record-source.ensures in
-    let laid : c.lay_out.new.area ≡ put STACK_BYTES (pointers (length d) ++ drop 16 (context_bytes (context_of f.context) (length d))) flat =
+    let laid : c.lay_out.new.area ≡ overlay STACK_BYTES (pointers (length d) ++ drop 16 (context_bytes (context_of f.context) (length d))) flat =
     c.lay_out.ensures
-    ∙ (λ i. put STACK_BYTES (pointers (size i) ++ context_fields (size i) (source i) f.context.tx (c.side_number-side.ensures i)) (c.deref_mut.ensures.value i))
-    ∙ (λ i. put STACK_BYTES (pointers (length d) ++ sym (fields_of_context (context_of f.context) (length d)) i) flat) in
+    ∙ (λ i. overlay STACK_BYTES (pointers (size i) ++ context_fields (size i) (source i) f.context.tx (c.side_number-side.ensures i)) (c.deref_mut.ensures.value i))
+    ∙ (λ i. overlay STACK_BYTES (pointers (length d) ++ sym (fields_of_context (context_of f.context) (length d)) i) flat) in
     let between : c.deref_mut-2.result.now ≡ c.lay_out.new.area = c.deref_mut-2.ensures.value ∙ written c.lay_out.new.area flat c.frame.inside.flat.len (c.lay_out.auto.area ∙ c.deref_mut.ensures.len) in
     let given : given_in w (length d) ≡ given_of answers (length c.datagram-size.result.now) c.from.result = λ i. given_of answers (sym size i) (sym side i) in
     let start = is_start answers (g.H.Helpers.lawful c.args.helpers.now) c.args.program.now f flat refl c.frame.inside.stack.items holds c.frame.invariant.is_context is_datagram (given_of answers (length c.datagram-size.result.now) c.from.result) c.deref_mut-2.result.now given (between ∙ laid) in
@@ -76,7 +76,7 @@ returns g c =
     let flat : List ℕ = c.frame.inside.flat.items in
     let f : Contents = record { area = drop 560 flat; length = c.frame.inside.length; is_started = c.frame.inside.is_started; context = c.frame.inside.context; window = c.frame.inside.window } in
     let d : List ℕ = datagram_of f in
-    let answers : Answers = g.H.Helpers.answers c.args.helpers.now in
+    let answers : HelperAnswers = g.H.Helpers.answers c.args.helpers.now in
     let w : Environment = environment_of f answers in
     let started : c.frame.inside.is_started ≡ true = ap (λ (h : Contents). h.is_started) c.frame.view_is ∙ c.requires in
     let holds : HoldsDatagram f.area c.frame.inside.stack.items f.length true f.window = subst (λ (b : Bool). HoldsDatagram f.area c.frame.inside.stack.items f.length b f.window) started c.frame.invariant.holds in
@@ -84,10 +84,10 @@ returns g c =
     let is_datagram : IsDatagram d = subst (λ (h : Contents). IsDatagram (datagram_of h)) (sym c.frame.view_is) c.datagram-size.ensures.short in
     let side : c.from.result ≡ side_number f.context.side = c.from.ensures ∙ c.side_number-side.ensures in
     let source : c.address_record-source.result ≡ address_record f.context.source = c.address_record-source.ensures in
-    let laid : c.lay_out.new.area ≡ put STACK_BYTES (pointers (length d) ++ drop 16 (context_bytes (context_of f.context) (length d))) flat =
+    let laid : c.lay_out.new.area ≡ overlay STACK_BYTES (pointers (length d) ++ drop 16 (context_bytes (context_of f.context) (length d))) flat =
     c.lay_out.ensures
-    ∙ (λ i. put STACK_BYTES (pointers (size i) ++ context_fields (size i) (source i) f.context.tx (c.side_number-side.ensures i)) (c.deref_mut.ensures.value i))
-    ∙ (λ i. put STACK_BYTES (pointers (length d) ++ sym (fields_of_context (context_of f.context) (length d)) i) flat) in
+    ∙ (λ i. overlay STACK_BYTES (pointers (size i) ++ context_fields (size i) (source i) f.context.tx (c.side_number-side.ensures i)) (c.deref_mut.ensures.value i))
+    ∙ (λ i. overlay STACK_BYTES (pointers (length d) ++ sym (fields_of_context (context_of f.context) (length d)) i) flat) in
     let between : c.deref_mut-2.result.now ≡ c.lay_out.new.area = c.deref_mut-2.ensures.value ∙ written c.lay_out.new.area flat c.frame.inside.flat.len (c.lay_out.auto.area ∙ c.deref_mut.ensures.len) in
     let given : given_in w (length d) ≡ given_of answers (length c.datagram-size.result.now) c.from.result = λ i. given_of answers (sym size i) (sym side i) in
     let start = is_start answers (g.H.Helpers.lawful c.args.helpers.now) c.args.program.now f flat refl c.frame.inside.stack.items holds c.frame.invariant.is_context is_datagram (given_of answers (length c.datagram-size.result.now) c.from.result) c.deref_mut-2.result.now given (between ∙ laid) in

@@ -5,14 +5,14 @@ use Rattle.semantics.specs.Machine.{context_bytes, empty_stack}
 use Rattle.semantics.specs.StartLaws.{length-empty_stack}
 use Rattle.semantics.specs.Views.{memory_with}
 use Rattle.semantics.specs.declared.plan.Plan.{Plan}
-use Rattle.machine.specs.Contents.{Contents, datagram_of, area_size}
+use Rattle.machine.specs.Contents.{Contents, datagram_of, frame_area_size}
 use Rattle.machine.specs.FrameFields.{HoldsDatagram}
 use Rattle.machine.specs.Contexts.{context_of}
 use Rattle.machine.specs.Execution.{IsWholeRun, RunsOver}
 use Rattle.machine.proofs.Frames.{written, datagram_length, frame_run, is_unstarted}
 use Rattle.machine.proofs.tracing.run_frame.Goals as goal
 
-in_area : (window : Option (ℕ × ℕ)) (n : ℕ) → n ≤ 65507 → IfSome window (IsWindow n) → IfSome window (λ w. w.0 + w.1 ≤ area_size)
+in_area : (window : Option (ℕ × ℕ)) (n : ℕ) → n ≤ 65507 → IfSome window (IsWindow n) → IfSome window (λ w. w.0 + w.1 ≤ frame_area_size)
 in_area None n short h = tt
 in_area (Some w) n short h = omega (arith, h.0, short)
 

@@ -1,5 +1,7 @@
 //! What a run leaves in the datagram and in its window, and that it leaves nothing to the next run.
 
+ghost use Rattle.std.specs.Prelude.{◌≤◌, length};
+
 use crate::rows::{CLIENT, assembled, decoded, start_on};
 use insn::decode;
 use loader::load;
@@ -279,26 +281,28 @@ fn expect_whole_stack<R: Abort + AllocGlobal>(rt: &R) -> Result<(), Fail> {
     Ok(())
 }
 
-/// What follows the stores that fill the stack. It stores in the headroom and in the tailroom, and sets a
+/// What follows the stores that fill the stack. It stores in the headroom and in all of the tailroom, and sets a
 /// destination and a window to all.
-const USES_ALL: &str =
-    "mov r6, r1\nldxdw r7, [r1+0]\nstdw [r7-64], -1\nldxdw r8, [r1+8]\nstb [r8+0], -1\n\
+const USES_ALL: &str = "mov r6, r1\nldxdw r7, [r1+0]\nstdw [r7-64], -1\nldxdw r8, [r1+8]\n\
+     stb [r8+0], -1\nstb [r8+1], -1\nstb [r8+2], -1\n\
      lddw r3, 0x070200c088130100\nstxdw [r10-8], r3\nmov r2, r10\nadd r2, -8\ncall 5\n\
      mov r1, r6\nmov r2, 0\nldxdw r3, [r1+16]\nadd r3, 67\ncall 4\nexit";
 
-/// Starts a frame on a datagram of four bytes and runs a program over it that uses all of its memory.
-fn use_all<R: Abort + AllocGlobal>(rt: &R, frame: &mut Frame) -> Result<(), Fail> {
+/// Starts a frame on a datagram and runs a program over it that uses all of its memory.
+fn use_all<R: Abort + AllocGlobal>(rt: &R, frame: &mut Frame, datagram: &[u8]) -> Result<(), Fail>
+    requires { length datagram.now ≤ 65507 }
+{
     let mut file = filling(rt)?;
     file.extend_from_slice(&assembled(rt, USES_ALL)?)?;
     let loaded = load(rt.alloc(), &file)?;
-    start_on(frame, &CLIENT, &[1, 2, 3, 4]);
+    start_on(frame, &CLIENT, datagram);
     let outcome = run(loaded.program(), frame, &NoAllocation);
     let peer = Addr::V4 {
         ip: [192, 0, 2, 7],
         port: 5000,
     };
     assert_eq!(rt; outcome.verdict, 0);
-    assert_eq!(rt; outcome.window, Some((0, 71)));
+    assert_eq!(rt; outcome.window, Some((0, 67 + datagram.len())));
     assert_eq!(rt; outcome.destination, Some(peer));
     assert!(rt; frame.window().is_some());
     Ok(())
@@ -309,7 +313,7 @@ fn expect_no_plan<R: Abort + AllocGlobal>(rt: &R) -> Result<(), Fail> {
     let file = assembled(rt, "mov r0, 0\nexit")?;
     let loaded = load(rt.alloc(), &file)?;
     let mut frame = Frame::new(rt.alloc())?;
-    use_all(rt, &mut frame)?;
+    use_all(rt, &mut frame, &[1, 2, 3, 4])?;
     start_on(&mut frame, &CLIENT, &[1, 2, 3, 4]);
     assert_eq!(rt; frame.window(), None);
     let outcome = run(loaded.program(), &mut frame, &NoAllocation);
@@ -334,9 +338,11 @@ static STACK_LOADS: [&str; 4] = [
 ];
 
 /// Loads from the headroom and the tailroom, which are zeros at the start of a run.
-static ROOM_LOADS: [&str; 2] = [
+static ROOM_LOADS: [&str; 4] = [
     "ldxdw r2, [r1+0]\nldxdw r0, [r2-64]\nexit",
     "ldxdw r3, [r1+8]\nldxb r0, [r3+0]\nexit",
+    "ldxdw r3, [r1+8]\nldxb r0, [r3+1]\nexit",
+    "ldxdw r3, [r1+8]\nldxb r0, [r3+2]\nexit",
 ];
 
 /// Loads from the stack after a run that has filled it: each load is stuck.
@@ -344,7 +350,7 @@ fn expect_empty_stack<R: Abort + AllocGlobal>(rt: &R) -> Result<(), Fail> {
     let mut frame = Frame::new(rt.alloc())?;
     for text in STACK_LOADS {
         let code = decode(rt.alloc(), &assembled(rt, text)?)?;
-        use_all(rt, &mut frame)?;
+        use_all(rt, &mut frame, &[1, 2, 3, 4])?;
         start_on(&mut frame, &CLIENT, &[1, 2, 3, 4]);
         let ended = trace(&code, &mut frame, &NoAllocation, &mut Silent);
         let reason = Reason::UninitStack;
@@ -353,13 +359,15 @@ fn expect_empty_stack<R: Abort + AllocGlobal>(rt: &R) -> Result<(), Fail> {
     Ok(())
 }
 
-/// Loads from the headroom and the tailroom after a run that has written both.
-fn expect_zeros<R: Abort + AllocGlobal>(rt: &R) -> Result<(), Fail> {
+/// Loads from the headroom and the tailroom of a datagram of four bytes, after a run that has written those of another.
+fn expect_zeros<R: Abort + AllocGlobal>(rt: &R, first: &[u8]) -> Result<(), Fail>
+    requires { length first.now ≤ 65507 }
+{
     let mut frame = Frame::new(rt.alloc())?;
     for text in ROOM_LOADS {
         let file = assembled(rt, text)?;
         let loaded = load(rt.alloc(), &file)?;
-        use_all(rt, &mut frame)?;
+        use_all(rt, &mut frame, first)?;
         start_on(&mut frame, &CLIENT, &[1, 2, 3, 4]);
         let outcome = run(loaded.program(), &mut frame, &NoAllocation);
         assert_eq!(rt; outcome.verdict, 0, "{text:?}");
@@ -373,5 +381,7 @@ fn a_run_leaves_what_it_stored_and_nothing_to_the_next(rt: HostRuntime) -> Resul
     expect_whole_stack(&rt)?;
     expect_no_plan(&rt)?;
     expect_empty_stack(&rt)?;
-    expect_zeros(&rt)
+    expect_zeros(&rt, &[1, 2, 3, 4])?;
+    // the tailroom of four bytes is where the last three of seven were
+    expect_zeros(&rt, &[1, 2, 3, 4, 5, 6, 7])
 }

@@ -2,13 +2,13 @@ use Rattle.std.proofs.Common.{◌≡◌, ℕ, ◌+◌, ◌-◌, ◌≤◌, List,
 use Rattle.std.proofs.lemmas.List.{length-take-le, length-drop, drop-drop}
 use Rattle.insn.specs.Endian.{little_bytes}
 use Rattle.insn.specs.Numbers.{length-bytes_low_first}
-use Rattle.semantics.specs.Access.{put}
+use Rattle.semantics.specs.Access.{overlay}
 use Rattle.semantics.specs.AccessLaws.{put_is}
 use Rattle.semantics.proofs.storing.put_number.Goals as goal
 
 -- the bytes that a slice in the middle of others leaves
 written : (index n value : ℕ) (old part new : List ℕ) → index + n ≤ length old → length part ≡ index + n - index → new ≡ little_bytes (length part) value → length (little_bytes n value) ≡ n
-    → take index old ++ (new ++ drop (index + n - index) (drop index old)) ≡ put index (little_bytes n value) old
+    → take index old ++ (new ++ drop (index + n - index) (drop index old)) ≡ overlay index (little_bytes n value) old
 written index n value old part new le long e count =
     let same : index + n - index ≡ n = omega arith in
     let after : drop n (drop index old) ≡ drop (index + n) old = drop-drop n index old in

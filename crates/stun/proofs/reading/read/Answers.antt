@@ -1,7 +1,7 @@
 use Rattle.std.proofs.Common.{arith, rules, refl, subst, sym, ap, ◌∙◌}
 use Rattle.std.proofs.lemmas.Result.{err_from_is_err_and}
 use Rattle.stun.specs.Messages.{message_of}
-use Rattle.stun.specs.Refusals.{IsRefused}
+use Rattle.stun.specs.Refusals.{IsRefusedMessage}
 use Rattle.stun.specs.Reading.{EncodesParts, integrity_at}
 use Rattle.stun.specs.declared.refusal.StunError.TheVariants.{AttributeOverrun}
 use Rattle.stun.proofs.Datagrams.{refused_is_no_message, overrun, accepted, accepted_has_parts, parts_are}
@@ -13,7 +13,7 @@ pub returns-in_err-test_header-clause-only : goal.returns-in_err-test_header-cla
 returns-in_err-test_header-clause-only c p are spelled =
     absurd (refused_is_no_message c.args.bytes.now _ p c.in_err-test_header.ensures.refused are spelled)
 
-overruns : (c : goal.After-from_residual-in_err-integrity) → IsRefused c.args.bytes.now AttributeOverrun
+overruns : (c : goal.After-from_residual-in_err-integrity) → IsRefusedMessage c.args.bytes.now AttributeOverrun
 overruns c =
     overrun c.args.bytes.now _ (search rules) c.split_at.ensures.back c.in_err-integrity.ensures.overrun.1
 
@@ -24,7 +24,7 @@ returns-in_err-integrity-clause-only c p are spelled =
 pub returns-in_err-integrity-clause-refused :
     goal.returns-in_err-integrity-clause-refused
 returns-in_err-integrity-clause-refused c =
-    let refused = subst (IsRefused c.args.bytes.now) (sym c.in_err-integrity.ensures.overrun.0) (overruns c) in
+    let refused = subst (IsRefusedMessage c.args.bytes.now) (sym c.in_err-integrity.ensures.overrun.0) (overruns c) in
     search rules
 
 is_datagram : (c : In_ok-integrity) → EncodesParts c.args.bytes.now

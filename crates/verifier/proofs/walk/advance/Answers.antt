@@ -3,7 +3,7 @@ use Rattle.insn.specs.Encoding.{Fits}
 use Rattle.semantics.specs.SlotLaws.{begins_inside}
 use Rattle.semantics.specs.declared.fetching.Branch.TheVariants.{NotTaken, Taken}
 use denote.Memory.{lone}
-use Rattle.absstate.specs.AbstractSteps.{step}
+use Rattle.absstate.specs.AbstractSteps.{abstract_step}
 use Rattle.absstate.specs.Changes.{next_of}
 use Rattle.absstate.specs.declared.change.Transition.{Transition}
 use Rattle.verifier.specs.Walk.{GoesOn, state_to_follow}
@@ -59,21 +59,21 @@ returns-in_err-transition-clause-refused g c =
 pub returns-in-Exit-clause-advanced : goal.returns-in-Exit-clause-advanced
 returns-in-Exit-clause-advanced g c =
     let fits : Fits c.in-Begins.insn = c.transition.ensures.fits in
-    let step_is : step g.D.Domain.ops c.args.here.now.state c.in-Begins.insn ≡ Ok (next_of c.args.here.now.state c.in_ok-transition.transition) = search rules in
+    let step_is : abstract_step g.D.Domain.ops c.args.here.now.state c.in-Begins.insn ≡ Ok (next_of c.args.here.now.state c.in_ok-transition.transition) = search rules in
     advances g.D.Domain.ops c.args.program.now c.args.here.now c.args.pending.now.items c.args.pending.now.items c.in-Begins.insn (sym c.fetch.ensures ∙ c.in-Begins.is) fits (next_of c.args.here.now.state c.in_ok-transition.transition) step_is None [] (sym (append-nil c.args.pending.now.items))
     (subst (λ (e : Transition g.row.D.Denot). GoesOn c.args.program.now c.args.here.now.slot c.in-Begins.insn (next_of c.args.here.now.state e) None []) (sym c.in-Exit.is) (tt, refl))
 
 pub returns-in-On-clause-advanced : goal.returns-in-On-clause-advanced
 returns-in-On-clause-advanced g c =
     let fits : Fits c.in-Begins.insn = c.transition.ensures.fits in
-    let step_is : step g.D.Domain.ops c.args.here.now.state c.in-Begins.insn ≡ Ok (next_of c.args.here.now.state c.in_ok-transition.transition) = search rules in
+    let step_is : abstract_step g.D.Domain.ops c.args.here.now.state c.in-Begins.insn ≡ Ok (next_of c.args.here.now.state c.in_ok-transition.transition) = search rules in
     advances g.D.Domain.ops c.args.program.now c.args.here.now c.args.pending.now.items c.args.pending.now.items c.in-Begins.insn (sym c.fetch.ensures ∙ c.in-Begins.is) fits (next_of c.args.here.now.state c.in_ok-transition.transition) step_is (state_to_follow c.go_on.result c.go_on.new.here) [] (sym (append-nil c.args.pending.now.items))
     (subst (λ (e : Transition g.row.D.Denot). GoesOn c.args.program.now c.args.here.now.slot c.in-Begins.insn (next_of c.args.here.now.state e) (state_to_follow c.go_on.result c.go_on.new.here) []) (sym c.in-On.is) (c.go_on.ensures, refl))
 
 pub returns-in_ok-leave-in-Fork-clause-advanced : goal.returns-in_ok-leave-in-Fork-clause-advanced
 returns-in_ok-leave-in-Fork-clause-advanced g c =
     let fits : Fits c.in-Begins.insn = c.transition.ensures.fits in
-    let step_is : step g.D.Domain.ops c.args.here.now.state c.in-Begins.insn ≡ Ok (next_of c.args.here.now.state c.in_ok-transition.transition) = search rules in
+    let step_is : abstract_step g.D.Domain.ops c.args.here.now.state c.in-Begins.insn ≡ Ok (next_of c.args.here.now.state c.in_ok-transition.transition) = search rules in
     let left = c.in_ok-leave-in-Fork.ensures.left in
     advances g.D.Domain.ops c.args.program.now c.args.here.now c.args.pending.now.items c.leave.new.pending.items c.in-Begins.insn (sym c.fetch.ensures ∙ c.in-Begins.is) fits (next_of c.args.here.now.state c.in_ok-transition.transition) step_is (state_to_follow c.go_on-in-Fork.result c.go_on-in-Fork.new.here) left.0 left.1
     (subst (λ (e : Transition g.row.D.Denot). GoesOn c.args.program.now c.args.here.now.slot c.in-Begins.insn (next_of c.args.here.now.state e) (state_to_follow c.go_on-in-Fork.result c.go_on-in-Fork.new.here) left.0) (sym c.in-Fork.is) (c.go_on-in-Fork.ensures, left.2))

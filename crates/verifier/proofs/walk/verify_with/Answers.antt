@@ -8,6 +8,7 @@ use Rattle.verifier.specs.Refusing.{IsReal}
 use Rattle.interval.specs.Domains.{ArePrecise}
 use Rattle.semantics.specs.declared.reason.Reason.{Reason}
 use Rattle.verifier.specs.Layout.{IsLaidOut, IsLayoutFault}
+use Rattle.verifier.proofs.Branches.{jumps_inside}
 use Rattle.verifier.proofs.Positions.{first_begins}
 use Rattle.verifier.proofs.Verdicts.{layout_verdict}
 use Rattle.verifier.proofs.Walked.{accepted_end}
@@ -19,6 +20,9 @@ pub returns-in_err-check_layout-clause-verdict : goal.returns-in_err-check_layou
 returns-in_err-check_layout-clause-verdict g c =
     let p = err_from_is_err_and c.from_residual.result c.from_residual.ensures.1 in
     rw (p.1, p.2) (layout_verdict (λ reason slot. ArePrecise g.D.Domain.ops g.D.Domain.Member → IsReal c.args.code.now reason slot) c.args.code.now c.args.budget c.in_err-check_layout.field-0.0 c.in_err-check_layout.ensures.err)
+
+pub new-requires-clause-inside : goal.new-requires-clause-inside
+new-requires-clause-inside g c = jumps_inside c.args.code.now c.requires c.in_ok-check_layout.ensures.ok.jumps
 
 -- what is laid out has no fault of its layout
 no_fault : (code : List Insn) (reason : Reason) (slot : ℕ) → IsLaidOut code → IsLayoutFault code reason slot → ⊥

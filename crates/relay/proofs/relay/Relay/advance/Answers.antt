@@ -2,9 +2,9 @@ use Rattle.std.proofs.Common.{◌≡◌, rules, sym, ap, subst, ◌∙◌}
 use Rattle.tables.specs.Rows.{rows_at}
 use Rattle.programs.specs.Runs.{planned_sending}
 use Rattle.relay.specs.Found.{reply_of_passing, window_shown}
-use Rattle.relay.specs.Relays.{Contents}
+use Rattle.relay.specs.Relays.{RelayContents}
 use Rattle.relay.specs.Steps.{HasStepped, outcome_of}
-use Rattle.relay.specs.Systems.{Reply, no_answer, reply_of_relaying}
+use Rattle.relay.specs.Systems.{SystemReply, no_answer, reply_of_relaying}
 use Rattle.relay.specs.contracts.relay.Relay.{the_view}
 use Rattle.relay.proofs.Advances.{reply_at, steps, stays, answers, passes_client, passes_peer, sends, discards}
 use Rattle.relay.proofs.relay.Relay.advance.Goals as goal
@@ -16,24 +16,24 @@ client_reply c =
     let kept = c.run-outcome.ensures.rest in
     passes_client (the_view c.self.inside) c.args.meta.now c.args.n c.moment_of-self-inside.result c.run-outcome.result c.run-outcome.new.self
     (search rules) c.run-outcome.ensures.run c.in-Client.client c.in-Client.is c.in-1.is
-    (ap (λ (r : Contents). r.config) kept) (ap (λ (r : Contents). r.rows) kept) (ap (λ (r : Contents). r.greatest) kept)
+    (ap (λ (r : RelayContents). r.config) kept) (ap (λ (r : RelayContents). r.rows) kept) (ap (λ (r : RelayContents). r.greatest) kept)
 
 pub returns-in-Client-clause-stepped : goal.returns-in-Client-clause-stepped
 returns-in-Client-clause-stepped c =
     let kept = c.run-outcome.ensures.rest in
     let rest = c.pass_on.ensures.rest in
-    let P : Contents → Type 0 = λ r. HasStepped r c.pass_on.new.self (outcome_of r c.args.meta.now c.args.n) in
+    let P : RelayContents → Type 0 = λ r. HasStepped r c.pass_on.new.self (outcome_of r c.args.meta.now c.args.n) in
     subst P c.self.view_is
     (steps (the_view c.self.inside) c.args.meta.now c.args.n c.moment_of-self-inside.result c.pass_on.new.self c.moment_of-self-inside.ensures
-    (ap (λ (r : Contents). r.rows) rest ∙ sym (ap (λ (r : Reply). r.rows) (client_reply c)))
-    (ap (λ (r : Contents). r.greatest) rest ∙ ap (λ (r : Contents). r.greatest) kept)
-    (ap (λ (r : Contents). r.config) rest ∙ ap (λ (r : Contents). r.config) kept)
-    (ap (λ (r : Contents). r.programs) rest ∙ ap (λ (r : Contents). r.programs) kept))
+    (ap (λ (r : RelayContents). r.rows) rest ∙ sym (ap (λ (r : SystemReply). r.rows) (client_reply c)))
+    (ap (λ (r : RelayContents). r.greatest) rest ∙ ap (λ (r : RelayContents). r.greatest) kept)
+    (ap (λ (r : RelayContents). r.config) rest ∙ ap (λ (r : RelayContents). r.config) kept)
+    (ap (λ (r : RelayContents). r.programs) rest ∙ ap (λ (r : RelayContents). r.programs) kept))
 
 pub returns-in-Client-clause-found : goal.returns-in-Client-clause-found
 returns-in-Client-clause-found c =
     c.pass_on.ensures.found
-    ∙ sym (ap (λ (r : Reply). r.answer) (client_reply c))
+    ∙ sym (ap (λ (r : SystemReply). r.answer) (client_reply c))
     ∙ answers (the_view c.self.inside) c.args.meta.now c.args.n c.moment_of-self-inside.result c.moment_of-self-inside.ensures
     ∙ (λ i. (outcome_of (c.self.view_is i) c.args.meta.now c.args.n).answer)
 
@@ -43,10 +43,10 @@ pub returns-in-Peer-clause-stepped : goal.returns-in-Peer-clause-stepped
 returns-in-Peer-clause-stepped c =
     let reply = passes_peer (the_view c.self.inside) c.args.meta.now c.args.n c.moment_of-self-inside.result c.run-outcome.result c.run-outcome.new.self
     (search rules) c.run-outcome.ensures.run c.in-Peer.slot c.in-Peer.addr c.in-Peer.is c.in-1.is in
-    let P : Contents → Type 0 = λ r. HasStepped r c.run-outcome.new.self (outcome_of r c.args.meta.now c.args.n) in
+    let P : RelayContents → Type 0 = λ r. HasStepped r c.run-outcome.new.self (outcome_of r c.args.meta.now c.args.n) in
     subst P c.self.view_is
     (stays (the_view c.self.inside) c.args.meta.now c.args.n c.moment_of-self-inside.result c.run-outcome.new.self c.moment_of-self-inside.ensures
-    c.run-outcome.ensures.rest (ap (λ (r : Reply). r.rows) reply))
+    c.run-outcome.ensures.rest (ap (λ (r : SystemReply). r.rows) reply))
 
 -- ---- where the plan is sent
 
@@ -58,16 +58,16 @@ plan_reply c =
 
 pub returns-in-2-clause-stepped : goal.returns-in-2-clause-stepped
 returns-in-2-clause-stepped c =
-    let P : Contents → Type 0 = λ r. HasStepped r c.run-outcome.new.self (outcome_of r c.args.meta.now c.args.n) in
+    let P : RelayContents → Type 0 = λ r. HasStepped r c.run-outcome.new.self (outcome_of r c.args.meta.now c.args.n) in
     subst P c.self.view_is
     (stays (the_view c.self.inside) c.args.meta.now c.args.n c.moment_of-self-inside.result c.run-outcome.new.self c.moment_of-self-inside.ensures
-    c.run-outcome.ensures.rest (ap (λ (r : Reply). r.rows) (plan_reply c)))
+    c.run-outcome.ensures.rest (ap (λ (r : SystemReply). r.rows) (plan_reply c)))
 
 pub returns-in-2-clause-found : goal.returns-in-2-clause-found
 returns-in-2-clause-found c =
     let kept = c.run-outcome.ensures.rest in
     (λ i. planned_sending c.args.meta.now.from (rows_at (kept i).greatest (kept i).rows) c.run-outcome.result.destination (window_shown c.run-outcome.new.self.frame))
-    ∙ sym (ap (λ (r : Reply). r.answer) (plan_reply c))
+    ∙ sym (ap (λ (r : SystemReply). r.answer) (plan_reply c))
     ∙ answers (the_view c.self.inside) c.args.meta.now c.args.n c.moment_of-self-inside.result c.moment_of-self-inside.ensures
     ∙ (λ i. (outcome_of (c.self.view_is i) c.args.meta.now c.args.n).answer)
 
@@ -80,13 +80,13 @@ discarded c =
 
 pub returns-in_default-clause-stepped : goal.returns-in_default-clause-stepped
 returns-in_default-clause-stepped c =
-    let P : Contents → Type 0 = λ r. HasStepped r c.run-outcome.new.self (outcome_of r c.args.meta.now c.args.n) in
+    let P : RelayContents → Type 0 = λ r. HasStepped r c.run-outcome.new.self (outcome_of r c.args.meta.now c.args.n) in
     subst P c.self.view_is
     (stays (the_view c.self.inside) c.args.meta.now c.args.n c.moment_of-self-inside.result c.run-outcome.new.self c.moment_of-self-inside.ensures
-    c.run-outcome.ensures.rest (ap (λ (r : Reply). r.rows) (discarded c)))
+    c.run-outcome.ensures.rest (ap (λ (r : SystemReply). r.rows) (discarded c)))
 
 pub returns-in_default-clause-found : goal.returns-in_default-clause-found
 returns-in_default-clause-found c =
-    sym (ap (λ (r : Reply). r.answer) (discarded c))
+    sym (ap (λ (r : SystemReply). r.answer) (discarded c))
     ∙ answers (the_view c.self.inside) c.args.meta.now c.args.n c.moment_of-self-inside.result c.moment_of-self-inside.ensures
     ∙ (λ i. (outcome_of (c.self.view_is i) c.args.meta.now c.args.n).answer)

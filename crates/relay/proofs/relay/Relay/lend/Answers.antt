@@ -4,7 +4,7 @@ use Rattle.tables.specs.Rows.{rows_at}
 use Rattle.programs.specs.Rules.{channel_data_from}
 use Rattle.programs.specs.Runs.{planned_sending}
 use Rattle.relay.specs.Found.{sending_of_found, send_in, reply_sent, HasRoomFor}
-use Rattle.relay.specs.Relays.{Contents}
+use Rattle.relay.specs.Relays.{RelayContents}
 use Rattle.relay.specs.declared.found.Found.{Found}
 use Rattle.relay.specs.declared.found.Found.TheVariants as found
 use Rattle.relay.proofs.Controls.{reply_is_sent}
@@ -13,7 +13,7 @@ use Rattle.relay.proofs.relay.Relay.lend.Goals as goal
 has_room : (c : goal.After-deref) → HasRoomFor (found.Reply c.in-Reply.client c.in-Reply.count) c.self.inside.reply.items
 has_room c =
     let P : Found → Type 0 = λ f. HasRoomFor f c.args.self.now.reply in
-    let Q : Contents → Type 0 = λ r. HasRoomFor (found.Reply c.in-Reply.client c.in-Reply.count) r.reply in
+    let Q : RelayContents → Type 0 = λ r. HasRoomFor (found.Reply c.in-Reply.client c.in-Reply.count) r.reply in
     subst Q (sym c.self.view_is) (subst P c.in-Reply.is c.requires)
 
 fits : (c : goal.After-deref) → c.in-Reply.count ≤ length c.deref.result.now

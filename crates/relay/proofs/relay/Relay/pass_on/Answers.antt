@@ -8,7 +8,7 @@ use Rattle.programs.specs.FastPart.{begins_as_stun}
 use Rattle.programs.specs.Rules.{send_indication}
 use Rattle.relay.specs.ByRules.{control}
 use Rattle.relay.specs.Found.{reply_of_passing, reply_sent}
-use Rattle.relay.specs.Relays.{Contents}
+use Rattle.relay.specs.Relays.{RelayContents}
 use Rattle.relay.specs.contracts.relay.Relay.{the_view}
 use Rattle.relay.proofs.Controls.{control_is}
 use Rattle.relay.proofs.PassedOn.{rows_are, answer_is}
@@ -30,7 +30,7 @@ replies : (c : goal.After-reply_found) → control (the_view c.self.inside).conf
     ≡ record { answer = reply_sent c.args.client (take c.respond-count.result c.respond-count.new.out); rows = c.respond-count.new.tables }
 replies c = control_is c.results_are_checked.ensures _ _ _ _ _ _ _ c.requires c.respond-count.ensures.responds
 
-abbrev after : goal.After-reply_found → Contents
+abbrev after : goal.After-reply_found → RelayContents
 after c = record (the_view c.self.inside) { rows = c.respond-count.new.tables; reply = (with_items c.self.inside.reply c.respond-count.new.out).items }
 
 pub returns-clause-found : goal.returns-clause-found

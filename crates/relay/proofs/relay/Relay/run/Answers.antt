@@ -1,9 +1,9 @@
 use Rattle.std.proofs.Common.{ℕ, length, take, subst, ◌∙◌}
 use Rattle.semantics.specs.Runs.{Run}
 use Rattle.machine.specs.Contents.{room_of}
-use Rattle.machine.specs.Contexts.{around, context_of}
+use Rattle.machine.specs.Contexts.{environment_around, context_of}
 use Rattle.machine.specs.Tracing.{run_over}
-use Rattle.helpers.specs.LookUps.{look_up}
+use Rattle.helpers.specs.LookUps.{look_up_answer}
 use Rattle.tables.specs.Rows.{rows_at}
 use Rattle.relay.specs.Found.{HasRun, run_at}
 use Rattle.relay.specs.Relays.{datagram_at}
@@ -15,6 +15,6 @@ returns-clause-run c =
     let slot = found.slot ∙ c.slot_for-slot.ensures in
     let P : ℕ × Run → Type 0 = λ p. HasRun p.0 c.run_over.result c.run_over.new.frame p.1 in
     subst P
-    ((λ i. (length (take c.args.n (room_of c.self.inside.frame)), run_over (around (context_of (c.context_for.ensures i)) (look_up (slot i) (rows_at (found.moment i) (found.tables i)))) (c.program_for-program.ensures i) (take c.args.n (room_of c.self.inside.frame))))
+    ((λ i. (length (take c.args.n (room_of c.self.inside.frame)), run_over (environment_around (context_of (c.context_for.ensures i)) (look_up_answer (slot i) (rows_at (found.moment i) (found.tables i)))) (c.program_for-program.ensures i) (take c.args.n (room_of c.self.inside.frame))))
     ∙ (λ i. (length (datagram_at (c.self.view_is i) c.args.n), run_at (c.self.view_is i) c.args.meta.now c.args.n)))
     c.run_over.ensures

@@ -44,7 +44,7 @@ use types.Logic.{Logic, sem}
 use types.Match.{live}
 use types.Part.{whole, sub, agg}
 use types.Run.{enter, of_opd, lit, bin, addr, stop, fld, hop, from, no_more, and_then, first, branches, exec, returns}
-use Rattle.stun.specs.Building.{Begins}
+use Rattle.stun.specs.Building.{IsBegun}
 use Rattle.stun.specs.contracts.building.Builder as B
 use Rattle.stun.specs.contracts.building.Builder.start as f
 use Rattle.stun.specs.contracts.building.Builder.with_header as g
@@ -118,7 +118,7 @@ start_spec 𝓤 𝓛 𝓜 𝓡 wired =
     let token = flft κs.0 qs.0 in let buffer = a.0 in let kind = a.1.0 in let tx = a.1.1.0 in let room = are.0.0.1 in let twelve = are.1.1.0.1.0.1 in
     let y : W.Ghost = ((κs, qs, bounds, a, (mut_slice_vals buffer, (uint_vals w16 kind, (array_vals (uint_vals w8) tx, tt)))), tt) in
     -- the end, for either answer
-    let out : (v : Val) (r : (Answer κs).Denot) → IfOk r (λ b. Begins kind tx buffer.now b.buffer.now) → IfOk r (λ b. b.buffer.ghost_name ≡ buffer.ghost_name) → OnErr r (length buffer.now < 20)
+    let out : (v : Val) (r : (Answer κs).Denot) → IfOk r (λ b. IsBegun kind tx buffer.now b.buffer.now) → IfOk r (λ b. b.buffer.ghost_name ≡ buffer.ghost_name) → OnErr r (length buffer.now < 20)
     → Sq 𝓛 (‵ ((Answer κs).own_val r (v ∷ [])) ∷ ‵ (Rests κs buffer r) ∷ ‵ token ∷ []) (prop (W.post y v)) = λ v r written same full.
     suffices ! _ (ends_at 𝓛 f.ended stayed c y v r (tt, (tt, (tt, tt))) (tt, (tt, (tt, tt)))) $
     nothing ! $ nothing ! $ fjoin ! $ nothing ! $ fjoin ! $ nothing ! $ fjoin ! $ join ! $ nothing ! $ move ! (3 ∷ 0 ∷ []) $ join ! $ join ! $ frame ! $ frame ! $
@@ -138,7 +138,7 @@ start_spec 𝓤 𝓛 𝓜 𝓡 wired =
     calls_at ! (framed 𝓤 𝓛.H 𝓜 𝓣) G (met 𝓤 𝓛 𝓜 𝓡 (code.calls-stun::building::Builder::with_header 𝓡.env wired)) y
     (and_then ! (get ! refl) (and_then ! (get ! refl) (and_then ! (get ! refl) (no_more !)))) (λ v.
     use1 𝓛 (later (some (λ (b : (Builder κs).Denot). ((‵ token ⊛ ‵ ftrue) ⊛ ‵ ((Builder κs).own_val b (v ∷ []))) ⊛
-    some (λ (ws : Lasts g.ended κs a). ‵ (lasts g.ended κs a ws) ⊛ raw (fact 𝓤 (Begins kind tx buffer.now b.buffer.now)) ⊛ raw (fact 𝓤 (b.buffer.ghost_name ≡ buffer.ghost_name)))))) (id⊢ 𝓤 _) $
+    some (λ (ws : Lasts g.ended κs a). ‵ (lasts g.ended κs a ws) ⊛ raw (fact 𝓤 (IsBegun kind tx buffer.now b.buffer.now)) ⊛ raw (fact 𝓤 (b.buffer.ghost_name ≡ buffer.ghost_name)))))) (id⊢ 𝓤 _) $
     await ! tt $ pick ! (λ b. split ! $ split ! $ split ! $ move ! (2 ∷ []) $ peeks ! (Builder κs) _ (shows 𝓛 (Builder κs)) b (v ∷ []) (λ is.
     let laws = named_lft 1 0 tt κs in let spelled = (lowers laws).val_is b (v ∷ []) is in
     let typed : WT (lowered b) = subst WT (ap only spelled) (((the_row_laws laws).lawful 𝓛).typed b (v ∷ []) is).0.1 in

@@ -1,4 +1,4 @@
--- Meaning. Tests in an order, the first failure of which gives nothing.
+-- Meaning. Steps that may give nothing, one after the other: the first that does ends them.
 use Rattle.std.specs.Prelude.{Bool, Option, None, Some, if◌then◌else◌}
 
 infixl 10 ◌>>=◌
