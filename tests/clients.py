@@ -155,21 +155,29 @@ class Capture:
             return
         words = [program, "-i", "lo", "-f", f"udp port {port}", "-w", self.file]
         self.process = subprocess.Popen(words, stdout=subprocess.DEVNULL, stderr=subprocess.DEVNULL)
-        end = time.monotonic() + 10
-        while time.monotonic() < end and self.process.poll() is None:
-            if os.path.exists(self.file) and os.path.getsize(self.file) > 0:
-                time.sleep(0.3)
-                return
-            time.sleep(0.05)
-        self.process.kill()
-        self.process.wait()
-        self.process = None
+        if not (self.grows() and self.grows()):  # its header, and a datagram
+            self.process.kill()
+            self.process.wait()
+            self.process = None
+
+    def size(self):
+        """The bytes of the file so far."""
+        return os.path.getsize(self.file) if os.path.exists(self.file) else 0
+
+    def grows(self):
+        """Whether the file grows while datagrams come that are no messages: so what came before them is written too."""
+        size, end = self.size(), time.monotonic() + 10
+        with udp_socket() as probe:
+            while self.size() == size and time.monotonic() < end and self.process.poll() is None:
+                probe.sendto(b"probe", ("127.0.0.1", self.port))
+                time.sleep(0.05)
+        return self.size() > size
 
     def failures(self):
-        """What is malformed among the datagrams of the capture, and whether there are any."""
+        """What is malformed among the datagrams of the capture, and whether there are any messages."""
         if self.process is None:
             return PASSED_OVER
-        time.sleep(0.3)
+        self.grows()
         self.process.send_signal(signal.SIGINT)
         self.process.wait(10)
         words = ["tshark", "-r", self.file, "-d", f"udp.port=={self.port},stun"]

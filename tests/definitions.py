@@ -18,6 +18,7 @@ KINDS = ("-- Meaning. ", "-- Interface. ", "-- Internal. ")
 LINK = re.compile(r"\]\(([^)#:]*)(?:#([^)]*))?\)")
 NAMED = re.compile(r"`((?:crates|docs|tests|examples)/(?![\w./-]*\bout/)[\w./-]+)`")
 USED = re.compile(r"^use Rattle\.(\w+)\.specs\.([\w.]+?)(?:\.\{|$| as )", re.MULTILINE)
+BUILT_IN = re.compile(r"^use (?!Rattle\.)\w+\.([\w.]+?)(?:\.\{|$| as )", re.MULTILINE)
 LINES = re.compile(r"`([\w./]+\.(?:antt|rt))`(?:\]\([^)]*\))? \((\d+) lines\)")
 DECLARED = re.compile(r"^use Rattle\.(\w+)\.specs\.declared\.([\w.]+?)\.(?:The\w+|[A-Z]\w*)", re.MULTILINE)
 TABLE = re.compile(r"^\| Function \|.*\n\|[-| ]+\n((?:\|.*\n)+)", re.MULTILINE)
@@ -165,10 +166,12 @@ def declared_in(crate, module):
 def named_by(path):
     """Yields what a file of definitions names, each as the page has to name it.
 
-    That is types that the code declares, files of the kit, and files of definitions, whatever their first line says. A
-    law is proved, so nobody has to believe the files of laws.
+    That is types that the code declares, files of the kit and of its logic, and files of definitions, whatever their first
+    line says. A law is proved, so nobody has to believe the files of laws.
     """
     text = path.read_text(encoding="utf-8") if path.exists() else ""
+    for module in BUILT_IN.findall(text):
+        yield f"`{module}`"
     for crate, module in DECLARED.findall(text):
         if (CRATES / crate).exists():
             yield f"(../{declared_in(crate, module).relative_to(TOP)})"

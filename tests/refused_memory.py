@@ -97,16 +97,6 @@ def failures_of(words, status, library):
     return failures, count
 
 
-def is_right(out, answers):
-    """Whether the answers are the right ones: a Refresh that ends an allocation finds none when it is made once more."""
-    lines, wanted = out.splitlines(), answers.splitlines()
-
-    def alike(line, right):
-        return line == right or " 0104" in right and line.startswith(right[:right.index(" 0104")] + " 0114")
-
-    return len(lines) == len(wanted) and all(map(alike, lines, wanted))
-
-
 def failures_of_repeated(library):
     """Returns what is wrong with the runs in which a replay is refused memory once and is called again, and how many there were.
 
@@ -115,7 +105,7 @@ def failures_of_repeated(library):
     folder = TOP / "crates" / "session_replay"
     answers = (folder / "stdout").read_text(encoding="utf-8")
     ends = dict(refused_runs([], library, False, program=folder / "out" / "session_replay", events=folder / "stdin"))
-    well = {first for first, (status, out, err) in ends.items() if (status, err) == (0, "") and is_right(out, answers)}
+    well = {first for first, end in ends.items() if end == (0, answers, "")}
     failures = [f"session_replay, refused at {first}: {end[0]}, {end[2]!r}" for first, end in ends.items()
                 if first not in well and not (end[0] == 1 and answers.startswith(end[1]))]
     repeated = len(well)

@@ -39,7 +39,7 @@ async def run(port, count):
         returned += await asyncio.wait_for(receiver.received.get(), 5) == (sent, address)
     relayed.close()
     # the deletion of the allocation is answered before the end
-    await asyncio.sleep(0.2)
+    await asyncio.wait(asyncio.all_tasks() - {asyncio.current_task()}, timeout=5)
     peer.close()
     return returned
 

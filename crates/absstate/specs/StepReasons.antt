@@ -32,9 +32,10 @@ IsRegisterSum (insn.Alu W64 Add dst (operand.Reg src)) = Unit {0}
 IsRegisterSum (insn.Alu W64 Sub dst (operand.Reg src)) = Unit {0}
 IsRegisterSum i = ⊥
 
--- a constant is added to a register, or subtracted from it
+-- a constant is added to a register, or subtracted from it, on 64 bits
 abbrev pub IsConstantSum : Insn → Type 0
-IsConstantSum (insn.Alu w op dst (operand.Imm n)) = Unit {0}
+IsConstantSum (insn.Alu W64 Add dst (operand.Imm n)) = Unit {0}
+IsConstantSum (insn.Alu W64 Sub dst (operand.Imm n)) = Unit {0}
 IsConstantSum i = ⊥
 
 -- The refusals of an instruction that speak of the places of pointers into the datagram: an access outside the datagram, and

@@ -344,7 +344,7 @@ fn server<'a>(alloc: Global) -> Result<Command<'a>, AllocError>
             alloc,
             "stats",
             "S",
-            "Print counters to standard error each S seconds, and at the end",
+            "Print counters to standard error each S seconds, and after the last round",
         ))
 }
 

@@ -344,7 +344,7 @@ const REFUSED: [Refused; 51] = [
             "--nonce-lifetime <S>",
             "The seconds after which a new nonce is drawn; 3600 by default",
             "--stats <S>",
-            "Print counters to standard error each S seconds, and at the end",
+            "Print counters to standard error each S seconds, and after the last round",
             "--realm <R>",
             "The realm; relay by default",
             "--user <NAME:PASSWORD>",

@@ -1,3 +1,4 @@
 mod Events
 mod Numbers
 mod Splits
+mod WrittenBytes

@@ -10,4 +10,4 @@ mod writing;
 pub use action::Action;
 pub use meta::{Meta, Source};
 pub use parsing::{Parsed, parse};
-pub use writing::push_answer;
+pub use writing::write_answer;

@@ -1,55 +1,120 @@
 //! Writes the lines of answers.
 
-ghost use Rattle.std.specs.Prelude.{◌≡◌, ◌++◌, ◌∷◌, [], OnOk};
+ghost use Rattle.std.specs.Prelude.{◌≡◌, ◌≤◌, ◌++◌, ◌∷◌, [], ℕ, length, take, IfOk, IfSome, OnOk, OnErr};
+ghost use Rattle.std.specs.Io.KnownBytes.{Appends};
+ghost use Rattle.hex.specs.Hex.{encode_lower};
 ghost use Rattle.events.specs.Actions.{sending_of};
 ghost use Rattle.events.specs.Lines.{bytes_text, answer_line};
 
 use crate::action::Action;
-use std::alloc::{AllocError, Global};
+use arrayvec::ArrayString;
+use std::fmt::{self, Display, Write as _};
+use std::io::{self, ErrorKind, Write};
 
-/// Appends bytes as hexadecimal digits; no bytes as a hyphen.
-fn push_bytes(alloc: Global, out: &mut Vec<u8>, bytes: &[u8]) -> Result<(), AllocError>
-    ensures { OnOk result (out.new.items ≡ out.old.items ++ bytes_text bytes.now) }
-{
-    if bytes.is_empty() {
-        out.push(b'-')?;
-        return Ok(());
-    }
-    let digits = hex::encode(alloc, bytes)?;
-    out.extend_from_slice(digits.as_bytes())?;
-    Ok(())
-}
+/// Room for what precedes the bytes of a line: a side, a slot and an address.
+const FRONT: usize = 96;
 
-/// Appends the line of what a step sends, without its line feed.
-fn push_line(alloc: Global, out: &mut Vec<u8>, action: &Action<'_>) -> Result<(), AllocError>
-    ensures { OnOk result (out.new.items ≡ out.old.items ++ answer_line (sending_of action.entry.now)) }
-{
-    match action {
-        Action::Nothing => {
-            out.push(b'-')?;
-            Ok(())
-        }
-        Action::ToPeer { slot, peer, bytes } => {
-            let front = format!(in alloc; "p {slot} {peer} ")?;
-            out.extend_from_slice(front.as_bytes())?;
-            push_bytes(alloc, out, bytes)
-        }
-        Action::ToClient { client, bytes } => {
-            let front = format!(in alloc; "c {client} ")?;
-            out.extend_from_slice(front.as_bytes())?;
-            push_bytes(alloc, out, bytes)
-        }
-    }
-}
+/// How many bytes are written as digits at once.
+const CHUNK: usize = 512;
 
-/// Appends the line of what a step sends, with its line feed.
+/// Writes all of some bytes.
 ///
 /// # Errors
-/// Where memory runs out.
-pub fn push_answer(alloc: Global, out: &mut Vec<u8>, action: &Action<'_>) -> Result<(), AllocError>
-    ensures { OnOk result (out.new.items ≡ out.old.items ++ answer_line (sending_of action.entry.now) ++ 10 ∷ []) }
+/// The first failure of the writer that is no interruption; a beginning of the bytes was written.
+fn write_whole<W: Write>(writer: &mut W, bytes: &[u8]) -> io::Result<()>
+    ensures ok { OnOk result (Appends (W.contents writer.old) (W.contents writer.new) bytes.now) }
+    ensures err { OnErr result ((n : ℕ) × Appends (W.contents writer.old) (W.contents writer.new) (take n bytes.now)) }
 {
-    push_line(alloc, out, action)?;
-    out.push(b'\n')?;
+    let mut rest = bytes;
+    for _ in 0..u64::MAX {
+        if rest.is_empty() {
+            return Ok(());
+        }
+        match writer.write(rest) {
+            Ok(0) => return Err(ErrorKind::WriteZero.into()),
+            Ok(n) => rest = &rest[n..],
+            Err(e) => {
+                if e.kind() != ErrorKind::Interrupted {
+                    return Err(e);
+                }
+            }
+        }
+    }
+    Err(ErrorKind::Interrupted.into())
+}
+
+/// Writes at most [`CHUNK`] bytes as hexadecimal digits.
+fn write_digits<W: Write>(writer: &mut W, bytes: &[u8]) -> io::Result<()>
+    requires { length bytes.now ≤ CHUNK }
+    ensures ok { OnOk result (Appends (W.contents writer.old) (W.contents writer.new) (encode_lower bytes.now)) }
+    ensures err { OnErr result ((n : ℕ) × Appends (W.contents writer.old) (W.contents writer.new) (take n (encode_lower bytes.now))) }
+{
+    let mut room = [0u8; 2 * CHUNK];
+    let digits = &mut room[..2 * bytes.len()];
+    let Ok(()) = hex::encode_to_slice(bytes, digits) else {
+        unreachable!();
+    };
+    write_whole(writer, digits)
+}
+
+/// Writes bytes as hexadecimal digits; no bytes as a hyphen.
+fn write_bytes<W: Write>(writer: &mut W, bytes: &[u8]) -> io::Result<()>
+    ensures ok { OnOk result (Appends (W.contents writer.old) (W.contents writer.new) (bytes_text bytes.now)) }
+    ensures err { OnErr result ((n : ℕ) × Appends (W.contents writer.old) (W.contents writer.new) (take n (bytes_text bytes.now))) }
+{
+    if bytes.is_empty() {
+        return write_whole(writer, b"-");
+    }
+    for chunk in bytes.chunks(CHUNK) {
+        write_digits(writer, chunk)?;
+    }
     Ok(())
+}
+
+/// Returns the text that precedes the bytes of a line.
+///
+/// # Errors
+/// Where it is longer than the longest one.
+fn front_of<D: Display + Drop>(value: D) -> Result<ArrayString<FRONT>, fmt::Error>
+    ensures { IfOk result (λ front. IfSome (D.output value) (λ text. front.bytes ≡ text)) }
+{
+    let mut front = ArrayString::new();
+    write!(front, "{value}")?;
+    Ok(front)
+}
+
+/// Writes a line: what precedes its bytes, the bytes, and a line feed.
+fn write_line<W: Write, D: Display + Drop>(writer: &mut W, front: D, bytes: &[u8]) -> io::Result<()>
+    ensures ok { OnOk result (IfSome (D.output front) (λ text. Appends (W.contents writer.old) (W.contents writer.new)
+        (text ++ bytes_text bytes.now ++ 10 ∷ []))) }
+    ensures err { OnErr result (IfSome (D.output front) (λ text. (n : ℕ) × Appends (W.contents writer.old)
+        (W.contents writer.new) (take n (text ++ bytes_text bytes.now ++ 10 ∷ [])))) }
+{
+    let Ok(front) = front_of(front) else {
+        return Err(ErrorKind::WriteZero.into());
+    };
+    write_whole(writer, front.as_bytes())?;
+    write_bytes(writer, bytes)?;
+    write_whole(writer, b"\n")
+}
+
+/// Writes the line of what a step sends, with its line feed.
+///
+/// # Errors
+/// The first failure of the writer that is no interruption; a beginning of the line was written.
+pub fn write_answer<W: Write>(writer: &mut W, action: &Action<'_>) -> io::Result<()>
+    ensures ok { OnOk result (Appends (W.contents writer.old) (W.contents writer.new)
+        (answer_line (sending_of action.now) ++ 10 ∷ [])) }
+    ensures err { OnErr result ((n : ℕ) × Appends (W.contents writer.old) (W.contents writer.new)
+        (take n (answer_line (sending_of action.now) ++ 10 ∷ []))) }
+{
+    match action {
+        Action::Nothing => write_whole(writer, b"-\n"),
+        Action::ToPeer { slot, peer, bytes } => {
+            write_line(writer, format_args!("p {slot} {peer} "), bytes)
+        }
+        Action::ToClient { client, bytes } => {
+            write_line(writer, format_args!("c {client} "), bytes)
+        }
+    }
 }

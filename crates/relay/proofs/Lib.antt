@@ -11,4 +11,3 @@ mod ReadLines
 mod SameNonce
 mod ShippedRules
 mod ShippedRuns
-mod WrittenBytes

@@ -1,9 +1,8 @@
 -- One more event that was read, and answered.
 use Rattle.std.proofs.Common.{◌≡◌, ◌≢◌, ℕ, suc, ◌+◌, ◌<◌, ◌≤◌, ◌^◌, ◌⊎◌, true, false, List, [], ◌∷◌, ◌++◌, length, length-append, take, refl, sym, ap, ◌∙◌, inl, inr, arith, subst, append_assoc, append-nil}
-use Rattle.std.specs.Prelude.{Option, None, Some, IfSome, Result, Ok, Err, OnErr, is_some}
+use Rattle.std.specs.Prelude.{Option, None, Some, IfSome, Result, Ok, Err, IfErr, is_some}
 use Rattle.std.proofs.lemmas.List.Elements.{All-nil, All-push}
 use Rattle.std.proofs.lemmas.Option.{same_Some, none-some}
-use Rattle.std.proofs.lemmas.List.{take_all}
 use Rattle.std.specs.Io.KnownBytes.{Appends, Consumes, IsAtEnd}
 use Rattle.std.specs.Io.BufRead.{first_piece, drop_through, DropsThrough}
 use Rattle.std.proofs.KnownBytes.{Appends-nil, Appends-trans, Consumes-nil}
@@ -14,7 +13,7 @@ use Rattle.events.specs.Reading.{event_in}
 use Rattle.events.specs.ReadingLaws.{event_in-line_of, event_in-is}
 use Rattle.relay.specs.ReadLines.{IsLine}
 use Rattle.relay.specs.Relays.{RelayContents, state_of}
-use Rattle.relay.specs.Replays.{text_of_events, IsText, answer_text, answers_text, after_line, answer_to, system_of, IsSameRelay, HasPlayed, HasPlayedAll, answers_of_events, StopsAtLine, StopsShort}
+use Rattle.relay.specs.Replays.{text_of_events, IsText, answer_text, answers_text, after_line, answer_to, system_of, IsSameRelay, HasPlayed, HasPlayedAll, answers_of_events, IsCut, StopsAtLine, StopsBefore, StopsWriting}
 use Rattle.relay.specs.Systems.{SystemState, System, SystemOutcome, system_step, state_after_events}
 use Rattle.relay.specs.declared.reading.TheConstants.{MAX_LINE}
 use Rattle.relay.proofs.FirstLines.{taken}
@@ -170,16 +169,15 @@ module _ (count : ℕ) (read left : Option (List ℕ)) (old now : RelayContents)
       of None h = tt
       of (Some xs) h = (h.0, elim h.1 [ inl same ↦ same | inr long ↦ absurd (omega (arith, short e found, long.0)) ])
 
-    pub goes_on : (holds' : Option (List ℕ)) (out : List ℕ) → is_some (event_in now.config.slots line) ≡ true
-        → out ≡ answer_to (system_of now) now.config (state_of now) (event_in now.config.slots line) → Appends holds holds' out
+    pub goes_on : (holds' : Option (List ℕ)) → is_some (event_in now.config.slots line) ≡ true
+        → Appends holds holds' (answer_to (system_of now) now.config (state_of now) (event_in now.config.slots line))
         → IsUnderWay (count + 1) read left' old new held holds'
-    goes_on holds' out known answer wrote =
+    goes_on holds' known wrote =
         let found = some_value (event_in now.config.slots line) known in
         let e : Event = found.0 in
         let is = event_in-is now.config.slots line e found.1 in
         let event : IsEvent old.config.slots e = subst (λ n. IsEvent n e) slots_same is.0 in
-        let text : out ≡ answer_text (system_of old) old.config (state_after_events (system_of old) old.config (state_of old) so_far.events) e =
-        answer ∙ ap (answer_to (system_of now) now.config (state_of now)) found.1 ∙ answer_is e in
+        let text = ap (answer_to (system_of now) now.config (state_of now)) found.1 ∙ answer_is e in
         record {
           events = so_far.events ++ e ∷ [];
           number = omega (arith, length-append so_far.events (e ∷ []), so_far.number);
@@ -212,65 +210,45 @@ module _ (count : ℕ) (read left : Option (List ℕ)) (old now : RelayContents)
     not_the_end (Some x) (Some y) events (inl h) more bad = (y, h, more.0, differs y more.1 bad)
     not_the_end (Some x) (Some y) events (inr h) more bad = absurd (more.0 (same_Some y [] h.0))
 
-    pub stops_at : event_in now.config.slots line ≡ None → StopsAtLine (count + 1) read old new held holds
-    stops_at none = record {
+    pub stops_at : (holds' : Option (List ℕ)) → event_in now.config.slots line ≡ None
+        → Appends holds holds' (answer_to (system_of now) now.config (state_of now) (event_in now.config.slots line)) → StopsAtLine (count + 1) read old new held holds'
+    stops_at holds' none wrote = record {
       events = so_far.events;
       played = unplayed none;
       number = omega (arith, so_far.number);
       text = not_the_end read left so_far.events so_far.has_read more
           (λ e is is_line. none-some e (sym none ∙ ap (λ (n : ℕ). event_in n line) slots_same ∙ ap (event_in old.config.slots) is_line ∙ event_in-line_of old.config.slots e (subst (λ (n : ℕ). n < 2 ^ 64) slots_same few) is));
-      written = so_far.written;
+      written = subst (Appends held holds') (append-nil (answers_of_events old so_far.events))
+          (Appends-trans held holds holds' (answers_of_events old so_far.events) [] so_far.written (subst (λ o. Appends holds holds' (answer_to (system_of now) now.config (state_of now) o)) none wrote));
     }
 
-    -- all answers so far were written, and the last event's perhaps in part
-    cut : (e : Event) (holds' : Option (List ℕ)) (n : ℕ) → event_in now.config.slots line ≡ Some e
-        → Appends holds holds' (take n (answer_text (system_of old) old.config (state_after_events (system_of old) old.config (state_of old) so_far.events) e)) → StopsShort read old new held holds'
-    cut e holds' n found wrote =
-        let is = event_in-is now.config.slots line e found in
+    -- all answers so far were written, and the last event's in part
+    pub stops_in : (holds' : Option (List ℕ)) → IsCut holds holds' (system_of now) now.config (state_of now) (event_in now.config.slots line) → StopsWriting read old new held holds'
+    stops_in holds' part =
+        let found = some_value (event_in now.config.slots line) part.known in
+        let e : Event = found.0 in
+        let is = event_in-is now.config.slots line e found.1 in
         let event : IsEvent old.config.slots e = subst (λ n. IsEvent n e) slots_same is.0 in
-        let front = answers_of_events old so_far.events in
-        let most = answer_text (system_of old) old.config (state_after_events (system_of old) old.config (state_of old) so_far.events) e in
-        let whole : answers_of_events old (so_far.events ++ e ∷ []) ≡ front ++ most = answers-push (system_of old) old.config (state_of old) so_far.events e in
+        let text = ap (answer_to (system_of now) now.config (state_of now)) found.1 ∙ answer_is e in
         record {
-          events = so_far.events ++ e ∷ [];
-          played = played_more new e event (stepped ∙ ap (after_line (system_of now) now.config (state_of now)) found) same;
-          text = begins read left' (so_far.events ++ e ∷ []) (read_more read left left' so_far.events line e so_far.has_read (whole_line e found) (drops (short e found)) is.1);
-          count = length front + n;
-          written = subst (Appends held holds') (sym (take_past front most n) ∙ ap (take (length front + n)) (sym whole)) (Appends-trans held holds holds' front (take n most) so_far.written wrote);
+          events = so_far.events;
+          last = e;
+          played = played_more new e event (stepped ∙ ap (after_line (system_of now) now.config (state_of now)) found.1) same;
+          text = begins read left' (so_far.events ++ e ∷ []) (read_more read left left' so_far.events line e so_far.has_read (whole_line e found.1) (drops (short e found.1)) is.1);
+          count = part.count;
+          written = Appends-trans held holds holds' (answers_of_events old so_far.events) _ so_far.written (subst (λ l. Appends holds holds' (take part.count l)) text part.written);
         }
 
-    pub stops_in : (holds' : Option (List ℕ)) (out : List ℕ) (n : ℕ) → is_some (event_in now.config.slots line) ≡ true
-        → out ≡ answer_to (system_of now) now.config (state_of now) (event_in now.config.slots line) → Appends holds holds' (take n out) → StopsShort read old new held holds'
-    stops_in holds' out n known answer wrote =
-        let found = some_value (event_in now.config.slots line) known in
-        let text : out ≡ answer_text (system_of old) old.config (state_after_events (system_of old) old.config (state_of old) so_far.events) found.0 =
-        answer ∙ ap (answer_to (system_of now) now.config (state_of now)) found.1 ∙ answer_is found.0 in
-        cut found.0 holds' n found.1 (subst (λ l. Appends holds holds' (take n l)) text wrote)
-
-    -- nothing of the last event's answer was written
-    pub stops_before : StopsShort read old new held holds
-    stops_before = of (event_in now.config.slots line) refl where
-      of : (o : Option Event) → event_in now.config.slots line ≡ o → StopsShort read old new held holds
-      of None e = record {
-        events = so_far.events;
-        played = unplayed e;
-        text = begins read left so_far.events so_far.has_read;
-        count = length (answers_of_events old so_far.events);
-        written = subst (Appends held holds) (sym (take_all (length (answers_of_events old so_far.events)) (answers_of_events old so_far.events) (omega arith))) so_far.written;
-      }
-      of (Some d) e = cut d holds 0 e (Appends-nil holds)
-
   -- all answers so far were written
-  pub stops_short : StopsShort read old now held holds
-  stops_short = record {
+  pub stops_before : StopsBefore read old now held holds
+  stops_before = record {
     events = so_far.events;
     played = so_far.played;
     text = begins read left so_far.events so_far.has_read;
-    count = length (answers_of_events old so_far.events);
-    written = subst (Appends held holds) (sym (take_all (length (answers_of_events old so_far.events)) (answers_of_events old so_far.events) (omega arith))) so_far.written;
+    written = so_far.written;
   }
 
 -- what holds whatever the error
-pub for_err : {X E : Type 0} {P : Type 0} (r : Result X E) → P → OnErr r P
+pub for_err : {X E : Type 0} {P : E → Type 0} (r : Result X E) → ((e : E) → P e) → IfErr r P
 for_err (Ok x) p = tt
-for_err (Err e) p = p
+for_err (Err e) p = p e

@@ -1,6 +1,7 @@
 -- A datagram that was read over the room of a relay, and stepped.
-use Rattle.std.proofs.Common.{◌≡◌, ℕ, List, [], ◌∷◌, ◌++◌, length, take, ap, ◌∙◌}
-use Rattle.std.specs.Prelude.{Option, Some}
+use Rattle.std.proofs.Common.{◌≡◌, ℕ, List, [], ◌∷◌, ◌++◌, length, take, sym, subst, ap, ◌∙◌}
+use Rattle.std.specs.Prelude.{Option, Some, is_some}
+use Rattle.std.specs.Io.KnownBytes.{Appends}
 use Rattle.machine.specs.Contents.{room_of, with_room}
 use Rattle.machine.specs.FrameLaws.{room_written}
 use Rattle.semantics.specs.declared.limits.TheConstants.{MAX_DATAGRAM}
@@ -8,7 +9,7 @@ use Rattle.events.specs.Events.{Event, Datagram, Sending}
 use Rattle.events.specs.Lines.{answer_line}
 use Rattle.events.specs.declared.meta.Meta.{Meta}
 use Rattle.relay.specs.Relays.{RelayContents, state_of}
-use Rattle.relay.specs.Replays.{system_of, after_line, answer_to}
+use Rattle.relay.specs.Replays.{system_of, after_line, answer_to, IsCut}
 use Rattle.relay.specs.Steps.{HasStepped, outcome_of}
 use Rattle.relay.specs.Systems.{SystemOutcome, system_step}
 
@@ -24,9 +25,17 @@ module _ (old : RelayContents) (room : List ℕ) (given : Meta) (n : ℕ) (read 
   pub state_is : (new : RelayContents) → HasStepped with_bytes new (outcome_of with_bytes given n) → state_of new ≡ after_line (system_of old) old.config (state_of old) read
   state_is new stepped = stepped.state ∙ ap (λ (o : SystemOutcome). o.state) outcome_is ∙ ap (after_line (system_of old) old.config (state_of old)) is
 
-  pub answer_is : (sent : Option Sending) (before out : List ℕ) → sent ≡ (outcome_of with_bytes given n).answer → before ≡ [] → out ≡ before ++ answer_line sent ++ 10 ∷ [] → out ≡ answer_to (system_of old) old.config (state_of old) read
-  answer_is sent before out sends empty wrote =
-      wrote
-      ∙ (λ i. empty i ++ answer_line (sends i) ++ 10 ∷ [])
+  -- its line is that of the event's answer
+  pub answer_is : (sent : Option Sending) → sent ≡ (outcome_of with_bytes given n).answer → answer_line sent ++ 10 ∷ [] ≡ answer_to (system_of old) old.config (state_of old) read
+  answer_is sent sends =
+      (λ i. answer_line (sends i) ++ 10 ∷ [])
       ∙ ap (λ (o : SystemOutcome). answer_line o.answer ++ 10 ∷ []) outcome_is
       ∙ ap (answer_to (system_of old) old.config (state_of old)) is
+
+  -- a beginning of it is one of that answer
+  pub cut_is : (sent : Option Sending) → sent ≡ (outcome_of with_bytes given n).answer → (held holds : Option (List ℕ)) → (k : ℕ) × Appends held holds (take k (answer_line sent ++ 10 ∷ [])) → IsCut held holds (system_of old) old.config (state_of old) read
+  cut_is sent sends held holds (k, wrote) = record {
+    known = ap is_some (sym is);
+    count = k;
+    written = subst (λ l. Appends held holds (take k l)) (answer_is sent sends) wrote;
+  }

@@ -1,5 +1,5 @@
 -- Meaning. What a replay has read, done and written: the text of events, and the text of their answers.
-use Rattle.std.specs.Prelude.{◌≡◌, ◌≢◌, ℕ, ◌+◌, ◌⊎◌, List, [], ◌∷◌, ◌++◌, All, length, take, Option, None, Some, IfSome}
+use Rattle.std.specs.Prelude.{◌≡◌, ◌≢◌, ℕ, ◌+◌, ◌⊎◌, List, [], ◌∷◌, ◌++◌, All, length, take, true, Option, None, Some, IfSome, is_some}
 use Rattle.std.specs.Io.BufRead.{first_piece}
 use Rattle.std.specs.Io.KnownBytes.{Appends}
 use Rattle.control.specs.declared.config.Config.{Config}
@@ -46,6 +46,12 @@ abbrev pub answer_to : System → Config → SystemState → Option Event → Li
 answer_to system config s None = []
 answer_to system config s (Some e) = answer_text system config s e
 
+-- a beginning of the line of the answer to the event of a line was written
+pub record IsCut (held holds : Option (List ℕ)) (system : System) (config : Config) (s : SystemState) (e : Option Event) : Type 0 where
+  pub known : is_some e ≡ true
+  pub count : ℕ
+  pub written : Appends held holds (take count (answer_to system config s e))
+
 -- ---- replays
 
 -- the system of a relay's programs
@@ -84,10 +90,18 @@ pub record StopsAtLine (n : ℕ) (read : Option (List ℕ)) (old new : RelayCont
       × ((e : Event) → IsEvent old.config.slots e → first_piece 10 rest ≢ line_of e))
   pub written : Appends held holds (answers_of_events old events)
 
--- a beginning of the answers to events that were read whole was written
-pub record StopsShort (read : Option (List ℕ)) (old new : RelayContents) (held holds : Option (List ℕ)) : Type 0 where
+-- stopped before the next line: some events were read whole, and the lines of all their answers were written
+pub record StopsBefore (read : Option (List ℕ)) (old new : RelayContents) (held holds : Option (List ℕ)) : Type 0 where
   pub events : List Event
   pub played : HasPlayed events old new
   pub text : IfSome read (λ text. (rest : List ℕ) × (text ++ 10 ∷ [] ≡ text_of_events events ++ rest))
+  pub written : Appends held holds (answers_of_events old events)
+
+-- stopped by the writer: of the line of the answer to the last event that was read, a beginning was written
+pub record StopsWriting (read : Option (List ℕ)) (old new : RelayContents) (held holds : Option (List ℕ)) : Type 0 where
+  pub events : List Event
+  pub last : Event
+  pub played : HasPlayed (events ++ last ∷ []) old new
+  pub text : IfSome read (λ text. (rest : List ℕ) × (text ++ 10 ∷ [] ≡ text_of_events (events ++ last ∷ []) ++ rest))
   pub count : ℕ
-  pub written : Appends held holds (take count (answers_of_events old events))
+  pub written : Appends held holds (answers_of_events old events ++ take count (answer_text (system_of old) old.config (state_after_events (system_of old) old.config (state_of old) events) last))

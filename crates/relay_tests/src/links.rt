@@ -2,7 +2,7 @@
 
 use crate::story::{STORY, shipped};
 use attributes::Addr;
-use events::{Action, Parsed, Source, parse, push_answer};
+use events::{Action, Parsed, Source, parse, write_answer};
 use relay::Relay;
 use semantics::MAX_DATAGRAM;
 use serving::{Link, LinkFault, Place, ServeError, serve_once};
@@ -37,7 +37,6 @@ enum Fate {
 /// A link with one datagram, which writes the line of what is sent to a log.
 #[derive(Drop)]
 struct Wire<'a> {
-    alloc: Global,
     from: Addr,
     datagram: &'a [u8],
     fate: Fate,
@@ -78,7 +77,7 @@ impl Link for Wire<'_> {
                 bytes,
             },
         };
-        push_answer(self.alloc, self.log, &action).map_err(|_| LinkFault)
+        write_answer(self.log, &action).map_err(|_| LinkFault)
     }
 }
 
@@ -99,7 +98,6 @@ fn serve(
         Source::Peer { slot, addr } => (Place::Slot(slot), addr),
     };
     let mut wire = Wire {
-        alloc,
         from,
         datagram: &room[..n],
         fate,

@@ -1,5 +1,5 @@
 //! Replays the events on standard input with the shipped programs, a call for each line, and prints the line of each answer. A
-//! call that is refused memory is made once more over the same line.
+//! call that is refused memory is made once more over the same line. The answers have their room before the first event.
 #![tactic(auto)]
 
 use anyhow::{Context, Result};
@@ -11,6 +11,9 @@ use programs::{CLIENT, PEER};
 use relay::{Relay, ReplayError};
 use std::alloc::{AllocError, Global};
 use std::io::{self, BufRead, BufReader, Write};
+
+/// Room for the line of any answer, in bytes.
+const LONGEST: usize = 131_200;
 
 /// Returns the configuration of the relay of the session.
 fn config(alloc: Global) -> Result<Config, AllocError> {
@@ -31,22 +34,21 @@ fn config(alloc: Global) -> Result<Config, AllocError> {
     })
 }
 
-/// Replays the event of a line, and returns its answer.
+/// Replays the event of a line, and writes the line of its answer over what `answer` had.
 ///
 /// # Errors
 /// Where memory is refused twice, and where the line is no event's.
-fn play(alloc: Global, relay: &mut Relay, line: &[u8]) -> Result<Vec<u8>> {
-    let mut answer = Vec::new(alloc);
-    let mut reader = line;
-    let first = relay.replay(alloc, &mut reader, &mut answer);
-    if !matches!(first, Err(ReplayError::Memory | ReplayError::Write)) {
-        first?;
-        return Ok(answer);
-    }
+fn play(alloc: Global, relay: &mut Relay, line: &[u8], answer: &mut Vec<u8>) -> Result<()> {
     answer.clear();
     let mut reader = line;
-    relay.replay(alloc, &mut reader, &mut answer)?;
-    Ok(answer)
+    let first = relay.replay(alloc, &mut reader, answer);
+    if first != Err(ReplayError::Memory) {
+        first?;
+        return Ok(());
+    }
+    let mut reader = line;
+    relay.replay(alloc, &mut reader, answer)?;
+    Ok(())
 }
 
 fn run<R: Input + Print + AllocGlobal>(rt: &R) -> Result<()> {
@@ -57,12 +59,15 @@ fn run<R: Input + Print + AllocGlobal>(rt: &R) -> Result<()> {
     let mut reader = BufReader::new(alloc, rt.reader())?;
     let mut writer = io::writer(rt);
     let mut line = Vec::new(alloc);
+    let mut answer = Vec::new(alloc);
+    answer.reserve(LONGEST)?;
     for _ in 0..u64::MAX {
         line.clear();
         if reader.read_until(b'\n', &mut line)? == 0 {
             break;
         }
-        writer.write_all(&play(alloc, &mut relay, &line)?)?;
+        play(alloc, &mut relay, &line, &mut answer)?;
+        writer.write_all(&answer)?;
     }
     Ok(())
 }

@@ -1,7 +1,7 @@
 -- Interface. Where the abstract step refuses an instruction, a loosening of each strict member is stuck for that
 -- reason.
-use Rattle.std.proofs.Common.{◌≡◌, ℕ, ◌<◌, ◌^◌, Bool, true, false, ◌&&◌, ℤ, pos, negsuc, ◌+ℤ◌, ◌-ℤ◌, ◌≤ℤ◌, ◌<ℤ◌, Option, Some, None, Result, Ok, Err, refl, sym, ap, ◌∙◌, subst, arith, rules}
-use Rattle.std.specs.Prelude.{int_le, slice_index_or, ◌==◌, if◌then◌else◌}
+use Rattle.std.proofs.Common.{◌≡◌, ℕ, ◌<◌, ◌^◌, Bool, true, false, ◌&&◌, ℤ, pos, negsuc, ◌+ℤ◌, ◌-ℤ◌, ◌≤ℤ◌, ◌<ℤ◌, Option, Some, None, Result, Ok, Err, refl, sym, ap, ◌∙◌, subst, arith, rules, inl, inr}
+use Rattle.std.specs.Prelude.{◌⊎◌, int_le, slice_index_or, ◌==◌, if◌then◌else◌}
 use Rattle.std.specs.Int.{w64, cast_signed}
 use Rattle.std.proofs.lemmas.Int.{ints}
 use Rattle.std.proofs.lemmas.List.{get_or-set_other}
@@ -35,7 +35,7 @@ use Rattle.interval.specs.declared.domain.Bounds.{Bounds}
 use Rattle.absstate.specs.AbstractStates.{abstract_at}
 use Rattle.absstate.specs.AbstractSteps as abstract
 use Rattle.absstate.specs.Membership.{Strict, Places, place_of, IsHeld, IsValue, IsMemberAt}
-use Rattle.absstate.specs.StepReasons.{IsAboutPlaces}
+use Rattle.absstate.specs.StepReasons.{IsAboutPlaces, IsConstantSum}
 use Rattle.absstate.specs.declared.abstract_state.Anchor.{Anchor}
 use Rattle.absstate.specs.declared.abstract_state.Anchor.TheVariants.{First, Made}
 use Rattle.absstate.specs.declared.abstract_state.AbstractValue.{AbstractValue}
@@ -108,6 +108,12 @@ refused claimed F (Err f) (Err g) r agree is c =
     let other : f ≡ g = agree (subst claimed same c) in
     ap Err (sym other ∙ sym same)
 
+-- an instruction with a constant moves pointers, or moves none, since it is no sum of 64 bits
+moves_or_not : (op : AluOp) (w : Width) (dst : Reg) (z : ℤ) (P : Type 0) → (IsConstantSum (insn.Alu w op dst (operand.Imm z)) → P) → P ⊎ ((k : ℤ) (n : ℕ) → moved_place op w k n ≡ None)
+moves_or_not Add W64 dst z P claimed = inl (claimed tt)
+moves_or_not Sub W64 dst z P claimed = inl (claimed tt)
+moves_or_not op w dst z P claimed = inr (λ k n. refl)
+
 same_number : (n : ℕ) → (n == n) ≡ true
 same_number n = search rules
 
@@ -177,20 +183,24 @@ module _ {D : Type 0} (ops : Operations D) (Member : D → ℕ → Type 0) (soun
         imm_stack : (k : ℤ) (u : Value) → abstract.single_of ops (ops.exact n) ≡ None → effects.alu_result op w u (value.Scalar n) ≡ Err PointerArithmetic
         imm_stack k u none = let bad : Some n ≡ None = sym (exact_single n fits) ∙ none in absurd cc
 
-        imm_by : (x : AbstractValue D) (u : Value) → (IsMade x → ⊥) → IsValue Member Strict places s.memory.length x u → StraysBy ops Member sound a op w x (known.Scalar (ops.exact n)) u (value.Scalar n)
+        imm_none : (z : ℤ) (u : Value) → u ≡ value.Data z → moved_place op w z n ≡ None → effects.alu_result op w u (value.Scalar n) ≡ Err PointerArithmetic
+        imm_none z u is none = ap (λ (v : Value). effects.alu_result op w v (value.Scalar n)) is ∙ ap (effects.pointer_to value.Data) none
+
+        imm_by : (x : AbstractValue D) (u : Value) → (IsMade x → ⊥) ⊎ ((k : ℤ) (m : ℕ) → moved_place op w k m ≡ None) → IsValue Member Strict places s.memory.length x u → StraysBy ops Member sound a op w x (known.Scalar (ops.exact n)) u (value.Scalar n)
         imm_by (known.Data First k) u plain h = imm_first k u h.2
-        imm_by (known.Data (Made id low high proved) k) u plain h = absurd (plain tt)
+        imm_by (known.Data (Made id low high proved) k) u (inl plain) h = absurd (plain tt)
+        imm_by (known.Data (Made id low high proved) k) u (inr none) h = λ refused. imm_none (place_of places (Made id low high proved) +ℤ k) u h.2 (none (place_of places (Made id low high proved) +ℤ k) n)
         imm_by (known.Stack k) u plain h = imm_stack k u
         imm_by x u plain h = tt
 
       scalar_is : (m : ℕ) (v : Value) → ◌≡◌ {A = Result Value Reason} (Ok (value.Scalar m)) (Ok v) → value.Scalar m ≡ v
       scalar_is m v e = cc
 
-      imm_strays : (z : ℤ) → OperandFits (operand.Imm z) → NameNoMadeAnchor a.registers → Strays ops Member sound a s (insn.Alu w op dst (operand.Imm z))
+      imm_strays : (z : ℤ) → OperandFits (operand.Imm z) → (IsConstantSum (insn.Alu w op dst (operand.Imm z)) → NameNoMadeAnchor a.registers) → Strays ops Member sound a s (insn.Alu w op dst (operand.Imm z))
       imm_strays z fit plain x y u v p p' q q' =
           strays_same ops Member sound a op w (abstract_at a.registers dst) x (known.Scalar (ops.exact (imm_word w z))) y (effects.value_at s.registers dst) u (value.Scalar (imm_word w z)) v
           (held_known ops Member sound (abstract_at a.registers dst) x p) (ok_is ops Member sound (known.Scalar (ops.exact (imm_word w z))) y p') (held_is (effects.value_at s.registers dst) u q) (scalar_is (imm_word w z) v q')
-          (imm_by (imm_word w z) (imm_below w z fit) (abstract_at a.registers dst) (effects.value_at s.registers dst) (plain (number_of dst)) (member.registers dst))
+          (imm_by (imm_word w z) (imm_below w z fit) (abstract_at a.registers dst) (effects.value_at s.registers dst) (moves_or_not op w dst z (IsMade (abstract_at a.registers dst) → ⊥) (λ sums. plain sums (number_of dst))) (member.registers dst))
 
       -- ---- a sum with a register
 
@@ -256,7 +266,7 @@ module _ {D : Type 0} (ops : Operations D) (Member : D → ℕ → Type 0) (soun
     stuck_from : (i : Insn) → Fits i → abstract.abstract_step ops a i ≡ Err reason → (IsAboutPlaces reason i → NameNoMadeAnchor a.registers) → IsStuckFrom s i reason
     unfolding sum
     stuck_from (insn.Alu w op dst (operand.Reg r)) fit is plain = sum_stuck w op dst r (abstract_at a.registers dst) (abstract_at a.registers r) refl refl fit is
-    stuck_from (insn.Alu w op dst (operand.Imm n)) fit is plain = stuck_itself (insn.Alu w op dst (operand.Imm n)) fit is (λ e. imm_strays w op dst n fit (plain (subst (λ (r : Reason). IsAboutPlaces r (insn.Alu w op dst (operand.Imm n))) (sym e) tt)))
+    stuck_from (insn.Alu w op dst (operand.Imm n)) fit is plain = stuck_itself (insn.Alu w op dst (operand.Imm n)) fit is (λ e. imm_strays w op dst n fit (λ sums. plain (subst (λ (r : Reason). IsAboutPlaces r (insn.Alu w op dst (operand.Imm n))) (sym e) sums)))
     stuck_from i fit is plain = stuck_itself i fit is (λ e. tt)
 
   -- The machine is stuck at a loosening of a strict member. Where a bound of the datagram is the reason, the datagram has no

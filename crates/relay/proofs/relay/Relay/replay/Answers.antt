@@ -1,24 +1,25 @@
-use Rattle.std.proofs.Common.{◌≢◌, ◌≤◌, length, List, ℕ, [], sym, subst, ◌∙◌}
+use Rattle.std.proofs.Common.{◌≢◌, ◌≤◌, length, List, ℕ, [], sym, subst, ◌∙◌, rules}
 use Rattle.std.specs.Prelude.{IfSome}
 use Rattle.std.specs.Io.BufRead.{DropsThrough}
 use Rattle.events.specs.Reading.{event_in}
 use Rattle.relay.specs.ReadLines.{IsLine}
 use Rattle.relay.specs.declared.reading.TheConstants.{MAX_LINE}
-use Rattle.relay.proofs.Played.{starts, ends, goes_on, stops_at, stops_in, stops_before, stops_short, none_value, for_err}
+use Rattle.relay.proofs.Played.{starts, ends, goes_on, stops_at, stops_in, stops_before, none_value, for_err}
 use Rattle.relay.proofs.relay.Relay.replay.Goals as goal
 
 pub loop-count-init : goal.loop-count-init
 loop-count-init g c = starts _ _ _
 
-pub returns-in_err-next_line-clause-short : goal.returns-in_err-next_line-clause-short
-returns-in_err-next_line-clause-short g c = for_err c.from_residual.result (stops_short _ _ _ _ _ _ _ c.loop-count.invariant)
+pub returns-in_err-next_line-clause-before : goal.returns-in_err-next_line-clause-before
+returns-in_err-next_line-clause-before g c = for_err c.from_residual.result (λ e stopped. stops_before _ _ _ _ _ _ _ c.loop-count.invariant)
 
-pub returns-in_default-clause-short : goal.returns-in_default-clause-short
-returns-in_default-clause-short g c =
+pub returns-in_default-clause-writing : goal.returns-in_default-clause-writing
+returns-in_default-clause-writing g c = λ failed.
     let P : List ℕ → Type 0 = λ l. IfSome (g.R.Read.remaining c.loop-count.reader) (λ xs. (xs ≢ []) × IsLine l xs) in
     let D : List ℕ → Type 0 = λ l. length l ≤ MAX_LINE → DropsThrough (g.R.Read.remaining c.loop-count.reader) (g.R.Read.remaining c.next_line.new.reader) 10 in
-    stops_before _ _ _ _ _ _ _ c.loop-count.invariant (g.R.Read.remaining c.next_line.new.reader) c.deref.result.now c.play.new.self c.play.ensures.few
+    stops_in _ _ _ _ _ _ _ c.loop-count.invariant (g.R.Read.remaining c.next_line.new.reader) c.deref.result.now c.play.new.self c.play.ensures.few
     (subst P (sym c.deref.ensures.value) (c.in_ok-next_line.ensures.line c.if-not-branch.false)) (subst D (sym c.deref.ensures.value) c.in_ok-next_line.ensures.left) c.play.ensures.state c.play.ensures.same
+    (g.W.Write.contents c.play.new.writer) (search rules)
 
 pub returns-then-not-known-clause-line : goal.returns-then-not-known-clause-line
 returns-then-not-known-clause-line g c =
@@ -26,24 +27,7 @@ returns-then-not-known-clause-line g c =
     let D : List ℕ → Type 0 = λ l. length l ≤ MAX_LINE → DropsThrough (g.R.Read.remaining c.loop-count.reader) (g.R.Read.remaining c.next_line.new.reader) 10 in
     stops_at _ _ _ _ _ _ _ c.loop-count.invariant (g.R.Read.remaining c.next_line.new.reader) c.deref.result.now c.play.new.self c.play.ensures.few
     (subst P (sym c.deref.ensures.value) (c.in_ok-next_line.ensures.line c.if-not-branch.false)) (subst D (sym c.deref.ensures.value) c.in_ok-next_line.ensures.left) c.play.ensures.state c.play.ensures.same
-    (none_value (event_in c.loop-count.self.config.slots c.deref.result.now) (sym c.in-Ok.ensures.known ∙ c.if-not-known.true))
-
-pub returns-then-not-known-clause-short : goal.returns-then-not-known-clause-short
-returns-then-not-known-clause-short g c =
-    let P : List ℕ → Type 0 = λ l. IfSome (g.R.Read.remaining c.loop-count.reader) (λ xs. (xs ≢ []) × IsLine l xs) in
-    let D : List ℕ → Type 0 = λ l. length l ≤ MAX_LINE → DropsThrough (g.R.Read.remaining c.loop-count.reader) (g.R.Read.remaining c.next_line.new.reader) 10 in
-    stops_before _ _ _ _ _ _ _ c.loop-count.invariant (g.R.Read.remaining c.next_line.new.reader) c.deref.result.now c.play.new.self c.play.ensures.few
-    (subst P (sym c.deref.ensures.value) (c.in_ok-next_line.ensures.line c.if-not-branch.false)) (subst D (sym c.deref.ensures.value) c.in_ok-next_line.ensures.left) c.play.ensures.state c.play.ensures.same
-
-pub returns-in_err-write_whole-clause-short : goal.returns-in_err-write_whole-clause-short
-returns-in_err-write_whole-clause-short g c =
-    let P : List ℕ → Type 0 = λ l. IfSome (g.R.Read.remaining c.loop-count.reader) (λ xs. (xs ≢ []) × IsLine l xs) in
-    let D : List ℕ → Type 0 = λ l. length l ≤ MAX_LINE → DropsThrough (g.R.Read.remaining c.loop-count.reader) (g.R.Read.remaining c.next_line.new.reader) 10 in
-    let (n, wrote) = c.in_err-write_whole.ensures.err in
-    for_err c.from_residual-in_err-write_whole.result
-    (stops_in _ _ _ _ _ _ _ c.loop-count.invariant (g.R.Read.remaining c.next_line.new.reader) c.deref.result.now c.play.new.self c.play.ensures.few
-    (subst P (sym c.deref.ensures.value) (c.in_ok-next_line.ensures.line c.if-not-branch.false)) (subst D (sym c.deref.ensures.value) c.in_ok-next_line.ensures.left) c.play.ensures.state c.play.ensures.same
-    (g.W.Write.contents c.write_whole.new.writer) c.deref-in-loop-count.result.now n (sym c.in-Ok.ensures.known ∙ c.if-not-known.false) (c.deref-in-loop-count.ensures.value ∙ c.in-Ok.ensures.answer c.if-not-known.false) wrote)
+    (g.W.Write.contents c.play.new.writer) (none_value (event_in c.loop-count.self.config.slots c.deref.result.now) (sym c.in-Ok.ensures.known ∙ c.if-not-known.true)) c.in-Ok.ensures.written
 
 pub loop-count-preserved : goal.loop-count-preserved
 loop-count-preserved g c =
@@ -51,10 +35,10 @@ loop-count-preserved g c =
     let D : List ℕ → Type 0 = λ l. length l ≤ MAX_LINE → DropsThrough (g.R.Read.remaining c.loop-count.reader) (g.R.Read.remaining c.next_line.new.reader) 10 in
     goes_on _ _ _ _ _ _ _ c.loop-count.invariant (g.R.Read.remaining c.next_line.new.reader) c.deref.result.now c.play.new.self c.play.ensures.few
     (subst P (sym c.deref.ensures.value) (c.in_ok-next_line.ensures.line c.if-not-branch.false)) (subst D (sym c.deref.ensures.value) c.in_ok-next_line.ensures.left) c.play.ensures.state c.play.ensures.same
-    (g.W.Write.contents c.write_whole.new.writer) c.deref-in-loop-count.result.now (sym c.in-Ok.ensures.known ∙ c.if-not-known.false) (c.deref-in-loop-count.ensures.value ∙ c.in-Ok.ensures.answer c.if-not-known.false) c.in_ok-write_whole.ensures.ok
+    (g.W.Write.contents c.play.new.writer) (sym c.in-Ok.ensures.known ∙ c.if-not-known.false) c.in-Ok.ensures.written
 
-pub returns-clause-short : goal.returns-clause-short
-returns-clause-short g c = stops_short _ _ _ _ _ _ _ c.loop-count.invariant
+pub returns-clause-before : goal.returns-clause-before
+returns-clause-before g c = λ stopped. stops_before _ _ _ _ _ _ _ c.loop-count.invariant
 
 pub returns-then-not-branch-clause-ok : goal.returns-then-not-branch-clause-ok
 returns-then-not-branch-clause-ok g c =

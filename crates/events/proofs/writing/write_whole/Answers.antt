@@ -1,8 +1,8 @@
 use Rattle.std.proofs.Common.{◌≡◌, ◌++◌, rules, take, sym, subst}
 use Rattle.std.proofs.KnownBytes.{Appends-trans, Appends-kept, Keeps-refl}
-use Rattle.relay.proofs.WrittenBytes.{short, nothing_appended, moves_front}
-use Rattle.relay.proofs.replaying.write_whole.Goals.{in-Ok, in-Err+else-ne}
-use Rattle.relay.proofs.replaying.write_whole.Goals as goal
+use Rattle.events.proofs.WrittenBytes.{short, nothing_appended, moves_front}
+use Rattle.events.proofs.writing.write_whole.Goals.{in-Ok, in-Err+else-ne}
+use Rattle.events.proofs.writing.write_whole.Goals as goal
 
 pub returns-in-Ok-eq0-clause-err : goal.returns-in-Ok-eq0-clause-err
 returns-in-Ok-eq0-clause-err g c =
