@@ -9,6 +9,7 @@ use serving::{Link, LinkFault, Place, ServeError, serve_once};
 use std::alloc::Global;
 use std::process::Abort;
 use std::test::Fail;
+use tables::Tables;
 use tables::uncounted::allocation_at;
 
 /// The slots of the relay.
@@ -137,19 +138,23 @@ fn answers_without(alloc: Global, index: usize) -> Result<Vec<u8>, Fail> {
     Ok(lines)
 }
 
+/// Checks that two tables have the same rows at a slot.
+fn check_slot(rt: &impl Abort, tables: &Tables, others: &Tables, slot: usize, event: &str) {
+    let found = allocation_at(tables, slot, FIRST);
+    assert_eq!(rt; found, allocation_at(others, slot, FIRST), "{event}");
+    let (found, wanted) = (
+        tables.permissions(slot, FIRST),
+        others.permissions(slot, FIRST),
+    );
+    assert_eq!(rt; found.as_slice(), wanted.as_slice(), "{event}");
+    let (found, wanted) = (tables.channels(slot, FIRST), others.channels(slot, FIRST));
+    assert_eq!(rt; found.as_slice(), wanted.as_slice(), "{event}");
+}
+
 /// Checks that the tables of two relays have the same rows.
-fn check_rows(rt: &impl Abort, relay: &Relay, other: &Relay, index: usize) {
-    let (tables, others) = (relay.tables(), other.tables());
+fn check_rows(rt: &impl Abort, relay: &Relay, other: &Relay, event: &str) {
     for slot in 0..SLOTS {
-        let found = allocation_at(tables, slot, FIRST);
-        assert_eq!(rt; found, allocation_at(others, slot, FIRST), "event {index}");
-        let (found, wanted) = (
-            tables.permissions(slot, FIRST),
-            others.permissions(slot, FIRST),
-        );
-        assert_eq!(rt; found.as_slice(), wanted.as_slice(), "event {index}");
-        let (found, wanted) = (tables.channels(slot, FIRST), others.channels(slot, FIRST));
-        assert_eq!(rt; found.as_slice(), wanted.as_slice(), "event {index}");
+        check_slot(rt, relay.tables(), other.tables(), slot, event);
     }
 }
 
@@ -160,21 +165,65 @@ const UNRECEIVED: [(Fate, Result<bool, ServeError>); 3] = [
     (Fate::TooLong, Err(ServeError::Receive)),
 ];
 
-/// Compares the tables at each event with those of a relay whose link has no fault: they are as before where the event isn't
-/// received, and as after it where its answer isn't sent.
+/// Serves an event in a way, and checks what comes of it.
+fn check_fate(
+    rt: &impl Abort,
+    alloc: Global,
+    relay: &mut Relay,
+    event: &str,
+    (fate, wanted): (Fate, Result<bool, ServeError>),
+) -> Result<(), Fail> {
+    let mut log = Vec::new(alloc);
+    let result = serve(alloc, relay, event, fate, &mut log)?;
+    assert!(rt; result == wanted, "{fate:?}: {event}");
+    Ok(())
+}
+
+/// Checks that an event that isn't received leaves a relay's tables as those of another.
+fn check_unreceived(
+    rt: &impl Abort,
+    alloc: Global,
+    relay: &mut Relay,
+    other: &Relay,
+    event: &str,
+) -> Result<(), Fail> {
+    for fate in UNRECEIVED {
+        check_fate(rt, alloc, relay, event, fate)?;
+        check_rows(rt, relay, other, event);
+    }
+    Ok(())
+}
+
+/// Returns what comes of an event whose answer isn't sent.
+fn unsent(answer: &str) -> Result<bool, ServeError> {
+    if answer == "-" {
+        Ok(true)
+    } else {
+        Err(ServeError::Send)
+    }
+}
+
+/// Checks the tables after an event against those of a relay whose link has no fault: they are as before where the event
+/// isn't received, and as after it where its answer isn't sent.
+fn check_event(
+    rt: &impl Abort,
+    alloc: Global,
+    relay: &mut Relay,
+    other: &mut Relay,
+    (event, answer): (&str, &str),
+) -> Result<(), Fail> {
+    check_unreceived(rt, alloc, relay, other, event)?;
+    check_fate(rt, alloc, relay, event, (Fate::SendFails, unsent(answer)))?;
+    check_fate(rt, alloc, other, event, (Fate::Served, Ok(true)))?;
+    check_rows(rt, relay, other, event);
+    Ok(())
+}
+
+/// Checks the tables after each event.
 fn check_tables(rt: &impl Abort, alloc: Global) -> Result<(), Fail> {
     let (mut relay, mut other) = (shipped(alloc)?, shipped(alloc)?);
-    let mut log = Vec::new(alloc);
-    for (index, &(line, answer)) in STORY.iter().enumerate() {
-        for (fate, wanted) in UNRECEIVED {
-            let result = serve(alloc, &mut relay, line, fate, &mut log)?;
-            assert!(rt; result == wanted, "{fate:?} {index}");
-            check_rows(rt, &relay, &other, index);
-        }
-        let result = serve(alloc, &mut relay, line, Fate::SendFails, &mut log)?;
-        assert_eq!(rt; result.is_err(), answer != "-", "send {index}");
-        serve(alloc, &mut other, line, Fate::Served, &mut log)?.ok();
-        check_rows(rt, &relay, &other, index);
+    for &event in &STORY {
+        check_event(rt, alloc, &mut relay, &mut other, event)?;
     }
     Ok(())
 }

@@ -155,14 +155,26 @@ fn answer(alloc: Global, relay: &mut Relay, event: &str) -> Result<Vec<u8>, Fail
     Ok(out)
 }
 
-/// Compares the answer to each event, handed in by itself.
+/// Compares the answer to an event that is handed in by itself.
+fn check_answer(
+    rt: &impl Abort,
+    alloc: Global,
+    relay: &mut Relay,
+    (event, wanted): (&str, &str),
+) -> Result<(), Fail> {
+    let found = answer(alloc, relay, event)?;
+    assert!(rt;
+        found.strip_suffix(b"\n") == Some(wanted.as_bytes()),
+        "{event}"
+    );
+    Ok(())
+}
+
+/// Compares the answer to each event.
 fn check_each(rt: &impl Abort, alloc: Global) -> Result<(), Fail> {
     let mut relay = shipped(alloc)?;
-    for (row, &(event, wanted)) in STORY.iter().enumerate() {
-        let mut wanted = String::from_str(alloc, wanted)?;
-        wanted.push_str("\n")?;
-        let found = answer(alloc, &mut relay, event)?;
-        assert_eq!(rt; found.as_slice(), wanted.as_bytes(), "row {row}: {event}");
+    for &event in &STORY {
+        check_answer(rt, alloc, &mut relay, event)?;
     }
     Ok(())
 }
