@@ -51,13 +51,21 @@ fn play(alloc: Global, relay: &mut Relay, line: &[u8], answer: &mut Vec<u8>) -> 
     Ok(())
 }
 
-fn run<R: Input + Print + AllocGlobal>(rt: &R) -> Result<()> {
-    let alloc = rt.alloc();
+/// Returns a relay with the shipped programs.
+fn shipped(alloc: Global) -> Result<Relay> {
     let client = load(alloc, CLIENT).context("the program of the client's side")?;
     let peer = load(alloc, PEER).context("the program of the peers' side")?;
-    let mut relay = Relay::new(alloc, config(alloc)?, client, peer)?;
-    let mut reader = BufReader::new(alloc, rt.reader())?;
-    let mut writer = io::writer(rt);
+    let relay = Relay::new(alloc, config(alloc)?, client, peer)?;
+    Ok(relay)
+}
+
+/// Replays each line of a reader, and writes the line of its answer.
+fn replay_lines<R: BufRead, W: Write>(
+    alloc: Global,
+    relay: &mut Relay,
+    reader: &mut R,
+    writer: &mut W,
+) -> Result<()> {
     let mut line = Vec::new(alloc);
     let mut answer = Vec::new(alloc);
     answer.reserve(LONGEST)?;
@@ -66,10 +74,18 @@ fn run<R: Input + Print + AllocGlobal>(rt: &R) -> Result<()> {
         if reader.read_until(b'\n', &mut line)? == 0 {
             break;
         }
-        play(alloc, &mut relay, &line, &mut answer)?;
+        play(alloc, relay, &line, &mut answer)?;
         writer.write_all(&answer)?;
     }
     Ok(())
+}
+
+fn run<R: Input + Print + AllocGlobal>(rt: &R) -> Result<()> {
+    let alloc = rt.alloc();
+    let mut relay = shipped(alloc)?;
+    let mut reader = BufReader::new(alloc, rt.reader())?;
+    let mut writer = io::writer(rt);
+    replay_lines(alloc, &mut relay, &mut reader, &mut writer)
 }
 
 fn main(rt: HostRuntime) -> Result<()> {
