@@ -492,7 +492,7 @@ def comes(receiver, data, expected):
 
 
 def passed(server, client, peer, expected):
-    """Whether ChannelData comes to the peer, and data of the peer to the client; and what of them is expected to."""
+    """Whether ChannelData comes to the peer, and data of the peer to the client; which of them are expected is given."""
     token = random.randbytes(8)
     client.send(channel_data(token))
     there = comes(peer, token, expected[0])
