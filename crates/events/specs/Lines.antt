@@ -1,5 +1,6 @@
 -- Meaning. Events and answers as lines of text: each has one line, here without its line feed.
-use Rattle.std.specs.Prelude.{◌≡◌, ℕ, ◌^◌, ◌<◌, ◌≤◌, true, List, [], ◌∷◌, ◌++◌, length, codes, decimal, Option, None, Some}
+use Rattle.std.specs.Prelude.{◌≡◌, ℕ, ◌^◌, ◌<◌, ◌≤◌, true, List, [], ◌∷◌, ◌++◌, length, take, codes, decimal, Option, None, Some}
+use Rattle.std.specs.Io.KnownBytes.{Appends}
 use Rattle.hex.specs.Hex.{encode_lower, IsBytes}
 use Rattle.attributes.specs.Addresses.{IsIpv4Address}
 use Rattle.attributes.specs.AddressTexts.{address_text}
@@ -56,3 +57,7 @@ abbrev pub answer_line : Option Sending → List ℕ
 answer_line None = codes "-"
 answer_line (Some (ToPeer slot peer bytes)) = codes "p" ++ 0x20 ∷ (decimal slot ++ 0x20 ∷ (address_text peer ++ 0x20 ∷ bytes_text bytes))
 answer_line (Some (ToClient client bytes)) = codes "c" ++ 0x20 ∷ (address_text client ++ 0x20 ∷ bytes_text bytes)
+
+-- of some bytes a beginning was appended
+abbrev pub AppendsBeginning : Option (List ℕ) → Option (List ℕ) → List ℕ → Type 0
+AppendsBeginning held holds bytes = (count : ℕ) × Appends held holds (take count bytes)

@@ -1,10 +1,10 @@
 //! Writes the lines of answers.
 
-ghost use Rattle.std.specs.Prelude.{◌≡◌, ◌≤◌, ◌++◌, ◌∷◌, [], ℕ, length, take, IfOk, IfSome, OnOk, OnErr};
+ghost use Rattle.std.specs.Prelude.{◌≡◌, ◌≤◌, ◌++◌, ◌∷◌, [], length, IfOk, IfSome, OnOk, OnErr};
 ghost use Rattle.std.specs.Io.KnownBytes.{Appends};
 ghost use Rattle.hex.specs.Hex.{encode_lower};
 ghost use Rattle.events.specs.Actions.{sending_of};
-ghost use Rattle.events.specs.Lines.{bytes_text, answer_line};
+ghost use Rattle.events.specs.Lines.{bytes_text, answer_line, AppendsBeginning};
 
 use crate::action::Action;
 use arrayvec::ArrayString;
@@ -23,7 +23,7 @@ const CHUNK: usize = 512;
 /// The first failure of the writer that is no interruption; a beginning of the bytes was written.
 fn write_whole<W: Write>(writer: &mut W, bytes: &[u8]) -> io::Result<()>
     ensures ok { OnOk result (Appends (W.contents writer.old) (W.contents writer.new) bytes.now) }
-    ensures err { OnErr result ((n : ℕ) × Appends (W.contents writer.old) (W.contents writer.new) (take n bytes.now)) }
+    ensures err { OnErr result (AppendsBeginning (W.contents writer.old) (W.contents writer.new) bytes.now) }
 {
     let mut rest = bytes;
     for _ in 0..u64::MAX {
@@ -47,7 +47,7 @@ fn write_whole<W: Write>(writer: &mut W, bytes: &[u8]) -> io::Result<()>
 fn write_digits<W: Write>(writer: &mut W, bytes: &[u8]) -> io::Result<()>
     requires { length bytes.now ≤ CHUNK }
     ensures ok { OnOk result (Appends (W.contents writer.old) (W.contents writer.new) (encode_lower bytes.now)) }
-    ensures err { OnErr result ((n : ℕ) × Appends (W.contents writer.old) (W.contents writer.new) (take n (encode_lower bytes.now))) }
+    ensures err { OnErr result (AppendsBeginning (W.contents writer.old) (W.contents writer.new) (encode_lower bytes.now)) }
 {
     let mut room = [0u8; 2 * CHUNK];
     let digits = &mut room[..2 * bytes.len()];
@@ -60,7 +60,7 @@ fn write_digits<W: Write>(writer: &mut W, bytes: &[u8]) -> io::Result<()>
 /// Writes bytes as hexadecimal digits; no bytes as a hyphen.
 fn write_bytes<W: Write>(writer: &mut W, bytes: &[u8]) -> io::Result<()>
     ensures ok { OnOk result (Appends (W.contents writer.old) (W.contents writer.new) (bytes_text bytes.now)) }
-    ensures err { OnErr result ((n : ℕ) × Appends (W.contents writer.old) (W.contents writer.new) (take n (bytes_text bytes.now))) }
+    ensures err { OnErr result (AppendsBeginning (W.contents writer.old) (W.contents writer.new) (bytes_text bytes.now)) }
 {
     if bytes.is_empty() {
         return write_whole(writer, b"-");
@@ -74,7 +74,7 @@ fn write_bytes<W: Write>(writer: &mut W, bytes: &[u8]) -> io::Result<()>
 /// Returns the text that precedes the bytes of a line.
 ///
 /// # Errors
-/// Where it is longer than the longest one.
+/// Where it is longer than its room.
 fn front_of<D: Display + Drop>(value: D) -> Result<ArrayString<FRONT>, fmt::Error>
     ensures { IfOk result (λ front. IfSome (D.output value) (λ text. front.bytes ≡ text)) }
 {
@@ -87,8 +87,8 @@ fn front_of<D: Display + Drop>(value: D) -> Result<ArrayString<FRONT>, fmt::Erro
 fn write_line<W: Write, D: Display + Drop>(writer: &mut W, front: D, bytes: &[u8]) -> io::Result<()>
     ensures ok { OnOk result (IfSome (D.output front) (λ text. Appends (W.contents writer.old) (W.contents writer.new)
         (text ++ bytes_text bytes.now ++ 10 ∷ []))) }
-    ensures err { OnErr result (IfSome (D.output front) (λ text. (n : ℕ) × Appends (W.contents writer.old)
-        (W.contents writer.new) (take n (text ++ bytes_text bytes.now ++ 10 ∷ [])))) }
+    ensures err { OnErr result (IfSome (D.output front) (λ text. AppendsBeginning (W.contents writer.old)
+        (W.contents writer.new) (text ++ bytes_text bytes.now ++ 10 ∷ []))) }
 {
     let Ok(front) = front_of(front) else {
         return Err(ErrorKind::WriteZero.into());
@@ -105,8 +105,8 @@ fn write_line<W: Write, D: Display + Drop>(writer: &mut W, front: D, bytes: &[u8
 pub fn write_answer<W: Write>(writer: &mut W, action: &Action<'_>) -> io::Result<()>
     ensures ok { OnOk result (Appends (W.contents writer.old) (W.contents writer.new)
         (answer_line (sending_of action.now) ++ 10 ∷ [])) }
-    ensures err { OnErr result ((n : ℕ) × Appends (W.contents writer.old) (W.contents writer.new)
-        (take n (answer_line (sending_of action.now) ++ 10 ∷ []))) }
+    ensures err { OnErr result (AppendsBeginning (W.contents writer.old) (W.contents writer.new)
+        (answer_line (sending_of action.now) ++ 10 ∷ [])) }
 {
     match action {
         Action::Nothing => write_whole(writer, b"-\n"),

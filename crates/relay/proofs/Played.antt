@@ -235,8 +235,8 @@ module _ (count : ℕ) (read left : Option (List ℕ)) (old now : RelayContents)
           last = e;
           played = played_more new e event (stepped ∙ ap (after_line (system_of now) now.config (state_of now)) found.1) same;
           text = begins read left' (so_far.events ++ e ∷ []) (read_more read left left' so_far.events line e so_far.has_read (whole_line e found.1) (drops (short e found.1)) is.1);
-          count = part.count;
-          written = Appends-trans held holds holds' (answers_of_events old so_far.events) _ so_far.written (subst (λ l. Appends holds holds' (take part.count l)) text part.written);
+          count = part.written.0;
+          written = Appends-trans held holds holds' (answers_of_events old so_far.events) _ so_far.written (subst (λ l. Appends holds holds' (take part.written.0 l)) text part.written.1);
         }
 
   -- all answers so far were written

@@ -1,12 +1,11 @@
 -- A datagram that was read over the room of a relay, and stepped.
 use Rattle.std.proofs.Common.{◌≡◌, ℕ, List, [], ◌∷◌, ◌++◌, length, take, sym, subst, ap, ◌∙◌}
 use Rattle.std.specs.Prelude.{Option, Some, is_some}
-use Rattle.std.specs.Io.KnownBytes.{Appends}
 use Rattle.machine.specs.Contents.{room_of, with_room}
 use Rattle.machine.specs.FrameLaws.{room_written}
 use Rattle.semantics.specs.declared.limits.TheConstants.{MAX_DATAGRAM}
 use Rattle.events.specs.Events.{Event, Datagram, Sending}
-use Rattle.events.specs.Lines.{answer_line}
+use Rattle.events.specs.Lines.{answer_line, AppendsBeginning}
 use Rattle.events.specs.declared.meta.Meta.{Meta}
 use Rattle.relay.specs.Relays.{RelayContents, state_of}
 use Rattle.relay.specs.Replays.{system_of, after_line, answer_to, IsCut}
@@ -33,9 +32,8 @@ module _ (old : RelayContents) (room : List ℕ) (given : Meta) (n : ℕ) (read 
       ∙ ap (answer_to (system_of old) old.config (state_of old)) is
 
   -- a beginning of it is one of that answer
-  pub cut_is : (sent : Option Sending) → sent ≡ (outcome_of with_bytes given n).answer → (held holds : Option (List ℕ)) → (k : ℕ) × Appends held holds (take k (answer_line sent ++ 10 ∷ [])) → IsCut held holds (system_of old) old.config (state_of old) read
-  cut_is sent sends held holds (k, wrote) = record {
+  pub cut_is : (sent : Option Sending) → sent ≡ (outcome_of with_bytes given n).answer → (held holds : Option (List ℕ)) → AppendsBeginning held holds (answer_line sent ++ 10 ∷ []) → IsCut held holds (system_of old) old.config (state_of old) read
+  cut_is sent sends held holds wrote = record {
     known = ap is_some (sym is);
-    count = k;
-    written = subst (λ l. Appends held holds (take k l)) (answer_is sent sends) wrote;
+    written = subst (AppendsBeginning held holds) (answer_is sent sends) wrote;
   }

@@ -11,9 +11,10 @@ use Rattle.helpers.specs.LookUps.{look_up_answer}
 use Rattle.helpers.specs.declared.lookup.Lookup.{Lookup}
 use Rattle.machine.specs.Contexts.{HelperAnswers}
 use Rattle.tables.specs.Rows.{Rows, rows_at}
-use Rattle.events.specs.Events.{Sending, ToClient}
-use Rattle.programs.specs.Rules.{channel_data_from, send_from}
-use Rattle.programs.specs.Runs.{planned_sending, run_for, datagram_in, window_in}
+use Rattle.events.specs.Events.{Sending, ToPeer, ToClient}
+use Rattle.fallible.specs.Options.{◌>>=◌}
+use Rattle.programs.specs.Rules.{channel_data_from, client_at, send_from}
+use Rattle.programs.specs.Runs.{run_for, datagram_in, window_in}
 use Rattle.events.specs.declared.meta.Meta.{Meta}
 use Rattle.semantics.specs.Runs.{Run}
 use Rattle.relay.specs.ByPrograms.{program_for}
@@ -55,9 +56,20 @@ abbrev pub send_in : Addr → Rows → Option Parts → Option Sending
 send_in client rows None = None
 send_in client rows (Some p) = send_from client rows p
 
+-- a window, if there is one, from a slot to a peer, and to the client of the allocation at a slot
+abbrev pub window_to_peer : ℕ → Addr → Option (List ℕ) → Option Sending
+window_to_peer slot peer window = option_map (ToPeer slot peer) window
+
+abbrev pub window_to_client : ℕ → Rows → Option (List ℕ) → Option Sending
+window_to_client slot rows window = do
+  bytes ← window
+  client ← client_at slot rows
+  Some (ToClient client bytes)
+
 abbrev pub sending_of_found : RelayContents → Found → Option Sending
 sending_of_found r found.Nothing = None
-sending_of_found r (found.Window from destination) = planned_sending from (rows_at r.greatest r.rows) destination (window_shown r.frame)
+sending_of_found r (found.WindowToPeer slot peer) = window_to_peer slot peer (window_shown r.frame)
+sending_of_found r (found.WindowToClient slot) = window_to_client slot (rows_at r.greatest r.rows) (window_shown r.frame)
 sending_of_found r (found.ChannelData client) = channel_data_from client (rows_at r.greatest r.rows) (datagram_of r.frame)
 sending_of_found r (found.Send client) = send_in client (rows_at r.greatest r.rows) (message_in (datagram_of r.frame))
 sending_of_found r (found.Reply client count) = reply_sent client (take count r.reply)
@@ -65,7 +77,8 @@ sending_of_found r (found.Reply client count) = reply_sent client (take count r.
 -- a reply lies in the room for replies, and has some bytes
 abbrev pub HasRoomFor : Found → List ℕ → Type 0
 HasRoomFor found.Nothing reply = Unit {0}
-HasRoomFor (found.Window from destination) reply = Unit {0}
+HasRoomFor (found.WindowToPeer slot peer) reply = Unit {0}
+HasRoomFor (found.WindowToClient slot) reply = Unit {0}
 HasRoomFor (found.ChannelData client) reply = Unit {0}
 HasRoomFor (found.Send client) reply = Unit {0}
 HasRoomFor (found.Reply client count) reply = (0 < count) × (count ≤ length reply)

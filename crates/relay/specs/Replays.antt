@@ -4,7 +4,7 @@ use Rattle.std.specs.Io.BufRead.{first_piece}
 use Rattle.std.specs.Io.KnownBytes.{Appends}
 use Rattle.control.specs.declared.config.Config.{Config}
 use Rattle.events.specs.Events.{Event, Sending}
-use Rattle.events.specs.Lines.{line_of, answer_line, IsEvent}
+use Rattle.events.specs.Lines.{line_of, answer_line, IsEvent, AppendsBeginning}
 use Rattle.relay.specs.ByPrograms.{by_programs}
 use Rattle.relay.specs.Relays.{RelayContents, state_of}
 use Rattle.relay.specs.Systems.{SystemState, System, system_step, answers, state_after_events}
@@ -49,8 +49,7 @@ answer_to system config s (Some e) = answer_text system config s e
 -- a beginning of the line of the answer to the event of a line was written
 pub record IsCut (held holds : Option (List ℕ)) (system : System) (config : Config) (s : SystemState) (e : Option Event) : Type 0 where
   pub known : is_some e ≡ true
-  pub count : ℕ
-  pub written : Appends held holds (take count (answer_to system config s e))
+  pub written : AppendsBeginning held holds (answer_to system config s e)
 
 -- ---- replays
 

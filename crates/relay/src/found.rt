@@ -1,7 +1,9 @@
 //! What a step finds, before it is lent.
 
 ghost use Rattle.std.specs.Prelude.{◌≡◌, ◌≤◌, ℕ, List, length, take};
-ghost use Rattle.relay.specs.Found.{sending_of_found, reply_sent, HasRoomFor};
+ghost use Rattle.tables.specs.Rows.{rows_at};
+ghost use Rattle.programs.specs.Runs.{planned_sending, slot_for};
+ghost use Rattle.relay.specs.Found.{sending_of_found, reply_sent, window_shown, HasRoomFor};
 ghost use Rattle.relay.specs.Relays.{RelayContents};
 
 use attributes::Addr;
@@ -12,20 +14,32 @@ use events::Source;
 pub(crate) enum Found {
     /// Nothing is sent.
     Nothing,
-    /// The window, to a destination at the client's side.
-    Window {
-        from: Source,
-        destination: Option<Addr>,
-    },
+    /// The window, from a slot to a peer.
+    WindowToPeer { slot: usize, peer: Addr },
+    /// The window, to the client of the allocation at a slot.
+    WindowToClient { slot: usize },
     /// The data of a client's ChannelData.
     ChannelData(Addr),
     /// The data of a client's Send indication.
     Send(Addr),
     /// The first `count` bytes of the room for replies, where `count` is not 0.
-    Reply {
-        client: Addr,
-        count: usize,
-    },
+    Reply { client: Addr, count: usize },
+}
+
+/// Returns the finding of what verdict 2 sends, by the slot in which helpers look up: that of the client's allocation, or the
+/// one that a peer's datagram came to.
+pub(crate) fn window_found(from: Source, slot: Option<usize>, destination: Option<Addr>) -> Found
+    ensures sends { (r : RelayContents) → slot ≡ slot_for from (rows_at r.greatest r.rows)
+        → sending_of_found r result ≡ planned_sending from (rows_at r.greatest r.rows) destination (window_shown r.frame) }
+    ensures room { (reply : List ℕ) → HasRoomFor result reply }
+{
+    match from {
+        Source::Client(_) => match (slot, destination) {
+            (Some(slot), Some(peer)) => Found::WindowToPeer { slot, peer },
+            _ => Found::Nothing,
+        },
+        Source::Peer { slot, .. } => Found::WindowToClient { slot },
+    }
 }
 
 /// Returns the finding of a reply of `count` bytes, 0 where there is none.

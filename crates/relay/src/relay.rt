@@ -6,8 +6,8 @@ ghost use Rattle.relay.specs.Systems.{address_of_source};
 ghost use Rattle.relay.specs.ByPrograms.{is_there};
 
 use crate::error::RelayError;
-use crate::found::{Found, reply_found};
-use crate::rules::{begins_as_stun, channel_data, planned, send};
+use crate::found::{Found, reply_found, window_found};
+use crate::rules::{begins_as_stun, channel_data, send, window_to_client, window_to_peer};
 use crate::running::{context_for, program_for, run_over, slot_for};
 use arrayvec::ArrayString;
 use attributes::Addr;
@@ -83,6 +83,8 @@ impl Relay {
     ghost use Rattle.control.specs.declared.config.Field.TheVariants.{Nonce};
     ghost use Rattle.machine.specs.Contents.{room_of};
     ghost use Rattle.tables.specs.Addresses.{is_ipv4};
+    ghost use Rattle.tables.specs.Rows.{rows_at};
+    ghost use Rattle.programs.specs.Runs.{slot_for};
     ghost use Rattle.semantics.specs.declared.limits.TheConstants.{MAX_DATAGRAM};
     ghost use Rattle.events.specs.Actions.{sending_of};
     ghost use Rattle.relay.specs.Errors.{IsFault};
@@ -196,6 +198,7 @@ impl Relay {
     /// side runs over it, and what the client's program passes on is handled by the rules for requests. With the shipped
     /// programs this is what the rules say.
     /// See docs/DECISIONS.md, "A system is a function".
+    #[inline(always)]
     pub fn step(&mut self, meta: Meta, n: usize) -> Action<'_>
         requires { n ≤ MAX_DATAGRAM }
         ensures answer { sending_of result ≡ (outcome_of self.old meta n).answer }
@@ -209,19 +212,17 @@ impl Relay {
     }
 
     /// Lends the bytes of what was found.
+    #[inline(always)]
     fn lend(&self, found: Found) -> Action<'_>
         requires { HasRoomFor found self.now.reply }
         ensures { sending_of result ≡ sending_of_found self.now found }
     {
         match found {
             Found::Nothing => Action::Nothing,
-            Found::Window { from, destination } => planned(
-                &self.tables,
-                self.greatest,
-                from,
-                destination,
-                self.frame.window(),
-            ),
+            Found::WindowToPeer { slot, peer } => window_to_peer(slot, peer, self.frame.window()),
+            Found::WindowToClient { slot } => {
+                window_to_client(&self.tables, self.greatest, slot, self.frame.window())
+            }
             Found::ChannelData(client) => {
                 channel_data(&self.tables, self.greatest, client, self.frame.datagram())
             }
@@ -236,6 +237,7 @@ impl Relay {
     }
 
     /// Changes all that a datagram changes, and finds what is to be sent.
+    #[inline(always)]
     fn advance(&mut self, meta: &Meta, n: usize) -> Found
         requires { n ≤ MAX_DATAGRAM }
         ensures stepped { HasStepped self.old self.new (outcome_of self.old meta.entry.now n) }
@@ -246,27 +248,26 @@ impl Relay {
         if !is_served(meta.from, &self.tables) {
             return Found::Nothing;
         }
-        let outcome = self.run(meta, n);
+        let slot = slot_for(&self.tables, self.greatest, meta.from);
+        let outcome = self.run(meta, n, slot);
         match outcome.verdict {
             PASSES => match meta.from {
                 Source::Client(client) => self.pass_on(client),
                 Source::Peer { .. } => Found::Nothing,
             },
-            SENDS => Found::Window {
-                from: meta.from,
-                destination: outcome.destination,
-            },
+            SENDS => window_found(meta.from, slot, outcome.destination),
             _ => Found::Nothing,
         }
     }
 
-    /// Runs the program of a datagram's side over the first `n` bytes of the room.
-    fn run(&mut self, meta: &Meta, n: usize) -> Outcome
-        requires { n ≤ MAX_DATAGRAM }
+    /// Runs the program of a datagram's side over the first `n` bytes of the room; its helpers look up in a slot.
+    #[inline(always)]
+    fn run(&mut self, meta: &Meta, n: usize, slot: Option<usize>) -> Outcome
+        requires short { n ≤ MAX_DATAGRAM }
+        requires slot { slot ≡ slot_for meta.now.from (rows_at self.old.greatest self.old.rows) }
         ensures run { HasRun (length (datagram_at self.old n)) result self.new.frame (run_at self.old meta.entry.now n) }
         ensures rest { self.new ≡ record self.old { frame = self.new.frame } }
     {
-        let slot = slot_for(&self.tables, self.greatest, meta.from);
         let helpers = Lookup::new(&self.tables, self.greatest, slot);
         let program = program_for(&self.client, &self.peer, meta.from);
         run_over(

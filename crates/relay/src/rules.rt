@@ -1,4 +1,4 @@
-//! Relaying by the rules, and what a run's plan sends.
+//! Relaying by the rules, and where a window is sent.
 
 ghost use Rattle.std.specs.Prelude.{◌≡◌, option_copied};
 ghost use Rattle.events.specs.Actions.{sending_of};
@@ -6,12 +6,11 @@ ghost use Rattle.stun.specs.Datagrams.{message_in};
 ghost use Rattle.tables.specs.Rows.{rows_at};
 ghost use Rattle.programs.specs.FastPart.{begins_as_stun};
 ghost use Rattle.programs.specs.Rules.{client_slot, client_at, channel_data_from, send_from};
-ghost use Rattle.programs.specs.Runs.{planned_sending};
-ghost use Rattle.relay.specs.Found.{send_in};
+ghost use Rattle.relay.specs.Found.{send_in, window_to_client, window_to_peer};
 
 use attributes::{Addr, read_xor_addr};
 use control::all_understood;
-use events::{Action, Source};
+use events::Action;
 use stun::registry::attribute::{DATA, XOR_PEER_ADDRESS};
 use stun::{Message, read, read_channel};
 use tables::{Tables, uncounted};
@@ -102,32 +101,30 @@ pub(crate) fn send<'a>(tables: &Tables, moment: u64, client: Addr, datagram: &'a
     }
 }
 
-/// Returns what verdict 2 sends.
-pub(crate) fn planned<'a>(
+/// Sends a window to the client of the allocation at a slot.
+pub(crate) fn window_to_client<'a>(
     tables: &Tables,
     moment: u64,
-    from: Source,
-    destination: Option<Addr>,
+    slot: usize,
     window: Option<&'a [u8]>,
 ) -> Action<'a>
-    ensures { sending_of result ≡ planned_sending from (rows_at moment tables.now) destination (option_copied window.entry) }
+    ensures { sending_of result ≡ window_to_client slot (rows_at moment tables.now) (option_copied window.entry) }
 {
     let Some(bytes) = window else {
         return Action::Nothing;
     };
-    match from {
-        Source::Client(client) => {
-            let Some(slot) = client_slot(tables, moment, client) else {
-                return Action::Nothing;
-            };
-            match destination {
-                Some(peer) => Action::ToPeer { slot, peer, bytes },
-                None => Action::Nothing,
-            }
-        }
-        Source::Peer { slot, .. } => match client_at(tables, moment, slot) {
-            Some(client) => Action::ToClient { client, bytes },
-            None => Action::Nothing,
-        },
+    match client_at(tables, moment, slot) {
+        Some(client) => Action::ToClient { client, bytes },
+        None => Action::Nothing,
+    }
+}
+
+/// Sends a window from a slot to a peer.
+pub(crate) fn window_to_peer(slot: usize, peer: Addr, window: Option<&[u8]>) -> Action<'_>
+    ensures { sending_of result ≡ window_to_peer slot peer (option_copied window.entry) }
+{
+    match window {
+        Some(bytes) => Action::ToPeer { slot, peer, bytes },
+        None => Action::Nothing,
     }
 }

@@ -29,6 +29,9 @@ enum Kind {
     FromPeer,
 }
 
+/// How many kinds there are.
+const KINDS: usize = 4;
+
 /// The counters of a server. Displays as a line.
 /// See docs/DECISIONS.md, "What a server can count".
 #[derive(Clone, Copy)]
@@ -43,15 +46,28 @@ pub(crate) struct Counters {
     granted: u64,
     challenged: u64,
     refused: u64,
-    /// Datagrams that nothing was sent for, by what they are.
-    discarded_channel_data: u64,
-    discarded_messages: u64,
-    discarded_others: u64,
-    discarded_from_peers: u64,
+    /// Datagrams that nothing was sent for, by the index of what they are.
+    discarded: [u64; KINDS],
     receive_faults: u64,
     send_faults: u64,
     /// What the last datagram that came is.
     last: Kind,
+}
+
+impl Kind {
+    ghost use Rattle.std.specs.Prelude.{◌<◌};
+
+    /// Returns the index of the kind, below [`KINDS`].
+    fn index(self) -> usize
+        ensures { result < KINDS }
+    {
+        match self {
+            Kind::ChannelData => 0,
+            Kind::Message => 1,
+            Kind::Other => 2,
+            Kind::FromPeer => 3,
+        }
+    }
 }
 
 /// Adds one.
@@ -96,10 +112,7 @@ impl Counters {
             granted: 0,
             challenged: 0,
             refused: 0,
-            discarded_channel_data: 0,
-            discarded_messages: 0,
-            discarded_others: 0,
-            discarded_from_peers: 0,
+            discarded: [0; KINDS],
             receive_faults: 0,
             send_faults: 0,
             last: Kind::Other,
@@ -108,12 +121,7 @@ impl Counters {
 
     /// Returns the counter of the discarded datagrams of the last one's kind.
     fn discarded(&mut self) -> &mut u64 {
-        match self.last {
-            Kind::ChannelData => &mut self.discarded_channel_data,
-            Kind::Message => &mut self.discarded_messages,
-            Kind::Other => &mut self.discarded_others,
-            Kind::FromPeer => &mut self.discarded_from_peers,
-        }
+        &mut self.discarded[self.last.index()]
     }
 
     /// Counts a datagram that came at a place. It counts as discarded until something is sent.
@@ -177,10 +185,10 @@ impl fmt::Display for Counters {
         write!(
             f,
             "discarded channel data {} messages {} others {} from peers {}, ",
-            self.discarded_channel_data,
-            self.discarded_messages,
-            self.discarded_others,
-            self.discarded_from_peers
+            self.discarded[Kind::ChannelData.index()],
+            self.discarded[Kind::Message.index()],
+            self.discarded[Kind::Other.index()],
+            self.discarded[Kind::FromPeer.index()]
         )?;
         write!(
             f,

@@ -9,7 +9,7 @@ use rand::make_rng;
 use rand::rngs::StdRng;
 use rand_core::Rng;
 use relay::Relay;
-use serving::{Place, draw_nonce, serve_once};
+use serving::{Place, ServeError, draw_nonce, serve_once};
 use setup::{defaults, ip, number, port};
 use std::io::{self, Write};
 use std::net::{Ipv4Addr, Net};
@@ -196,13 +196,15 @@ impl Server<'_> {
 
     /// Serves one datagram at a place, if one has come there, at a moment. Returns whether one has come, or a fault, which is
     /// printed.
+    /// See docs/DECISIONS.md, "One function serves a datagram".
+    #[inline(always)]
     fn turn<E: Write>(&mut self, err: &mut E, place: Place, now: u64) -> bool {
         let mut tx = [0u8; 12];
         self.rng.fill_bytes(&mut tx);
         match serve_once(&mut self.relay, &mut self.sockets, place, now, tx) {
             Ok(came) => came,
             Err(fault) => {
-                let _ = writeln!(err, "{fault}");
+                report_fault(err, fault);
                 true
             }
         }
@@ -236,6 +238,7 @@ impl Server<'_> {
     /// Serves a place until nothing comes there, or for as many datagrams as it may have, all at one moment. Returns whether
     /// more may be there.
     /// See docs/DECISIONS.md, "A clock is read once a drain".
+    #[inline(never)]
     fn drain<R: Clock, E: Write>(&mut self, rt: &R, err: &mut E, place: Place) -> bool {
         let now = moment(rt);
         for _ in 0..TURNS {
@@ -322,6 +325,13 @@ impl Waiting {
             .poll(&mut self.events, time)
             .map_err(|_| Fault::Wait)
     }
+}
+
+/// Prints the line of a fault. A failure to print is ignored.
+#[cold]
+#[inline(never)]
+fn report_fault<E: Write>(err: &mut E, fault: ServeError) {
+    let _ = writeln!(err, "{fault}");
 }
 
 /// Notes which places are ready.

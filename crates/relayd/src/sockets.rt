@@ -40,7 +40,10 @@ pub(crate) struct Sockets {
 
 /// Binds a socket to an address.
 fn bind<R: Net>(rt: &R, address: SocketAddrV4) -> Result<UdpSocket, BindFault> {
-    UdpSocket::bind(rt, SocketAddr::V4(address)).map_err(|_| BindFault::Address(address))
+    match UdpSocket::bind(rt, SocketAddr::V4(address)) {
+        Ok(socket) => Ok(socket),
+        Err(_) => Err(BindFault::Address(address)),
+    }
 }
 
 /// Returns the place of a token: 0 is that of clients, and i + 1 that of slot i.
@@ -137,6 +140,7 @@ impl Sockets {
 }
 
 impl Link for Sockets {
+    #[inline(always)]
     fn receive(
         &mut self,
         place: Place,
@@ -151,6 +155,7 @@ impl Link for Sockets {
         result
     }
 
+    #[inline(always)]
     fn send(&mut self, place: Place, to: Addr, bytes: &[u8]) -> Result<(), LinkFault> {
         let result = self.put(place, to, bytes);
         match &result {

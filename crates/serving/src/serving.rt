@@ -38,6 +38,7 @@ fn source_at(place: Place, address: Addr) -> Source
 }
 
 /// Sends a datagram.
+#[inline(always)]
 fn send_from<L: Link>(
     link: &mut L,
     place: Place,
@@ -54,6 +55,7 @@ fn send_from<L: Link>(
 }
 
 /// Sends an answer, if there is one.
+#[inline(always)]
 fn send<L: Link>(link: &mut L, action: &Action<'_>) -> Result<bool, ServeError>
     ensures { IsSent (sending_of action.now) (L.calls link.old) (L.calls link.new) result }
 {
@@ -66,10 +68,12 @@ fn send<L: Link>(link: &mut L, action: &Action<'_>) -> Result<bool, ServeError>
 
 /// Serves one datagram at a place, if one has come there: receives once, steps, and sends the answer, if there is one. Returns
 /// whether a datagram came.
+/// See docs/DECISIONS.md, "One function serves a datagram".
 ///
 /// # Errors
 /// `Receive` where the receive fails or counts more than 65,507 bytes; then the relay is as before. `Send` where the send
 /// fails; then it is as after the datagram.
+#[inline(always)]
 pub fn serve_once<L: Link>(
     relay: &mut Relay,
     link: &mut L,

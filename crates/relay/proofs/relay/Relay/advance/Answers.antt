@@ -1,6 +1,6 @@
 use Rattle.std.proofs.Common.{◌≡◌, rules, sym, ap, subst, ◌∙◌}
 use Rattle.tables.specs.Rows.{rows_at}
-use Rattle.programs.specs.Runs.{planned_sending}
+use Rattle.programs.specs.Runs.{planned_sending, slot_for}
 use Rattle.relay.specs.Found.{reply_of_passing, window_shown}
 use Rattle.relay.specs.Relays.{RelayContents}
 use Rattle.relay.specs.Steps.{HasStepped, outcome_of}
@@ -50,7 +50,7 @@ returns-in-Peer-clause-stepped c =
 
 -- ---- where the plan is sent
 
-plan_reply : (c : goal.After-result-1) → reply_at (the_view c.self.inside) c.args.meta.now c.args.n c.moment_of-self-inside.result
+plan_reply : (c : goal.After-window_found) → reply_at (the_view c.self.inside) c.args.meta.now c.args.n c.moment_of-self-inside.result
     ≡ reply_of_relaying c.self.inside.tables (planned_sending c.args.meta.now.from (rows_at c.moment_of-self-inside.result c.self.inside.tables) c.run-outcome.result.destination (window_shown c.run-outcome.new.self.frame))
 plan_reply c =
     sends (the_view c.self.inside) c.args.meta.now c.args.n c.moment_of-self-inside.result c.run-outcome.result c.run-outcome.new.self
@@ -66,7 +66,9 @@ returns-in-2-clause-stepped c =
 pub returns-in-2-clause-found : goal.returns-in-2-clause-found
 returns-in-2-clause-found c =
     let kept = c.run-outcome.ensures.rest in
-    (λ i. planned_sending c.args.meta.now.from (rows_at (kept i).greatest (kept i).rows) c.run-outcome.result.destination (window_shown c.run-outcome.new.self.frame))
+    c.window_found.ensures.sends c.run-outcome.new.self
+    (c.slot_for-slot.ensures ∙ (λ i. slot_for c.args.meta.now.from (rows_at (sym kept i).greatest (sym kept i).rows)))
+    ∙ (λ i. planned_sending c.args.meta.now.from (rows_at (kept i).greatest (kept i).rows) c.run-outcome.result.destination (window_shown c.run-outcome.new.self.frame))
     ∙ sym (ap (λ (r : SystemReply). r.answer) (plan_reply c))
     ∙ answers (the_view c.self.inside) c.args.meta.now c.args.n c.moment_of-self-inside.result c.moment_of-self-inside.ensures
     ∙ (λ i. (outcome_of (c.self.view_is i) c.args.meta.now c.args.n).answer)

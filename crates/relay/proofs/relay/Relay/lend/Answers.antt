@@ -2,8 +2,7 @@ use Rattle.std.proofs.Common.{◌≡◌, ◌≤◌, length, sym, ap, subst, ◌�
 use Rattle.stun.specs.Datagrams.{message_in}
 use Rattle.tables.specs.Rows.{rows_at}
 use Rattle.programs.specs.Rules.{channel_data_from}
-use Rattle.programs.specs.Runs.{planned_sending}
-use Rattle.relay.specs.Found.{sending_of_found, send_in, reply_sent, HasRoomFor}
+use Rattle.relay.specs.Found.{sending_of_found, send_in, reply_sent, window_to_peer, window_to_client, HasRoomFor}
 use Rattle.relay.specs.Relays.{RelayContents}
 use Rattle.relay.specs.declared.found.Found.{Found}
 use Rattle.relay.specs.declared.found.Found.TheVariants as found
@@ -22,11 +21,17 @@ fits c = omega (arith, (has_room c).1, ap length c.deref.ensures.value)
 pub slice_bounds-result-end : goal.slice_bounds-result-end
 slice_bounds-result-end c = sym (length-take-le c.in-Reply.count c.deref.result.now (fits c))
 
-pub returns-in-Window : goal.returns-in-Window
-returns-in-Window c =
-    c.planned.ensures
-    ∙ ap (λ window. planned_sending c.in-Window.from (rows_at c.self.inside.greatest c.self.inside.tables) c.in-Window.destination window) c.window.ensures
-    ∙ (λ i. sending_of_found (c.self.view_is i) (sym c.in-Window.is i))
+pub returns-in-WindowToPeer : goal.returns-in-WindowToPeer
+returns-in-WindowToPeer c =
+    c.window_to_peer.ensures
+    ∙ ap (λ window. window_to_peer c.in-WindowToPeer.slot c.in-WindowToPeer.peer window) c.window.ensures
+    ∙ (λ i. sending_of_found (c.self.view_is i) (sym c.in-WindowToPeer.is i))
+
+pub returns-in-WindowToClient : goal.returns-in-WindowToClient
+returns-in-WindowToClient c =
+    c.window_to_client.ensures
+    ∙ ap (λ window. window_to_client c.in-WindowToClient.slot (rows_at c.self.inside.greatest c.self.inside.tables) window) c.window-in-WindowToClient.ensures
+    ∙ (λ i. sending_of_found (c.self.view_is i) (sym c.in-WindowToClient.is i))
 
 pub returns-in-ChannelData : goal.returns-in-ChannelData
 returns-in-ChannelData c =
