@@ -40,10 +40,7 @@ pub(crate) struct Sockets {
 
 /// Binds a socket to an address.
 fn bind<R: Net>(rt: &R, address: SocketAddrV4) -> Result<UdpSocket, BindFault> {
-    match UdpSocket::bind(rt, SocketAddr::V4(address)) {
-        Ok(socket) => Ok(socket),
-        Err(_) => Err(BindFault::Address(address)),
-    }
+    UdpSocket::bind(rt, SocketAddr::V4(address)).map_err(|_| BindFault::Address(address))
 }
 
 /// Returns the place of a token: 0 is that of clients, and i + 1 that of slot i.
