@@ -42,6 +42,9 @@ PERIOD = 1.0  # seconds: how often a server looks at what is due
 # The receives that fail, counted from the start. With two slots the first three are one at each socket, where nothing
 # has come yet; the next is that of the first datagram, and the one after it would find nothing more.
 FAILED_RECEIVES = range(1, 6)
+# The receives that fail of two batches of 10 requests: after the first three, 11 of the first batch, and then the receives
+# ahead of the second: its first one, one amid the batch, and the one that would find nothing more.
+BATCH_OF_REQUESTS, FAILED_AHEAD = 10, (15, 19, 25)
 # Preloaded into a program, makes receive number FAIL_RECEIVE fail. That it was loaded is seen by the file FAIL_LOADED.
 FAIL_RECEIVE = r"""
 #define _GNU_SOURCE
@@ -436,6 +439,9 @@ def failed_receives():
                     PASSED_OVER.append("receives that fail (a program that loads no library)")
                     return
                 yield from failed_receive(server, f"receive {number}")
+        for number in FAILED_AHEAD:
+            with Server("--stats", "1", env={**environment, "FAIL_RECEIVE": str(number)}) as server:
+                yield from failed_ahead(server, f"receive {number}, ahead")
 
 
 def failed_receive(server, what):
@@ -446,6 +452,21 @@ def failed_receive(server, what):
         answers.append(client.ask(BINDING, []).kind)
         yield from wanted(what, answers, 4 * [BINDING | 0x100])
         if not server.awaited(counters(from_clients=4, granted=4, receive_faults=1)):
+            yield f"{what}, other counters: {server.printed()!r}"
+
+
+def failed_ahead(server, what):
+    """Yields what a busy server with a receive that fails does otherwise than print it, count it, and answer requests."""
+    answers, count = [], 2 * BATCH_OF_REQUESTS
+    with Client(server) as client:
+        for _ in range(2):
+            with server.stopped():
+                for _ in range(BATCH_OF_REQUESTS):
+                    client.send(message(BINDING, random.randbytes(12), []))
+            answers += [read(client.receive()).kind for _ in range(BATCH_OF_REQUESTS)]
+        yield from wanted(what, answers, count * [BINDING | 0x100])
+        yield from wanted(f"{what}, lines of its fault", server.awaited("receive fault\n"), 1)
+        if not server.awaited(counters(from_clients=count, granted=count, receive_faults=1)):
             yield f"{what}, other counters: {server.printed()!r}"
 
 
@@ -577,6 +598,21 @@ def turns():
         yield from wanted("requests before the others get their turn", received.index(channel_data(b"its turn")), 64)
 
 
+def ahead():
+    """Yields what a busy server, which receives several datagrams before it serves the first, does otherwise than relay each
+    batch in order: small ones, and ones that are too long for its room together."""
+    small = [b"%d" % number for number in range(40)]
+    large = [bytes([number]) * 45_000 for number in range(4)]
+    with Server() as server, Client(server) as client, udp_socket() as peer:
+        client.allocate()
+        client.bind(address_of(peer))
+        for batch in (small, small[::-1], large, small):
+            with server.stopped():
+                for data in batch:
+                    client.send(channel_data(data))
+            yield from wanted(f"a batch of {len(batch)}", [peer.recv(65_535) for _ in batch], batch)
+
+
 # ---- many datagrams
 
 def exchange(pairs, batch):
@@ -615,7 +651,7 @@ def main():
     """Runs every part, and returns the exit status."""
     build()
     parts = [refused_lines, rounds, addresses, default_ports, counted_rounds, session, faults, failed_receives, idle,
-             nonces, replaced_programs, turns, many]
+             nonces, replaced_programs, turns, ahead, many]
     failures = []
     for part in parts:
         try:

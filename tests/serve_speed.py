@@ -1,11 +1,13 @@
 """Prints how many round trips a second `relayd serve` relays over a channel, beside a forwarder in C, coturn, and no relay.
 
-    tests/serve_speed.py
+    tests/serve_speed.py [ROUNDS]
 
-A round trip is ChannelData from a client through the server to a peer, which sends it back, and on to the client. All run in
-turn, several times, and the figures are medians; a machine that does other work makes them smaller and less alike. Where
-there are four processors or more, the client, the servers and the peer have one each, so that the system moves none of them
-in between. No time is asserted. coturn is left out where `turnserver` isn't there. Needs gcc.
+A round trip is ChannelData from a client through the server to a peer, which sends it back, and on to the client. In each of
+5 rounds, or of ROUNDS, all are measured in turn, for some hundredths of a second at a time, since a machine that does other
+work is faster at one time than at another. The figures are the medians of the rounds: round trips a second, processor time, and
+what relayd had in parts of the others. Where there are four processors or more, the client, the servers and the peer have
+one each, so that the system moves none of them in between. No time is asserted. coturn is left out where `turnserver` isn't
+there. Needs gcc.
 """
 
 import contextlib
@@ -20,12 +22,14 @@ import tempfile
 import time
 
 from program import TOP, build
+from rules import REFRESH
 from serve import Client, Server, code_of, free_ports
 
 SOURCE = TOP / "tests" / "serve_speed.c"
 ROUNDS = 5
 SIZES = [160, 1_200]
-FLIGHTS = {1: 20_000, 32: 60_000}  # datagrams in flight, and how many round trips are timed with them
+FLIGHTS = {1: 20_000, 32: 60_000}  # datagrams in flight, and how many round trips are timed with them in a round
+PARTS = 8  # of a round, in each of which all are measured
 IDLE_SECONDS = 5
 TICK = 0.01  # seconds of a clock tick of /proc
 CLIENT_CPU, SERVER_CPU, PEER_CPU = 1, 2, 3  # processors, where there are as many
@@ -38,17 +42,17 @@ def ticks(pid):
 
 
 class Subject:
-    """What is measured: a connected socket that has the channel, and the process that serves it."""
+    """What is measured: a connected socket, the process that serves it, and what renews its session, if it has one."""
 
-    def __init__(self, connected, pid):
-        self.socket, self.pid = connected, pid
+    def __init__(self, connected, pid, renew=lambda: None):
+        self.socket, self.pid, self.renew = connected, pid, renew
 
     def measure(self, tool, flight, count, size):
-        """Returns the round trips a second, and the server's microseconds of processor time for each."""
+        """Returns the seconds of some round trips, and those of the server's processor time."""
         before = ticks(self.pid)
         words = [tool, "load", str(self.socket.fileno()), str(count), str(flight), str(size)]
         ran = subprocess.run(words, pass_fds=[self.socket.fileno()], stdout=subprocess.PIPE, text=True, check=True)
-        return count / float(ran.stdout), (ticks(self.pid) - before) * TICK * 1e6 / count
+        return float(ran.stdout), (ticks(self.pid) - before) * TICK
 
 
 class Process:
@@ -94,15 +98,20 @@ def plain(port, stack):
     return connected
 
 
-def session(server, peer, stack):
-    """A connected socket of a client that has an allocation, and the channel bound to the peer."""
+def session(server, pid, peer, stack):
+    """What is measured of a server: a client that has an allocation, and the channel bound to the peer."""
     client = stack.enter_context(Client(server))
-    for answer in (client.allocate(), client.bind((bytes([127, 0, 0, 1]), peer))):
-        if code_of(answer) != 0:
-            raise ValueError(f"refused by {code_of(answer)}")
+
+    def renew():
+        for answer in (client.signed(REFRESH, []), client.bind((bytes([127, 0, 0, 1]), peer))):
+            if code_of(answer) != 0:
+                raise ValueError(f"refused by {code_of(answer)}")
+
+    client.allocate()
+    renew()
     client.socket.connect(client.server)
     client.socket.settimeout(None)
-    return client.socket
+    return Subject(client.socket, pid, renew)
 
 
 def idle(stack):
@@ -121,13 +130,13 @@ def subjects(tool, folder, stack):
     forwarder = stack.enter_context(Process(tool, "forward", str(echo.port)))
     server = stack.enter_context(Server())
     found = {
-        "relayd": Subject(session(server, echo.port, stack), server.process.pid),
+        "relayd": session(server, server.process.pid, echo.port, stack),
         "forwarder": Subject(plain(forwarder.port, stack), forwarder.process.pid),
         "no relay": Subject(plain(echo.port, stack), echo.process.pid),
     }
     if shutil.which("turnserver"):
         coturn = stack.enter_context(Coturn(folder))
-        found["coturn"] = Subject(session(coturn, echo.port, stack), coturn.process.pid)
+        found["coturn"] = session(coturn, coturn.process.pid, echo.port, stack)
     return found
 
 
@@ -141,7 +150,28 @@ def keep_apart(measured):
     os.sched_setaffinity(0, {CLIENT_CPU})
 
 
-def main():
+def one_round(measured, tool, flight, size):
+    """Measures all in turn, in one order and the other, and returns the round trips a second of each, and the microseconds of
+    processor time for each of them."""
+    count, parts = FLIGHTS[flight] // PARTS, {name: [] for name in measured}
+    for subject in measured.values():
+        subject.renew()
+    for part in range(PARTS):
+        for name in sorted(measured, reverse=part % 2 == 1):
+            parts[name].append(measured[name].measure(tool, flight, count, size))
+    sums = {name: [sum(column) for column in zip(*found)] for name, found in parts.items()}
+    return {name: (PARTS * count / seconds, processor * 1e6 / (PARTS * count)) for name, (seconds, processor) in sums.items()}
+
+
+def print_figures(rounds):
+    """Prints the medians of the rounds."""
+    for name in rounds[0]:
+        trips, processor = (statistics.median(column) for column in zip(*(found[name] for found in rounds)))
+        part = statistics.median(found["relayd"][0] / found[name][0] for found in rounds)
+        print(f"  {name:10} {trips:9,.0f} round trips a second, {processor:5.1f} us of processor time each; relayd {part:.2f} of it")
+
+
+def main(count_of_rounds=ROUNDS):
     """Measures, prints, and returns the exit status."""
     build()
     with tempfile.TemporaryDirectory() as folder, contextlib.ExitStack() as stack:
@@ -150,19 +180,13 @@ def main():
         measured = subjects(tool, folder, stack)
         keep_apart(measured)
         for size in SIZES:
-            for flight, count in FLIGHTS.items():
-                rounds = {name: [] for name in measured}
-                for _ in range(ROUNDS):
-                    for name, subject in measured.items():
-                        rounds[name].append(subject.measure(tool, flight, count, size))
+            for flight in FLIGHTS:
+                rounds = [one_round(measured, tool, flight, size) for _ in range(count_of_rounds)]
                 print(f"{size} bytes, {flight} in flight:")
-                medians = {name: [statistics.median(figures) for figures in zip(*found)] for name, found in rounds.items()}
-                for name, (trips, processor) in medians.items():
-                    ratio = medians["relayd"][0] / trips
-                    print(f"  {name:10} {trips:9,.0f} round trips a second, {processor:5.1f} us of processor time each; relayd {ratio:.2f} of it")
+                print_figures(rounds)
         print(f"idle, 16 allocations: {100 * idle(stack):.1f} % of a core")
     return 0
 
 
 if __name__ == "__main__":
-    sys.exit(main())
+    sys.exit(main(*map(int, sys.argv[1:])))

@@ -1,6 +1,7 @@
 //! The program: parses the command line, and reports on a program file, assembles a text, replays events or serves sockets.
 #![tactic(auto)]
 
+mod ahead;
 mod counters;
 mod options;
 mod replacing;

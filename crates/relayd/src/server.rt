@@ -1,5 +1,6 @@
 //! The command `serve`: relays the datagrams of UDP sockets.
 
+use crate::ahead::TURNS;
 use crate::options::{Fault, port_of, set_up, slots_of};
 use crate::replacing::Sides;
 use crate::sockets::{Addresses, BindFault, Sockets, place_of};
@@ -16,9 +17,6 @@ use std::net::{Ipv4Addr, Net};
 use std::random::RandomSource;
 use std::rt::{Clock, Files};
 use std::time::Duration;
-
-/// How many datagrams a socket may have before the others get their turn.
-const TURNS: usize = 64;
 
 /// How many events one wait reports. Further ones are reported by the next.
 const EVENTS: usize = 256;
@@ -70,6 +68,8 @@ struct Server<'a> {
     nonces: Timer,
     files: Timer,
     stats: Option<Timer>,
+    /// Whether several datagrams had come at the place that was served last.
+    is_busy: bool,
 }
 
 /// What a server waits with. Its memory is taken before the server listens.
@@ -235,18 +235,34 @@ impl Server<'_> {
         }
     }
 
-    /// Serves a place until nothing comes there, or for as many datagrams as it may have, all at one moment. Returns whether
-    /// more may be there.
+    /// Serves a place until nothing comes there, or for as many datagrams as it may have, all at one moment. Returns how many
+    /// came.
+    #[inline(always)]
+    fn turns<E: Write>(&mut self, err: &mut E, place: Place, now: u64) -> usize {
+        for count in 0..TURNS {
+            if !self.turn(err, place, now) {
+                return count;
+            }
+        }
+        TURNS
+    }
+
+    /// Serves a place, and receives ahead there if the server is busy. Returns whether more may be there.
     /// See docs/DECISIONS.md, "A clock is read once a drain".
+    /// See docs/DECISIONS.md, "One function serves a datagram".
+    /// See docs/DECISIONS.md, "A busy server receives ahead".
     #[inline(never)]
     fn drain<R: Clock, E: Write>(&mut self, rt: &R, err: &mut E, place: Place) -> bool {
         let now = moment(rt);
-        for _ in 0..TURNS {
-            if !self.turn(err, place, now) {
-                return false;
-            }
+        if self.is_busy {
+            self.sockets.receive_ahead(place);
         }
-        true
+        let count = match place {
+            Place::Client => self.turns(err, Place::Client, now),
+            Place::Slot(slot) => self.turns(err, Place::Slot(slot), now),
+        };
+        self.is_busy = count > 1;
+        count == TURNS
     }
 
     /// Serves each place that a wait reports, and notes which of them are still ready. Returns whether one is.
@@ -381,6 +397,7 @@ fn start<'a, R: Files + Net + Clock + RandomSource + AllocGlobal>(
         nonces: Timer::new(now, arguments.nonce_lifetime),
         files: Timer::new(now, Duration::from_secs(PERIOD)),
         stats: arguments.stats.map(|every| Timer::new(now, every)),
+        is_busy: false,
     };
     server.renew_nonce();
     Ok(server)

@@ -1,11 +1,12 @@
 //! The sockets of a server: one for clients, and one for the peers of each slot.
 
+use crate::ahead::{Ahead, Received, receive};
 use crate::counters::Counters;
 use attributes::Addr;
 use mio::net::UdpSocket;
 use mio::{Interest, Poll, Token};
 use serving::{Link, LinkFault, Place};
-use std::io::{self, ErrorKind};
+use std::io;
 use std::net::{Ipv4Addr, Net, SocketAddr, SocketAddrV4};
 
 /// The addresses that the sockets of a server are bound to.
@@ -35,6 +36,7 @@ pub(crate) enum BindFault {
 pub(crate) struct Sockets {
     client: UdpSocket,
     slots: Vec<UdpSocket>,
+    ahead: Ahead,
     counters: Counters,
 }
 
@@ -69,10 +71,14 @@ impl Sockets {
                 return Err(BindFault::Memory);
             }
         }
+        let Ok(ahead) = Ahead::new(rt.alloc()) else {
+            return Err(BindFault::Memory);
+        };
         let counters = Counters::new();
         Ok(Sockets {
             client,
             slots,
+            ahead,
             counters,
         })
     }
@@ -110,16 +116,24 @@ impl Sockets {
         }
     }
 
-    /// Receives a datagram at a place, if one has come.
-    fn take(&self, place: Place, into: &mut [u8]) -> Result<Option<(usize, Addr)>, LinkFault> {
-        match self.at(place)?.recv_from(into) {
-            Ok((n, SocketAddr::V4(from))) => {
-                let (ip, port) = (from.ip().octets(), from.port());
-                Ok(Some((n, Addr::V4 { ip, port })))
+    /// Receives ahead at a place.
+    pub(crate) fn receive_ahead(&mut self, place: Place) {
+        match place {
+            Place::Client => self.ahead.fill(&self.client),
+            Place::Slot(slot) => {
+                if let Some(socket) = self.slots.get(slot) {
+                    self.ahead.fill(socket);
+                }
             }
-            Ok((_, SocketAddr::V6(_))) => Err(LinkFault),
-            Err(error) if error.kind() == ErrorKind::WouldBlock => Ok(None),
-            Err(_) => Err(LinkFault),
+        }
+    }
+
+    /// Receives a datagram at a place, if one has come: the next one that was received ahead, while there are any.
+    #[inline(always)]
+    fn take(&mut self, place: Place, into: &mut [u8]) -> Result<Received, LinkFault> {
+        match self.ahead.next(into) {
+            Some(result) => result,
+            None => receive(self.at(place)?, into),
         }
     }
 
@@ -143,13 +157,18 @@ impl Link for Sockets {
         place: Place,
         into: &mut [u8],
     ) -> Result<Option<(usize, Addr)>, LinkFault> {
-        let result = self.take(place, into);
-        match &result {
-            Ok(None) => {}
-            Ok(Some((n, _))) => self.counters.received(place, into.get(..*n).unwrap_or(&[])),
-            Err(_) => self.counters.receive_failed(),
+        match self.take(place, into) {
+            Ok(Some((n, from))) => {
+                self.counters.received(place, into.get(..n).unwrap_or(&[]));
+                let (ip, port) = (from.ip().octets(), from.port());
+                Ok(Some((n, Addr::V4 { ip, port })))
+            }
+            Ok(None) => Ok(None),
+            Err(LinkFault) => {
+                self.counters.receive_failed();
+                Err(LinkFault)
+            }
         }
-        result
     }
 
     #[inline(always)]
