@@ -3,7 +3,7 @@
 Sessions with their messages written apart from the relay, from the standards (RFC 8489, RFC 8656); faults of the
 command line and of sockets, in their order; and what a server does from time to time. The server chooses the port for
 clients, and the ports of slots are free ones below the system's range, so two runs beside each other don't collide.
-Receives that fail need gcc; what can't be tried is named in the last line.
+Receives that fail or stop the server need gcc; what can't be tried is named in the last line.
 """
 
 import collections
@@ -45,19 +45,29 @@ FAILED_RECEIVES = range(1, 6)
 # The receives that fail of two batches of 10 requests: after the first three, 11 of the first batch, and then the receives
 # ahead of the second: its first one, one amid the batch, and the one that would find nothing more.
 BATCH_OF_REQUESTS, FAILED_AHEAD = 10, (15, 19, 25)
-# Preloaded into a program, makes receive number FAIL_RECEIVE fail. That it was loaded is seen by the file FAIL_LOADED.
-FAIL_RECEIVE = r"""
+# A receive amid the first turn of a batch of requests: after the first three come two for each of the three requests that
+# make an allocation with a channel, and then those of the batch.
+STOPPED_RECEIVE = 3 + 2 * 3 + 32
+# Preloaded into a program, makes receive number FAIL_RECEIVE fail, and stops the program before receive number STOP_RECEIVE.
+# That it was loaded is seen by the file LOADED.
+RECEIVES = r"""
 #define _GNU_SOURCE
 #include <dlfcn.h>
 #include <errno.h>
 #include <fcntl.h>
+#include <signal.h>
 #include <stdlib.h>
 #include <sys/socket.h>
 #include <unistd.h>
 
 __attribute__((constructor)) static void begin(void) {
-  if (close(open(getenv("FAIL_LOADED"), O_CREAT | O_WRONLY, 0600)) != 0)
+  if (close(open(getenv("LOADED"), O_CREAT | O_WRONLY, 0600)) != 0)
     _exit(99);
+}
+
+static int is_chosen(const char *variable, unsigned long count) {
+  const char *number = getenv(variable);
+  return number && strtoul(number, NULL, 10) == count;
 }
 
 ssize_t recvfrom(int fd, void *bytes, size_t size, int flags, struct sockaddr *from, socklen_t *length) {
@@ -65,10 +75,13 @@ ssize_t recvfrom(int fd, void *bytes, size_t size, int flags, struct sockaddr *f
   static unsigned long count;
   if (!real)
     real = (ssize_t(*)(int, void *, size_t, int, struct sockaddr *, socklen_t *))dlsym(RTLD_NEXT, "recvfrom");
-  if (++count == strtoul(getenv("FAIL_RECEIVE"), NULL, 10)) {
+  count++;
+  if (is_chosen("FAIL_RECEIVE", count)) {
     errno = ECONNREFUSED;
     return -1;
   }
+  if (is_chosen("STOP_RECEIVE", count))
+    raise(SIGSTOP);
   return real(fd, bytes, size, flags, from, length);
 }
 """
@@ -134,13 +147,24 @@ class Server:
         return self.process.wait(5)
 
     @contextlib.contextmanager
-    def stopped(self):
-        """Stops the server for a while, so that it finds at once all that has come meanwhile."""
-        self.process.send_signal(signal.SIGSTOP)
+    def stopped(self, by_itself=False):
+        """Stops the server while it waits, so that it finds at once all that has come meanwhile; or lets it stop itself."""
+        if not by_itself:
+            self.becomes("S")
+            self.process.send_signal(signal.SIGSTOP)
+        self.becomes("T")
         try:
             yield
         finally:
             self.process.send_signal(signal.SIGCONT)
+
+    def becomes(self, state):
+        """Waits until the process is in a state: S where it sleeps, T where it is stopped."""
+        end = time.monotonic() + 5
+        while self.stat()[0] != state:
+            if time.monotonic() > end:
+                raise RuntimeError(f"a server is in the state {self.stat()[0]}, and not in {state}")
+            time.sleep(0.001)
 
     def printed(self):
         """What was printed to the standard error so far."""
@@ -153,9 +177,13 @@ class Server:
             time.sleep(0.02)
         return self.printed().count(text)
 
+    def stat(self):
+        """What the system knows of the process, from its state on."""
+        return pathlib.Path(f"/proc/{self.process.pid}/stat").read_text().rpartition(")")[2].split()
+
     def ticks(self):
         """The processor time so far, in clock ticks."""
-        fields = pathlib.Path(f"/proc/{self.process.pid}/stat").read_text().rpartition(")")[2].split()
+        fields = self.stat()
         return int(fields[11]) + int(fields[12])
 
     def memory(self):
@@ -423,21 +451,30 @@ def faults():
             yield f"other counters: {server.printed()!r}"
 
 
+@contextlib.contextmanager
+def preloading(what):
+    """Yields the environment in which the program's receives can fail and can stop it, or None where that can't be had."""
+    with tempfile.TemporaryDirectory() as name:
+        library, loaded = f"{name}/receives.so", pathlib.Path(name) / "loaded"
+        environment = {**os.environ, "LD_PRELOAD": library, "LOADED": str(loaded)}
+        why = "no gcc"
+        if shutil.which("gcc"):
+            words = ["gcc", "-O1", "-Wall", "-shared", "-fPIC", "-o", library, "-x", "c", "-", "-ldl"]
+            subprocess.run(words, input=RECEIVES, text=True, check=True)
+            subprocess.run([PROGRAM, "--help"], env=environment, stdout=subprocess.DEVNULL, check=True)
+            why = "a program that loads no library"
+        if not loaded.exists():
+            PASSED_OVER.append(f"{what} ({why})")
+        yield environment if loaded.exists() else None
+
+
 def failed_receives():
     """Yields what a server does otherwise than go on after a receive that fails, and count it."""
-    if shutil.which("gcc") is None:
-        PASSED_OVER.append("receives that fail (no gcc)")
-        return
-    with tempfile.TemporaryDirectory() as name:
-        library, loaded = f"{name}/fail_receive.so", pathlib.Path(name) / "loaded"
-        words = ["gcc", "-O1", "-Wall", "-shared", "-fPIC", "-o", library, "-x", "c", "-", "-ldl"]
-        subprocess.run(words, input=FAIL_RECEIVE, text=True, check=True)
-        environment = {**os.environ, "LD_PRELOAD": library, "FAIL_LOADED": str(loaded)}
+    with preloading("receives that fail") as environment:
+        if environment is None:
+            return
         for number in FAILED_RECEIVES:
             with Server("--stats", "1", env={**environment, "FAIL_RECEIVE": str(number)}) as server:
-                if not loaded.exists():
-                    PASSED_OVER.append("receives that fail (a program that loads no library)")
-                    return
                 yield from failed_receive(server, f"receive {number}")
         for number in FAILED_AHEAD:
             with Server("--stats", "1", env={**environment, "FAIL_RECEIVE": str(number)}) as server:
@@ -584,18 +621,33 @@ def replaced_programs():
             yield from wanted("the allocation", code_of(client.signed(REFRESH, [])), 0)
 
 
-def turns():
-    """Yields how many requests are answered before a peer's datagram, which came after all of them, gets its turn."""
-    with Server() as server, Client(server) as client, udp_socket() as peer:
+def requests_before(server, amid):
+    """How many of 200 requests are answered before a datagram of a peer, which came after all of them; or amid them, while
+    the server had stopped itself."""
+    with Client(server) as client, udp_socket() as peer:
         client.allocate()
         client.bind(address_of(peer))
-        time.sleep(0.2)  # the server finds nothing more, and waits
-        with server.stopped():
+        with contextlib.ExitStack() as stack:
+            stack.enter_context(server.stopped())
             for _ in range(200):
                 client.send(message(BINDING, random.randbytes(12), []))
+            if amid:
+                stack.close()
+                stack.enter_context(server.stopped(by_itself=True))
             peer.sendto(b"its turn", ("127.0.0.1", server.first_port))
+            time.sleep(0.2)  # all of it has come
         received = [client.receive() for _ in range(201)]
-        yield from wanted("requests before the others get their turn", received.index(channel_data(b"its turn")), 64)
+        return received.index(channel_data(b"its turn"))
+
+
+def turns():
+    """Yields how many requests are answered before a peer's datagram gets its turn, where it isn't as many as may be."""
+    with Server() as server:
+        yield from wanted("requests before one that came last", requests_before(server, amid=False), 64)
+    with preloading("a server that is stopped amid a turn") as environment:
+        if environment is not None:
+            with Server(env={**environment, "STOP_RECEIVE": str(STOPPED_RECEIVE)}) as server:
+                yield from wanted("requests before one that came amid them", requests_before(server, amid=True), 64)
 
 
 def ahead():

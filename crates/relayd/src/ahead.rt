@@ -45,7 +45,7 @@ pub(crate) struct Ahead {
 
 /// Receives a datagram at a socket, if one has come.
 #[inline(always)]
-pub(crate) fn receive(socket: &UdpSocket, into: &mut [u8]) -> Result<Received, LinkFault> {
+fn receive(socket: &UdpSocket, into: &mut [u8]) -> Result<Received, LinkFault> {
     match socket.recv_from(into) {
         Ok((n, SocketAddr::V4(from))) => Ok(Some((n, from))),
         Ok((_, SocketAddr::V6(_))) => Err(LinkFault),
@@ -111,20 +111,22 @@ impl Ahead {
         Ok(())
     }
 
-    /// Hands on what the next receive gave, as if it were made now. `None` where none was made ahead.
+    /// Receives a datagram at a socket, if one has come: the next one that was received ahead, while there are any.
     #[inline(always)]
-    pub(crate) fn next(&mut self, into: &mut [u8]) -> Option<Result<Received, LinkFault>> {
+    pub(crate) fn receive(
+        &mut self,
+        socket: &UdpSocket,
+        into: &mut [u8],
+    ) -> Result<Received, LinkFault> {
         if let Some(&(n, from)) = self.datagrams.get(self.count) {
             self.count = self.count.saturating_add(1);
-            return match self.copy(n, into) {
-                Ok(()) => Some(Ok(Some((n, from)))),
-                Err(LinkFault) => Some(Err(LinkFault)),
-            };
+            self.copy(n, into)?;
+            return Ok(Some((n, from)));
         }
         match mem::replace(&mut self.then, Then::Receive) {
-            Then::Receive => None,
-            Then::Nothing => Some(Ok(None)),
-            Then::Fault => Some(Err(LinkFault)),
+            Then::Receive => receive(socket, into),
+            Then::Nothing => Ok(None),
+            Then::Fault => Err(LinkFault),
         }
     }
 }

@@ -72,13 +72,24 @@ struct Server<'a> {
     is_busy: bool,
 }
 
+/// Whether a place may have datagrams.
+#[derive(Clone, Copy)]
+enum Readiness {
+    /// It has none until a wait reports it.
+    Empty,
+    /// It may have more, and is served after the places that the next wait reports.
+    Ready,
+    /// It may have more, and was served since the last wait.
+    Served,
+}
+
 /// What a server waits with. Its memory is taken before the server listens.
 #[derive(Drop)]
 struct Waiting {
     poll: Poll,
     events: Events,
-    /// Which places may have datagrams, by their tokens.
-    ready: Vec<bool>,
+    /// Whether each place may have datagrams, by its token.
+    places: Vec<Readiness>,
 }
 
 /// Parses a number of an option.
@@ -265,33 +276,49 @@ impl Server<'_> {
         count == TURNS
     }
 
-    /// Serves each place that a wait reports, and notes which of them are still ready. Returns whether one is.
+    /// Serves each place that a wait reports and that wasn't known to be ready. Returns whether one of them may have more.
     fn drain_reported<R: Clock, E: Write>(
         &mut self,
         rt: &R,
         err: &mut E,
         events: &Events,
-        ready: &mut [bool],
+        places: &mut [Readiness],
     ) -> bool {
         let mut more = false;
         for event in events.iter() {
             let Token(token) = event.token();
-            if let Some(is_ready) = ready.get_mut(token) {
-                *is_ready = self.drain(rt, err, place_of(token));
-                more = more || *is_ready;
+            if let Some(readiness) = places.get_mut(token)
+                && let Readiness::Empty = *readiness
+                && self.drain(rt, err, place_of(token))
+            {
+                *readiness = Readiness::Served;
+                more = true;
             }
         }
         more
     }
 
-    /// Serves each place that is ready, and keeps which of them still are. Returns whether one is.
-    fn drain_ready<R: Clock, E: Write>(&mut self, rt: &R, err: &mut E, ready: &mut [bool]) -> bool {
+    /// Serves each place that was ready before the last wait; one that was served since is ready from now on. Returns whether
+    /// one is.
+    fn drain_ready<R: Clock, E: Write>(
+        &mut self,
+        rt: &R,
+        err: &mut E,
+        places: &mut [Readiness],
+    ) -> bool {
         let mut more = false;
-        for (token, is_ready) in ready.iter_mut().enumerate() {
-            if *is_ready {
-                *is_ready = self.drain(rt, err, place_of(token));
-                more = more || *is_ready;
-            }
+        for (token, readiness) in places.iter_mut().enumerate() {
+            let has_more = match *readiness {
+                Readiness::Empty => continue,
+                Readiness::Ready => self.drain(rt, err, place_of(token)),
+                Readiness::Served => true,
+            };
+            *readiness = if has_more {
+                Readiness::Ready
+            } else {
+                Readiness::Empty
+            };
+            more = more || has_more;
         }
         more
     }
@@ -310,12 +337,8 @@ impl Server<'_> {
             let wait = if more { Some(Duration::ZERO) } else { longest };
             waiting.wait(wait)?;
             self.tend(rt, err);
-            more = if more {
-                mark(&waiting.events, &mut waiting.ready);
-                self.drain_ready(rt, err, &mut waiting.ready)
-            } else {
-                self.drain_reported(rt, err, &waiting.events, &mut waiting.ready)
-            };
+            let more_reported = self.drain_reported(rt, err, &waiting.events, &mut waiting.places);
+            more = (more || more_reported) && self.drain_ready(rt, err, &mut waiting.places);
         }
         Ok(())
     }
@@ -327,11 +350,12 @@ impl Waiting {
         let poll = Poll::new(rt).map_err(|_| Fault::Wait)?;
         sockets.register(&poll).map_err(|_| Fault::Wait)?;
         let events = Events::with_capacity(rt.alloc(), EVENTS).map_err(|_| Fault::Memory)?;
-        let ready = vec![in rt.alloc(); true; sockets.count()].map_err(|_| Fault::Memory)?;
+        let count = sockets.count();
+        let places = vec![in rt.alloc(); Readiness::Ready; count].map_err(|_| Fault::Memory)?;
         Ok(Waiting {
             poll,
             events,
-            ready,
+            places,
         })
     }
 
@@ -348,16 +372,6 @@ impl Waiting {
 #[inline(never)]
 fn report_fault<E: Write>(err: &mut E, fault: ServeError) {
     let _ = writeln!(err, "{fault}");
-}
-
-/// Notes which places are ready.
-fn mark(events: &Events, ready: &mut [bool]) {
-    for event in events.iter() {
-        let Token(token) = event.token();
-        if let Some(is_ready) = ready.get_mut(token) {
-            *is_ready = true;
-        }
-    }
 }
 
 /// Prints the line that says where clients are served.

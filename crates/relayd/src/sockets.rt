@@ -1,6 +1,6 @@
 //! The sockets of a server: one for clients, and one for the peers of each slot.
 
-use crate::ahead::{Ahead, Received, receive};
+use crate::ahead::{Ahead, Received};
 use crate::counters::Counters;
 use attributes::Addr;
 use mio::net::UdpSocket;
@@ -31,11 +31,17 @@ pub(crate) enum BindFault {
     Memory,
 }
 
-/// The sockets of a server. No call on them waits.
+/// The socket of each place. No call on them waits.
 #[derive(Drop)]
-pub(crate) struct Sockets {
+struct Places {
     client: UdpSocket,
     slots: Vec<UdpSocket>,
+}
+
+/// The sockets of a server, what was received ahead at one of them, and what was counted.
+#[derive(Drop)]
+pub(crate) struct Sockets {
+    places: Places,
     ahead: Ahead,
     counters: Counters,
 }
@@ -53,15 +59,9 @@ pub(crate) fn place_of(token: usize) -> Place {
     }
 }
 
-impl Sockets {
-    /// Binds the sockets, that of clients first, then those of the slots in order.
-    ///
-    /// # Errors
-    /// The first address that can't be bound, and where memory runs out.
-    pub(crate) fn bind<R: Net + AllocGlobal>(
-        rt: &R,
-        addresses: Addresses,
-    ) -> Result<Sockets, BindFault> {
+impl Places {
+    /// Binds the socket of clients, and then those of the slots in order.
+    fn bind<R: Net + AllocGlobal>(rt: &R, addresses: Addresses) -> Result<Places, BindFault> {
         let Addresses { listen, port, .. } = addresses;
         let client = bind(rt, SocketAddrV4::new(listen, port))?;
         let mut slots = Vec::new(rt.alloc());
@@ -71,13 +71,34 @@ impl Sockets {
                 return Err(BindFault::Memory);
             }
         }
+        Ok(Places { client, slots })
+    }
+
+    /// Returns the socket of a place.
+    fn at(&self, place: Place) -> Result<&UdpSocket, LinkFault> {
+        match place {
+            Place::Client => Ok(&self.client),
+            Place::Slot(slot) => self.slots.get(slot).ok_or(LinkFault),
+        }
+    }
+}
+
+impl Sockets {
+    /// Binds the sockets, that of clients first, then those of the slots in order.
+    ///
+    /// # Errors
+    /// The first address that can't be bound, and where memory runs out.
+    pub(crate) fn bind<R: Net + AllocGlobal>(
+        rt: &R,
+        addresses: Addresses,
+    ) -> Result<Sockets, BindFault> {
+        let places = Places::bind(rt, addresses)?;
         let Ok(ahead) = Ahead::new(rt.alloc()) else {
             return Err(BindFault::Memory);
         };
         let counters = Counters::new();
         Ok(Sockets {
-            client,
-            slots,
+            places,
             ahead,
             counters,
         })
@@ -85,19 +106,20 @@ impl Sockets {
 
     /// Returns the address of the clients' socket. Where port 0 was asked for, its port is the one that the system chose.
     pub(crate) fn address(&self) -> io::Result<SocketAddr> {
-        self.client.local_addr()
+        self.places.client.local_addr()
     }
 
     /// Returns the number of sockets.
     pub(crate) fn count(&self) -> usize {
-        self.slots.len().saturating_add(1)
+        self.places.slots.len().saturating_add(1)
     }
 
     /// Has a poll report each socket, under the token of its place, when datagrams have come there.
     pub(crate) fn register(&mut self, poll: &Poll) -> io::Result<()> {
+        let Places { client, slots } = &mut self.places;
         let registry = poll.registry();
-        registry.register(&mut self.client, Token(0), Interest::READABLE)?;
-        for (token, socket) in (1usize..).zip(self.slots.iter_mut()) {
+        registry.register(client, Token(0), Interest::READABLE)?;
+        for (token, socket) in (1usize..).zip(slots.iter_mut()) {
             registry.register(socket, Token(token), Interest::READABLE)?;
         }
         Ok(())
@@ -108,33 +130,18 @@ impl Sockets {
         let _ = writeln!(err, "{}", self.counters);
     }
 
-    /// Returns the socket of a place.
-    fn at(&self, place: Place) -> Result<&UdpSocket, LinkFault> {
-        match place {
-            Place::Client => Ok(&self.client),
-            Place::Slot(slot) => self.slots.get(slot).ok_or(LinkFault),
-        }
-    }
-
     /// Receives ahead at a place.
     pub(crate) fn receive_ahead(&mut self, place: Place) {
-        match place {
-            Place::Client => self.ahead.fill(&self.client),
-            Place::Slot(slot) => {
-                if let Some(socket) = self.slots.get(slot) {
-                    self.ahead.fill(socket);
-                }
-            }
+        if let Ok(socket) = self.places.at(place) {
+            self.ahead.fill(socket);
         }
     }
 
     /// Receives a datagram at a place, if one has come: the next one that was received ahead, while there are any.
     #[inline(always)]
     fn take(&mut self, place: Place, into: &mut [u8]) -> Result<Received, LinkFault> {
-        match self.ahead.next(into) {
-            Some(result) => result,
-            None => receive(self.at(place)?, into),
-        }
+        let socket = self.places.at(place)?;
+        self.ahead.receive(socket, into)
     }
 
     /// Sends a datagram from a place. One that would have to wait, or isn't sent whole, is a fault.
@@ -143,7 +150,7 @@ impl Sockets {
             return Err(LinkFault);
         };
         let to = SocketAddr::V4(SocketAddrV4::new(Ipv4Addr::from(ip), port));
-        match self.at(place)?.send_to(bytes, to) {
+        match self.places.at(place)?.send_to(bytes, to) {
             Ok(n) if n == bytes.len() => Ok(()),
             _ => Err(LinkFault),
         }
