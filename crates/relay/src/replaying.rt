@@ -1,6 +1,6 @@
 //! Replays of event text: events come from a reader, and their answers go to a writer.
 
-ghost use Rattle.std.specs.Prelude.{◌≡◌, ◌<◌, ◌^◌, ◌⊎◌, List, All, is_some, IfOk, IfErr, OnOk, OnErr};
+ghost use Rattle.std.specs.Prelude.{◌≡◌, ◌<◌, ◌^◌, ◌⊎◌, ℕ, List, All, is_some, IfOk, IfErr, OnOk, OnErr};
 ghost use Rattle.std.specs.Io.KnownBytes.{Appends};
 ghost use Rattle.relay.specs.declared.replaying.ReplayError.TheVariants as errors;
 
@@ -30,7 +30,6 @@ pub enum ReplayError {
 
 impl Relay {
     ghost use Rattle.events.specs.Reading.{event_in};
-    ghost use Rattle.relay.specs.Errors.{IfLine};
     ghost use Rattle.relay.specs.Replays.{system_of, after_line, answer_to, IsCut, IsSameRelay, HasPlayedAll, StopsAtLine, StopsBefore, StopsWriting};
     ghost use Rattle.relay.specs.ByRules.{by_rules};
     ghost use Rattle.relay.specs.Relays.{state_of};
@@ -85,8 +84,8 @@ impl Relay {
     ) -> Result<(), ReplayError>
         ensures ok { OnOk result (HasPlayedAll (R.remaining reader.old) (R.remaining reader.new) self.old self.new
             (W.contents writer.old) (W.contents writer.new)) }
-        ensures line { IfErr result (λ e. IfLine e (λ n. StopsAtLine n (R.remaining reader.old) self.old self.new
-            (W.contents writer.old) (W.contents writer.new))) }
+        ensures line { IfErr result (λ e. (n : ℕ) → e ≡ errors.Line n
+            → StopsAtLine n (R.remaining reader.old) self.old self.new (W.contents writer.old) (W.contents writer.new)) }
         ensures before { IfErr result (λ e. (e ≡ errors.Read) ⊎ (e ≡ errors.Memory)
             → StopsBefore (R.remaining reader.old) self.old self.new (W.contents writer.old) (W.contents writer.new)) }
         ensures writing { IfErr result (λ e. e ≡ errors.Write
