@@ -40,9 +40,9 @@ def ran(words, seconds=60):
 
 
 @contextlib.contextmanager
-def echo():
+def echo(address):
     """A peer that sends each datagram back; its port."""
-    with udp_socket() as peer:
+    with udp_socket(0, address) as peer:
         peer.settimeout(0.2)
         done = threading.Event()
 
@@ -82,15 +82,17 @@ def stunclient(server):
 
 
 def uclient(*mode):
-    """coturn's client of TURN, in a mode: messages to a peer or to each other, by indications or over channels."""
+    """coturn's client of TURN, in a mode: messages to a peer or to each other, by indications or over channels, of an
+    allocation over IPv4 or (`-x`) over IPv6."""
 
     def exchanges(server):
         program = shutil.which("turnutils_uclient")
         if program is None:
             return PASSED_OVER
-        with echo() as peer:
+        address = "::1" if "-x" in mode else "127.0.0.1"
+        with echo(address) as peer:
             words = [program, "-c", "-u", "u", "-w", "p", "-n", 50, "-l", 160, "-z", 2, "-p", server.port, *mode]
-            words += [] if "-y" in mode else ["-e", "127.0.0.1", "-r", peer]
+            words += [] if "-y" in mode else ["-e", address, "-r", peer]
             for _ in range(TRIES):
                 status, printed = ran([*words, "127.0.0.1"])
                 if "error 420" not in printed and "channel bind: error 400" not in printed:
@@ -137,6 +139,8 @@ CLIENTS = [
     ("turnutils_uclient by indications", uclient("-s")),
     ("turnutils_uclient over channels", uclient()),
     ("turnutils_uclient to each other", uclient("-y", "-s")),
+    ("turnutils_uclient over IPv6 by indications", uclient("-x", "-s")),
+    ("turnutils_uclient over IPv6 over channels", uclient("-x")),
     ("aioice", aioice),
     ("pion", pion),
     ("chromium", chromium),
@@ -192,7 +196,7 @@ class Capture:
 
 def tried(name, client, folder):
     """What a client finds wrong with a server of its own, and what the capture does; each may be `PASSED_OVER`."""
-    with Server(slots=SLOTS) as server:
+    with Server("--listen6", "::1", slots=SLOTS) as server:
         capture = Capture(server.port, folder)
         try:
             found = client(server)

@@ -2,9 +2,11 @@
 
 The events are datagrams of several clients and peers over a few slots: requests that are granted and refused, ChannelData
 and Send indications whole, padded, cut and changed, datagrams of peers with and without a permission or a channel, moments
-that pass and go back, and new nonces. They are replayed with the shipped programs, with a program of the client's side that
-passes every datagram on, and with the programs of examples/relay/: those that relay more by themselves give the same answers,
-and those that discard give none where they say so.
+that pass and go back, and new nonces. One list has addresses of IPv4 alone, another those of both families. They are replayed
+with the shipped programs, with a program of the client's side that passes every datagram on, with the programs of
+examples/relay/: those that relay more by themselves give the same answers, and those that discard give none where they say
+so; and with those of tests/ipv4_programs/, which were shipped before there were IPv6 allocations: they relay the same over
+IPv4, and nothing over IPv6 that they have to relay themselves.
 """
 
 import collections
@@ -16,8 +18,8 @@ from pathlib import Path
 
 from program import build, finish, run
 from rules import (
-    ALLOCATE, BINDING, CHANNEL_BIND, CHANNEL_NUMBER, CREATE_PERMISSION, DATA, FAMILY, LIFETIME, NONCE, REALM, REFRESH, SEND,
-    TRANSPORT, USERNAME, XOR_PEER_ADDRESS, Rules, address_value, answer_line, event_of, key_of, line_of, message)
+    ALLOCATE, BINDING, CHANNEL_BIND, CHANNEL_NUMBER, CREATE_PERMISSION, DATA, FAMILY, IPV4, LIFETIME, NONCE, REALM, REFRESH, SEND,
+    TRANSPORT, USERNAME, XOR_PEER_ADDRESS, Rules, address_value, answer_line, event_of, family_of, key_of, line_of, message)
 
 TOP = Path(__file__).resolve().parent.parent
 PROGRAMS = TOP / "examples" / "relay"
@@ -30,14 +32,21 @@ CHANNELS = [0x4000, 0x4001, 0x4002, 0x4FFF]
 # `mov r0, 1` and `exit`
 PASS_ALL = bytes.fromhex("b700000001000000 9500000000000000")
 IPV6_VALUE = b"\0\2" + bytes(18)
+IP6 = bytes.fromhex("20010db8000000000000000000000009")
+PEERS6 = [(bytes.fromhex("20010db8") + bytes(11) + bytes([n]), port) for n in (1, 2) for port in (5000, 5001)]
+CLIENT6 = (bytes.fromhex("20010db8") + bytes(11) + b"\x0a", 4000)
+IPV4_PROGRAMS = TOP / "tests" / "ipv4_programs"
 
 
 class Generator:
     """Events that are likely to meet each rule, made along a model's state."""
 
-    def __init__(self, seed):
+    def __init__(self, seed, ip6=None):
         self.random = random.Random(seed)
-        self.rules = Rules(USERS, slots=SLOTS)
+        self.rules = Rules(USERS, slots=SLOTS, ip6=ip6)
+        self.clients = CLIENTS if ip6 is None else [*CLIENTS * 4, CLIENT6]
+        self.peers = PEERS if ip6 is None else PEERS + PEERS6
+        self.families = [1, 1, 2] if ip6 is None else [1, 2, 2, 2, 3]
         self.now = 1000
 
     def chance(self, share):
@@ -59,8 +68,12 @@ class Generator:
         tx = self.bytes(12)
         if self.chance(0.35):
             size = 65_490 + self.random.randrange(18) if self.chance(0.004) else self.random.randrange(40)
-            return "p", now, tx, self.random.randrange(SLOTS), self.pick(PEERS), self.bytes(size)
-        return "c", now, tx, self.pick(CLIENTS), self.spoiled(self.datagram())
+            return "p", now, tx, self.random.randrange(SLOTS), self.pick(self.peers), self.bytes(size)
+        return "c", now, tx, self.pick(self.clients), self.spoiled(self.datagram())
+
+    def peer(self, tx):
+        """An attribute with the address of a peer, in a message with a transaction id."""
+        return XOR_PEER_ADDRESS, address_value(self.pick(self.peers), tx)
 
     def spoiled(self, data):
         """Some datagrams are cut, padded or changed."""
@@ -82,21 +95,23 @@ class Generator:
         return struct.pack(">HH", self.pick([*CHANNELS, *CHANNELS, 0x5000, 0x7FFF]), len(data)) + data + bytes(-len(data) % 4)
 
     def send(self):
-        given = [(XOR_PEER_ADDRESS, address_value(self.pick(PEERS))), (DATA, self.bytes(self.random.randrange(40)))]
+        tx = self.bytes(12)
+        given = [self.peer(tx), (DATA, self.bytes(self.random.randrange(40)))]
         if self.chance(0.3):
             given.reverse()
         if self.chance(0.2):
             other = self.pick([
-                (0x8022, b"name"), (0x8001, b""), (0x001A, b""), (XOR_PEER_ADDRESS, address_value(self.pick(PEERS))),
+                (0x8022, b"name"), (0x8001, b""), (0x001A, b""), self.peer(tx),
                 (XOR_PEER_ADDRESS, IPV6_VALUE), (XOR_PEER_ADDRESS, b"\0\2" + bytes(6)), (DATA, b"more")])
             given.insert(self.random.randrange(3), other)
         if self.chance(0.05):
             given.pop(self.random.randrange(len(given)))
-        return message(SEND, self.bytes(12), given)
+        return message(SEND, tx, given)
 
     def request(self):
         kind = self.pick([BINDING, ALLOCATE, ALLOCATE, REFRESH, CREATE_PERMISSION, CREATE_PERMISSION, CHANNEL_BIND, CHANNEL_BIND])
-        given = self.arguments(kind)
+        tx = self.bytes(12)
+        given = self.arguments(kind, tx)
         if self.chance(0.05):
             given.insert(self.random.randrange(len(given) + 1), self.pick([(0x8022, b"name"), (0x001A, b""), (0x7F00, b"x")]))
         name, password = USERS[0] if self.chance(0.9) else self.pick([USERS[1], ("carol", "secret"), ("alice", "wrong")])
@@ -105,27 +120,27 @@ class Generator:
         if self.chance(0.03):
             credentials.pop(self.random.randrange(3))
         if self.chance(0.05):
-            return message(kind, self.bytes(12), given)
-        return message(kind, self.bytes(12), given + credentials, key_of(name, "relay", password))
+            return message(kind, tx, given)
+        return message(kind, tx, given + credentials, key_of(name, "relay", password))
 
-    def arguments(self, kind):
+    def arguments(self, kind, tx):
         lifetime = [(LIFETIME, struct.pack(">I", self.pick([0, 1, 599, 601, 3600, 4000, 2 ** 32 - 1])))]
-        family = [(FAMILY, bytes([self.pick([1, 1, 2]), 0, 0, 0]))]
+        family = [(FAMILY, bytes([self.pick(self.families), 0, 0, 0]))]
         maybe = [a for options in ([lifetime, family] if kind in (ALLOCATE, REFRESH) else []) if self.chance(0.3) for a in options]
         if kind == ALLOCATE:
             return [(TRANSPORT, bytes([self.pick([17] * 9 + [6]), 0, 0, 0]))] + maybe
         if kind == CREATE_PERMISSION:
-            peers = [(XOR_PEER_ADDRESS, address_value(self.pick(PEERS))) for _ in range(self.random.randrange(1, 4))]
+            peers = [self.peer(tx) for _ in range(self.random.randrange(1, 4))]
             return peers + ([(XOR_PEER_ADDRESS, IPV6_VALUE)] if self.chance(0.05) else [])
         if kind == CHANNEL_BIND:
             number = self.pick([*CHANNELS, *CHANNELS, 0x3FFF, 0x5000])
-            return [(CHANNEL_NUMBER, struct.pack(">HH", number, 0)), (XOR_PEER_ADDRESS, address_value(self.pick(PEERS)))]
+            return [(CHANNEL_NUMBER, struct.pack(">HH", number, 0)), self.peer(tx)]
         return maybe
 
 
-def seeded(seed, count):
+def seeded(seed, count, ip6=None):
     """Events, each with the answer of the model."""
-    generator = Generator(seed)
+    generator = Generator(seed, ip6)
     pairs = []
     for _ in range(count):
         event = generator.event()
@@ -173,6 +188,34 @@ def systematic():
     return [(line_of(event), answer_line(rules.answer(event))) for event in events]
 
 
+def systematic6():
+    """The same for an IPv6 allocation, in a relay that gives addresses of both families."""
+    client, (peer, other_port, no_permission), peer4 = CLIENTS[0], PEERS6[:3], PEERS[0]
+    to_peer, content = (XOR_PEER_ADDRESS, address_value(peer)), (DATA, b"abc")
+    to_peer4 = (XOR_PEER_ADDRESS, address_value(peer4))
+    udp, family = (TRANSPORT, bytes([17, 0, 0, 0])), (FAMILY, bytes([2, 0, 0, 0]))
+    number = (CHANNEL_NUMBER, b"\x40\x01\0\0")
+    requests = [
+        signed(ALLOCATE, [udp, family]), signed(ALLOCATE, [udp]), signed(CREATE_PERMISSION, [to_peer]), signed(CREATE_PERMISSION, [to_peer4]),
+        signed(CREATE_PERMISSION, [to_peer, to_peer4]), signed(CHANNEL_BIND, [number, to_peer4]), signed(CHANNEL_BIND, [number, to_peer]),
+        signed(REFRESH, [family]), signed(REFRESH, [(FAMILY, bytes([1, 0, 0, 0]))]), signed(REFRESH, [])]
+    sends = [
+        [to_peer, content], [content, to_peer], [to_peer, (DATA, b"")], [to_peer, content, (0x8001, b"")], [to_peer4, content],
+        [(XOR_PEER_ADDRESS, address_value(other_port)), content], [(XOR_PEER_ADDRESS, address_value(no_permission)), content],
+        [to_peer4, to_peer, content], [to_peer, to_peer4, content]]
+    channel_data = struct.pack(">HH", 0x4001, 36) + bytes(36)
+    from_client = requests + [message(SEND, bytes(12), given) for given in sends]
+    from_client += [channel_data[:n] for n in range(41)]
+    events = [("c", 1000, bytes(12), client, data) for data in from_client]
+    events += [("c", 1000, bytes(12), CLIENT6, data) for data in from_client]
+    sizes = [*range(5), 65_455, 65_456, 65_457, 65_503, 65_504, 65_507]
+    sources = (peer, other_port, no_permission, peer4)
+    tx = bytes(range(0xF0, 0xFC))
+    events += [("p", 1000, tx, slot, source, bytes(n)) for n in sizes for source in sources for slot in (0, 1)]
+    rules = Rules(USERS, slots=SLOTS, ip6=IP6)
+    return [(line_of(event), answer_line(rules.answer(event))) for event in events]
+
+
 def kinds_of(pairs):
     """How often each kind of answer came."""
     def kind(answer):
@@ -189,6 +232,23 @@ class Discarding(Rules):
 
     def from_peer(self, tx, slot, peer, data):
         return None if self.discards(peer, data) else super().from_peer(tx, slot, peer, data)
+
+
+class OverIpv4(Rules):
+    """The rules, with the programs that were shipped before there were IPv6 allocations: what they relay has an IPv4 peer."""
+
+    def from_peer(self, tx, slot, peer, data):
+        return super().from_peer(tx, slot, peer, data) if family_of(peer[0]) == IPV4 else None
+
+    def channel_data(self, client, data):
+        answer = super().channel_data(client, data)
+        return answer if answer is None or family_of(answer[2][0]) == IPV4 else None
+
+
+def over_ipv4(pairs):
+    """The same events with the answers of programs that relay over IPv4 alone."""
+    rules = OverIpv4(USERS, slots=SLOTS, ip6=IP6)
+    return [(line, answer_line(rules.answer(event_of(line)))) for line, _ in pairs]
 
 
 def discarding(pairs, discards):
@@ -384,10 +444,25 @@ def main():
             ):
                 failures += compare(folder, f"{kind}, {program_name}", wanted, words)
                 count += len(events)
+        ip6 = ["--relay-ip6", IP6.hex()]
+        before = ["--client", IPV4_PROGRAMS / "client.bpf", "--peer", IPV4_PROGRAMS / "peer.bpf"]
+        pairs6 = seeded(8155, EVENTS, IP6)
+        for kind, events in (("one after another over IPv6", systematic6()), ("seeded over both families", pairs6)):
+            for program_name, wanted, words in (
+                ("shipped programs", events, ip6),
+                ("a program that passes all on", events, ["--client", folder / "pass_all.bpf", *ip6]),
+                ("client_with_options", events, [*options, *ip6]),
+                ("the programs of before", over_ipv4(events), [*before, *ip6]),
+            ):
+                failures += compare(folder, f"{kind}, {program_name}", wanted, words)
+                count += len(events)
+        for kind, events in (("one after another", systematic()), ("seeded", pairs)):
+            failures += compare(folder, f"{kind}, the programs of before", events, before)
+            count += len(events)
         for program_name, events, words in (*odd_programs(folder), ("odd moments", odd_moments(), []), ("cut datagrams", cut_datagrams(), [])):
             failures += compare(folder, program_name, events, words)
             count += len(events)
-    met = ", ".join(f"{kind} {number}" for kind, number in sorted(kinds_of(pairs).items()))
+    met = ", ".join(f"{kind} {number}" for kind, number in sorted(kinds_of(pairs + pairs6).items()))
     return finish(failures, f"events replayed and compared with a model: {count} ({met}), {len(failures)} failures")
 
 

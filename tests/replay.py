@@ -13,6 +13,8 @@ from program import TOP, finish, run
 
 sys.path.insert(0, str(TOP / "examples"))
 import events
+from rules import (
+    ERROR_CODE, FAMILY, LIFETIME, NONCE, REALM, TRANSPORT, USERNAME, XOR_MAPPED_ADDRESS, XOR_RELAYED_ADDRESS, key_of, message)
 
 EXAMPLES = TOP / "examples"
 SESSION = TOP / "crates" / "session_replay"
@@ -37,6 +39,24 @@ UNSIGNED = (
     f"c 198.51.100.2:4000 0113002c2112a442{'0' * 24}00090013000004"
     "01556e61757468656e74696361746564000014000572656c6179000000001500026e320000\n"
 )
+IP6 = "20010db80000000000000000000000Ab"
+PEER6 = "[20010db8000000000000000000000001]:5000"
+
+
+def allocate(kind, *given):
+    """A message of a signed Allocate exchange, in the transaction of zeros."""
+    return message(kind, bytes(12), list(given), key_of("u", "relay", "p")).hex()
+
+
+# an Allocate request for an IPv6 address, the error 440, and the response with [2001:db8::ab]:49152: the port is xored with
+# 0x2112, and the address with the cookie and the transaction id
+ALLOCATE6 = allocate(
+    0x0003, (TRANSPORT, b"\x11\0\0\0"), (FAMILY, b"\2\0\0\0"), (USERNAME, b"u"), (REALM, b"relay"), (NONCE, b"n1"))
+NO_FAMILY = f"c 198.51.100.2:4000 {allocate(0x0113, (ERROR_CODE, bytes([0, 0, 4, 40]) + b'Address Family not Supported'))}\n"
+RELAYED6_VALUE = bytes.fromhex("0002e1120113a9fa" + "0" * 22 + "ab")
+MAPPED_VALUE = bytes.fromhex("00012eb2e721c040")
+RELAYED6 = "c 198.51.100.2:4000 " + allocate(
+    0x0103, (XOR_RELAYED_ADDRESS, RELAYED6_VALUE), (LIFETIME, (600).to_bytes(4, "big")), (XOR_MAPPED_ADDRESS, MAPPED_VALUE)) + "\n"
 # the words after `replay`, the status, standard error; nothing is printed to standard output. The faults come in the
 # order of the command line, the file of users, the nonce's length, the programs, the fields and the events, so the
 # second fault of a case is not named.
@@ -52,6 +72,13 @@ FAULTS = [
     ([*USER, "--relay-ip", "1.2.3", "events"], 2, "error: invalid value '1.2.3' for '--relay-ip <A>'\n"),
     ([*USER, "--relay-ip", "1.2.3.256", "events"], 2, "error: invalid value '1.2.3.256' for '--relay-ip <A>'\n"),
     ([*USER, "--relay-ip", "::1", "events"], 2, "error: invalid value '::1' for '--relay-ip <A>'\n"),
+    ([*USER, "--relay-ip6", "::1", "events"], 2, "error: invalid value '::1' for '--relay-ip6 <HEX>'\n"),
+    ([*USER, "--relay-ip6", "", "events"], 2, "error: invalid value '' for '--relay-ip6 <HEX>'\n"),
+    ([*USER, "--relay-ip6", "0" * 31, "events"], 2, f"error: invalid value '{'0' * 31}' for '--relay-ip6 <HEX>'\n"),
+    ([*USER, "--relay-ip6", "0" * 33, "events"], 2, None),
+    ([*USER, "--relay-ip6", "0" * 34, "events"], 2, None),
+    ([*USER, "--relay-ip6", "0" * 31 + "g", "events"], 2, None),
+    ([*USER, "--relay-ip6", "0" * 31 + "g", "--users", "missing", "events"], 2, None),
     (["--users", "missing", *LONG_NONCE, "events"], 3, UNREAD),
     (["--users", "bad_users", *LONG_NONCE, "events"], 1, "refused users at line 2\n"),
     (["--users", "bytes", "events"], 3, "cannot read bytes\n"),
@@ -94,6 +121,12 @@ RUNS = [
     # a new nonce, and a text that is none
     (["renewed"], 0, f"-\n{UNSIGNED}", ""),
     (["long_nonce"], 1, "-\n", "refused line 2\n"),
+    # a client over IPv6 is served nothing, and a peer may be over either family
+    (["family6"], 0, f"-\n-\n{BOUND}", ""),
+    # an IPv6 allocation: 440 where there is no address of that family, and digits of either case
+    (["allocate6"], 0, NO_FAMILY, ""),
+    (["--relay-ip6", IP6.lower(), "allocate6"], 0, RELAYED6, ""),
+    (["--relay-ip6", IP6.upper(), "allocate6"], 0, RELAYED6, ""),
 ]
 TX = "0" * 24
 # lines that are no event's: an empty one, needless zeros, numbers too great, digits that are upper-case or odd, an id that is
@@ -105,6 +138,10 @@ NO_EVENTS = [
     f"c 1000 {TX} 198.51.100.2:4000 ", f"c 1000 {TX} 198.51.100.2:4000", f"c 1000 {TX} 198.51.100.2:4000 - -",
     f"c 1000 {TX} 198.51.100.02:4000 -", f"c 1000 {TX} 198.51.100.256:4000 -", f"c 1000 {TX} 198.51.100.2:65536 -",
     f"c 1000 {TX} 198.51.100.2:04000 -", f"c 1000 {TX} 198.51.100:4000 -", f"c 1000 {TX} [::1]:4000 -",
+    *(f"c 1000 {TX} {address} -" for address in (
+        f"[{'0' * 31}]:4000", f"[{'0' * 33}]:4000", f"[{'0' * 31}A]:4000", f"[{'0' * 31}g]:4000", f"[{'0' * 32}]", f"[{'0' * 32}]:",
+        f"[{'0' * 32}]:65536", f"[{'0' * 32}]:04000", f"[{'0' * 32}4000", f"{'0' * 32}:4000", f"[{'0' * 32}:4000", f"{'0' * 32}]:4000",
+        f"[{'0' * 32}]]:4000", f"[[{'0' * 32}]:4000", f"[198.51.100.2]:4000", f"[{'0' * 32}%1]:4000")),
     f"p 1000 {TX} 16 192.0.2.7:5000 -", f"p 1000 {TX} 00 192.0.2.7:5000 -", f"p 1000 {TX} 192.0.2.7:5000 -",
     "n", "n ", "n a b", "n " + "a" * 65, f"c 1000 {TX} 198.51.100.2:4000 -\r", f"c 1000 {TX} 198.51.100.2:4000 -\t",
     f"c 1000 {TX} 198.51.100.2:4000 " + "00" * 65_508, "c" * 131_200, "c" * 131_201, "c" * 1_000_000]
@@ -177,6 +214,8 @@ def write_files(folder):
         "renewed": f"n n2\nc 1000 {'0' * 24} 198.51.100.2:4000 000300002112a442{'0' * 24}\n",
         "long_nonce": f"n {'n' * 64}\nn {'n' * 65}\n",
         "users": "u:p\nsecond:a b:c\n",
+        "family6": f"{BINDING.replace('198.51.100.2:4000', PEER6)}p 1000 {TX} 0 {PEER6} 616263\n{BINDING}",
+        "allocate6": f"c 1000 {TX} 198.51.100.2:4000 {ALLOCATE6}\n",
         "bad_users": "u:p\nup\n",
     }
     for name, text in texts.items():

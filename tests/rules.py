@@ -6,6 +6,7 @@ import struct
 
 COOKIE = 0x2112A442
 LATEST = 2 ** 62
+LONGEST = 65_507
 (USERNAME, INTEGRITY, ERROR_CODE, UNKNOWN_ATTRIBUTES, CHANNEL_NUMBER, LIFETIME, XOR_PEER_ADDRESS, DATA, REALM, NONCE,
  XOR_RELAYED_ADDRESS, FAMILY, TRANSPORT, XOR_MAPPED_ADDRESS) = UNDERSTOOD = (
     0x06, 0x08, 0x09, 0x0A, 0x0C, 0x0D, 0x12, 0x13, 0x14, 0x15, 0x16, 0x17, 0x19, 0x20)
@@ -29,17 +30,24 @@ def xor(data, mask):
     return bytes(a ^ b for a, b in zip(data, mask))
 
 
-def address_value(address):
-    """The value of an XOR address over IPv4."""
+IPV4, IPV6 = 1, 2
+
+
+def family_of(ip):
+    return IPV4 if len(ip) == 4 else IPV6
+
+
+def address_value(address, tx=bytes(12)):
+    """The value of an XOR address: IP address of 4 or 16 bytes, and port."""
     ip, port = address
-    cookie = struct.pack(">I", COOKIE)
-    return b"\0\1" + xor(struct.pack(">H", port), cookie) + xor(ip, cookie)
+    mask = struct.pack(">I", COOKIE) + tx
+    return bytes([0, family_of(ip)]) + xor(struct.pack(">H", port), mask) + xor(ip, mask)
 
 
 def address_in(value, tx):
     """The address of a value: IP address of 4 or 16 bytes, and port. None where it is malformed."""
     mask = struct.pack(">I", COOKIE) + tx
-    for size, family in ((4, 1), (16, 2)):
+    for size, family in ((4, IPV4), (16, IPV6)):
         if len(value) == size + 4 and value[1] == family:
             return xor(value[4:], mask), struct.unpack(">H", xor(value[2:4], mask))[0]
     return None
@@ -107,17 +115,18 @@ def read(data):
 
 
 class Allocation:
-    def __init__(self, slot, client, user, tx, lifetime, end):
+    def __init__(self, slot, client, user, tx, family, lifetime, end):
         self.slot, self.client, self.user, self.tx, self.lifetime, self.end = slot, client, user, tx, lifetime, end
+        self.family = family
         self.permissions, self.channels = {}, {}
 
 
 class Rules:
     """The rules, over a state: allocations by slot, the greatest moment, and the nonce."""
 
-    def __init__(self, users, realm="relay", nonce="n1", slots=16, ip=bytes([127, 0, 0, 1]), first_port=49152):
+    def __init__(self, users, realm="relay", nonce="n1", slots=16, ip=bytes([127, 0, 0, 1]), ip6=None, first_port=49152):
         self.users, self.realm, self.nonce = users, realm, nonce.encode()
-        self.ip, self.first_port, self.now = ip, first_port, 0
+        self.ips, self.first_port, self.now = {IPV4: ip, IPV6: ip6}, first_port, 0
         self.slots = [None] * slots
 
     # ---- look-ups
@@ -156,10 +165,15 @@ class Rules:
                 out = struct.pack(">HH", number, len(data)) + data
                 break
         else:
-            out = message(DATA_INDICATION, tx, [(XOR_PEER_ADDRESS, address_value(peer)), (DATA, data)])
-        return ("c", a.client, out) if len(out) <= 65507 else None
+            given = [(XOR_PEER_ADDRESS, address_value(peer, tx)), (DATA, data)]
+            if 20 + sum(len(attribute(*a)) for a in given) > LONGEST:
+                return None
+            out = message(DATA_INDICATION, tx, given)
+        return ("c", a.client, out) if len(out) <= LONGEST else None
 
     def from_client(self, client, data):
+        if family_of(client[0]) == IPV6:
+            return None
         if not data or data[0] >= 0x40:
             return self.channel_data(client, data)
         m = read(data)
@@ -202,7 +216,7 @@ class Rules:
             if m.unknown():
                 raise Refused(420)
             if m.kind == BINDING:
-                given = [(XOR_MAPPED_ADDRESS, address_value(client))]
+                given = [(XOR_MAPPED_ADDRESS, address_value(client, m.tx))]
             else:
                 given = serve[m.kind](client, user, m)
             return ("c", client, message(m.kind | 0x100, m.tx, given, key))
@@ -264,20 +278,22 @@ class Rules:
         else:
             if self.number(m, TRANSPORT, 1, must=True) != 17:
                 raise Refused(442)
-            if self.number(m, FAMILY, 1) not in (None, 1):
+            family = self.number(m, FAMILY, 1) if m.first(FAMILY) is not None else IPV4
+            if self.ips.get(family) is None:
                 raise Refused(440)
             lifetime = self.lifetime(self.number(m, LIFETIME, 4))
             free = [s for s in range(len(self.slots)) if self.at(s) is None]
             if not free:
                 raise Refused(508)
-            a = Allocation(free[0], client, user, m.tx, lifetime, self.now + lifetime)
+            a = Allocation(free[0], client, user, m.tx, family, lifetime, self.now + lifetime)
             self.slots[a.slot] = a
-        return [(XOR_RELAYED_ADDRESS, address_value((self.ip, self.first_port + a.slot))),
-                (LIFETIME, struct.pack(">I", a.lifetime)), (XOR_MAPPED_ADDRESS, address_value(client))]
+        relayed = self.ips[a.family], self.first_port + a.slot
+        return [(XOR_RELAYED_ADDRESS, address_value(relayed, m.tx)), (LIFETIME, struct.pack(">I", a.lifetime)),
+                (XOR_MAPPED_ADDRESS, address_value(client, m.tx))]
 
     def refresh(self, client, user, m):
         a = self.own(client, user)
-        if self.number(m, FAMILY, 1) not in (None, 1):
+        if self.number(m, FAMILY, 1) not in (None, a.family):
             raise Refused(443)
         requested = self.number(m, LIFETIME, 4)
         lifetime = 0 if requested == 0 else self.lifetime(requested)
@@ -289,7 +305,7 @@ class Rules:
         peers = [address_in(v, m.tx) for v in m.values(XOR_PEER_ADDRESS)]
         if not peers or None in peers:
             raise Refused(400)
-        if any(len(ip) != 4 for ip, _ in peers):
+        if any(family_of(ip) != a.family for ip, _ in peers):
             raise Refused(443)
         ips = {ip for ip, _ in peers}
         if len(a.permissions.keys() | ips) > 64:
@@ -304,7 +320,7 @@ class Rules:
         peer = None if value is None else address_in(value, m.tx)
         if peer is None or not 0x4000 <= number <= 0x4FFF:
             raise Refused(400)
-        if len(peer[0]) != 4:
+        if family_of(peer[0]) != a.family:
             raise Refused(443)
         others = [n for n, (bound, _) in a.channels.items() if bound == peer]
         if a.channels.get(number, (peer, 0))[0] != peer or others not in ([], [number]):
@@ -319,12 +335,13 @@ class Rules:
 # ---- lines of text
 
 def address_text(address):
-    return ".".join(map(str, address[0])) + f":{address[1]}"
+    ip, port = address
+    return (f"[{ip.hex()}]" if family_of(ip) == IPV6 else ".".join(map(str, ip))) + f":{port}"
 
 
 def address_of(text):
     ip, port = text.split(":")
-    return bytes(map(int, ip.split("."))), int(port)
+    return bytes.fromhex(ip[1:-1]) if ip.startswith("[") else bytes(map(int, ip.split("."))), int(port)
 
 
 def hex_text(data):

@@ -25,11 +25,13 @@ import time
 
 from program import PROGRAM, TOP, build, finish, run
 from rules import (
-    ALLOCATE, BINDING, CHANNEL_BIND, CHANNEL_NUMBER, CREATE_PERMISSION, DATA, DATA_INDICATION, ERROR_CODE, INTEGRITY,
+    ALLOCATE, BINDING, CHANNEL_BIND, CHANNEL_NUMBER, CREATE_PERMISSION, DATA, DATA_INDICATION, ERROR_CODE, FAMILY, INTEGRITY,
     LIFETIME, NONCE, REALM, REFRESH, SEND, TRANSPORT, USERNAME, XOR_MAPPED_ADDRESS, XOR_PEER_ADDRESS,
     XOR_RELAYED_ADDRESS, address_in, address_value, key_of, message, read)
 
 LOOPBACK = bytes([127, 0, 0, 1])
+LOOPBACK6 = bytes(15) + b"\1"
+UDP = TRANSPORT, bytes([17, 0, 0, 0])
 USER = ["--user", "u:p"]
 KEY = key_of("u", "relay", "p")
 CHANNEL = 0x4000
@@ -90,8 +92,8 @@ PASSED_OVER = []
 
 
 def udp_socket(port=0, address="127.0.0.1"):
-    """A socket of loopback whose receives give up after five seconds."""
-    bound = socket.socket(socket.AF_INET, socket.SOCK_DGRAM)
+    """A socket of loopback, of either family, whose receives give up after five seconds."""
+    bound = socket.socket(socket.AF_INET6 if ":" in address else socket.AF_INET, socket.SOCK_DGRAM)
     bound.settimeout(5)
     try:
         bound.bind((address, port))
@@ -103,7 +105,7 @@ def udp_socket(port=0, address="127.0.0.1"):
 
 def address_of(bound):
     """The address of a socket, as messages have it."""
-    return LOOPBACK, bound.getsockname()[1]
+    return LOOPBACK if bound.family == socket.AF_INET else LOOPBACK6, bound.getsockname()[1]
 
 
 def free_ports(count, address="127.0.0.1"):
@@ -211,10 +213,12 @@ class Client:
     def receive(self):
         return self.socket.recv(65_535)
 
-    def ask(self, kind, given, key=None):
-        """Sends a request, and returns its response: of its transaction, and signed where it grants a signed one."""
+    def ask(self, kind, given, key=None, peer=None):
+        """Sends a request, with the address of a peer if there is one, and returns its response: of its transaction, and signed
+        where it grants a signed one."""
         tx = random.randbytes(12)
-        self.send(message(kind, tx, given, key))
+        peers = [] if peer is None else [(XOR_PEER_ADDRESS, address_value(peer, tx))]
+        self.send(message(kind, tx, peers + given, key))
         answer = read(self.receive())
         if answer is None or answer.tx != tx or answer.kind & 0x3EEF != kind:
             raise ValueError(f"{kind:#06x} is not answered")
@@ -223,25 +227,29 @@ class Client:
                 raise ValueError(f"{kind:#06x} is answered with a wrong code")
         return answer
 
-    def signed(self, kind, given):
+    def signed(self, kind, given, peer=None):
         """Sends a signed request, and returns its response."""
-        return self.ask(kind, [*given, (USERNAME, b"u"), (REALM, b"relay"), (NONCE, self.nonce)], KEY)
+        return self.ask(kind, [*given, (USERNAME, b"u"), (REALM, b"relay"), (NONCE, self.nonce)], KEY, peer)
 
     def challenge(self):
         """Asks for an allocation without credentials, keeps the nonce, and returns the response."""
-        answer = self.ask(ALLOCATE, [(TRANSPORT, bytes([17, 0, 0, 0]))])
+        answer = self.ask(ALLOCATE, [UDP])
         self.nonce = answer.first(NONCE)
         return answer
 
-    def allocate(self):
+    def allocate(self, *given):
         """Allocates, and returns the response."""
         self.challenge()
-        return self.signed(ALLOCATE, [(TRANSPORT, bytes([17, 0, 0, 0]))])
+        return self.signed(ALLOCATE, [UDP, *given])
 
     def bind(self, peer):
         """Binds the channel to a peer, and returns the response."""
-        given = [(CHANNEL_NUMBER, struct.pack(">HH", CHANNEL, 0)), (XOR_PEER_ADDRESS, address_value(peer))]
-        return self.signed(CHANNEL_BIND, given)
+        return self.signed(CHANNEL_BIND, [(CHANNEL_NUMBER, struct.pack(">HH", CHANNEL, 0))], peer)
+
+    def send_to(self, peer, data):
+        """Sends data to a peer in a Send indication."""
+        tx = random.randbytes(12)
+        self.send(message(SEND, tx, [(XOR_PEER_ADDRESS, address_value(peer, tx)), (DATA, data)]))
 
 
 def channel_data(data):
@@ -306,6 +314,16 @@ def refused_lines():
             (["--port", "0", *USER, "--first-port", taken], 3, f"cannot bind 127.0.0.1:{taken}\n"),
             (["--port", free, *USER, "--first-port", free], 3, f"cannot bind 127.0.0.1:{free}\n"),
             (["--port", "0", *USER, "--listen", "192.0.2.1"], 3, "cannot bind 192.0.2.1:0\n"),
+            ([*port, "--listen6", "127.0.0.1", *USER], 2, value("127.0.0.1", "--listen6 <A>")),
+            ([*port, "--listen6", "[::1]", "--stats", "0", *USER], 2, value("[::1]", "--listen6 <A>")),
+            ([*port, "--listen6", "::1", "--relay-ip6", "::1", *USER], 2, value("::1", "--relay-ip6 <HEX>")),
+            ([*port, "--relay-ip6", "0" * 31 + "1", "--slots", "0", *USER], 2, "error: '--relay-ip6 <HEX>' needs '--listen6 <A>'\n"),
+            ([*port, "--listen6", "::", *USER, "--slots", "0"], 1, "refused slots\n"),
+            ([*port, "--listen6", "::", *USER], 1, "refused ip6\n"),
+            ([*port, "--listen6", "ff02::1", *USER], 1, "refused ip6\n"),
+            ([*port, "--listen6", "::1", "--relay-ip6", "0" * 32, *USER], 1, "refused ip6\n"),
+            ([*port, "--listen6", "::1", *USER], 3, f"cannot bind 127.0.0.1:{taken}\n"),
+            (["--port", "0", *USER, "--listen6", "2001:db8::1", "--first-port", free], 3, f"cannot bind [2001:db8::1]:{free}\n"),
         ]
         for words, status, printed in cases:
             yield from wanted(" ".join(words), run(["serve", "--rounds", "0", *words]), (status, "", printed))
@@ -336,6 +354,20 @@ def addresses():
     yield from wanted("--listen", run(words), (0, f"listening {address}:{first + 1}\n", ""))
     with udp_socket(first, address):
         yield from wanted("slot 0's port in use", run(words), (3, "", f"cannot bind {address}:{first}\n"))
+
+
+def addresses6():
+    """Yields what `--listen6` does otherwise than it says: one port serves both families apart, each address by a socket of
+    its own."""
+    first = free_ports(2)
+    words = ["serve", *USER, "--rounds", "0", "--port", str(first + 1), "--first-port", str(first), "--slots", "1"]
+    listening = f"listening 127.0.0.1:{first + 1}\n"
+    any_address = ["--listen", "0.0.0.0", "--listen6", "::", "--relay-ip6", LOOPBACK6.hex()]
+    yield from wanted("--listen6", run([*words, "--listen6", "::1"]), (0, listening, ""))
+    yield from wanted("all addresses", run([*words, *any_address]), (0, f"listening 0.0.0.0:{first + 1}\n", ""))
+    with udp_socket(first, "::1"):
+        yield from wanted("another family's port in use", run(words), (0, listening, ""))
+        yield from wanted("its own port in use", run([*words, "--listen6", "::1"]), (3, "", f"cannot bind [::1]:{first}\n"))
 
 
 def default_ports():
@@ -433,6 +465,55 @@ def session():
         lines = server.printed().splitlines()
         yield from wanted("faults", [line for line in lines if not line.startswith("received from ")], [])
         yield from wanted("the status after SIGTERM", server.end(), -signal.SIGTERM)
+
+
+FAMILY6 = FAMILY, bytes([2, 0, 0, 0])
+
+
+def session6():
+    """Yields what a session over IPv6 is answered otherwise than the standards say, beside one over IPv4 at the same server."""
+    with contextlib.ExitStack() as stack:
+        server = stack.enter_context(Server("--stats", "1", "--listen6", "::1"))
+        client, client4 = (stack.enter_context(Client(server)) for _ in range(2))
+        peer, peer4 = (stack.enter_context(udp_socket(0, address)) for address in ("::1", "127.0.0.1"))
+        other, other4, relayed = address_of(peer), address_of(peer4), ("::1", server.first_port)
+        client.challenge()
+        yield from wanted("another family", code_of(client.signed(ALLOCATE, [UDP, (FAMILY, bytes([3, 0, 0, 0]))])), 440)
+        answer = client.allocate(FAMILY6)
+        found = [address_in(answer.first(kind), answer.tx) for kind in (XOR_RELAYED_ADDRESS, XOR_MAPPED_ADDRESS)]
+        yield from wanted("Allocate", (code_of(answer), found), (0, [(LOOPBACK6, server.first_port), address_of(client.socket)]))
+        yield from wanted("a permission of the other family", code_of(client.signed(CREATE_PERMISSION, [], other4)), 443)
+        yield from wanted("CreatePermission", code_of(client.signed(CREATE_PERMISSION, [], other)), 0)
+        client.send_to(other, b"hello")
+        yield from wanted("Send", peer.recvfrom(100)[:2], (b"hello", (*relayed, 0, 0)))
+        peer.sendto(b"back", relayed)
+        data = read(client.receive())
+        found = data.kind, data.first(DATA), address_in(data.first(XOR_PEER_ADDRESS), data.tx)
+        yield from wanted("Data", found, (DATA_INDICATION, b"back", other))
+        yield from wanted("ChannelBind", code_of(client.bind(other)), 0)
+        client.send(channel_data(b"over"))
+        yield from wanted("ChannelData", peer.recvfrom(100)[:2], (b"over", (*relayed, 0, 0)))
+        peer.sendto(b"and back", relayed)
+        yield from wanted("ChannelData back", client.receive(), channel_data(b"and back"))
+        # slot 1 is over IPv4; what comes at the other family's socket of a slot is from no peer of it
+        yield from wanted("an allocation over IPv4", code_of(client4.allocate()), 0)
+        yield from wanted("its channel", code_of(client4.bind(other4)), 0)
+        peer.sendto(b"no peer", ("::1", server.first_port + 1))
+        peer4.sendto(b"no peer", ("127.0.0.1", server.first_port))
+        client4.send(channel_data(b"over IPv4"))
+        yield from wanted("over IPv4", peer4.recvfrom(100), (b"over IPv4", ("127.0.0.1", server.first_port + 1)))
+        peer4.sendto(b"and back", ("127.0.0.1", server.first_port + 1))
+        yield from wanted("over IPv4 back", client4.receive(), channel_data(b"and back"))
+        last = counters(from_clients=13, from_peers=5, to_peers=3, to_clients=3, granted=5, challenged=3, refused=2,
+                        discarded=(0, 0, 0, 2))
+        if not server.awaited(last):
+            yield f"other counters: {server.printed()!r} in place of {last!r}"
+
+
+def no_family6():
+    """Yields how a server without IPv6 addresses answers a request for one, where that isn't 440."""
+    with Server() as server, Client(server) as client:
+        yield from wanted("no IPv6", code_of(client.allocate(FAMILY6)), 440)
 
 
 def faults():
@@ -621,11 +702,11 @@ def replaced_programs():
             yield from wanted("the allocation", code_of(client.signed(REFRESH, [])), 0)
 
 
-def requests_before(server, amid):
+def requests_before(server, amid, address="127.0.0.1"):
     """How many of 200 requests are answered before a datagram of a peer, which came after all of them; or amid them, while
     the server had stopped itself."""
-    with Client(server) as client, udp_socket() as peer:
-        client.allocate()
+    with Client(server) as client, udp_socket(0, address) as peer:
+        client.allocate(*[FAMILY6] if ":" in address else [])
         client.bind(address_of(peer))
         with contextlib.ExitStack() as stack:
             stack.enter_context(server.stopped())
@@ -634,7 +715,7 @@ def requests_before(server, amid):
             if amid:
                 stack.close()
                 stack.enter_context(server.stopped(by_itself=True))
-            peer.sendto(b"its turn", ("127.0.0.1", server.first_port))
+            peer.sendto(b"its turn", (address, server.first_port))
             time.sleep(0.2)  # all of it has come
         received = [client.receive() for _ in range(201)]
         return received.index(channel_data(b"its turn"))
@@ -644,6 +725,9 @@ def turns():
     """Yields how many requests are answered before a peer's datagram gets its turn, where it isn't as many as may be."""
     with Server() as server:
         yield from wanted("requests before one that came last", requests_before(server, amid=False), 64)
+    with Server("--listen6", "::1") as server:
+        found = requests_before(server, amid=False, address="::1")
+        yield from wanted("requests before one that came last over IPv6", found, 64)
     with preloading("a server that is stopped amid a turn") as environment:
         if environment is not None:
             with Server(env={**environment, "STOP_RECEIVE": str(STOPPED_RECEIVE)}) as server:
@@ -655,14 +739,21 @@ def ahead():
     batch in order: small ones, and ones that are too long for its room together."""
     small = [b"%d" % number for number in range(40)]
     large = [bytes([number]) * 45_000 for number in range(4)]
-    with Server() as server, Client(server) as client, udp_socket() as peer:
-        client.allocate()
-        client.bind(address_of(peer))
-        for batch in (small, small[::-1], large, small):
-            with server.stopped():
-                for data in batch:
-                    client.send(channel_data(data))
-            yield from wanted(f"a batch of {len(batch)}", [peer.recv(65_535) for _ in batch], batch)
+    for family, address in (([], "127.0.0.1"), ([FAMILY6], "::1")):
+        with Server("--listen6", "::1") as server, Client(server) as client, udp_socket(0, address) as peer:
+            client.allocate(*family)
+            client.bind(address_of(peer))
+            for batch in (small, small[::-1], large, small):
+                with server.stopped():
+                    for data in batch:
+                        client.send(channel_data(data))
+                yield from wanted(f"a batch of {len(batch)} to {address}", [peer.recv(65_535) for _ in batch], batch)
+            for batch in (small, small[::-1]):
+                with server.stopped():
+                    for data in batch:
+                        peer.sendto(data, (address, server.first_port))
+                found = [client.receive() for _ in batch]
+                yield from wanted(f"a batch of {len(batch)} from {address}", found, [channel_data(data) for data in batch])
 
 
 # ---- many datagrams
@@ -702,8 +793,8 @@ def many():
 def main():
     """Runs every part, and returns the exit status."""
     build()
-    parts = [refused_lines, rounds, addresses, default_ports, counted_rounds, session, faults, failed_receives, idle,
-             nonces, replaced_programs, turns, ahead, many]
+    parts = [refused_lines, rounds, addresses, addresses6, default_ports, counted_rounds, session, session6, no_family6, faults,
+             failed_receives, idle, nonces, replaced_programs, turns, ahead, many]
     failures = []
     for part in parts:
         try:

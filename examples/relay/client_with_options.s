@@ -15,20 +15,37 @@
     mov r4, r2
     add r4, 4
     jgt r4, r3, end         ; no room for the header: a number and a length
-    ldxh r5, [r2+0]
-    be16 r5                 ; the channel's number
+    ldxh r7, [r2+0]
+    be16 r7                 ; r7: the channel's number
     ldxh r8, [r2+2]
     be16 r8                 ; r8: the length of the data
     mov r4, r8
     add r4, 4
     jgt r4, r9, end         ; less data than the header says
-    mov r2, r5
+    mov r2, r7
     mov r3, r10
     add r3, -8              ; room on the stack for an address record
-    call 1                  ; the peer that the channel is bound to
-    jeq r0, 0, end          ; the channel is bound to none
+    call 1                  ; the IPv4 peer that the channel is bound to
+    jeq r0, 0, wide         ; there is none
     mov r7, 68              ; r7: the window begins after the 64 bytes of headroom and the header
     ja send
+wide:
+    mov r1, r6
+    mov r2, r7
+    mov r3, r10
+    add r3, -24             ; room for a wide address record, of 20 bytes
+    call 6                  ; the peer of either family that the channel is bound to
+    jeq r0, 0, end          ; the channel is bound to none
+    mov r1, r6
+    mov r2, 68              ; the window begins after the 64 bytes of headroom and the header
+    mov r3, r8
+    call 4                  ; the window: what is sent is the data
+    mov r1, r6
+    mov r2, r10
+    add r2, -24
+    call 9                  ; the destination: the peer
+    mov r0, 2               ; the verdict that sends
+    exit
 stun:
     mov r4, r2
     add r4, 36

@@ -1,11 +1,13 @@
 -- Interface. The abstract state at a slot of a path: what the verifier knows of each machine state that can be there.
 -- Its numbers are those of a domain D.
-use Rattle.std.specs.Prelude.{ℕ, zero, suc, ◌==◌, max, Bool, true, false, ◌&&◌, ℤ, pos, int_lt, int_le, map, List, [], ◌∷◌, replicate, Option, Some, None, slice_index_or, slice_set, if◌then◌else◌}
+use Rattle.std.specs.Prelude.{ℕ, zero, suc, ◌+◌, ◌*◌, ◌==◌, max, Bool, true, false, ◌&&◌, ℤ, pos, int_lt, int_le, map, List, [], ◌∷◌, replicate, Option, Some, None, slice_index_or, slice_set, if◌then◌else◌}
 use Rattle.insn.specs.Register.{number_of}
 use Rattle.insn.specs.declared.register.Reg.{Reg}
 use Rattle.insn.specs.declared.register.Reg.TheVariants.{R0, R1, R2, R3, R4, R5}
-use Rattle.semantics.specs.declared.helper.TheConstants.{RECORD_BYTES}
-use Rattle.semantics.specs.declared.limits.TheConstants.{STACK_BYTES}
+use Rattle.semantics.specs.Access.{group_of, second_group, third_group, last_group}
+use Rattle.semantics.specs.Calls.{record_bytes}
+use Rattle.semantics.specs.declared.helper.Room.{Room}
+use Rattle.semantics.specs.declared.limits.TheConstants.{STACK_BYTES, GROUP_BYTES, GROUPS}
 use Rattle.absstate.specs.declared.abstract_state.AbstractValue.{AbstractValue}
 use Rattle.absstate.specs.declared.abstract_state.AbstractValue.TheVariants.{Nothing, Scalar, Ctx, Stack, Data, End}
 use Rattle.absstate.specs.declared.abstract_state.Anchor.{Anchor}
@@ -15,6 +17,18 @@ use Rattle.absstate.specs.declared.abstract_state.AbsState.{AbsState}
 
 abbrev pub abstract_at : {D : Type 0} → List (AbstractValue D) → Reg → AbstractValue D
 abstract_at registers r = slice_index_or registers (number_of r) Nothing
+
+-- the values of the groups of the stack stand after those of the eleven registers
+abbrev pub group_index : ℕ → ℕ
+group_index g = 11 + g
+
+-- the pointer that a group is known to hold; Nothing where none is known
+abbrev pub group_at : {D : Type 0} → List (AbstractValue D) → ℕ → AbstractValue D
+group_at registers g = slice_index_or registers (group_index g) Nothing
+
+-- no group is known to hold a pointer
+unfoldable pub no_groups : {D : Type 0} → List (AbstractValue D)
+no_groups = replicate GROUPS Nothing
 
 -- no stack byte is set
 unfoldable pub no_marks : Marks
@@ -38,10 +52,19 @@ abbrev pub marks_from : Marks → ℕ → ℕ → Marks
 marks_from m i zero = m
 marks_from m i (suc n) = marks_from (mark m i) (suc i) n
 
+-- the marks with one byte less set
+abbrev pub unmark : Marks → ℕ → Marks
+unmark m i = record { cells = slice_set m.cells i false }
+
+-- the marks without n bytes from an index on
+abbrev pub unmarked_from : Marks → ℕ → ℕ → Marks
+unmarked_from m i zero = m
+unmarked_from m i (suc n) = unmarked_from (unmark m i) (suc i) n
+
 -- before the first instruction r1 holds the context and r10 the end of the stack
 abbrev pub first_abstract_state : {D : Type 0} → AbsState D
 first_abstract_state = record {
-  registers = Nothing ∷ Ctx ∷ Nothing ∷ Nothing ∷ Nothing ∷ Nothing ∷ Nothing ∷ Nothing ∷ Nothing ∷ Nothing ∷ Stack (pos 0) ∷ [];
+  registers = Nothing ∷ Ctx ∷ Nothing ∷ Nothing ∷ Nothing ∷ Nothing ∷ Nothing ∷ Nothing ∷ Nothing ∷ Nothing ∷ Stack (pos 0) ∷ no_groups;
   marks = no_marks;
   proved = pos 0;
 }
@@ -72,7 +95,7 @@ id_of (Data First k) = 0
 id_of (Data (Made id low high proved) k) = id
 id_of End = 0
 
--- the greatest number of an anchor that a register names
+-- the greatest number of an anchor that a register or a group names
 abbrev pub greatest_id : {D : Type 0} → List (AbstractValue D) → ℕ
 greatest_id [] = 0
 greatest_id (v ∷ vs) = max (id_of v) (greatest_id vs)
@@ -113,15 +136,24 @@ abbrev pub with_least : {D : Type 0} → AbsState D → Anchor → Option ℤ �
 with_least a anchor None = a
 with_least a anchor (Some n) = with_reach a anchor n
 
+-- no group of which one of the n cells from an index on is a part is known to hold a pointer
+abbrev pub without_groups : {D : Type 0} → List (AbstractValue D) → ℕ → ℕ → List (AbstractValue D)
+without_groups registers n i =
+    slice_set (slice_set (slice_set (slice_set registers (group_index (group_of i)) Nothing) (group_index (second_group n i)) Nothing) (group_index (third_group n i)) Nothing) (group_index (last_group n i)) Nothing
+
 -- the state in which n stack bytes from an index on are set
 abbrev pub with_marks : {D : Type 0} → AbsState D → ℕ → ℕ → AbsState D
-with_marks a i count = record a { marks = marks_from a.marks i count }
+with_marks a i count = record a { registers = without_groups a.registers count i; marks = marks_from a.marks i count }
+
+-- the state in which a group holds a pointer
+abbrev pub abstract_with_pointer : {D : Type 0} → AbsState D → ℕ → AbstractValue D → AbsState D
+abstract_with_pointer a g k = record a { registers = slice_set a.registers (group_index g) k; marks = unmarked_from a.marks (GROUP_BYTES * g) GROUP_BYTES }
 
 -- the state after a call with an answer: r1 to r5 hold nothing
 abbrev pub with_answer : {D : Type 0} → AbsState D → D → AbsState D
 with_answer a answer = with_value (with_value (with_value (with_value (with_value (with_value a R0 (Scalar answer)) R1 Nothing) R2 Nothing) R3 Nothing) R4 Nothing) R5 Nothing
 
--- the state in which the address record at an index is set, if one is written
-abbrev pub with_out : {D : Type 0} → AbsState D → Option ℕ → AbsState D
+-- the state in which the address record in a room is set, if one is written
+abbrev pub with_out : {D : Type 0} → AbsState D → Option Room → AbsState D
 with_out a None = a
-with_out a (Some i) = with_marks a i RECORD_BYTES
+with_out a (Some room) = with_marks a room.index (record_bytes room.form)

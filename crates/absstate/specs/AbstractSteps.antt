@@ -1,7 +1,7 @@
 -- Interface. The abstract step: the abstract states after an instruction, or the reason for which a step from here
 -- could be stuck. The tests come in the order of the tagged machine. Numbers are computed by the operations of a
 -- domain.
-use Rattle.std.specs.Prelude.{ℕ, suc, ◌+◌, ◌-◌, ◌^◌, ◌≤◌, Bool, true, false, ◌&&◌, ℤ, pos, negsuc, ◌+ℤ◌, ◌-ℤ◌, int_le, int_lt, List, Option, Some, None, Result, Ok, Err, ◌==◌, if◌then◌else◌}
+use Rattle.std.specs.Prelude.{ℕ, suc, ◌+◌, ◌-◌, ◌^◌, ◌≤◌, Bool, true, false, not, ◌&&◌, ◌||◌, ℤ, pos, negsuc, ◌+ℤ◌, ◌-ℤ◌, int_le, int_lt, List, Option, Some, None, Result, Ok, Err, ◌==◌, if◌then◌else◌}
 use Rattle.std.specs.Option.{ok_or, option_map}
 use Rattle.std.specs.Int.{w64, cast_signed}
 use Rattle.insn.specs.Codes.{byte_count, unsigned_size}
@@ -24,26 +24,28 @@ use Rattle.insn.specs.declared.instruction.Operand.TheVariants as operand
 use Rattle.insn.specs.declared.instruction.Insn.{Insn}
 use Rattle.insn.specs.declared.instruction.Insn.TheVariants as insn
 use Rattle.fallible.specs.Fallible.{◌>>=◌, check}
-use Rattle.semantics.specs.Access.{is_within, index_within, stack_first, headroom_first}
+use Rattle.semantics.specs.Access.{is_within, index_within, stack_first, headroom_first, group_of, second_group, third_group, last_group, is_aligned}
 use Rattle.semantics.specs.Loading.{field_at}
 use Rattle.semantics.specs.Calls.{helper_of, signature_of, argument_at}
-use Rattle.semantics.specs.Effects.{writable, moved_place}
+use Rattle.semantics.specs.Effects.{writable, moved_place, is_group_place}
 use Rattle.semantics.specs.declared.helper.Argument.{Argument}
 use Rattle.semantics.specs.declared.helper.Argument.TheVariants as argument
 use Rattle.semantics.specs.declared.helper.Helper.{Helper}
-use Rattle.semantics.specs.declared.helper.TheConstants.{RECORD_BYTES}
+use Rattle.semantics.specs.Calls.{record_bytes}
+use Rattle.semantics.specs.declared.helper.RecordForm.{RecordForm}
+use Rattle.semantics.specs.declared.helper.Room.{Room}
 use Rattle.semantics.specs.LooseRuns.{Bound, AtMost, Below, data_bound, converse}
 use Rattle.semantics.specs.declared.fetching.Branch.{Branch}
 use Rattle.semantics.specs.declared.fetching.Branch.TheVariants.{NotTaken, Taken}
-use Rattle.semantics.specs.declared.limits.TheConstants.{MAX_DATAGRAM, STACK_BYTES, TAILROOM}
+use Rattle.semantics.specs.declared.limits.TheConstants.{MAX_DATAGRAM, STACK_BYTES, GROUP_BYTES, TAILROOM}
 use Rattle.semantics.specs.declared.loading.ContextField.{ContextField}
 use Rattle.semantics.specs.declared.loading.ContextField.TheVariants as field
 use Rattle.semantics.specs.declared.reason.Reason.{Reason}
-use Rattle.semantics.specs.declared.reason.Reason.TheVariants.{UninitRegister, UninitStack, StackBounds, ContextAccess, DatagramBounds, PointerArithmetic, PointerCompare, PointerStored, UnknownHelper, HelperArgument, ExitNotScalar, NotAPointer}
+use Rattle.semantics.specs.declared.reason.Reason.TheVariants.{UninitRegister, UninitStack, StackBounds, ContextAccess, DatagramBounds, PointerArithmetic, PointerCompare, PointerStored, UnknownHelper, HelperArgument, ExitNotScalar, NotAPointer, PointerBytes}
 use Rattle.interval.specs.Domains.{Operations}
 use Rattle.interval.specs.declared.domain.Test.{Test}
 use Rattle.interval.specs.declared.domain.Test.TheVariants.{Holds, Fails}
-use Rattle.absstate.specs.AbstractStates.{abstract_at, are_marked, low_of, high_of, proved_of, greatest_id, with_value, with_least, with_marks, with_answer, with_out}
+use Rattle.absstate.specs.AbstractStates.{abstract_at, group_at, are_marked, low_of, high_of, proved_of, greatest_id, with_value, with_least, with_marks, abstract_with_pointer, with_answer, with_out}
 use Rattle.absstate.specs.declared.abstract_state.Anchor.{Anchor}
 use Rattle.absstate.specs.declared.abstract_state.Anchor.TheVariants.{First, Made}
 use Rattle.interval.specs.declared.domain.Bounds.{Bounds}
@@ -51,7 +53,6 @@ use Rattle.insn.specs.declared.operator.AluOp.TheVariants.{Add, Sub}
 use Rattle.absstate.specs.declared.abstract_state.AbstractValue.{AbstractValue}
 use Rattle.absstate.specs.declared.abstract_state.AbstractValue.TheVariants.{Nothing, Scalar, Ctx, Stack, Data, End}
 use Rattle.absstate.specs.declared.abstract_state.AbsState.{AbsState}
-use Rattle.absstate.specs.declared.abstract_state.Marks.{Marks}
 use Rattle.absstate.specs.declared.abstract_step.Next.{Next}
 use Rattle.absstate.specs.declared.abstract_step.Next.TheVariants as next
 use Rattle.absstate.specs.declared.branching.Implied.{Implied}
@@ -285,10 +286,45 @@ abbrev pub IsInStack : ℕ → Region → Type 0
 IsInStack n (InStack i) = i + n ≤ STACK_BYTES
 IsInStack n InBytes = Unit {0}
 
--- n bytes of a region may be read: of the stack those that are set
-abbrev pub region_readable : Marks → ℕ → Region → Result (Unit {0}) Reason
-region_readable marks n (InStack i) = check (are_marked marks i n) UninitStack
-region_readable marks n InBytes = Ok tt
+abbrev pub is_known_pointer : {D : Type 0} → AbstractValue D → Bool
+is_known_pointer Nothing = false
+is_known_pointer (Scalar n) = false
+is_known_pointer Ctx = true
+is_known_pointer (Stack k) = true
+is_known_pointer (Data anchor k) = true
+is_known_pointer End = true
+
+-- whether a group is known to hold a pointer of which one of the n cells from an index on is a part
+abbrev pub touches_known : {D : Type 0} → AbsState D → ℕ → ℕ → Bool
+touches_known a n i =
+    is_known_pointer (group_at a.registers (group_of i))
+    || (is_known_pointer (group_at a.registers (second_group n i))
+    || (is_known_pointer (group_at a.registers (third_group n i))
+    || is_known_pointer (group_at a.registers (last_group n i))))
+
+-- n cells from an index on may be read as bytes: no pointer's, and those that are set
+abbrev pub cells_readable : {D : Type 0} → AbsState D → ℕ → ℕ → Result (Unit {0}) Reason
+cells_readable a n i = do
+  whole ← check (not (touches_known a n i)) PointerBytes
+  check (are_marked a.marks i n) UninitStack
+
+-- n bytes of a region may be read
+abbrev pub region_readable : {D : Type 0} → AbsState D → ℕ → Region → Result (Unit {0}) Reason
+region_readable a n (InStack i) = cells_readable a n i
+region_readable a n InBytes = Ok tt
+
+-- the group that an access reads as a whole
+abbrev pub known_group : Region → Size → Option ℕ
+known_group (InStack i) size.Double = if is_aligned i then Some (group_of i) else None
+known_group r z = None
+
+-- the pointer that it is known to hold
+abbrev pub known_pointer : {D : Type 0} → AbstractValue D → Option (AbstractValue D)
+known_pointer k = if is_known_pointer k then Some k else None
+
+abbrev pub known_in : {D : Type 0} → AbsState D → Option ℕ → Option (AbstractValue D)
+known_in a None = None
+known_in a (Some g) = known_pointer (group_at a.registers g)
 
 -- the state in which n bytes of a region are set
 abbrev pub with_region : {D : Type 0} → AbsState D → ℕ → Region → AbsState D
@@ -310,6 +346,9 @@ field_known ops field.Source = Scalar (number_of_size ops size.Double)
 field_known ops field.IdHead = Scalar (number_of_size ops size.Double)
 field_known ops field.IdTail = Scalar (number_of_size ops size.Word)
 field_known ops field.Side = Scalar (ops.range 0 1)
+field_known ops field.WideHead = Scalar (number_of_size ops size.Double)
+field_known ops field.WideMiddle = Scalar (number_of_size ops size.Double)
+field_known ops field.WideTail = Scalar (number_of_size ops size.Word)
 
 abbrev pub abstract_load_field : {D : Type 0} → Operations D → ℤ → Size → Result (AbstractValue D) Reason
 abstract_load_field ops d z = do
@@ -320,7 +359,7 @@ abstract_load_field ops d z = do
 unfoldable pub readable : {D : Type 0} → AbsState D → AbstractValue D → ℤ → ℕ → Result (Unit {0}) Reason
 readable a base d n = do
   r ← access_region a base d n
-  region_readable a.marks n r
+  region_readable a n r
 
 -- what is known of the number in n bytes that may be read
 abbrev pub abstract_load_number : {D : Type 0} → AbsState D → AbstractValue D → ℤ → ℕ → D → Result (AbstractValue D) Reason
@@ -328,9 +367,21 @@ abstract_load_number a base d n number = do
   allowed ← readable a base d n
   Ok (Scalar number)
 
+-- what is known of the pointer of a group, or of the number in bytes that may be read
+abbrev pub known_or : {D : Type 0} → Option (AbstractValue D) → Result (Unit {0}) Reason → D → Result (AbstractValue D) Reason
+known_or (Some k) allowed number = Ok k
+known_or None allowed number = do
+  u ← allowed
+  Ok (Scalar number)
+
+unfoldable pub abstract_load_value : {D : Type 0} → Operations D → AbsState D → AbstractValue D → ℤ → Size → Result (AbstractValue D) Reason
+abstract_load_value ops a base d z = do
+  r ← access_region a base d (byte_count z)
+  known_or (known_in a (known_group r z)) (region_readable a (byte_count z) r) (number_of_size ops z)
+
 abbrev pub abstract_load : {D : Type 0} → Operations D → AbsState D → AbstractValue D → ℤ → Size → Result (AbstractValue D) Reason
 abstract_load ops a Ctx d z = abstract_load_field ops d z
-abstract_load ops a base d z = abstract_load_number a base d (byte_count z) (number_of_size ops z)
+abstract_load ops a base d z = abstract_load_value ops a base d z
 
 abbrev pub abstract_load_signed : {D : Type 0} → Operations D → AbsState D → AbstractValue D → ℤ → SignedSize → Result (AbstractValue D) Reason
 abstract_load_signed ops a base d size = abstract_load_number a base d (byte_count (unsigned_size size)) ops.top
@@ -353,19 +404,29 @@ abbrev pub abstract_pointer : {D : Type 0} → AbstractValue D → Result (Unit 
 abstract_pointer (Scalar number) = Err NotAPointer
 abstract_pointer _ = Ok tt
 
--- no pointer is stored
-abbrev pub storable : {D : Type 0} → AbstractValue D → Result (Unit {0}) Reason
-storable (Scalar number) = Ok tt
-storable _ = Err PointerStored
+-- a pointer is stored in a group of the stack, as a whole, and nowhere else
+abbrev pub abstract_store_pointer : {D : Type 0} → AbsState D → AbstractValue D → ℤ → Size → AbstractValue D → Result (Next D) Reason
+abstract_store_pointer a (Stack k) d size.Double known = do
+  aligned ← check (is_group_place (k +ℤ d)) PointerStored
+  i ← ok_or (index_within (k +ℤ d) GROUP_BYTES stack_first stack_first (pos 0)) StackBounds
+  Ok (next.On (abstract_with_pointer a (group_of i) known))
+abstract_store_pointer a base d z known = Err PointerStored
+
+abbrev pub abstract_store_number : {D : Type 0} → AbsState D → AbstractValue D → ℤ → Size → Result (Next D) Reason
+abstract_store_number a base d z = do
+  r ← access_region a base d (byte_count z)
+  Ok (next.On (with_region a (byte_count z) r))
+
+abbrev pub store_known : {D : Type 0} → AbsState D → AbstractValue D → ℤ → Size → AbstractValue D → Result (Next D) Reason
+store_known a base d z (Scalar number) = abstract_store_number a base d z
+store_known a base d z known = abstract_store_pointer a base d z known
 
 abbrev pub store_step : {D : Type 0} → Operations D → AbsState D → Size → Reg → Operand → ℤ → Result (Next D) Reason
 store_step ops a z base o d = do
   to ← abstract_register_value a base
   known ← operand_abstract ops W64 a o
   u ← abstract_pointer to
-  v ← storable known
-  r ← access_region a to d (byte_count z)
-  Ok (next.On (with_region a (byte_count z) r))
+  store_known a to d z known
 
 -- ---- calls
 
@@ -383,30 +444,26 @@ abstract_number_value r _ = Err (HelperArgument (number_of r))
 abbrev pub abstract_number_argument : {D : Type 0} → AbsState D → Reg → Result (Unit {0}) Reason
 abstract_number_argument a r = abstract_register_value a r >>= abstract_number_value r
 
--- the index, among the stack cells, of the eight bytes that a pointer points to
-abbrev pub abstract_stack_index : {D : Type 0} → AbstractValue D → Option ℕ
-abstract_stack_index (Stack k) = index_within (k +ℤ pos 0) RECORD_BYTES stack_first stack_first (pos 0)
-abstract_stack_index Nothing = None
-abstract_stack_index (Scalar number) = None
-abstract_stack_index Ctx = None
-abstract_stack_index (Data anchor k) = None
-abstract_stack_index End = None
+-- the index, among the stack cells, of the n bytes that a pointer points to
+abbrev pub abstract_stack_index : {D : Type 0} → ℕ → AbstractValue D → Option ℕ
+abstract_stack_index n (Stack k) = index_within (k +ℤ pos 0) n stack_first stack_first (pos 0)
+abstract_stack_index n Nothing = None
+abstract_stack_index n (Scalar number) = None
+abstract_stack_index n Ctx = None
+abstract_stack_index n (Data anchor k) = None
+abstract_stack_index n End = None
 
-abbrev pub abstract_stack_value : {D : Type 0} → Reg → AbstractValue D → Result ℕ Reason
-abstract_stack_value r v = ok_or (abstract_stack_index v) (HelperArgument (number_of r))
+abbrev pub abstract_stack_value : {D : Type 0} → ℕ → Reg → AbstractValue D → Result ℕ Reason
+abstract_stack_value n r v = ok_or (abstract_stack_index n v) (HelperArgument (number_of r))
 
-abbrev pub abstract_stack_argument : {D : Type 0} → AbsState D → Reg → Result ℕ Reason
-abstract_stack_argument a r = abstract_register_value a r >>= abstract_stack_value r
+abbrev pub abstract_stack_argument : {D : Type 0} → AbsState D → ℕ → Reg → Result ℕ Reason
+abstract_stack_argument a n r = abstract_register_value a r >>= abstract_stack_value n r
 
--- the address record at an index of the stack may be read
-abbrev pub record_readable : Marks → ℕ → Result (Unit {0}) Reason
-record_readable marks i = check (are_marked marks i RECORD_BYTES) UninitStack
+abbrev pub abstract_record_argument : {D : Type 0} → AbsState D → RecordForm → Reg → Result (Unit {0}) Reason
+abstract_record_argument a form r = abstract_stack_argument a (record_bytes form) r >>= cells_readable a (record_bytes form)
 
-abbrev pub abstract_record_argument : {D : Type 0} → AbsState D → Reg → Result (Unit {0}) Reason
-abstract_record_argument a r = abstract_stack_argument a r >>= record_readable a.marks
-
--- the index of the record that is written, with the argument in a register
-abbrev pub abstract_with_argument : {D : Type 0} → AbsState D → Reg → Argument → Option ℕ → Result (Option ℕ) Reason
+-- the room of the record that is written, with the argument in a register
+abbrev pub abstract_with_argument : {D : Type 0} → AbsState D → Reg → Argument → Option Room → Result (Option Room) Reason
 abstract_with_argument a r argument.Unused out = Ok out
 abstract_with_argument a r argument.Context out = do
   u ← abstract_context_argument a r
@@ -414,15 +471,15 @@ abstract_with_argument a r argument.Context out = do
 abstract_with_argument a r argument.Number out = do
   u ← abstract_number_argument a r
   Ok out
-abstract_with_argument a r argument.RecordIn out = do
-  u ← abstract_record_argument a r
+abstract_with_argument a r (argument.RecordIn form) out = do
+  u ← abstract_record_argument a form r
   Ok out
-abstract_with_argument a r argument.RecordOut out = do
-  i ← abstract_stack_argument a r
-  Ok (Some i)
+abstract_with_argument a r (argument.RecordOut form) out = do
+  i ← abstract_stack_argument a (record_bytes form) r
+  Ok (Some (record { index = i; form = form }))
 
 -- each argument is tested after those before it
-abbrev pub out_of : {D : Type 0} → AbsState D → List Argument → Result (Option ℕ) Reason
+abbrev pub out_of : {D : Type 0} → AbsState D → List Argument → Result (Option Room) Reason
 out_of a arguments = do
   first ← abstract_with_argument a reg.R1 (argument_at arguments 0) None
   second ← abstract_with_argument a reg.R2 (argument_at arguments 1) first
@@ -430,8 +487,8 @@ out_of a arguments = do
   fourth ← abstract_with_argument a reg.R4 (argument_at arguments 3) third
   abstract_with_argument a reg.R5 (argument_at arguments 4) fourth
 
--- after a call by which the eight bytes at an index are written, if one is given
-abbrev pub state_after_call : {D : Type 0} → Operations D → AbsState D → Helper → Option ℕ → AbsState D
+-- after a call by which a record is written, if room for it is given
+abbrev pub state_after_call : {D : Type 0} → Operations D → AbsState D → Helper → Option Room → AbsState D
 state_after_call ops a h out = with_out (with_answer a (ops.range 0 (signature_of h).greatest)) out
 
 abbrev pub helper_step : {D : Type 0} → Operations D → AbsState D → Helper → Result (Next D) Reason

@@ -48,6 +48,11 @@ abbrev pub have_one_anchor : {D : Type 0} → AbstractValue D → AbstractValue 
 have_one_anchor (Data x k) (Data y l) = same_anchor x y
 have_one_anchor _ _ = false
 
+-- a place of the datagram
+abbrev pub is_place : {D : Type 0} → AbstractValue D → Bool
+is_place (Data x k) = true
+is_place _ = false
+
 abbrev pub stands_for : {D : Type 0} → AbstractValue D → AbstractValue D → List (AbstractValue D) → List (AbstractValue D) → Bool
 stands_for v u (w ∷ ws) (x ∷ xs) = (not (have_one_anchor v w) || have_one_anchor u x) && stands_for v u ws xs
 stands_for v u _ _ = true

@@ -25,6 +25,7 @@ IsStepReason reasons.UnknownHelper = Unit {0}
 IsStepReason (reasons.HelperArgument k) = Unit {0}
 IsStepReason reasons.ExitNotScalar = Unit {0}
 IsStepReason reasons.NotAPointer = Unit {0}
+IsStepReason reasons.PointerBytes = Unit {0}
 
 -- a register is added to another one, or subtracted from it, on 64 bits
 abbrev pub IsRegisterSum : Insn → Type 0
@@ -58,3 +59,4 @@ IsAboutPlaces reasons.UnknownHelper i = ⊥
 IsAboutPlaces (reasons.HelperArgument k) i = ⊥
 IsAboutPlaces reasons.ExitNotScalar i = ⊥
 IsAboutPlaces reasons.NotAPointer i = ⊥
+IsAboutPlaces reasons.PointerBytes i = ⊥

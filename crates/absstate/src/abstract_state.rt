@@ -1,14 +1,14 @@
 //! The abstract state at a slot of a path: what the verifier knows of the machine there.
 
-ghost use Rattle.std.specs.Prelude.{◌≡◌, ◌+◌, ◌≤◌, map, length};
+ghost use Rattle.std.specs.Prelude.{◌≡◌, ◌+◌, ◌*◌, ◌≤◌, ◌<◌, map, length, slice_set};
 ghost use Rattle.insn.specs.Codes.{byte_count};
 ghost use Rattle.absstate.specs.Covers.{covers_marks};
-ghost use Rattle.semantics.specs.declared.limits.TheConstants.{STACK_BYTES};
-ghost use Rattle.absstate.specs.AbstractStates.{no_marks, is_marked, are_marked, mark, marks_from, first_abstract_state, low_of, high_of, id_of, greatest_id, proved_up_to, raised_anchor, raised_value, proved_of, with_value, with_length, with_least, with_answer, with_out};
+ghost use Rattle.semantics.specs.declared.limits.TheConstants.{STACK_BYTES, GROUP_BYTES, GROUPS};
+ghost use Rattle.absstate.specs.AbstractStates.{no_marks, is_marked, are_marked, mark, marks_from, unmark, unmarked_from, group_at, group_index, without_groups, with_marks, abstract_with_pointer, first_abstract_state, low_of, high_of, id_of, greatest_id, proved_up_to, raised_anchor, raised_value, proved_of, with_value, with_length, with_least, with_answer, with_out};
 
 use crate::covering::covers_marks;
-use insn::{Reg, Size};
-use semantics::STACK_BYTES;
+use insn::Reg;
+use semantics::{GROUP_BYTES, GROUPS, Room, STACK_BYTES};
 use std::alloc::AllocError;
 
 /// A place of the datagram from which pointers count their offsets.
@@ -197,13 +197,33 @@ impl Marks {
         }
     }
 
-    /// Sets the bytes of an access of a size, from an index on.
-    pub(crate) fn set_all(&mut self, index: u16, size: Size)
-        ensures { self.new ≡ marks_from self.old index (byte_count size) }
+    /// Sets `n` bytes, from an index on.
+    pub(crate) fn set_all(&mut self, index: u16, n: usize)
+        requires { n ≤ STACK_BYTES }
+        ensures { self.new ≡ marks_from self.old index n }
     {
         let index = usize::from(index);
-        for i in index..index + size.bytes() {
+        for i in index..index + n {
             self.set(i);
+        }
+    }
+
+    /// Marks a byte as not set; an index of 512 or more is ignored.
+    fn unset(&mut self, index: usize)
+        ensures { self.new ≡ unmark self.old index }
+    {
+        if index < STACK_BYTES {
+            self.cells[index] = false;
+        }
+    }
+
+    /// Marks the bytes of a group as not set.
+    fn unset_group(&mut self, group: u16)
+        ensures { self.new ≡ unmarked_from self.old (GROUP_BYTES * group) GROUP_BYTES }
+    {
+        let first = GROUP_BYTES * usize::from(group);
+        for i in first..first + GROUP_BYTES {
+            self.unset(i);
         }
     }
 
@@ -236,11 +256,14 @@ impl Marks {
     }
 }
 
-/// The abstract state at a slot: the registers, the set bytes of the stack, and a least length of the
-/// datagram, `proved`.
+/// The number of values that a state knows: of the registers, and of the groups of the stack.
+pub const VALUES: usize = 11 + GROUPS;
+
+/// The abstract state at a slot: the registers and, after them, the pointers that the groups of the stack hold; the set bytes
+/// of the stack, and a least length of the datagram, `proved`.
 #[derive(Debug, PartialEq, Eq)]
 pub struct AbsState<D> {
-    pub registers: [AbstractValue<D>; 11],
+    pub registers: [AbstractValue<D>; VALUES],
     pub marks: Marks,
     pub proved: i64,
 }
@@ -262,7 +285,7 @@ impl<D: Copy> AbsState<D> {
     pub fn start() -> AbsState<D>
         ensures { result ≡ first_abstract_state }
     {
-        let mut registers = [AbstractValue::Nothing; 11];
+        let mut registers = [AbstractValue::Nothing; VALUES];
         registers[1] = AbstractValue::Ctx;
         registers[10] = AbstractValue::Stack(0);
         AbsState {
@@ -289,6 +312,45 @@ impl<D: Copy> AbsState<D> {
         self.registers[reg.number() as usize] = known;
     }
 
+    /// Returns the pointer that a group is known to hold.
+    pub(crate) fn group(&self, group: usize) -> AbstractValue<D>
+        requires { group < GROUPS }
+        ensures { result ≡ group_at self.now.registers group }
+    {
+        self.registers[11 + group]
+    }
+
+    /// Writes what is known of a group; a group of 64 or more is ignored.
+    fn set_group(&mut self, group: usize, known: AbstractValue<D>)
+        ensures { self.new ≡ record self.old { registers = slice_set self.old.registers (group_index group) known } }
+    {
+        if group < GROUPS {
+            self.registers[11 + group] = known;
+        }
+    }
+
+    /// Sets `n` bytes, from an index on. A pointer of which one of them was a part is gone.
+    pub(crate) fn set_bytes(&mut self, index: u16, n: usize)
+        requires some { 1 ≤ n }
+        requires small { n ≤ STACK_BYTES }
+        ensures { self.new ≡ with_marks self.old index n }
+    {
+        let first = usize::from(index);
+        self.set_group(first / GROUP_BYTES, AbstractValue::Nothing);
+        self.set_group((first + n / 3) / GROUP_BYTES, AbstractValue::Nothing);
+        self.set_group((first + 2 * n / 3) / GROUP_BYTES, AbstractValue::Nothing);
+        self.set_group((first + n - 1) / GROUP_BYTES, AbstractValue::Nothing);
+        self.marks.set_all(index, n);
+    }
+
+    /// Stores a pointer in a group.
+    pub(crate) fn set_pointer(&mut self, group: u16, known: AbstractValue<D>)
+        ensures { self.new ≡ abstract_with_pointer self.old group known }
+    {
+        self.set_group(usize::from(group), known);
+        self.marks.unset_group(group);
+    }
+
     /// Writes the answer of a call to `r0`; `r1` to `r5` hold nothing afterwards.
     pub(crate) fn set_answer(&mut self, answer: D)
         ensures { self.new ≡ with_answer self.old answer }
@@ -301,12 +363,12 @@ impl<D: Copy> AbsState<D> {
         self.set(Reg::R5, AbstractValue::Nothing);
     }
 
-    /// Sets the eight bytes of an address record in the stack, if one is written.
-    pub(crate) fn set_out(&mut self, out: Option<u16>)
+    /// Sets the bytes of an address record in the stack, if one is written.
+    pub(crate) fn set_out(&mut self, out: Option<Room>)
         ensures { self.new ≡ with_out self.old out }
     {
-        if let Some(index) = out {
-            self.marks.set_all(index, Size::Double);
+        if let Some(room) = out {
+            self.set_bytes(room.index, room.form.bytes());
         }
     }
 

@@ -1,7 +1,7 @@
 //! Whether one abstract state covers another: then each machine state that the other one describes it describes too.
 
 ghost use Rattle.std.specs.Prelude.{◌≡◌, length};
-ghost use Rattle.absstate.specs.Covers.{same_int, same_anchor, covers_places, proves_less, covers_anchor, covers_value, covers_values, have_one_anchor, stands_for, share_alike, covers_marks, covers_memory, covers};
+ghost use Rattle.absstate.specs.Covers.{same_int, same_anchor, covers_places, proves_less, covers_anchor, covers_value, covers_values, have_one_anchor, is_place, stands_for, share_alike, covers_marks, covers_memory, covers};
 
 use crate::abstract_state::{AbsState, AbstractValue, Anchor};
 use interval::Domain;
@@ -125,6 +125,32 @@ fn stands_for<D: Copy>(
     }
 }
 
+/// Returns whether a value is a place of the datagram.
+fn is_place<D: Copy>(value: AbstractValue<D>) -> bool
+    ensures { result ≡ is_place value }
+{
+    match value {
+        AbstractValue::Data { .. } => true,
+        _ => false,
+    }
+}
+
+/// Returns what [`stands_for`] returns, and looks through the others for a place alone.
+fn place_stands_for<D: Copy>(
+    a: AbstractValue<D>,
+    b: AbstractValue<D>,
+    values: &[AbstractValue<D>],
+    others: &[AbstractValue<D>],
+) -> bool
+    ensures { result ≡ stands_for a b values.now others.now }
+{
+    if is_place(a) {
+        stands_for(a, b, values, others)
+    } else {
+        true
+    }
+}
+
 /// Returns whether values at one anchor stand for values at one anchor.
 fn share_alike<D: Copy>(values: &[AbstractValue<D>], others: &[AbstractValue<D>]) -> bool
     ensures { result ≡ share_alike values.now others.now }
@@ -134,7 +160,7 @@ fn share_alike<D: Copy>(values: &[AbstractValue<D>], others: &[AbstractValue<D>]
         [a, values @ ..] => match others {
             [] => true,
             [b, others @ ..] => {
-                stands_for(*a, *b, values, others) && share_alike(values, others)
+                place_stands_for(*a, *b, values, others) && share_alike(values, others)
             }
         },
     }
@@ -170,10 +196,10 @@ fn covers_state<D: Domain>(state: &AbsState<D>, other: &AbsState<D>) -> bool
     values && covers_memory(state, other)
 }
 
-/// Returns the values of the eleven registers.
+/// Returns the values of the registers and the groups.
 fn registers_of<D: Copy>(state: &AbsState<D>) -> &[AbstractValue<D>]
     ensures values { result.now ≡ state.now.registers }
-    ensures count { length state.now.registers ≡ 11 }
+    ensures count { length state.now.registers ≡ 75 }
 {
     &state.registers
 }

@@ -1,16 +1,18 @@
 //! The abstract step of a load.
 
-ghost use Rattle.std.specs.Prelude.{◌≡◌, ◌≤◌};
+ghost use Rattle.std.specs.Prelude.{◌≡◌, ◌≤◌, ◌<◌, ◌+◌, IfSome};
+ghost use Rattle.insn.specs.Codes.{byte_count};
+ghost use Rattle.semantics.specs.declared.limits.TheConstants.{STACK_BYTES, GROUPS};
 ghost use Rattle.absstate.specs.Changes.{answer_of};
-ghost use Rattle.absstate.specs.AbstractSteps.{field_known, abstract_load_field, region_readable, IsInStack, readable, abstract_load_number, number_of_size, abstract_load, abstract_load_signed, load_step, load_signed_step};
+ghost use Rattle.absstate.specs.AbstractSteps.{field_known, abstract_load_field, is_known_pointer, touches_known, cells_readable, region_readable, known_group, known_pointer, known_in, known_or, IsInStack, readable, abstract_load_value, abstract_load_number, number_of_size, abstract_load, abstract_load_signed, load_step, load_signed_step};
 
-use crate::abstract_state::{AbsState, AbstractValue, Anchor, Marks};
+use crate::abstract_state::{AbsState, AbstractValue, Anchor};
 use crate::abstract_step::{read, written};
 use crate::change::Transition;
 use crate::memory::{Region, locate};
 use insn::{Reg, SignedSize, Size};
 use interval::Domain;
-use semantics::{ContextField, MAX_DATAGRAM, Reason, field_at};
+use semantics::{ContextField, GROUP_BYTES, MAX_DATAGRAM, Reason, field_at};
 
 /// Returns the abstract number of all numbers of a size.
 fn number_of_size<D: Domain>(size: Size) -> D
@@ -36,10 +38,13 @@ fn field_known<D: Domain>(field: ContextField) -> AbstractValue<D>
         },
         ContextField::End => AbstractValue::End,
         ContextField::Length => AbstractValue::Scalar(D::range(0, MAX_DATAGRAM as u64)),
-        ContextField::Source | ContextField::IdHead => AbstractValue::Scalar(number_of_size(
-            Size::Double,
-        )),
-        ContextField::IdTail => AbstractValue::Scalar(number_of_size(Size::Word)),
+        ContextField::Source
+        | ContextField::IdHead
+        | ContextField::WideHead
+        | ContextField::WideMiddle => AbstractValue::Scalar(number_of_size(Size::Double)),
+        ContextField::IdTail | ContextField::WideTail => {
+            AbstractValue::Scalar(number_of_size(Size::Word))
+        }
         ContextField::Side => AbstractValue::Scalar(D::range(0, 1)),
     }
 }
@@ -52,23 +57,110 @@ fn load_field<D: Domain>(displacement: i16, size: Size) -> Result<AbstractValue<
     Ok(field_known(field))
 }
 
+/// Returns whether a value is a pointer.
+fn is_pointer<D: Copy>(known: AbstractValue<D>) -> bool
+    ensures { result ≡ is_known_pointer known }
+{
+    match known {
+        AbstractValue::Nothing | AbstractValue::Scalar(_) => false,
+        _ => true,
+    }
+}
+
+/// Returns whether one of the `n` cells from an index on is known to be a part of a pointer.
+fn touches_pointer<D: Copy>(state: &AbsState<D>, n: usize, index: usize) -> bool
+    requires some { 1 ≤ n }
+    requires inside { index + n ≤ STACK_BYTES }
+    ensures { result ≡ touches_known state.now n index }
+{
+    is_pointer(state.group(index / GROUP_BYTES))
+        || is_pointer(state.group((index + n / 3) / GROUP_BYTES))
+        || is_pointer(state.group((index + 2 * n / 3) / GROUP_BYTES))
+        || is_pointer(state.group((index + n - 1) / GROUP_BYTES))
+}
+
+/// Tests whether the `n` cells from an index on may be read as bytes.
+///
+/// # Errors
+/// `PointerBytes` where one is known to be a part of a pointer, `UninitStack` where one isn't known to be set.
+pub(crate) fn cells_readable<D: Copy>(
+    state: &AbsState<D>,
+    n: usize,
+    index: usize,
+) -> Result<(), Reason>
+    requires some { 1 ≤ n }
+    requires inside { index + n ≤ STACK_BYTES }
+    ensures { result ≡ cells_readable state.now n index }
+{
+    if touches_pointer(state, n, index) {
+        Err(Reason::PointerBytes)
+    } else if state.marks.are_set(index, n) {
+        Ok(())
+    } else {
+        Err(Reason::UninitStack)
+    }
+}
+
 /// Tests whether the `n` bytes of a region may be read.
 ///
 /// # Errors
-/// `UninitStack` where a byte isn't known to be set.
-fn region_readable(marks: &Marks, n: usize, region: Region) -> Result<(), Reason>
-    requires { IsInStack n region }
-    ensures { result ≡ region_readable marks.now n region }
+/// As [`cells_readable`].
+fn region_readable<D: Copy>(state: &AbsState<D>, n: usize, region: Region) -> Result<(), Reason>
+    requires some { 1 ≤ n }
+    requires inside { IsInStack n region }
+    ensures { result ≡ region_readable state.now n region }
 {
     match region {
-        Region::InStack(index) => {
-            if marks.are_set(index, n) {
-                Ok(())
+        Region::InStack(index) => cells_readable(state, n, index),
+        Region::InBytes => Ok(()),
+    }
+}
+
+/// Returns the group that an access reads as a whole.
+fn known_group(region: Region, size: Size) -> Option<usize>
+    requires { IsInStack (byte_count size) region }
+    ensures group { result ≡ known_group region size }
+    ensures inside { IfSome result (λ g. g < GROUPS) }
+{
+    match (region, size) {
+        (Region::InStack(index), Size::Double) => {
+            if index % GROUP_BYTES == 0 {
+                Some(index / GROUP_BYTES)
             } else {
-                Err(Reason::UninitStack)
+                None
             }
         }
-        Region::InBytes => Ok(()),
+        _ => None,
+    }
+}
+
+/// Returns the pointer that a group is known to hold.
+fn known_in<D: Copy>(state: &AbsState<D>, group: Option<usize>) -> Option<AbstractValue<D>>
+    requires { IfSome group (λ g. g < GROUPS) }
+    ensures { result ≡ known_in state.now group }
+{
+    let known = state.group(group?);
+    if is_pointer(known) { Some(known) } else { None }
+}
+
+/// Returns what is known of what a load reads.
+#[tactic(auto, unfolding(crate::specs::AbstractSteps::abstract_load_value))]
+fn load_value<D: Domain>(
+    state: &AbsState<D>,
+    base: AbstractValue<D>,
+    displacement: i16,
+    size: Size,
+) -> Result<AbstractValue<D>, Reason>
+    ensures { result ≡ abstract_load_value D.ops state.now base displacement size }
+{
+    let n = size.bytes();
+    let from = locate(state, base, displacement, n)?;
+    match known_in(state, known_group(from, size)) {
+        Some(known) => Ok(known),
+        None => {
+            region_readable(state, n, from)?;
+            Ok(AbstractValue::Scalar(number_of_size(size)))
+        }
     }
 }
 
@@ -83,11 +175,12 @@ fn readable<D: Copy>(
     displacement: i16,
     n: usize,
 ) -> Result<(), Reason>
-    requires { n ≤ 8 }
+    requires some { 1 ≤ n }
+    requires few { n ≤ 8 }
     ensures { result ≡ readable state.now base displacement n }
 {
     let to = locate(state, base, displacement, n)?;
-    region_readable(&state.marks, n, to)
+    region_readable(state, n, to)
 }
 
 /// Returns what is known of the number in `n` bytes, where they may be read.
@@ -98,7 +191,8 @@ fn load_number<D: Copy>(
     n: usize,
     number: D,
 ) -> Result<AbstractValue<D>, Reason>
-    requires { n ≤ 8 }
+    requires some { 1 ≤ n }
+    requires few { n ≤ 8 }
     ensures { result ≡ abstract_load_number state.now base displacement n number }
 {
     readable(state, base, displacement, n)?;
@@ -115,13 +209,7 @@ fn load<D: Domain>(
 {
     match base {
         AbstractValue::Ctx => load_field(displacement, size),
-        _ => load_number(
-            state,
-            base,
-            displacement,
-            size.bytes(),
-            number_of_size(size),
-        ),
+        _ => load_value(state, base, displacement, size),
     }
 }
 

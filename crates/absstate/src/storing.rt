@@ -3,7 +3,7 @@
 ghost use Rattle.std.specs.Prelude.{◌≡◌};
 ghost use Rattle.insn.specs.Codes.{byte_count};
 ghost use Rattle.absstate.specs.Changes.{state_after_change, answer_of};
-ghost use Rattle.absstate.specs.AbstractSteps.{abstract_pointer, storable, IsInStack, with_region, store_step};
+ghost use Rattle.absstate.specs.AbstractSteps.{abstract_pointer, abstract_store_pointer, abstract_store_number, store_known, IsInStack, with_region, store_step};
 ghost use Rattle.absstate.specs.declared.abstract_state.AbsState.{AbsState};
 
 use crate::abstract_state::{AbsState, AbstractValue};
@@ -12,7 +12,7 @@ use crate::change::{Change, Transition};
 use crate::memory::{Region, locate};
 use insn::{Operand, Reg, Size, Width};
 use interval::Domain;
-use semantics::Reason;
+use semantics::{GROUP_BYTES, Reason, index_in_stack, is_group_place};
 
 /// Tests whether a base is a pointer, and not a number.
 fn pointer<D: Copy>(base: AbstractValue<D>) -> Result<(), Reason>
@@ -21,16 +21,6 @@ fn pointer<D: Copy>(base: AbstractValue<D>) -> Result<(), Reason>
     match base {
         AbstractValue::Scalar(_) => Err(Reason::NotAPointer),
         _ => Ok(()),
-    }
-}
-
-/// Tests whether a value may be stored: a pointer may not.
-fn storable<D: Copy>(known: AbstractValue<D>) -> Result<(), Reason>
-    ensures { result ≡ storable known }
-{
-    match known {
-        AbstractValue::Scalar(_) => Ok(()),
-        _ => Err(Reason::PointerStored),
     }
 }
 
@@ -48,6 +38,64 @@ fn set_bytes<D: Copy>(size: Size, to: Region) -> Change<D>
     }
 }
 
+/// Makes the abstract step of storing a pointer.
+///
+/// # Errors
+/// `PointerStored` where it isn't stored as a whole in a group of the stack, `StackBounds` outside the stack.
+fn store_pointer<D: Copy>(
+    to: AbstractValue<D>,
+    displacement: i16,
+    size: Size,
+    known: AbstractValue<D>,
+) -> Result<Transition<D>, Reason>
+    ensures { (state : AbsState D) → answer_of state result ≡ abstract_store_pointer state to displacement size known }
+{
+    match (to, size) {
+        (AbstractValue::Stack(offset), Size::Double) => {
+            if !is_group_place(i64::from(offset), displacement) {
+                return Err(Reason::PointerStored);
+            }
+            let index = index_in_stack(i64::from(offset), displacement, GROUP_BYTES).ok_or(
+                Reason::StackBounds,
+            )?;
+            Ok(Transition::On(Change::Pointer {
+                group: (index / GROUP_BYTES) as u16,
+                known,
+            }))
+        }
+        _ => Err(Reason::PointerStored),
+    }
+}
+
+/// Makes the abstract step of storing a number.
+fn store_number<D: Copy>(
+    state: &AbsState<D>,
+    to: AbstractValue<D>,
+    displacement: i16,
+    size: Size,
+) -> Result<Transition<D>, Reason>
+    ensures { answer_of state.now result ≡ abstract_store_number state.now to displacement size }
+{
+    let to = locate(state, to, displacement, size.bytes())?;
+    Ok(Transition::On(set_bytes(size, to)))
+}
+
+/// Makes the abstract step of storing a value.
+fn store_known<D: Copy>(
+    state: &AbsState<D>,
+    to: AbstractValue<D>,
+    displacement: i16,
+    size: Size,
+    known: AbstractValue<D>,
+) -> Result<Transition<D>, Reason>
+    ensures { answer_of state.now result ≡ store_known state.now to displacement size known }
+{
+    match known {
+        AbstractValue::Scalar(_) => store_number(state, to, displacement, size),
+        pointer => store_pointer(to, displacement, size, pointer),
+    }
+}
+
 /// Makes the abstract step of a store.
 pub(crate) fn store_step<D: Domain>(
     state: &AbsState<D>,
@@ -61,7 +109,5 @@ pub(crate) fn store_step<D: Domain>(
     let to = read(state, base)?;
     let known = operand_abstract(state, Width::W64, operand)?;
     pointer(to)?;
-    storable(known)?;
-    let to = locate(state, to, displacement, size.bytes())?;
-    Ok(Transition::On(set_bytes(size, to)))
+    store_known(state, to, displacement, size, known)
 }

@@ -1,11 +1,13 @@
 -- Meaning. The values of XOR addresses (RFC 8489, section 14.2).
-use Rattle.std.specs.Prelude.{◌≡◌, ℕ, ◌/◌, ◌<◌, Bool, ◌&&◌, List, ◌∷◌, ◌++◌, length, drop, slice_index, bit_xor, nat_eq, Option, Some, None, if◌then◌else◌}
+use Rattle.std.specs.Prelude.{◌≡◌, ℕ, ◌/◌, ◌<◌, Bool, true, false, ◌&&◌, List, ◌∷◌, ◌++◌, length, drop, slice_index, bit_xor, nat_eq, Option, Some, None, if◌then◌else◌}
 use Rattle.stun.specs.Endian.{big_bytes, big_number}
 use Rattle.stun.specs.Registry.{magic_cookie}
 use Rattle.stun.specs.declared.registry.family.TheConstants.{IPV4, IPV6}
 use Rattle.stun.specs.Builders.{parts_of}
 use Rattle.stun.specs.declared.building.Builder.{Builder}
 use Rattle.attributes.specs.declared.address.Addr.{Addr}
+use Rattle.attributes.specs.declared.address.Family.{Family}
+use Rattle.attributes.specs.declared.address.Family.TheVariants.{Ipv4, Ipv6}
 use Rattle.attributes.specs.declared.address.Addr.TheVariants.{V4, V6}
 
 -- the upper 16 bits of the cookie
@@ -33,6 +35,13 @@ IsAddress (V6 ip port) = HasWidth 16 ip port
 abbrev pub IsIpv4Address : Addr → Type 0
 IsIpv4Address (V4 ip port) = HasWidth 4 ip port
 IsIpv4Address (V6 ip port) = ⊥
+
+-- whether an address is one of a family
+abbrev pub is_of_family : Family → Addr → Bool
+is_of_family Ipv4 (V4 ip port) = true
+is_of_family Ipv4 (V6 ip port) = false
+is_of_family Ipv6 (V4 ip port) = false
+is_of_family Ipv6 (V6 ip port) = true
 
 -- the bytes of the IP address, and the port
 abbrev pub ip_of : Addr → List ℕ

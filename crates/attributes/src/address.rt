@@ -15,6 +15,13 @@ use byteorder::{BigEndian, ByteOrder};
 use stun::registry::{MAGIC_COOKIE, family};
 use stun::{Builder, NoRoom};
 
+/// A family of IP addresses (RFC 8656, section 18.8).
+#[derive(Clone, Copy, Debug, PartialEq, Eq)]
+pub enum Family {
+    Ipv4,
+    Ipv6,
+}
+
 /// A transport address: an IP address and a port.
 #[derive(Clone, Copy, Debug, PartialEq, Eq)]
 pub enum Addr {
@@ -24,7 +31,7 @@ pub enum Addr {
 
 impl Addr {
     ghost use Rattle.std.specs.Prelude.{◌≡◌};
-    ghost use Rattle.attributes.specs.Addresses.{ip_of, port_of};
+    ghost use Rattle.attributes.specs.Addresses.{ip_of, is_of_family, port_of};
 
     /// Returns the bytes of the IP address: 4 of IPv4, 16 of IPv6.
     pub fn ip(&self) -> &[u8]
@@ -33,6 +40,16 @@ impl Addr {
         match self {
             Addr::V4 { ip, .. } => ip,
             Addr::V6 { ip, .. } => ip,
+        }
+    }
+
+    /// Returns whether the address is one of a family.
+    pub fn is_of_family(&self, family: Family) -> bool
+        ensures { result ≡ is_of_family family self.now }
+    {
+        match (family, self) {
+            (Family::Ipv4, Addr::V4 { .. }) | (Family::Ipv6, Addr::V6 { .. }) => true,
+            _ => false,
         }
     }
 

@@ -9,7 +9,7 @@ mod refusal;
 mod text;
 
 pub use address::{
-    Addr, addresses_are_unique, is_address, push_xor_addr, read_back, read_xor_addr,
+    Addr, Family, addresses_are_unique, is_address, push_xor_addr, read_back, read_xor_addr,
     values_are_short, write_xor_addr,
 };
 pub use error::{push_error, push_unknown, write_error, write_unknown};

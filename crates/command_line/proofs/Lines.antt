@@ -14,6 +14,7 @@ use Rattle.command_line.specs.Commands.{faults_of, relayd_command, subcommand_in
 use Rattle.command_line.specs.Lines.{GivenOptions, IsOperand, IsLineOf, IsParsedAs, IsReplayLine, IsServeLine, IsSlotsLine, IsTraceLine, options_before, every_option, every_server_option, only_port, only_user, only_users_file}
 use Rattle.command_line.specs.Subcommands.{IsFlag, IsSubcommand, ServerTexts, Texts, flag_of, server_texts_in, server_texts_of, text_of, texts_in, texts_of, argument_value}
 use Rattle.command_line.specs.declared.Options.{Options}
+use Rattle.command_line.specs.declared.ServerOptions.{ServerOptions}
 use Rattle.command_line.specs.declared.Subcommand.{Subcommand}
 use Rattle.command_line.specs.declared.Subcommand.TheVariants.{Verify, Trace, Assemble, Disassemble, Replay, Serve}
 
@@ -240,11 +241,10 @@ replay_made words events nonce options r = record {
   subcommand = events_collected (subcommand_in words) events.now (text_of nonce) (texts_of options) r.name_is r.events_is r.nonce_is r.texts_is;
 }
 
-serve_made : (words : List Text) (port : Bor Text) (rounds listen lifetime stats : Option (Bor Text)) (options : Options)
-    → ReadsServer words (server_texts_of port rounds listen lifetime stats) (texts_of options) → Makes words (Serve port rounds listen lifetime stats options)
-serve_made words port rounds listen lifetime stats options r = record {
+serve_made : (words : List Text) (server : ServerOptions) (options : Options) → ReadsServer words (server_texts_of server) (texts_of options) → Makes words (Serve server options)
+serve_made words server options r = record {
   good = r.good;
-  subcommand = server_collected (subcommand_in words) (server_texts_of port rounds listen lifetime stats) (texts_of options) r.name_is r.server_is r.texts_is;
+  subcommand = server_collected (subcommand_in words) (server_texts_of server) (texts_of options) r.name_is r.server_is r.texts_is;
 }
 
 with_events : (events : Text) (nonce : Option Text) (texts : Texts) (words : List Text) → IsOperand events → IsReplayLine events nonce texts words
@@ -314,8 +314,7 @@ made (Disassemble file true) words (o, l) =
 made (Trace file None) words (o, (name, l)) = trace_made words file None (subst (λ w. Reads w (codes "trace") file.now None) (sym l) (trace_read name file.now o))
 made (Trace file (Some hex)) words (o, l) = trace_made words file (Some hex) (with_data file hex words o l)
 made (Replay events nonce options) words (o, l) = replay_made words events nonce options (with_events events.now (text_of nonce) (texts_of options) words o l)
-made (Serve port rounds listen lifetime stats options) words l =
-    serve_made words port rounds listen lifetime stats options (with_server (server_texts_of port rounds listen lifetime stats) (texts_of options) words l)
+made (Serve server options) words l = serve_made words server options (with_server (server_texts_of server) (texts_of options) words l)
 
 no_kind : (kinds : Kinds) (e : Error) → kinds ≡ [] → HasKind kinds e → kind_of e ≡ OutOfMemory
 no_kind kinds e none h = elim (subst (λ ks. HasKind ks e) none h) [ inl memory ↦ memory | inr among ↦ absurd among ]

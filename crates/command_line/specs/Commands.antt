@@ -58,7 +58,8 @@ abbrev pub with_users : App → App
 with_users app = with_rule (with_rule (with_rule app (option (codes "realm"))) user_option) (option (codes "users"))
 
 abbrev pub with_addresses : App → App
-with_addresses app = with_rule (with_rule (with_rule app (option (codes "slots"))) (option (codes "relay-ip"))) (option (codes "first-port"))
+with_addresses app = with_rule (with_rule (with_rule (with_rule app (option (codes "slots"))) (option (codes "relay-ip"))) (option (codes "relay-ip6")))
+    (option (codes "first-port"))
 
 abbrev pub with_programs : App → App
 with_programs app = with_rule (with_rule app (option (codes "client"))) (option (codes "peer"))
@@ -77,8 +78,8 @@ port_option = record (option (codes "port")) { required = true }
 
 -- serve --port P, with the options of a server, and those that set up a relay
 abbrev pub server_command : App
-server_command = with_rule (with_rule (with_rule (with_rule (with_rule (new_app (codes "serve")) port_option)
-    (option (codes "rounds"))) (option (codes "listen"))) (option (codes "nonce-lifetime"))) (option (codes "stats"))
+server_command = with_rule (with_rule (with_rule (with_rule (with_rule (with_rule (new_app (codes "serve")) port_option)
+    (option (codes "rounds"))) (option (codes "listen"))) (option (codes "listen6"))) (option (codes "nonce-lifetime"))) (option (codes "stats"))
 
 abbrev pub serve_command : App
 serve_command = with_options server_command

@@ -38,6 +38,7 @@ only_user user = record {
   users_file = None;
   slots = None;
   relay_ip = None;
+  relay_ip6 = None;
   first_port = None;
   client = None;
   peer = None;
@@ -51,6 +52,7 @@ only_users_file file = record {
   users_file = Some file;
   slots = None;
   relay_ip = None;
+  relay_ip6 = None;
   first_port = None;
   client = None;
   peer = None;
@@ -64,6 +66,7 @@ pub record GivenOptions : Type 0 where
   pub users_file : Text
   pub slots : Text
   pub relay_ip : Text
+  pub relay_ip6 : Text
   pub first_port : Text
   pub client : Text
   pub peer : Text
@@ -75,6 +78,7 @@ every_option g = record {
   users_file = Some g.users_file;
   slots = Some g.slots;
   relay_ip = Some g.relay_ip;
+  relay_ip6 = Some g.relay_ip6;
   first_port = Some g.first_port;
   client = Some g.client;
   peer = Some g.peer;
@@ -85,8 +89,8 @@ abbrev pub options_before : GivenOptions → List Text → List Text
 options_before g rest =
     (codes "--realm=" ++ g.realm) ∷ (codes "--user=" ++ g.user) ∷ (codes "--user=" ++ g.other)
     ∷ (codes "--users=" ++ g.users_file) ∷ (codes "--slots=" ++ g.slots) ∷ (codes "--relay-ip=" ++ g.relay_ip)
-    ∷ (codes "--first-port=" ++ g.first_port) ∷ (codes "--client=" ++ g.client) ∷ (codes "--peer=" ++ g.peer)
-    ∷ rest
+    ∷ (codes "--relay-ip6=" ++ g.relay_ip6) ∷ (codes "--first-port=" ++ g.first_port)
+    ∷ (codes "--client=" ++ g.client) ∷ (codes "--peer=" ++ g.peer) ∷ rest
 
 -- a program's name, `replay`, and EVENTS after --user NAME:PASSWORD, or after every option
 abbrev pub IsReplayLine : Text → Option Text → Texts → List Text → Type 0
@@ -96,31 +100,34 @@ IsReplayLine events nonce texts words = (name : Text) × (
     ⊎ ((g : GivenOptions) × ((given : Text) × ((nonce ≡ Some given) × ((texts ≡ every_option g)
     × (words ≡ name ∷ codes "replay" ∷ options_before g ((codes "--nonce=" ++ given) ∷ events ∷ [])))))))
 
--- a text for each argument of a server
+-- a text for each option of a server
 pub record GivenServer : Type 0 where
   pub port : Text
   pub rounds : Text
   pub listen : Text
+  pub listen6 : Text
   pub nonce_lifetime : Text
   pub stats : Text
 
 abbrev pub only_port : Text → ServerTexts
-only_port port = record { port = Some port; rounds = None; listen = None; nonce_lifetime = None; stats = None }
+only_port port = record { port = Some port; rounds = None; listen = None; listen6 = None; nonce_lifetime = None; stats = None }
 
 abbrev pub every_server_option : GivenServer → ServerTexts
 every_server_option s = record {
   port = Some s.port;
   rounds = Some s.rounds;
   listen = Some s.listen;
+  listen6 = Some s.listen6;
   nonce_lifetime = Some s.nonce_lifetime;
   stats = Some s.stats;
 }
 
--- the arguments of a server, each with its text after an equals sign, and the words after them
+-- the options of a server, each with its text after an equals sign, and the words after them
 abbrev pub server_before : GivenServer → List Text → List Text
 server_before s rest =
     (codes "--port=" ++ s.port) ∷ (codes "--rounds=" ++ s.rounds) ∷ (codes "--listen=" ++ s.listen)
-    ∷ (codes "--nonce-lifetime=" ++ s.nonce_lifetime) ∷ (codes "--stats=" ++ s.stats) ∷ rest
+    ∷ (codes "--listen6=" ++ s.listen6) ∷ (codes "--nonce-lifetime=" ++ s.nonce_lifetime)
+    ∷ (codes "--stats=" ++ s.stats) ∷ rest
 
 -- a program's name, `serve`, and --port=P with --users=FILE, or with every option
 abbrev pub IsServeLine : ServerTexts → Texts → List Text → Type 0
@@ -141,8 +148,7 @@ IsLineOf (Disassemble file false) words = IsOperand file.now
     × ((name : Text) × (words ≡ name ∷ codes "disassemble" ∷ file.now ∷ []))
 IsLineOf (Disassemble file true) words = IsOperand file.now × IsSlotsLine file.now words
 IsLineOf (Replay events nonce options) words = IsOperand events.now × IsReplayLine events.now (text_of nonce) (texts_of options) words
-IsLineOf (Serve port rounds listen lifetime stats options) words =
-    IsServeLine (server_texts_of port rounds listen lifetime stats) (texts_of options) words
+IsLineOf (Serve server options) words = IsServeLine (server_texts_of server) (texts_of options) words
 
 -- the matches are those of this subcommand, or memory ran out
 abbrev pub IsParsedAs : Subcommand → Result ArgMatches Error → Type 0

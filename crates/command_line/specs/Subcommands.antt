@@ -3,6 +3,7 @@ use Rattle.std.specs.Prelude.{◌≡◌, ◌⊎◌, Bool, true, false, List, Opt
 use Rattle.std.specs.Borrow.{Bor}
 use Rattle.clap.specs.Words.{Text, Row, all_of, first_of, one_of}
 use Rattle.command_line.specs.declared.Options.{Options}
+use Rattle.command_line.specs.declared.ServerOptions.{ServerOptions}
 use Rattle.command_line.specs.declared.Subcommand.{Subcommand}
 use Rattle.command_line.specs.declared.Subcommand.TheVariants.{Verify, Trace, Assemble, Disassemble, Replay, Serve}
 
@@ -27,6 +28,7 @@ pub record Texts : Type 0 where
   pub users_file : Option Text
   pub slots : Option Text
   pub relay_ip : Option Text
+  pub relay_ip6 : Option Text
   pub first_port : Option Text
   pub client : Option Text
   pub peer : Option Text
@@ -38,6 +40,7 @@ texts_in rows = record {
   users_file = first_of (codes "users") rows;
   slots = first_of (codes "slots") rows;
   relay_ip = first_of (codes "relay-ip") rows;
+  relay_ip6 = first_of (codes "relay-ip6") rows;
   first_port = first_of (codes "first-port") rows;
   client = first_of (codes "client") rows;
   peer = first_of (codes "peer") rows;
@@ -57,16 +60,18 @@ texts_of o = record {
   users_file = text_of o.users_file;
   slots = text_of o.slots;
   relay_ip = text_of o.relay_ip;
+  relay_ip6 = text_of o.relay_ip6;
   first_port = text_of o.first_port;
   client = text_of o.client;
   peer = text_of o.peer;
 }
 
--- the texts of the arguments of a server alone
+-- the texts of the options of a server alone
 pub record ServerTexts : Type 0 where
   pub port : Option Text
   pub rounds : Option Text
   pub listen : Option Text
+  pub listen6 : Option Text
   pub nonce_lifetime : Option Text
   pub stats : Option Text
 
@@ -75,17 +80,19 @@ server_texts_in rows = record {
   port = first_of (codes "port") rows;
   rounds = first_of (codes "rounds") rows;
   listen = first_of (codes "listen") rows;
+  listen6 = first_of (codes "listen6") rows;
   nonce_lifetime = first_of (codes "nonce-lifetime") rows;
   stats = first_of (codes "stats") rows;
 }
 
-abbrev pub server_texts_of : Bor Text → Option (Bor Text) → Option (Bor Text) → Option (Bor Text) → Option (Bor Text) → ServerTexts
-server_texts_of port rounds listen lifetime stats = record {
-  port = Some port.now;
-  rounds = text_of rounds;
-  listen = text_of listen;
-  nonce_lifetime = text_of lifetime;
-  stats = text_of stats;
+abbrev pub server_texts_of : ServerOptions → ServerTexts
+server_texts_of s = record {
+  port = Some (s.port).now;
+  rounds = text_of s.rounds;
+  listen = text_of s.listen;
+  listen6 = text_of s.listen6;
+  nonce_lifetime = text_of s.nonce_lifetime;
+  stats = text_of s.stats;
 }
 
 -- a name and the values of arguments are those of a subcommand
@@ -99,8 +106,8 @@ IsSubcommand p (Disassemble file slots) = (p.0 ≡ codes "disassemble") × (argu
     × IsFlag (flag_of p (codes "slots")) slots
 IsSubcommand p (Replay events nonce options) = (p.0 ≡ codes "replay") × (argument_value p (codes "events") ≡ Some events.now)
     × (argument_value p (codes "nonce") ≡ text_of nonce) × (texts_in p.1 ≡ texts_of options)
-IsSubcommand p (Serve port rounds listen lifetime stats options) = (p.0 ≡ codes "serve")
-    × (server_texts_in p.1 ≡ server_texts_of port rounds listen lifetime stats) × (texts_in p.1 ≡ texts_of options)
+IsSubcommand p (Serve server options) = (p.0 ≡ codes "serve")
+    × (server_texts_in p.1 ≡ server_texts_of server) × (texts_in p.1 ≡ texts_of options)
 
 -- the subcommand is one that takes FILE
 abbrev pub TakesFile : Text → Type 0

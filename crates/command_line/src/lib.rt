@@ -33,14 +33,33 @@ pub struct Options<'a> {
     pub users_file: Option<&'a str>,
     /// The number of slots.
     pub slots: Option<&'a str>,
-    /// The relayed IP address.
+    /// The relayed IPv4 address.
     pub relay_ip: Option<&'a str>,
+    /// The relayed IPv6 address.
+    pub relay_ip6: Option<&'a str>,
     /// The relayed port of the first slot.
     pub first_port: Option<&'a str>,
     /// The file of the program for clients' datagrams.
     pub client: Option<&'a str>,
     /// The file of the program for peers' datagrams.
     pub peer: Option<&'a str>,
+}
+
+/// The options of a server alone, as they are written; `None` is an option that is not given.
+#[derive(Clone, Copy, Debug)]
+pub struct ServerOptions<'a> {
+    /// The UDP port for clients.
+    pub port: &'a str,
+    /// How many rounds are made before the end.
+    pub rounds: Option<&'a str>,
+    /// The IPv4 address that the sockets are bound to.
+    pub listen: Option<&'a str>,
+    /// The IPv6 address that further sockets of the slots are bound to.
+    pub listen6: Option<&'a str>,
+    /// The seconds after which a new nonce is drawn.
+    pub nonce_lifetime: Option<&'a str>,
+    /// The seconds between two lines of counters.
+    pub stats: Option<&'a str>,
 }
 
 /// A subcommand of relayd, with the values of its arguments.
@@ -72,15 +91,9 @@ pub enum Subcommand<'a> {
         nonce: Option<&'a str>,
         options: Options<'a>,
     },
-    /// Serve clients and peers over UDP sockets: those of clients at `port`. `rounds` is how many rounds are made before the
-    /// end, `listen` the address that the sockets are bound to, and `nonce_lifetime` and `stats` are seconds. Each is as it is
-    /// written, and `None` where it is not given.
+    /// Serve clients and peers over UDP sockets.
     Serve {
-        port: &'a str,
-        rounds: Option<&'a str>,
-        listen: Option<&'a str>,
-        nonce_lifetime: Option<&'a str>,
-        stats: Option<&'a str>,
+        server: ServerOptions<'a>,
         options: Options<'a>,
     },
 }
@@ -255,6 +268,12 @@ fn with_addresses<'a>(alloc: Global, command: Command<'a>) -> Result<Command<'a>
         ))?
         .arg(option(
             alloc,
+            "relay-ip6",
+            "HEX",
+            "The relayed IPv6 address, in 32 hexadecimal digits; none by default",
+        ))?
+        .arg(option(
+            alloc,
             "first-port",
             "P",
             "The relayed port of slot 0; 49152 by default",
@@ -333,6 +352,12 @@ fn server<'a>(alloc: Global) -> Result<Command<'a>, AllocError>
             "listen",
             "A",
             "The IPv4 address that the sockets are bound to; 127.0.0.1 by default",
+        ))?
+        .arg(option(
+            alloc,
+            "listen6",
+            "A",
+            "An IPv6 address that each slot has a further socket at; none by default",
         ))?
         .arg(option(
             alloc,
@@ -419,6 +444,7 @@ fn options_of<'a>(matches: &'a ArgMatches<'_>) -> Options<'a>
         users_file: matches.get_str("users"),
         slots: matches.get_str("slots"),
         relay_ip: matches.get_str("relay-ip"),
+        relay_ip6: matches.get_str("relay-ip6"),
         first_port: matches.get_str("first-port"),
         client: matches.get_str("client"),
         peer: matches.get_str("peer"),
@@ -430,14 +456,16 @@ fn serve_of<'a>(matches: &'a ArgMatches<'_>) -> Option<Subcommand<'a>>
     ensures found { IfSome result (IsSubcommand (codes "serve", rows_of (found_of matches.now))) }
     ensures none { IfNone result (first_of (codes "port") (rows_of (found_of matches.now)) ≡ None) }
 {
-    Some(Subcommand::Serve {
+    let server = ServerOptions {
         port: matches.get_str("port")?,
         rounds: matches.get_str("rounds"),
         listen: matches.get_str("listen"),
+        listen6: matches.get_str("listen6"),
         nonce_lifetime: matches.get_str("nonce-lifetime"),
         stats: matches.get_str("stats"),
-        options: options_of(matches),
-    })
+    };
+    let options = options_of(matches);
+    Some(Subcommand::Serve { server, options })
 }
 
 /// Returns the subcommand of a parsed command line, or `None` where the matches are not those of a

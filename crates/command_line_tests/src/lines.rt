@@ -96,12 +96,12 @@ const GOOD: [Good; 26] = [
     // standard input, without an option
     Good {
         words: &["relayd", "replay", "-"],
-        subcommand: r#"Replay { events: "-", nonce: None, options: Options { realm: None, users: None, users_file: None, slots: None, relay_ip: None, first_port: None, client: None, peer: None } }"#,
+        subcommand: r#"Replay { events: "-", nonce: None, options: Options { realm: None, users: None, users_file: None, slots: None, relay_ip: None, relay_ip6: None, first_port: None, client: None, peer: None } }"#,
     },
     // users in the order in which they are given, and no value is parted at a comma
     Good {
         words: &["relayd", "replay", "--user", "v:q,r", "a", "--user=u:p"],
-        subcommand: r#"Replay { events: "a", nonce: None, options: Options { realm: None, users: Some(["v:q,r", "u:p"]), users_file: None, slots: None, relay_ip: None, first_port: None, client: None, peer: None } }"#,
+        subcommand: r#"Replay { events: "a", nonce: None, options: Options { realm: None, users: Some(["v:q,r", "u:p"]), users_file: None, slots: None, relay_ip: None, relay_ip6: None, first_port: None, client: None, peer: None } }"#,
     },
     // every option
     Good {
@@ -118,6 +118,8 @@ const GOOD: [Good; 26] = [
             "1",
             "--relay-ip",
             "i",
+            "--relay-ip6",
+            "j",
             "--slots",
             "2",
             "--users",
@@ -128,12 +130,12 @@ const GOOD: [Good; 26] = [
             "r",
             "a",
         ],
-        subcommand: r#"Replay { events: "a", nonce: Some("n"), options: Options { realm: Some("r"), users: Some(["u"]), users_file: Some("f"), slots: Some("2"), relay_ip: Some("i"), first_port: Some("1"), client: Some("c"), peer: Some("p") } }"#,
+        subcommand: r#"Replay { events: "a", nonce: Some("n"), options: Options { realm: Some("r"), users: Some(["u"]), users_file: Some("f"), slots: Some("2"), relay_ip: Some("i"), relay_ip6: Some("j"), first_port: Some("1"), client: Some("c"), peer: Some("p") } }"#,
     },
     // a server with its port alone, and with every option
     Good {
         words: &["relayd", "serve", "--port", "3478"],
-        subcommand: r#"Serve { port: "3478", rounds: None, listen: None, nonce_lifetime: None, stats: None, options: Options { realm: None, users: None, users_file: None, slots: None, relay_ip: None, first_port: None, client: None, peer: None } }"#,
+        subcommand: r#"Serve { server: ServerOptions { port: "3478", rounds: None, listen: None, listen6: None, nonce_lifetime: None, stats: None }, options: Options { realm: None, users: None, users_file: None, slots: None, relay_ip: None, relay_ip6: None, first_port: None, client: None, peer: None } }"#,
     },
     Good {
         words: &[
@@ -146,6 +148,8 @@ const GOOD: [Good; 26] = [
             "1",
             "--relay-ip",
             "i",
+            "--relay-ip6",
+            "j",
             "--slots=2",
             "--users",
             "f",
@@ -159,12 +163,13 @@ const GOOD: [Good; 26] = [
             "--nonce-lifetime",
             "60",
             "--listen=l",
+            "--listen6=m",
             "--rounds",
             "n",
             "--port",
             "3478",
         ],
-        subcommand: r#"Serve { port: "3478", rounds: Some("n"), listen: Some("l"), nonce_lifetime: Some("60"), stats: Some("5"), options: Options { realm: Some("r"), users: Some(["u", "v"]), users_file: Some("f"), slots: Some("2"), relay_ip: Some("i"), first_port: Some("1"), client: Some("c"), peer: Some("p") } }"#,
+        subcommand: r#"Serve { server: ServerOptions { port: "3478", rounds: Some("n"), listen: Some("l"), listen6: Some("m"), nonce_lifetime: Some("60"), stats: Some("5") }, options: Options { realm: Some("r"), users: Some(["u", "v"]), users_file: Some("f"), slots: Some("2"), relay_ip: Some("i"), relay_ip6: Some("j"), first_port: Some("1"), client: Some("c"), peer: Some("p") } }"#,
     },
     // the program may have any name
     Good {
@@ -304,6 +309,8 @@ const REFUSED: [Refused; 51] = [
             "How many allocations there may be at once; 16 by default",
             "--relay-ip <A>",
             "The relayed IPv4 address; 127.0.0.1 by default",
+            "--relay-ip6 <HEX>",
+            "The relayed IPv6 address, in 32 hexadecimal digits; none by default",
             "--first-port <P>",
             "The relayed port of slot 0; 49152 by default",
             "--client <FILE>",
@@ -341,6 +348,8 @@ const REFUSED: [Refused; 51] = [
             "End after N rounds, which never wait: each tries one receive at each socket",
             "--listen <A>",
             "The IPv4 address that the sockets are bound to; 127.0.0.1 by default",
+            "--listen6 <A>",
+            "An IPv6 address that each slot has a further socket at; none by default",
             "--nonce-lifetime <S>",
             "The seconds after which a new nonce is drawn; 3600 by default",
             "--stats <S>",
@@ -355,6 +364,8 @@ const REFUSED: [Refused; 51] = [
             "How many allocations there may be at once; 16 by default",
             "--relay-ip <A>",
             "The relayed IPv4 address; 127.0.0.1 by default",
+            "--relay-ip6 <HEX>",
+            "The relayed IPv6 address, in 32 hexadecimal digits; none by default",
             "--first-port <P>",
             "The relayed port of slot 0; 49152 by default",
             "--client <FILE>",

@@ -18,6 +18,6 @@ ports_fit c e = (within_limits c e).ports
 -- the slots of the relay have ports
 pub has_port : (c : Config) (g : Grant) → c.first_port + c.slots ≤ 0x10000 → HasSlotBelow c.slots g → HasPort c g
 has_port c grant.Mapped few inside = tt
-has_port c (grant.Allocated slot lifetime) few inside = omega (arith, few, inside)
+has_port c (grant.Allocated family slot lifetime) few inside = omega (arith, few, inside)
 has_port c (grant.Refreshed lifetime) few inside = tt
 has_port c grant.Done few inside = tt

@@ -10,50 +10,50 @@ use Rattle.std.proofs.lemmas.List.{length-append}
 use Rattle.fallible.specs.Fallible.{◌>>=◌}
 use Rattle.stun.specs.declared.registry.ErrorCode.{ErrorCode}
 use Rattle.stun.specs.declared.registry.ErrorCode.TheVariants.{BadRequest}
-use Rattle.attributes.specs.Addresses.{ip_of, address_in}
+use Rattle.attributes.specs.Addresses.{ip_of, is_of_family, address_in}
+use Rattle.attributes.specs.declared.address.Family.{Family}
 use Rattle.attributes.specs.declared.address.Addr.{Addr}
 use Rattle.tables.specs.Permissions.{PermissionMap, with_all}
 use Rattle.tables.specs.PermitLaws.{HasIp, AreDistinct, permitted_again, permitted_many, distinct_push, StandsFor}
 use Rattle.tables.specs.declared.permissions.TheConstants.{MAX_PERMISSIONS}
 use Rattle.control.specs.Control.{first_and_rest, addresses_in, some_addresses}
 use Rattle.control.specs.Peers.{peers_of, peers_with}
-use Rattle.control.specs.Serving.{are_ipv4}
+use Rattle.control.specs.Serving.{are_of}
 use Rattle.stun.specs.Attributes.{values_of}
 use Rattle.stun.specs.Messages.{Parts, message_of}
 use Rattle.stun.specs.declared.registry.attribute.TheConstants.{XOR_PEER_ADDRESS}
-use Rattle.tables.specs.Addresses.{is_ipv4}
 use Rattle.control.specs.declared.create_permission.TheConstants.{MAX_PEERS}
 
--- ---- whether all are of IPv4
+-- ---- whether all are of a family
 
 -- what was found of the addresses before, with those that are left
-abbrev pub combined : Option Bool → Option (List Addr) → Result Bool ErrorCode
-combined found None = Err BadRequest
-combined None (Some []) = Err BadRequest
-combined None (Some (a ∷ rest)) = Ok (list_all is_ipv4 (a ∷ rest))
-combined (Some b) (Some rest) = Ok (b && list_all is_ipv4 rest)
+abbrev pub combined : (family : Family) → Option Bool → Option (List Addr) → Result Bool ErrorCode
+combined family found None = Err BadRequest
+combined family None (Some []) = Err BadRequest
+combined family None (Some (a ∷ rest)) = Ok (list_all (is_of_family family) (a ∷ rest))
+combined family (Some b) (Some rest) = Ok (b && list_all (is_of_family family) rest)
 
-abbrev pub all_ipv4 : Option (List Addr) → Result Bool ErrorCode
-all_ipv4 peers = some_addresses peers >>= (λ peers. Ok (list_all is_ipv4 peers))
+abbrev pub all_of : (family : Family) → Option (List Addr) → Result Bool ErrorCode
+all_of family peers = some_addresses peers >>= (λ peers. Ok (list_all (is_of_family family) peers))
 
-pub at_first : (peers : Option (List Addr)) → combined None peers ≡ all_ipv4 peers
-at_first None = refl
-at_first (Some []) = refl
-at_first (Some (a ∷ rest)) = refl
+pub at_first : (family : Family) → (peers : Option (List Addr)) → combined family None peers ≡ all_of family peers
+at_first family None = refl
+at_first family (Some []) = refl
+at_first family (Some (a ∷ rest)) = refl
 
 regrouped : (a b c : Bool) → ((a && b) && c) ≡ (a && (b && c))
 regrouped true b c = refl
 regrouped false b c = refl
 
-abbrev pub found_with : Option Bool → Addr → Bool
-found_with None a = true && is_ipv4 a
-found_with (Some b) a = b && is_ipv4 a
+abbrev pub found_with : (family : Family) → Option Bool → Addr → Bool
+found_with family None a = true && is_of_family family a
+found_with family (Some b) a = b && is_of_family family a
 
-pub one_more : (found : Option Bool) (a : Addr) (rest : Option (List Addr)) → combined (Some (found_with found a)) rest ≡ combined found (first_and_rest (Some a) rest)
-one_more None a None = refl
-one_more (Some b) a None = refl
-one_more None a (Some rest) = refl
-one_more (Some b) a (Some rest) = ap Ok (regrouped b (is_ipv4 a) (list_all is_ipv4 rest))
+pub one_more : (family : Family) → (found : Option Bool) (a : Addr) (rest : Option (List Addr)) → combined family (Some (found_with family found a)) rest ≡ combined family found (first_and_rest (Some a) rest)
+one_more family None a None = refl
+one_more family (Some b) a None = refl
+one_more family None a (Some rest) = refl
+one_more family (Some b) a (Some rest) = ap Ok (regrouped b (is_of_family family a) (list_all (is_of_family family) rest))
 
 -- ---- those that differ
 
@@ -169,44 +169,44 @@ err-ok h = cc
 ok_value : {A E : Type 0} (x y : A) → ◌≡◌ {A = Result A E} (Ok x) (Ok y) → x ≡ y
 ok_value x y h = cc
 
--- ---- addresses of IPv4
+-- ---- addresses of a family
 
 -- those that were collected, and those that are left
-pub record AreIpv4 (peers left : List Addr) : Type 0 where
-  pub collected : list_all is_ipv4 peers ≡ true
-  pub rest : list_all is_ipv4 left ≡ true
+pub record AreOf (family : Family) (peers left : List Addr) : Type 0 where
+  pub collected : list_all (is_of_family family) peers ≡ true
+  pub rest : list_all (is_of_family family) left ≡ true
 
-one_and_all : (a : Addr) (left : List Addr) → list_all is_ipv4 (a ∷ left) ≡ true → (is_ipv4 a ≡ true) × (list_all is_ipv4 left ≡ true)
-one_and_all a left e = and_parts _ _ e
+one_and_all : (family : Family) → (a : Addr) (left : List Addr) → list_all (is_of_family family) (a ∷ left) ≡ true → (is_of_family family a ≡ true) × (list_all (is_of_family family) left ≡ true)
+one_and_all family a left e = and_parts _ _ e
 
-one_pushed : (peers : List Addr) (a : Addr) → list_all is_ipv4 peers ≡ true → is_ipv4 a ≡ true → list_all is_ipv4 (peers ++ a ∷ []) ≡ true
-one_pushed [] a e one = and_from _ _ one refl
-one_pushed (x ∷ xs) a e one = let parts = and_parts _ _ e in and_from _ _ parts.0 (one_pushed xs a parts.1 one)
+one_pushed : (family : Family) → (peers : List Addr) (a : Addr) → list_all (is_of_family family) peers ≡ true → is_of_family family a ≡ true → list_all (is_of_family family) (peers ++ a ∷ []) ≡ true
+one_pushed family [] a e one = and_from _ _ one refl
+one_pushed family (x ∷ xs) a e one = let parts = and_parts _ _ e in and_from _ _ parts.0 (one_pushed family xs a parts.1 one)
 
-one_added : (peers : List Addr) (a : Addr) → list_all is_ipv4 peers ≡ true → is_ipv4 a ≡ true → list_all is_ipv4 (peers_with peers a) ≡ true
-one_added peers a e one =
+one_added : (family : Family) → (peers : List Addr) (a : Addr) → list_all (is_of_family family) peers ≡ true → is_of_family family a ≡ true → list_all (is_of_family family) (peers_with peers a) ≡ true
+one_added family peers a e one =
     let there : Bool = list_any (λ known. bytes_eq (ip_of known) (ip_of a)) peers || nat_le MAX_PEERS (length peers) in
-    elim there as (λ b. list_all is_ipv4 (cond b peers (peers ++ a ∷ [])) ≡ true) [
+    elim there as (λ b. list_all (is_of_family family) (cond b peers (peers ++ a ∷ [])) ≡ true) [
       | true ↦ e
-      | false ↦ one_pushed peers a e one
+      | false ↦ one_pushed family peers a e one
     ]
 
-pub ipv4_value : (tx : List ℕ) (peers more : List Addr) (a : Addr) (value : List ℕ) (values before : List (List ℕ))
+pub family_value : (family : Family) → (tx : List ℕ) (peers more : List Addr) (a : Addr) (value : List ℕ) (values before : List (List ℕ))
     → before ≡ value ∷ values → address_in tx value ≡ Some a → more ≡ peers_with peers a
-    → AreIpv4 peers (filter_map (address_in tx) before) → AreIpv4 more (filter_map (address_in tx) values)
-ipv4_value tx peers more a value values before first read added are =
+    → AreOf family peers (filter_map (address_in tx) before) → AreOf family more (filter_map (address_in tx) values)
+family_value family tx peers more a value values before first read added are =
     let left : List Addr = filter_map (address_in tx) values in
     let begun : filter_map (address_in tx) before ≡ a ∷ left = ap (filter_map (address_in tx)) first ∙ ap (λ o. cons_option o left) read in
-    let parts = one_and_all a left (sym (ap (list_all is_ipv4) begun) ∙ are.rest) in
-    record { collected = ap (list_all is_ipv4) added ∙ one_added peers a are.collected parts.0; rest = parts.1 }
+    let parts = one_and_all family a left (sym (ap (list_all (is_of_family family)) begun) ∙ are.rest) in
+    record { collected = ap (list_all (is_of_family family)) added ∙ one_added family peers a are.collected parts.0; rest = parts.1 }
 
--- where all addresses of a request are of IPv4, those that are well formed are
-pub read_ipv4 : (p : Parts) → are_ipv4 p ≡ Ok true → list_all is_ipv4 (peers_of p) ≡ true
-read_ipv4 p =
+-- whether all addresses of a request are of a family is whether those that are well formed are
+pub read_families : (family : Family) (p : Parts) (b : Bool) → are_of family p ≡ Ok b → list_all (is_of_family family) (peers_of p) ≡ b
+read_families family p b =
     let values : List (List ℕ) = values_of XOR_PEER_ADDRESS (message_of p).attributes in
     elim (addresses_in p.transaction_id values) as
-    (λ o. addresses_in p.transaction_id values ≡ o → all_ipv4 o ≡ Ok true → list_all is_ipv4 (filter_map (address_in p.transaction_id) values) ≡ true) [
+    (λ o. addresses_in p.transaction_id values ≡ o → all_of family o ≡ Ok b → list_all (is_of_family family) (filter_map (address_in p.transaction_id) values) ≡ b) [
       | None ↦ λ is h. absurd (err-ok h)
       | Some [] ↦ λ is h. absurd (err-ok h)
-      | Some (peer ∷ peers) ↦ λ is h. ap (list_all is_ipv4) (all_read p.transaction_id values (peer ∷ peers) is) ∙ ok_value _ _ h
+      | Some (peer ∷ peers) ↦ λ is h. ap (list_all (is_of_family family)) (all_read p.transaction_id values (peer ∷ peers) is) ∙ ok_value _ _ h
     ] refl

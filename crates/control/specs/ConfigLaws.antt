@@ -74,6 +74,7 @@ within_limits c e =
 -- all values are the same; of users, names and passwords
 pub record IsSameConfig (c d : Config) : Type 0 where
   pub ip : d.ip ≡ c.ip
+  pub ip6 : d.ip6 ≡ c.ip6
   pub first_port : d.first_port ≡ c.first_port
   pub slots : d.slots ≡ c.slots
   pub realm : string_bytes d.realm ≡ string_bytes c.realm

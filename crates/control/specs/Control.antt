@@ -1,24 +1,24 @@
 -- Meaning. How requests are answered: credentials, then attributes that are not understood, then the tests of the
 -- method in their order. The first that fails gives the error. Each test is one of RFC 8489, section 9.2.4, or RFC 8656,
 -- sections 7, 8, 10 and 12; their order is this relay's own.
-use Rattle.std.specs.Prelude.{ℕ, Bool, true, false, ◌&&◌, List, [], ◌∷◌, max, min, nat_eq, bytes_eq, Option, None, Some, Result, Ok, Err, ok_or, if◌then◌else◌}
-use Rattle.std.specs.List.{list_all}
+use Rattle.std.specs.Prelude.{ℕ, Bool, true, false, ◌&&◌, List, [], ◌∷◌, max, min, nat_eq, bytes_eq, Option, None, Some, option_and_then, is_some, Result, Ok, Err, ok_or, if◌then◌else◌}
 use Rattle.fallible.specs.Fallible.{◌>>=◌, check}
 use Rattle.stun.specs.Attributes.{values_of}
 use Rattle.stun.specs.Messages.{Parts, message_of}
 use Rattle.stun.specs.Ranges.{is_between}
 use Rattle.stun.specs.declared.registry.attribute.TheConstants.{CHANNEL_NUMBER, LIFETIME, XOR_PEER_ADDRESS, REQUESTED_ADDRESS_FAMILY, REQUESTED_TRANSPORT}
-use Rattle.stun.specs.declared.registry.family.TheConstants.{IPV4}
+use Rattle.stun.specs.declared.registry.family.TheConstants.{IPV4, IPV6}
 use Rattle.stun.specs.declared.registry.ErrorCode.{ErrorCode}
 use Rattle.stun.specs.declared.registry.ErrorCode.TheVariants.{BadRequest, Unauthenticated, UnknownAttribute, AllocationMismatch, StaleNonce, AddressFamilyNotSupported, WrongCredentials, UnsupportedTransport, PeerAddressFamilyMismatch, InsufficientCapacity}
 use Rattle.attributes.specs.declared.address.Addr.{Addr}
 use Rattle.attributes.specs.Addresses.{address_in}
+use Rattle.attributes.specs.declared.address.Family.{Family}
+use Rattle.attributes.specs.declared.address.Family.TheVariants.{Ipv4, Ipv6}
 use Rattle.attributes.specs.Values.{number_of_value}
 use Rattle.credentials.specs.Checks.{first_value}
 use Rattle.credentials.specs.declared.checking.AuthError.{AuthError}
 use Rattle.credentials.specs.declared.checking.AuthError.TheVariants.{Missing, Incomplete, UnknownUser, WrongCode}
 use Rattle.credentials.specs.declared.checking.AuthError.TheVariants as auth
-use Rattle.tables.specs.Addresses.{is_ipv4}
 use Rattle.tables.specs.Rows.{Rows}
 use Rattle.tables.specs.Channels.{is_none_or}
 use Rattle.tables.specs.Changes.{Change}
@@ -28,6 +28,8 @@ use Rattle.tables.specs.declared.allocation.Allocation.{Allocation}
 use Rattle.tables.specs.declared.channels.TheConstants.{FIRST_CHANNEL, LAST_CHANNEL}
 use Rattle.tables.specs.declared.refusal.Refused.{Refused}
 use Rattle.tables.specs.declared.refusal.Refused.TheVariants.{Mismatch, Capacity, Conflict, NoAllocation}
+use Rattle.tables.specs.declared.refusal.Refused.TheVariants as refusal
+use Rattle.control.specs.declared.config.Config.{Config}
 use Rattle.control.specs.Unknown.{unknown_types}
 use Rattle.control.specs.Values.{optional_value, required_value}
 use Rattle.control.specs.declared.allocate.TheConstants.{UDP}
@@ -61,6 +63,7 @@ error_of Mismatch = AllocationMismatch
 error_of Capacity = InsufficientCapacity
 error_of Conflict = BadRequest
 error_of NoAllocation = AllocationMismatch
+error_of refusal.Family = PeerAddressFamilyMismatch
 
 abbrev pub result_of_change : {A : Type 0} → Change A → Result (A × Option Rows) ErrorCode
 result_of_change (Ok made) = Ok (made.0, Some made.1)
@@ -79,37 +82,58 @@ requested_lifetime p = optional_value (number_of_value 4) (first_value p LIFETIM
 abbrev pub requested_family : Parts → Result (Option ℕ) ErrorCode
 requested_family p = optional_value (number_of_value 1) (first_value p REQUESTED_ADDRESS_FAMILY)
 
+-- the number of a family (RFC 8656, section 18.8), and the family of a number
+abbrev pub family_number : Family → ℕ
+family_number Ipv4 = IPV4
+family_number Ipv6 = IPV6
+
+abbrev pub family_numbered : ℕ → Option Family
+family_numbered n = if nat_eq n IPV4 then Some Ipv4 else (if nat_eq n IPV6 then Some Ipv6 else None)
+
+-- whether the relay gives relayed addresses of a family
+abbrev pub gives_family : Config → Family → Bool
+gives_family config Ipv4 = true
+gives_family config Ipv6 = is_some config.ip6
+
+abbrev pub offered : Config → Family → Option Family
+offered config family = if gives_family config family then Some family else None
+
+-- the family that is given, where one or none is requested
+abbrev pub family_for : Config → Option ℕ → Option Family
+family_for config None = Some Ipv4
+family_for config (Some n) = option_and_then (offered config) (family_numbered n)
+
 -- ---- Allocate (RFC 8656, section 7)
 
 -- a repeated request gets the first success again
 abbrev pub is_repeated : Allocation → ℕ → Parts → Bool
 is_repeated a user p = bytes_eq a.tx p.transaction_id && nat_eq a.user user
 
--- the lifetime to give, where all values can be granted
-abbrev pub acceptable_lifetime : Parts → Result ℕ ErrorCode
-acceptable_lifetime p = do
+-- the family and the lifetime to give, where all values can be granted
+abbrev pub acceptable : Config → Parts → Result (Family × ℕ) ErrorCode
+acceptable config p = do
   transport ← required_value (number_of_value 1) (first_value p REQUESTED_TRANSPORT)
   _ ← check (nat_eq transport UDP) UnsupportedTransport
-  family ← requested_family p
-  _ ← check (is_none_or (nat_eq IPV4) family) AddressFamilyNotSupported
-  requested ← requested_lifetime p
-  Ok (lifetime_for requested)
+  requested ← requested_family p
+  family ← ok_or (family_for config requested) AddressFamilyNotSupported
+  seconds ← requested_lifetime p
+  Ok (family, lifetime_for seconds)
 
-abbrev pub allocate_anew : Addr → ℕ → Parts → Rows → Decision
-allocate_anew client user p rows = do
-  lifetime ← acceptable_lifetime p
-  made ← result_of_change (tables.allocation_change client user p.transaction_id lifetime rows)
-  Ok (Allocated made.0 lifetime, made.1)
+abbrev pub allocate_anew : Config → Addr → ℕ → Parts → Rows → Decision
+allocate_anew config client user p rows = do
+  given ← acceptable config p
+  made ← result_of_change (tables.allocation_change client user p.transaction_id given.0 given.1 rows)
+  Ok (Allocated given.0 made.0 given.1, made.1)
 
 -- where the client has no allocation, and where it has one, which a repeated request leaves as it is
-abbrev pub allocate_beside : Option Allocation → Addr → ℕ → Parts → Rows → Decision
-allocate_beside None client user p rows = allocate_anew client user p rows
-allocate_beside (Some a) client user p rows = do
+abbrev pub allocate_beside : Config → Option Allocation → Addr → ℕ → Parts → Rows → Decision
+allocate_beside config None client user p rows = allocate_anew config client user p rows
+allocate_beside config (Some a) client user p rows = do
   _ ← check (is_repeated a user p) AllocationMismatch
-  Ok (Allocated a.slot a.lifetime, None)
+  Ok (Allocated a.family a.slot a.lifetime, None)
 
-abbrev pub allocate_decision : Addr → ℕ → Parts → Rows → Decision
-allocate_decision client user p rows = allocate_beside (allocation_of client rows) client user p rows
+abbrev pub allocate_decision : Config → Addr → ℕ → Parts → Rows → Decision
+allocate_decision config client user p rows = allocate_beside config (allocation_of client rows) client user p rows
 
 -- ---- Refresh (section 8)
 
@@ -129,7 +153,7 @@ abbrev pub refresh_decision : Addr → ℕ → Parts → Rows → Decision
 refresh_decision client user p rows = do
   a ← own_allocation client user rows
   family ← requested_family p
-  _ ← check (is_none_or (nat_eq IPV4) family) PeerAddressFamilyMismatch
+  _ ← check (is_none_or (nat_eq (family_number a.family)) family) PeerAddressFamilyMismatch
   requested ← requested_lifetime p
   made ← result_of_change (tables.refresh_change a.slot (refresh_for requested) rows)
   Ok (Refreshed (refresh_for requested), made.1)
@@ -160,7 +184,6 @@ abbrev pub create_permission : Addr → ℕ → Parts → Rows → Decision
 create_permission client user p rows = do
   a ← own_allocation client user rows
   peers ← peers_in p
-  _ ← check (list_all is_ipv4 peers) PeerAddressFamilyMismatch
   made ← result_of_change (tables.permit_change a.slot peers rows)
   Ok (Done, made.1)
 
@@ -172,7 +195,6 @@ channel_bind client user p rows = do
   number ← required_value (number_of_value 2) (first_value p CHANNEL_NUMBER)
   peer ← required_value (address_in p.transaction_id) (first_value p XOR_PEER_ADDRESS)
   _ ← check (is_between FIRST_CHANNEL LAST_CHANNEL number) BadRequest
-  _ ← check (is_ipv4 peer) PeerAddressFamilyMismatch
   made ← result_of_change (tables.bind_change a.slot number peer rows)
   Ok (Done, made.1)
 
@@ -202,23 +224,23 @@ abbrev pub attribute_test : Parts → Result (Unit {0}) ErrorCode
 attribute_test p = check (all_understood p) UnknownAttribute
 
 -- a request of TURN of a user whose credentials were accepted
-abbrev pub decision_for_user : TurnRequest → Addr → ℕ → Parts → Rows → Decision
-decision_for_user turn.Allocate client user p rows = allocate_decision client user p rows
-decision_for_user turn.Refresh client user p rows = refresh_decision client user p rows
-decision_for_user turn.CreatePermission client user p rows = create_permission client user p rows
-decision_for_user turn.ChannelBind client user p rows = channel_bind client user p rows
+abbrev pub decision_for_user : TurnRequest → Config → Addr → ℕ → Parts → Rows → Decision
+decision_for_user turn.Allocate config client user p rows = allocate_decision config client user p rows
+decision_for_user turn.Refresh config client user p rows = refresh_decision client user p rows
+decision_for_user turn.CreatePermission config client user p rows = create_permission client user p rows
+decision_for_user turn.ChannelBind config client user p rows = channel_bind client user p rows
 
 -- where all attributes are understood
-abbrev pub decision_if_understood : TurnRequest → Addr → ℕ → Parts → Rows → Decision
-decision_if_understood r client user p rows = do
+abbrev pub decision_if_understood : TurnRequest → Config → Addr → ℕ → Parts → Rows → Decision
+decision_if_understood r config client user p rows = do
   _ ← attribute_test p
-  decision_for_user r client user p rows
+  decision_for_user r config client user p rows
 
 -- with the result of the check of the credentials
-abbrev pub decision : TurnRequest → Result ℕ AuthError → Addr → Parts → Rows → Decision
-decision r checked client p rows = do
+abbrev pub decision : TurnRequest → Result ℕ AuthError → Config → Addr → Parts → Rows → Decision
+decision r checked config client p rows = do
   user ← user_or_error checked
-  decision_if_understood r client user p rows
+  decision_if_understood r config client user p rows
 
 -- Binding (RFC 8489, section 12), which needs no credentials
 abbrev pub binding : Parts → Decision

@@ -1,5 +1,5 @@
 -- Meaning. Replies: their attributes in order, and their bytes.
-use Rattle.std.specs.Prelude.{ℕ, ◌+◌, List, [], ◌∷◌, Option, None, Some, Result, Ok, Err, string_bytes}
+use Rattle.std.specs.Prelude.{ℕ, ◌+◌, List, [], ◌∷◌, replicate, Option, None, Some, Result, Ok, Err, string_bytes}
 use Rattle.stun.specs.Endian.{big_bytes}
 use Rattle.stun.specs.Messages.{Attribute, Parts, empty_message, with_attribute}
 use Rattle.stun.specs.Types.{type_number}
@@ -14,7 +14,9 @@ use Rattle.stun.specs.declared.registry.attribute.TheConstants.{ERROR_CODE, UNKN
 use Rattle.attributes.specs.Addresses.{address_value}
 use Rattle.attributes.specs.Errors.{error_value, unknown_value}
 use Rattle.attributes.specs.declared.address.Addr.{Addr}
-use Rattle.attributes.specs.declared.address.Addr.TheVariants.{V4}
+use Rattle.attributes.specs.declared.address.Addr.TheVariants.{V4, V6}
+use Rattle.attributes.specs.declared.address.Family.{Family}
+use Rattle.attributes.specs.declared.address.Family.TheVariants.{Ipv4, Ipv6}
 use Rattle.credentials.specs.Signs.{with_integrity}
 use Rattle.control.specs.Unknown.{unknown_types}
 use Rattle.control.specs.declared.config.Config.{Config}
@@ -27,15 +29,20 @@ use Rattle.control.specs.declared.request.TurnRequest.TheVariants as turn
 abbrev pub attribute : ℕ → List ℕ → Attribute
 attribute kind value = record { kind = kind; value = value }
 
--- the relayed address of a slot
-abbrev pub relayed_address : Config → ℕ → Addr
-relayed_address config slot = V4 config.ip (config.first_port + slot)
+-- the relayed address of a family at a slot; one of IPv6 is given where the relay has an address of IPv6 alone
+abbrev pub ip6_of : Option (List ℕ) → List ℕ
+ip6_of (Some ip) = ip
+ip6_of None = replicate 16 0
+
+abbrev pub relayed_address : Config → Family → ℕ → Addr
+relayed_address config Ipv4 slot = V4 config.ip (config.first_port + slot)
+relayed_address config Ipv6 slot = V6 (ip6_of config.ip6) (config.first_port + slot)
 
 -- the attributes of a success response
 abbrev pub grant_attributes : Config → Addr → List ℕ → Grant → List Attribute
 grant_attributes config client tx grant.Mapped = attribute XOR_MAPPED_ADDRESS (address_value client tx) ∷ []
-grant_attributes config client tx (grant.Allocated slot lifetime) =
-    attribute XOR_RELAYED_ADDRESS (address_value (relayed_address config slot) tx)
+grant_attributes config client tx (grant.Allocated family slot lifetime) =
+    attribute XOR_RELAYED_ADDRESS (address_value (relayed_address config family slot) tx)
     ∷ attribute LIFETIME (big_bytes 4 lifetime)
     ∷ attribute XOR_MAPPED_ADDRESS (address_value client tx)
     ∷ []

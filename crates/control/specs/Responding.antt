@@ -27,7 +27,7 @@ pub record IsAnswer (config : Config) (r : Request) (client : Addr) (p : Parts) 
 pub record IsCheckedAnswer (config : Config) (now : ℕ) (turn : TurnRequest) (client : Addr) (p : Parts) (old new : Rows) (written : List ℕ) : Type 0 where
   pub checked : Result ℕ AuthError
   pub is_checked : IsChecked p (string_bytes config.realm) (accounts_of config.users.items) config.nonce.bytes checked
-  pub answer : IsAnswer config (request.Turn turn) client p (key_for config checked) (decision turn checked client p (rows_at now old)) old new written
+  pub answer : IsAnswer config (request.Turn turn) client p (key_for config checked) (decision turn checked config client p (rows_at now old)) old new written
 
 -- the answer to a request: that to Binding is not signed, since its credentials are not looked at
 abbrev pub Answers : Config → ℕ → Request → Addr → Parts → Rows → Rows → List ℕ → Type 0

@@ -6,7 +6,8 @@ use Rattle.stun.specs.Builders.{bytes_of, parts_of, used_of, capacity_of, SameBu
 use Rattle.stun.specs.Messages.{Attribute, Parts}
 use Rattle.stun.specs.declared.building.Builder.{Builder}
 use Rattle.stun.specs.declared.registry.ErrorCode.{ErrorCode}
-use Rattle.tables.specs.Addresses.{is_ipv4}
+use Rattle.attributes.specs.Addresses.{is_of_family}
+use Rattle.attributes.specs.declared.address.Family.{Family}
 use Rattle.tables.specs.Rows.{Rows}
 use Rattle.control.specs.Control.{Decision, rows_after, peers_in}
 use Rattle.control.specs.Replies.{with_attributes}
@@ -22,22 +23,22 @@ Gives (Err error) old result new = (result ≡ Err error) × (new ≡ old)
 -- a granted slot is below `slots`
 abbrev pub HasSlotBelow : ℕ → Grant → Type 0
 HasSlotBelow slots grant.Mapped = Unit {0}
-HasSlotBelow slots (grant.Allocated slot lifetime) = slot < slots
+HasSlotBelow slots (grant.Allocated family slot lifetime) = slot < slots
 HasSlotBelow slots (grant.Refreshed lifetime) = Unit {0}
 HasSlotBelow slots grant.Done = Unit {0}
 
 -- the port of a relayed address is at most 65,535
 abbrev pub HasPort : Config → Grant → Type 0
 HasPort config grant.Mapped = Unit {0}
-HasPort config (grant.Allocated slot lifetime) = config.first_port + slot < 0x10000
+HasPort config (grant.Allocated family slot lifetime) = config.first_port + slot < 0x10000
 HasPort config (grant.Refreshed lifetime) = Unit {0}
 HasPort config grant.Done = Unit {0}
 
--- whether all addresses of a request are of IPv4
-abbrev pub are_ipv4 : Parts → Result Bool ErrorCode
-are_ipv4 p = do
+-- whether all addresses of a request are of a family
+abbrev pub are_of : Family → Parts → Result Bool ErrorCode
+are_of family p = do
   peers ← peers_in p
-  Ok (list_all is_ipv4 peers)
+  Ok (list_all (is_of_family family) peers)
 
 -- from an index on the bytes are as before
 abbrev pub IsKeptFrom : ℕ → List ℕ → List ℕ → Type 0

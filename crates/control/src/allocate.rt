@@ -5,13 +5,14 @@ ghost use Rattle.tables.specs.Moments.{moment_of};
 ghost use Rattle.tables.specs.Rows.{rows_at};
 ghost use Rattle.tables.specs.Addresses.{is_ipv4};
 ghost use Rattle.control.specs.Serving.{Gives, HasSlotBelow};
-ghost use Rattle.control.specs.Control.{allocate_decision, allocate_anew, acceptable_lifetime, is_repeated};
+ghost use Rattle.control.specs.Control.{allocate_decision, allocate_anew, acceptable, family_for, family_numbered, offered, gives_family, is_repeated};
 
+use crate::config::Config;
 use crate::lifetime::lifetime_for;
 use crate::owning::error_of;
 use crate::reply::Grant;
 use crate::values::{family_of, lifetime_of, transport_of};
-use attributes::Addr;
+use attributes::{Addr, Family};
 use stun::Message;
 use stun::registry::{ErrorCode, family};
 use tables::uncounted::allocation_of;
@@ -27,20 +28,58 @@ fn is_repeated(allocation: &Allocation, user: usize, message: &Message<'_>) -> b
     allocation.tx == message.tx() && allocation.user == user
 }
 
-/// Returns the lifetime to give to an Allocate request of a client without an allocation.
+/// Returns the family of a number (RFC 8656, section 18.8), if it is that of one.
+fn family_numbered(number: u8) -> Option<Family>
+    ensures { result ≡ family_numbered number }
+{
+    if number == family::IPV4 {
+        Some(Family::Ipv4)
+    } else if number == family::IPV6 {
+        Some(Family::Ipv6)
+    } else {
+        None
+    }
+}
+
+/// Returns whether the relay gives relayed addresses of a family.
+fn gives_family(config: &Config, family: Family) -> bool
+    ensures { result ≡ gives_family config.now family }
+{
+    match family {
+        Family::Ipv4 => true,
+        Family::Ipv6 => config.ip6.is_some(),
+    }
+}
+
+/// Returns the family to give where one, or none, is requested; `None` where it isn't given.
+fn family_for(config: &Config, requested: Option<u8>) -> Option<Family>
+    ensures { result ≡ family_for config.now requested }
+{
+    let Some(number) = requested else {
+        return Some(Family::Ipv4);
+    };
+    let family = family_numbered(number)?;
+    if gives_family(config, family) {
+        Some(family)
+    } else {
+        None
+    }
+}
+
+/// Returns the family and the lifetime to give to an Allocate request of a client without an allocation.
 ///
 /// # Errors
 /// The error of the first value that is missing, malformed or not supported.
-fn acceptable_lifetime(message: &Message<'_>) -> Result<u32, ErrorCode>
-    ensures { result ≡ acceptable_lifetime message.now }
+fn acceptable(config: &Config, message: &Message<'_>) -> Result<(Family, u32), ErrorCode>
+    ensures { result ≡ acceptable config.now message.now }
 {
     if transport_of(message)? != UDP {
         return Err(ErrorCode::UnsupportedTransport);
     }
-    if family_of(message)?.is_some_and(|requested| requested != family::IPV4) {
+    let Some(family) = family_for(config, family_of(message)?) else {
         return Err(ErrorCode::AddressFamilyNotSupported);
-    }
-    Ok(lifetime_for(lifetime_of(message)?))
+    };
+    Ok((family, lifetime_for(lifetime_of(message)?)))
 }
 
 /// Answers an Allocate request of a client without an allocation.
@@ -49,22 +88,27 @@ fn acceptable_lifetime(message: &Message<'_>) -> Result<u32, ErrorCode>
 /// The error of the first test that fails.
 fn allocate_anew(
     tables: &mut Tables,
+    config: &Config,
     client: Addr,
     user: usize,
     message: &Message<'_>,
     now: u64,
 ) -> Result<Grant, ErrorCode>
     requires ipv4 { IsTrue (is_ipv4 client) }
-    ensures gives { Gives (allocate_anew client user message.now (rows_at now tables.old))
+    ensures gives { Gives (allocate_anew config.now client user message.now (rows_at now tables.old))
         tables.old result tables.new }
     ensures inside { IfOk result (HasSlotBelow (length tables.old.slots)) }
     ensures moment { (tables.old.moment ≤ tables.new.moment)
         × (tables.new.moment ≤ moment_of tables.old.moment now) }
     ensures slots { length tables.new.slots ≡ length tables.old.slots }
 {
-    let lifetime = acceptable_lifetime(message)?;
-    match tables.allocate(now, client, user, message.tx(), lifetime) {
-        Ok(slot) => Ok(Grant::Allocated { slot, lifetime }),
+    let (family, lifetime) = acceptable(config, message)?;
+    match tables.allocate(now, client, user, message.tx(), family, lifetime) {
+        Ok(slot) => Ok(Grant::Allocated {
+            family,
+            slot,
+            lifetime,
+        }),
         Err(refused) => Err(error_of(refused)),
     }
 }
@@ -76,25 +120,27 @@ fn allocate_anew(
 /// The error of the first test that fails.
 pub(crate) fn allocate(
     tables: &mut Tables,
+    config: &Config,
     client: Addr,
     user: usize,
     message: &Message<'_>,
     now: u64,
 ) -> Result<Grant, ErrorCode>
     requires ipv4 { IsTrue (is_ipv4 client) }
-    ensures gives { Gives (allocate_decision client user message.now (rows_at now tables.old)) tables.old result tables.new }
+    ensures gives { Gives (allocate_decision config.now client user message.now (rows_at now tables.old)) tables.old result tables.new }
     ensures inside { IfOk result (HasSlotBelow (length tables.old.slots)) }
     ensures moment { (tables.old.moment ≤ tables.new.moment)
         × (tables.new.moment ≤ moment_of tables.old.moment now) }
     ensures slots { length tables.new.slots ≡ length tables.old.slots }
 {
     let Some(allocation) = allocation_of(tables, client, now) else {
-        return allocate_anew(tables, client, user, message, now);
+        return allocate_anew(tables, config, client, user, message, now);
     };
     if !is_repeated(&allocation, user, message) {
         return Err(ErrorCode::AllocationMismatch);
     }
     Ok(Grant::Allocated {
+        family: allocation.family,
         slot: allocation.slot,
         lifetime: allocation.lifetime,
     })

@@ -14,7 +14,7 @@ use crate::values::{channel_of, peer_of};
 use attributes::Addr;
 use stun::Message;
 use stun::registry::ErrorCode;
-use tables::{FIRST_CHANNEL, LAST_CHANNEL, Tables, is_ipv4};
+use tables::{FIRST_CHANNEL, LAST_CHANNEL, Tables};
 
 /// Returns whether a channel may be bound under this number (RFC 8656, section 12).
 fn is_bindable(number: u16) -> bool
@@ -44,9 +44,6 @@ pub(crate) fn channel_bind(
     let peer = peer_of(message)?;
     if !is_bindable(number) {
         return Err(ErrorCode::BadRequest);
-    }
-    if !is_ipv4(&peer) {
-        return Err(ErrorCode::PeerAddressFamilyMismatch);
     }
     match tables.bind(now, allocation.slot, number, peer) {
         Ok(()) => Ok(Grant::Done),

@@ -17,6 +17,8 @@ pub const MAX_TEXT: usize = 128;
 pub struct Config {
     /// The relayed IP address.
     pub ip: [u8; 4],
+    /// The relayed IPv6 address, if there is one.
+    pub ip6: Option<[u8; 16]>,
     /// The relayed port of slot 0, at least 1; slot i has `first_port + i`.
     pub first_port: u16,
     /// The number of slots, 1 to 256; the last port is at most 65,535.

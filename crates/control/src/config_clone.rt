@@ -31,6 +31,7 @@ impl Clone for Config {
     fn clone(&self) -> Result<Config, AllocError> {
         Ok(Config {
             ip: self.ip,
+            ip6: self.ip6,
             first_port: self.first_port,
             slots: self.slots,
             realm: self.realm.clone()?,

@@ -1,12 +1,12 @@
 //! CreatePermission (RFC 8656, section 10).
 
-ghost use Rattle.std.specs.Prelude.{◌≡◌, ◌≤◌, bytes_eq, true, Ok, IsTrue, length};
+ghost use Rattle.std.specs.Prelude.{◌≡◌, ◌≤◌, bytes_eq, true, Ok, length};
 ghost use Rattle.std.specs.List.{list_all, list_any};
-ghost use Rattle.attributes.specs.Addresses.{ip_of};
+ghost use Rattle.attributes.specs.declared.address.Family.{Family};
+ghost use Rattle.attributes.specs.Addresses.{ip_of, is_of_family};
 ghost use Rattle.tables.specs.Moments.{moment_of};
 ghost use Rattle.tables.specs.Rows.{rows_at};
-ghost use Rattle.tables.specs.Addresses.{is_ipv4};
-ghost use Rattle.control.specs.Serving.{Gives, are_ipv4};
+ghost use Rattle.control.specs.Serving.{Gives, are_of};
 ghost use Rattle.control.specs.Control.{create_permission};
 ghost use Rattle.tables.specs.PermitLaws.{StandsFor};
 ghost use Rattle.control.specs.Peers.{peers_of, peers_with};
@@ -15,21 +15,21 @@ use crate::owning::{error_of, own_allocation};
 use crate::reply::Grant;
 use crate::values::address_in;
 use arrayvec::ArrayVec;
-use attributes::Addr;
+use attributes::{Addr, Family};
 use stun::Message;
 use stun::registry::ErrorCode;
 use stun::registry::attribute::XOR_PEER_ADDRESS;
-use tables::{MAX_PERMISSIONS, Tables, is_ipv4};
+use tables::{MAX_PERMISSIONS, Tables};
 
 /// One address more than an allocation may permit.
 pub const MAX_PEERS: usize = MAX_PERMISSIONS + 1;
 
-/// Returns whether all addresses of a request are of IPv4.
+/// Returns whether all addresses of a request are of a family.
 ///
 /// # Errors
 /// 400 where there is no address, or one is malformed.
-fn are_ipv4(message: &Message<'_>) -> Result<bool, ErrorCode>
-    ensures { result ≡ are_ipv4 message.now }
+fn are_of(family: Family, message: &Message<'_>) -> Result<bool, ErrorCode>
+    ensures { result ≡ are_of family message.now }
 {
     let tx = message.tx();
     let mut found = None;
@@ -37,7 +37,7 @@ fn are_ipv4(message: &Message<'_>) -> Result<bool, ErrorCode>
         let Some(peer) = address_in(value, &tx) else {
             return Err(ErrorCode::BadRequest);
         };
-        found = Some(found.unwrap_or(true) && is_ipv4(&peer));
+        found = Some(found.unwrap_or(true) && peer.is_of_family(family));
     }
     found.ok_or(ErrorCode::BadRequest)
 }
@@ -62,7 +62,7 @@ fn add_peer(peers: &mut ArrayVec<Addr, MAX_PEERS>, peer: Addr)
 /// refused exactly as permitting all is.
 fn distinct_peers(message: &Message<'_>) -> ArrayVec<Addr, MAX_PEERS>
     ensures same { StandsFor result.items (peers_of message.now) }
-    ensures ipv4 { are_ipv4 message.now ≡ Ok true → IsTrue (list_all is_ipv4 result.items) }
+    ensures families { (f : Family) → are_of f message.now ≡ Ok true → list_all (is_of_family f) result.items ≡ true }
 {
     let tx = message.tx();
     let mut peers = ArrayVec::new();
@@ -92,8 +92,9 @@ pub(crate) fn create_permission(
         × (tables.new.moment ≤ moment_of tables.old.moment now) }
     ensures slots { length tables.new.slots ≡ length tables.old.slots }
 {
+    tables.are_well_formed();
     let allocation = own_allocation(tables, client, user, now)?;
-    if !are_ipv4(message)? {
+    if !are_of(allocation.family, message)? {
         return Err(ErrorCode::PeerAddressFamilyMismatch);
     }
     let peers = distinct_peers(message);

@@ -39,5 +39,6 @@ pub(crate) fn error_of(refused: Refused) -> ErrorCode
         Refused::Mismatch | Refused::NoAllocation => ErrorCode::AllocationMismatch,
         Refused::Capacity => ErrorCode::InsufficientCapacity,
         Refused::Conflict => ErrorCode::BadRequest,
+        Refused::Family => ErrorCode::PeerAddressFamilyMismatch,
     }
 }

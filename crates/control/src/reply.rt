@@ -8,13 +8,13 @@ ghost use Rattle.stun.specs.Endian.{big_bytes};
 ghost use Rattle.stun.specs.declared.registry.attribute.TheConstants.{LIFETIME as LIFETIME_TYPE};
 ghost use Rattle.control.specs.Serving.{HasPort, IsKeptFrom, Pushes};
 ghost use Rattle.control.specs.Lengths.{longest_grant, grant_room, longest_details, details_room};
-ghost use Rattle.control.specs.Replies.{attribute, signed_if, relayed_address, grant_attributes, challenge, error_details, reply_to};
+ghost use Rattle.control.specs.Replies.{attribute, signed_if, ip6_of, relayed_address, grant_attributes, challenge, error_details, reply_to};
 ghost use Rattle.control.specs.declared.config.TheConstants.{MAX_TEXT};
 
 use crate::config::Config;
 use crate::request::Request;
 use crate::unknown::unknown_types;
-use attributes::{Addr, push_error, push_unknown, push_xor_addr};
+use attributes::{Addr, Family, push_error, push_unknown, push_xor_addr};
 use credentials::{Key, push_integrity};
 use stun::registry::attribute::{LIFETIME, NONCE, REALM, XOR_MAPPED_ADDRESS, XOR_RELAYED_ADDRESS};
 use stun::registry::{Class, ErrorCode};
@@ -28,10 +28,16 @@ pub const REPLY_BYTES: usize = 1_500;
 pub enum Grant {
     /// The client's address, as the relay sees it.
     Mapped,
-    /// An allocation at a slot, for a lifetime in seconds.
-    Allocated { slot: usize, lifetime: u32 },
+    /// An allocation of a family at a slot, for a lifetime in seconds.
+    Allocated {
+        family: Family,
+        slot: usize,
+        lifetime: u32,
+    },
     /// A new lifetime of the allocation, in seconds; 0 where it was deleted.
-    Refreshed { lifetime: u32 },
+    Refreshed {
+        lifetime: u32,
+    },
     /// No attributes of its own: CreatePermission and ChannelBind.
     Done,
 }
@@ -51,14 +57,31 @@ pub(crate) struct Reply<'a> {
     pub(crate) key: Option<Key>,
 }
 
-/// Returns the relayed address of a slot.
-fn relayed_address(config: &Config, slot: usize) -> Addr
-    requires port { config.now.first_port + slot < 0x10000 }
-    ensures { result ≡ relayed_address config.now slot }
+/// Returns the relayed IPv6 address, zeros where there is none.
+fn ip6_of(ip6: Option<[u8; 16]>) -> [u8; 16]
+    ensures { result ≡ ip6_of ip6 }
 {
-    Addr::V4 {
-        ip: config.ip,
-        port: config.first_port + slot as u16,
+    match ip6 {
+        Some(ip) => ip,
+        None => [0; 16],
+    }
+}
+
+/// Returns the relayed address of a family at a slot.
+fn relayed_address(config: &Config, family: Family, slot: usize) -> Addr
+    requires port { config.now.first_port + slot < 0x10000 }
+    ensures { result ≡ relayed_address config.now family slot }
+{
+    let port = config.first_port + slot as u16;
+    match family {
+        Family::Ipv4 => Addr::V4 {
+            ip: config.ip,
+            port,
+        },
+        Family::Ipv6 => Addr::V6 {
+            ip: ip6_of(config.ip6),
+            port,
+        },
     }
 }
 
@@ -80,8 +103,13 @@ fn push_grant(builder: &mut Builder<'_>, config: &Config, client: &Addr, grant: 
 {
     match grant {
         Grant::Mapped => push_xor_addr(builder, XOR_MAPPED_ADDRESS, client),
-        Grant::Allocated { slot, lifetime } => {
-            push_xor_addr(builder, XOR_RELAYED_ADDRESS, &relayed_address(config, slot));
+        Grant::Allocated {
+            family,
+            slot,
+            lifetime,
+        } => {
+            let relayed = relayed_address(config, family, slot);
+            push_xor_addr(builder, XOR_RELAYED_ADDRESS, &relayed);
             push_lifetime(builder, lifetime);
             push_xor_addr(builder, XOR_MAPPED_ADDRESS, client);
         }

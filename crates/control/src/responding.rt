@@ -58,12 +58,13 @@ fn refused_credentials(error: AuthError) -> ErrorCode
 /// The error of the first test that fails.
 fn serve(
     tables: &mut Tables,
+    config: &Config,
     request: TurnRequest,
     user: usize,
     arrival: &Arrival<'_>,
 ) -> Result<Grant, ErrorCode>
     requires ipv4 { IsTrue (is_ipv4 arrival.now.client) }
-    ensures gives { Gives (decision_if_understood request arrival.now.client user arrival.now.message.now
+    ensures gives { Gives (decision_if_understood request config.now arrival.now.client user arrival.now.message.now
         (rows_at arrival.now.moment tables.old)) tables.old result tables.new }
     ensures inside { IfOk result (HasSlotBelow (length tables.old.slots)) }
     ensures moment { (tables.old.moment ≤ tables.new.moment)
@@ -73,7 +74,7 @@ fn serve(
     let (client, message, now) = (arrival.client, arrival.message, arrival.moment);
     check_understood(message)?;
     match request {
-        TurnRequest::Allocate => allocate(tables, client, user, message, now),
+        TurnRequest::Allocate => allocate(tables, config, client, user, message, now),
         TurnRequest::Refresh => refresh(tables, client, user, message, now),
         TurnRequest::CreatePermission => create_permission(tables, client, user, message, now),
         TurnRequest::ChannelBind => channel_bind(tables, client, user, message, now),
@@ -126,7 +127,7 @@ fn answer_user(
     match check_credentials(config, arrival.message) {
         Ok(authenticated) => {
             let user = authenticated.user;
-            let decision = serve(tables, request, user, arrival);
+            let decision = serve(tables, config, request, user, arrival);
             let key = Some(authenticated.key);
             write_reply(out, &Reply { key, ..unsigned }, decision)
         }

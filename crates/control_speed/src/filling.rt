@@ -4,7 +4,7 @@ ghost use Rattle.std.specs.Prelude.{IsTrue};
 ghost use Rattle.tables.specs.Addresses.{is_ipv4};
 
 use arrayvec::ArrayString;
-use attributes::Addr;
+use attributes::{Addr, Family};
 use control::Config;
 use credentials::User;
 use std::alloc::{AllocError, Global};
@@ -58,6 +58,7 @@ pub fn config(alloc: Global) -> Result<Config, AllocError> {
     let _ = nonce.try_push_str(NONCE);
     Ok(Config {
         ip: [203, 0, 113, 1],
+        ip6: None,
         first_port: 49152,
         slots: MAX_ALLOCATIONS,
         realm: String::from_str(alloc, REALM)?,
@@ -72,7 +73,7 @@ pub fn config(alloc: Global) -> Result<Config, AllocError> {
 /// Where a row is refused.
 pub fn fill(tables: &mut Tables) -> Result<(), Refused> {
     for last in 0..=u8::MAX {
-        let slot = tables.allocate(NOW, client(last), 0, TX, LIFETIME)?;
+        let slot = tables.allocate(NOW, client(last), 0, TX, Family::Ipv4, LIFETIME)?;
         for index in 0..MAX_CHANNELS {
             let number = FIRST_CHANNEL + index as u16;
             tables.bind(NOW, slot, number, peer(index as u8))?;

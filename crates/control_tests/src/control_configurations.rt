@@ -14,8 +14,11 @@ fn user(alloc: Global, name: &str, password: &str) -> Result<User, AllocError> {
     })
 }
 
-/// Returns the configuration of the tests: two slots from 203.0.113.1:49152 on, the realm `relay`, the nonce `n1`, and the
-/// users `user` with password `pass` and `other` with `word`.
+/// The relayed IPv6 address of the tests: 2001:db8:1:2:3:4:5:6.
+const IP6: [u8; 16] = [0x20, 0x01, 0x0d, 0xb8, 0, 1, 0, 2, 0, 3, 0, 4, 0, 5, 0, 6];
+
+/// Returns the configuration of the tests: two slots from 203.0.113.1:49152 on, no IPv6 address, the realm `relay`, the
+/// nonce `n1`, and the users `user` with password `pass` and `other` with `word`.
 pub fn config(rt: &impl Abort, alloc: Global) -> Result<Config, AllocError> {
     let mut users = Vec::new(alloc);
     users.push(user(alloc, "user", "pass")?)?;
@@ -24,6 +27,7 @@ pub fn config(rt: &impl Abort, alloc: Global) -> Result<Config, AllocError> {
     assert!(rt; nonce.try_push_str("n1").is_ok());
     Ok(Config {
         ip: [203, 0, 113, 1],
+        ip6: None,
         first_port: 49152,
         slots: 2,
         realm: String::from_str(alloc, "relay")?,
@@ -32,7 +36,14 @@ pub fn config(rt: &impl Abort, alloc: Global) -> Result<Config, AllocError> {
     })
 }
 
-/// Checks the limits of the port and of the slots.
+/// Returns that configuration with the relayed IPv6 address.
+pub fn dual_stack_config(rt: &impl Abort, alloc: Global) -> Result<Config, AllocError> {
+    let mut config = config(rt, alloc)?;
+    config.ip6 = Some(IP6);
+    Ok(config)
+}
+
+/// Checks the limits of the port and of the slots, and that an IPv6 address has none.
 fn check_numbers(rt: &impl Abort, alloc: Global) -> Result<(), Fail> {
     let mut config = config(rt, alloc)?;
     assert_eq!(rt; config.fault(), None);
@@ -49,6 +60,11 @@ fn check_numbers(rt: &impl Abort, alloc: Global) -> Result<(), Fail> {
     assert_eq!(rt; config.fault(), Some(Field::Slots));
     config.slots = 0;
     assert_eq!(rt; config.fault(), Some(Field::Slots));
+    config.slots = 1;
+    for ip6 in [[0; 16], IP6, [255; 16]] {
+        config.ip6 = Some(ip6);
+        assert_eq!(rt; config.fault(), None);
+    }
     Ok(())
 }
 
@@ -113,9 +129,10 @@ fn check_nonces(rt: &impl Abort, alloc: Global) -> Result<(), Fail> {
 
 /// Checks that a copy has the values of its source.
 fn check_copy(rt: &impl Abort, alloc: Global) -> Result<(), Fail> {
-    let config = config(rt, alloc)?;
+    let config = dual_stack_config(rt, alloc)?;
     let copy = config.clone()?;
     assert_eq!(rt; copy.ip, config.ip);
+    assert_eq!(rt; copy.ip6, Some(IP6));
     assert_eq!(rt; copy.first_port, config.first_port);
     assert_eq!(rt; copy.slots, config.slots);
     assert!(rt; copy.realm == config.realm);

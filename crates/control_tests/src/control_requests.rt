@@ -2,11 +2,12 @@
 
 mod bytes;
 mod errors;
+mod families;
 mod lists;
 mod order;
 
 use crate::control_configurations::config;
-use attributes::Addr;
+use attributes::{Addr, Family};
 use control::{Config, respond};
 use credentials::{Key, sign};
 use std::process::Abort;
@@ -55,8 +56,31 @@ const IPV6_PEER: Attribute<'static> = (
     ],
 );
 
+/// XOR-PEER-ADDRESS with another address of IPv6.
+const OTHER_IPV6_PEER: Attribute<'static> = (
+    XOR_PEER_ADDRESS,
+    &[
+        0x00, 0x02, 0x32, 0x9a, 0x01, 0x13, 0xa9, 0xfa, 0, 0, 0, 0, 0, 0, 0, 0, 0, 0, 0, 2,
+    ],
+);
+
+/// A malformed XOR-PEER-ADDRESS.
+const MALFORMED_PEER: Attribute<'static> = (XOR_PEER_ADDRESS, &[0; 9]);
+
+/// REQUESTED-ADDRESS-FAMILY with IPv4.
+const IPV4_FAMILY: Attribute<'static> = (REQUESTED_ADDRESS_FAMILY, &[1, 0, 0, 0]);
+
+/// REQUESTED-ADDRESS-FAMILY with IPv6.
+const IPV6_FAMILY: Attribute<'static> = (REQUESTED_ADDRESS_FAMILY, &[2, 0, 0, 0]);
+
+/// REQUESTED-ADDRESS-FAMILY with a number that no family has.
+const NO_FAMILY: Attribute<'static> = (REQUESTED_ADDRESS_FAMILY, &[3, 0, 0, 0]);
+
 /// CHANNEL-NUMBER with 0x4001.
 const CHANNEL: Attribute<'static> = (CHANNEL_NUMBER, &[0x40, 0x01, 0, 0]);
+
+/// CHANNEL-NUMBER with 0x4002.
+const OTHER_CHANNEL: Attribute<'static> = (CHANNEL_NUMBER, &[0x40, 0x02, 0, 0]);
 
 /// The attributes of a request's credentials, in their order. One that is `None` is missing.
 #[derive(Clone, Copy)]
@@ -101,9 +125,13 @@ struct Request<'a> {
     attributes: &'a [Attribute<'a>],
     /// Its credentials, which follow the attributes.
     credentials: Credentials<'a>,
-    /// The last bytes of addresses 192.0.2.x that follow the attributes, each as XOR-PEER-ADDRESS with the port 5000: from
-    /// the first on, up to the second.
+    /// The last bytes of addresses that follow the attributes, each as XOR-PEER-ADDRESS with the port 5000: from the
+    /// first on, up to the second.
     peers: (u8, u8),
+    /// The family of these addresses, which are 192.0.2.x or 2001:db8::x.
+    peers_family: Family,
+    /// The family of one more address, which follows these.
+    last_peer: Option<Family>,
 }
 
 /// A request of the user `user` and the first client at 1000, to vary.
@@ -115,6 +143,8 @@ const FIRST: Request<'static> = Request {
     attributes: &[UDP],
     credentials: USER,
     peers: (0, 0),
+    peers_family: Family::Ipv4,
+    last_peer: None,
 };
 
 /// What a reply says: its type, the code of an error or 0, and the seconds of LIFETIME or 0.
@@ -136,12 +166,32 @@ fn write(request: &Request<'_>, buffer: &mut [u8]) -> Result<usize, Fail> {
         builder.attr(*kind, value)?;
     }
     for last in request.peers.0..request.peers.1 {
-        // the last byte is xored with that of the cookie
-        let value = [0x00, 0x01, 0x32, 0x9a, 0xe1, 0x12, 0xa6, last ^ 0x42];
-        builder.attr(XOR_PEER_ADDRESS, &value)?;
+        write_peer(request.peers_family, last, request.tx, &mut builder)?;
+    }
+    if let Some(family) = request.last_peer {
+        write_peer(family, 255, request.tx, &mut builder)?;
     }
     write_credentials(&request.credentials, &mut builder)?;
     Ok(builder.finish())
+}
+
+/// Appends XOR-PEER-ADDRESS with 192.0.2.`last` or 2001:db8::`last`, and the port 5000. The transaction id has the byte `tx`
+/// alone.
+fn write_peer(family: Family, last: u8, tx: u8, builder: &mut Builder<'_>) -> Result<(), NoRoom> {
+    match family {
+        Family::Ipv4 => {
+            // the last byte is xored with that of the cookie
+            let value = [0x00, 0x01, 0x32, 0x9a, 0xe1, 0x12, 0xa6, last ^ 0x42];
+            builder.attr(XOR_PEER_ADDRESS, &value)
+        }
+        Family::Ipv6 => {
+            // the last twelve bytes are xored with the transaction id
+            let mut value = [tx; 20];
+            value[..8].copy_from_slice(&[0x00, 0x02, 0x32, 0x9a, 0x01, 0x13, 0xa9, 0xfa]);
+            value[19] = last ^ tx;
+            builder.attr(XOR_PEER_ADDRESS, &value)
+        }
+    }
 }
 
 /// Appends the attributes of credentials.
@@ -191,9 +241,9 @@ fn answer(
     request: &Request<'_>,
     out: &mut [u8; 1500],
 ) -> Result<usize, Fail> {
-    let mut buffer = [0; 1500];
+    let mut buffer = [0; 2000];
     let n = write(request, &mut buffer)?;
-    assert!(rt; n <= 1500);
+    assert!(rt; n <= 2000);
     let (bytes, _) = buffer.split_at(n);
     assert!(rt; config.fault().is_none());
     assert_eq!(rt; tables.slots(), config.slots);

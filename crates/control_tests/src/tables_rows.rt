@@ -1,10 +1,12 @@
 //! Rows that end by themselves: stories whose look-ups were worked out by hand.
 
-ghost use Rattle.std.specs.Prelude.{◌≡◌, IsTrue};
-ghost use Rattle.std.specs.List.{list_all};
+ghost use Rattle.std.specs.Prelude.{IsTrue};
 ghost use Rattle.tables.specs.Addresses.{is_ipv4};
 
-use attributes::Addr;
+mod families;
+
+use attributes::{Addr, Family};
+use families::address;
 use std::alloc::{AllocError, Global};
 use std::fmt::Debug;
 use std::process::Abort;
@@ -83,8 +85,8 @@ fn look_up(tables: &Tables, now: u64) -> Found {
 /// A change, or a look-up, with its result.
 #[derive(Clone, Copy)]
 enum Step<'a> {
-    /// The client, the user and the lifetime of an allocation.
-    Allocate(u64, Addr, usize, u32, Result<usize, Refused>),
+    /// The client, the user, the family and the lifetime of an allocation.
+    Allocate(u64, Addr, usize, Family, u32, Result<usize, Refused>),
     /// The slot and the lifetime of a refresh.
     Refresh(u64, usize, u32, Result<(), Refused>),
     /// The addresses that are permitted at slot 0.
@@ -93,10 +95,14 @@ enum Step<'a> {
     Bind(u64, u16, Addr, Result<(), Refused>),
     /// What is found.
     Find(u64, Found),
-    /// Whether 192.0.2.x has a permission.
-    IsPermitted(u64, u8, bool),
-    /// The permissions of slot 0: the last byte of each address, and its end.
-    Permissions(u64, &'a [(u8, u64)]),
+    /// The peer of a channel of slot 0.
+    PeerOf(u64, u16, Option<Addr>),
+    /// The channel of a peer at slot 0.
+    ChannelOf(u64, Addr, Option<u16>),
+    /// Whether an address has a permission at slot 0.
+    IsPermitted(u64, Addr, bool),
+    /// The permissions of slot 0: each address, and its end.
+    Permissions(u64, &'a [(Addr, u64)]),
     /// The channels of slot 0: each number with its peer and its end.
     Channels(u64, &'a [(u16, Addr, u64)]),
 }
@@ -128,13 +134,13 @@ fn check_permissions(
     tables: &Tables,
     index: usize,
     now: u64,
-    expected: &[(u8, u64)],
+    expected: &[(Addr, u64)],
 ) {
     let rows = tables.permissions(0, now);
     assert_eq!(rt; rows.len(), expected.len(), "step {index}");
-    for (row, (last, end)) in rows.iter().zip(expected) {
+    for (row, (address, end)) in rows.iter().zip(expected) {
         assert!(rt;
-            row.ip.ip() == peer(*last, 0).ip() && row.end == *end,
+            row.ip.ip() == address.ip() && row.end == *end,
             "step {index}"
         );
     }
@@ -163,35 +169,32 @@ fn check_channels(
     }
 }
 
-/// Returns whether all addresses are of IPv4.
-fn are_ipv4(ips: &[Addr]) -> bool
-    ensures { result ≡ list_all is_ipv4 ips.now }
-{
-    ips.iter().all(|ip| is_ipv4(ip))
-}
-
 fn check_step(rt: &impl Abort, tables: &mut Tables, index: usize, step: Step<'_>) {
     match step {
-        Step::Allocate(now, client, user, lifetime, result) => {
+        Step::Allocate(now, client, user, family, lifetime, result) => {
             assert!(rt; is_ipv4(&client));
-            let slot = tables.allocate(now, client, user, TX, lifetime);
+            let slot = tables.allocate(now, client, user, TX, family, lifetime);
             expect(rt, index, slot, result);
         }
         Step::Refresh(now, slot, lifetime, result) => {
             expect(rt, index, tables.refresh(now, slot, lifetime), result);
         }
         Step::Permit(now, ips, result) => {
-            assert!(rt; are_ipv4(ips));
             expect(rt, index, tables.permit(now, 0, ips), result);
         }
         Step::Bind(now, number, peer, result) => {
-            assert!(rt; (FIRST_CHANNEL..=LAST_CHANNEL).contains(&number) && is_ipv4(&peer));
+            assert!(rt; (FIRST_CHANNEL..=LAST_CHANNEL).contains(&number));
             expect(rt, index, tables.bind(now, 0, number, peer), result);
         }
         Step::Find(now, found) => expect(rt, index, look_up(tables, now), found),
-        Step::IsPermitted(now, last, result) => {
-            let found = permitted(tables, 0, peer(last, 0), now);
-            expect(rt, index, found, result);
+        Step::PeerOf(now, number, result) => {
+            expect(rt, index, peer_of(tables, 0, number, now), result);
+        }
+        Step::ChannelOf(now, peer, result) => {
+            expect(rt, index, channel_of(tables, 0, peer, now), result);
+        }
+        Step::IsPermitted(now, ip, result) => {
+            expect(rt, index, permitted(tables, 0, ip, now), result);
         }
         Step::Permissions(now, expected) => check_permissions(rt, tables, index, now, expected),
         Step::Channels(now, expected) => check_channels(rt, tables, index, now, expected),
@@ -222,12 +225,12 @@ fn an_allocation_ends_with_its_rows(rt: &impl Abort, alloc: Global) -> Result<()
     };
     let steps = [
         Step::Find(1000, NOTHING),
-        Step::Allocate(1000, CLIENT, 3, 600, Ok(0)),
+        Step::Allocate(1000, CLIENT, 3, Family::Ipv4, 600, Ok(0)),
         Step::Find(1000, allocated),
         Step::Bind(1000, NUMBER, PEER, Ok(())),
         // the permission ends at 1300, and both the channel and the allocation at 1600
         Step::Find(1299, bound),
-        Step::Permissions(1299, &[(7, 1300)]),
+        Step::Permissions(1299, &[(peer(7, 0), 1300)]),
         Step::Find(1300, lapsed),
         Step::Permissions(1300, &[]),
         Step::Find(1599, lapsed),
@@ -259,7 +262,7 @@ fn a_refreshed_allocation_keeps_its_rows(rt: &impl Abort, alloc: Global) -> Resu
         ..ended
     };
     let steps = [
-        Step::Allocate(1000, CLIENT, 0, 600, Ok(0)),
+        Step::Allocate(1000, CLIENT, 0, Family::Ipv4, 600, Ok(0)),
         Step::Bind(1000, NUMBER, PEER, Ok(())),
         Step::Refresh(1100, 0, 3600, Ok(())),
         Step::Find(1299, kept),
@@ -287,12 +290,12 @@ fn a_deleted_allocation_takes_its_rows_along(
         ..NOTHING
     };
     let steps = [
-        Step::Allocate(1000, CLIENT, 0, 600, Ok(0)),
+        Step::Allocate(1000, CLIENT, 0, Family::Ipv4, 600, Ok(0)),
         Step::Bind(1000, NUMBER, PEER, Ok(())),
         Step::Refresh(1000, 0, 0, Ok(())),
         Step::Find(1000, NOTHING),
         // the next one at the slot starts with none
-        Step::Allocate(1000, CLIENT, 1, 700, Ok(0)),
+        Step::Allocate(1000, CLIENT, 1, Family::Ipv4, 700, Ok(0)),
         Step::Find(1000, fresh),
     ];
     check_steps(rt, alloc, 1, &steps)
@@ -300,12 +303,19 @@ fn a_deleted_allocation_takes_its_rows_along(
 
 fn the_lowest_free_slot_is_taken(rt: &impl Abort, alloc: Global) -> Result<(), AllocError> {
     let steps = [
-        Step::Allocate(1000, OTHER_CLIENT, 0, 600, Ok(0)),
-        Step::Allocate(1000, CLIENT, 0, 700, Ok(1)),
+        Step::Allocate(1000, OTHER_CLIENT, 0, Family::Ipv4, 600, Ok(0)),
+        Step::Allocate(1000, CLIENT, 0, Family::Ipv4, 700, Ok(1)),
         // the client's allocation is refused before the slots are looked at
-        Step::Allocate(1000, CLIENT, 0, 700, Err(Refused::Mismatch)),
-        Step::Allocate(1599, THIRD_CLIENT, 0, 600, Err(Refused::Capacity)),
-        Step::Allocate(1600, THIRD_CLIENT, 0, 600, Ok(0)),
+        Step::Allocate(1000, CLIENT, 0, Family::Ipv4, 700, Err(Refused::Mismatch)),
+        Step::Allocate(
+            1599,
+            THIRD_CLIENT,
+            0,
+            Family::Ipv4,
+            600,
+            Err(Refused::Capacity),
+        ),
+        Step::Allocate(1600, THIRD_CLIENT, 0, Family::Ipv4, 600, Ok(0)),
         Step::Refresh(1600, 2, 600, Err(Refused::NoAllocation)),
     ];
     check_steps(rt, alloc, 2, &steps)
@@ -318,12 +328,12 @@ fn a_client_comes_back_at_another_slot(rt: &impl Abort, alloc: Global) -> Result
         ..NOTHING
     };
     let steps = [
-        Step::Allocate(1000, OTHER_CLIENT, 0, 600, Ok(0)),
-        Step::Allocate(1000, CLIENT, 1, 700, Ok(1)),
+        Step::Allocate(1000, OTHER_CLIENT, 0, Family::Ipv4, 600, Ok(0)),
+        Step::Allocate(1000, CLIENT, 1, Family::Ipv4, 700, Ok(1)),
         // both have ended by now, and slot 1 holds the client's old allocation
-        Step::Allocate(1700, CLIENT, 2, 600, Ok(0)),
+        Step::Allocate(1700, CLIENT, 2, Family::Ipv4, 600, Ok(0)),
         Step::Find(1700, back),
-        Step::Allocate(1700, THIRD_CLIENT, 3, 600, Ok(1)),
+        Step::Allocate(1700, THIRD_CLIENT, 3, Family::Ipv4, 600, Ok(1)),
         Step::Find(2299, back),
         Step::Refresh(2299, 1, 0, Ok(())),
         Step::Find(2299, back),
@@ -352,7 +362,7 @@ fn a_channel_and_a_peer_belong_together(rt: &impl Abort, alloc: Global) -> Resul
     };
     let steps = [
         Step::Bind(1000, NUMBER, PEER, Err(Refused::NoAllocation)),
-        Step::Allocate(1000, CLIENT, 0, 3600, Ok(0)),
+        Step::Allocate(1000, CLIENT, 0, Family::Ipv4, 3600, Ok(0)),
         Step::Bind(1000, NUMBER, PEER, Ok(())),
         Step::Bind(1599, NUMBER, peer(7, 5001), Err(Refused::Conflict)),
         Step::Bind(1599, NUMBER, peer(8, 5000), Err(Refused::Conflict)),
@@ -362,7 +372,7 @@ fn a_channel_and_a_peer_belong_together(rt: &impl Abort, alloc: Global) -> Resul
         Step::Find(1599, bound),
         Step::Bind(1600, NUMBER, peer(6, 5000), Ok(())),
         Step::Find(1600, moved),
-        Step::Permissions(1600, &[(6, 1900), (7, 1899)]),
+        Step::Permissions(1600, &[(peer(6, 0), 1900), (peer(7, 0), 1899)]),
         Step::Channels(
             1600,
             &[(NUMBER, peer(6, 5000), 2200), (0x4002, peer(7, 5001), 2199)],
@@ -401,10 +411,10 @@ fn only_distinct_addresses_that_count_fill_capacity(
     let (none, _) = addresses.split_at(0);
     let steps = [
         Step::Permit(1000, &addresses, Err(Refused::NoAllocation)),
-        Step::Allocate(1000, CLIENT, 0, 3600, Ok(0)),
+        Step::Allocate(1000, CLIENT, 0, Family::Ipv4, 3600, Ok(0)),
         // all or none
         Step::Permit(1000, &addresses, Err(Refused::Capacity)),
-        Step::IsPermitted(1000, 0, false),
+        Step::IsPermitted(1000, peer(0, 0), false),
         Step::Permit(1000, front, Ok(())),
         Step::Permit(1299, front, Ok(())),
         Step::Permit(1299, last, Err(Refused::Capacity)),
@@ -413,10 +423,10 @@ fn only_distinct_addresses_that_count_fill_capacity(
         Step::Permit(1299, &TWICE, Ok(())),
         Step::Permit(1299, none, Ok(())),
         // they end at 1599
-        Step::IsPermitted(1598, 63, true),
-        Step::IsPermitted(1599, 63, false),
+        Step::IsPermitted(1598, peer(63, 0), true),
+        Step::IsPermitted(1599, peer(63, 0), false),
         Step::Permit(1599, last, Ok(())),
-        Step::IsPermitted(1599, 64, true),
+        Step::IsPermitted(1599, peer(64, 0), true),
     ];
     check_steps(rt, alloc, 1, &steps)
 }
@@ -425,20 +435,20 @@ fn ended_permissions_make_room(rt: &impl Abort, alloc: Global) -> Result<(), All
     let addresses = addresses();
     let (front, last) = addresses.split_at(64);
     let steps = [
-        Step::Allocate(1000, CLIENT, 0, 3600, Ok(0)),
+        Step::Allocate(1000, CLIENT, 0, Family::Ipv4, 3600, Ok(0)),
         Step::Permit(1000, front, Ok(())),
         Step::Permit(1299, last, Err(Refused::Capacity)),
         Step::Permit(1300, last, Ok(())),
-        Step::Permissions(1300, &[(64, 1600)]),
+        Step::Permissions(1300, &[(peer(64, 0), 1600)]),
     ];
     check_steps(rt, alloc, 1, &steps)
 }
 
-/// Returns the last byte of each of the addresses 192.0.2.0 to 192.0.2.63, with an end.
-fn ending(end: u64) -> [(u8, u64); 64] {
-    let mut ends = [(0, end); 64];
+/// Returns the addresses 192.0.2.0 to 192.0.2.63, each with an end.
+fn ending(end: u64) -> [(Addr, u64); 64] {
+    let mut ends = [(peer(0, 0), end); 64];
     for i in 0..64 {
-        ends[i] = (i as u8, end);
+        ends[i] = (peer(i as u8, 0), end);
     }
     ends
 }
@@ -448,12 +458,12 @@ fn what_is_refused_later_is_there_before(rt: &impl Abort, alloc: Global) -> Resu
     let (front, _) = addresses.split_at(64);
     let all = ending(1300);
     let steps = [
-        Step::Allocate(1000, CLIENT, 0, 3600, Ok(0)),
+        Step::Allocate(1000, CLIENT, 0, Family::Ipv4, 3600, Ok(0)),
         Step::Permit(1000, front, Ok(())),
         // at 2000 all permissions have ended, and 65 are too many all the same
         Step::Permit(2000, &addresses, Err(Refused::Capacity)),
-        Step::IsPermitted(1200, 0, true),
-        Step::IsPermitted(1200, 63, true),
+        Step::IsPermitted(1200, peer(0, 0), true),
+        Step::IsPermitted(1200, peer(63, 0), true),
         Step::Permissions(1200, &all),
     ];
     check_steps(rt, alloc, 1, &steps)
@@ -469,7 +479,7 @@ fn a_moment_after_the_latest_counts_as_that(
         ..NOTHING
     };
     let steps = [
-        Step::Allocate(u64::MAX, CLIENT, 0, 600, Ok(0)),
+        Step::Allocate(u64::MAX, CLIENT, 0, Family::Ipv4, 600, Ok(0)),
         Step::Find(0, allocated),
         Step::Find(u64::MAX, allocated),
     ];
@@ -479,13 +489,18 @@ fn a_moment_after_the_latest_counts_as_that(
 /// Binds 64 channels, and one more.
 fn channels_fill_capacity(rt: &impl Abort, alloc: Global) -> Result<(), AllocError> {
     let mut tables = Tables::new(alloc, 1)?;
-    assert_eq!(rt; tables.allocate(1000, CLIENT, 0, TX, 3600), Ok(0));
+    assert_eq!(rt;
+        tables.allocate(1000, CLIENT, 0, TX, Family::Ipv4, 3600),
+        Ok(0)
+    );
     for i in 0..64 {
         let bound = tables.bind(1000, 0, 0x4000 + i, peer(7, 5000 + i));
         assert_eq!(rt; bound, Ok(()), "channel {i}");
     }
     let full = tables.bind(1000, 0, 0x4040, peer(7, 5064));
     assert_eq!(rt; full, Err(Refused::Capacity));
+    let wrong = tables.bind(1000, 0, 0x4040, address(Family::Ipv6, 7, 5064));
+    assert_eq!(rt; wrong, Err(Refused::Family));
     // one that is bound is renewed, and at 1600 the others have ended
     assert_eq!(rt; tables.bind(1100, 0, 0x4000, peer(7, 5000)), Ok(()));
     assert_eq!(rt; tables.channels(0, 1599).len(), 64);
@@ -499,14 +514,17 @@ fn slots_fill_capacity(rt: &impl Abort, alloc: Global) -> Result<(), AllocError>
     let mut tables = Tables::new(alloc, 256)?;
     assert_eq!(rt; tables.slots(), 256);
     for i in 0..256 {
-        let slot = tables.allocate(1000, peer(2, 4000 + i), 0, TX, 600);
+        let slot = tables.allocate(1000, peer(2, 4000 + i), 0, TX, Family::Ipv4, 600);
         assert_eq!(rt; slot, Ok(usize::from(i)), "client {i}");
     }
-    let full = tables.allocate(1000, peer(2, 4256), 0, TX, 600);
+    let full = tables.allocate(1000, peer(2, 4256), 0, TX, Family::Ipv4, 600);
     assert_eq!(rt; full, Err(Refused::Capacity));
     // the slot that is freed is taken
     assert_eq!(rt; tables.refresh(1000, 200, 0), Ok(()));
-    assert_eq!(rt; tables.allocate(1000, peer(2, 4256), 0, TX, 600), Ok(200));
+    assert_eq!(rt;
+        tables.allocate(1000, peer(2, 4256), 0, TX, Family::Ipv4, 600),
+        Ok(200)
+    );
     let last = allocation_at(&tables, 255, 1599);
     assert!(rt; last.is_some_and(|allocation| allocation.client == peer(2, 4255)));
     Ok(())
@@ -524,7 +542,8 @@ fn rows_end_as_the_stories_say(rt: HostRuntime) -> Result<(), AllocError> {
     only_distinct_addresses_that_count_fill_capacity(&rt, alloc)?;
     ended_permissions_make_room(&rt, alloc)?;
     what_is_refused_later_is_there_before(&rt, alloc)?;
-    a_moment_after_the_latest_counts_as_that(&rt, alloc)
+    a_moment_after_the_latest_counts_as_that(&rt, alloc)?;
+    families::check(&rt, alloc)
 }
 
 #[test]

@@ -2,7 +2,7 @@
 use Rattle.std.specs.Prelude.{◌≡◌, ℕ, ◌^◌, ◌<◌, ◌≤◌, true, List, [], ◌∷◌, ◌++◌, length, take, codes, decimal, Option, None, Some}
 use Rattle.std.specs.Io.KnownBytes.{Appends}
 use Rattle.hex.specs.Hex.{encode_lower, IsBytes}
-use Rattle.attributes.specs.Addresses.{IsIpv4Address}
+use Rattle.attributes.specs.Addresses.{IsAddress}
 use Rattle.attributes.specs.AddressTexts.{address_text}
 use Rattle.control.specs.Configs.{is_nonce}
 use Rattle.semantics.specs.declared.limits.TheConstants.{MAX_DATAGRAM}
@@ -38,10 +38,10 @@ abbrev pub line_of : Event → List ℕ
 line_of (Datagram given bytes) = side_text given.from ++ 0x20 ∷ datagram_text given bytes
 line_of (Nonce text) = codes "n" ++ 0x20 ∷ text
 
--- a source over IPv4, and a peer's at a slot that is there
+-- a source, and a peer's at a slot that is there
 abbrev pub IsSource : ℕ → Source → Type 0
-IsSource slots (Client client) = IsIpv4Address client
-IsSource slots (Peer slot peer) = (slot < slots) × IsIpv4Address peer
+IsSource slots (Client client) = IsAddress client
+IsSource slots (Peer slot peer) = (slot < slots) × IsAddress peer
 
 -- A datagram has a moment of 64 bits, a transaction id of 12 bytes and at most 65,507 bytes. A nonce has 1 to 64 bytes of
 -- 0x21 to 0x7E.

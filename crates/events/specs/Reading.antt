@@ -1,17 +1,17 @@
 -- Interface. The reader of a line, as functions on its bytes, which the code mirrors. Its laws say that it reads just the
 -- lines of events.
-use Rattle.std.specs.Prelude.{ℕ, ◌/◌, ◌^◌, ◌==◌, ◌&&◌, Bool, List, [], ◌∷◌, length, codes, decimal, bytes_eq, nat_lt, Option, None, Some, option_map, if◌then◌else◌}
+use Rattle.std.specs.Prelude.{ℕ, ◌/◌, ◌^◌, ◌==◌, ◌&&◌, Bool, false, List, [], ◌∷◌, length, codes, decimal, bytes_eq, nat_lt, Option, None, Some, option_map, if◌then◌else◌}
 use Rattle.std.specs.List.{list_any}
 use Rattle.std.specs.Result.{result_ok}
 use Rattle.std.specs.Str.Parse.{digits_value}
 use Rattle.hex.specs.Hex.{decode_sized}
 use Rattle.stun.specs.Ranges.{is_between}
 use Rattle.attributes.specs.declared.address.Addr.{Addr}
-use Rattle.attributes.specs.declared.address.Addr.TheVariants.{V4}
+use Rattle.attributes.specs.declared.address.Addr.TheVariants.{V4, V6}
 use Rattle.control.specs.Configs.{is_nonce}
 use Rattle.semantics.specs.declared.limits.TheConstants.{MAX_DATAGRAM}
 use Rattle.events.specs.Events.{Event, Datagram, Nonce}
-use Rattle.fallible.specs.Options.{◌>>=◌}
+use Rattle.fallible.specs.Options.{◌>>=◌, guard}
 use Rattle.events.specs.declared.meta.Source.{Source}
 use Rattle.events.specs.declared.meta.Source.TheVariants.{Client, Peer}
 
@@ -39,13 +39,6 @@ ipv4_in text = do
   fourth ← decimal_in 256 c.1
   Some (first ∷ second ∷ third ∷ fourth ∷ [])
 
-abbrev pub address_in_text : List ℕ → Option Addr
-address_in_text text = do
-  parts ← parts_around 0x3a text
-  ip ← ipv4_in parts.0
-  port ← decimal_in 0x10000 parts.1
-  Some (V4 ip port)
-
 -- whether a text has a letter in upper case
 abbrev pub has_upper : List ℕ → Bool
 has_upper text = list_any (is_between 0x41 0x5a) text
@@ -53,6 +46,29 @@ has_upper text = list_any (is_between 0x41 0x5a) text
 -- n bytes, as digits in lower case
 abbrev pub digits_in : ℕ → List ℕ → Option (List ℕ)
 digits_in n text = if has_upper text then None else result_ok (decode_sized text n)
+
+-- an opening bracket is first
+abbrev pub is_bracketed : List ℕ → Bool
+is_bracketed [] = false
+is_bracketed (b ∷ bytes) = b == 0x5b
+
+-- an IPv6 address, 32 digits in brackets
+abbrev pub ipv6_in : List ℕ → Option (List ℕ)
+ipv6_in text = do
+  opened ← parts_around 0x5b text
+  closed ← parts_around 0x5d opened.1
+  _ ← guard (bytes_eq opened.0 [] && bytes_eq closed.1 [])
+  digits_in 16 closed.0
+
+-- the address that has a port
+abbrev pub host_in : List ℕ → ℕ → Option Addr
+host_in text port = if is_bracketed text then option_map (λ ip. V6 ip port) (ipv6_in text) else option_map (λ ip. V4 ip port) (ipv4_in text)
+
+abbrev pub address_in_text : List ℕ → Option Addr
+address_in_text text = do
+  parts ← parts_around 0x3a text
+  port ← decimal_in 0x10000 parts.1
+  host_in parts.0 port
 
 -- the bytes of a datagram
 abbrev pub content_in : List ℕ → Option (List ℕ)

@@ -1,9 +1,10 @@
 -- Interface. Laws of the reader: it reads an event from the event's line, and what it reads has that line.
-use Rattle.std.specs.Prelude.{◌≡◌, ◌≢◌, ℕ, zero, suc, ◌+◌, ◌-◌, ◌*◌, ◌/◌, ◌%◌, ◌^◌, ◌<◌, ◌≤◌, ◌⊎◌, ◌==◌, ◌&&◌, ◌||◌, Bool, true, false, not, List, [], ◌∷◌, ◌++◌, length, slice_index, codes, decimal, bytes_eq, nat_le, nat_lt, Option, None, Some, option_map, Result, Ok, Err, refl, if◌then◌else◌}
+use Rattle.std.specs.Prelude.{◌≡◌, ◌≢◌, ℕ, zero, suc, ◌+◌, ◌-◌, ◌*◌, ◌/◌, ◌%◌, ◌^◌, ◌<◌, ◌≤◌, ◌⊎◌, ◌==◌, ◌&&◌, ◌||◌, Bool, true, false, not, List, [], ◌∷◌, ◌++◌, length, slice_index, codes, decimal, flat_map, bytes_eq, nat_le, nat_lt, Option, None, Some, option_map, Result, Ok, Err, refl, if◌then◌else◌}
 use Rattle.std.specs.Result.{result_ok, result_unwrap_or}
 use Rattle.std.specs.Str.Parse.{digits_value}
 use Rattle.std.proofs.Common.{sym, ap, subst, ◌∙◌, inl, inr, arith, append_assoc, eqb-true, eq-eqb}
-use Rattle.std.proofs.lemmas.Bool.{cases_Bool, cond-true, cond-false, and_parts, and_from, lt-ltb, ltb-true, le-leb, leb-true, both_ways}
+use Rattle.std.specs.Fmt.{digit_glyph}
+use Rattle.std.proofs.lemmas.Bool.{cases_Bool, cases_lt, cond-true, cond-false, and_parts, and_from, lt-ltb, ltb-true, le-leb, leb-true, both_ways}
 use Rattle.std.proofs.lemmas.Fmt.{decimal_is_IsNumeral, decimal_by_steps}
 use Rattle.std.proofs.lemmas.Option.{same_Some, none-some}
 use Rattle.std.proofs.lemmas.Slice.Eq.{bytes_eq-Decides}
@@ -12,8 +13,8 @@ use Rattle.hex.specs.Hex.{IsBytes, encode_lower, encode_with, lower_digits, deco
 use Rattle.hex.specs.Hex as hex
 use Rattle.hex.specs.declared.error.FromHexError.{FromHexError}
 use Rattle.hex.proofs.HexLemmas.{length-encode_with, decode_of-encode_lower, decode_sized-twice, decode_sized-ok, decode_of-ok, decode_of-even, IsDigits-lower_digits}
-use Rattle.attributes.specs.Addresses.{HasWidth, IsIpv4Address}
-use Rattle.attributes.specs.AddressTexts.{dotted_decimal, address_text}
+use Rattle.attributes.specs.Addresses.{HasWidth, IsAddress}
+use Rattle.attributes.specs.AddressTexts.{dotted_decimal, hex_digits, address_text}
 use Rattle.attributes.specs.declared.address.Addr.{Addr}
 use Rattle.attributes.specs.declared.address.Addr.TheVariants.{V4, V6}
 use Rattle.control.specs.Configs.{is_nonce}
@@ -23,8 +24,8 @@ use Rattle.events.specs.Lines.{bytes_text, side_text, source_text, datagram_text
 use Rattle.events.specs.declared.meta.Meta.{Meta}
 use Rattle.events.specs.declared.meta.Source.{Source}
 use Rattle.events.specs.declared.meta.Source.TheVariants.{Client, Peer}
-use Rattle.fallible.specs.Options.{◌>>=◌}
-use Rattle.events.specs.Reading.{parts_around, decimal_in, has_upper, digits_in, ipv4_in, address_in_text, content_in, client_in_text, peer_in, datagram_in_text, nonce_in, event_in}
+use Rattle.fallible.specs.Options.{◌>>=◌, guard}
+use Rattle.events.specs.Reading.{parts_around, decimal_in, has_upper, digits_in, ipv4_in, is_bracketed, ipv6_in, host_in, address_in_text, content_in, client_in_text, peer_in, datagram_in_text, nonce_in, event_in}
 
 -- ---- texts without a separator
 
@@ -122,21 +123,21 @@ decimal_in-is limit text n e = of (cases_Bool (nat_lt v limit && bytes_eq (decim
 
 -- ---- digits of bytes
 
-lower_free : is_free 0x20 lower_digits ≡ true
-lower_free = refl
-
 at_free : (s : ℕ) (text : List ℕ) (d : ℕ) → 0 < s → is_free s text ≡ true → slice_index text d ≢ s
 at_free s [] d some free e = absurd (omega (arith, e))
 at_free s (b ∷ text) zero some free e = both_ways (b == s) (not_false (b == s) (and_parts (not (b == s)) (is_free s text) free).0) (eq-eqb b s e)
 at_free s (b ∷ text) (suc d) some free e = at_free s text d some (and_parts (not (b == s)) (is_free s text) free).1 e
 
-pub encoded-free : (bytes : List ℕ) → is_free 0x20 (encode_lower bytes) ≡ true
+encoded-free_of : (s : ℕ) (bytes : List ℕ) → 0 < s → is_free s lower_digits ≡ true → is_free s (encode_lower bytes) ≡ true
 unfolding encode_with
-encoded-free [] = refl
-encoded-free (b ∷ bytes) =
-    let high = not_true (slice_index lower_digits (b / 16) == 0x20) (differs (slice_index lower_digits (b / 16)) 0x20 (at_free 0x20 lower_digits (b / 16) (omega arith) lower_free)) in
-    let low = not_true (slice_index lower_digits (b % 16) == 0x20) (differs (slice_index lower_digits (b % 16)) 0x20 (at_free 0x20 lower_digits (b % 16) (omega arith) lower_free)) in
-    and_from (not (slice_index lower_digits (b / 16) == 0x20)) _ high (and_from (not (slice_index lower_digits (b % 16) == 0x20)) _ low (encoded-free bytes))
+encoded-free_of s [] some lower = refl
+encoded-free_of s (b ∷ bytes) some lower =
+    let high = not_true (slice_index lower_digits (b / 16) == s) (differs (slice_index lower_digits (b / 16)) s (at_free s lower_digits (b / 16) some lower)) in
+    let low = not_true (slice_index lower_digits (b % 16) == s) (differs (slice_index lower_digits (b % 16)) s (at_free s lower_digits (b % 16) some lower)) in
+    and_from (not (slice_index lower_digits (b / 16) == s)) _ high (and_from (not (slice_index lower_digits (b % 16) == s)) _ low (encoded-free_of s bytes some lower))
+
+pub encoded-free : (bytes : List ℕ) → is_free 0x20 (encode_lower bytes) ≡ true
+encoded-free bytes = encoded-free_of 0x20 bytes (omega arith) refl
 
 -- no digit is in upper case
 abbrev is_upper : ℕ → Bool
@@ -343,9 +344,99 @@ dotted_free s a b c d outside a_small b_small c_small d_small =
     (is_free-append s (decimal b) _ (free b b_small) (and_from (not (0x2e == s)) _ point
     (is_free-append s (decimal c) _ (free c c_small) (and_from (not (0x2e == s)) _ point (free d d_small))))))
 
+-- ---- addresses of IPv6
+
+abbrev same_glyphs : ℕ → Bool
+same_glyphs zero = true
+same_glyphs (suc n) = (digit_glyph false n == slice_index lower_digits n) && same_glyphs n
+
+glyph_at : (n k : ℕ) → same_glyphs n ≡ true → k < n → digit_glyph false k ≡ slice_index lower_digits k
+glyph_at zero k h lt = absurd (omega arith)
+glyph_at (suc n) k h lt =
+    let parts = and_parts (digit_glyph false n == slice_index lower_digits n) (same_glyphs n) h in
+    elim (cases_lt k n) [
+      | inl below ↦ glyph_at n k parts.1 below
+      | inr top ↦
+          let e : k ≡ n = omega arith in
+          subst (λ (j : ℕ). digit_glyph false j ≡ slice_index lower_digits j) (sym e) (eqb-true (digit_glyph false n) (slice_index lower_digits n) parts.0)
+    ]
+
+glyph_is : (d : ℕ) → d < 16 → digit_glyph false d ≡ slice_index lower_digits d
+glyph_is d lt = glyph_at 16 d refl lt
+
+-- the digits that an address displays are those that are read
+digits_are : (ip : List ℕ) → IsBytes ip → flat_map hex_digits ip ≡ encode_lower ip
+unfolding encode_with
+digits_are [] fit = refl
+digits_are (b ∷ ip) fit =
+    let small : b < 256 = fit 0 in
+    λ i. glyph_is (b / 16) (omega (arith, small)) i ∷ glyph_is (b % 16) (omega arith) i ∷ digits_are ip (λ k. fit (suc k)) i
+
+abbrev bracketed : List ℕ → List ℕ
+bracketed ip = 0x5b ∷ (encode_lower ip ++ 0x5d ∷ [])
+
+bracketed-text : (ip : List ℕ) (port : ℕ) → IsBytes ip → address_text (V6 ip port) ≡ bracketed ip ++ 0x3a ∷ decimal port
+bracketed-text ip port fit =
+    let digits : List ℕ = encode_lower ip in
+    (λ i. ((codes "[" ++ digits_are ip fit i) ++ codes "]:") ++ decimal port)
+    ∙ ap (λ (l : List ℕ). 0x5b ∷ l) (append_assoc digits (0x5d ∷ 0x3a ∷ []) (decimal port) ∙ sym (append_assoc digits (0x5d ∷ []) (0x3a ∷ decimal port)))
+
+bracketed-free : (s : ℕ) (ip : List ℕ) → 0 < s → is_free s lower_digits ≡ true → is_free s (codes "[]") ≡ true → is_free s (bracketed ip) ≡ true
+bracketed-free s ip some lower brackets =
+    let parts = and_parts (not (0x5b == s)) (is_free s (0x5d ∷ [])) brackets in
+    and_from (not (0x5b == s)) (is_free s (encode_lower ip ++ 0x5d ∷ [])) parts.0 (is_free-append s (encode_lower ip) (0x5d ∷ []) (encoded-free_of s ip some lower) parts.1)
+
+ipv6_in-text : (ip : List ℕ) → length ip ≡ 16 → IsBytes ip → ipv6_in (bracketed ip) ≡ Some ip
+ipv6_in-text ip long fit =
+    rw (
+      split_at-free 0x5d (encode_lower ip) [] (encoded-free_of 0x5d ip (omega arith) refl),
+      digits_in-encoded 16 ip long fit,
+    ) refl
+
+guarded : {A : Type 0} (b : Bool) (x : Option A) (v : A) → (guard b >>= λ _. x) ≡ Some v → (b ≡ true) × (x ≡ Some v)
+guarded true x v e = (refl, e)
+guarded false x v e = absurd (none-some v e)
+
+ipv6_in-is : (text ip : List ℕ) → ipv6_in text ≡ Some ip → (length ip ≡ 16) × IsBytes ip × (text ≡ bracketed ip)
+ipv6_in-is text ip e =
+    let opened = then_some (parts_around 0x5b text) _ ip e in
+    let closed = then_some (parts_around 0x5d opened.0.1) _ ip opened.2 in
+    let rest = guarded (bytes_eq opened.0.0 [] && bytes_eq closed.0.1 []) (digits_in 16 closed.0.0) ip closed.2 in
+    let empty = and_parts (bytes_eq opened.0.0 []) (bytes_eq closed.0.1 []) rest.0 in
+    let before : opened.0.0 ≡ [] = (bytes_eq-Decides opened.0.0 []).0 empty.0 in
+    let after : closed.0.1 ≡ [] = (bytes_eq-Decides closed.0.1 []).0 empty.1 in
+    let digits = digits_in-is 16 closed.0.0 ip rest.1 in (
+      digits.0,
+      digits.1,
+      split_at-joins 0x5b text opened.0 opened.1
+          ∙ (λ i. before i ++ 0x5b ∷ split_at-joins 0x5d opened.0.1 closed.0 closed.1 i)
+          ∙ (λ i. 0x5b ∷ (digits.2 i ++ 0x5d ∷ after i)),
+    )
+
+free_of_bracket : (text : List ℕ) → is_free 0x5b text ≡ true → is_bracketed text ≡ false
+free_of_bracket [] free = refl
+free_of_bracket (b ∷ text) free = not_false (b == 0x5b) (and_parts (not (b == 0x5b)) (is_free 0x5b text) free).0
+
+mapped_from : {A B : Type 0} (f : A → B) (o : Option A) (v : B) → option_map f o ≡ Some v → (x : A) × (o ≡ Some x) × (f x ≡ v)
+mapped_from f None v e = absurd (none-some v e)
+mapped_from f (Some x) v e = (x, refl, same_Some (f x) v e)
+
+-- ---- addresses
+
 -- an address is read from its text, which has no blank
-pub address_in-text : (address : Addr) → IsIpv4Address address → (address_in_text (address_text address) ≡ Some address) × (is_free 0x20 (address_text address) ≡ true)
-address_in-text (V6 ip port) is = absurd is
+pub address_in-text : (address : Addr) → IsAddress address → (address_in_text (address_text address) ≡ Some address) × (is_free 0x20 (address_text address) ≡ true)
+address_in-text (V6 ip port) is =
+    let host = bracketed ip in
+    let text : address_text (V6 ip port) ≡ host ++ 0x3a ∷ decimal port = bracketed-text ip port is.bytes in
+    let small : port < 2 ^ 64 = omega (arith, is.small) in
+    let parsed : address_in_text (host ++ 0x3a ∷ decimal port) ≡ Some (V6 ip port) =
+    rw (
+      split_at-free 0x3a host (decimal port) (bracketed-free 0x3a ip (omega arith) refl refl),
+      decimal_in-decimal 0x10000 port is.small small,
+    ) (ap (option_map (λ ip. V6 ip port)) (ipv6_in-text ip is.long is.bytes)) in
+    let free : is_free 0x20 (host ++ 0x3a ∷ decimal port) ≡ true =
+    is_free-append 0x20 host (0x3a ∷ decimal port) (bracketed-free 0x20 ip (omega arith) refl refl) (decimal-free 0x20 port (inl (omega arith)) small) in
+    (ap address_in_text text ∙ parsed, ap (is_free 0x20) text ∙ free)
 address_in-text (V4 [] port) is = absurd (omega (arith, is.long))
 address_in-text (V4 (a ∷ []) port) is = absurd (omega (arith, is.long))
 address_in-text (V4 (a ∷ b ∷ []) port) is = absurd (omega (arith, is.long))
@@ -362,27 +453,39 @@ address_in-text (V4 (a ∷ b ∷ c ∷ d ∷ []) port) is =
     let parsed : address_in_text (host ++ 0x3a ∷ decimal port) ≡ Some (V4 (a ∷ b ∷ c ∷ d ∷ []) port) =
     rw (
       split_at-free 0x3a host (decimal port) (dotted_free 0x3a a b c d (inr (omega arith)) a_small b_small c_small d_small),
-      ipv4_in-four a b c d a_small b_small c_small d_small,
       decimal_in-decimal 0x10000 port is.small small,
+      free_of_bracket host (dotted_free 0x5b a b c d (inr (omega arith)) a_small b_small c_small d_small),
+      ipv4_in-four a b c d a_small b_small c_small d_small,
     ) refl in
     let free : is_free 0x20 (host ++ 0x3a ∷ decimal port) ≡ true =
     is_free-append 0x20 host (0x3a ∷ decimal port) (dotted_free 0x20 a b c d (inl (omega arith)) a_small b_small c_small d_small) (decimal-free 0x20 port (inl (omega arith)) small) in
     (ap address_in_text text ∙ parsed, ap (is_free 0x20) text ∙ free)
 
-pub address_in-is : (text : List ℕ) (address : Addr) → address_in_text text ≡ Some address → IsIpv4Address address × (text ≡ address_text address)
+host_in-is : (text : List ℕ) (port : ℕ) (address : Addr) → port < 0x10000 → host_in text port ≡ Some address → IsAddress address × (text ++ 0x3a ∷ decimal port ≡ address_text address)
+host_in-is text port address small e = elim (cases_Bool (is_bracketed text)) [
+  | inl t ↦
+      let six = mapped_from (λ ip. V6 ip port) (ipv6_in text) address (sym (cond-true (is_bracketed text) (option_map (λ ip. V6 ip port) (ipv6_in text)) (option_map (λ ip. V4 ip port) (ipv4_in text)) t) ∙ e) in
+      let read = ipv6_in-is text six.0 six.1 in
+      let is : IsAddress (V6 six.0 port) = record { long = read.0; bytes = read.1; small = small } in
+      (subst IsAddress six.2 is, (λ i. read.2 i ++ 0x3a ∷ decimal port) ∙ sym (bracketed-text six.0 port read.1) ∙ ap address_text six.2)
+  | inr f ↦
+      let ip = mapped_from (λ ip. V4 ip port) (ipv4_in text) address (sym (cond-false (is_bracketed text) (option_map (λ ip. V6 ip port) (ipv6_in text)) (option_map (λ ip. V4 ip port) (ipv4_in text)) f) ∙ e) in
+      let four = ipv4_in-is text ip.0 ip.1 in
+      let of_four : V4 (four.first ∷ four.second ∷ four.third ∷ four.fourth ∷ []) port ≡ address = ap (λ (l : List ℕ). V4 l port) four.ip_is ∙ ip.2 in (
+        subst IsAddress of_four (four_bytes four.first four.second four.third four.fourth port four.first_small four.second_small four.third_small four.fourth_small small),
+        (λ i. four.text_is i ++ 0x3a ∷ decimal port)
+            ∙ sym ((λ i. (dotted-four four.first four.second four.third four.fourth i ++ codes ":") ++ decimal port) ∙ joined (dotted_four four.first four.second four.third four.fourth) (decimal port) 0x3a)
+            ∙ ap address_text of_four,
+      )
+]
+
+pub address_in-is : (text : List ℕ) (address : Addr) → address_in_text text ≡ Some address → IsAddress address × (text ≡ address_text address)
 address_in-is text address e =
     let parts = then_some (parts_around 0x3a text) _ address e in
-    let ip = then_some (ipv4_in parts.0.0) _ address parts.2 in
-    let port = then_some (decimal_in 0x10000 parts.0.1) _ address ip.2 in
+    let port = then_some (decimal_in 0x10000 parts.0.1) _ address parts.2 in
     let port_is = decimal_in-is 0x10000 parts.0.1 port.0 port.1 in
-    let four = ipv4_in-is parts.0.0 ip.0 ip.1 in
-    let is : V4 ip.0 port.0 ≡ address = same_Some (V4 ip.0 port.0) address port.2 in
-    let of_four : V4 (four.first ∷ four.second ∷ four.third ∷ four.fourth ∷ []) port.0 ≡ address = ap (λ (l : List ℕ). V4 l port.0) four.ip_is ∙ is in
-    let whole : text ≡ address_text (V4 (four.first ∷ four.second ∷ four.third ∷ four.fourth ∷ []) port.0) =
-    split_at-joins 0x3a text parts.0 parts.1
-    ∙ (λ i. four.text_is i ++ 0x3a ∷ port_is.1 i)
-    ∙ sym ((λ i. (dotted-four four.first four.second four.third four.fourth i ++ codes ":") ++ decimal port.0) ∙ joined (dotted_four four.first four.second four.third four.fourth) (decimal port.0) 0x3a) in
-    (subst IsIpv4Address of_four (four_bytes four.first four.second four.third four.fourth port.0 four.first_small four.second_small four.third_small four.fourth_small port_is.0), whole ∙ ap address_text of_four)
+    let host = host_in-is parts.0.0 port.0 address port_is.0 port.2 in
+    (host.0, split_at-joins 0x3a text parts.0 parts.1 ∙ (λ i. parts.0.0 ++ 0x3a ∷ port_is.1 i) ∙ host.1)
 
 -- ---- the bytes of a datagram
 

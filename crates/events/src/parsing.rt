@@ -5,7 +5,7 @@ ghost use Rattle.semantics.specs.declared.limits.TheConstants.{MAX_DATAGRAM};
 ghost use Rattle.events.specs.Events.{Event};
 ghost use Rattle.events.specs.Lines.{line_of, IsEvent};
 ghost use Rattle.events.specs.Parsing.{event_of, FitsRoom, pair_of, source_and_rest, source_of_side};
-ghost use Rattle.events.specs.Reading.{parts_around, decimal_in, ipv4_in, address_in_text, has_upper, digits_in, content_in, client_in_text, peer_in, datagram_in_text, nonce_in, event_in};
+ghost use Rattle.events.specs.Reading.{parts_around, decimal_in, ipv4_in, is_bracketed, ipv6_in, host_in, address_in_text, has_upper, digits_in, content_in, client_in_text, peer_in, datagram_in_text, nonce_in, event_in};
 
 use crate::meta::{Meta, Source};
 use attributes::Addr;
@@ -82,16 +82,6 @@ fn ipv4(text: &[u8]) -> Option<[u8; 4]>
     Some([byte(first)?, byte(second)?, byte(third)?, byte(fourth)?])
 }
 
-/// Returns the address of a text `a.b.c.d:port`.
-fn address(text: &[u8]) -> Option<Addr>
-    ensures { result ≡ address_in_text text.now }
-{
-    let (ip, port) = split_at(text, b':')?;
-    let ip = ipv4(ip)?;
-    let port = number_below(port, 0x10000)? as u16;
-    Some(Addr::V4 { ip, port })
-}
-
 /// Returns whether a text has a letter in upper case.
 fn has_upper(text: &[u8]) -> bool
     ensures { result ≡ has_upper text.now }
@@ -105,6 +95,55 @@ fn read_digits(text: &[u8], out: &mut [u8]) -> bool
     ensures { (if result then Some out.new else None) ≡ digits_in (length out.old) text.now }
 {
     !has_upper(text) && hex::decode_to_slice(text, out).is_ok()
+}
+
+/// Returns whether an opening bracket is first.
+fn is_bracketed(text: &[u8]) -> bool
+    ensures { result ≡ is_bracketed text.now }
+{
+    match text {
+        [] => false,
+        [first, ..] => *first == b'[',
+    }
+}
+
+/// Returns the IPv6 address of 32 digits in brackets.
+fn ipv6(text: &[u8]) -> Option<[u8; 16]>
+    ensures { result ≡ ipv6_in text.now }
+{
+    let (before, rest) = split_at(text, b'[')?;
+    let (digits, after) = split_at(rest, b']')?;
+    if before != b"".as_slice() || after != b"".as_slice() {
+        return None;
+    }
+    let mut ip = [0; 16];
+    if read_digits(digits, &mut ip) {
+        Some(ip)
+    } else {
+        None
+    }
+}
+
+/// Returns the address of a host that has a port.
+fn host(text: &[u8], port: u16) -> Option<Addr>
+    ensures { result ≡ host_in text.now port }
+{
+    if is_bracketed(text) {
+        let ip = ipv6(text)?;
+        Some(Addr::V6 { ip, port })
+    } else {
+        let ip = ipv4(text)?;
+        Some(Addr::V4 { ip, port })
+    }
+}
+
+/// Returns the address of a text `a.b.c.d:port`, or `[` 32 digits `]:port`.
+fn address(text: &[u8]) -> Option<Addr>
+    ensures { result ≡ address_in_text text.now }
+{
+    let (text, port) = split_at(text, b':')?;
+    let port = number_below(port, 0x10000)? as u16;
+    host(text, port)
 }
 
 /// Reads the bytes of a datagram over the first bytes of a room, and returns their number.

@@ -5,13 +5,18 @@ use Rattle.semantics.specs.Machine.{AddressRecord}
 use Rattle.attributes.specs.declared.address.Addr.{Addr}
 use Rattle.tables.specs.Rows.{Rows}
 use Rattle.tables.specs.LookUps.{peer_of, channel_of, has_permission}
-use Rattle.helpers.specs.Records.{address_of, address_record}
+use Rattle.attributes.specs.declared.address.Addr.TheVariants.{V4, V6}
+use Rattle.semantics.specs.declared.helper.RecordForm.{RecordForm}
+use Rattle.semantics.specs.declared.helper.RecordForm.TheVariants.{Narrow, Wide}
+use Rattle.helpers.specs.Records.{address_of, wide_record}
 use Rattle.helpers.specs.Nothing.{empty_answer}
 
--- 1 and the record of a peer, or 0 and eight zeros
-abbrev pub peer_answer : Option Addr → ℕ × AddressRecord
-peer_answer None = (0, no_address)
-peer_answer (Some peer) = (1, address_record peer)
+-- 1 and the record of a peer, or 0 and zeros; a record of IPv4 has no IPv6 peer
+abbrev pub peer_answer : RecordForm → Option Addr → ℕ × AddressRecord
+peer_answer form None = (0, no_address)
+peer_answer Narrow (Some (V4 ip port)) = (1, wide_record (V4 ip port))
+peer_answer Narrow (Some (V6 ip port)) = (0, no_address)
+peer_answer Wide (Some peer) = (1, wide_record peer)
 
 -- the number of a channel, or 0
 abbrev pub number_answer : Option ℕ → ℕ × AddressRecord
@@ -22,13 +27,23 @@ number_answer (Some number) = (number, no_address)
 abbrev pub test_answer : Bool → ℕ × AddressRecord
 test_answer holds = ((if holds then 1 else 0), no_address)
 
--- in a slot of the rows; of a record that isn't valid nothing is found
+-- of a record that isn't valid nothing is found
+abbrev pub channel_answer : RecordForm → ℕ → Rows → AddressRecord → ℕ × AddressRecord
+channel_answer form slot rows address = number_answer (if is_valid form address then channel_of slot (address_of address) rows else None)
+
+abbrev pub permission_answer : RecordForm → ℕ → Rows → AddressRecord → ℕ × AddressRecord
+permission_answer form slot rows address = test_answer (is_valid form address && has_permission slot (address_of address) rows)
+
+-- in a slot of the rows
 abbrev pub slot_answer : ℕ → Rows → ℕ → ℕ → AddressRecord → ℕ × AddressRecord
 slot_answer slot rows id number address =
-    if id == 1 then peer_answer (peer_of slot number rows)
-    else (if id == 2 then number_answer (if is_valid address then channel_of slot (address_of address) rows else None)
-    else (if id == 3 then test_answer (is_valid address && has_permission slot (address_of address) rows)
-    else empty_answer id number address))
+    if id == 1 then peer_answer Narrow (peer_of slot number rows)
+    else (if id == 2 then channel_answer Narrow slot rows address
+    else (if id == 3 then permission_answer Narrow slot rows address
+    else (if id == 6 then peer_answer Wide (peer_of slot number rows)
+    else (if id == 7 then channel_answer Wide slot rows address
+    else (if id == 8 then permission_answer Wide slot rows address
+    else empty_answer id number address)))))
 
 -- in a slot, if there is one
 abbrev pub look_up_answer : Option ℕ → Rows → ℕ → ℕ → AddressRecord → ℕ × AddressRecord

@@ -6,12 +6,12 @@ use Rattle.semantics.specs.Machine.{AreBytes}
 use Rattle.semantics.specs.Runs.{IsLawful}
 use Rattle.helpers.specs.Nothing.{empty_answer}
 
-zeros : AreBytes 8 (replicate 8 0)
-zeros = record { count = refl; fit = All-replicate (λ (b : ℕ). b < 256) 8 0 (omega arith) }
+zeros : AreBytes 20 (replicate 20 0)
+zeros = record { count = refl; fit = All-replicate (λ (b : ℕ). b < 256) 20 0 (omega arith) }
 
 pub nothing_is_lawful : IsLawful empty_answer
 nothing_is_lawful = record {
-  channel_peer = λ n address word bytes. (omega arith, zeros);
-  channel_to = λ n address word bytes. omega arith;
-  permitted = λ n address word bytes. omega arith;
+  channel_peer = λ form n address word bytes. (omega arith, zeros);
+  channel_to = λ form n address word bytes. omega arith;
+  permitted = λ form n address word bytes. omega arith;
 }

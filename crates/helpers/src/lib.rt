@@ -7,4 +7,4 @@ mod record;
 
 pub use lookup::Lookup;
 pub use lookups::{Helpers, NoAllocation};
-pub use record::{address_of, address_record};
+pub use record::{address_of, address_record, wide_record};

@@ -1,16 +1,15 @@
 //! The look-ups of a relay's tables.
 
 ghost use Rattle.std.specs.Prelude.{◌≡◌};
-ghost use Rattle.semantics.specs.Calls.{is_valid};
 ghost use Rattle.semantics.specs.Runs.{IsLawful};
 ghost use Rattle.tables.specs.Rows.{rows_at};
 ghost use Rattle.helpers.specs.LawfulLaws.{IsLawful-prop};
 ghost use Rattle.helpers.specs.LookUps.{look_up_answer};
 
 use crate::lookups::Helpers;
-use crate::record::{address_of, address_record};
+use crate::record::{address_of, wide_record};
 use attributes::Addr;
-use semantics::RECORD_BYTES;
+use semantics::{RecordForm, WIDE_RECORD_BYTES, is_valid};
 use tables::{Tables, uncounted};
 
 /// The helpers that look up in tables at a moment, in the slot of a client's allocation or of a relayed address. Without
@@ -25,22 +24,13 @@ pub struct Lookup<'a> {
 }
 
 /// An answer that finds nothing.
-const NOTHING: (u64, [u8; RECORD_BYTES]) = (0, [0; RECORD_BYTES]);
-
-/// Returns whether a record is that of an address: whether it begins with 0 and the family 1.
-fn is_valid(bytes: &[u8; RECORD_BYTES]) -> bool
-    ensures { result ≡ is_valid bytes.now }
-{
-    bytes[0] == 0 && bytes[1] == 1
-}
+const NOTHING: (u64, [u8; WIDE_RECORD_BYTES]) = (0, [0; WIDE_RECORD_BYTES]);
 
 impl<'a> Lookup<'a> {
-    ghost use Rattle.std.specs.Prelude.{◌≡◌, ◌&&◌, None, if◌then◌else◌};
-    ghost use Rattle.semantics.specs.Calls.{is_valid};
-    ghost use Rattle.tables.specs.LookUps.{peer_of, channel_of, has_permission};
+    ghost use Rattle.std.specs.Prelude.{◌≡◌};
+    ghost use Rattle.tables.specs.LookUps.{peer_of};
     ghost use Rattle.tables.specs.Rows.{rows_at};
-    ghost use Rattle.helpers.specs.LookUps.{peer_answer, number_answer, test_answer};
-    ghost use Rattle.helpers.specs.Records.{address_of};
+    ghost use Rattle.helpers.specs.LookUps.{peer_answer, channel_answer, permission_answer};
 
     /// Makes the look-ups in tables at a moment, in seconds, in a slot.
     pub fn new(tables: &'a Tables, moment: u64, slot: Option<usize>) -> Lookup<'a>
@@ -56,42 +46,58 @@ impl<'a> Lookup<'a> {
         }
     }
 
-    /// Answers with the peer that a number is bound to.
-    fn channel_peer(&self, slot: usize, number: u64) -> (u64, [u8; RECORD_BYTES])
-        ensures { result ≡ peer_answer (peer_of slot number (rows_at self.now.moment self.now.tables.now)) }
+    /// Answers with the peer that a number is bound to, if a record of the form has it.
+    fn channel_peer(
+        &self,
+        form: RecordForm,
+        slot: usize,
+        number: u64,
+    ) -> (u64, [u8; WIDE_RECORD_BYTES])
+        ensures { result ≡ peer_answer form (peer_of slot number (rows_at self.now.moment self.now.tables.now)) }
     {
         self.tables.are_well_formed();
         let Ok(number) = u16::try_from(number) else {
             return NOTHING;
         };
-        match uncounted::peer_of(self.tables, slot, number, self.moment) {
-            Some(peer) => (1, address_record(&peer)),
-            None => NOTHING,
+        match (
+            form,
+            uncounted::peer_of(self.tables, slot, number, self.moment),
+        ) {
+            (RecordForm::Narrow, Some(Addr::V6 { .. })) | (_, None) => NOTHING,
+            (_, Some(peer)) => (1, wide_record(&peer)),
         }
     }
 
     /// Answers with the number that is bound to the address of a record.
-    fn channel_to(&self, slot: usize, address: &[u8; RECORD_BYTES]) -> (u64, [u8; RECORD_BYTES])
-        ensures { result ≡ number_answer (if is_valid address.now
-            then channel_of slot (address_of address.now) (rows_at self.now.moment self.now.tables.now) else None) }
+    fn channel_to(
+        &self,
+        form: RecordForm,
+        slot: usize,
+        address: &[u8; WIDE_RECORD_BYTES],
+    ) -> (u64, [u8; WIDE_RECORD_BYTES])
+        ensures { result ≡ channel_answer form slot (rows_at self.now.moment self.now.tables.now) address.now }
     {
-        if !is_valid(address) {
+        if !is_valid(form, address) {
             return NOTHING;
         }
         match uncounted::channel_of(self.tables, slot, address_of(address), self.moment) {
-            Some(number) => (u64::from(number), [0; RECORD_BYTES]),
+            Some(number) => (u64::from(number), [0; WIDE_RECORD_BYTES]),
             None => NOTHING,
         }
     }
 
     /// Answers whether the address of a record has a permission.
-    fn permits(&self, slot: usize, address: &[u8; RECORD_BYTES]) -> (u64, [u8; RECORD_BYTES])
-        ensures { result ≡ test_answer (is_valid address.now
-            && has_permission slot (address_of address.now) (rows_at self.now.moment self.now.tables.now)) }
+    fn permits(
+        &self,
+        form: RecordForm,
+        slot: usize,
+        address: &[u8; WIDE_RECORD_BYTES],
+    ) -> (u64, [u8; WIDE_RECORD_BYTES])
+        ensures { result ≡ permission_answer form slot (rows_at self.now.moment self.now.tables.now) address.now }
     {
-        let holds = is_valid(address)
+        let holds = is_valid(form, address)
             && uncounted::permitted(self.tables, slot, address_of(address), self.moment);
-        (u64::from(holds), [0; RECORD_BYTES])
+        (u64::from(holds), [0; WIDE_RECORD_BYTES])
     }
 }
 
@@ -103,14 +109,17 @@ impl Helpers for Lookup<'_> {
 
     ghost lawful = { λ l. l.lawful };
 
-    fn answer(&self, id: u8, number: u64, address: [u8; 8]) -> (u64, [u8; 8]) {
+    fn answer(&self, id: u8, number: u64, address: [u8; 20]) -> (u64, [u8; 20]) {
         let Some(slot) = self.slot else {
             return NOTHING;
         };
         match id {
-            1 => self.channel_peer(slot, number),
-            2 => self.channel_to(slot, &address),
-            3 => self.permits(slot, &address),
+            1 => self.channel_peer(RecordForm::Narrow, slot, number),
+            2 => self.channel_to(RecordForm::Narrow, slot, &address),
+            3 => self.permits(RecordForm::Narrow, slot, &address),
+            6 => self.channel_peer(RecordForm::Wide, slot, number),
+            7 => self.channel_to(RecordForm::Wide, slot, &address),
+            8 => self.permits(RecordForm::Wide, slot, &address),
             _ => NOTHING,
         }
     }

@@ -1,4 +1,5 @@
 -- The flat run over a started frame.
+use Rattle.semantics.specs.declared.stack.StackMemory.{StackMemory}
 use Rattle.std.proofs.Common.{◌≡◌, ℕ, ◌+◌, ◌≤◌, true, false, List, ◌++◌, length, take, drop, Option, None, Some, refl, sym, ap, ◌∙◌, subst, arith}
 use Rattle.std.specs.Prelude.{IfSome}
 use Rattle.std.proofs.lemmas.List.{length-drop}
@@ -23,7 +24,7 @@ use Rattle.machine.specs.Execution.{RunsFlat}
 use Rattle.machine.specs.Tracing.{environment_of, safe_run_of}
 use Rattle.machine.proofs.Frames.{datagram_length, frame_left}
 
-module _ (answers : HelperAnswers) (lawful : IsLawful answers) (program : List Insn) (f : Contents) (flat : List ℕ) (area_is : f.area ≡ drop headroom_index flat) (stack : List (Option ℕ)) (holds : HoldsDatagram f.area stack f.length true f.window)
+module _ (answers : HelperAnswers) (lawful : IsLawful answers) (program : List Insn) (f : Contents) (flat : List ℕ) (area_is : f.area ≡ drop headroom_index flat) (stack : StackMemory) (holds : HoldsDatagram f.area stack f.length true f.window)
     (is_context : IsContext (context_of f.context)) (is_datagram : IsDatagram (datagram_of f)) where
   abbrev w : Environment
   w = environment_of f answers
@@ -34,7 +35,7 @@ module _ (answers : HelperAnswers) (lawful : IsLawful answers) (program : List I
   size_is : length d ≡ f.length
   size_is = datagram_length f.area f.length holds.long holds.short
 
-  flat_long : length flat ≡ 66134
+  flat_long : length flat ≡ 66154
   flat_long = omega (arith, holds.long, ap length area_is, length-drop headroom_index flat)
 
   -- headroom, datagram and tailroom in the area
@@ -94,7 +95,6 @@ module _ (answers : HelperAnswers) (lawful : IsLawful answers) (program : List I
         record {
           long = omega (arith, run.memory.long, length-drop headroom_index left);
           short = holds.short;
-          cells = holds.cells;
           ready = λ e. absurd (no_true e);
           inside = window_inside ended.plan.window (subst (λ (p : Plan). IfSome p.window (IsWindow (length d))) run.plan extent.plan.window);
         }

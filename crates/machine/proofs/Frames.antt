@@ -1,4 +1,5 @@
 -- The bytes of a frame that was started.
+use Rattle.semantics.specs.declared.stack.StackMemory.{StackMemory}
 use Rattle.std.proofs.Common.{◌≡◌, ℕ, ◌+◌, ◌-◌, ◌≤◌, Bool, true, false, List, [], ◌∷◌, ◌++◌, length, take, drop, replicate, Option, None, Some, Result, Ok, Err, refl, sym, ap, ◌∙◌, subst, arith, append_assoc}
 use Rattle.std.proofs.lemmas.List.{length-append, length-take-le, length-drop, take_at, drop_at, drop-take, take-append-drop, drop-drop, drop_all, take_all, append-nil, drop-append-le, take-append-le}
 use Rattle.std.specs.Prelude.{option_map, IfSome}
@@ -7,7 +8,6 @@ use borrow.Rule.Slice.PartMut.{put_mid}
 use Rattle.std.proofs.Math.Seq.{take-append-add, take-add}
 use Rattle.insn.specs.declared.instruction.Insn.{Insn}
 use Rattle.semantics.specs.Machine.{IsContext, Memory, context_bytes, headroom, datagram_area, empty_stack, start}
-use Rattle.semantics.specs.declared.limits.TheConstants.{STACK_BYTES}
 use Rattle.semantics.specs.declared.plan.Plan.{Plan}
 use Rattle.semantics.specs.Runs.{Run}
 use Rattle.semantics.specs.Calls.{IsWindow}
@@ -48,9 +48,9 @@ frame_long : (a b n all : ℕ) → all ≡ a + b → a ≡ 67 + n → b ≡ 6557
 frame_long a b n all e f g short = omega arith
 
 -- a frame over such an area is one that may run
-pub is_frame : (old area : List ℕ) (stack : List (Option ℕ)) (n : ℕ) → length old ≡ 65574 → n ≤ 65507 → length stack ≡ STACK_BYTES → area ≡ datagram_area (take n (drop 64 old)) ++ drop (67 + n) old
+pub is_frame : (old area : List ℕ) (stack : StackMemory) (n : ℕ) → length old ≡ 65574 → n ≤ 65507 → area ≡ datagram_area (take n (drop 64 old)) ++ drop (67 + n) old
     → HoldsDatagram area stack n true None
-is_frame old area stack n long short cells e =
+is_frame old area stack n long short e =
     let d : List ℕ = take n (drop 64 old) in
     let rest : List ℕ = drop (67 + n) old in
     let d_long : length d ≡ n = length-take-le n (drop 64 old) (omega (arith, length-drop 64 old)) in
@@ -59,7 +59,6 @@ is_frame old area stack n long short cells e =
     record {
       long = ap length e ∙ frame_long (length (datagram_area d)) (length rest) n (length (datagram_area d ++ rest)) (length-append (datagram_area d) rest) (length-surrounded d ∙ ap (λ (k : ℕ). 67 + k) d_long) (length-drop (67 + n) old ∙ ap (λ (k : ℕ). k - (67 + n)) long) short;
       short = short;
-      cells = cells;
       ready = λ started. front ∙ ap datagram_area (sym datagram);
       inside = tt;
     }
@@ -69,7 +68,7 @@ pub datagram_length : (area : List ℕ) (n : ℕ) → length area ≡ 65574 → 
 datagram_length area n long short = length-take-le n (drop 64 area) (omega (arith, length-drop 64 area))
 
 -- the memory of a started frame is that of the start with its datagram
-memory_is : (area : List ℕ) (stack empty : List (Option ℕ)) (n : ℕ) (window : Option (ℕ × ℕ)) → HoldsDatagram area stack n true window → empty ≡ empty_stack → memory_with empty (take (67 + n) area) n ≡ (start (take n (drop 64 area))).memory
+memory_is : (area : List ℕ) (stack empty : StackMemory) (n : ℕ) (window : Option (ℕ × ℕ)) → HoldsDatagram area stack n true window → empty ≡ empty_stack → memory_with empty (take (67 + n) area) n ≡ (start (take n (drop 64 area))).memory
 memory_is area stack empty n window frame is_empty =
     let count : n ≡ length (take n (drop 64 area)) = sym (datagram_length area n frame.long frame.short) in
     λ i. memory_with (is_empty i) (frame.ready refl i) (count i)
@@ -83,7 +82,7 @@ frame_left f area plan r bytes following planned =
     λ i. record f { area = whole i; is_started = false; window = sym window i }
 
 -- a run in the memory of a started frame is the frame's run
-pub frame_run : {Log : Type 0} (Logs : Log → Visit → Log → Type 0) (program : List Insn) (answers : HelperAnswers) (f : Contents) (context : List ℕ) (stack empty stack' : List (Option ℕ)) (area : List ℕ) (plan : Plan) (old new : Log) (result : Result Exited Stuck)
+pub frame_run : {Log : Type 0} (Logs : Log → Visit → Log → Type 0) (program : List Insn) (answers : HelperAnswers) (f : Contents) (context : List ℕ) (stack empty stack' : StackMemory) (area : List ℕ) (plan : Plan) (old new : Log) (result : Result Exited Stuck)
     → HoldsDatagram f.area stack f.length true f.window → IsContext (context_of f.context) → context ≡ context_bytes (context_of f.context) f.length
     → empty ≡ empty_stack
     → IsWholeRun Logs program answers context (memory_with empty (take (67 + f.length) f.area) f.length) (memory_with stack' (take (67 + f.length) area) f.length) plan old new result
@@ -146,14 +145,13 @@ length_written old new len e =
     ap (λ (k : ℕ). length (take k (new ++ drop (length new) old))) e ∙ length-take-le (length old) (new ++ drop (length new) old) whole
 
 -- a frame that is not started, with another area, stack and window
-pub is_unstarted : (flat new : List ℕ) (stack new_stack : List (Option ℕ)) (n : ℕ) (started : Bool) (window new_window : Option (ℕ × ℕ)) (context : Context) → length new ≡ 66134 → length new_stack ≡ STACK_BYTES → IfSome new_window (λ w. w.0 + w.1 ≤ frame_area_size)
+pub is_unstarted : (flat new : List ℕ) (stack new_stack : StackMemory) (n : ℕ) (started : Bool) (window new_window : Option (ℕ × ℕ)) (context : Context) → length new ≡ 66154 → IfSome new_window (λ w. w.0 + w.1 ≤ frame_area_size)
     → IsFrame flat stack n started window context → IsFrame new new_stack n false new_window context
-is_unstarted flat new stack new_stack n started window new_window context long cells inside is = record {
+is_unstarted flat new stack new_stack n started window new_window context long inside is = record {
   long = long;
   holds = record {
-    long = omega (arith, long, length-drop 560 new);
+    long = omega (arith, long, length-drop 580 new);
     short = is.holds.short;
-    cells = cells;
     ready = λ e. absurd (no_true e);
     inside = inside;
   };
@@ -164,57 +162,57 @@ is_unstarted flat new stack new_stack n started window new_window context long c
     no_true e = absurd cc
 
 -- the bytes from headroom on, of an area whose room is written
-room_from_headroom : (flat bytes : List ℕ) → length flat ≡ 66134
-    → drop 560 (take (length flat) (take 624 flat ++ bytes ++ drop (624 + length bytes) flat)) ≡ take (length (drop 560 flat)) (take 64 (drop 560 flat) ++ bytes ++ drop (64 + length bytes) (drop 560 flat))
+room_from_headroom : (flat bytes : List ℕ) → length flat ≡ 66154
+    → drop 580 (take (length flat) (take 644 flat ++ bytes ++ drop (644 + length bytes) flat)) ≡ take (length (drop 580 flat)) (take 64 (drop 580 flat) ++ bytes ++ drop (64 + length bytes) (drop 580 flat))
 room_from_headroom flat bytes long =
-    let area : List ℕ = drop 560 flat in
-    let all : length flat ≡ 560 + (length flat - 560) = omega (arith, long) in
-    let front : length (take 560 flat) ≡ 560 = length-take-le 560 flat (omega (arith, long)) in
-    let split : take 624 flat ≡ take 560 flat ++ take 64 area = take-add 560 64 flat in
-    let same : 624 + length bytes ≡ 560 + (64 + length bytes) = omega arith in
-    let rest : drop (624 + length bytes) flat ≡ drop (64 + length bytes) area = ap (λ (k : ℕ). drop k flat) same ∙ sym (drop-drop (64 + length bytes) 560 flat) in
-    let regrouped : take 624 flat ++ bytes ++ drop (624 + length bytes) flat ≡ take 560 flat ++ (take 64 area ++ bytes ++ drop (64 + length bytes) area) =
-    (λ i. split i ++ bytes ++ rest i) ∙ ap (λ (l : List ℕ). l ++ drop (64 + length bytes) area) (append_assoc (take 560 flat) (take 64 area) bytes) ∙ append_assoc (take 560 flat) (take 64 area ++ bytes) (drop (64 + length bytes) area) in
-    ap (λ (k : ℕ). drop 560 (take k (take 624 flat ++ bytes ++ drop (624 + length bytes) flat))) all
-    ∙ drop-take 560 (length flat - 560) (take 624 flat ++ bytes ++ drop (624 + length bytes) flat)
-    ∙ ap (take (length flat - 560)) (ap (drop 560) regrouped ∙ drop_at (take 560 flat) (take 64 area ++ bytes ++ drop (64 + length bytes) area) 560 front)
-    ∙ ap (λ (k : ℕ). take k (take 64 area ++ bytes ++ drop (64 + length bytes) area)) (sym (length-drop 560 flat))
+    let area : List ℕ = drop 580 flat in
+    let all : length flat ≡ 580 + (length flat - 580) = omega (arith, long) in
+    let front : length (take 580 flat) ≡ 580 = length-take-le 580 flat (omega (arith, long)) in
+    let split : take 644 flat ≡ take 580 flat ++ take 64 area = take-add 580 64 flat in
+    let same : 644 + length bytes ≡ 580 + (64 + length bytes) = omega arith in
+    let rest : drop (644 + length bytes) flat ≡ drop (64 + length bytes) area = ap (λ (k : ℕ). drop k flat) same ∙ sym (drop-drop (64 + length bytes) 580 flat) in
+    let regrouped : take 644 flat ++ bytes ++ drop (644 + length bytes) flat ≡ take 580 flat ++ (take 64 area ++ bytes ++ drop (64 + length bytes) area) =
+    (λ i. split i ++ bytes ++ rest i) ∙ ap (λ (l : List ℕ). l ++ drop (64 + length bytes) area) (append_assoc (take 580 flat) (take 64 area) bytes) ∙ append_assoc (take 580 flat) (take 64 area ++ bytes) (drop (64 + length bytes) area) in
+    ap (λ (k : ℕ). drop 580 (take k (take 644 flat ++ bytes ++ drop (644 + length bytes) flat))) all
+    ∙ drop-take 580 (length flat - 580) (take 644 flat ++ bytes ++ drop (644 + length bytes) flat)
+    ∙ ap (take (length flat - 580)) (ap (drop 580) regrouped ∙ drop_at (take 580 flat) (take 64 area ++ bytes ++ drop (64 + length bytes) area) 580 front)
+    ∙ ap (λ (k : ℕ). take k (take 64 area ++ bytes ++ drop (64 + length bytes) area)) (sym (length-drop 580 flat))
 
 -- the bytes from headroom on, after a slice of a vector's bytes from the room on is written
-pub room_written_in : (old bytes : List ℕ) (len : ℕ) → len ≡ length old → length old ≡ 66134
-    → drop 560 (let new : List ℕ = take 624 old ++ (bytes ++ drop (length bytes) (drop 624 old)) in take len (new ++ drop (length new) old)) ≡ take (length (drop 560 old)) (take 64 (drop 560 old) ++ bytes ++ drop (64 + length bytes) (drop 560 old))
-room_written_in old bytes len e long = ap (drop 560) (written_after 624 old bytes len e (omega (arith, long))) ∙ room_from_headroom old bytes long
+pub room_written_in : (old bytes : List ℕ) (len : ℕ) → len ≡ length old → length old ≡ 66154
+    → drop 580 (let new : List ℕ = take 644 old ++ (bytes ++ drop (length bytes) (drop 644 old)) in take len (new ++ drop (length new) old)) ≡ take (length (drop 580 old)) (take 64 (drop 580 old) ++ bytes ++ drop (64 + length bytes) (drop 580 old))
+room_written_in old bytes len e long = ap (drop 580) (written_after 644 old bytes len e (omega (arith, long))) ∙ room_from_headroom old bytes long
 
 -- the room of an area
-pub room_in : (flat : List ℕ) → take 65507 (drop 624 flat) ≡ take 65507 (drop 64 (drop 560 flat))
-room_in flat = ap (take 65507) (sym (drop-drop 64 560 flat))
+pub room_in : (flat : List ℕ) → take 65507 (drop 644 flat) ≡ take 65507 (drop 64 (drop 580 flat))
+room_in flat = ap (take 65507) (sym (drop-drop 64 580 flat))
 
 -- the bytes from headroom on, after all of them were written
-pub all_written : (flat new : List ℕ) → 560 ≤ length flat → length new ≡ length flat - 560 → drop 560 (put_mid 560 (length flat - 560) flat new) ≡ new
+pub all_written : (flat new : List ℕ) → 580 ≤ length flat → length new ≡ length flat - 580 → drop 580 (put_mid 580 (length flat - 580) flat new) ≡ new
 all_written flat new le long =
-    let from : List ℕ = drop 560 flat in
-    let none : drop (length flat - 560) from ≡ [] = drop_all (length flat - 560) from (omega (arith, length-drop 560 flat)) in
-    drop_at (take 560 flat) (new ++ drop (length flat - 560) from) 560 (length-take-le 560 flat le) ∙ ap (λ (l : List ℕ). new ++ l) none ∙ append-nil new
+    let from : List ℕ = drop 580 flat in
+    let none : drop (length flat - 580) from ≡ [] = drop_all (length flat - 580) from (omega (arith, length-drop 580 flat)) in
+    drop_at (take 580 flat) (new ++ drop (length flat - 580) from) 580 (length-take-le 580 flat le) ∙ ap (λ (l : List ℕ). new ++ l) none ∙ append-nil new
 
-pub all_from_headroom : (flat : List ℕ) → take (length flat - 560) (drop 560 flat) ≡ drop 560 flat
-all_from_headroom flat = take_all (length flat - 560) (drop 560 flat) (omega (arith, length-drop 560 flat))
+pub all_from_headroom : (flat : List ℕ) → take (length flat - 580) (drop 580 flat) ≡ drop 580 flat
+all_from_headroom flat = take_all (length flat - 580) (drop 580 flat) (omega (arith, length-drop 580 flat))
 
 -- the bytes of headroom, datagram and tailroom, after they were written, and what follows them
-module _ (n : ℕ) (flat new : List ℕ) (room : 560 + (67 + n) ≤ length flat) (long : length new ≡ 67 + n) where
+module _ (n : ℕ) (flat new : List ℕ) (room : 580 + (67 + n) ≤ length flat) (long : length new ≡ 67 + n) where
   abbrev pub after_part : List ℕ
-  after_part = put_mid 560 (627 + n - 560) flat new
+  after_part = put_mid 580 (647 + n - 580) flat new
 
-  pub part_end : 627 + n - 560 ≡ 67 + n
+  pub part_end : 647 + n - 580 ≡ 67 + n
   part_end = omega arith
 
-  pub part_is_new : take (67 + n) (drop 560 (put_mid 560 (627 + n - 560) flat new)) ≡ new
-  part_is_new = ap (λ (k : ℕ). take k (drop 560 after_part)) (sym part_end) ∙ between-put_mid 560 (627 + n - 560) flat new (627 + n) (omega (arith, room)) (omega (arith, long))
+  pub part_is_new : take (67 + n) (drop 580 (put_mid 580 (647 + n - 580) flat new)) ≡ new
+  part_is_new = ap (λ (k : ℕ). take k (drop 580 after_part)) (sym part_end) ∙ between-put_mid 580 (647 + n - 580) flat new (647 + n) (omega (arith, room)) (omega (arith, long))
 
-  pub rest_is_old : drop (67 + n) (drop 560 (put_mid 560 (627 + n - 560) flat new)) ≡ drop (67 + n) (drop 560 flat)
+  pub rest_is_old : drop (67 + n) (drop 580 (put_mid 580 (647 + n - 580) flat new)) ≡ drop (67 + n) (drop 580 flat)
   rest_is_old =
-      drop-drop (67 + n) 560 after_part
-      ∙ drop-put_mid 560 (627 + n - 560) flat new (560 + (67 + n)) (omega arith) (omega (arith, room)) (omega (arith, long))
-      ∙ sym (drop-drop (67 + n) 560 flat)
+      drop-drop (67 + n) 580 after_part
+      ∙ drop-put_mid 580 (647 + n - 580) flat new (580 + (67 + n)) (omega arith) (omega (arith, room)) (omega (arith, long))
+      ∙ sym (drop-drop (67 + n) 580 flat)
 
 -- a frame whose vector is written so has its room written
 pub frame_written : (f now : Contents) (bytes area : List ℕ) → f ≡ now → area ≡ take (length f.area) (take 64 f.area ++ bytes ++ drop (64 + length bytes) f.area) → record f { area = area; is_started = false } ≡ with_room now bytes

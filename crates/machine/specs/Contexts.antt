@@ -2,7 +2,7 @@
 use Rattle.std.specs.Prelude.{ℕ}
 use Rattle.semantics.specs.Machine as machine
 use Rattle.semantics.specs.Machine.{AddressRecord}
-use Rattle.helpers.specs.Records.{address_record}
+use Rattle.helpers.specs.Records.{address_record, wide_record}
 use Rattle.machine.specs.declared.context.Side.{Side}
 use Rattle.machine.specs.declared.context.Side.TheVariants.{Client, Peer}
 use Rattle.machine.specs.declared.context.Context.{Context}
@@ -12,7 +12,7 @@ side_number Client = 0
 side_number Peer = 1
 
 abbrev pub context_of : Context → machine.Context
-context_of c = record { side = side_number c.side; source = address_record c.source; transaction_id = c.tx }
+context_of c = record { side = side_number c.side; source = address_record c.source; wide_source = wide_record c.source; transaction_id = c.tx }
 
 -- the answers of helpers
 abbrev pub HelperAnswers : Type 0

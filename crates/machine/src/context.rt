@@ -5,7 +5,7 @@ ghost use Rattle.semantics.specs.Machine.{context_bytes};
 ghost use Rattle.machine.specs.Contexts.{context_of, side_number};
 
 use attributes::Addr;
-use helpers::address_record;
+use helpers::{address_record, wide_record};
 use semantics::CONTEXT_BYTES;
 
 /// The side that a datagram came from: a client, or a peer of a relayed address.
@@ -50,5 +50,6 @@ pub(crate) fn context_record(context: &Context, length: usize) -> [u8; CONTEXT_B
     write_part(&mut bytes, 24, &address_record(&context.source));
     write_part(&mut bytes, 32, &context.tx);
     write_part(&mut bytes, 44, &side_number(context.side).to_le_bytes());
+    write_part(&mut bytes, 48, &wide_record(&context.source));
     bytes
 }

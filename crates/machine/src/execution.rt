@@ -10,7 +10,7 @@ ghost use Rattle.semantics.specs.Runs.{Goes, step_by_effect, registers_after_cal
 ghost use Rattle.semantics.specs.Slots.{fetch, IsAt};
 ghost use Rattle.semantics.specs.declared.fetching.Fetched.TheVariants.{Begins};
 ghost use Rattle.semantics.specs.declared.limits.TheConstants.{STACK_BYTES, HEADROOM, MAX_DATAGRAM, TAILROOM};
-ghost use Rattle.semantics.specs.declared.helper.TheConstants.{RECORD_BYTES};
+ghost use Rattle.semantics.specs.Calls.{record_bytes};
 ghost use Rattle.semantics.specs.Views.{memory_with};
 ghost use Rattle.machine.specs.Contexts.{environment_around};
 ghost use Rattle.machine.specs.Execution.{state_at, MakesStep, GoesAhead, GoesStraight, IfGoesTo, IfEnds};
@@ -21,8 +21,9 @@ use crate::sink::Sink;
 use helpers::Helpers;
 use insn::Insn;
 use semantics::{
-    CONTEXT_BYTES, Effect, Fetched, Memory, Plan, Position, Question, Reason, Registers, Value,
-    effect_of, fetch, last, put_cells, store, target,
+    CONTEXT_BYTES, Effect, Fetched, Memory, Plan, Position, Question, RECORD_BYTES, Reason,
+    RecordForm, Registers, Room, StackMemory, Value, WIDE_RECORD_BYTES, effect_of, fetch, last,
+    put_bytes, put_pointer, store, target,
 };
 
 /// The result of one step.
@@ -62,6 +63,13 @@ pub struct Environment<'a, H> {
     pub length: usize,
 }
 
+/// Returns the cells of a stack: 512.
+fn cells_of(stack: &StackMemory) -> &[Option<u8>]
+    ensures { count stack.now.cells ≡ STACK_BYTES }
+{
+    &stack.cells
+}
+
 /// Returns the effect of an instruction on registers and memory. What it stores, and a window, lie inside memory.
 ///
 /// # Errors
@@ -69,19 +77,19 @@ pub struct Environment<'a, H> {
 #[tactic(auto, using(semantics::specs::EffectLaws::effect_inside))]
 fn next_effect<H>(
     given: &Environment<H>,
-    stack: &[Option<u8>],
+    stack: &StackMemory,
     bytes: &[u8],
     registers: &Registers,
     insn: &Insn,
 ) -> Result<Effect, Reason>
     requires context { IsContextRecord given.now.context.now given.now.length }
-    requires cells { count stack.now ≡ STACK_BYTES }
     requires surrounded { count bytes.now ≡ HEADROOM + given.now.length + TAILROOM }
     requires short { given.now.length ≤ MAX_DATAGRAM }
     ensures effect { (c : Context) → IsRecordOf given.now.context.now given.now.length c
         → result ≡ effect c (memory_with stack.now bytes.now given.now.length) registers.now insn.now }
     ensures inside { IfOk result (StaysInside (memory_with stack.now bytes.now given.now.length)) }
 {
+    let _cells = cells_of(stack);
     let memory = Memory {
         stack,
         bytes,
@@ -104,25 +112,32 @@ fn answer(registers: &mut Registers, n: u64)
 
 /// Writes the address record of an answer to the stack, if it is asked for.
 /// See docs/DECISIONS.md, "The bytes of a helper that finds nothing".
-fn put_record(stack: &mut [Option<u8>], out: Option<usize>, address: [u8; 8])
-    requires { IfSome out (λ i. i + RECORD_BYTES ≤ count stack.old) }
+fn put_record(stack: &mut StackMemory, out: Option<Room>, address: [u8; WIDE_RECORD_BYTES])
+    requires { IfSome out (λ room. room.index + record_bytes room.form ≤ STACK_BYTES) }
     ensures { (bytes : List ℕ) (length : ℕ)
         → memory_with stack.new bytes length ≡ answered_at (memory_with stack.old bytes length) out address }
 {
-    if let Some(index) = out {
-        put_cells(stack, index, &address);
+    if let Some(Room { index, form }) = out {
+        let index = usize::from(index);
+        match form {
+            RecordForm::Narrow => {
+                let (narrow, _) = address.split_at(RECORD_BYTES);
+                put_bytes(stack, index, narrow);
+            }
+            RecordForm::Wide => put_bytes(stack, index, &address),
+        }
     }
 }
 
 /// Asks a helper that looks up, and takes its answer.
 fn ask<H: Helpers>(
     helpers: &H,
-    stack: &mut [Option<u8>],
+    stack: &mut StackMemory,
     registers: &mut Registers,
     question: Question,
-    out: Option<usize>,
+    out: Option<Room>,
 )
-    requires { IfSome out (λ i. i + RECORD_BYTES ≤ count stack.old) }
+    requires { IfSome out (λ room. room.index + record_bytes room.form ≤ STACK_BYTES) }
     ensures registers { let answer = H.answers helpers.now question.helper question.number question.address in
         registers.new ≡ registers_after_call registers.old answer.0 }
     ensures stack { let answer = H.answers helpers.now question.helper question.number question.address in
@@ -157,7 +172,11 @@ fn set_window(plan: &mut Plan, registers: &mut Registers, window: Option<(usize,
 }
 
 /// Sets the destination of the plan if `destination` is `Some`, and writes the answer.
-fn set_destination(plan: &mut Plan, registers: &mut Registers, destination: Option<[u8; 8]>)
+fn set_destination(
+    plan: &mut Plan,
+    registers: &mut Registers,
+    destination: Option<[u8; WIDE_RECORD_BYTES]>,
+)
     ensures plan { plan.new ≡ with_destination plan.old destination }
     ensures registers { registers.new ≡ registers_after_call registers.old (plan_answer destination) }
 {
@@ -181,7 +200,7 @@ struct TaggedState {
 /// Applies an effect to memory, registers and plan, after which the run goes on to the next instruction.
 fn apply<H: Helpers>(
     given: &Environment<H>,
-    stack: &mut [Option<u8>],
+    stack: &mut StackMemory,
     bytes: &mut [u8],
     state: &mut TaggedState,
     effect: Effect,
@@ -204,6 +223,7 @@ fn apply<H: Helpers>(
             size,
             value,
         } => store(stack, bytes, location, size, value),
+        Effect::StorePointer { group, pointer } => put_pointer(stack, group, pointer),
         Effect::Ask { question, out } => {
             ask(given.helpers, stack, &mut state.registers, question, out)
         }
@@ -219,7 +239,7 @@ fn apply<H: Helpers>(
 /// changes neither memory nor plan.
 fn execute_step<H: Helpers>(
     given: &Environment<H>,
-    stack: &mut [Option<u8>],
+    stack: &mut StackMemory,
     bytes: &mut [u8],
     state: &mut TaggedState,
     insn: &Insn,
@@ -229,7 +249,6 @@ fn execute_step<H: Helpers>(
     requires few { slot_count given.now.code.now ≤ MAX_SLOTS }
     requires insn { fetch given.now.code.now state.old.at.slot ≡ Begins insn.now }
     requires context { IsContextRecord given.now.context.now given.now.length }
-    requires cells { count stack.old ≡ STACK_BYTES }
     requires surrounded { count bytes.old ≡ HEADROOM + given.now.length + TAILROOM }
     requires short { given.now.length ≤ MAX_DATAGRAM }
     requires inside { HasWindowInside given.now.length state.old.plan }
@@ -264,14 +283,13 @@ fn execute_step<H: Helpers>(
 /// The step that is stuck.
 fn execute_from<H: Helpers, S: Sink>(
     given: &Environment<H>,
-    stack: &mut [Option<u8>],
+    stack: &mut StackMemory,
     bytes: &mut [u8],
     state: &mut TaggedState,
     sink: &mut S,
 ) -> Result<Exited, Stuck>
     requires few { slot_count given.now.code.now ≤ MAX_SLOTS }
     requires context { IsContextRecord given.now.context.now given.now.length }
-    requires cells { count stack.old ≡ STACK_BYTES }
     requires surrounded { count bytes.old ≡ HEADROOM + given.now.length + TAILROOM }
     requires short { given.now.length ≤ MAX_DATAGRAM }
     requires registers { state.old.registers ≡ first_registers }
@@ -313,14 +331,13 @@ fn execute_from<H: Helpers, S: Sink>(
 /// The step that is stuck.
 pub fn execute<H: Helpers, S: Sink>(
     given: &Environment<H>,
-    stack: &mut [Option<u8>],
+    stack: &mut StackMemory,
     bytes: &mut [u8],
     plan: &mut Plan,
     sink: &mut S,
 ) -> Result<Exited, Stuck>
     requires few { slot_count given.now.code.now ≤ MAX_SLOTS }
     requires context { IsContextRecord given.now.context.now given.now.length }
-    requires cells { count stack.old ≡ STACK_BYTES }
     requires surrounded { count bytes.old ≡ HEADROOM + given.now.length + TAILROOM }
     requires short { given.now.length ≤ MAX_DATAGRAM }
     requires planless { plan.old ≡ no_plan }

@@ -9,7 +9,7 @@ ghost use Rattle.machine.specs.Contexts.{context_of};
 use crate::context::{Context, Side};
 use attributes::{Addr, is_address};
 use flat::{AREA_BYTES, HEADROOM_INDEX};
-use semantics::{HEADROOM, MAX_DATAGRAM, STACK_BYTES, TAILROOM};
+use semantics::{GROUPS, HEADROOM, MAX_DATAGRAM, STACK_BYTES, StackMemory, TAILROOM, Value};
 use std::alloc::{AllocError, Global};
 use std::marker::Model;
 
@@ -19,7 +19,7 @@ use std::marker::Model;
 #[derive(Drop)]
 pub struct Frame {
     pub(crate) flat: Vec<u8>,
-    pub(crate) stack: Vec<Option<u8>>,
+    pub(crate) stack: StackMemory,
     pub(crate) length: usize,
     pub(crate) is_started: bool,
     pub(crate) context: Context,
@@ -42,7 +42,7 @@ impl Model for Frame {
       window = f.window;
     } };
 
-    ghost invariant = { λ f. IsFrame f.flat.items f.stack.items f.length f.is_started f.window f.context };
+    ghost invariant = { λ f. IsFrame f.flat.items f.stack f.length f.is_started f.window f.context };
 }
 
 /// The context of a frame that was never started.
@@ -81,28 +81,22 @@ fn zeros(alloc: Global, n: usize) -> Result<Vec<u8>, AllocError>
     vec![in alloc; 0; n]
 }
 
-fn empty_cells(alloc: Global, n: usize) -> Result<Vec<Option<u8>>, AllocError>
-    ensures { IfOk result (λ v. v.items ≡ replicate n None) }
+/// Returns a stack of which nothing is set.
+#[tactic(auto, unfolding(semantics::specs::Machine::empty_cells, semantics::specs::Machine::no_pointers))]
+fn empty_stack() -> StackMemory
+    ensures { result ≡ empty_stack }
 {
-    let cell: Option<u8> = None;
-    vec![in alloc; cell; n]
-}
-
-/// Allocates a stack of which nothing is set.
-#[tactic(auto, unfolding(semantics::specs::Machine::empty_stack))]
-fn empty_stack(alloc: Global) -> Result<Vec<Option<u8>>, AllocError>
-    ensures { IfOk result (λ v. v.items ≡ empty_stack) }
-{
-    empty_cells(alloc, STACK_BYTES)
+    StackMemory {
+        cells: [None; STACK_BYTES],
+        groups: [Value::Nothing; GROUPS],
+    }
 }
 
 /// Clears a stack: nothing of it is set afterwards.
-#[tactic(auto, unfolding(semantics::specs::Machine::empty_stack))]
-pub(crate) fn clear_stack(stack: &mut [Option<u8>])
-    requires { length stack.old ≡ STACK_BYTES }
+pub(crate) fn clear_stack(stack: &mut StackMemory)
     ensures { stack.new ≡ empty_stack }
 {
-    stack.fill(None);
+    *stack = empty_stack();
 }
 
 /// Writes `n` zeros from an index on.
@@ -170,7 +164,7 @@ impl Frame {
         is_context(&NO_CONTEXT);
         Ok(Frame {
             flat: zeros(alloc, AREA_BYTES)?,
-            stack: empty_stack(alloc)?,
+            stack: empty_stack(),
             length: 0,
             is_started: false,
             context: NO_CONTEXT,

@@ -10,7 +10,7 @@ use crate::frame::Frame;
 use crate::outcome::Outcome;
 use crate::tracing::destination_of;
 use flat::{Ended, Given, lay_out, run_flat};
-use helpers::{Helpers, address_record};
+use helpers::{Helpers, address_record, wide_record};
 use verifier::Verified;
 
 /// Runs a verified program over the area of a started frame, to its exit. Afterwards the frame is not started.
@@ -26,7 +26,15 @@ fn run_area<H: Helpers>(program: &Verified, frame: &mut Frame, helpers: &H) -> E
         side: u64::from(side),
     };
     let source = address_record(&frame.context.source);
-    lay_out(&mut frame.flat, size, source, &frame.context.tx, side);
+    let wide_source = wide_record(&frame.context.source);
+    lay_out(
+        &mut frame.flat,
+        size,
+        source,
+        wide_source,
+        &frame.context.tx,
+        side,
+    );
     frame.is_started = false;
     let ended = run_flat(program.translation(), &given, &mut frame.flat);
     frame.window = ended.plan.window;

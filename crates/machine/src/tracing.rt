@@ -8,7 +8,7 @@ ghost use Rattle.semantics.specs.Machine.{IsContext, no_plan};
 ghost use Rattle.semantics.specs.Runs as runs;
 ghost use Rattle.semantics.specs.Runs.{IsDatagram};
 ghost use Rattle.semantics.specs.Views.{memory_with};
-ghost use Rattle.semantics.specs.declared.limits.TheConstants.{STACK_BYTES, HEADROOM, MAX_DATAGRAM, TAILROOM};
+ghost use Rattle.semantics.specs.declared.limits.TheConstants.{HEADROOM, MAX_DATAGRAM, TAILROOM};
 ghost use Rattle.flat.specs.Layout.{headroom_index};
 ghost use Rattle.machine.specs.Contents.{datagram_of};
 ghost use Rattle.helpers.specs.Records.{address_of};
@@ -25,7 +25,7 @@ use attributes::Addr;
 use flat::HEADROOM_INDEX;
 use helpers::{Helpers, address_of};
 use insn::Insn;
-use semantics::{HEADROOM, Plan, TAILROOM};
+use semantics::{HEADROOM, Plan, StackMemory, TAILROOM, WIDE_RECORD_BYTES};
 
 /// The plan at the start of a run.
 const NO_PLAN: Plan = Plan {
@@ -39,14 +39,13 @@ const NO_PLAN: Plan = Plan {
 /// The step that is stuck.
 fn execute_in<H: Helpers, S: Sink>(
     given: &Environment<H>,
-    stack: &mut [Option<u8>],
+    stack: &mut StackMemory,
     flat: &mut [u8],
     plan: &mut Plan,
     sink: &mut S,
 ) -> Result<Exited, Stuck>
     requires few { slot_count given.now.code.now ≤ MAX_SLOTS }
     requires context { IsContextRecord given.now.context.now given.now.length }
-    requires cells { count stack.old ≡ STACK_BYTES }
     requires room { headroom_index + (HEADROOM + TAILROOM + given.now.length) ≤ count flat.old }
     requires short { given.now.length ≤ MAX_DATAGRAM }
     requires planless { plan.old ≡ no_plan }
@@ -101,7 +100,7 @@ fn run_frame<H: Helpers, S: Sink>(
 }
 
 /// Returns the address of a record, if there is one.
-pub(crate) fn destination_of(bytes: Option<[u8; 8]>) -> Option<Addr>
+pub(crate) fn destination_of(bytes: Option<[u8; WIDE_RECORD_BYTES]>) -> Option<Addr>
     ensures { result ≡ option_map address_of bytes }
 {
     Some(address_of(&bytes?))

@@ -18,57 +18,37 @@ use Rattle.stun.specs.Registry.{magic_cookie}
 use Rattle.attributes.specs.Addresses.{HasWidth, IsIpv4Address, address_in, port_in, xor_bytes, cookie_half}
 use Rattle.attributes.specs.declared.address.Addr.{Addr}
 use Rattle.attributes.specs.declared.address.Addr.TheVariants.{V4}
-use Rattle.helpers.specs.LookUps.{peer_answer, test_answer}
-use Rattle.helpers.specs.Records.{address_record, address_of}
-use Rattle.semantics.specs.Access.{part, overlay, cells_bytes}
-use Rattle.semantics.specs.Calls.{is_valid, no_address}
+use Rattle.programs.proofs.ClientEnds.{AnswersClient, IsClientEnd, narrow_answer, wide_answer, sent_to, of_send}
+use Rattle.programs.proofs.PeerEnds.{test_number}
+use Rattle.helpers.specs.Records.{address_record, wide_record, address_of}
+use Rattle.semantics.specs.Access.{part, overlay, cells_bytes, with_bytes}
+use Rattle.semantics.specs.Calls.{is_valid, widened}
+use Rattle.semantics.specs.AccessLaws.{length-put}
+use Rattle.semantics.specs.CallLaws.{cells_read_back}
+use Rattle.semantics.specs.declared.helper.RecordForm.{RecordForm}
+use Rattle.semantics.specs.declared.helper.RecordForm.TheVariants.{Narrow, Wide}
 use Rattle.semantics.specs.ContextLaws.{length_field}
-use Rattle.semantics.specs.Machine.{AreBytes, AddressRecord, State, Environment, start, datagram_area, empty_stack}
+use Rattle.semantics.specs.declared.stack.StackMemory.{StackMemory}
+use Rattle.semantics.specs.Machine.{AreBytes, AddressRecord, State, Environment, start, datagram_area, empty_cells, empty_stack}
 use Rattle.semantics.specs.Runs.{IsDatagram}
-use Rattle.semantics.specs.StartLaws.{part_datagram}
+use Rattle.semantics.specs.StartLaws.{part_datagram, length-empty_cells}
 use Rattle.semantics.specs.SwapLaws.{swapped_word}
 use Rattle.semantics.specs.declared.value.Value.TheVariants.{Nothing, Scalar, Ctx, Stack, Data, End}
 use Rattle.programs.specs.Client.{client_program}
 use Rattle.fallible.specs.Options.{◌>>=◌, guard}
 use Rattle.programs.specs.PlainSends.{padded_length, IsSendHeader, IsAddressFirst, IsDataFirst}
 use Rattle.programs.specs.Rules.{channel_data}
-use Rattle.programs.specs.Runs.{datagram_in, window_in, destination_in}
-use Rattle.programs.specs.declared.verdict.TheConstants.{PASSES, SENDS}
-use Rattle.programs.proofs.ChannelMessages.{message_of, no_header, no_data, has_message, IsFound, found, not_found}
-use Rattle.programs.proofs.LoadedValues.{part_place, byte_in, half_in, half_small, record_is, port_back, IsHalf, half_at, IsWord, word_at, half_is_big, big_is_half, word_is_big, big_is_word, pieces_are, big_below, byte_from}
+use Rattle.programs.proofs.ChannelMessages.{message_of, no_header, no_data, has_message, IsFound, found_narrow, found_wide, not_found, wide_back}
+use Rattle.programs.proofs.LoadedValues.{some_is, part_place, byte_in, half_in, half_small, record_is, IsHalf, half_at, IsWord, word_at, half_is_big, big_is_half, word_is_big, big_is_word, pieces_are, big_below, byte_from}
 use Rattle.programs.proofs.PeerRun.{is_allowed, not_allowed}
 use Rattle.programs.proofs.PeerWindows.{port_bytes, ip_bytes_are, padded_is, length-masked}
 use Rattle.programs.proofs.Preconditions.{precondition, ExitsMeet, precondition_is_sound}
 
 -- ---- the answers of helpers, and the end
 
--- helper 1 looks up peers, and helper 3 permissions
-abbrev pub LooksUp : (ℕ → ℕ → AddressRecord → ℕ × AddressRecord) → (ℕ → Option Addr) → Type 0
-LooksUp answer peer = (n : ℕ) → answer 1 n no_address ≡ peer_answer (peer n)
-
-abbrev pub LooksUpPermissions : (ℕ → ℕ → AddressRecord → ℕ × AddressRecord) → (Addr → Bool) → Type 0
-LooksUpPermissions answer permitted = (ip : List ℕ) (port : ℕ) → HasWidth 4 ip port → (answer 3 0 (address_record (V4 ip port))).0 ≡ (test_answer (permitted (V4 ip port))).0
-
--- the bytes of the window and the destination, with the verdict that sends
-abbrev pub window_sent : ℕ → State → Option (Addr × List ℕ)
-window_sent verdict s = if verdict == SENDS then (window_in s >>= λ bytes. destination_in s >>= λ to. Some (to, bytes)) else None
-
--- content goes to the address of a value, where the value is well-formed and the address permitted
-abbrev pub of_send : (Addr → Bool) → List ℕ → List ℕ → List ℕ → Option (Addr × List ℕ)
-of_send permits tx value content = address_in tx value >>= λ to. guard (permits to) >>= λ _. Some (to, content)
-
--- of ChannelData, of a Send indication of two attributes in either order, of what else begins as STUN does, and of any other
--- datagram
-pub record IsClientEnd (peer : ℕ → Option Addr) (permitted : Addr → Bool) (tx d : List ℕ) (verdict : ℕ) (s : State) : Type 0 where
-  pub channel : 1 ≤ length d → 64 ≤ slice_index d 0 → slice_index d 0 < 128 → (verdict ≢ PASSES) × (window_sent verdict s ≡ channel_data peer d)
-  pub address_first : IsAddressFirst d → (verdict ≢ PASSES) × (window_sent verdict s ≡ of_send permitted tx (part 8 24 d) (part (big_number 2 (drop 34 d)) 36 d))
-  pub data_first : IsDataFirst d → (verdict ≢ PASSES) × (window_sent verdict s ≡ of_send permitted tx (part 8 (padded_length (big_number 2 (drop 22 d)) + 28) d) (part (big_number 2 (drop 22 d)) 24 d))
-  pub passed : 1 ≤ length d → slice_index d 0 < 64 → (IsAddressFirst d → ⊥) → (IsDataFirst d → ⊥) → (verdict ≡ PASSES) × (datagram_in (length d) s ≡ d)
-  pub other : (length d ≡ 0) ⊎ (128 ≤ slice_index d 0) → verdict ≡ 0
-
 -- cut where a part of the program starts
 abbrev pub is_cut : ℕ → Bool
-is_cut slot = nat_eq slot 28 || nat_eq slot 54 || nat_eq slot 73 || nat_eq slot 91
+is_cut slot = nat_eq slot 28 || nat_eq slot 44 || nat_eq slot 70 || nat_eq slot 89 || nat_eq slot 107
 
 -- ---- the value of XOR-PEER-ADDRESS
 
@@ -150,7 +130,7 @@ module _ (d : List ℕ) (fit : IsDatagram d) (k : ℕ) (inside : k + 8 ≤ lengt
       let b3_is : b3 ≡ xor_bytes 4 (drop 4 value) magic_cookie = ip_bytes_are (part 4 (k + 4) d) ip_fits u1 u2 u3 b3 u1_is is_u2 is_u3 is3 ∙ ap (λ (l : List ℕ). xor_bytes 4 l magic_cookie) (sym ip_at) in
       λ i. is1 i ++ b2_is i ++ b3_is i
 
-module _ (w : Environment) (d : List ℕ) (peer : ℕ → Option Addr) (permitted : Addr → Bool) (lookup : LooksUp w.answer peer) (peers : (n : ℕ) → IfSome (peer n) IsIpv4Address) (permissions : LooksUpPermissions w.answer permitted) (tx : List ℕ) (side : w.context.side ≡ 0) (fit : IsDatagram d) where
+module _ (w : Environment) (d : List ℕ) (peer : ℕ → Option Addr) (permitted : Addr → Bool) (answers : AnswersClient w.answer peer permitted) (tx : List ℕ) (side : w.context.side ≡ 0) (fit : IsDatagram d) where
   abbrev pub IsEnd : ℕ → State → Type 0
   IsEnd v s = IsClientEnd peer permitted tx d v s
 
@@ -159,24 +139,24 @@ module _ (w : Environment) (d : List ℕ) (peer : ℕ → Option Addr) (permitte
 
   -- ---- sending
 
-  abbrev at_send : List (Option ℕ) → ℕ → ℕ → ℕ → ℕ → State
+  abbrev at_send : StackMemory → ℕ → ℕ → ℕ → ℕ → State
   at_send stack v f n total = record (start d) {
-    slot = 91;
+    slot = 107;
     registers = Scalar v ∷ Nothing ∷ Nothing ∷ Nothing ∷ Nothing ∷ Nothing ∷ Ctx ∷ Scalar f ∷ Scalar n ∷ Scalar total ∷ Stack (pos 0) ∷ [];
     memory = record { stack = stack; bytes = datagram_area d; length = length d };
   }
 
-  send_exits_meet : (stack : List (Option ℕ)) (v f n total k : ℕ) (bytes : AddressRecord) → ((found : List ℕ) → cells_bytes (part 8 504 stack) ≡ Some found → found ≡ bytes) → is_valid bytes ≡ true → f ≡ 64 + k → k + n ≤ length d
-      → ((s : State) → window_sent 2 s ≡ Some (address_of bytes, part n k d) → IsEnd 2 s) → ExitsMeet w client_program is_cut IsEnd (at_send stack v f n total)
+  send_exits_meet : (stack : StackMemory) (v f n total k : ℕ) (bytes : AddressRecord) → ((found : List ℕ) → cells_bytes (part 8 504 stack.cells) ≡ Some found → widened Narrow found ≡ bytes) → is_valid Narrow bytes ≡ true → f ≡ 64 + k → k + n ≤ length d
+      → ((s : State) → sent_to 2 s ≡ Some (address_of bytes, part n k d) → IsEnd 2 s) → ExitsMeet w client_program is_cut IsEnd (at_send stack v f n total)
   send_exits_meet stack v f n total k bytes holds valid at inside ends = precondition_is_sound w client_program is_cut IsEnd 12 (at_send stack v f n total) (
-    λ room. λ taken is_taken. let same : taken ≡ bytes = holds taken is_taken in (
+    λ room. λ taken is_taken. let same : widened Narrow taken ≡ bytes = holds taken is_taken in (
       λ ok. ends _ (ap₂ (λ (a : AddressRecord) (l : List ℕ). Some (address_of a, l)) same (part_place n f k d at inside)),
-      λ bad. wrong 2 _ (not_bad taken (ap is_valid same ∙ valid) bad),
+      λ bad. wrong 2 _ (not_bad (widened Narrow taken) (ap (is_valid Narrow) same ∙ valid) bad),
     ),
     λ no_room. λ taken is_taken. (λ ok. wrong 2 _ (too_wide no_room), λ bad. wrong 2 _ (too_wide no_room)),
   )
     where
-      not_bad : (bytes : AddressRecord) → is_valid bytes ≡ true → (w.context.side ≢ 0) ⊎ (is_valid bytes ≡ false) → ⊥
+      not_bad : (bytes : AddressRecord) → is_valid Narrow bytes ≡ true → (w.context.side ≢ 0) ⊎ (is_valid Narrow bytes ≡ false) → ⊥
       not_bad bytes e (inl f) = f side
       not_bad bytes e (inr f) = true≢false (sym e ∙ f)
 
@@ -188,24 +168,24 @@ module _ (w : Environment) (d : List ℕ) (peer : ℕ → Option Addr) (permitte
 
   abbrev at_address : ℕ → ℕ → ℕ → ℕ → ℕ → ℕ → State
   at_address k x y f n total = record (start d) {
-    slot = 73;
+    slot = 89;
     registers = Scalar 0 ∷ Ctx ∷ Data (pos k) ∷ End ∷ Scalar x ∷ Scalar y ∷ Ctx ∷ Scalar f ∷ Scalar n ∷ Scalar total ∷ Stack (pos 0) ∷ [];
   }
 
   address_precondition : (k x y f n total at : ℕ) → k + 8 ≤ length d → f ≡ 64 + at → at + n ≤ length d
-      → ((v : ℕ) (s : State) → v ≢ 1 → window_sent v s ≡ of_send permitted tx (part 8 k d) (part n at d) → IsEnd v s) → precondition w client_program is_cut IsEnd 20 (at_address k x y f n total)
+      → ((v : ℕ) (s : State) → v ≢ 1 → sent_to v s ≡ of_send permitted tx (part 8 k d) (part n at d) → IsEnd v s) → precondition w client_program is_cut IsEnd 20 (at_address k x y f n total)
   address_precondition k x y f n total at inside front whole ends = λ in0 family is_family. (
     λ other. ends 0 _ (λ one. omega (arith, one)) (sym (ap (λ (o : Option Addr). o >>= λ to. guard (permitted to) >>= λ _. Some (to, part n at d)) (malformed tx (part 8 k d) size (λ e. other (omega (arith, family_is family is_family, e, same_family)))))),
     λ ipv4. let is_ipv4 : slice_index (part 8 k d) 1 ≡ 1 = omega (arith, ipv4, family_is family is_family, same_family, family_small) in
         λ b1 is_b1. λ in2 v is_v. λ v1 is_v1. λ v2 is_v2. λ v3 is_v3. λ b2 is_b2. λ in4 u is_u. λ u1 is_u1. λ u2 is_u2. λ u3 is_u3. λ b3 is_b3.
         let whole_record : b1 ++ b2 ++ b3 ≡ address_record (address_of_value (part 8 k d)) = pieces d fit k inside b1 b2 b3 v v1 v2 v3 u u1 u2 u3 is_b1 is_v is_v1 is_v2 is_v3 is_b2 is_u is_u1 is_u2 is_u3 is_b3 in
-        let holds : (found : List ℕ) → cells_bytes (part 8 504 (overlay 508 (map Some b3) (overlay 506 (map Some b2) (overlay 504 (map Some b1) empty_stack)))) ≡ Some found → found ≡ address_record (address_of_value (part 8 k d)) =
-        λ found e. pieces_are b1 b2 b3 found (ap length is_b1) (ap length is_b2) (ap length is_b3) e ∙ whole_record in
+        let holds : (found : List ℕ) → cells_bytes (part 8 504 (overlay 508 (map Some b3) (overlay 506 (map Some b2) (overlay 504 (map Some b1) empty_cells)))) ≡ Some found → widened Narrow found ≡ widened Narrow (address_record (address_of_value (part 8 k d))) =
+        λ found e. ap (widened Narrow) (pieces_are b1 b2 b3 found (ap length is_b1) (ap length is_b2) (ap length is_b3) e ∙ whole_record) in
         λ rec is_rec. λ ok bytes is_ok is_bytes.
-        let ok_is : ok ≡ (test_answer (permitted (address_of_value (part 8 k d)))).0 = is_ok ∙ ap (λ (r : List ℕ). (w.answer 3 0 r).0) (holds rec is_rec) ∙ permissions _ _ (fits d fit k inside) in (
+        let ok_is : ok ≡ test_number (permitted (address_of_value (part 8 k d))) = is_ok ∙ ap (λ (r : List ℕ). (w.answer 3 0 r).0) (holds rec is_rec) ∙ answers.permissions _ _ (fits d fit k inside) in (
           λ zero. let no = not_allowed (permitted (address_of_value (part 8 k d))) ok ok_is zero in denied_ends ok _ no.1 is_ipv4 no.0,
           λ some. let allows = is_allowed (permitted (address_of_value (part 8 k d))) ok ok_is some in
-              send_exits_meet (overlay 508 (map Some b3) (overlay 506 (map Some b2) (overlay 504 (map Some b1) empty_stack))) ok f n total at (address_record (address_of_value (part 8 k d))) holds refl front whole
+              send_exits_meet (with_bytes (with_bytes (with_bytes empty_stack 504 b1) 506 b2) 508 b3) ok f n total at (widened Narrow (address_record (address_of_value (part 8 k d)))) holds refl front whole
               (λ s e. ends 2 s (λ one. omega (arith, one)) (e ∙ relayed is_ipv4 allows)),
         ),
   )
@@ -222,15 +202,15 @@ module _ (w : Environment) (d : List ℕ) (peer : ℕ → Option Addr) (permitte
       family_is : (v : ℕ) → v ≡ little_number 1 (part 1 (k + 1 + 64) (datagram_area d)) → v ≡ slice_index d (k + 1)
       family_is v e = let turned : k + 1 + 64 ≡ 64 + (k + 1) = omega arith in byte_in (k + 1) v d (omega (arith, inside)) (e ∙ ap (λ (i : ℕ). little_number 1 (part 1 i (datagram_area d))) turned)
 
-      refused : (v : ℕ) (s : State) → v ≡ 0 → slice_index (part 8 k d) 1 ≡ 1 → permitted (address_of_value (part 8 k d)) ≡ false → window_sent v s ≡ of_send permitted tx (part 8 k d) (part n at d)
+      refused : (v : ℕ) (s : State) → v ≡ 0 → slice_index (part 8 k d) 1 ≡ 1 → permitted (address_of_value (part 8 k d)) ≡ false → sent_to v s ≡ of_send permitted tx (part 8 k d) (part n at d)
       refused v s e is_ipv4 denied = rw (e, wellformed tx (part 8 k d) size is_ipv4, denied) refl
 
       denied_ends : (v : ℕ) (s : State) → v ≡ 0 → slice_index (part 8 k d) 1 ≡ 1 → permitted (address_of_value (part 8 k d)) ≡ false → IsEnd v s
       denied_ends v s e is_ipv4 denied = ends v s (λ one. omega (arith, e, one)) (refused v s e is_ipv4 denied)
 
-      relayed : slice_index (part 8 k d) 1 ≡ 1 → permitted (address_of_value (part 8 k d)) ≡ true → Some (address_of (address_record (address_of_value (part 8 k d))), part n at d) ≡ of_send permitted tx (part 8 k d) (part n at d)
+      relayed : slice_index (part 8 k d) 1 ≡ 1 → permitted (address_of_value (part 8 k d)) ≡ true → Some (address_of (wide_record (address_of_value (part 8 k d))), part n at d) ≡ of_send permitted tx (part 8 k d) (part n at d)
       relayed is_ipv4 allows =
-          rw (wellformed tx (part 8 k d) size is_ipv4, allows) (ap (λ (x : ℕ). Some (V4 (xor_bytes 4 (drop 4 (part 8 k d)) magic_cookie) x, part n at d)) (port_back (port_in (part 8 k d)) (fits d fit k inside).small))
+          rw (wellformed tx (part 8 k d) size is_ipv4, allows) (ap (λ (a : Addr). Some (a, part n at d)) (wide_back _ (port_in (part 8 k d)) (fits d fit k inside)))
 
   -- ---- ends
 
@@ -244,7 +224,7 @@ module _ (w : Environment) (d : List ℕ) (peer : ℕ → Option Addr) (permitte
   header_byte h = first_byte h.kind (omega (arith, h.long))
 
   -- what isn't of the bits 00 is no Send
-  no_send : (v : ℕ) (s : State) → (1 ≤ slice_index d 0) ⊎ (length d < 36) → ((1 ≤ length d → 64 ≤ slice_index d 0 → slice_index d 0 < 128 → (v ≢ 1) × (window_sent v s ≡ channel_data peer d))) → (1 ≤ length d → slice_index d 0 < 64 → ⊥) → ((length d ≡ 0) ⊎ (128 ≤ slice_index d 0) → v ≡ 0) → IsEnd v s
+  no_send : (v : ℕ) (s : State) → (1 ≤ slice_index d 0) ⊎ (length d < 36) → ((1 ≤ length d → 64 ≤ slice_index d 0 → slice_index d 0 < 128 → (v ≢ 1) × (sent_to v s ≡ channel_data peer d))) → (1 ≤ length d → slice_index d 0 < 64 → ⊥) → ((length d ≡ 0) ⊎ (128 ≤ slice_index d 0) → v ≡ 0) → IsEnd v s
   no_send v s unlike channel low other = record {
     channel = channel;
     address_first = λ is. absurd (neither is.header unlike);
@@ -283,7 +263,7 @@ module _ (w : Environment) (d : List ℕ) (peer : ℕ → Option Addr) (permitte
       omega (arith, a.address, b.data_kind, b0, b1, b2, b3)
 
   -- an end of a Send of either order
-  address_end : IsAddressFirst d → (v : ℕ) (s : State) → v ≢ 1 → window_sent v s ≡ of_send permitted tx (part 8 24 d) (part (big_number 2 (drop 34 d)) 36 d) → IsEnd v s
+  address_end : IsAddressFirst d → (v : ℕ) (s : State) → v ≢ 1 → sent_to v s ≡ of_send permitted tx (part 8 24 d) (part (big_number 2 (drop 34 d)) 36 d) → IsEnd v s
   address_end is v s alone same = record {
     channel = λ p from to. absurd (omega (arith, header_byte is.header, from));
     address_first = λ x. (alone, same);
@@ -296,7 +276,7 @@ module _ (w : Environment) (d : List ℕ) (peer : ℕ → Option Addr) (permitte
       neither (inl e) = omega (arith, e, is.header.long)
       neither (inr le) = omega (arith, le, header_byte is.header)
 
-  data_end : IsDataFirst d → (v : ℕ) (s : State) → v ≢ 1 → window_sent v s ≡ of_send permitted tx (part 8 (padded_length (big_number 2 (drop 22 d)) + 28) d) (part (big_number 2 (drop 22 d)) 24 d) → IsEnd v s
+  data_end : IsDataFirst d → (v : ℕ) (s : State) → v ≢ 1 → sent_to v s ≡ of_send permitted tx (part 8 (padded_length (big_number 2 (drop 22 d)) + 28) d) (part (big_number 2 (drop 22 d)) 24 d) → IsEnd v s
   data_end is v s alone same = record {
     channel = λ p from to. absurd (omega (arith, header_byte is.header, from));
     address_first = λ x. absurd (both_orders x is);
@@ -313,7 +293,7 @@ module _ (w : Environment) (d : List ℕ) (peer : ℕ → Option Addr) (permitte
 
   abbrev at_data : ℕ → ℕ → State
   at_data x total = record (start d) {
-    slot = 54;
+    slot = 70;
     registers = Scalar 0 ∷ Ctx ∷ Data (pos 0) ∷ End ∷ Data (pos 36) ∷ Scalar x ∷ Ctx ∷ Nothing ∷ Nothing ∷ Scalar total ∷ Stack (pos 0) ∷ [];
   }
 
@@ -364,7 +344,7 @@ module _ (w : Environment) (d : List ℕ) (peer : ℕ → Option Addr) (permitte
 
   abbrev at_stun : ℕ → ℕ → State
   at_stun b total = record (start d) {
-    slot = 28;
+    slot = 44;
     registers = Scalar 0 ∷ Ctx ∷ Data (pos 0) ∷ End ∷ Data (pos 1) ∷ Scalar b ∷ Ctx ∷ Nothing ∷ Nothing ∷ Scalar total ∷ Stack (pos 0) ∷ [];
   }
 
@@ -443,7 +423,7 @@ module _ (w : Environment) (d : List ℕ) (peer : ℕ → Option Addr) (permitte
   discarded : (v : ℕ) (s : State) → v ≡ 0 → 64 ≤ slice_index d 0 → channel_data peer d ≡ None → IsEnd v s
   discarded v s e low none = no_send v s (inl (omega (arith, low))) (λ p q r. (λ one. omega (arith, e, one), rw e (sym none))) (λ some lt. omega (arith, low, lt)) (λ o. e)
 
-  relays : (s : State) → 1 ≤ length d → 64 ≤ slice_index d 0 → slice_index d 0 < 128 → window_sent 2 s ≡ channel_data peer d → IsEnd 2 s
+  relays : (s : State) → 1 ≤ length d → 64 ≤ slice_index d 0 → slice_index d 0 < 128 → sent_to 2 s ≡ channel_data peer d → IsEnd 2 s
   relays s some low high same = no_send 2 s (inl (omega (arith, low))) (λ p q r. (λ one. omega (arith, one), same)) (λ p lt. omega (arith, low, lt)) (λ o. absurd (neither o))
     where
       neither : (length d ≡ 0) ⊎ (128 ≤ slice_index d 0) → ⊥
@@ -456,9 +436,46 @@ module _ (w : Environment) (d : List ℕ) (peer : ℕ → Option Addr) (permitte
   unbound : channel_in d ≡ Some (message_of d) → peer (big_number 2 d) ≡ None → channel_data peer d ≡ None
   unbound e f = rw (e, f) refl
 
-  bound : (m : ℕ) (bytes : AddressRecord) → channel_in d ≡ Some (message_of d) → IsFound (peer (big_number 2 d)) bytes
+  bound : (form : RecordForm) (m : ℕ) (bytes : AddressRecord) → channel_in d ≡ Some (message_of d) → IsFound form (peer (big_number 2 d)) bytes
       → m ≡ big_number 2 (drop 2 d) → Some (address_of bytes, part m 4 d) ≡ channel_data peer d
-  bound m bytes e f is = rw (e, f.is) (ap₂ (λ (a : Addr) (l : List ℕ). Some (a, l)) f.back (ap (λ (n : ℕ). part n 4 d) is))
+  bound form m bytes e f is = rw (e, f.is) (ap₂ (λ (a : Addr) (l : List ℕ). Some (a, l)) f.back (ap (λ (n : ℕ). part n 4 d) is))
+
+  -- ---- ChannelData to an IPv6 peer
+
+  abbrev at_wide : StackMemory → ℕ → ℕ → ℕ → ℕ → State
+  at_wide stack v n m total = record (start d) {
+    slot = 28;
+    registers = Scalar v ∷ Nothing ∷ Nothing ∷ Nothing ∷ Nothing ∷ Nothing ∷ Ctx ∷ Scalar n ∷ Scalar m ∷ Scalar total ∷ Stack (pos 0) ∷ [];
+    memory = record { stack = stack; bytes = datagram_area d; length = length d };
+  }
+
+  wide_precondition : (stack : StackMemory) (v0 n m total : ℕ) → length stack.cells ≡ 512 → n ≡ big_number 2 d → m ≡ big_number 2 (drop 2 d) → 1 ≤ length d → 64 ≤ slice_index d 0 → slice_index d 0 < 128
+      → channel_in d ≡ Some (message_of d) → 4 + m ≤ length d → precondition w client_program is_cut IsEnd 20 (at_wide stack v0 n m total)
+  wide_precondition stack v0 n m total long_stack n_is m_is some low high message inside =
+      λ v bytes is_v is_bytes.
+      let answer = answers.wide_peers n in
+      let v_is : v ≡ (wide_answer (peer (big_number 2 d))).0 = is_v ∙ ap (λ a. a.0) answer ∙ ap (λ (x : ℕ). (wide_answer (peer x)).0) n_is in
+      let bytes_are : bytes ≡ (wide_answer (peer (big_number 2 d))).1 = is_bytes ∙ ap (λ a. a.1) answer ∙ ap (λ (x : ℕ). (wide_answer (peer x)).1) n_is in (
+        λ zero. let none = not_found (peer (big_number 2 d)) v v_is zero in discarded v _ none.1 low (unbound message none.0),
+        λ some_peer. let is = found_wide (peer (big_number 2 d)) v bytes (answers.addresses (big_number 2 d)) v_is bytes_are some_peer in (
+          λ room. λ taken is_taken. let same : taken ≡ bytes = read_back taken bytes is.count is_taken in (
+            λ ok. relays _ some low high (ap₂ (λ (a : AddressRecord) (l : List ℕ). Some (address_of a, l)) same (part_place m 68 4 d refl inside) ∙ bound Wide m bytes message is m_is),
+            λ bad. wrong 2 _ (not_bad taken (ap (is_valid Wide) same ∙ is.valid) bad),
+          ),
+          λ no_room. λ taken is_taken. (λ ok. wrong 2 _ (too_wide no_room), λ bad. wrong 2 _ (too_wide no_room)),
+        ),
+      )
+    where
+      read_back : (taken bytes : List ℕ) → length bytes ≡ 20 → cells_bytes (part 20 488 (overlay 488 (map Some bytes) stack.cells)) ≡ Some taken → taken ≡ bytes
+      read_back taken bytes count e = some_is taken bytes (sym e ∙ cells_read_back 20 488 bytes stack.cells count (omega (arith, long_stack)))
+
+      not_bad : (bytes : AddressRecord) → is_valid Wide bytes ≡ true → (w.context.side ≢ 0) ⊎ (is_valid Wide bytes ≡ false) → ⊥
+      not_bad bytes e (inl f) = f side
+      not_bad bytes e (inr f) = true≢false (sym e ∙ f)
+
+      too_wide : ((64 + length d + 3 < 68 + m) ⊎ (65507 < m)) → ⊥
+      too_wide (inl lt) = omega (arith, inside, lt)
+      too_wide (inr lt) = omega (arith, inside, lt, fit.short)
 
   client_precondition : precondition w client_program is_cut IsEnd 30 (start d)
   client_precondition = λ total is_total. let total_is : total ≡ length d = is_total ∙ length_field w.context (length d) (omega (arith, fit.short)) in (
@@ -478,13 +495,14 @@ module _ (w : Environment) (d : List ℕ) (peer : ℕ → Option Addr) (permitte
                     λ whole. let inside : 4 + m ≤ length d = omega (arith, whole, t_is, total_is, m_small, fit.short) in
                         let message = has_message d header (channel_low header low) (channel_high header high) (omega (arith, inside, m_is)) in
                         λ v bytes is_v is_bytes.
-                        let answer = lookup n in
-                        let v_is : v ≡ (peer_answer (peer (big_number 2 d))).0 = is_v ∙ ap (λ a. a.0) answer ∙ ap (λ (x : ℕ). (peer_answer (peer x)).0) n_is in
-                        let bytes_are : bytes ≡ (peer_answer (peer (big_number 2 d))).1 = is_bytes ∙ ap (λ a. a.1) answer ∙ ap (λ (x : ℕ). (peer_answer (peer x)).1) n_is in (
-                          λ zero. let none = not_found (peer (big_number 2 d)) v v_is zero in discarded v _ none.1 low (unbound message none.0),
-                          λ some_peer. let is = found (peer (big_number 2 d)) v bytes (peers (big_number 2 d)) v_is bytes_are some_peer in
-                              send_exits_meet (overlay 504 (map Some bytes) empty_stack) v 68 m total 4 bytes (λ taken e. record_is bytes taken is.count e) is.valid refl inside
-                              (λ s e. relays s some low high (e ∙ bound m bytes message is m_is)),
+                        let answer = answers.narrow_peers n in
+                        let v_is : v ≡ (narrow_answer (peer (big_number 2 d))).0 = is_v ∙ ap (λ a. a.0) answer ∙ ap (λ (x : ℕ). (narrow_answer (peer x)).0) n_is in
+                        let bytes_are : bytes ≡ (narrow_answer (peer (big_number 2 d))).1 = is_bytes ∙ ap (λ a. a.1) answer ∙ ap (λ (x : ℕ). (narrow_answer (peer x)).1) n_is in (
+                          λ zero. precondition_is_sound w client_program is_cut IsEnd 20 (at_wide (with_bytes empty_stack 504 (take 8 bytes)) v n m total)
+                              (wide_precondition (with_bytes empty_stack 504 (take 8 bytes)) v n m total (long_stack (map Some (take 8 bytes))) n_is m_is some low high message inside),
+                          λ some_peer. let is = found_narrow (peer (big_number 2 d)) v bytes (answers.addresses (big_number 2 d)) v_is bytes_are some_peer in
+                              send_exits_meet (with_bytes empty_stack 504 (take 8 bytes)) v 68 m total 4 bytes (λ taken e. ap (widened Narrow) (record_is (take 8 bytes) taken (first_long bytes is.count) e) ∙ is.same) is.valid refl inside
+                              (λ s e. relays s some low high (e ∙ bound Narrow m bytes message is m_is)),
                         ),
                   ),
             ),
@@ -492,6 +510,12 @@ module _ (w : Environment) (d : List ℕ) (peer : ℕ → Option Addr) (permitte
         ),
   )
     where
+      long_stack : (cells : List (Option ℕ)) → length (overlay 504 cells empty_cells) ≡ 512
+      long_stack cells = length-put 504 cells empty_cells ∙ length-empty_cells
+
+      first_long : (bytes : List ℕ) → length bytes ≡ 20 → length (take 8 bytes) ≡ 8
+      first_long bytes e = omega (arith, e, length-take 8 bytes)
+
       channel_low : 4 ≤ length d → 64 ≤ slice_index d 0 → 0x4000 ≤ big_number 2 d
       channel_low header low = omega (arith, low)
 

@@ -8,15 +8,17 @@ use Rattle.insn.specs.Endian.{big_number}
 use Rattle.stun.specs.Datagrams.{message_in}
 use Rattle.stun.specs.Messages.{Parts, AreParts, parts_bytes, padding_count}
 use Rattle.semantics.specs.Access.{part}
-use Rattle.attributes.specs.AddressLaws.{ipv4-is_address}
-use Rattle.attributes.specs.Addresses.{IsIpv4Address}
+use Rattle.attributes.specs.Addresses.{IsAddress, HasWidth}
 use Rattle.attributes.specs.declared.address.Addr.{Addr}
-use Rattle.tables.specs.LookUps.{peer_of, has_permission}
+use Rattle.attributes.specs.declared.address.Addr.TheVariants.{V4, V6}
+use Rattle.tables.specs.LookUps.{allocation_of, peer_of, has_permission}
+use Rattle.tables.specs.declared.allocation.Allocation.{Allocation}
 use Rattle.tables.specs.Rows.{Rows}
 use Rattle.tables.specs.WellFormed.{AreWellFormed}
 use Rattle.tables.specs.WellFormedLaws.{peer_of-address}
-use Rattle.helpers.specs.LawfulLaws.{record_bytes, look_up_is_lawful}
-use Rattle.helpers.specs.LookUps.{look_up_answer}
+use Rattle.helpers.specs.LawfulLaws.{record_bytes, wide_record_bytes, look_up_is_lawful}
+use Rattle.helpers.specs.LookUps.{look_up_answer, peer_answer, test_answer}
+use Rattle.semantics.specs.declared.helper.RecordForm.TheVariants.{Narrow, Wide}
 use Rattle.semantics.specs.Machine.{Environment, State}
 use Rattle.semantics.specs.Runs.{Exited, IsPossible, IsSafe}
 use Rattle.events.specs.Events.{ToPeer}
@@ -27,9 +29,13 @@ use Rattle.fallible.specs.Options.{◌>>=◌}
 use Rattle.programs.specs.PlainSends.{padded_length, PassesTests}
 use Rattle.programs.specs.Relaying.{IsRelayStart, Relays, ServesClient}
 use Rattle.programs.specs.Rules.{client_slot, channel_data, send, send_from, to_peer}
+use Rattle.programs.proofs.PeerServes.{test_is}
 use Rattle.programs.specs.declared.verdict.TheConstants.{PASSES}
 use Rattle.programs.specs.Runs.{environment_for, run_for, window_in, destination_in}
-use Rattle.programs.proofs.ClientRun.{IsClientEnd, LooksUp, LooksUpPermissions, of_send, window_sent, is_cut, client_exits_meet}
+use Rattle.programs.proofs.ChannelMessages.{wide_back}
+use Rattle.programs.proofs.ClientEnds.{AnswersClient, IsClientEnd, narrow_answer, wide_answer, of_send, sent_to}
+use Rattle.programs.proofs.ClientRun.{is_cut, client_exits_meet}
+use Rattle.programs.proofs.PeerEnds.{test_number}
 use Rattle.programs.proofs.PlainSendLaws.{passes_tests, is_plain, address_first_sends, data_first_sends}
 use Rattle.programs.proofs.Preconditions.{ExitsWith, safe_run_exits}
 use Rattle.programs.proofs.PeerServes.{if_some}
@@ -74,35 +80,54 @@ abbrev peers_of : Option ℕ → Rows → ℕ → Option Addr
 peers_of None rows number = None
 peers_of (Some slot) rows number = peer_of slot number rows
 
-looks_up : (slot : Option ℕ) (rows : Rows) → LooksUp (look_up_answer slot rows) (peers_of slot rows)
-looks_up None rows number = refl
-looks_up (Some slot) rows number = refl
-
-peers_are_ipv4 : (slot : Option ℕ) (rows : Rows) → AreWellFormed rows → (number : ℕ) → IfSome (peers_of slot rows number) IsIpv4Address
-peers_are_ipv4 None rows formed number = tt
-peers_are_ipv4 (Some slot) rows formed number = if_some IsIpv4Address (peer_of slot number rows) (λ peer bound. peer_of-address slot number rows peer formed bound)
+peers_are_addresses : (slot : Option ℕ) (rows : Rows) → AreWellFormed rows → (number : ℕ) → IfSome (peers_of slot rows number) IsAddress
+peers_are_addresses None rows formed number = tt
+peers_are_addresses (Some slot) rows formed number = if_some IsAddress (peer_of slot number rows) (λ peer bound. peer_of-address slot number rows peer formed bound)
 
 -- the permissions of a slot, if there is one
 abbrev permitted_in : Option ℕ → Rows → Addr → Bool
 permitted_in None rows address = false
 permitted_in (Some slot) rows address = has_permission slot address rows
 
-looks_up_permissions : (slot : Option ℕ) (rows : Rows) → LooksUpPermissions (look_up_answer slot rows) (permitted_in slot rows)
-looks_up_permissions None rows ip port fits = refl
-looks_up_permissions (Some slot) rows ip port fits = refl
+narrow_is : (o : Option Addr) → peer_answer Narrow o ≡ narrow_answer o
+narrow_is None = refl
+narrow_is (Some (V4 ip port)) = refl
+narrow_is (Some (V6 ip port)) = refl
+
+wide_is : (o : Option Addr) → peer_answer Wide o ≡ wide_answer o
+wide_is None = refl
+wide_is (Some peer) = refl
+
+answers_client : (slot : Option ℕ) (rows : Rows) → AreWellFormed rows → AnswersClient (look_up_answer slot rows) (peers_of slot rows) (permitted_in slot rows)
+answers_client None rows formed = record {
+  narrow_peers = λ n. refl;
+  wide_peers = λ n. refl;
+  permissions = λ ip port fits. refl;
+  addresses = peers_are_addresses None rows formed;
+}
+answers_client (Some slot) rows formed = record {
+  narrow_peers = λ n. narrow_is (peer_of slot n rows);
+  wide_peers = λ n. wide_is (peer_of slot n rows);
+  permissions = λ ip port fits. ap (λ (a : Addr). (test_answer (has_permission slot a rows)).0) (wide_back ip port fits) ∙ test_is (has_permission slot (V4 ip port) rows);
+  addresses = peers_are_addresses (Some slot) rows formed;
+}
 
 -- ---- the start and the end
 
 is_possible : (client : Addr) (tx : List ℕ) (rows : Rows) (datagram : List ℕ) → IsRelayStart client tx rows datagram → IsPossible (environment_for tx (Client client) rows)
 is_possible client tx rows datagram start = record {
-  context = record { side = omega arith; source = record_bytes client (ipv4-is_address client start.is_ipv4); transaction_id = start.transaction_id };
+  context = record { side = omega arith; source = record_bytes client start.is_address; wide_source = wide_record_bytes client start.is_address; transaction_id = start.transaction_id };
   helpers = look_up_is_lawful rows start.well_formed (client_slot client rows);
 }
 
--- the window goes to the destination from the slot's relayed address, if all are there
-from_the_slot : (sends : Bool) (window : Option (List ℕ)) (slot : Option ℕ) (destination : Option Addr) →
-    (if sends then (window >>= λ bytes. slot >>= λ at. destination >>= λ to. Some (ToPeer at to bytes)) else None)
-    ≡ (slot >>= λ at. option_map (to_peer at) (if sends then (window >>= λ bytes. destination >>= λ to. Some (to, bytes)) else None))
+-- the slot of an allocation, if there is one
+abbrev slot_of : Option Allocation → Option ℕ
+slot_of a = option_map (λ a. a.slot) a
+
+-- the window goes to the destination from the allocation's relayed address, if all are there
+from_the_slot : (sends : Bool) (window : Option (List ℕ)) (a : Option Allocation) (destination : Option Addr) →
+    (if sends then (window >>= λ bytes. a >>= λ at. destination >>= λ to. to_peer at (to, bytes)) else None)
+    ≡ (a >>= λ at. (if sends then (window >>= λ bytes. destination >>= λ to. Some (to, bytes)) else None) >>= λ pair. to_peer at pair)
 from_the_slot true None None destination = refl
 from_the_slot true None (Some at) destination = refl
 from_the_slot true (Some bytes) None destination = refl
@@ -111,15 +136,15 @@ from_the_slot true (Some bytes) (Some at) (Some to) = refl
 from_the_slot false window None destination = refl
 from_the_slot false window (Some at) destination = refl
 
-by_the_rules : (slot : Option ℕ) (rows : Rows) (datagram : List ℕ) (sent : Option (Addr × List ℕ)) → sent ≡ channel_data (peers_of slot rows) datagram
-    → (slot >>= λ at. option_map (to_peer at) sent) ≡ (slot >>= λ at. option_map (to_peer at) (channel_data (λ number. peer_of at number rows) datagram))
+by_the_rules : (a : Option Allocation) (rows : Rows) (datagram : List ℕ) (sent : Option (Addr × List ℕ)) → sent ≡ channel_data (peers_of (slot_of a) rows) datagram
+    → (a >>= λ at. sent >>= λ pair. to_peer at pair) ≡ (a >>= λ at. channel_data (λ number. peer_of at.slot number rows) datagram >>= λ pair. to_peer at pair)
 by_the_rules None rows datagram sent e = refl
-by_the_rules (Some at) rows datagram sent e = ap (option_map (to_peer at)) e
+by_the_rules (Some at) rows datagram sent e = ap (λ (o : Option (Addr × List ℕ)). o >>= λ pair. to_peer at pair) e
 
-by_the_rules_of_send : (slot : Option ℕ) (rows : Rows) (p : Parts) (sent : Option (Addr × List ℕ)) → sent ≡ send (permitted_in slot rows) p
-    → (slot >>= λ at. option_map (to_peer at) sent) ≡ (slot >>= λ at. option_map (to_peer at) (send (λ to. has_permission at to rows) p))
+by_the_rules_of_send : (a : Option Allocation) (rows : Rows) (p : Parts) (sent : Option (Addr × List ℕ)) → sent ≡ send (permitted_in (slot_of a) rows) p
+    → (a >>= λ at. sent >>= λ pair. to_peer at pair) ≡ (a >>= λ at. send (λ to. has_permission at.slot to rows) p >>= λ pair. to_peer at pair)
 by_the_rules_of_send None rows p sent e = refl
-by_the_rules_of_send (Some at) rows p sent e = ap (option_map (to_peer at)) e
+by_the_rules_of_send (Some at) rows p sent e = ap (λ (o : Option (Addr × List ℕ)). o >>= λ pair. to_peer at pair) e
 
 -- where code is safe, it serves the client's side
 abbrev pub ServesIfSafe : List Insn → Type 0
@@ -130,8 +155,11 @@ module _ (found : (p : Parts) (bytes : List ℕ) → message_in bytes ≡ Some p
   abbrev w : Environment
   w = environment_for tx (Client client) rows
 
+  abbrev own : Option Allocation
+  own = allocation_of client rows
+
   abbrev slot : Option ℕ
-  slot = client_slot client rows
+  slot = slot_of own
 
   abbrev final : State
   final = (run_for client_program tx (Client client) rows datagram).state
@@ -139,17 +167,17 @@ module _ (found : (p : Parts) (bytes : List ℕ) → message_in bytes ≡ Some p
   -- the end of the run, where a value of XOR-PEER-ADDRESS is read under a transaction id
   ends : (id : List ℕ) → ExitsWith w client_program datagram (λ v s. IsClientEnd (peers_of slot rows) (permitted_in slot rows) id datagram v s)
   ends id =
-      let keeps = client_exits_meet w datagram (peers_of slot rows) (permitted_in slot rows) (looks_up slot rows) (peers_are_ipv4 slot rows start.well_formed) (looks_up_permissions slot rows) id refl start.is_datagram in
+      let keeps = client_exits_meet w datagram (peers_of slot rows) (permitted_in slot rows) (answers_client slot rows start.well_formed) id refl start.is_datagram in
       safe_run_exits w client_program is_cut (λ v s. IsClientEnd (peers_of slot rows) (permitted_in slot rows) id datagram v s) datagram safe (is_possible client tx rows datagram start) start.is_datagram keeps
 
   -- what the run sends for a Send indication is what the rules send
-  relays_send : (p : Parts) (verdict : ℕ) → (run_for client_program tx (Client client) rows datagram).ending ≡ Exited verdict → verdict ≢ PASSES → window_sent verdict final ≡ send (permitted_in slot rows) p
+  relays_send : (p : Parts) (verdict : ℕ) → (run_for client_program tx (Client client) rows datagram).ending ≡ Exited verdict → verdict ≢ PASSES → sent_to verdict final ≡ send (permitted_in slot rows) p
       → Relays client_program tx (Client client) rows datagram (send_from client rows p)
   relays_send p verdict exits alone same = record {
     verdict = verdict;
     exits = exits;
     alone = alone;
-    sent = from_the_slot (verdict == 2) (window_in final) slot (destination_in final) ∙ by_the_rules_of_send slot rows p _ same;
+    sent = from_the_slot (verdict == 2) (window_in final) own (destination_in final) ∙ by_the_rules_of_send own rows p _ same;
   }
 
   by_its_order : (p : Parts) → message_in datagram ≡ Some p → PassesTests datagram → Relays client_program tx (Client client) rows datagram (send_from client rows p)
@@ -181,7 +209,7 @@ module _ (found : (p : Parts) (bytes : List ℕ) → message_in bytes ≡ Some p
               verdict = end.verdict;
               exits = end.exits;
               alone = is.0;
-              sent = from_the_slot (end.verdict == 2) (window_in final) slot (destination_in final) ∙ by_the_rules slot rows datagram _ is.1;
+              sent = from_the_slot (end.verdict == 2) (window_in final) own (destination_in final) ∙ by_the_rules own rows datagram _ is.1;
             };
         send = λ p message plain. by_its_order p message (passes_tests found every datagram start.is_datagram p message plain);
         stun = λ begins none.

@@ -1,8 +1,13 @@
 pub mod Preconditions
 pub mod LoadedValues
+pub mod BigBytes
+pub mod XorBytes
 pub mod PeerWindows
+pub mod WideWindows
+pub mod PeerEnds
 pub mod PeerRun
 pub mod PeerServes
+pub mod ClientEnds
 pub mod ChannelMessages
 pub mod ClientRun
 pub mod SendGrammar

@@ -1,5 +1,5 @@
 -- What is read of the datagram, and of an address record at the end of the stack.
-use Rattle.std.proofs.Common.{◌≡◌, ℕ, zero, suc, ◌++◌, ◌+◌, ◌*◌, ◌<◌, ◌≤◌, List, [], ◌∷◌, length, take, drop, map, get_or, Option, Some, refl, sym, ap, ◌∙◌, arith, All, inl, inr}
+use Rattle.std.proofs.Common.{◌≡◌, ℕ, zero, suc, ◌++◌, ◌+◌, ◌*◌, ◌<◌, ◌≤◌, List, [], ◌∷◌, length, take, drop, map, get_or, Option, Some, refl, sym, ap, ap₂, ◌∙◌, arith, append_assoc, All, inl, inr}
 use Rattle.std.specs.Prelude.{slice_index}
 use Rattle.std.proofs.lemmas.Bool.{cases_lt}
 use Rattle.std.proofs.lemmas.List.{get_or-drop, get_or-take, get_or_past}
@@ -10,12 +10,12 @@ use Rattle.insn.specs.declared.operator.UnaryOp.TheVariants.{Swap}
 use Rattle.insn.specs.declared.operator.SwapOp.TheVariants.{ToBig}
 use Rattle.insn.specs.declared.size.SwapSize.TheVariants as swap
 use Rattle.semantics.specs.Access.{part, overlay, cells_bytes, cells_number}
-use Rattle.std.proofs.lemmas.List.{length-append}
+use Rattle.std.proofs.lemmas.List.{length-append, length-take, length-drop, take_all, take-append-drop, drop-drop}
 use Rattle.semantics.specs.AccessLaws.{put_after_put}
 use Rattle.semantics.specs.CallLaws.{length-cells, cells_read_back, cells_number_inside}
-use Rattle.semantics.specs.Machine.{datagram_area, empty_stack}
+use Rattle.semantics.specs.Machine.{datagram_area, empty_cells}
 use Rattle.semantics.specs.Runs.{IsDatagram}
-use Rattle.semantics.specs.StartLaws.{length-empty_stack, part_datagram}
+use Rattle.semantics.specs.StartLaws.{length-empty_cells, part_datagram}
 use Rattle.semantics.specs.SwapLaws.{swapped_half}
 
 -- ---- bytes
@@ -68,17 +68,17 @@ port_back port lt = omega arith
 
 -- ---- the end of the stack
 
-some_is : {X : Type 0} (x y : X) → Some x ≡ Some y → x ≡ y
+pub some_is : {X : Type 0} (x y : X) → Some x ≡ Some y → x ≡ y
 some_is x y e = cc
 
 -- a record that was written there
-pub record_is : (bytes found : List ℕ) → length bytes ≡ 8 → cells_bytes (part 8 504 (overlay 504 (map Some bytes) empty_stack)) ≡ Some found → found ≡ bytes
-record_is bytes found size e = some_is found bytes (sym e ∙ cells_read_back 8 504 bytes empty_stack size (omega (arith, length-empty_stack)))
+pub record_is : (bytes found : List ℕ) → length bytes ≡ 8 → cells_bytes (part 8 504 (overlay 504 (map Some bytes) empty_cells)) ≡ Some found → found ≡ bytes
+record_is bytes found size e = some_is found bytes (sym e ∙ cells_read_back 8 504 bytes empty_cells size (omega (arith, length-empty_cells)))
 
 -- and the number in some of its bytes
-pub stack_number : (k j v : ℕ) (bytes : List ℕ) → length bytes ≡ 8 → j + k ≤ 8 → cells_number (part k (504 + j) (overlay 504 (map Some bytes) empty_stack)) ≡ Some v → v ≡ little_number k (part k j bytes)
+pub stack_number : (k j v : ℕ) (bytes : List ℕ) → length bytes ≡ 8 → j + k ≤ 8 → cells_number (part k (504 + j) (overlay 504 (map Some bytes) empty_cells)) ≡ Some v → v ≡ little_number k (part k j bytes)
 stack_number k j v bytes size le e =
-    some_is v (little_number k (part k j bytes)) (sym e ∙ cells_number_inside 504 j k bytes empty_stack (omega (arith, size, le)) (omega (arith, size, length-empty_stack)))
+    some_is v (little_number k (part k j bytes)) (sym e ∙ cells_number_inside 504 j k bytes empty_cells (omega (arith, size, le)) (omega (arith, size, length-empty_cells)))
 
 -- ---- numbers of the datagram as they are in memory
 
@@ -159,14 +159,14 @@ some_append [] b = refl
 some_append (x ∷ a) b = ap (λ (cells : List (Option ℕ)). Some x ∷ cells) (some_append a b)
 
 -- a record that was written in three pieces
-pub pieces_are : (b1 b2 b3 found : List ℕ) → length b1 ≡ 2 → length b2 ≡ 2 → length b3 ≡ 4 → cells_bytes (part 8 504 (overlay 508 (map Some b3) (overlay 506 (map Some b2) (overlay 504 (map Some b1) empty_stack)))) ≡ Some found → found ≡ b1 ++ b2 ++ b3
+pub pieces_are : (b1 b2 b3 found : List ℕ) → length b1 ≡ 2 → length b2 ≡ 2 → length b3 ≡ 4 → cells_bytes (part 8 504 (overlay 508 (map Some b3) (overlay 506 (map Some b2) (overlay 504 (map Some b1) empty_cells)))) ≡ Some found → found ≡ b1 ++ b2 ++ b3
 pieces_are b1 b2 b3 found l1 l2 l3 e =
     let m1 : length (map Some b1) ≡ 2 = length-cells b1 ∙ l1 in
     let l12 : length (b1 ++ b2) ≡ 4 = omega (arith, length-append b1 b2, l1, l2) in
     let m12 : length (map Some (b1 ++ b2)) ≡ 4 = length-cells (b1 ++ b2) ∙ l12 in
-    let stack : overlay 508 (map Some b3) (overlay 506 (map Some b2) (overlay 504 (map Some b1) empty_stack)) ≡ overlay 504 (map Some (b1 ++ b2 ++ b3)) empty_stack =
-    ap (overlay 508 (map Some b3)) (put_after_put 504 506 (map Some b1) (map Some b2) empty_stack (omega (arith, m1)) ∙ ap (λ (cells : List (Option ℕ)). overlay 504 cells empty_stack) (some_append b1 b2))
-    ∙ put_after_put 504 508 (map Some (b1 ++ b2)) (map Some b3) empty_stack (omega (arith, m12)) ∙ ap (λ (cells : List (Option ℕ)). overlay 504 cells empty_stack) (some_append (b1 ++ b2) b3) in
+    let stack : overlay 508 (map Some b3) (overlay 506 (map Some b2) (overlay 504 (map Some b1) empty_cells)) ≡ overlay 504 (map Some (b1 ++ b2 ++ b3)) empty_cells =
+    ap (overlay 508 (map Some b3)) (put_after_put 504 506 (map Some b1) (map Some b2) empty_cells (omega (arith, m1)) ∙ ap (λ (cells : List (Option ℕ)). overlay 504 cells empty_cells) (some_append b1 b2))
+    ∙ put_after_put 504 508 (map Some (b1 ++ b2)) (map Some b3) empty_cells (omega (arith, m12)) ∙ ap (λ (cells : List (Option ℕ)). overlay 504 cells empty_cells) (some_append (b1 ++ b2) b3) in
     record_is (b1 ++ b2 ++ b3) found (omega (arith, length-append (b1 ++ b2) b3, l12, l3)) (sym (ap (λ (cells : List (Option ℕ)). cells_bytes (part 8 504 cells)) stack) ∙ e)
 
 -- ---- numbers that are written
@@ -177,3 +177,23 @@ big_below x (suc zero) = omega arith
 big_below x (suc (suc zero)) = omega arith
 big_below x (suc (suc (suc zero))) = omega arith
 big_below x (suc (suc (suc (suc i)))) = omega arith
+
+-- a wide record that was written in three pieces
+pub wide_pieces_are : (wide b1 b2 b3 found : List ℕ) → length wide ≡ 20 → b1 ≡ take 8 wide → b2 ≡ take 8 (drop 8 wide) → b3 ≡ take 4 (drop 16 wide)
+    → cells_bytes (part 20 488 (overlay 504 (map Some b3) (overlay 496 (map Some b2) (overlay 488 (map Some b1) empty_cells)))) ≡ Some found → found ≡ wide
+wide_pieces_are wide b1 b2 b3 found long is1 is2 is3 e =
+    let l1 : length b1 ≡ 8 = ap length is1 ∙ omega (arith, length-take 8 wide, long) in
+    let l2 : length b2 ≡ 8 = ap length is2 ∙ omega (arith, length-take 8 (drop 8 wide), length-drop 8 wide, long) in
+    let m1 : length (map Some b1) ≡ 8 = length-cells b1 ∙ l1 in
+    let l12 : length (b1 ++ b2) ≡ 16 = omega (arith, length-append b1 b2, l1, l2) in
+    let m12 : length (map Some (b1 ++ b2)) ≡ 16 = length-cells (b1 ++ b2) ∙ l12 in
+    let stack : overlay 504 (map Some b3) (overlay 496 (map Some b2) (overlay 488 (map Some b1) empty_cells)) ≡ overlay 488 (map Some (b1 ++ b2 ++ b3)) empty_cells =
+    ap (overlay 504 (map Some b3)) (put_after_put 488 496 (map Some b1) (map Some b2) empty_cells (omega (arith, m1)) ∙ ap (λ (cells : List (Option ℕ)). overlay 488 cells empty_cells) (some_append b1 b2))
+    ∙ put_after_put 488 504 (map Some (b1 ++ b2)) (map Some b3) empty_cells (omega (arith, m12)) ∙ ap (λ (cells : List (Option ℕ)). overlay 488 cells empty_cells) (some_append (b1 ++ b2) b3) in
+    let tail : take 4 (drop 16 wide) ≡ drop 16 wide = take_all 4 (drop 16 wide) (omega (arith, length-drop 16 wide, long)) in
+    let rest : take 8 (drop 8 wide) ++ take 4 (drop 16 wide) ≡ drop 8 wide = ap (λ (m : List ℕ). take 8 (drop 8 wide) ++ m) (tail ∙ sym (drop-drop 8 8 wide)) ∙ take-append-drop 8 (drop 8 wide) in
+    let whole : b1 ++ b2 ++ b3 ≡ wide =
+    ap₂ (λ (a b : List ℕ). a ++ b) (ap₂ (λ (a b : List ℕ). a ++ b) is1 is2) is3 ∙ append_assoc (take 8 wide) (take 8 (drop 8 wide)) (take 4 (drop 16 wide)) ∙ ap (λ (m : List ℕ). take 8 wide ++ m) rest ∙ take-append-drop 8 wide in
+    let long_all : length (b1 ++ b2 ++ b3) ≡ 20 = ap length whole ∙ long in
+    some_is found (b1 ++ b2 ++ b3) (sym e ∙ (ap (λ (cells : List (Option ℕ)). cells_bytes (part 20 488 cells)) stack ∙ cells_read_back 20 488 (b1 ++ b2 ++ b3) empty_cells long_all (omega (arith, length-empty_cells))))
+    ∙ whole

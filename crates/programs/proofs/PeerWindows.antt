@@ -68,7 +68,7 @@ three_puts : (i : ℕ) (a b c s : List ℕ) (j k : ℕ) → j ≡ i + length a �
 three_puts i a b c s j k e f =
     ap (overlay k c) (put_after_put i j a b s e) ∙ put_after_put i k (a ++ b) c s (omega (arith, e, f, length-append a b))
 
-then_put : (i j : ℕ) (a b c s : List ℕ) → a ≡ overlay i b s → j ≡ i + length b → overlay j c a ≡ overlay i (b ++ c) s
+pub then_put : (i j : ℕ) (a b c s : List ℕ) → a ≡ overlay i b s → j ≡ i + length b → overlay j c a ≡ overlay i (b ++ c) s
 then_put i j a b c s e f = ap (overlay j c) e ∙ put_after_put i j b c s f
 
 pub length-masked : (ip : List ℕ) → length (xor_bytes 4 ip magic_cookie) ≡ 4
@@ -97,7 +97,7 @@ six_puts b6 b7 b8 b9 b10 b11 s l6 l7 l8 l9 l10 =
     (omega (arith, m9)))
     (omega (arith, m10))
 
-padding_is_short : (n : ℕ) → padding_count n ≤ 3
+pub padding_is_short : (n : ℕ) → padding_count n ≤ 3
 padding_is_short n = omega arith
 
 pub indication_window : (ip d tx : List ℕ) (port p t : ℕ) (b1 b2 b3 b4 b5 b6 b7 b8 b9 b10 b11 : List ℕ) → length tx ≡ 12 → AreHeader ip tx port (length d) p b1 b2 b3 b4 b5 b6 b7 b8 b9 b10 b11

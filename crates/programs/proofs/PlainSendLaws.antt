@@ -13,7 +13,7 @@ use Rattle.semantics.specs.Runs.{IsDatagram}
 use Rattle.programs.specs.FastPart.{is_short_address, is_content, are_address_and_content, is_plain_send}
 use Rattle.programs.specs.PlainSends.{IsAddressFirst, IsDataFirst, PassesTests}
 use Rattle.programs.specs.Rules.{send}
-use Rattle.programs.proofs.ClientRun.{of_send}
+use Rattle.programs.proofs.ClientEnds.{of_send}
 use Rattle.programs.proofs.SendGrammar.{long, parts_of, spelled, are_parts, other_parts_of, other_spelled, other_are_parts, address_first_back, data_first_back}
 
 -- ---- from the message to the tests

@@ -14,6 +14,7 @@ use Rattle.insn.specs.declared.width.Width.{Width}
 use Rattle.insn.specs.declared.width.Width.TheVariants.{W32, W64}
 use Rattle.insn.specs.declared.register.Reg.{Reg}
 use Rattle.insn.specs.declared.size.Size.{Size}
+use Rattle.insn.specs.declared.size.Size.TheVariants as sizes
 use Rattle.insn.specs.declared.operator.AluOp.{AluOp}
 use Rattle.insn.specs.declared.operator.AluOp.TheVariants.{Add}
 use Rattle.insn.specs.declared.operator.UnaryOp.{UnaryOp}
@@ -22,11 +23,11 @@ use Rattle.insn.specs.declared.condition.Condition.{Condition}
 use Rattle.insn.specs.declared.instruction.Operand.{Operand}
 use Rattle.insn.specs.declared.instruction.Insn.{Insn}
 use Rattle.fallible.specs.Fallible.{◌>>=◌}
-use Rattle.semantics.specs.Access.{location, number_in, cells_number, cells_bytes, part, headroom_first, written_at}
-use Rattle.semantics.specs.Calls.{helper_of, no_address, is_valid, record_at}
-use Rattle.semantics.specs.Loading.{load, load_field, load_signed, reached_number}
+use Rattle.semantics.specs.Access.{location, number_in, no_pointer, cells_number, cells_bytes, part, headroom_first, written_at}
+use Rattle.semantics.specs.Calls.{helper_of, helper_number, no_address, is_valid, bytes_at, record_bytes, widened}
+use Rattle.semantics.specs.Loading.{load, load_field, load_signed, reached_value, value_in}
 use Rattle.semantics.specs.Machine.{State, AddressRecord, Environment, context_bytes, start}
-use Rattle.semantics.specs.Effects.{unary_effect, load_effect, jump_if_effect, register_value, operand_value, writable, register_write, pointer_to, alu_result, unary_result, comparison_result, comparison_of_places, pointer, stored_number, store_effect, context_argument, number_argument, stack_argument, record_argument, helper_effect, verdict_of, effect}
+use Rattle.semantics.specs.Effects.{unary_effect, load_effect, jump_if_effect, register_value, operand_value, writable, register_write, pointer_to, alu_result, unary_result, comparison_result, comparison_of_places, pointer, store_value, store_effect, context_argument, number_argument, stack_argument, record_argument, helper_effect, verdict_of, effect}
 use Rattle.semantics.specs.Slots.{fetch, target}
 use Rattle.semantics.specs.Runs.{StepResult, Goes, Exits, Sticks, Ending, Exited, Stuck, Running, step_by_effect, Run, step_to, step_of_fetched, step, run_onwards, run, registers_with, IsSafe, IsPossible, IsDatagram, state_after_answer, state_with_plan, with_window, with_destination}
 use Rattle.semantics.specs.RunLaws.{exits_the_same}
@@ -37,7 +38,8 @@ use Rattle.semantics.specs.declared.effect.Effect.{Effect}
 use Rattle.semantics.specs.declared.fetching.Fetched.{Fetched}
 use Rattle.semantics.specs.declared.fetching.Fetched.TheVariants.{Begins, Inside, Past}
 use Rattle.semantics.specs.declared.helper.Helper.{Helper}
-use Rattle.semantics.specs.declared.helper.TheConstants.{RECORD_BYTES}
+use Rattle.semantics.specs.declared.helper.RecordForm.{RecordForm}
+use Rattle.semantics.specs.declared.helper.Room.{Room}
 use Rattle.semantics.specs.declared.limits.TheConstants.{HEADROOM, TAILROOM, MAX_DATAGRAM}
 use Rattle.semantics.specs.declared.reason.Reason.{Reason}
 use Rattle.semantics.specs.declared.reason.Reason.TheVariants.{UnknownHelper, DatagramBounds, UninitStack}
@@ -186,9 +188,12 @@ module _ (w : Environment) (code : List Insn) (cuts : ℕ → Bool) (Post : ℕ 
       → (v : ℕ) → v ≡ little_number (byte_count z) (part (byte_count z) (unsigned_abs (pos p -ℤ headroom_first)) s.memory.bytes) → writes_register s i dst (Scalar v) k
   reads_data s i z dst (negsuc p) k = ⊥
 
-  -- what is read of the stack is the number in its cells
+  -- what is read of the stack is the number in its cells; no eight bytes are read there, which could be a pointer
   abbrev reads_at : State → Insn → Size → Reg → Location → (State → Type 0) → Type 0
-  reads_at s i z dst (InStack j) k = (v : ℕ) → cells_number (part (byte_count z) j s.memory.stack) ≡ Some v → writes_register s i dst (Scalar v) k
+  reads_at s i sizes.Double dst (InStack j) k = ⊥
+  reads_at s i sizes.Word dst (InStack j) k = (v : ℕ) → cells_number (part 4 j s.memory.stack.cells) ≡ Some v → writes_register s i dst (Scalar v) k
+  reads_at s i sizes.Half dst (InStack j) k = (v : ℕ) → cells_number (part 2 j s.memory.stack.cells) ≡ Some v → writes_register s i dst (Scalar v) k
+  reads_at s i sizes.Byte dst (InStack j) k = (v : ℕ) → cells_number (part 1 j s.memory.stack.cells) ≡ Some v → writes_register s i dst (Scalar v) k
   reads_at s i z dst (InBytes j) k = (v : ℕ) → v ≡ little_number (byte_count z) (part (byte_count z) j s.memory.bytes) → writes_register s i dst (Scalar v) k
 
   abbrev reads : State → Insn → Size → Reg → Value → ℤ → (State → Type 0) → Type 0
@@ -217,37 +222,42 @@ module _ (w : Environment) (code : List Insn) (cuts : ℕ → Bool) (Post : ℕ 
   writes_to s i z n End d k = writes_end s i z n d k
   writes_to s i z n base d k = IfOk (location s.memory.length base d (byte_count z)) (λ at. writes_bytes s i z n at k)
 
+  -- no pointer is stored
+  abbrev writes_value : State → Insn → Size → Value → Value → ℤ → (State → Type 0) → Type 0
+  writes_value s i z (Scalar n) to d k = writes_to s i z n to d k
+  writes_value s i z v to d k = ⊥
+
   abbrev of_store : State → Insn → Size → Reg → Operand → ℤ → (State → Type 0) → Type 0
   of_store s i z base o d k =
       IfOk (register_value s.registers base)
-      (λ to. IfOk (operand_value W64 s.registers o) (λ v. IfOk (pointer to) (λ u. IfOk (stored_number v) (λ n. writes_to s i z n to d k))))
+      (λ to. IfOk (operand_value W64 s.registers o) (λ v. IfOk (pointer to) (λ u. writes_value s i z v to d k)))
 
   -- ---- calls
 
   -- a helper's answer is a number and a record, which get names and equations
-  abbrev asks : State → Insn → ℕ → ℕ → AddressRecord → Option ℕ → (State → Type 0) → Type 0
-  asks s i id n address out k = (v : ℕ) (bytes : AddressRecord) → v ≡ (w.answer id n address).0 → bytes ≡ (w.answer id n address).1 → k (state_after_answer s (after_insn s i) out (v, bytes))
+  abbrev asks : State → Insn → Helper → ℕ → AddressRecord → Option Room → (State → Type 0) → Type 0
+  asks s i h n address out k = (v : ℕ) (bytes : AddressRecord) → v ≡ (w.answer (helper_number h) n address).0 → bytes ≡ (w.answer (helper_number h) n address).1 → k (state_after_answer s (after_insn s i) out (v, bytes))
 
-  -- the record in stack cells
-  abbrev reads_record : State → Reg → (AddressRecord → Type 0) → Type 0
-  reads_record s r P = IfOk (stack_argument s.registers r) (λ j. (bytes : AddressRecord) → cells_bytes (part RECORD_BYTES j s.memory.stack) ≡ Some bytes → P bytes)
+  -- the record of a form in stack cells, as a wide one
+  abbrev reads_record : State → RecordForm → Reg → (AddressRecord → Type 0) → Type 0
+  reads_record s form r P = IfOk (stack_argument s.registers (record_bytes form) r) (λ j. (bytes : List ℕ) → cells_bytes (part (record_bytes form) j s.memory.stack.cells) ≡ Some bytes → P (widened form bytes))
 
   abbrev sets_window : State → Insn → ℕ → ℕ → (State → Type 0) → Type 0
   sets_window s i front n k =
       ((front + n ≤ HEADROOM + s.memory.length + TAILROOM) × (n ≤ MAX_DATAGRAM) → k (state_with_plan s (after_insn s i) 0 (with_window s.plan (Some (front, n)))))
       × ((HEADROOM + s.memory.length + TAILROOM < front + n) ⊎ (MAX_DATAGRAM < n) → k (state_with_plan s (after_insn s i) 1 s.plan))
 
-  abbrev sets_destination : State → Insn → AddressRecord → (State → Type 0) → Type 0
-  sets_destination s i bytes k =
-      ((w.context.side ≡ 0) × (is_valid bytes ≡ true) → k (state_with_plan s (after_insn s i) 0 (with_destination s.plan (Some bytes))))
-      × ((w.context.side ≢ 0) ⊎ (is_valid bytes ≡ false) → k (state_with_plan s (after_insn s i) 1 s.plan))
+  abbrev sets_destination : State → Insn → RecordForm → AddressRecord → (State → Type 0) → Type 0
+  sets_destination s i form bytes k =
+      ((w.context.side ≡ 0) × (is_valid form bytes ≡ true) → k (state_with_plan s (after_insn s i) 0 (with_destination s.plan (Some bytes))))
+      × ((w.context.side ≢ 0) ⊎ (is_valid form bytes ≡ false) → k (state_with_plan s (after_insn s i) 1 s.plan))
 
   abbrev of_helper : State → Insn → Helper → (State → Type 0) → Type 0
-  of_helper s i helper.ChannelPeer k = IfOk (number_argument s.registers reg.R2) (λ n. IfOk (stack_argument s.registers reg.R3) (λ out. asks s i 1 n no_address (Some out) k))
-  of_helper s i helper.ChannelTo k = reads_record s reg.R2 (λ address. asks s i 2 0 address None k)
-  of_helper s i helper.Permitted k = reads_record s reg.R2 (λ address. asks s i 3 0 address None k)
+  of_helper s i (helper.ChannelPeer form) k = IfOk (number_argument s.registers reg.R2) (λ n. IfOk (stack_argument s.registers (record_bytes form) reg.R3) (λ index. asks s i (helper.ChannelPeer form) n no_address (Some (record { index = index; form = form })) k))
+  of_helper s i (helper.ChannelTo form) k = reads_record s form reg.R2 (λ address. asks s i (helper.ChannelTo form) 0 address None k)
+  of_helper s i (helper.Permitted form) k = reads_record s form reg.R2 (λ address. asks s i (helper.Permitted form) 0 address None k)
   of_helper s i helper.Window k = IfOk (number_argument s.registers reg.R2) (λ front. IfOk (number_argument s.registers reg.R3) (λ n. sets_window s i front n k))
-  of_helper s i helper.Destination k = reads_record s reg.R2 (λ address. sets_destination s i address k)
+  of_helper s i (helper.Destination form) k = reads_record s form reg.R2 (λ address. sets_destination s i form address k)
 
   abbrev of_call : State → Insn → ℤ → (State → Type 0) → Type 0
   of_call s i n k = IfOk (ok_or (helper_of n) UnknownHelper) (λ h. IfOk (context_argument s.registers reg.R1) (λ u. of_helper s i h k))
@@ -363,34 +373,38 @@ module _ (w : Environment) (code : List Insn) (cuts : ℕ → Bool) (Post : ℕ 
     -- ---- loads and stores
 
     found_meets : (z : Size) (dst : Reg) (p : ℕ) (t : Bool) → nat_le (p + byte_count z) s.memory.length ≡ t → reads_data s i z dst (pos p) k
-        → EffectMeets s i k (((ok_or (if t then Some (unsigned_abs (pos p -ℤ headroom_first)) else None) DatagramBounds >>= λ j. Ok (InBytes j)) >>= λ at. number_in s.memory (byte_count z) at) >>= (λ n. Ok (Scalar n)) >>= λ v. Ok (effects.Write dst v))
+        → EffectMeets s i k (((ok_or (if t then Some (unsigned_abs (pos p -ℤ headroom_first)) else None) DatagramBounds >>= λ j. Ok (InBytes j)) >>= λ at. value_in s.memory z at) >>= λ v. Ok (effects.Write dst v))
     found_meets z dst p true e h = h (at_most _ _ e) _ refl
     found_meets z dst p false e h = tt
 
     data_meets : (z : Size) (dst : Reg) (q d place : ℤ) → (q +ℤ d) ≡ place → reads_data s i z dst place k
         → EffectMeets s i k (load w.context s.memory (Data q) d z >>= λ v. Ok (effects.Write dst v))
-    unfolding reached_number
+    unfolding reached_value
     data_meets z dst q d (pos p) e h = rw e (found_meets z dst p (nat_le (p + byte_count z) s.memory.length) refl h)
     data_meets z dst q d (negsuc p) e h = absurd h
 
     cells_meet : (z : Size) (dst : Reg) (o : Option ℕ) → ((v : ℕ) → o ≡ Some v → writes_register s i dst (Scalar v) k)
-        → EffectMeets s i k (ok_or o UninitStack >>= (λ n. Ok (Scalar n)) >>= λ v. Ok (effects.Write dst v))
-    cells_meet z dst None h = tt
-    cells_meet z dst (Some v) h = h v refl
+        → (whole : Result (Unit {0}) Reason) → EffectMeets s i k (((whole >>= λ u. ok_or o UninitStack) >>= λ n. Ok (Scalar n)) >>= λ v. Ok (effects.Write dst v))
+    cells_meet z dst o h (Err reason) = tt
+    cells_meet z dst None h (Ok u) = tt
+    cells_meet z dst (Some v) h (Ok u) = h v refl
 
     at_meets : (z : Size) (dst : Reg) (at : Location) → reads_at s i z dst at k
-        → EffectMeets s i k (number_in s.memory (byte_count z) at >>= (λ n. Ok (Scalar n)) >>= λ v. Ok (effects.Write dst v))
-    at_meets z dst (InStack j) h = cells_meet z dst (cells_number (part (byte_count z) j s.memory.stack)) h
+        → EffectMeets s i k (value_in s.memory z at >>= λ v. Ok (effects.Write dst v))
+    at_meets sizes.Double dst (InStack j) h = absurd h
+    at_meets sizes.Word dst (InStack j) h = cells_meet sizes.Word dst (cells_number (part 4 j s.memory.stack.cells)) h (no_pointer s.memory.stack.groups 4 j)
+    at_meets sizes.Half dst (InStack j) h = cells_meet sizes.Half dst (cells_number (part 2 j s.memory.stack.cells)) h (no_pointer s.memory.stack.groups 2 j)
+    at_meets sizes.Byte dst (InStack j) h = cells_meet sizes.Byte dst (cells_number (part 1 j s.memory.stack.cells)) h (no_pointer s.memory.stack.groups 1 j)
     at_meets z dst (InBytes j) h = h _ refl
 
     found_at : (z : Size) (dst : Reg) (r : Result Location Reason) → IfOk r (λ at. reads_at s i z dst at k)
-        → EffectMeets s i k ((r >>= λ at. number_in s.memory (byte_count z) at) >>= (λ n. Ok (Scalar n)) >>= λ v. Ok (effects.Write dst v))
+        → EffectMeets s i k ((r >>= λ at. value_in s.memory z at) >>= λ v. Ok (effects.Write dst v))
     found_at z dst (Ok at) h = at_meets z dst at h
     found_at z dst (Err reason) h = tt
 
     reads_meets : (z : Size) (dst : Reg) (base : Value) (d : ℤ) → reads s i z dst base d k
         → EffectMeets s i k (load w.context s.memory base d z >>= λ v. Ok (effects.Write dst v))
-    unfolding reached_number
+    unfolding reached_value
     reads_meets z dst Ctx d h = after_result (load_field (context_bytes w.context s.memory.length) d z) (λ v. writes_named s i dst v k) (λ v. Ok (effects.Write dst v)) (λ v x. writes_named_meets dst v x) h
     reads_meets z dst (Data q) d h = data_meets z dst q d (q +ℤ d) refl h
     reads_meets z dst base d h = found_at z dst (location s.memory.length base d (byte_count z)) h
@@ -437,6 +451,10 @@ module _ (w : Environment) (code : List Insn) (cuts : ℕ → Bool) (Post : ℕ 
     writes_to_meets z n End d h = writes_end_meets z n d h
     writes_to_meets z n base d h = put_at z n (location s.memory.length base d (byte_count z)) h
 
+    writes_value_meets : (z : Size) (v base : Value) (d : ℤ) → writes_value s i z v base d k → EffectMeets s i k (store_value s.memory.length base d z v)
+    writes_value_meets z (Scalar n) base d h = writes_to_meets z n base d h
+    writes_value_meets z v base d h = absurd h
+
     -- ---- calls
 
     -- an argument, of which the others are read after it
@@ -445,17 +463,19 @@ module _ (w : Environment) (code : List Insn) (cuts : ℕ → Bool) (Post : ℕ 
     after_argument (Ok x) P f g h goes is = goes x is
     after_argument (Err reason) P f g h goes is = tt
 
-    bytes_if : {A : Type 0} (P : A → Type 0) (o : Option A) → ((x : A) → o ≡ Some x → P x) → IfOk (ok_or o UninitStack) P
-    bytes_if P None h = tt
-    bytes_if P (Some x) h = h x refl
+    widened_if : (form : RecordForm) (P : AddressRecord → Type 0) (whole : Result (Unit {0}) Reason) (o : Option (List ℕ)) → ((bytes : List ℕ) → o ≡ Some bytes → P (widened form bytes)) → IfOk ((whole >>= λ u. ok_or o UninitStack) >>= λ bytes. Ok (widened form bytes)) P
+    widened_if form P (Err reason) o h = tt
+    widened_if form P (Ok u) None h = tt
+    widened_if form P (Ok u) (Some bytes) h = h bytes refl
 
-    record_if : (P : AddressRecord → Type 0) (j : Result ℕ Reason) → IfOk j (λ j. (bytes : AddressRecord) → cells_bytes (part RECORD_BYTES j s.memory.stack) ≡ Some bytes → P bytes) → IfOk (j >>= record_at s.memory) P
-    record_if P (Ok j) h = bytes_if P (cells_bytes (part RECORD_BYTES j s.memory.stack)) h
-    record_if P (Err reason) h = tt
+    record_if : (form : RecordForm) (P : AddressRecord → Type 0) (j : Result ℕ Reason) → IfOk j (λ j. (bytes : List ℕ) → cells_bytes (part (record_bytes form) j s.memory.stack.cells) ≡ Some bytes → P (widened form bytes))
+        → IfOk (j >>= λ j. bytes_at s.memory (record_bytes form) j >>= λ bytes. Ok (widened form bytes)) P
+    record_if form P (Ok j) h = widened_if form P (no_pointer s.memory.stack.groups (record_bytes form) j) (cells_bytes (part (record_bytes form) j s.memory.stack.cells)) h
+    record_if form P (Err reason) h = tt
 
-    reads_record_meets : (r : Reg) (P : AddressRecord → Type 0) {B C : Type 0} (f : AddressRecord → Result B Reason) (g : B → Result C Reason) (h : C → Result Effect Reason)
-        → ((bytes : AddressRecord) → P bytes → EffectMeets s i k ((f bytes >>= g) >>= h)) → reads_record s r P → EffectMeets s i k (((record_argument s.memory s.registers r >>= f) >>= g) >>= h)
-    reads_record_meets r P f g h goes is = after_argument (record_argument s.memory s.registers r) P f g h goes (record_if P (stack_argument s.registers r) is)
+    reads_record_meets : (form : RecordForm) (r : Reg) (P : AddressRecord → Type 0) {B C : Type 0} (f : AddressRecord → Result B Reason) (g : B → Result C Reason) (h : C → Result Effect Reason)
+        → ((bytes : AddressRecord) → P bytes → EffectMeets s i k ((f bytes >>= g) >>= h)) → reads_record s form r P → EffectMeets s i k (((record_argument s.memory s.registers form r >>= f) >>= g) >>= h)
+    reads_record_meets form r P f g h goes is = after_argument (record_argument s.memory s.registers form r) P f g h goes (record_if form P (stack_argument s.registers (record_bytes form) r) is)
 
     sets_window_meets : (front n : ℕ) (a b : Bool) → nat_le (front + n) (HEADROOM + s.memory.length + TAILROOM) ≡ a → nat_le n MAX_DATAGRAM ≡ b → sets_window s i front n k
         → EffectMeets s i k (Ok (effects.SetWindow (if a && b then Some (front, n) else None)))
@@ -463,30 +483,30 @@ module _ (w : Environment) (code : List Insn) (cuts : ℕ → Bool) (Post : ℕ 
     sets_window_meets front n true false p q h = h.1 (inr (more_than _ _ q))
     sets_window_meets front n false b p q h = h.1 (inl (more_than _ _ p))
 
-    sets_destination_meets : (address : AddressRecord) (a b : Bool) → (w.context.side == 0) ≡ a → is_valid address ≡ b → sets_destination s i address k
+    sets_destination_meets : (form : RecordForm) (address : AddressRecord) (a b : Bool) → (w.context.side == 0) ≡ a → is_valid form address ≡ b → sets_destination s i form address k
         → EffectMeets s i k (Ok (effects.SetDestination (if a && b then Some address else None)))
-    sets_destination_meets address true true p q h = h.0 (same _ _ p, q)
-    sets_destination_meets address true false p q h = h.1 (inr q)
-    sets_destination_meets address false b p q h = h.1 (inl (other _ _ p))
+    sets_destination_meets form address true true p q h = h.0 (same _ _ p, q)
+    sets_destination_meets form address true false p q h = h.1 (inr q)
+    sets_destination_meets form address false b p q h = h.1 (inl (other _ _ p))
 
     of_helper_meets : (h : Helper) → of_helper s i h k → (u : Unit {0}) → context_argument s.registers reg.R1 ≡ Ok u → EffectMeets s i k (helper_effect w.context s.memory s.registers h)
-    of_helper_meets helper.ChannelPeer h u e =
-        rw e (after_argument (number_argument s.registers reg.R2) _ _ _ _ (λ n x. after_argument (stack_argument s.registers reg.R3) _ _ _ _ (λ out y. y _ _ refl refl) x) h)
-    of_helper_meets helper.ChannelTo h u e = rw e (reads_record_meets reg.R2 _ _ _ _ (λ address x. x _ _ refl refl) h)
-    of_helper_meets helper.Permitted h u e = rw e (reads_record_meets reg.R2 _ _ _ _ (λ address x. x _ _ refl refl) h)
+    of_helper_meets (helper.ChannelPeer form) h u e =
+        rw e (after_argument (number_argument s.registers reg.R2) _ _ _ _ (λ n x. after_argument (stack_argument s.registers (record_bytes form) reg.R3) (λ index. asks s i (helper.ChannelPeer form) n no_address (Some (record { index = index; form = form })) k) _ _ _ (λ out y. y _ _ refl refl) x) h)
+    of_helper_meets (helper.ChannelTo form) h u e = rw e (reads_record_meets form reg.R2 (λ address. asks s i (helper.ChannelTo form) 0 address None k) _ _ _ (λ address x. x _ _ refl refl) h)
+    of_helper_meets (helper.Permitted form) h u e = rw e (reads_record_meets form reg.R2 (λ address. asks s i (helper.Permitted form) 0 address None k) _ _ _ (λ address x. x _ _ refl refl) h)
     of_helper_meets helper.Window h u e =
         rw e (after_argument (number_argument s.registers reg.R2) _ _ _ _ (λ front x. after_argument (number_argument s.registers reg.R3) _ _ _ _ (λ n y. sets_window_meets front n _ _ refl refl y) x) h)
-    of_helper_meets helper.Destination h u e = rw e (reads_record_meets reg.R2 _ _ _ _ (λ address x. sets_destination_meets address _ _ refl refl x) h)
+    of_helper_meets (helper.Destination form) h u e = rw e (reads_record_meets form reg.R2 (λ address. sets_destination s i form address k) _ _ _ (λ address x. sets_destination_meets form address _ _ refl refl x) h)
 
     of_call_meets : (n : ℤ) → of_call s i n k → EffectMeets s i k (ok_or (helper_of n) UnknownHelper >>= helper_effect w.context s.memory s.registers)
     of_call_meets n h = after_result (ok_or (helper_of n) UnknownHelper) _ _ (λ help x. asked help (context_argument s.registers reg.R1) refl x) h where
       asked : (help : Helper) (r : Result (Unit {0}) Reason) → context_argument s.registers reg.R1 ≡ r → IfOk r (λ u. of_helper s i help k) → EffectMeets s i k (helper_effect w.context s.memory s.registers help)
       asked help (Ok u) e x = of_helper_meets help x u e
-      asked helper.ChannelPeer (Err reason) e x = rw e tt
-      asked helper.ChannelTo (Err reason) e x = rw e tt
-      asked helper.Permitted (Err reason) e x = rw e tt
+      asked (helper.ChannelPeer form) (Err reason) e x = rw e tt
+      asked (helper.ChannelTo form) (Err reason) e x = rw e tt
+      asked (helper.Permitted form) (Err reason) e x = rw e tt
       asked helper.Window (Err reason) e x = rw e tt
-      asked helper.Destination (Err reason) e x = rw e tt
+      asked (helper.Destination form) (Err reason) e x = rw e tt
 
     -- ---- every form
 
@@ -502,7 +522,7 @@ module _ (w : Environment) (code : List Insn) (cuts : ℕ → Bool) (Post : ℕ 
     of_store_meets : (z : Size) (base : Reg) (o : Operand) (d : ℤ) → of_store s i z base o d k → EffectMeets s i k (store_effect s.registers s.memory.length z base o d)
     of_store_meets z base o d h =
         after_result (register_value s.registers base) _ _
-        (λ to x. after_result (operand_value W64 s.registers o) _ _ (λ v y. after_result (pointer to) _ _ (λ u p. after_result (stored_number v) _ _ (λ n q. writes_to_meets z n to d q) p) y) x) h
+        (λ to x. after_result (operand_value W64 s.registers o) _ _ (λ v y. after_result (pointer to) _ _ (λ u p. writes_value_meets z v to d p) y) x) h
 
     of_jump_if_meets : (offset : ℤ) (w' : Width) (c : Condition) (dst : Reg) (o : Operand) → of_jump_if s i offset w' c dst o k → EffectMeets s i k (jump_if_effect s.registers s.memory.length w' c dst o offset)
     of_jump_if_meets offset w' c dst o h = after_result (register_value s.registers dst) _ _ (λ a x. after_result (operand_value w' s.registers o) _ _ (λ b y. compares_with_meets offset w' c a b y) x) h

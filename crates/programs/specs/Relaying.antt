@@ -5,7 +5,7 @@ use Rattle.semantics.specs.Machine.{AreBytes}
 use Rattle.semantics.specs.Runs.{Exited, IsDatagram}
 use Rattle.stun.specs.Datagrams.{message_in}
 use Rattle.stun.specs.Messages.{Parts}
-use Rattle.attributes.specs.Addresses.{IsIpv4Address}
+use Rattle.attributes.specs.Addresses.{IsAddress}
 use Rattle.attributes.specs.declared.address.Addr.{Addr}
 use Rattle.tables.specs.Rows.{Rows}
 use Rattle.tables.specs.WellFormed.{AreWellFormed}
@@ -17,10 +17,10 @@ use Rattle.programs.specs.Rules.{channel_data_from, send_from, peer_data_to}
 use Rattle.programs.specs.Runs.{run_for, datagram_in, sent_by}
 use Rattle.programs.specs.declared.verdict.TheConstants.{PASSES}
 
--- A start that a relay makes: rows of its tables, a source over IPv4, a transaction id, and a datagram.
+-- A start that a relay makes: rows of its tables, a source, a transaction id, and a datagram.
 pub record IsRelayStart (address : Addr) (tx : List ℕ) (rows : Rows) (datagram : List ℕ) : Type 0 where
   pub well_formed : AreWellFormed rows
-  pub is_ipv4 : IsIpv4Address address
+  pub is_address : IsAddress address
   pub transaction_id : AreBytes 12 tx
   pub is_datagram : IsDatagram datagram
 

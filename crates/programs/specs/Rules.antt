@@ -8,13 +8,14 @@ use Rattle.stun.specs.Types.{type_number}
 use Rattle.stun.specs.declared.registry.Class.TheVariants as class
 use Rattle.stun.specs.declared.registry.Method.TheVariants as method
 use Rattle.stun.specs.declared.registry.attribute.TheConstants.{XOR_PEER_ADDRESS, DATA}
-use Rattle.attributes.specs.Addresses.{address_in, address_value}
+use Rattle.attributes.specs.Addresses.{address_in, address_value, is_of_family}
 use Rattle.attributes.specs.declared.address.Addr.{Addr}
 use Rattle.credentials.specs.Checks.{first_value}
 use Rattle.control.specs.Control.{all_understood}
 use Rattle.tables.specs.Rows.{Rows}
 use Rattle.tables.specs.LookUps.{allocation_of, allocation_at, peer_of, channel_of, has_permission}
 use Rattle.semantics.specs.declared.limits.TheConstants.{MAX_DATAGRAM}
+use Rattle.tables.specs.declared.allocation.Allocation.{Allocation}
 use Rattle.events.specs.Events.{Sending, ToPeer, ToClient}
 use Rattle.fallible.specs.Options.{◌>>=◌, guard}
 
@@ -68,18 +69,23 @@ client_slot client rows = option_map (λ a. a.slot) (allocation_of client rows)
 abbrev pub client_at : ℕ → Rows → Option Addr
 client_at slot rows = option_map (λ a. a.client) (allocation_at slot rows)
 
-abbrev pub to_peer : ℕ → Addr × List ℕ → Sending
-to_peer slot pair = ToPeer slot pair.0 pair.1
+-- from the relayed address of an allocation, to a peer of its family
+abbrev pub to_peer : Allocation → Addr × List ℕ → Option Sending
+to_peer a pair = do
+  _ ← guard (is_of_family a.family pair.0)
+  Some (ToPeer a.slot pair.0 pair.1)
 
 abbrev pub channel_data_from : Addr → Rows → List ℕ → Option Sending
 channel_data_from client rows datagram = do
-  slot ← client_slot client rows
-  option_map (to_peer slot) (channel_data (λ number. peer_of slot number rows) datagram)
+  a ← allocation_of client rows
+  pair ← channel_data (λ number. peer_of a.slot number rows) datagram
+  to_peer a pair
 
 abbrev pub send_from : Addr → Rows → Parts → Option Sending
 send_from client rows p = do
-  slot ← client_slot client rows
-  option_map (to_peer slot) (send (λ to. has_permission slot to rows) p)
+  a ← allocation_of client rows
+  pair ← send (λ to. has_permission a.slot to rows) p
+  to_peer a pair
 
 abbrev pub peer_data_to : ℕ → Addr → List ℕ → Rows → List ℕ → Option Sending
 peer_data_to slot peer tx rows content = do

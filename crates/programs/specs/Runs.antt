@@ -13,12 +13,13 @@ use Rattle.machine.specs.Tracing.{run_over}
 use Rattle.machine.specs.declared.context.Context.{Context}
 use Rattle.machine.specs.declared.context.Side.TheVariants as side
 use Rattle.tables.specs.Rows.{Rows}
-use Rattle.events.specs.Events.{Sending, ToPeer, ToClient}
+use Rattle.tables.specs.LookUps.{allocation_of}
+use Rattle.events.specs.Events.{Sending, ToClient}
 use Rattle.events.specs.declared.meta.Source.{Source}
 use Rattle.events.specs.declared.meta.Source.TheVariants.{Client, Peer}
 use Rattle.fallible.specs.Options.{◌>>=◌}
 use Rattle.programs.specs.declared.verdict.TheConstants.{SENDS}
-use Rattle.programs.specs.Rules.{client_slot, client_at}
+use Rattle.programs.specs.Rules.{client_slot, client_at, to_peer}
 
 -- ---- the start
 
@@ -51,13 +52,13 @@ abbrev pub destination_in : State → Option Addr
 destination_in s = option_map address_of s.plan.destination
 
 -- What verdict 2 sends: of a client's datagram the window to the destination, where both are set and the client has an
--- allocation; of a peer's the window to the client of the slot's allocation.
+-- allocation of the destination's family; of a peer's the window to the client of the slot's allocation.
 abbrev pub planned_sending : Source → Rows → Option Addr → Option (List ℕ) → Option Sending
 planned_sending (Client client) rows destination window = do
   bytes ← window
-  slot ← client_slot client rows
+  a ← allocation_of client rows
   peer ← destination
-  Some (ToPeer slot peer bytes)
+  to_peer a (peer, bytes)
 planned_sending (Peer slot peer) rows destination window = do
   bytes ← window
   client ← client_at slot rows

@@ -6,7 +6,6 @@ use Rattle.semantics.specs.Runs.{Run, Ending}
 use Rattle.attributes.specs.declared.address.Addr.{Addr}
 use Rattle.control.specs.declared.config.Config.{Config}
 use Rattle.machine.specs.declared.outcome.Outcome.{Outcome}
-use Rattle.tables.specs.Addresses.{is_ipv4}
 use Rattle.tables.specs.Moments.{moment_of}
 use Rattle.tables.specs.Rows.{rows_at}
 use Rattle.events.specs.declared.meta.Meta.{Meta}
@@ -19,13 +18,13 @@ use Rattle.relay.specs.ByRules.{from_client}
 use Rattle.relay.specs.Found.{HasRun, run_at, reply_of_passing, window_shown}
 use Rattle.relay.specs.Relays.{RelayContents, state_of, datagram_at}
 use Rattle.relay.specs.Steps.{HasStepped, outcome_of}
-use Rattle.relay.specs.Systems.{SystemReply, no_answer, reply_of_relaying, outcome_at, if_ipv4, with_nonce, address_of_source}
+use Rattle.relay.specs.Systems.{SystemReply, no_answer, reply_of_relaying, outcome_at, if_served, is_served, with_nonce}
 use Rattle.relay.proofs.SameNonce.{from_client_same}
 
 module _ (old : RelayContents) (given : Meta) (n moment : ℕ) where
   -- the reply at a moment
   abbrev pub reply_at : SystemReply
-  reply_at = if_ipv4 (by_programs old.programs) (with_nonce old.config old.config.nonce.bytes) moment given.tx given.from old.rows (datagram_at old n)
+  reply_at = if_served (by_programs old.programs) (with_nonce old.config old.config.nonce.bytes) moment given.tx given.from old.rows (datagram_at old n)
 
   -- the relay at the moment
   abbrev pub at_moment : RelayContents
@@ -38,7 +37,7 @@ module _ (old : RelayContents) (given : Meta) (n moment : ℕ) where
   -- a reply of a system makes a step
   pub steps : (new : RelayContents) → moment ≡ moment_of old.greatest given.now → new.rows ≡ reply_at.rows → new.greatest ≡ moment → new.config ≡ old.config → new.programs ≡ old.programs → HasStepped old new (outcome_of old given n)
   steps new is rows greatest config programs =
-      let P : ℕ → Type 0 = λ m. HasStepped old new (outcome_at m (state_of old) (if_ipv4 (by_programs old.programs) (with_nonce old.config old.config.nonce.bytes) m given.tx given.from old.rows (datagram_at old n))) in
+      let P : ℕ → Type 0 = λ m. HasStepped old new (outcome_at m (state_of old) (if_served (by_programs old.programs) (with_nonce old.config old.config.nonce.bytes) m given.tx given.from old.rows (datagram_at old n))) in
       subst P is (record {
         state = λ i. record { rows = rows i; greatest = greatest i; nonce = (config i).nonce.bytes };
         config = config;
@@ -51,17 +50,17 @@ module _ (old : RelayContents) (given : Meta) (n moment : ℕ) where
       (ap (λ (r : RelayContents). r.rows) kept ∙ sym rows) (ap (λ (r : RelayContents). r.greatest) kept) (ap (λ (r : RelayContents). r.config) kept) (ap (λ (r : RelayContents). r.programs) kept)
 
   pub answers : moment ≡ moment_of old.greatest given.now → reply_at.answer ≡ (outcome_of old given n).answer
-  answers is = ap (λ (m : ℕ). (if_ipv4 (by_programs old.programs) (with_nonce old.config old.config.nonce.bytes) m given.tx given.from old.rows (datagram_at old n)).answer) is
+  answers is = ap (λ (m : ℕ). (if_served (by_programs old.programs) (with_nonce old.config old.config.nonce.bytes) m given.tx given.from old.rows (datagram_at old n)).answer) is
 
   -- a source that is not served
-  pub not_served : (is_ipv4 (address_of_source given.from) && is_there given.from old.rows) ≡ false → reply_at ≡ no_answer old.rows
-  not_served other = of (is_ipv4 (address_of_source given.from)) (is_there given.from old.rows) other where
+  pub not_served : (is_served given.from && is_there given.from old.rows) ≡ false → reply_at ≡ no_answer old.rows
+  not_served other = of (is_served given.from) (is_there given.from old.rows) other where
     of : (a b : Bool) → (a && b) ≡ false → (if a then (if b then run_reply else no_answer old.rows) else no_answer old.rows) ≡ no_answer old.rows
     of false b e = refl
     of true false e = refl
     of true true e = absurd cc
 
-  module _ (o : Outcome) (shown : RelayContents) (served : (is_ipv4 (address_of_source given.from) && is_there given.from old.rows) ≡ true)
+  module _ (o : Outcome) (shown : RelayContents) (served : (is_served given.from && is_there given.from old.rows) ≡ true)
       (ran : HasRun (length (datagram_at old n)) o shown.frame (run_at at_moment given n)) where
     abbrev config : Config
     config = with_nonce old.config old.config.nonce.bytes
@@ -72,8 +71,8 @@ module _ (old : RelayContents) (given : Meta) (n moment : ℕ) where
     -- the reply is that of the verdict
     by_its_verdict : reply_at ≡ by_verdict config moment given.from old.rows (length (datagram_at old n)) r o.verdict
     by_its_verdict =
-        let both = and_parts (is_ipv4 (address_of_source given.from)) (is_there given.from old.rows) served in
-        cond-true (is_ipv4 (address_of_source given.from)) _ (no_answer old.rows) both.0
+        let both = and_parts (is_served given.from) (is_there given.from old.rows) served in
+        cond-true (is_served given.from) _ (no_answer old.rows) both.0
         ∙ cond-true (is_there given.from old.rows) _ (no_answer old.rows) both.1
         ∙ ap (λ (e : Ending). by_ending config moment given.from old.rows (length (datagram_at old n)) r e) ran.outcome.verdict
 

@@ -80,7 +80,7 @@ module _ (are_checked : AreChecked) (config : Config) (now : ℕ) (client : Addr
   with_request : (r : Request) → Answers config now r client p old new written → reply_with config r client p old (decision_and_key config now r client p old) ≡ reply_of
   with_request request.Binding is = with_decision request.Binding None (binding p) is
   with_request (request.Turn r) is =
-      subst (λ c. reply_with config (request.Turn r) client p old (decision r c client p (rows_at now old), key_for config c) ≡ reply_of)
+      subst (λ c. reply_with config (request.Turn r) client p old (decision r c config client p (rows_at now old), key_for config c) ≡ reply_of)
       (are_checked p (string_bytes config.realm) (accounts_of config.users.items) config.nonce.bytes is.checked is.is_checked)
       (with_decision (request.Turn r) _ _ is.answer)
 

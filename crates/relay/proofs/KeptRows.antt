@@ -27,7 +27,7 @@ use Rattle.attributes.specs.Values.{number_of_value}
 use Rattle.credentials.specs.Checks.{first_value}
 use Rattle.credentials.specs.declared.checking.AuthError.{AuthError}
 use Rattle.fallible.specs.Fallible.{◌>>=◌, check}
-use Rattle.control.specs.Control.{Decision, rows_of, result_of_change, acceptable_lifetime, allocate_beside, allocate_decision, own_allocation, refresh_decision, refresh_for, requested_family, requested_lifetime, create_permission, peers_in, channel_bind, is_repeated, user_or_error, attribute_test, decision_for_user, decision, binding}
+use Rattle.control.specs.Control.{Decision, rows_of, result_of_change, acceptable, allocate_beside, allocate_decision, own_allocation, refresh_decision, refresh_for, requested_family, requested_lifetime, create_permission, peers_in, channel_bind, is_repeated, user_or_error, attribute_test, decision_for_user, decision, binding}
 use Rattle.control.specs.Values.{required_value}
 use Rattle.control.specs.declared.config.Config.{Config}
 use Rattle.control.specs.declared.reply.Grant.{Grant}
@@ -36,7 +36,6 @@ use Rattle.control.specs.declared.request.Request.{Request}
 use Rattle.control.specs.declared.request.Request.TheVariants as request
 use Rattle.control.specs.declared.request.TurnRequest.{TurnRequest}
 use Rattle.control.specs.declared.request.TurnRequest.TheVariants as turn
-use Rattle.tables.specs.Addresses.{is_ipv4}
 use Rattle.tables.specs.Changes.{Change}
 use Rattle.tables.specs.Changes as tables
 use Rattle.tables.specs.Channels.{IsChannelNumber}
@@ -51,7 +50,7 @@ use Rattle.events.specs.declared.meta.Source.TheVariants.{Client, Peer}
 use Rattle.programs.specs.FastPart.{begins_as_stun}
 use Rattle.programs.specs.Rules.{send_indication, send_from, channel_data_from}
 use Rattle.relay.specs.ByRules.{by_rules, from_client, message, control, reply_to_request, check_of, request_of}
-use Rattle.relay.specs.Systems.{reply_of_relaying, address_of_source}
+use Rattle.relay.specs.Systems.{reply_of_relaying, address_of_source, is_served}
 
 -- ---- the bytes of values
 
@@ -156,11 +155,11 @@ passed true error x e = refl
 passed false error x e = absurd cc
 
 module _ (client : Addr) (user : ℕ) (p : Parts) (rows : Rows) (are : AreWellFormed rows) where
-  keeps_allocate : IsIpv4Address client → Keeps (allocate_decision client user p rows)
-  keeps_allocate ipv4 = beside (allocation_of client rows) where
-    beside : (o : Option Allocation) → Keeps (allocate_beside o client user p rows)
-    beside None = after (acceptable_lifetime p) _ (λ lifetime _.
-        change (tables.allocation_change client user p.transaction_id lifetime rows) (λ slot. Allocated slot lifetime) (allocate-well_formed client user p.transaction_id lifetime rows are ipv4))
+  keeps_allocate : (config : Config) → IsIpv4Address client → Keeps (allocate_decision config client user p rows)
+  keeps_allocate config ipv4 = beside (allocation_of client rows) where
+    beside : (o : Option Allocation) → Keeps (allocate_beside config o client user p rows)
+    beside None = after (acceptable config p) _ (λ given _.
+        change (tables.allocation_change client user p.transaction_id given.0 given.1 rows) (λ slot. Allocated given.0 slot given.1) (allocate-well_formed client user p.transaction_id given.0 given.1 rows are ipv4))
     beside (Some a) = after (check (is_repeated a user p) _) _ (λ _ _. tt)
 
   keeps_refresh : Keeps (refresh_decision client user p rows)
@@ -175,8 +174,7 @@ module _ (client : Addr) (user : ℕ) (p : Parts) (rows : Rows) (are : AreWellFo
   keeps_permissions =
       after (own_allocation client user rows) _ (λ a _.
       after (peers_in p) _ (λ peers _.
-      after (check _ _) _ (λ _ _.
-      change (tables.permit_change a.slot peers rows) (λ _. Done) (permit-well_formed a.slot peers rows are))))
+      change (tables.permit_change a.slot peers rows) (λ _. Done) (permit-well_formed a.slot peers rows are)))
 
   keeps_bind : ((value : List ℕ) → first_value p XOR_PEER_ADDRESS ≡ Some value → AreFit value) → Keeps (channel_bind client user p rows)
   keeps_bind fit =
@@ -184,24 +182,23 @@ module _ (client : Addr) (user : ℕ) (p : Parts) (rows : Rows) (are : AreWellFo
       after (required_value (number_of_value 2) (first_value p CHANNEL_NUMBER)) _ (λ number _.
       after (required_value (address_in p.transaction_id) (first_value p XOR_PEER_ADDRESS)) _ (λ peer found.
       after (check (is_between FIRST_CHANNEL LAST_CHANNEL number) _) _ (λ u between.
-      after (check (is_ipv4 peer) _) _ (λ v ipv4.
-      change (tables.bind_change a.slot number peer rows) (λ _. Done) (bind-well_formed a.slot number peer rows are (in_range number (passed _ _ u between)) (is_peer peer found (passed _ _ v ipv4))))))))
+      change (tables.bind_change a.slot number peer rows) (λ _. Done) (bind-well_formed a.slot number peer rows are (in_range number (passed _ _ u between)) (is_peer peer found))))))
     where
       in_range : (number : ℕ) → is_between FIRST_CHANNEL LAST_CHANNEL number ≡ true → IsChannelNumber number
       in_range number between =
           let both = and_parts (nat_le FIRST_CHANNEL number) (nat_le number LAST_CHANNEL) between in
           (leb-true _ _ both.0, leb-true _ _ both.1)
 
-      is_peer : (peer : Addr) → required_value (address_in p.transaction_id) (first_value p XOR_PEER_ADDRESS) ≡ Ok peer → is_ipv4 peer ≡ true → IsIpv4Address peer
-      is_peer peer found ipv4 =
+      is_peer : (peer : Addr) → required_value (address_in p.transaction_id) (first_value p XOR_PEER_ADDRESS) ≡ Ok peer → IsAddress peer
+      is_peer peer found =
           let (value, there, is) = value_there (address_in p.transaction_id) (first_value p XOR_PEER_ADDRESS) peer found in
-          of_ipv4 peer (address_fits p.transaction_id value peer (fit value there) is) ipv4
+          address_fits p.transaction_id value peer (fit value there) is
 
-  keeps_served : IsIpv4Address client → ((value : List ℕ) → first_value p XOR_PEER_ADDRESS ≡ Some value → AreFit value) → (r : TurnRequest) → Keeps (decision_for_user r client user p rows)
-  keeps_served ipv4 fit turn.Allocate = keeps_allocate ipv4
-  keeps_served ipv4 fit turn.Refresh = keeps_refresh
-  keeps_served ipv4 fit turn.CreatePermission = keeps_permissions
-  keeps_served ipv4 fit turn.ChannelBind = keeps_bind fit
+  keeps_served : IsIpv4Address client → ((value : List ℕ) → first_value p XOR_PEER_ADDRESS ≡ Some value → AreFit value) → (r : TurnRequest) (config : Config) → Keeps (decision_for_user r config client user p rows)
+  keeps_served ipv4 fit turn.Allocate config = keeps_allocate config ipv4
+  keeps_served ipv4 fit turn.Refresh config = keeps_refresh
+  keeps_served ipv4 fit turn.CreatePermission config = keeps_permissions
+  keeps_served ipv4 fit turn.ChannelBind config = keeps_bind fit
 
 -- ---- systems
 
@@ -212,16 +209,16 @@ kept old (Err e) are keeps = are
 
 module _ (config : Config) (now : ℕ) (client : Addr) (rows : Rows) (datagram : List ℕ)
     (are : AreWellFormed rows) (ipv4 : IsIpv4Address client) (is : IsDatagram datagram) where
-  keeps_decision : (p : Parts) → message_in datagram ≡ Some p → (r : TurnRequest) (checked : Result ℕ AuthError) → Keeps (decision r checked client p (rows_at now rows))
+  keeps_decision : (p : Parts) → message_in datagram ≡ Some p → (r : TurnRequest) (checked : Result ℕ AuthError) → Keeps (decision r checked config client p (rows_at now rows))
   keeps_decision p there r checked =
       after (user_or_error checked) _ (λ user _.
       after (attribute_test p) _ (λ _ _.
-      keeps_served client user p (rows_at now rows) (rows_at-well_formed now rows are) ipv4 (λ value found. in_message p XOR_PEER_ADDRESS datagram value is.bytes_fit there found) r))
+      keeps_served client user p (rows_at now rows) (rows_at-well_formed now rows are) ipv4 (λ value found. in_message p XOR_PEER_ADDRESS datagram value is.bytes_fit there found) r config))
 
   keeps_control : (p : Parts) → message_in datagram ≡ Some p → (o : Option Request) → AreWellFormed (reply_to_request config now client p rows o).rows
   keeps_control p there None = are
   keeps_control p there (Some request.Binding) = kept rows (binding p) are (after (attribute_test p) _ (λ _ _. tt))
-  keeps_control p there (Some (request.Turn r)) = kept rows (decision r (check_of config p) client p (rows_at now rows)) are (keeps_decision p there r (check_of config p))
+  keeps_control p there (Some (request.Turn r)) = kept rows (decision r (check_of config p) config client p (rows_at now rows)) are (keeps_decision p there r (check_of config p))
 
   keeps_message : (o : Option Parts) → message_in datagram ≡ o → AreWellFormed (message config now client rows o).rows
   keeps_message None there = are
@@ -236,7 +233,16 @@ module _ (config : Config) (now : ℕ) (client : Addr) (rows : Rows) (datagram :
     of true = keeps_message (message_in datagram) refl
     of false = are
 
+-- a client that is served has an IPv4 address
+abbrev pub IsServed : Source → Type 0
+IsServed (Client client) = IsIpv4Address client
+IsServed (Peer slot peer) = Unit {0}
+
+pub is_served-is : (from : Source) → IsAddress (address_of_source from) → is_served from ≡ true → IsServed from
+is_served-is (Client client) address e = of_ipv4 client address e
+is_served-is (Peer slot peer) address e = tt
+
 pub keeps : (config : Config) (now : ℕ) (tx : List ℕ) (from : Source) (rows : Rows) (datagram : List ℕ)
-    → AreWellFormed rows → IsIpv4Address (address_of_source from) → IsDatagram datagram → AreWellFormed (by_rules config now tx from rows datagram).rows
+    → AreWellFormed rows → IsServed from → IsDatagram datagram → AreWellFormed (by_rules config now tx from rows datagram).rows
 keeps config now tx (Client client) rows datagram are ipv4 is = keeps_client config now client rows datagram are ipv4 is
 keeps config now tx (Peer slot peer) rows datagram are ipv4 is = are

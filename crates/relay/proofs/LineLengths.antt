@@ -1,14 +1,14 @@
 -- No event's line is longer than a line may be.
 use Rattle.std.proofs.Common.{◌≡◌, ℕ, ◌+◌, ◌^◌, ◌<◌, ◌≤◌, List, [], ◌∷◌, ◌++◌, length, length-append, refl, arith}
-use Rattle.std.specs.Prelude.{codes, decimal, slice_index, nat_le}
+use Rattle.std.specs.Prelude.{◌*◌, codes, decimal, flat_map, slice_index, nat_le}
 use Rattle.std.specs.List.{list_all}
 use Rattle.std.proofs.lemmas.Bool.{and_parts, leb-true}
 use Rattle.std.proofs.lemmas.Fmt.{length-decimal-le}
 use Rattle.hex.specs.Hex.{encode_lower, lower_digits}
 use Rattle.hex.proofs.HexLemmas.{length-encode_with}
 use Rattle.stun.specs.Ranges.{is_between}
-use Rattle.attributes.specs.Addresses.{IsIpv4Address}
-use Rattle.attributes.specs.AddressTexts.{dotted_decimal, address_text}
+use Rattle.attributes.specs.Addresses.{IsAddress}
+use Rattle.attributes.specs.AddressTexts.{dotted_decimal, hex_digits, address_text}
 use Rattle.attributes.specs.declared.address.Addr.{Addr}
 use Rattle.attributes.specs.declared.address.Addr.TheVariants.{V4, V6}
 use Rattle.semantics.specs.declared.limits.TheConstants.{MAX_DATAGRAM}
@@ -56,11 +56,24 @@ dotted_short (a ∷ b ∷ []) long fit = absurd (omega (arith, long))
 dotted_short (a ∷ b ∷ c ∷ []) long fit = absurd (omega (arith, long))
 dotted_short (a ∷ b ∷ c ∷ d ∷ e ∷ rest) long fit = absurd (omega (arith, long))
 
-address_short : (a : Addr) → IsIpv4Address a → length (address_text a) ≤ 21
-address_short (V4 ip port) is = omega (arith, colon (dotted_decimal ip) (decimal port), dotted_short ip is.long is.bytes, port_short port is.small)
-address_short (V6 ip port) is = absurd is
+digits_twice : (bytes : List ℕ) → length (flat_map hex_digits bytes) ≡ 2 * length bytes
+digits_twice [] = refl
+digits_twice (b ∷ bytes) = omega (arith, digits_twice bytes)
 
-source_short : (slots : ℕ) (from : Source) → slots < 2 ^ 64 → IsSource slots from → length (source_text from) ≤ 42
+address_short : (a : Addr) → IsAddress a → length (address_text a) ≤ 40
+address_short (V4 ip port) is = omega (arith, colon (dotted_decimal ip) (decimal port), dotted_short ip is.long is.bytes, port_short port is.small)
+address_short (V6 ip port) is =
+    omega (
+      arith,
+      is.long,
+      digits_twice ip,
+      port_short port is.small,
+      length-append (codes "[" ++ flat_map hex_digits ip ++ codes "]:") (decimal port),
+      length-append (codes "[" ++ flat_map hex_digits ip) (codes "]:"),
+      length-append (codes "[") (flat_map hex_digits ip),
+    )
+
+source_short : (slots : ℕ) (from : Source) → slots < 2 ^ 64 → IsSource slots from → length (source_text from) ≤ 61
 source_short slots (Client client) few is = omega (arith, address_short client is)
 source_short slots (Peer slot peer) few is =
     omega (arith, length-append (decimal slot) (0x20 ∷ address_text peer), address_short peer is.1, number_short slot (omega (arith, few, is.0)))

@@ -16,8 +16,17 @@ use Rattle.relay.specs.Relays.{RelayContents, state_of}
 use Rattle.relay.specs.Replays.{text_of_events, IsText, answer_text, answers_text, after_line, answer_to, system_of, IsSameRelay, HasPlayed, HasPlayedAll, answers_of_events, IsCut, StopsAtLine, StopsBefore, StopsWriting}
 use Rattle.relay.specs.Systems.{SystemState, System, SystemOutcome, system_step, state_after_events}
 use Rattle.relay.specs.declared.reading.TheConstants.{MAX_LINE}
+use Rattle.relay.specs.declared.replaying.ReplayError.{ReplayError}
+use Rattle.relay.specs.declared.replaying.ReplayError.TheVariants as error
 use Rattle.relay.proofs.FirstLines.{taken}
 use Rattle.relay.proofs.LineLengths.{line_short}
+
+-- the number of the line that an error names
+abbrev number_of_line : ReplayError → ℕ
+number_of_line (error.Line n) = n
+number_of_line error.Read = 0
+number_of_line error.Write = 0
+number_of_line error.Memory = 0
 
 -- ---- one event more
 
@@ -211,11 +220,12 @@ module _ (count : ℕ) (read left : Option (List ℕ)) (old now : RelayContents)
     not_the_end (Some x) (Some y) events (inr h) more bad = absurd (more.0 (same_Some y [] h.0))
 
     pub stops_at : (holds' : Option (List ℕ)) → event_in now.config.slots line ≡ None
-        → Appends holds holds' (answer_to (system_of now) now.config (state_of now) (event_in now.config.slots line)) → StopsAtLine (count + 1) read old new held holds'
-    stops_at holds' none wrote = record {
+        → Appends holds holds' (answer_to (system_of now) now.config (state_of now) (event_in now.config.slots line))
+        → (n : ℕ) → error.Line (count + 1) ≡ error.Line n → StopsAtLine n read old new held holds'
+    stops_at holds' none wrote n is = record {
       events = so_far.events;
       played = unplayed none;
-      number = omega (arith, so_far.number);
+      number = let same : count + 1 ≡ n = ap number_of_line is in omega (arith, so_far.number, same);
       text = not_the_end read left so_far.events so_far.has_read more
           (λ e is is_line. none-some e (sym none ∙ ap (λ (n : ℕ). event_in n line) slots_same ∙ ap (event_in old.config.slots) is_line ∙ event_in-line_of old.config.slots e (subst (λ (n : ℕ). n < 2 ^ 64) slots_same few) is));
       written = subst (Appends held holds') (append-nil (answers_of_events old so_far.events))

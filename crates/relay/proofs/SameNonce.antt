@@ -15,6 +15,8 @@ use Rattle.control.specs.declared.reply.Grant.{Grant}
 use Rattle.control.specs.declared.reply.Grant.TheVariants as grant
 use Rattle.control.specs.declared.request.Request.{Request}
 use Rattle.control.specs.declared.request.Request.TheVariants as request
+use Rattle.control.specs.declared.request.TurnRequest.{TurnRequest}
+use Rattle.control.specs.declared.request.TurnRequest.TheVariants as turn
 use Rattle.tables.specs.Rows.{Rows, rows_at}
 use Rattle.events.specs.Events.{ToClient}
 use Rattle.programs.specs.FastPart.{begins_as_stun}
@@ -28,7 +30,7 @@ module _ (c : Config) where
 
   reply_same : (r : Request) (client : Addr) (p : Parts) (key : Option (List ℕ)) (result : Result Grant ErrorCode) → reply_to d r client p key result ≡ reply_to c r client p key result
   reply_same r client p key (Ok grant.Mapped) = refl
-  reply_same r client p key (Ok (grant.Allocated slot lifetime)) = refl
+  reply_same r client p key (Ok (grant.Allocated family slot lifetime)) = refl
   reply_same r client p key (Ok (grant.Refreshed lifetime)) = refl
   reply_same r client p key (Ok grant.Done) = refl
   reply_same r client p key (Err error.BadRequest) = refl
@@ -50,12 +52,19 @@ module _ (c : Config) where
     with_same : (r : Request) (p : Parts) (x : Decision) (key : Option (List ℕ)) → reply_with d r client p rows (x, key) ≡ reply_with c r client p rows (x, key)
     with_same r p x key = λ i. record { answer = Some (ToClient client (parts_bytes (reply_same r client p key (grant_of x) i))); rows = rows_of rows x }
 
+    decision_same : (t : TurnRequest) (checked : Result ℕ AuthError) (p : Parts) → decision t checked d client p (rows_at now rows) ≡ decision t checked c client p (rows_at now rows)
+    decision_same turn.Allocate checked p = refl
+    decision_same turn.Refresh checked p = refl
+    decision_same turn.CreatePermission checked p = refl
+    decision_same turn.ChannelBind checked p = refl
+
     answered_same : (p : Parts) (r : Option Request) → reply_to_request d now client p rows r ≡ reply_to_request c now client p rows r
     answered_same p None = refl
     answered_same p (Some request.Binding) = with_same request.Binding p (binding p) None
     answered_same p (Some (request.Turn t)) =
-        let made : Decision = decision t (check_of c p) client p (rows_at now rows) in
-        with_same (request.Turn t) p made (key_for d (check_of c p))
+        let made : Decision = decision t (check_of c p) c client p (rows_at now rows) in
+        ap (λ (x : Decision). reply_with d (request.Turn t) client p rows (x, key_for d (check_of c p))) (decision_same t (check_of c p) p)
+        ∙ with_same (request.Turn t) p made (key_for d (check_of c p))
         ∙ ap (λ key. reply_with c (request.Turn t) client p rows (made, key)) (key_same (check_of c p))
 
     message_same : (m : Option Parts) → message d now client rows m ≡ message c now client rows m

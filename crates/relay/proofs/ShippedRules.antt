@@ -16,15 +16,15 @@ use Rattle.stun.specs.Datagrams.{message_in, channel_in}
 use Rattle.stun.specs.Messages.{Parts}
 use Rattle.stun.specs.Ranges.{is_between}
 use Rattle.stun.specs.Refusals.{number_at}
-use Rattle.attributes.specs.Addresses.{IsAddress, IsIpv4Address}
+use Rattle.attributes.specs.Addresses.{IsAddress}
 use Rattle.attributes.specs.declared.address.Addr.{Addr}
 use Rattle.control.specs.declared.config.Config.{Config}
-use Rattle.tables.specs.Addresses.{is_ipv4}
-use Rattle.tables.specs.LookUps.{peer_of, has_permission, channel_of}
+use Rattle.tables.specs.LookUps.{allocation_of, peer_of, has_permission, channel_of}
+use Rattle.tables.specs.declared.allocation.Allocation.{Allocation}
 use Rattle.tables.specs.Moments.{moment_of}
 use Rattle.tables.specs.Rows.{Rows, held_at, rows_at}
 use Rattle.tables.specs.WellFormed.{AreWellFormed}
-use Rattle.tables.specs.WellFormedLaws.{of_ipv4, rows_at-well_formed}
+use Rattle.tables.specs.WellFormedLaws.{rows_at-well_formed}
 use Rattle.tables.specs.declared.held.Held.{Held}
 use Rattle.events.specs.Events.{Sending, ToClient}
 use Rattle.fallible.specs.Options.{◌>>=◌}
@@ -32,7 +32,7 @@ use Rattle.events.specs.declared.meta.Source.{Source}
 use Rattle.events.specs.declared.meta.Source.TheVariants.{Client, Peer}
 use Rattle.programs.specs.FastPart.{begins_as_stun, begins_as_channel_data, is_plain_send, are_address_and_content}
 use Rattle.programs.specs.Relaying.{IsRelayStart, Relays, PassesOn, ServesClient, ServesPeer}
-use Rattle.programs.specs.Rules.{send_indication, channel_data, channel_data_from, client_slot, client_at, peer_data, to_peer}
+use Rattle.programs.specs.Rules.{send_indication, channel_data, channel_data_from, client_at, peer_data, to_peer}
 use Rattle.programs.specs.Runs.{run_for}
 use Rattle.programs.specs.declared.client.TheConstants.{CLIENT}
 use Rattle.programs.specs.declared.peer.TheConstants.{PEER}
@@ -40,7 +40,7 @@ use Rattle.programs.specs.declared.verdict.TheConstants.{PASSES}
 use Rattle.relay.specs.ByPrograms.{Programs, by_programs, by_run, by_ending, is_there}
 use Rattle.relay.specs.ByRules.{by_rules, from_client}
 use Rattle.relay.specs.Shipped.{AreShipped}
-use Rattle.relay.specs.Systems.{SystemReply, no_answer, reply_of_relaying, address_of_source, if_ipv4}
+use Rattle.relay.specs.Systems.{SystemReply, no_answer, reply_of_relaying, address_of_source, is_served, if_served}
 use Rattle.relay.proofs.Controls.{is_relayed, is_sent}
 
 module _ (config : Config) (now : ℕ) (tx : List ℕ) (rows : Rows) (datagram : List ℕ) (code : List Insn) where
@@ -92,10 +92,10 @@ module _ (config : Config) (now : ℕ) (tx : List ℕ) (rows : Rows) (datagram :
       (beside b c (number_at 2 0 d) (omega arith) (All-head (λ x. x < 256) c rest (All-tail (λ x. x < 256) b (c ∷ rest) fit)) other)
 
   not_relayed : (client : Addr) → channel_in datagram ≡ None → channel_data_from client counting datagram ≡ None
-  not_relayed client none = of (client_slot client counting) where
-    of : (slot : Option ℕ) → (slot >>= λ at. option_map (to_peer at) (channel_data (λ number. peer_of at number counting) datagram)) ≡ None
+  not_relayed client none = of (allocation_of client counting) where
+    of : (own : Option Allocation) → (own >>= λ at. channel_data (λ number. peer_of at.slot number counting) datagram >>= λ pair. to_peer at pair) ≡ None
     of None = refl
-    of (Some at) = ap (λ (m : Option ChannelMessage). option_map (to_peer at) (m >>= λ m. peer_of at m.number counting >>= λ to. Some (to, m.bytes))) none
+    of (Some at) = ap (λ (m : Option ChannelMessage). (m >>= λ m. peer_of at.slot m.number counting >>= λ to. Some (to, m.bytes)) >>= λ pair. to_peer at pair) none
 
   -- ---- a client's datagram
 
@@ -154,23 +154,22 @@ PeerServes = (code : List Insn) → Encodes code PEER.now → IsSafe code
 module _ (serves_client : ClientServes) (serves_peer : PeerServes) (programs : Programs) (are : AreShipped programs)
     (config : Config) (now : ℕ) (tx : List ℕ) (rows : Rows) (datagram : List ℕ)
     (well_formed : AreWellFormed rows) (is_id : AreBytes 12 tx) (is : IsDatagram datagram) where
-  start : (address : Addr) → IsIpv4Address address → IsRelayStart address tx (rows_at now rows) datagram
-  start address ipv4 = record { well_formed = rows_at-well_formed now rows well_formed; is_ipv4 = ipv4; transaction_id = is_id; is_datagram = is }
+  start : (address : Addr) → IsAddress address → IsRelayStart address tx (rows_at now rows) datagram
+  start address fits = record { well_formed = rows_at-well_formed now rows well_formed; is_address = fits; transaction_id = is_id; is_datagram = is }
 
-  -- a source over IPv4
-  served : (from : Source) → IsIpv4Address (address_of_source from) → by_programs programs config now tx from rows datagram ≡ by_rules config now tx from rows datagram
-  served (Client client) ipv4 =
+  -- any source
+  served : (from : Source) → IsAddress (address_of_source from) → by_programs programs config now tx from rows datagram ≡ by_rules config now tx from rows datagram
+  served (Client client) fits =
       client_gives config now tx rows datagram programs.client client is
-      (serves_client programs.client are.client.encoded are.client.safe client tx (rows_at now rows) datagram (start client ipv4))
-  served (Peer slot peer) ipv4 =
+      (serves_client programs.client are.client.encoded are.client.safe client tx (rows_at now rows) datagram (start client fits))
+  served (Peer slot peer) fits =
       peer_gives config now tx rows datagram programs.peer slot peer
-      (serves_peer programs.peer are.peer.encoded are.peer.safe slot peer tx (rows_at now rows) datagram (start peer ipv4))
+      (serves_peer programs.peer are.peer.encoded are.peer.safe slot peer tx (rows_at now rows) datagram (start peer fits))
 
-  -- any source: over IPv6 both systems are silent
+  -- to a client over IPv6 both systems are silent
   pub same_reply : (from : Source) → IsAddress (address_of_source from)
-      → if_ipv4 (by_programs programs) config now tx from rows datagram ≡ if_ipv4 by_rules config now tx from rows datagram
-  same_reply from address = of (is_ipv4 (address_of_source from)) refl where
-    of : (b : Bool) → is_ipv4 (address_of_source from) ≡ b
-        → (if b then by_programs programs config now tx from rows datagram else no_answer rows) ≡ (if b then by_rules config now tx from rows datagram else no_answer rows)
-    of true e = served from (of_ipv4 (address_of_source from) address e)
-    of false e = refl
+      → if_served (by_programs programs) config now tx from rows datagram ≡ if_served by_rules config now tx from rows datagram
+  same_reply from address = of (is_served from) where
+    of : (b : Bool) → (if b then by_programs programs config now tx from rows datagram else no_answer rows) ≡ (if b then by_rules config now tx from rows datagram else no_answer rows)
+    of true = served from address
+    of false = refl

@@ -4,10 +4,8 @@ use Rattle.std.specs.Prelude.{slice_index, if◌then◌else◌}
 use Rattle.std.proofs.lemmas.List.Elements.{All-head, All-tail, All-from_get_or}
 use Rattle.semantics.specs.Machine.{AreBytes}
 use Rattle.semantics.specs.Runs.{IsDatagram}
-use Rattle.attributes.specs.AddressLaws.{ipv4-is_address}
-use Rattle.attributes.specs.Addresses.{IsAddress, IsIpv4Address}
+use Rattle.attributes.specs.Addresses.{IsAddress}
 use Rattle.control.specs.declared.config.Config.{Config}
-use Rattle.tables.specs.Addresses.{is_ipv4}
 use Rattle.tables.specs.Moments.{moment_of}
 use Rattle.tables.specs.WellFormed.{AreWellFormed}
 use Rattle.events.specs.Events.{Event, Datagram, Nonce}
@@ -18,16 +16,16 @@ use Rattle.events.specs.declared.meta.Source.TheVariants.{Client, Peer}
 use Rattle.relay.specs.ByPrograms.{Programs, by_programs}
 use Rattle.relay.specs.ByRules.{by_rules}
 use Rattle.relay.specs.Shipped.{AreShipped, AnswerAlike}
-use Rattle.relay.specs.Systems.{SystemState, SystemOutcome, system_step, outcome_at, answers, state_after_events, no_answer, with_nonce, address_of_source}
-use Rattle.relay.proofs.KeptRows.{keeps}
+use Rattle.relay.specs.Systems.{SystemState, SystemOutcome, system_step, outcome_at, answers, state_after_events, no_answer, with_nonce, address_of_source, is_served}
+use Rattle.relay.proofs.KeptRows.{keeps, is_served-is}
 use Rattle.relay.proofs.ShippedRules.{ClientServes, PeerServes, same_reply}
 
 are_fit : (bytes : List ℕ) → ((i : ℕ) → slice_index bytes i < 256) → All (λ b. b < 256) bytes
 are_fit bytes fit = All-from_get_or (λ b. b < 256) bytes 0 (λ i _. fit i)
 
-is_served : (slots : ℕ) (from : Source) → IsSource slots from → IsIpv4Address (address_of_source from)
-is_served slots (Client client) is = is
-is_served slots (Peer slot peer) is = is.1
+source_fits : (slots : ℕ) (from : Source) → IsSource slots from → IsAddress (address_of_source from)
+source_fits slots (Client client) is = is
+source_fits slots (Peer slot peer) is = is.1
 
 module _ (serves_client : ClientServes) (serves_peer : PeerServes) (programs : Programs) (are : AreShipped programs) (config : Config) where
   -- ---- one event
@@ -42,14 +40,14 @@ module _ (serves_client : ClientServes) (serves_peer : PeerServes) (programs : P
     same_step : (s : SystemState) (e : Event) → AreWellFormed s.rows → IsEvent slots e → system_step (by_programs programs) config s e ≡ system_step by_rules config s e
     same_step s (Datagram given bytes) rows (now, long, fit, from, short, are_bytes) =
         same_datagram s given bytes rows (record { count = long; fit = are_fit given.tx fit }) (record { short = short; bytes_fit = are_fit bytes are_bytes })
-        (ipv4-is_address (address_of_source given.from) (is_served slots given.from from))
+        (source_fits slots given.from from)
     same_step s (Nonce text) rows is = refl
 
     kept_step : (s : SystemState) (e : Event) → AreWellFormed s.rows → IsEvent slots e → AreWellFormed (system_step by_rules config s e).state.rows
-    kept_step s (Datagram given bytes) rows (now, long, fit, from, short, are_bytes) = of (is_ipv4 (address_of_source given.from)) where
-      of : (b : Bool) → AreWellFormed (if b then by_rules (with_nonce config s.nonce) (moment_of s.greatest given.now) given.tx given.from s.rows bytes else no_answer s.rows).rows
-      of true = keeps (with_nonce config s.nonce) (moment_of s.greatest given.now) given.tx given.from s.rows bytes rows (is_served slots given.from from) (record { short = short; bytes_fit = are_fit bytes are_bytes })
-      of false = rows
+    kept_step s (Datagram given bytes) rows (now, long, fit, from, short, are_bytes) = of (is_served given.from) refl where
+      of : (b : Bool) → is_served given.from ≡ b → AreWellFormed (if b then by_rules (with_nonce config s.nonce) (moment_of s.greatest given.now) given.tx given.from s.rows bytes else no_answer s.rows).rows
+      of true e = keeps (with_nonce config s.nonce) (moment_of s.greatest given.now) given.tx given.from s.rows bytes rows (is_served-is given.from (source_fits slots given.from from) e) (record { short = short; bytes_fit = are_fit bytes are_bytes })
+      of false e = rows
     kept_step s (Nonce text) rows is = rows
 
     -- ---- a list of events

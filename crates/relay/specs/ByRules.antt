@@ -49,7 +49,7 @@ check_of config p = check_result p (string_bytes config.realm) (accounts_of conf
 abbrev pub decision_and_key : Config → ℕ → Request → Addr → Parts → Rows → Decision × Option (List ℕ)
 decision_and_key config now request.Binding client p rows = (binding p, None)
 decision_and_key config now (request.Turn r) client p rows =
-    (decision r (check_of config p) client p (rows_at now rows), key_for config (check_of config p))
+    (decision r (check_of config p) config client p (rows_at now rows), key_for config (check_of config p))
 
 abbrev pub reply_with : Config → Request → Addr → Parts → Rows → Decision × Option (List ℕ) → SystemReply
 reply_with config r client p rows d = record {

@@ -16,6 +16,10 @@ use Rattle.fallible.specs.Options.{◌>>=◌}
 use Rattle.programs.specs.Rules.{channel_data_from, client_at, send_from}
 use Rattle.programs.specs.Runs.{run_for, datagram_in, window_in}
 use Rattle.events.specs.declared.meta.Meta.{Meta}
+use Rattle.events.specs.declared.meta.Source.{Source}
+use Rattle.events.specs.declared.meta.Source.TheVariants.{Client, Peer}
+use Rattle.tables.specs.LookUps.{allocation_of}
+use Rattle.tables.specs.declared.allocation.Allocation.{Allocation}
 use Rattle.semantics.specs.Runs.{Run}
 use Rattle.relay.specs.ByPrograms.{program_for}
 use Rattle.relay.specs.ByRules.{from_client}
@@ -55,6 +59,11 @@ reply_sent client (b ∷ bytes) = Some (ToClient client (b ∷ bytes))
 abbrev pub send_in : Addr → Rows → Option Parts → Option Sending
 send_in client rows None = None
 send_in client rows (Some p) = send_from client rows p
+
+-- the allocation of a client
+abbrev pub own_for : Source → Rows → Option Allocation
+own_for (Client client) rows = allocation_of client rows
+own_for (Peer slot peer) rows = None
 
 -- a window, if there is one, from a slot to a peer, and to the client of the allocation at a slot
 abbrev pub window_to_peer : ℕ → Addr → Option (List ℕ) → Option Sending

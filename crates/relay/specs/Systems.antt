@@ -1,5 +1,5 @@
 -- Meaning. Systems: a state, the events that come, and the answers to a list of them.
-use Rattle.std.specs.Prelude.{ℕ, List, [], ◌∷◌, Option, None, if◌then◌else◌}
+use Rattle.std.specs.Prelude.{ℕ, Bool, true, List, [], ◌∷◌, Option, None, if◌then◌else◌}
 use Rattle.attributes.specs.declared.address.Addr.{Addr}
 use Rattle.control.specs.declared.config.Config.{Config}
 use Rattle.events.specs.Events.{Event, Datagram, Nonce, Sending}
@@ -34,7 +34,7 @@ no_answer rows = record { answer = None; rows = rows }
 abbrev pub reply_of_relaying : Rows → Option Sending → SystemReply
 reply_of_relaying rows answer = record { answer = answer; rows = rows }
 
--- A system: the reply to a datagram of a source over IPv4, under a configuration, at a moment, with a transaction id.
+-- A system: the reply to a datagram of a client over IPv4 or of a peer, under a configuration, at a moment, with a transaction id.
 abbrev pub System : Type 0
 System = Config → ℕ → List ℕ → Source → Rows → List ℕ → SystemReply
 
@@ -42,10 +42,14 @@ abbrev pub address_of_source : Source → Addr
 address_of_source (Client client) = client
 address_of_source (Peer slot peer) = peer
 
--- until IPv6 comes, a source over IPv6 gets no answer
-abbrev pub if_ipv4 : System → System
-if_ipv4 system config now tx from rows bytes =
-    if is_ipv4 (address_of_source from) then system config now tx from rows bytes else no_answer rows
+-- clients are served over IPv4, and peers over both
+abbrev pub is_served : Source → Bool
+is_served (Client client) = is_ipv4 client
+is_served (Peer slot peer) = true
+
+abbrev pub if_served : System → System
+if_served system config now tx from rows bytes =
+    if is_served from then system config now tx from rows bytes else no_answer rows
 
 -- the configuration with the current nonce
 abbrev pub with_nonce : Config → List ℕ → Config
@@ -62,7 +66,7 @@ outcome_at moment s reply = record { answer = reply.answer; state = record s { r
 
 abbrev pub system_step : System → Config → SystemState → Event → SystemOutcome
 system_step system config s (Datagram given bytes) = outcome_at (moment_of s.greatest given.now) s
-    (if_ipv4 system (with_nonce config s.nonce) (moment_of s.greatest given.now) given.tx given.from s.rows bytes)
+    (if_served system (with_nonce config s.nonce) (moment_of s.greatest given.now) given.tx given.from s.rows bytes)
 system_step system config s (Nonce text) = record { answer = None; state = record s { nonce = text } }
 
 -- ---- lists of events

@@ -2,12 +2,13 @@
 
 ghost use Rattle.std.specs.Prelude.{◌≡◌, ◌≤◌, ℕ, List, length, take};
 ghost use Rattle.tables.specs.Rows.{rows_at};
-ghost use Rattle.programs.specs.Runs.{planned_sending, slot_for};
-ghost use Rattle.relay.specs.Found.{sending_of_found, reply_sent, window_shown, HasRoomFor};
+ghost use Rattle.programs.specs.Runs.{planned_sending};
+ghost use Rattle.relay.specs.Found.{sending_of_found, own_for, reply_sent, window_shown, HasRoomFor};
 ghost use Rattle.relay.specs.Relays.{RelayContents};
 
 use attributes::Addr;
 use events::Source;
+use tables::Allocation;
 
 /// What is to be sent, as a step finds it.
 #[derive(Clone, Copy)]
@@ -26,18 +27,31 @@ pub(crate) enum Found {
     Reply { client: Addr, count: usize },
 }
 
-/// Returns the finding of what verdict 2 sends, by the slot in which helpers look up: that of the client's allocation, or the
-/// one that a peer's datagram came to.
-pub(crate) fn window_found(from: Source, slot: Option<usize>, destination: Option<Addr>) -> Found
-    ensures sends { (r : RelayContents) → slot ≡ slot_for from (rows_at r.greatest r.rows)
+/// Returns the finding of what verdict 2 sends, by the client's allocation, or by the slot that a peer's datagram
+/// came to. Nothing goes to an address that isn't of the allocation's family.
+/// See docs/DECISIONS.md, "One family".
+pub(crate) fn window_found(
+    from: Source,
+    own: Option<Allocation>,
+    destination: Option<Addr>,
+) -> Found
+    ensures sends { (r : RelayContents) → own ≡ own_for from (rows_at r.greatest r.rows)
         → sending_of_found r result ≡ planned_sending from (rows_at r.greatest r.rows) destination (window_shown r.frame) }
     ensures room { (reply : List ℕ) → HasRoomFor result reply }
 {
     match from {
-        Source::Client(_) => match (slot, destination) {
-            (Some(slot), Some(peer)) => Found::WindowToPeer { slot, peer },
-            _ => Found::Nothing,
-        },
+        Source::Client(_) => {
+            let (Some(allocation), Some(peer)) = (own, destination) else {
+                return Found::Nothing;
+            };
+            if !peer.is_of_family(allocation.family) {
+                return Found::Nothing;
+            }
+            Found::WindowToPeer {
+                slot: allocation.slot,
+                peer,
+            }
+        }
         Source::Peer { slot, .. } => Found::WindowToClient { slot },
     }
 }

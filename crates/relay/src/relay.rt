@@ -2,13 +2,13 @@
 
 ghost use Rattle.std.specs.Prelude.{◌≡◌, ◌&&◌};
 ghost use Rattle.tables.specs.Addresses.{is_ipv4};
-ghost use Rattle.relay.specs.Systems.{address_of_source};
+ghost use Rattle.relay.specs.Systems.{is_served};
 ghost use Rattle.relay.specs.ByPrograms.{is_there};
 
 use crate::error::RelayError;
 use crate::found::{Found, reply_found, window_found};
 use crate::rules::{begins_as_stun, channel_data, send, window_to_client, window_to_peer};
-use crate::running::{context_for, program_for, run_over, slot_for};
+use crate::running::{context_for, own_for, program_for, run_over, slot_for};
 use arrayvec::ArrayString;
 use attributes::Addr;
 use control::{Config, Field, REPLY_BYTES, is_nonce, respond};
@@ -66,13 +66,13 @@ const SEND: MessageType = MessageType {
     class: Class::Indication,
 };
 
-/// Returns whether a source is over IPv4, and its slot there.
+/// Returns whether a source is served: a client over IPv4, or a peer whose slot is there.
 fn is_served(from: Source, tables: &Tables) -> bool
-    ensures { result ≡ is_ipv4 (address_of_source from) && is_there from tables.now }
+    ensures { result ≡ is_served from && is_there from tables.now }
 {
     match from {
         Source::Client(client) => is_ipv4(&client),
-        Source::Peer { slot, addr } => is_ipv4(&addr) && slot < tables.slots(),
+        Source::Peer { slot, .. } => slot < tables.slots(),
     }
 }
 
@@ -248,14 +248,15 @@ impl Relay {
         if !is_served(meta.from, &self.tables) {
             return Found::Nothing;
         }
-        let slot = slot_for(&self.tables, self.greatest, meta.from);
+        let own = own_for(&self.tables, self.greatest, meta.from);
+        let slot = slot_for(meta.from, own);
         let outcome = self.run(meta, n, slot);
         match outcome.verdict {
             PASSES => match meta.from {
                 Source::Client(client) => self.pass_on(client),
                 Source::Peer { .. } => Found::Nothing,
             },
-            SENDS => window_found(meta.from, slot, outcome.destination),
+            SENDS => window_found(meta.from, own, outcome.destination),
             _ => Found::Nothing,
         }
     }

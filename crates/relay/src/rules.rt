@@ -5,7 +5,7 @@ ghost use Rattle.events.specs.Actions.{sending_of};
 ghost use Rattle.stun.specs.Datagrams.{message_in};
 ghost use Rattle.tables.specs.Rows.{rows_at};
 ghost use Rattle.programs.specs.FastPart.{begins_as_stun};
-ghost use Rattle.programs.specs.Rules.{client_slot, client_at, channel_data_from, send_from};
+ghost use Rattle.programs.specs.Rules.{to_peer, client_at, channel_data_from, send_from};
 ghost use Rattle.relay.specs.Found.{send_in, window_to_client, window_to_peer};
 
 use attributes::{Addr, read_xor_addr};
@@ -13,7 +13,7 @@ use control::all_understood;
 use events::Action;
 use stun::registry::attribute::{DATA, XOR_PEER_ADDRESS};
 use stun::{Message, read, read_channel};
-use tables::{Tables, uncounted};
+use tables::{Allocation, Tables, uncounted};
 
 /// Returns whether a datagram begins with the bits 00, as STUN messages do.
 pub(crate) fn begins_as_stun(datagram: &[u8]) -> bool
@@ -25,20 +25,26 @@ pub(crate) fn begins_as_stun(datagram: &[u8]) -> bool
     }
 }
 
-/// Returns the slot of a client's allocation.
-pub(crate) fn client_slot(tables: &Tables, moment: u64, client: Addr) -> Option<usize>
-    ensures { result ≡ client_slot client (rows_at moment tables.now) }
-{
-    let allocation = uncounted::allocation_of(tables, client, moment)?;
-    Some(allocation.slot)
-}
-
 /// Returns the client of the allocation at a slot.
 fn client_at(tables: &Tables, moment: u64, slot: usize) -> Option<Addr>
     ensures { result ≡ client_at slot (rows_at moment tables.now) }
 {
     let allocation = uncounted::allocation_at(tables, slot, moment)?;
     Some(allocation.client)
+}
+
+/// Sends from the relayed address of an allocation to a peer of its family.
+fn to_peer<'a>(own: &Allocation, peer: Addr, bytes: &'a [u8]) -> Action<'a>
+    ensures { sending_of result ≡ to_peer own.now (peer, bytes.now) }
+{
+    if !peer.is_of_family(own.family) {
+        return Action::Nothing;
+    }
+    Action::ToPeer {
+        slot: own.slot,
+        peer,
+        bytes,
+    }
 }
 
 /// Relays ChannelData: its data goes to the peer that its number is bound to (RFC 8656, section 12.6).
@@ -50,18 +56,14 @@ pub(crate) fn channel_data<'a>(
 ) -> Action<'a>
     ensures { sending_of result ≡ channel_data_from client (rows_at moment tables.now) datagram.now }
 {
-    let Some(slot) = client_slot(tables, moment, client) else {
+    let Some(own) = uncounted::allocation_of(tables, client, moment) else {
         return Action::Nothing;
     };
     let Some(message) = read_channel(datagram) else {
         return Action::Nothing;
     };
-    match uncounted::peer_of(tables, slot, message.number, moment) {
-        Some(peer) => Action::ToPeer {
-            slot,
-            peer,
-            bytes: message.bytes,
-        },
+    match uncounted::peer_of(tables, own.slot, message.number, moment) {
+        Some(peer) => to_peer(&own, peer, message.bytes),
         None => Action::Nothing,
     }
 }
@@ -70,7 +72,7 @@ pub(crate) fn channel_data<'a>(
 fn send_message<'a>(tables: &Tables, moment: u64, client: Addr, message: &Message<'a>) -> Action<'a>
     ensures { sending_of result ≡ send_from client (rows_at moment tables.now) message.now }
 {
-    let Some(slot) = client_slot(tables, moment, client) else {
+    let Some(own) = uncounted::allocation_of(tables, client, moment) else {
         return Action::Nothing;
     };
     if !all_understood(message) {
@@ -85,10 +87,10 @@ fn send_message<'a>(tables: &Tables, moment: u64, client: Addr, message: &Messag
     let Ok(peer) = read_xor_addr(value, &message.tx()) else {
         return Action::Nothing;
     };
-    if !uncounted::permitted(tables, slot, peer, moment) {
+    if !uncounted::permitted(tables, own.slot, peer, moment) {
         return Action::Nothing;
     }
-    Action::ToPeer { slot, peer, bytes }
+    to_peer(&own, peer, bytes)
 }
 
 /// Relays a datagram that is a Send indication.

@@ -6,16 +6,17 @@ ghost use Rattle.machine.specs.Contents.{room_of};
 ghost use Rattle.machine.specs.Contexts.{environment_around, context_of};
 ghost use Rattle.machine.specs.Tracing.{run_over};
 ghost use Rattle.tables.specs.Rows.{rows_at};
+ghost use Rattle.tables.specs.Rows.{Rows};
 ghost use Rattle.programs.specs.Runs.{context_for, slot_for};
+ghost use Rattle.relay.specs.Found.{own_for};
 ghost use Rattle.relay.specs.ByPrograms.{program_for};
 ghost use Rattle.relay.specs.Found.{HasRun, answers_of_look_up};
 
-use crate::rules::client_slot;
 use events::{Meta, Source};
 use helpers::Lookup;
 use loader::Loaded;
 use machine::{Context, Frame, Outcome, Side, run};
-use tables::Tables;
+use tables::{Allocation, Tables, uncounted};
 use verifier::Verified;
 
 /// Returns the context of a datagram.
@@ -36,12 +37,25 @@ pub(crate) fn context_for(tx: [u8; 12], from: Source) -> Context
     }
 }
 
-/// Returns the slot in which helpers look up.
-pub(crate) fn slot_for(tables: &Tables, moment: u64, from: Source) -> Option<usize>
-    ensures { result ≡ slot_for from (rows_at moment tables.now) }
+/// Returns the allocation of a client.
+pub(crate) fn own_for(tables: &Tables, moment: u64, from: Source) -> Option<Allocation>
+    ensures { result ≡ own_for from (rows_at moment tables.now) }
 {
     match from {
-        Source::Client(client) => client_slot(tables, moment, client),
+        Source::Client(client) => uncounted::allocation_of(tables, client, moment),
+        Source::Peer { .. } => None,
+    }
+}
+
+/// Returns the slot in which helpers look up, where a client has this allocation.
+pub(crate) fn slot_for(from: Source, own: Option<Allocation>) -> Option<usize>
+    ensures { (rows : Rows) → own ≡ own_for from rows → result ≡ slot_for from rows }
+{
+    match from {
+        Source::Client(_) => {
+            let allocation = own?;
+            Some(allocation.slot)
+        }
         Source::Peer { slot, .. } => Some(slot),
     }
 }

@@ -1,12 +1,13 @@
 //! Datagrams that are received ahead: several in a row, before the first of them is served.
 
+use attributes::Addr;
 use mio::net::UdpSocket;
 use semantics::MAX_DATAGRAM;
 use serving::LinkFault;
 use std::alloc::{AllocError, Global};
 use std::io::ErrorKind;
 use std::mem;
-use std::net::{SocketAddr, SocketAddrV4};
+use std::net::SocketAddr;
 
 /// How many datagrams a socket may have before the others get their turn, and how many are received ahead at most.
 pub(crate) const TURNS: usize = 64;
@@ -16,7 +17,7 @@ pub(crate) const TURNS: usize = 64;
 const ROOM: usize = MAX_DATAGRAM + TURNS * 2_048;
 
 /// The length and the source of a datagram, or nothing where none has come.
-pub(crate) type Received = Option<(usize, SocketAddrV4)>;
+pub(crate) type Received = Option<(usize, Addr)>;
 
 /// What comes after the datagrams that were received ahead.
 #[derive(Clone, Copy)]
@@ -35,7 +36,7 @@ pub(crate) struct Ahead {
     /// The bytes of all datagrams, one after the other.
     bytes: Vec<u8>,
     /// Their lengths and sources.
-    datagrams: Vec<(usize, SocketAddrV4)>,
+    datagrams: Vec<(usize, Addr)>,
     then: Then,
     /// How many datagrams have been handed on.
     count: usize,
@@ -43,12 +44,27 @@ pub(crate) struct Ahead {
     start: usize,
 }
 
+/// Returns the address of a socket.
+#[inline(always)]
+fn addr_of(address: SocketAddr) -> Addr {
+    let port = address.port();
+    match address {
+        SocketAddr::V4(address) => Addr::V4 {
+            ip: address.ip().octets(),
+            port,
+        },
+        SocketAddr::V6(address) => Addr::V6 {
+            ip: address.ip().octets(),
+            port,
+        },
+    }
+}
+
 /// Receives a datagram at a socket, if one has come.
 #[inline(always)]
 fn receive(socket: &UdpSocket, into: &mut [u8]) -> Result<Received, LinkFault> {
     match socket.recv_from(into) {
-        Ok((n, SocketAddr::V4(from))) => Ok(Some((n, from))),
-        Ok((_, SocketAddr::V6(_))) => Err(LinkFault),
+        Ok((n, from)) => Ok(Some((n, addr_of(from)))),
         Err(error) if error.kind() == ErrorKind::WouldBlock => Ok(None),
         Err(_) => Err(LinkFault),
     }

@@ -8,9 +8,10 @@ mod replacing;
 mod replaying;
 mod server;
 mod sockets;
+mod udp;
 
 use crate::replaying::replay;
-use crate::server::{ServerTexts, serve};
+use crate::server::serve;
 use asm::{AsmError, assemble};
 use clap::ArgMatches;
 use clap::error::ErrorKind as LineErrorKind;
@@ -140,25 +141,7 @@ fn run_subcommand<R: Files + Input + Print + Net + Clock + RandomSource + AllocG
                 options,
             },
         ) => replay(rt, err, events, nonce, &options),
-        Some(
-            Subcommand::Serve {
-                port,
-                rounds,
-                listen,
-                nonce_lifetime,
-                stats,
-                options,
-            },
-        ) => {
-            let texts = ServerTexts {
-                port,
-                rounds,
-                listen,
-                nonce_lifetime,
-                stats,
-            };
-            serve(rt, err, texts, &options)
-        }
+        Some(Subcommand::Serve { server, options }) => serve(rt, err, server, &options),
         None => BAD_LINE,
     }
 }

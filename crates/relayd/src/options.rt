@@ -4,9 +4,9 @@ use command_line::Options;
 use credentials::User;
 use programs::{CLIENT, PEER};
 use relay::Relay;
-use setup::{ProgramError, Setup, SetupError, defaults, ip, port, relay_of, slots, user};
+use setup::{ProgramError, Setup, SetupError, defaults, ip, octets6, port, relay_of, slots, user};
 use std::alloc::Global;
-use std::net::SocketAddrV4;
+use std::net::SocketAddr;
 use std::rt::Files;
 use std::{fs, io};
 use thiserror::Error;
@@ -17,6 +17,12 @@ pub(crate) enum Fault<'a> {
     /// The text of an option is no value of it.
     #[error("error: invalid value '{text}' for '{option}'")]
     Value { option: &'static str, text: &'a str },
+    /// A relayed IPv6 address is given, and none that sockets are bound to.
+    #[error("error: '--relay-ip6 <HEX>' needs '--listen6 <A>'")]
+    NoListen6,
+    /// Peers can't send to the relayed IPv6 address.
+    #[error("refused ip6")]
+    RelayedAddress6,
     /// No user is given.
     #[error("error: '--user <NAME:PASSWORD>' or '--users <FILE>' is required")]
     NoUsers,
@@ -31,7 +37,7 @@ pub(crate) enum Fault<'a> {
     Setup(SetupError),
     /// A socket can't be bound to this address.
     #[error("cannot bind {0}")]
-    Bind(SocketAddrV4),
+    Bind(SocketAddr),
     /// The system doesn't say which sockets are ready.
     #[error("cannot wait for sockets")]
     Wait,
@@ -53,8 +59,8 @@ impl Fault<'_> {
     /// Returns the exit status.
     pub(crate) fn status(&self) -> u8 {
         match self {
-            Fault::Users(_) | Fault::Setup(_) | Fault::Line(_) => 1,
-            Fault::Value { .. } | Fault::NoUsers => 2,
+            Fault::Users(_) | Fault::Setup(_) | Fault::Line(_) | Fault::RelayedAddress6 => 1,
+            Fault::Value { .. } | Fault::NoUsers | Fault::NoListen6 => 2,
             Fault::File(_) | Fault::Output => 3,
             Fault::Bind(_) | Fault::Wait | Fault::Random => 3,
             Fault::Memory => 4,
@@ -72,13 +78,25 @@ pub(crate) fn slots_of<'a>(options: &Options<'a>) -> Result<usize, Fault<'a>> {
     slots(text).ok_or(Fault::Value { option, text })
 }
 
-/// Returns the relayed IP address.
+/// Returns the relayed IPv4 address.
 fn ip_of<'a>(options: &Options<'a>) -> Result<[u8; 4], Fault<'a>> {
     let Some(text) = options.relay_ip else {
         return Ok(defaults::RELAY_IP);
     };
     let option = "--relay-ip <A>";
     ip(text).ok_or(Fault::Value { option, text })
+}
+
+/// Returns the relayed IPv6 address, if one is given.
+pub(crate) fn octets6_of<'a>(options: &Options<'a>) -> Result<Option<[u8; 16]>, Fault<'a>> {
+    let Some(text) = options.relay_ip6 else {
+        return Ok(None);
+    };
+    let option = "--relay-ip6 <HEX>";
+    match octets6(text) {
+        Some(octets) => Ok(Some(octets)),
+        None => Err(Fault::Value { option, text }),
+    }
 }
 
 /// Returns the relayed port of slot 0.
@@ -217,16 +235,21 @@ fn setup_fault<'a>(error: SetupError, options: &Options<'a>) -> Fault<'a> {
     }
 }
 
-/// Sets up the relay that the options describe, with a nonce. The programs' files are both read first.
+/// Sets up the relay that the options describe, with a nonce and a relayed IPv6 address, if there is one. The programs' files
+/// are both read first.
 /// See docs/DECISIONS.md, "The first fault of a replay".
 pub(crate) fn set_up<'a, R: Files + AllocGlobal>(
     rt: &R,
     options: &Options<'a>,
     nonce: &'a str,
+    ip6: Option<[u8; 16]>,
 ) -> Result<SetUp, Fault<'a>> {
     let slots = slots_of(options)?;
     let ip = ip_of(options)?;
     let first_port = port_of(options)?;
+    let Ok(realm) = String::from_str(rt.alloc(), options.realm.unwrap_or(defaults::REALM)) else {
+        return Err(Fault::Memory);
+    };
     let users = users_of(rt, options)?;
     let programs = ProgramBytes {
         client: read_program(rt, options.client)?,
@@ -234,14 +257,16 @@ pub(crate) fn set_up<'a, R: Files + AllocGlobal>(
     };
     let setup = Setup {
         ip,
+        ip6,
         first_port,
         slots,
-        realm: options.realm.unwrap_or(defaults::REALM),
+        realm,
         nonce,
+        users,
         client: program(options.client, &programs.client, CLIENT),
         peer: program(options.peer, &programs.peer, PEER),
     };
-    match relay_of(rt.alloc(), &setup, users) {
+    match relay_of(rt.alloc(), setup) {
         Ok(relay) => Ok(SetUp { relay, programs }),
         Err(error) => Err(setup_fault(error, options)),
     }

@@ -1,19 +1,19 @@
 //! The command `serve`: relays the datagrams of UDP sockets.
 
 use crate::ahead::TURNS;
-use crate::options::{Fault, port_of, set_up, slots_of};
+use crate::options::{Fault, octets6_of, port_of, set_up, slots_of};
 use crate::replacing::Sides;
-use crate::sockets::{Addresses, BindFault, Sockets, place_of};
-use command_line::Options;
+use crate::sockets::{Addresses, BindFault, Sockets};
+use command_line::{Options, ServerOptions};
 use mio::{Events, Poll, Token};
 use rand::make_rng;
 use rand::rngs::StdRng;
 use rand_core::Rng;
 use relay::Relay;
 use serving::{Place, ServeError, draw_nonce, serve_once};
-use setup::{defaults, ip, number, port};
+use setup::{defaults, ip, ip6, number, port};
 use std::io::{self, Write};
-use std::net::{Ipv4Addr, Net};
+use std::net::{Ipv4Addr, Ipv6Addr, Net};
 use std::random::RandomSource;
 use std::rt::{Clock, Files};
 use std::time::Duration;
@@ -28,21 +28,12 @@ const PERIOD: u64 = 1;
 /// The seconds after which a nonce is replaced, where none are given.
 const NONCE_LIFETIME: u64 = 3600;
 
-/// The arguments of a server, as they are written; `None` is one that is not given.
-#[derive(Clone, Copy)]
-pub(crate) struct ServerTexts<'a> {
-    pub(crate) port: &'a str,
-    pub(crate) rounds: Option<&'a str>,
-    pub(crate) listen: Option<&'a str>,
-    pub(crate) nonce_lifetime: Option<&'a str>,
-    pub(crate) stats: Option<&'a str>,
-}
-
 /// The values of the arguments of a server.
 #[derive(Clone, Copy)]
 struct Arguments {
     port: u16,
     listen: Ipv4Addr,
+    listen6: Option<Ipv6Addr>,
     /// How many rounds are made; `None` is to serve until the process is stopped.
     rounds: Option<u64>,
     nonce_lifetime: Duration,
@@ -105,8 +96,35 @@ fn seconds_of<'a>(option: &'static str, text: &'a str) -> Result<Duration, Fault
     }
 }
 
-/// Parses the arguments of a server.
-fn parse<'a>(texts: ServerTexts<'a>) -> Result<Arguments, Fault<'a>> {
+/// Parses the IPv6 address that sockets are bound to.
+fn listen6_of<'a>(text: &'a str) -> Result<Ipv6Addr, Fault<'a>> {
+    let option = "--listen6 <A>";
+    match ip6(text) {
+        Some(octets) => Ok(Ipv6Addr::from(octets)),
+        None => Err(Fault::Value { option, text }),
+    }
+}
+
+/// Returns the relayed IPv6 address: that of `--relay-ip6`, or else the one that sockets are bound to.
+fn relayed6<'a>(
+    listen6: Option<Ipv6Addr>,
+    options: &Options<'a>,
+) -> Result<Option<[u8; 16]>, Fault<'a>> {
+    match (octets6_of(options)?, listen6) {
+        (Some(_), None) => Err(Fault::NoListen6),
+        (Some(octets), Some(_)) => Ok(Some(octets)),
+        (None, listen6) => Ok(listen6.map(|ip| ip.octets())),
+    }
+}
+
+/// Returns whether peers can send to a relayed IPv6 address: it is one, and not of a group.
+fn is_reachable6(octets: [u8; 16]) -> bool {
+    let ip = Ipv6Addr::from(octets);
+    !ip.is_unspecified() && !ip.is_multicast()
+}
+
+/// Parses the options of a server.
+fn parse<'a>(texts: ServerOptions<'a>) -> Result<Arguments, Fault<'a>> {
     let (option, text) = ("--port <P>", texts.port);
     let port = port(text).ok_or(Fault::Value { option, text })?;
     let rounds = match texts.rounds {
@@ -120,6 +138,10 @@ fn parse<'a>(texts: ServerTexts<'a>) -> Result<Arguments, Fault<'a>> {
         }
         None => Ipv4Addr::LOCALHOST,
     };
+    let listen6 = match texts.listen6 {
+        Some(text) => Some(listen6_of(text)?),
+        None => None,
+    };
     let nonce_lifetime = match texts.nonce_lifetime {
         Some(text) => seconds_of("--nonce-lifetime <S>", text)?,
         None => Duration::from_secs(NONCE_LIFETIME),
@@ -131,6 +153,7 @@ fn parse<'a>(texts: ServerTexts<'a>) -> Result<Arguments, Fault<'a>> {
     Ok(Arguments {
         port,
         listen,
+        listen6,
         rounds,
         nonce_lifetime,
         stats,
@@ -221,11 +244,12 @@ impl Server<'_> {
         }
     }
 
-    /// Tries one datagram at each place: that of clients first, then those of the slots in order.
+    /// Tries one datagram at each socket: that of clients first, then those of the slots in order.
     fn round<R: Clock, E: Write>(&mut self, rt: &R, err: &mut E) {
         let now = moment(rt);
         for token in 0..self.sockets.count() {
-            self.turn(err, place_of(token), now);
+            let place = self.sockets.choose(token);
+            self.turn(err, place, now);
         }
     }
 
@@ -258,13 +282,14 @@ impl Server<'_> {
         TURNS
     }
 
-    /// Serves a place, and receives ahead there if the server is busy. Returns whether more may be there.
+    /// Serves a socket, and receives ahead there if the server is busy. Returns whether more may be there.
     /// See docs/DECISIONS.md, "A clock is read once a drain".
     /// See docs/DECISIONS.md, "One function serves a datagram".
     /// See docs/DECISIONS.md, "A busy server receives ahead".
     #[inline(never)]
-    fn drain<R: Clock, E: Write>(&mut self, rt: &R, err: &mut E, place: Place) -> bool {
+    fn drain<R: Clock, E: Write>(&mut self, rt: &R, err: &mut E, token: usize) -> bool {
         let now = moment(rt);
+        let place = self.sockets.choose(token);
         if self.is_busy {
             self.sockets.receive_ahead(place);
         }
@@ -289,7 +314,7 @@ impl Server<'_> {
             let Token(token) = event.token();
             if let Some(readiness) = places.get_mut(token)
                 && let Readiness::Empty = *readiness
-                && self.drain(rt, err, place_of(token))
+                && self.drain(rt, err, token)
             {
                 *readiness = Readiness::Served;
                 more = true;
@@ -310,7 +335,7 @@ impl Server<'_> {
         for (token, readiness) in places.iter_mut().enumerate() {
             let has_more = match *readiness {
                 Readiness::Empty => continue,
-                Readiness::Ready => self.drain(rt, err, place_of(token)),
+                Readiness::Ready => self.drain(rt, err, token),
                 Readiness::Served => true,
             };
             *readiness = if has_more {
@@ -389,9 +414,16 @@ fn start<'a, R: Files + Net + Clock + RandomSource + AllocGlobal>(
     arguments: Arguments,
     options: &Options<'a>,
 ) -> Result<Server<'a>, Fault<'a>> {
-    let set = set_up(rt, options, defaults::NONCE)?;
+    let ip6 = relayed6(arguments.listen6, options)?;
+    let set = set_up(rt, options, defaults::NONCE, ip6)?;
+    if let Some(octets) = ip6
+        && !is_reachable6(octets)
+    {
+        return Err(Fault::RelayedAddress6);
+    }
     let addresses = Addresses {
         listen: arguments.listen,
+        listen6: arguments.listen6,
         port: arguments.port,
         first_port: port_of(options)?,
         slots: slots_of(options)?,
@@ -421,7 +453,7 @@ fn start<'a, R: Files + Net + Clock + RandomSource + AllocGlobal>(
 fn serve_sockets<'a, R: Files + Print + Net + Clock + RandomSource + AllocGlobal, E: Write>(
     rt: &R,
     err: &mut E,
-    texts: ServerTexts<'a>,
+    texts: ServerOptions<'a>,
     options: &Options<'a>,
 ) -> Result<(), Fault<'a>> {
     let arguments = parse(texts)?;
@@ -445,7 +477,7 @@ fn serve_sockets<'a, R: Files + Print + Net + Clock + RandomSource + AllocGlobal
 pub(crate) fn serve<R: Files + Print + Net + Clock + RandomSource + AllocGlobal, E: Write>(
     rt: &R,
     err: &mut E,
-    texts: ServerTexts<'_>,
+    texts: ServerOptions<'_>,
     options: &Options<'_>,
 ) -> u8 {
     match serve_sockets(rt, err, texts, options) {

@@ -1,5 +1,5 @@
 -- Meaning. A trace of a program file over the datagram that hexadecimal digits encode.
-use Rattle.std.specs.Prelude.{◌≡◌, ℕ, ◌≤◌, List, [], ◌∷◌, length, Option, option_copied, Ok}
+use Rattle.std.specs.Prelude.{◌≡◌, ℕ, ◌≤◌, List, [], ◌∷◌, length, replicate, Option, option_copied, Ok}
 use Rattle.std.specs.Io.KnownBytes.{Appends}
 use Rattle.std.specs.Option.{unwrap_or}
 use Rattle.std.specs.Borrow.{Bor}
@@ -14,11 +14,12 @@ use Rattle.machine.specs.Tracing.{run_over}
 use Rattle.report.specs.Texts.{trace_text}
 
 -- The client's side (0), the source 127.0.0.1:9 as an address record (a zero, the family 1, the port, the
--- address), and a transaction id of zeros.
+-- address) and as a wide one (twelve zeros more), and a transaction id of zeros.
 abbrev pub trace_context : Context
 trace_context = record {
   side = 0;
   source = 0 ∷ 1 ∷ 0 ∷ 9 ∷ 127 ∷ 0 ∷ 0 ∷ 1 ∷ [];
+  wide_source = 0 ∷ 1 ∷ 0 ∷ 9 ∷ 127 ∷ 0 ∷ 0 ∷ 1 ∷ replicate 12 0;
   transaction_id = 0 ∷ 0 ∷ 0 ∷ 0 ∷ 0 ∷ 0 ∷ 0 ∷ 0 ∷ 0 ∷ 0 ∷ 0 ∷ 0 ∷ [];
 }
 

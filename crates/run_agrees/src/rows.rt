@@ -4,7 +4,7 @@ ghost use Rattle.std.specs.Prelude.{IsTrue};
 ghost use Rattle.tables.specs.Addresses.{is_ipv4};
 
 use anyhow::Result;
-use attributes::Addr;
+use attributes::{Addr, Family};
 use std::alloc::Global;
 use tables::{FIRST_CHANNEL, Tables};
 
@@ -40,7 +40,7 @@ pub fn peer() -> Addr
 /// Where memory runs out.
 pub fn tables(alloc: Global) -> Result<Tables> {
     let mut tables = Tables::new(alloc, 2)?;
-    let slot = tables.allocate(NOW, client(), 0, [1; 12], LIFETIME)?;
+    let slot = tables.allocate(NOW, client(), 0, [1; 12], Family::Ipv4, LIFETIME)?;
     tables.bind(NOW, slot, FIRST_CHANNEL, peer())?;
     Ok(tables)
 }

@@ -3,6 +3,7 @@ pub mod Machine
 pub mod StartLaws
 pub mod Access
 pub mod AccessLaws
+pub mod GroupLaws
 pub mod ContextLaws
 pub mod Loading
 pub mod Calls

@@ -3,6 +3,7 @@
 ghost use Rattle.std.specs.Prelude.{◌≡◌, ◌≤◌, ◌+ℤ◌, ◌≤ℤ◌, pos, negsuc, IfOk};
 ghost use Rattle.semantics.specs.Access.{is_within, index_within, stack_first, headroom_first, in_stack, in_bytes, location, IsInside};
 ghost use Rattle.semantics.specs.Views.{memory_of};
+ghost use Rattle.semantics.specs.declared.limits.TheConstants.{STACK_BYTES};
 
 use crate::limits::{HEADROOM, STACK_BYTES, TAILROOM};
 use crate::memory::Memory;
@@ -27,7 +28,7 @@ pub enum Location {
 /// Returns whether the `n` bytes from the place `base + displacement` on lie at the places `low..high`. Places are
 /// whole numbers: nothing wraps.
 pub fn is_within(base: i64, displacement: i16, n: usize, low: i64, high: i64) -> bool
-    requires { n ≤ 8 }
+    requires { n ≤ STACK_BYTES }
     ensures { result ≡ is_within (base +ℤ displacement) n low high }
 {
     let Some(place) = base.checked_add(i64::from(displacement)) else {
@@ -51,7 +52,7 @@ struct Places {
 /// Returns the index of the `n` items from the place `base + displacement` on, in a list that begins at the place
 /// `first`, or `None` where they don't lie at the given places.
 fn index_of(base: i64, displacement: i16, n: usize, first: i64, places: Places) -> Option<usize>
-    requires small { n ≤ 8 }
+    requires small { n ≤ STACK_BYTES }
     requires first { first ≤ℤ places.low }
     requires low { negsuc 65535 ≤ℤ first }
     requires lower { negsuc 65535 ≤ℤ places.high }
@@ -70,7 +71,7 @@ fn index_of(base: i64, displacement: i16, n: usize, first: i64, places: Places) 
 /// Returns the index, among the stack cells, of the `n` bytes from the place `base + displacement` on, or `None`
 /// where they don't lie in the stack.
 pub fn index_in_stack(base: i64, displacement: i16, n: usize) -> Option<usize>
-    requires { n ≤ 8 }
+    requires { n ≤ STACK_BYTES }
     ensures { result ≡ index_within (base +ℤ displacement) n stack_first stack_first (pos 0) }
 {
     let places = Places {

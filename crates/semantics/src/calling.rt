@@ -1,6 +1,7 @@
 //! Calls of helpers (RFC 9669, section 4.3.1): argument k is in register k.
 
 ghost use Rattle.std.specs.Prelude.{◌≡◌, ◌+◌, ◌≤◌, IfOk};
+ghost use Rattle.semantics.specs.Calls.{bytes_at};
 ghost use Rattle.semantics.specs.Effects.{context_argument, number_argument, stack_argument, record_argument, with_argument, inputs, effect_with, call_effect};
 ghost use Rattle.semantics.specs.Machine.{Context, IsContext, context_bytes};
 ghost use Rattle.semantics.specs.Views.{memory_of};
@@ -8,12 +9,13 @@ ghost use Rattle.semantics.specs.declared.limits.TheConstants.{STACK_BYTES};
 
 use crate::effect::{Effect, Registers, read};
 use crate::helper::{
-    Argument, Helper, Inputs, Question, RECORD_BYTES, bytes_of_cells, destination_at, stack_index,
-    window_within,
+    Argument, Helper, Inputs, Question, RECORD_BYTES, RecordForm, Room, WIDE_RECORD_BYTES,
+    bytes_of_cells, destination_at, stack_index, widened, window_within,
 };
 use crate::loading::{CONTEXT_BYTES, part_of, side};
 use crate::memory::Memory;
 use crate::reason::Reason;
+use crate::stack::no_pointer;
 use crate::value::Value;
 use insn::Reg;
 
@@ -37,25 +39,45 @@ fn number_argument(registers: &Registers, reg: Reg) -> Result<u64, Reason>
     }
 }
 
-/// Returns the index, among the stack cells, of the eight bytes that an argument points to.
-fn stack_argument(registers: &Registers, reg: Reg) -> Result<usize, Reason>
-    ensures index { result ≡ stack_argument registers.now reg }
-    ensures inside { IfOk result (λ i. i + RECORD_BYTES ≤ STACK_BYTES) }
+/// Returns the index, among the stack cells, of the `n` bytes that an argument points to.
+fn stack_argument(registers: &Registers, n: usize, reg: Reg) -> Result<usize, Reason>
+    requires { n ≤ STACK_BYTES }
+    ensures index { result ≡ stack_argument registers.now n reg }
+    ensures inside { IfOk result (λ i. i + n ≤ STACK_BYTES) }
 {
     let argument = read(registers, reg)?;
-    stack_index(argument).ok_or(Reason::HelperArgument(reg.number()))
+    stack_index(argument, n).ok_or(Reason::HelperArgument(reg.number()))
 }
 
-/// Returns the address record that an argument points to.
+/// Returns the bytes of `N` stack cells from an index on.
+fn bytes_at<const N: usize>(memory: &Memory<'_>, index: usize) -> Result<[u8; N], Reason>
+    requires some { 1 ≤ N }
+    requires inside { index + N ≤ STACK_BYTES }
+    ensures { result ≡ bytes_at (memory_of memory.now) N index }
+{
+    no_pointer(memory.stack, index, N)?;
+    bytes_of_cells(part_of(&memory.stack.cells, index, N)).ok_or(Reason::UninitStack)
+}
+
+/// Returns the address record of a form that an argument points to, as a wide one.
 fn record_argument(
     memory: &Memory<'_>,
     registers: &Registers,
+    form: RecordForm,
     reg: Reg,
-) -> Result<[u8; RECORD_BYTES], Reason>
-    ensures { result ≡ record_argument (memory_of memory.now) registers.now reg }
+) -> Result<[u8; WIDE_RECORD_BYTES], Reason>
+    ensures { result ≡ record_argument (memory_of memory.now) registers.now form reg }
 {
-    let index = stack_argument(registers, reg)?;
-    bytes_of_cells(part_of(memory.stack, index, RECORD_BYTES)).ok_or(Reason::UninitStack)
+    match form {
+        RecordForm::Narrow => {
+            let index = stack_argument(registers, RECORD_BYTES, reg)?;
+            Ok(widened(&bytes_at(memory, index)?))
+        }
+        RecordForm::Wide => {
+            let index = stack_argument(registers, WIDE_RECORD_BYTES, reg)?;
+            bytes_at(memory, index)
+        }
+    }
 }
 
 /// Adds what the argument in a register gives to what those before it gave.
@@ -82,14 +104,17 @@ fn with_argument(
                 ..given
             })
         }
-        Argument::RecordIn => {
-            let address = record_argument(memory, registers, reg)?;
+        Argument::RecordIn(form) => {
+            let address = record_argument(memory, registers, form, reg)?;
             Ok(Inputs { address, ..given })
         }
-        Argument::RecordOut => {
-            let index = stack_argument(registers, reg)?;
+        Argument::RecordOut(form) => {
+            let index = stack_argument(registers, form.bytes(), reg)?;
             Ok(Inputs {
-                out: Some(index),
+                out: Some(Room {
+                    index: index as u16,
+                    form,
+                }),
                 ..given
             })
         }
@@ -107,7 +132,7 @@ fn inputs(
     let none = Inputs {
         former: 0,
         number: 0,
-        address: [0; RECORD_BYTES],
+        address: [0; WIDE_RECORD_BYTES],
         out: None,
     };
     let first = with_argument(memory, registers, Reg::R1, arguments[0], none)?;
@@ -128,7 +153,7 @@ fn effect_with(
         → result ≡ effect_with c (memory_of memory.now) helper given.now }
 {
     match helper {
-        Helper::ChannelPeer | Helper::ChannelTo | Helper::Permitted => Effect::Ask {
+        Helper::ChannelPeer(_) | Helper::ChannelTo(_) | Helper::Permitted(_) => Effect::Ask {
             question: Question {
                 helper: helper.number(),
                 number: given.number,
@@ -139,8 +164,8 @@ fn effect_with(
         Helper::Window => {
             Effect::SetWindow(window_within(memory.length, given.former, given.number))
         }
-        Helper::Destination => {
-            Effect::SetDestination(destination_at(side(context), given.address))
+        Helper::Destination(form) => {
+            Effect::SetDestination(destination_at(side(context), form, given.address))
         }
     }
 }

@@ -1,17 +1,17 @@
 //! The effect of an instruction (RFC 9669, sections 4 and 5).
 
-ghost use Rattle.std.specs.Prelude.{◌≡◌, ◌≤◌};
+ghost use Rattle.std.specs.Prelude.{◌≡◌, ◌≤◌, ◌+ℤ◌};
 ghost use Rattle.std.specs.Int.{w64, cast_signed};
-ghost use Rattle.semantics.specs.Effects.{content_of, value_at, register_value, operand_value, is_writable, writable, near_place, moved_place, alu_result, unary_result, register_write, alu_effect, unary_effect, comparison_of_places, comparison_result, jump_if_effect, load_effect, load_signed_effect, pointer, stored_number, store_effect, verdict_of, exit_effect, effect};
+ghost use Rattle.semantics.specs.Effects.{content_of, value_at, register_value, operand_value, is_writable, writable, near_place, moved_place, alu_result, unary_result, register_write, alu_effect, unary_effect, comparison_of_places, comparison_result, jump_if_effect, load_effect, load_signed_effect, pointer, is_group_place, store_pointer, store_number, store_value, store_effect, verdict_of, exit_effect, effect};
 ghost use Rattle.semantics.specs.Loading.{load, load_signed};
 ghost use Rattle.semantics.specs.Machine.{Context, IsContext, context_bytes};
 ghost use Rattle.semantics.specs.Views.{memory_of};
 ghost use Rattle.semantics.specs.declared.limits.TheConstants.{MAX_DATAGRAM};
 
-use crate::access::{Location, locate};
+use crate::access::{Location, index_in_stack, locate};
 use crate::calling::call_effect;
-use crate::helper::{Question, RECORD_BYTES};
-use crate::limits::MAX_OFFSET;
+use crate::helper::{Question, Room, WIDE_RECORD_BYTES};
+use crate::limits::{GROUP_BYTES, MAX_OFFSET};
 use crate::loading::{CONTEXT_BYTES, load, load_signed};
 use crate::memory::Memory;
 use crate::reason::Reason;
@@ -39,17 +39,22 @@ pub enum Effect {
         size: Size,
         value: u64,
     },
-    /// Asks a helper that looks up. Its answer is written to `r0`, and the record of it to the eight stack cells from the
-    /// index `out` on, if there is one; `r1` to `r5` hold nothing afterwards. Goes on to the next instruction.
+    /// Stores a pointer in a group of the stack, by its number, and goes on to the next instruction.
+    StorePointer {
+        group: usize,
+        pointer: Value,
+    },
+    /// Asks a helper that looks up. Its answer is written to `r0`, and the record of it to the room `out` in the stack, if
+    /// there is one; `r1` to `r5` hold nothing afterwards. Goes on to the next instruction.
     Ask {
         question: Question,
-        out: Option<usize>,
+        out: Option<Room>,
     },
     /// Sets the window, by its front and its length, and writes 0 to `r0`. `None` where it would not lie in memory: the
     /// plan stays as it is, and `r0` is 1. `r1` to `r5` hold nothing afterwards. Goes on to the next instruction.
     SetWindow(Option<(usize, usize)>),
     /// Sets the destination, as `SetWindow` does the window.
-    SetDestination(Option<[u8; RECORD_BYTES]>),
+    SetDestination(Option<[u8; WIDE_RECORD_BYTES]>),
     /// Jumps by a distance in slots, counted from the next slot.
     Jump {
         offset: i32,
@@ -302,16 +307,58 @@ fn pointer(base: Value) -> Result<(), Reason>
     }
 }
 
-/// Returns the number to store.
+/// Returns whether a group begins at the place `base + displacement` of the stack.
+pub fn is_group_place(base: i64, displacement: i16) -> bool
+    ensures { result ≡ is_group_place (base +ℤ displacement) }
+{
+    let place = i128::from(base) + i128::from(displacement);
+    place.unsigned_abs() % 8 == 0
+}
+
+/// Returns the effect of storing a pointer.
+/// See docs/DECISIONS.md, "Pointers on the stack".
 ///
 /// # Errors
-/// `PointerStored` for a pointer.
-fn stored_number(value: Value) -> Result<u64, Reason>
-    ensures { result ≡ stored_number value }
+/// `PointerStored` where it isn't stored as a whole in a group of the stack, `StackBounds` outside the stack.
+fn store_pointer(
+    base: Value,
+    displacement: i16,
+    size: Size,
+    pointer: Value,
+) -> Result<Effect, Reason>
+    ensures { result ≡ store_pointer base displacement size pointer }
+{
+    match (base, size) {
+        (Value::Stack(k), Size::Double) => {
+            if !is_group_place(k, displacement) {
+                return Err(Reason::PointerStored);
+            }
+            let index = index_in_stack(k, displacement, GROUP_BYTES).ok_or(Reason::StackBounds)?;
+            Ok(Effect::StorePointer {
+                group: index / GROUP_BYTES,
+                pointer,
+            })
+        }
+        _ => Err(Reason::PointerStored),
+    }
+}
+
+/// Returns the effect of storing a value.
+fn store_value(
+    memory: &Memory<'_>,
+    base: Value,
+    displacement: i16,
+    size: Size,
+    value: Value,
+) -> Result<Effect, Reason>
+    ensures { result ≡ store_value (memory.now).length base displacement size value }
 {
     match value {
-        Value::Scalar(n) => Ok(n),
-        _ => Err(Reason::PointerStored),
+        Value::Scalar(value) => {
+            let at = locate(memory, base, displacement, size.bytes())?;
+            Ok(Effect::Store { at, size, value })
+        }
+        pointer => store_pointer(base, displacement, size, pointer),
     }
 }
 
@@ -327,9 +374,7 @@ fn store_effect(
     let to = read(view.registers, base)?;
     let value = operand_value(view.registers, Width::W64, operand)?;
     pointer(to)?;
-    let value = stored_number(value)?;
-    let at = locate(view.memory, to, displacement, size.bytes())?;
-    Ok(Effect::Store { at, size, value })
+    store_value(view.memory, to, displacement, size, value)
 }
 
 fn exit_effect(registers: &Registers) -> Result<Effect, Reason>

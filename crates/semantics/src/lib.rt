@@ -13,20 +13,26 @@ mod memory;
 mod plan;
 mod program;
 mod reason;
+mod stack;
 mod storing;
 mod value;
 
 pub use access::{HEADROOM_FIRST, Location, index_in_stack, is_within};
-pub use effect::{Comparison, Effect, Registers, effect_of, moved_place, writable};
+pub use effect::{Comparison, Effect, Registers, effect_of, is_group_place, moved_place, writable};
 pub use fetching::{Branch, Fetched, Position, Visit, fetch, last, target};
 pub use helper::{
-    Argument, Helper, Inputs, Question, RECORD_BYTES, Signature, destination_at, window_within,
+    Argument, Helper, Inputs, Question, RECORD_BYTES, RecordForm, Room, Signature,
+    WIDE_RECORD_BYTES, destination_at, is_valid, widened, window_within,
 };
-pub use limits::{HEADROOM, MAX_CHANNEL, MAX_DATAGRAM, MAX_OFFSET, STACK_BYTES, TAILROOM, sizes};
+pub use limits::{
+    GROUP_BYTES, GROUPS, HEADROOM, MAX_CHANNEL, MAX_DATAGRAM, MAX_OFFSET, STACK_BYTES, TAILROOM,
+    sizes,
+};
 pub use loading::{CONTEXT_BYTES, ContextField, field_at};
 pub use memory::Memory;
 pub use plan::Plan;
 pub use program::Program;
 pub use reason::Reason;
-pub use storing::{put_cells, store};
+pub use stack::{StackMemory, put_bytes, put_pointer};
+pub use storing::store;
 pub use value::Value;

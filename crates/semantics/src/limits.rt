@@ -6,6 +6,12 @@ ghost use Rattle.semantics.specs.declared.limits.TheConstants.{STACK_BYTES, HEAD
 /// The number of bytes of the stack, at the places -512 to -1.
 pub const STACK_BYTES: usize = 512;
 
+/// The number of bytes of a group: eight cells, or a pointer.
+pub const GROUP_BYTES: usize = 8;
+
+/// The number of groups of the stack.
+pub const GROUPS: usize = 64;
+
 /// The number of bytes that may be written before a datagram, at the places -64 to -1.
 pub const HEADROOM: usize = 64;
 

@@ -1,20 +1,24 @@
 //! Loads, and the fields of the context record (RFC 9669, sections 5.1 and 5.2).
 
 ghost use Rattle.std.specs.Prelude.{◌≡◌, ◌≤◌, ◌<◌, ◌+◌, ◌^◌, ℕ, length, IfSome};
+ghost use Rattle.insn.specs.Codes.{byte_count};
 ghost use Rattle.insn.specs.Endian.{little_number};
-ghost use Rattle.semantics.specs.Access.{cells_number, number_in, part, IsInside};
-ghost use Rattle.semantics.specs.Loading.{field_at, field_number, field_value, load_field, reached_number, load, load_signed};
+ghost use Rattle.semantics.specs.Access.{cells_number, number_in, part, IsInside, touches_pointer, no_pointer, is_pointer, is_aligned, pointer_in};
+ghost use Rattle.semantics.specs.Loading.{field_at, field_number, field_value, load_field, reached_number, reached_value, whole_group, pointer_of, kept_in, pointer_or, value_in, load, load_signed};
 ghost use Rattle.semantics.specs.Machine.{Context, IsContext, context_bytes};
 ghost use Rattle.semantics.specs.Views.{memory_of};
+ghost use Rattle.semantics.specs.declared.limits.TheConstants.{STACK_BYTES, GROUPS};
 
 use crate::access::{Location, locate};
+use crate::limits::GROUP_BYTES;
 use crate::memory::Memory;
 use crate::reason::Reason;
+use crate::stack::{is_pointer, no_pointer, pointer_in};
 use crate::value::Value;
 use insn::{SignedSize, Size, little_endian, sign_extended};
 
 /// The number of bytes of the context record.
-pub const CONTEXT_BYTES: usize = 48;
+pub const CONTEXT_BYTES: usize = 68;
 
 /// A field of the context record.
 /// See docs/DECISIONS.md, "The context record".
@@ -26,7 +30,7 @@ pub enum ContextField {
     End,
     /// The datagram's length.
     Length,
-    /// The address record of the source.
+    /// The address record of the source, eight zeros for an IPv6 address.
     Source,
     /// The first eight bytes of the transaction id.
     IdHead,
@@ -34,6 +38,12 @@ pub enum ContextField {
     IdTail,
     /// The side that the datagram came from: 0 a client, 1 a peer.
     Side,
+    /// Bytes 0 to 7 of the wide address record of the source.
+    WideHead,
+    /// Bytes 8 to 15 of it.
+    WideMiddle,
+    /// Bytes 16 to 19 of it.
+    WideTail,
 }
 
 /// Returns the field that a load of `size` bytes at `displacement` reads; `None` unless it is exactly one whole field.
@@ -48,6 +58,9 @@ pub fn field_at(displacement: i16, size: Size) -> Option<ContextField>
         (32, Size::Double) => Some(ContextField::IdHead),
         (40, Size::Word) => Some(ContextField::IdTail),
         (44, Size::Word) => Some(ContextField::Side),
+        (48, Size::Double) => Some(ContextField::WideHead),
+        (56, Size::Double) => Some(ContextField::WideMiddle),
+        (64, Size::Word) => Some(ContextField::WideTail),
         _ => None,
     }
 }
@@ -118,6 +131,9 @@ fn field_value(context: &[u8; CONTEXT_BYTES], field: ContextField) -> Value
         ContextField::IdHead => field_number(context, 8, 32),
         ContextField::IdTail => field_number(context, 4, 40),
         ContextField::Side => field_number(context, 4, 44),
+        ContextField::WideHead => field_number(context, 8, 48),
+        ContextField::WideMiddle => field_number(context, 8, 56),
+        ContextField::WideTail => field_number(context, 4, 64),
     }
 }
 
@@ -138,7 +154,8 @@ fn number_in(memory: &Memory<'_>, n: usize, at: Location) -> Result<u64, Reason>
 {
     match at {
         Location::InStack(index) => {
-            number_of_cells(part_of(memory.stack, index, n)).ok_or(Reason::UninitStack)
+            no_pointer(memory.stack, index, n)?;
+            number_of_cells(part_of(&memory.stack.cells, index, n)).ok_or(Reason::UninitStack)
         }
         Location::InBytes(index) => Ok(number_of_bytes(memory.bytes, index, n)),
     }
@@ -153,6 +170,59 @@ fn number_at(memory: &Memory<'_>, base: Value, displacement: i16, n: usize) -> R
 {
     let at = locate(memory, base, displacement, n)?;
     number_in(memory, n, at)
+}
+
+/// Returns the group that an access reads as a whole.
+fn whole_group(at: Location, size: Size) -> Option<usize>
+    ensures { result ≡ whole_group at size }
+{
+    match (at, size) {
+        (Location::InStack(index), Size::Double) => {
+            if index % GROUP_BYTES == 0 {
+                Some(index / GROUP_BYTES)
+            } else {
+                None
+            }
+        }
+        _ => None,
+    }
+}
+
+/// Returns the pointer that a group holds.
+fn kept_in(memory: &Memory<'_>, group: Option<usize>) -> Option<Value>
+    ensures { result ≡ kept_in (memory_of memory.now) group }
+{
+    let pointer = pointer_in(memory.stack, group?);
+    if is_pointer(pointer) {
+        Some(pointer)
+    } else {
+        None
+    }
+}
+
+/// Returns the pointer of a group that is read as a whole, or the number in the bytes at a location.
+fn value_in(memory: &Memory<'_>, size: Size, at: Location) -> Result<Value, Reason>
+    requires inside { IsInside (memory_of memory.now) (byte_count size) at }
+    ensures { result ≡ value_in (memory_of memory.now) size at }
+{
+    match kept_in(memory, whole_group(at, size)) {
+        Some(pointer) => Ok(pointer),
+        None => Ok(Value::Scalar(number_in(memory, size.bytes(), at)?)),
+    }
+}
+
+/// Returns what the bytes hold that `base` with a displacement reaches.
+#[tactic(auto, unfolding(crate::specs::Loading::reached_value))]
+fn value_at(
+    memory: &Memory<'_>,
+    base: Value,
+    displacement: i16,
+    size: Size,
+) -> Result<Value, Reason>
+    ensures { result ≡ reached_value (memory_of memory.now) base displacement size }
+{
+    let at = locate(memory, base, displacement, size.bytes())?;
+    value_in(memory, size, at)
 }
 
 /// Returns the value that a load through `base` with a displacement reads, zero-extended. `context` is the
@@ -172,7 +242,7 @@ pub fn load(
 {
     match base {
         Value::Ctx => load_field(context, displacement, size),
-        _ => Ok(Value::Scalar(number_at(memory, base, displacement, size.bytes())?)),
+        _ => value_at(memory, base, displacement, size),
     }
 }
 

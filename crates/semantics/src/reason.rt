@@ -43,6 +43,8 @@ pub enum Reason {
     ExitNotScalar,
     /// An access through a number.
     NotAPointer,
+    /// A read of bytes of a pointer that the stack keeps.
+    PointerBytes,
 }
 
 impl fmt::Display for Reason {
@@ -67,6 +69,7 @@ impl fmt::Display for Reason {
             Reason::HelperArgument(n) => return write!(f, "V15 argument {n}"),
             Reason::ExitNotScalar => "V16",
             Reason::NotAPointer => "V18",
+            Reason::PointerBytes => "V20",
         })
     }
 }

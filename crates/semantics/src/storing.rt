@@ -7,6 +7,7 @@ ghost use Rattle.semantics.specs.Access.{overlay, written_at, IsInside};
 ghost use Rattle.semantics.specs.Views.{memory_with};
 
 use crate::access::Location;
+use crate::stack::{StackMemory, put_bytes};
 use insn::{Size, write_little_endian};
 
 /// Writes bytes into stack cells, from an index on.
@@ -40,7 +41,7 @@ fn low_bytes(n: usize, value: u64) -> [u8; 8]
 }
 
 /// Stores the low bytes of a number at a location: in the cells of the stack, or in headroom, datagram and tailroom.
-pub fn store(stack: &mut [Option<u8>], bytes: &mut [u8], at: Location, size: Size, value: u64)
+pub fn store(stack: &mut StackMemory, bytes: &mut [u8], at: Location, size: Size, value: u64)
     requires { IsInside (memory_with stack.old bytes.old 0) (byte_count size) at }
     ensures { (n : ℕ) → memory_with stack.new bytes.new n
         ≡ written_at (memory_with stack.old bytes.old n) at (little_bytes (byte_count size) value) }
@@ -48,7 +49,7 @@ pub fn store(stack: &mut [Option<u8>], bytes: &mut [u8], at: Location, size: Siz
     let n = size.bytes();
     match at {
         Location::InStack(index) => {
-            put_cells(stack, index, &low_bytes(n, value)[..n]);
+            put_bytes(stack, index, &low_bytes(n, value)[..n]);
         }
         Location::InBytes(index) => put_number(bytes, index, n, value),
     }

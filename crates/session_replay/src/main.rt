@@ -26,6 +26,7 @@ fn config(alloc: Global) -> Result<Config, AllocError> {
     let _ = nonce.try_push_str("n1");
     Ok(Config {
         ip: [127, 0, 0, 1],
+        ip6: None,
         first_port: 49152,
         slots: 16,
         realm: String::from_str(alloc, "relay")?,

@@ -3,7 +3,7 @@ use Rattle.std.specs.Prelude.{◌≡◌, ℕ, ◌<◌, ◌≤◌, List, Option, 
 use Rattle.std.specs.Borrow.{Bor}
 use Rattle.control.specs.Configs.{fault}
 use Rattle.control.specs.declared.config.Config.{Config}
-use Rattle.credentials.specs.declared.checking.User.{User}
+use Rattle.control.specs.declared.config.Field.{Field}
 use Rattle.insn.specs.declared.instruction.Insn.{Insn}
 use Rattle.insn.specs.declared.refusal.DecodeError.TheVariants as decode
 use Rattle.loader.specs.Loads.{IsLoaded, IsLoadRefusal}
@@ -20,14 +20,15 @@ use Rattle.setup.specs.declared.setting_up.Setup.{Setup}
 abbrev pub MOST_NONCE : ℕ
 MOST_NONCE = 64
 
--- the configuration has what the setup says, and these users
-pub record IsConfigOf (s : Setup) (users : List User) (c : Config) : Type 0 where
+-- the configuration has what the setup says
+pub record IsConfigOf (s : Setup) (c : Config) : Type 0 where
   pub ip : c.ip ≡ s.ip
+  pub ip6 : c.ip6 ≡ s.ip6
   pub first_port : c.first_port ≡ s.first_port
   pub slots : c.slots ≡ s.slots
-  pub realm : string_bytes c.realm ≡ s.realm.now
+  pub realm : string_bytes c.realm ≡ string_bytes s.realm
   pub nonce : c.nonce.bytes ≡ s.nonce.now
-  pub users_are : c.users.items ≡ users
+  pub users_are : c.users.items ≡ s.users.items
 
 -- the bytes were read, and this program is loaded from them
 abbrev pub IsProgram : Option (Bor (List ℕ)) → List Insn → Type 0
@@ -37,21 +38,30 @@ abbrev pub IsMemoryRefusal : LoadError → Type 0
 IsMemoryRefusal (Decode e) = e ≡ decode.Memory
 IsMemoryRefusal (Verify e) = (slot : ℕ) × (e ≡ verify.Memory slot)
 
--- why no program is loaded: the bytes weren't read, or are refused, not for want of memory
+-- why no program is loaded: the bytes weren't read; or they are refused; or they were read, and memory ran out
 abbrev pub IsProgramFault : Option (Bor (List ℕ)) → ProgramError → Type 0
 IsProgramFault bytes program.File = bytes ≡ None
 IsProgramFault bytes (program.Refused e) = IsSomeAnd bytes (λ b. IsLoadRefusal b.now e) × ¬ (IsMemoryRefusal e)
-IsProgramFault bytes program.Memory = Unit {0}
+IsProgramFault bytes program.Memory = IsSomeAnd bytes (λ b. (e : LoadError) × IsMemoryRefusal e × IsLoadRefusal b.now e)
 
 -- the bytes were read, and encode a safe program
 abbrev pub IsLoadable : Option (Bor (List ℕ)) → Type 0
 IsLoadable bytes = (code : List Insn) × IsProgram bytes code
 
--- the fault is the first: of the nonce's length, the client's program, the peers' program, and the fields
-abbrev pub IsSetupFault : Setup → List User → SetupError → Type 0
-IsSetupFault s users setup.Nonce = MOST_NONCE < length s.nonce.now
-IsSetupFault s users (setup.Client e) = (length s.nonce.now ≤ MOST_NONCE) × IsProgramFault s.client e
-IsSetupFault s users (setup.Peer e) = (length s.nonce.now ≤ MOST_NONCE) × (IsLoadable s.client × IsProgramFault s.peer e)
-IsSetupFault s users (setup.Field field) = (length s.nonce.now ≤ MOST_NONCE) × (IsLoadable s.client × (IsLoadable s.peer
-    × ((c : Config) × (IsConfigOf s users c × (fault c ≡ Some field)))))
-IsSetupFault s users setup.Memory = Unit {0}
+-- the nonce fits, both programs are loadable, and this is the first field of the configuration outside its limits
+pub record HasFieldFault (s : Setup) (field : Option Field) : Type 0 where
+  pub nonce : length s.nonce.now ≤ MOST_NONCE
+  pub client : IsLoadable s.client
+  pub peer : IsLoadable s.peer
+  pub config : Config
+  pub is_config : IsConfigOf s config
+  pub is_fault : fault config ≡ field
+
+-- The fault is the first: of the nonce's length, the client's program, the peers' program, and the fields. Memory is it where
+-- there is no other.
+abbrev pub IsSetupFault : Setup → SetupError → Type 0
+IsSetupFault s setup.Nonce = MOST_NONCE < length s.nonce.now
+IsSetupFault s (setup.Client e) = (length s.nonce.now ≤ MOST_NONCE) × IsProgramFault s.client e
+IsSetupFault s (setup.Peer e) = (length s.nonce.now ≤ MOST_NONCE) × (IsLoadable s.client × IsProgramFault s.peer e)
+IsSetupFault s (setup.Field field) = HasFieldFault s (Some field)
+IsSetupFault s setup.Memory = HasFieldFault s None

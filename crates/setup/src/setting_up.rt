@@ -17,19 +17,23 @@ use relay::{Relay, RelayError};
 use std::alloc::Global;
 use verifier::Refusal;
 
-/// What a relay is set up from, its users aside. [`relay_of`] refuses what lies outside the limits.
-#[derive(Clone, Copy)]
+/// What a relay is set up from. [`relay_of`] refuses what lies outside the limits.
+#[derive(Drop)]
 pub struct Setup<'a> {
-    /// The relayed IP address.
+    /// The relayed IPv4 address.
     pub ip: [u8; 4],
+    /// The relayed IPv6 address; `None` where there are no IPv6 allocations.
+    pub ip6: Option<[u8; 16]>,
     /// The relayed port of slot 0, at least 1; slot i has `first_port + i`.
     pub first_port: u16,
     /// The number of slots, 1 to 256; the last port is at most 65,535.
     pub slots: usize,
     /// The realm: 1 to 128 bytes of 0x20 to 0x7E.
-    pub realm: &'a str,
+    pub realm: String,
     /// The nonce: 1 to 64 bytes of 0x21 to 0x7E.
     pub nonce: &'a str,
+    /// The users: 1 to 64, of distinct names.
+    pub users: Vec<User>,
     /// The bytes of the program for clients' datagrams; `None` where its file can't be read.
     pub client: Option<&'a [u8]>,
     /// The bytes of the program for peers' datagrams; `None` where its file can't be read.
@@ -69,31 +73,30 @@ pub fn program(alloc: Global, bytes: Option<&[u8]>) -> Result<Loaded, ProgramErr
     }
 }
 
-/// Sets up a relay with no allocation, and with 1 to 64 users of distinct names.
+/// Sets up a relay with no allocation.
 ///
 /// # Errors
 /// The first fault, in this order: a nonce above 64 bytes; the program for clients' datagrams; the program for peers'
-/// datagrams; the first field of the configuration that lies outside its limits. `Memory` where memory runs out.
-pub fn relay_of(alloc: Global, setup: &Setup<'_>, users: Vec<User>) -> Result<Relay, SetupError>
+/// datagrams; the first field of the configuration that lies outside its limits. `Memory` where there is none, and memory runs
+/// out.
+pub fn relay_of(alloc: Global, setup: Setup<'_>) -> Result<Relay, SetupError>
     ensures state { IfOk result (λ r. state_of r ≡ first r.config) }
-    ensures config { IfOk result (λ r. IsConfigOf setup.now users.items r.config) }
-    ensures client { IfOk result (λ r. IsProgram setup.now.client r.programs.client) }
-    ensures peer { IfOk result (λ r. IsProgram setup.now.peer r.programs.peer) }
-    ensures refused { IfErr result (IsSetupFault setup.now users.items) }
+    ensures config { IfOk result (λ r. IsConfigOf setup.entry r.config) }
+    ensures client { IfOk result (λ r. IsProgram setup.entry.client r.programs.client) }
+    ensures peer { IfOk result (λ r. IsProgram setup.entry.peer r.programs.peer) }
+    ensures refused { IfErr result (IsSetupFault setup.entry) }
 {
     let nonce = nonce(setup.nonce)?;
     let client = program(alloc, setup.client).map_err(SetupError::Client)?;
     let peer = program(alloc, setup.peer).map_err(SetupError::Peer)?;
-    let Ok(realm) = String::from_str(alloc, setup.realm) else {
-        return Err(SetupError::Memory);
-    };
     let config = Config {
         ip: setup.ip,
+        ip6: setup.ip6,
         first_port: setup.first_port,
         slots: setup.slots,
-        realm,
+        realm: setup.realm,
         nonce,
-        users,
+        users: setup.users,
     };
     match Relay::new(alloc, config, client, peer) {
         Ok(relay) => Ok(relay),

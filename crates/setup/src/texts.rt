@@ -1,11 +1,12 @@
 //! The values that the texts of options have.
 
 ghost use Rattle.std.specs.Prelude.{◌^◌, IfOk};
-ghost use Rattle.setup.specs.Texts.{IsNumberIn, IsAddressIn, IsUserIn};
+ghost use Rattle.setup.specs.Texts.{IsNumberIn, IsAddressIn, IsAddress6In, IsOctets6In, IsUserIn};
 
 use credentials::User;
+use hex::FromHex;
 use std::alloc::{AllocError, Global};
-use std::net::Ipv4Addr;
+use std::net::{Ipv4Addr, Ipv6Addr};
 
 /// Parses a number of slots, in decimal digits, below 2^64. `None` is a text that is no such number.
 pub fn slots(text: &str) -> Option<usize>
@@ -35,6 +36,21 @@ pub fn ip(text: &str) -> Option<[u8; 4]>
 {
     let ip: Ipv4Addr = text.parse().ok()?;
     Some(ip.octets())
+}
+
+/// Parses an IPv6 address, as RFC 4291, section 2.2, writes it. `None` is any other text.
+pub fn ip6(text: &str) -> Option<[u8; 16]>
+    ensures { IsAddress6In text.now result }
+{
+    let ip: Ipv6Addr = text.parse().ok()?;
+    Some(ip.octets())
+}
+
+/// Parses the 16 bytes of an IPv6 address, written in 32 hexadecimal digits of either case. `None` is any other text.
+pub fn octets6(text: &str) -> Option<[u8; 16]>
+    ensures { IsOctets6In text.now result }
+{
+    <[u8; 16] as FromHex>::from_hex(text).ok()
 }
 
 /// Parses a user, written as `NAME:PASSWORD`: the name ends at the first colon. `None` is a text without a colon.

@@ -7,7 +7,8 @@ use Rattle.std.specs.FinMap.{FinMap, IsAntisymmetric, get, insert, len, get-inse
 use Rattle.std.proofs.lemmas.Bool.{cases_Bool, cond-true, cond-false, lt-ltb, le-ltb, le-leb}
 use Rattle.std.proofs.lemmas.Option.{same_Some, slice_get_read}
 use Rattle.fallible.specs.Fallible.{◌>>=◌, check}
-use Rattle.attributes.specs.Addresses.{IsIpv4Address, ip_of}
+use Rattle.std.specs.List.{list_all}
+use Rattle.attributes.specs.Addresses.{IsAddress, ip_of, is_of_family}
 use Rattle.attributes.specs.AddressOrderLaws.{ip_total, ip_antisymmetric}
 use Rattle.attributes.specs.declared.address.Addr.{Addr}
 use Rattle.tables.specs.Changes.{Change, Follows, with_held, refresh_change, permit_change, bind_change, permission_end, with_channel, with_peer}
@@ -31,6 +32,7 @@ use Rattle.tables.specs.declared.held.Held.{Held}
 use Rattle.tables.specs.declared.moment.TheConstants.{LATEST}
 use Rattle.tables.specs.declared.permissions.TheConstants.{PERMISSION_LIFETIME, MAX_PERMISSIONS}
 use Rattle.tables.specs.declared.refusal.Refused.TheVariants.{Capacity, Conflict, NoAllocation}
+use Rattle.tables.specs.declared.refusal.Refused.TheVariants as refusal
 use Rattle.tables.proofs.ClientRows.{held_again}
 use Rattle.tables.proofs.HeldRows.{held_of}
 use Rattle.tables.proofs.Slots.{ShowsStored, held_in-stored, with_held-stored}
@@ -122,17 +124,21 @@ module _ (rows : Rows) (slot : ℕ) (held : Held) (is : held_in rows slot ≡ So
   refresh-held : (lifetime : ℕ) → refresh_change slot lifetime rows ≡ Ok (tt, with_held rows slot (with_end (rows.moment + lifetime) held))
   refresh-held lifetime = ap (λ (o : Option Held). ok_or o NoAllocation >>= (λ held. Ok (tt, with_held rows slot (with_end (rows.moment + lifetime) held)))) is
 
-  permit-held : (ips : List Addr) → len (with_all held.permissions ips (permission_end rows)) ≤ MAX_PERMISSIONS → permit_change slot ips rows ≡ Ok (tt, with_held rows slot (with_permissions (permission_end rows) ips held))
-  permit-held ips few =
-      ap (λ (o : Option Held). ok_or o NoAllocation >>= (λ held. check (nat_le (len (with_all held.permissions ips (permission_end rows))) MAX_PERMISSIONS) Capacity >>= (λ _. Ok (tt, with_held rows slot (with_permissions (permission_end rows) ips held))))) is
+  permit-held : (ips : List Addr) → list_all (is_of_family held.allocation.family) ips ≡ true → len (with_all held.permissions ips (permission_end rows)) ≤ MAX_PERMISSIONS → permit_change slot ips rows ≡ Ok (tt, with_held rows slot (with_permissions (permission_end rows) ips held))
+  permit-held ips of few =
+      let made : Change (Unit {0}) = Ok (tt, with_held rows slot (with_permissions (permission_end rows) ips held)) in
+      ap (λ (o : Option Held). ok_or o NoAllocation >>= (λ held. check (list_all (is_of_family held.allocation.family) ips) refusal.Family >>= (λ _. check (nat_le (len (with_all held.permissions ips (permission_end rows))) MAX_PERMISSIONS) Capacity >>= (λ _. Ok (tt, with_held rows slot (with_permissions (permission_end rows) ips held)))))) is
+      ∙ ap (λ (b : Bool). check b refusal.Family >>= (λ _. check (nat_le (len (with_all held.permissions ips (permission_end rows))) MAX_PERMISSIONS) Capacity >>= (λ _. made))) of
       ∙ ap (λ (b : Bool). check b Capacity >>= (λ _. Ok (tt, with_held rows slot (with_permissions (permission_end rows) ips held)))) (le-leb _ _ few)
 
-  bind-held : (number : ℕ) (peer : Addr) → IsTrue (may_bind held.channels number peer) → len (with_channel held.channels number peer rows) ≤ MAX_CHANNELS → len (with_peer held.permissions peer rows) ≤ MAX_PERMISSIONS
+  bind-held : (number : ℕ) (peer : Addr) → is_of_family held.allocation.family peer ≡ true → IsTrue (may_bind held.channels number peer) → len (with_channel held.channels number peer rows) ≤ MAX_CHANNELS → len (with_peer held.permissions peer rows) ≤ MAX_PERMISSIONS
       → bind_change slot number peer rows ≡ Ok (tt, with_held rows slot (with_binding rows.moment number peer held))
-  bind-held number peer free few_channels few_permissions =
+  bind-held number peer of free few_channels few_permissions =
       let made : Change (Unit {0}) = Ok (tt, with_held rows slot (with_binding rows.moment number peer held)) in
-      ap (λ (o : Option Held). ok_or o NoAllocation >>= (λ held. check (may_bind held.channels number peer) Conflict >>= (λ _. check (nat_le (len (with_channel held.channels number peer rows)) MAX_CHANNELS) Capacity
-      >>= (λ _. check (nat_le (len (with_peer held.permissions peer rows)) MAX_PERMISSIONS) Capacity >>= (λ _. Ok (tt, with_held rows slot (with_binding rows.moment number peer held))))))) is
+      ap (λ (o : Option Held). ok_or o NoAllocation >>= (λ held. check (is_of_family held.allocation.family peer) refusal.Family >>= (λ _. check (may_bind held.channels number peer) Conflict >>= (λ _. check (nat_le (len (with_channel held.channels number peer rows)) MAX_CHANNELS) Capacity
+      >>= (λ _. check (nat_le (len (with_peer held.permissions peer rows)) MAX_PERMISSIONS) Capacity >>= (λ _. Ok (tt, with_held rows slot (with_binding rows.moment number peer held)))))))) is
+      ∙ ap (λ (b : Bool). check b refusal.Family >>= (λ _. check (may_bind held.channels number peer) Conflict >>= (λ _. check (nat_le (len (with_channel held.channels number peer rows)) MAX_CHANNELS) Capacity
+      >>= (λ _. check (nat_le (len (with_peer held.permissions peer rows)) MAX_PERMISSIONS) Capacity >>= (λ _. made))))) of
       ∙ ap (λ (b : Bool). check b Conflict >>= (λ _. check (nat_le (len (with_channel held.channels number peer rows)) MAX_CHANNELS) Capacity >>= (λ _. check (nat_le (len (with_peer held.permissions peer rows)) MAX_PERMISSIONS) Capacity >>= (λ _. made)))) free
       ∙ ap (λ (b : Bool). check b Capacity >>= (λ _. check (nat_le (len (with_peer held.permissions peer rows)) MAX_PERMISSIONS) Capacity >>= (λ _. made))) (le-leb _ _ few_channels)
       ∙ ap (λ (b : Bool). check b Capacity >>= (λ _. made)) (le-leb _ _ few_permissions)
@@ -162,18 +168,18 @@ module _ (last : ℕ) (slots : List (Option Held)) (now : Rows) (shows : ShowsSt
     refresh-follows lifetime new same =
         follows _ now _ _ (refresh-held (counting_rows t now) slot (held_counting t held) held_rows lifetime) (made new _ (ap (held_at t) same ∙ left-end t held (t + lifetime)))
 
-    pub permit-follows : (ips : List Addr) (new : Held) → new ≡ with_permissions (t + PERMISSION_LIFETIME) ips held → len new.permissions ≤ MAX_PERMISSIONS
+    pub permit-follows : (ips : List Addr) (new : Held) → list_all (is_of_family held.allocation.family) ips ≡ true → new ≡ with_permissions (t + PERMISSION_LIFETIME) ips held → len new.permissions ≤ MAX_PERMISSIONS
         → Follows (permit_change slot ips (counting_rows t now)) now (Ok tt) (counting_rows t (record { moment = t; slots = set slots slot (Some new) }))
-    permit-follows ips new same few =
+    permit-follows ips new of same few =
         let fits = few_counting t held.permissions ips (t + PERMISSION_LIFETIME) MAX_PERMISSIONS (subst (λ (h : Held). len h.permissions ≤ MAX_PERMISSIONS) same few) in
-        follows _ now _ _ (permit-held (counting_rows t now) slot (held_counting t held) held_rows ips fits) (made new _ (ap (held_at t) same ∙ left-permissions t held (t + PERMISSION_LIFETIME) ips))
+        follows _ now _ _ (permit-held (counting_rows t now) slot (held_counting t held) held_rows ips of fits) (made new _ (ap (held_at t) same ∙ left-permissions t held (t + PERMISSION_LIFETIME) ips))
 
-    pub bind-follows : (number : ℕ) (peer : Addr) (new : Held) → new ≡ with_binding t number peer held → IsTrue (may_bind (channels_at t held.channels) number peer) → len new.permissions ≤ MAX_PERMISSIONS → len new.channels ≤ MAX_CHANNELS
+    pub bind-follows : (number : ℕ) (peer : Addr) (new : Held) → is_of_family held.allocation.family peer ≡ true → new ≡ with_binding t number peer held → IsTrue (may_bind (channels_at t held.channels) number peer) → len new.permissions ≤ MAX_PERMISSIONS → len new.channels ≤ MAX_CHANNELS
         → Follows (bind_change slot number peer (counting_rows t now)) now (Ok tt) (counting_rows t (record { moment = t; slots = set slots slot (Some new) }))
-    bind-follows number peer new same free few_permissions few_channels =
+    bind-follows number peer new of same free few_permissions few_channels =
         let permissions_fit = few_counting t held.permissions (peer ∷ []) (t + PERMISSION_LIFETIME) MAX_PERMISSIONS (subst (λ (h : Held). len h.permissions ≤ MAX_PERMISSIONS) same few_permissions) in
         let channels_fit = few_channels_counting t held.channels number (record { peer = peer; end = t + CHANNEL_LIFETIME }) MAX_CHANNELS (subst (λ (h : Held). len h.channels ≤ MAX_CHANNELS) same few_channels) in
-        follows _ now _ _ (bind-held (counting_rows t now) slot (held_counting t held) held_rows number peer free channels_fit permissions_fit) (made new _ (ap (held_at t) same ∙ left-binding t held number peer))
+        follows _ now _ _ (bind-held (counting_rows t now) slot (held_counting t held) held_rows number peer of free channels_fit permissions_fit) (made new _ (ap (held_at t) same ∙ left-binding t held number peer))
 
 -- ---- what is stored stays well formed
 
@@ -196,7 +202,7 @@ module _ (last t : ℕ) (slots : List (Option Held)) (clients : List Client) (ar
       stored_after new (subst (IsHeldAt slot) (sym same) (permitted-held_at slot (with_all held.permissions ips end) held (subst (λ (h : Held). len h.permissions ≤ MAX_PERMISSIONS) same few) was))
       (ap (λ (h : Held). h.allocation.client) same)
 
-  pub stored-binding : (number : ℕ) (peer : Addr) (new : Held) → new ≡ with_binding t number peer held → IsChannelNumber number → IsIpv4Address peer → len new.permissions ≤ MAX_PERMISSIONS → len new.channels ≤ MAX_CHANNELS
+  pub stored-binding : (number : ℕ) (peer : Addr) (new : Held) → new ≡ with_binding t number peer held → IsChannelNumber number → IsAddress peer → len new.permissions ≤ MAX_PERMISSIONS → len new.channels ≤ MAX_CHANNELS
       → AreStored t (set slots slot (Some new)) clients
   stored-binding number peer new same range address few_permissions few_channels =
       stored_after new (subst (IsHeldAt slot) (sym same) (bound-held_at slot number (record { peer = peer; end = t + CHANNEL_LIFETIME }) (insert held.permissions (ip_of peer) (t + PERMISSION_LIFETIME)) held

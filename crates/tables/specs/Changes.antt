@@ -2,7 +2,9 @@
 use Rattle.std.specs.Prelude.{◌≡◌, ℕ, ◌+◌, List, Option, Result, Ok, Err, ok_or, slice_set, position, nat_le, is_none}
 use Rattle.std.specs.FinMap.{insert, empty, len}
 use Rattle.fallible.specs.Fallible.{◌>>=◌, check}
-use Rattle.attributes.specs.Addresses.{ip_of}
+use Rattle.std.specs.List.{list_all}
+use Rattle.attributes.specs.Addresses.{ip_of, is_of_family}
+use Rattle.attributes.specs.declared.address.Family.{Family}
 use Rattle.attributes.specs.declared.address.Addr.{Addr}
 use Rattle.tables.specs.Permissions.{PermissionMap, with_all}
 use Rattle.tables.specs.Channels.{ChannelMap, may_bind}
@@ -13,6 +15,7 @@ use Rattle.tables.specs.declared.channels.TheConstants.{CHANNEL_LIFETIME, MAX_CH
 use Rattle.tables.specs.declared.held.Held.{Held}
 use Rattle.tables.specs.declared.permissions.TheConstants.{PERMISSION_LIFETIME, MAX_PERMISSIONS}
 use Rattle.tables.specs.declared.refusal.Refused.{Refused}
+use Rattle.tables.specs.declared.refusal.Refused.TheVariants as refusal
 use Rattle.tables.specs.declared.refusal.Refused.TheVariants.{Mismatch, Capacity, Conflict, NoAllocation}
 
 -- an answer with the new rows, or a refusal
@@ -38,11 +41,11 @@ first_free rows = position is_none rows.slots
 abbrev pub fresh : Allocation → Held
 fresh allocation = record { allocation = allocation; permissions = empty; channels = empty }
 
-abbrev pub allocation_change : Addr → ℕ → List ℕ → ℕ → Rows → Change ℕ
-allocation_change client user tx lifetime rows = do
+abbrev pub allocation_change : Addr → ℕ → List ℕ → Family → ℕ → Rows → Change ℕ
+allocation_change client user tx family lifetime rows = do
   _ ← check (is_none (allocation_of client rows)) Mismatch
   slot ← ok_or (first_free rows) Capacity
-  Ok (slot, with_held rows slot (fresh (record { slot = slot; client = client; user = user; tx = tx; lifetime = lifetime; end = rows.moment + lifetime })))
+  Ok (slot, with_held rows slot (fresh (record { slot = slot; client = client; family = family; user = user; tx = tx; lifetime = lifetime; end = rows.moment + lifetime })))
 
 -- a new end; with a lifetime of 0 the allocation has ended
 abbrev pub refresh_change : ℕ → ℕ → Rows → Change (Unit {0})
@@ -58,6 +61,7 @@ permission_end rows = rows.moment + PERMISSION_LIFETIME
 abbrev pub permit_change : ℕ → List Addr → Rows → Change (Unit {0})
 permit_change slot ips rows = do
   held ← ok_or (held_in rows slot) NoAllocation
+  _ ← check (list_all (is_of_family held.allocation.family) ips) refusal.Family
   _ ← check (nat_le (len (with_all held.permissions ips (permission_end rows))) MAX_PERMISSIONS) Capacity
   Ok (tt, with_held rows slot (record held { permissions = with_all held.permissions ips (permission_end rows) }))
 
@@ -73,6 +77,7 @@ with_peer permissions peer rows = insert permissions (ip_of peer) (permission_en
 abbrev pub bind_change : ℕ → ℕ → Addr → Rows → Change (Unit {0})
 bind_change slot number peer rows = do
   held ← ok_or (held_in rows slot) NoAllocation
+  _ ← check (is_of_family held.allocation.family peer) refusal.Family
   _ ← check (may_bind held.channels number peer) Conflict
   _ ← check (nat_le (len (with_channel held.channels number peer rows)) MAX_CHANNELS) Capacity
   _ ← check (nat_le (len (with_peer held.permissions peer rows)) MAX_PERMISSIONS) Capacity

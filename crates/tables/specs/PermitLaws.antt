@@ -1,5 +1,6 @@
 -- Interface. Permissions for a list of IP addresses depend on the addresses that differ alone.
 use Rattle.std.specs.Prelude.{◌≡◌, ◌≢◌, ℕ, ◌-◌, ◌<◌, ◌≤◌, Bool, nat_le, ok_or, Err, ◌⊎◌, true, false, cond, List, [], ◌∷◌, ◌++◌, length, Option, None, Some, Ok, refl}
+use Rattle.std.specs.List.{list_all}
 use Rattle.std.specs.Ordering.{eq_by_cmp}
 use Rattle.std.specs.Cmp.{Equal-is, tied_itself}
 use Rattle.std.specs.FinMap.{get, insert, remove, len, contains_key, get-insert, get-remove, get-empty, len-remove, empty_of_len, same_map}
@@ -7,7 +8,7 @@ use Rattle.std.proofs.Common.{sym, ap, subst, ◌∙◌, inl, inr, arith, is_som
 use Rattle.std.proofs.lemmas.Bool.{cases_Bool, cond-true, cond-false, false_from_ne_true, leb-true}
 use Rattle.std.proofs.lemmas.Option.{none-some}
 use Rattle.fallible.specs.Fallible.{◌>>=◌, check}
-use Rattle.attributes.specs.Addresses.{ip_of}
+use Rattle.attributes.specs.Addresses.{ip_of, is_of_family}
 use Rattle.attributes.specs.AddressOrder.{ip_cmp}
 use Rattle.attributes.specs.AddressOrderLaws.{ip_total, ip_antisymmetric}
 use Rattle.attributes.specs.declared.address.Addr.{Addr}
@@ -18,6 +19,7 @@ use Rattle.tables.specs.Rows.{Rows}
 use Rattle.tables.specs.declared.held.Held.{Held}
 use Rattle.tables.specs.declared.permissions.TheConstants.{MAX_PERMISSIONS}
 use Rattle.tables.specs.declared.refusal.Refused.TheVariants.{Capacity, NoAllocation}
+use Rattle.tables.specs.declared.refusal.Refused.TheVariants as refusal
 
 same_ip : (q k : List ℕ) → eq_by_cmp ip_cmp q k ≡ true → q ≡ k
 same_ip q k e = ip_antisymmetric q k ((Equal-is (ip_cmp q k)).0 e)
@@ -118,7 +120,7 @@ abbrev pub permit_with : ℕ → Rows → Held → PermissionMap → Change (Uni
 permit_with slot rows held permissions = check (nat_le (len permissions) MAX_PERMISSIONS) Capacity >>= (λ _. Ok (tt, with_held rows slot (record held { permissions = permissions })))
 
 abbrev pub permit_held : List Addr → ℕ → Rows → Option Held → Change (Unit {0})
-permit_held ips slot rows held = ok_or held NoAllocation >>= (λ held. permit_with slot rows held (with_all held.permissions ips (permission_end rows)))
+permit_held ips slot rows held = ok_or held NoAllocation >>= (λ held. check (list_all (is_of_family held.allocation.family) ips) refusal.Family >>= (λ _. permit_with slot rows held (with_all held.permissions ips (permission_end rows))))
 
 too_many : (slot : ℕ) (rows : Rows) (held : Held) (permissions : PermissionMap) → MAX_PERMISSIONS < len permissions → permit_with slot rows held permissions ≡ Err Capacity
 too_many slot rows held permissions many = elim (cases_Bool (nat_le (len permissions) MAX_PERMISSIONS)) [
@@ -126,12 +128,21 @@ too_many slot rows held permissions many = elim (cases_Bool (nat_le (len permiss
   | inr f ↦ ap (λ b. check b Capacity >>= (λ _. Ok (tt, with_held rows slot (record held { permissions = permissions })))) f
 ]
 
+-- some addresses are of the family at a slot where all are
+abbrev pub HaveFamilyOf : List Addr → List Addr → ℕ → Rows → Type 0
+HaveFamilyOf few all slot rows = (held : Held) → held_in rows slot ≡ Some held → list_all (is_of_family held.allocation.family) few ≡ list_all (is_of_family held.allocation.family) all
+
 -- permissions for some addresses are granted as those for all
-pub permit_alike : (few all : List Addr) → StandsFor few all → (slot : ℕ) (rows : Rows) → permit_change slot few rows ≡ permit_change slot all rows
-permit_alike few all stands slot rows = elim (held_in rows slot) as (λ held. permit_held few slot rows held ≡ permit_held all slot rows held) [
-  | None ↦ refl
-  | Some held ↦ elim (stands held.permissions (permission_end rows)) [
-    | inl same ↦ ap (permit_with slot rows held) same
-    | inr many ↦ too_many slot rows held (with_all held.permissions few (permission_end rows)) many.0 ∙ sym (too_many slot rows held (with_all held.permissions all (permission_end rows)) many.1)
-  ]
-]
+pub permit_alike : (few all : List Addr) → StandsFor few all → (slot : ℕ) (rows : Rows) → HaveFamilyOf few all slot rows → permit_change slot few rows ≡ permit_change slot all rows
+permit_alike few all stands slot rows families = elim (held_in rows slot) as (λ o. held_in rows slot ≡ o → permit_held few slot rows o ≡ permit_held all slot rows o) [
+  | None ↦ λ is. refl
+  | Some held ↦ λ is.
+      let Permits : Bool → Change (Unit {0}) → Change (Unit {0}) = λ b change. check b refusal.Family >>= (λ _. change) in
+      let family : list_all (is_of_family held.allocation.family) few ≡ list_all (is_of_family held.allocation.family) all = families held is in
+      elim (stands held.permissions (permission_end rows)) [
+        | inl same ↦ λ i. Permits (family i) (permit_with slot rows held (same i))
+        | inr many ↦
+            let both = too_many slot rows held (with_all held.permissions few (permission_end rows)) many.0 ∙ sym (too_many slot rows held (with_all held.permissions all (permission_end rows)) many.1) in
+            λ i. Permits (family i) (both i)
+      ]
+] refl

@@ -1,7 +1,7 @@
 -- Meaning. Rows that are well formed. The rows of tables always are.
 use Rattle.std.specs.Prelude.{◌≡◌, ℕ, ◌≤◌, length, Some}
 use Rattle.std.specs.FinMap.{get, len}
-use Rattle.attributes.specs.Addresses.{IsIpv4Address}
+use Rattle.attributes.specs.Addresses.{IsAddress, IsIpv4Address}
 use Rattle.tables.specs.Channels.{IsChannelNumber}
 use Rattle.tables.specs.LookUps.{held_in}
 use Rattle.tables.specs.Rows.{Rows}
@@ -12,10 +12,10 @@ use Rattle.tables.specs.declared.moment.TheConstants.{LATEST}
 use Rattle.tables.specs.declared.permissions.TheConstants.{MAX_PERMISSIONS}
 use Rattle.tables.specs.declared.storage.TheConstants.{MAX_ALLOCATIONS}
 
--- a channel has one of the numbers of channels, and is bound to an IPv4 address
+-- a channel has one of the numbers of channels, and is bound to an address
 pub record IsChannel (number : ℕ) (binding : Binding) : Type 0 where
   pub in_range : IsChannelNumber number
-  pub peer : IsIpv4Address binding.peer
+  pub peer : IsAddress binding.peer
 
 -- an allocation names its slot, its client has an IPv4 address, and there is room for its permissions and channels
 pub record IsHeldAt (slot : ℕ) (held : Held) : Type 0 where

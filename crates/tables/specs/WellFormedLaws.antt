@@ -9,7 +9,9 @@ use Rattle.std.proofs.lemmas.Bool.{cases_Bool, cases_eq, cond-true, cond-false, 
 use Rattle.std.proofs.lemmas.List.{length-map, length-replicate, length-set}
 use Rattle.std.proofs.lemmas.Option.{none-some, same_Some}
 use Rattle.fallible.specs.Fallible.{◌>>=◌, check}
-use Rattle.attributes.specs.Addresses.{IsAddress, IsIpv4Address}
+use Rattle.std.specs.List.{list_all}
+use Rattle.attributes.specs.Addresses.{IsAddress, IsIpv4Address, is_of_family}
+use Rattle.attributes.specs.declared.address.Family.{Family}
 use Rattle.attributes.specs.AddressOrder.{ip_cmp, is_same_address}
 use Rattle.attributes.specs.AddressOrderLaws.{ip_total}
 use Rattle.attributes.specs.declared.address.Addr.{Addr}
@@ -33,6 +35,7 @@ use Rattle.tables.specs.declared.held.Held.{Held}
 use Rattle.tables.specs.declared.moment.TheConstants.{LATEST}
 use Rattle.tables.specs.declared.permissions.TheConstants.{MAX_PERMISSIONS}
 use Rattle.tables.specs.declared.refusal.Refused.{Refused}
+use Rattle.tables.specs.declared.refusal.Refused.TheVariants as refusal
 use Rattle.tables.specs.declared.refusal.Refused.TheVariants.{Mismatch, Capacity, Conflict, NoAllocation}
 use Rattle.tables.specs.declared.storage.TheConstants.{MAX_ALLOCATIONS}
 
@@ -182,12 +185,12 @@ some_ok : {A : Type 0} (option : Option A) (refused : Refused) (x : A) → ok_or
 some_ok None refused x e = cc
 some_ok (Some y) refused x e = cc
 
-pub allocate-well_formed : (client : Addr) (user : ℕ) (tx : List ℕ) (lifetime : ℕ) (rows : Rows) → AreWellFormed rows → IsIpv4Address client
-    → IfOk (allocation_change client user tx lifetime rows) (λ made. AreWellFormed made.1)
-allocate-well_formed client user tx lifetime rows are address =
+pub allocate-well_formed : (client : Addr) (user : ℕ) (tx : List ℕ) (family : Family) (lifetime : ℕ) (rows : Rows) → AreWellFormed rows → IsIpv4Address client
+    → IfOk (allocation_change client user tx family lifetime rows) (λ made. AreWellFormed made.1)
+allocate-well_formed client user tx family lifetime rows are address =
     checked (λ made. AreWellFormed made.1) (is_none (allocation_of client rows)) Mismatch _ (λ _.
     on_ok (λ made. AreWellFormed made.1) (ok_or (first_free rows) Capacity) _ (λ slot free.
-    let allocation : Allocation = record { slot = slot; client = client; user = user; tx = tx; lifetime = lifetime; end = rows.moment + lifetime } in
+    let allocation : Allocation = record { slot = slot; client = client; family = family; user = user; tx = tx; lifetime = lifetime; end = rows.moment + lifetime } in
     with_held-well_formed slot (fresh allocation) rows are (fresh-held_at slot allocation refl address)))
 
 pub refresh-well_formed : (slot lifetime : ℕ) (rows : Rows) → AreWellFormed rows → IfOk (refresh_change slot lifetime rows) (λ made. AreWellFormed made.1)
@@ -201,21 +204,23 @@ permit-well_formed slot ips rows are =
     on_ok (λ made. AreWellFormed made.1) (ok_or (held_in rows slot) NoAllocation) _ (λ held there.
     let is = are.held slot held (some_ok (held_in rows slot) NoAllocation held there) in
     let permissions : PermissionMap = with_all held.permissions ips (permission_end rows) in
+    checked (λ made. AreWellFormed made.1) (list_all (is_of_family held.allocation.family) ips) refusal.Family _ (λ _.
     checked (λ made. AreWellFormed made.1) (nat_le (len permissions) MAX_PERMISSIONS) Capacity _ (λ few.
-    with_held-well_formed slot (record held { permissions = permissions }) rows are (permitted-held_at slot permissions held (leb-true _ _ few) is)))
+    with_held-well_formed slot (record held { permissions = permissions }) rows are (permitted-held_at slot permissions held (leb-true _ _ few) is))))
 
-pub bind-well_formed : (slot number : ℕ) (peer : Addr) (rows : Rows) → AreWellFormed rows → IsChannelNumber number → IsIpv4Address peer
+pub bind-well_formed : (slot number : ℕ) (peer : Addr) (rows : Rows) → AreWellFormed rows → IsChannelNumber number → IsAddress peer
     → IfOk (bind_change slot number peer rows) (λ made. AreWellFormed made.1)
 bind-well_formed slot number peer rows are range address =
     on_ok (λ made. AreWellFormed made.1) (ok_or (held_in rows slot) NoAllocation) _ (λ held there.
     let is = are.held slot held (some_ok (held_in rows slot) NoAllocation held there) in
     let binding : Binding = record { peer = peer; end = rows.moment + CHANNEL_LIFETIME } in
     let permissions : PermissionMap = with_peer held.permissions peer rows in
+    checked (λ made. AreWellFormed made.1) (is_of_family held.allocation.family peer) refusal.Family _ (λ _.
     checked (λ made. AreWellFormed made.1) (may_bind held.channels number peer) Conflict _ (λ _.
     checked (λ made. AreWellFormed made.1) (nat_le (len (insert held.channels number binding)) MAX_CHANNELS) Capacity _ (λ few_channels.
     checked (λ made. AreWellFormed made.1) (nat_le (len permissions) MAX_PERMISSIONS) Capacity _ (λ few_permissions.
     with_held-well_formed slot (record held { channels = insert held.channels number binding; permissions = permissions }) rows are
-    (bound-held_at slot number binding permissions held (record { in_range = range; peer = address }) (leb-true _ _ few_channels) (leb-true _ _ few_permissions) is)))))
+    (bound-held_at slot number binding permissions held (record { in_range = range; peer = address }) (leb-true _ _ few_channels) (leb-true _ _ few_permissions) is))))))
 
 -- a change that is made, or refused
 pub follows-well_formed : {A : Type 0} (change : Change A) (old new : Rows) (result : Result A Refused) → Follows change old result new
@@ -257,14 +262,14 @@ allocation_of-at_slot client rows a are =
           ap (λ n. allocation_at n rows) at ∙ ap (λ o. option_map (λ held. held.allocation) o) holds ∙ there
     ] refl
 
-peer_bound : (slot number : ℕ) (held : Held) (peer : Addr) (option : Option Binding) → IsHeldAt slot held → get held.channels number ≡ option → option_map (λ b. b.peer) option ≡ Some peer → IsIpv4Address peer
+peer_bound : (slot number : ℕ) (held : Held) (peer : Addr) (option : Option Binding) → IsHeldAt slot held → get held.channels number ≡ option → option_map (λ b. b.peer) option ≡ Some peer → IsAddress peer
 peer_bound slot number held peer None is at there = absurd (none-some peer there)
-peer_bound slot number held peer (Some binding) is at there = subst IsIpv4Address (same_Some _ _ there) (is.channels number binding at).peer
+peer_bound slot number held peer (Some binding) is at there = subst IsAddress (same_Some _ _ there) (is.channels number binding at).peer
 
--- the peer of a channel is an IPv4 address
-pub peer_of-address : (slot number : ℕ) (rows : Rows) (peer : Addr) → AreWellFormed rows → peer_of slot number rows ≡ Some peer → IsIpv4Address peer
+-- the peer of a channel is an address
+pub peer_of-address : (slot number : ℕ) (rows : Rows) (peer : Addr) → AreWellFormed rows → peer_of slot number rows ≡ Some peer → IsAddress peer
 peer_of-address slot number rows peer are =
-    elim (held_in rows slot) as (λ o. held_in rows slot ≡ o → option_and_then (λ held. option_map (λ b. b.peer) (get held.channels number)) o ≡ Some peer → IsIpv4Address peer) [
+    elim (held_in rows slot) as (λ o. held_in rows slot ≡ o → option_and_then (λ held. option_map (λ b. b.peer) (get held.channels number)) o ≡ Some peer → IsAddress peer) [
       | None ↦ λ is there. absurd (none-some peer there)
       | Some held ↦ λ is there. peer_bound slot number held peer (get held.channels number) (are.held slot held is) refl there
     ] refl

@@ -2,11 +2,12 @@
 
 ghost use Rattle.std.specs.Prelude.{◌≡◌};
 ghost use Rattle.std.specs.Ordering.{eq_by_cmp};
-ghost use Rattle.attributes.specs.Addresses.{ip_of};
+ghost use Rattle.std.specs.List.{list_all};
+ghost use Rattle.attributes.specs.Addresses.{ip_of, is_of_family};
 ghost use Rattle.attributes.specs.AddressOrder.{ip_cmp, is_same_address};
 ghost use Rattle.tables.specs.Addresses.{is_ipv4};
 
-use attributes::Addr;
+use attributes::{Addr, Family};
 
 /// Returns whether an address is one of IPv4.
 pub fn is_ipv4(address: &Addr) -> bool
@@ -16,6 +17,13 @@ pub fn is_ipv4(address: &Addr) -> bool
         Addr::V4 { .. } => true,
         Addr::V6 { .. } => false,
     }
+}
+
+/// Returns whether all addresses are of a family.
+pub(crate) fn are_of(family: Family, addresses: &[Addr]) -> bool
+    ensures { result ≡ list_all (is_of_family family) addresses.now }
+{
+    addresses.iter().all(|address| address.is_of_family(family))
 }
 
 /// Returns whether two addresses have the same IP address.

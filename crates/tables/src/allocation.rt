@@ -1,6 +1,6 @@
 //! Allocations (RFC 8656, section 6).
 
-use attributes::Addr;
+use attributes::{Addr, Family};
 
 /// An allocation of a client (RFC 8656, section 6).
 /// See docs/DECISIONS.md, "Rows end with their allocation".
@@ -10,6 +10,8 @@ pub struct Allocation {
     pub slot: usize,
     /// The client's address and port.
     pub client: Addr,
+    /// The family of its relayed address, and of all its peers.
+    pub family: Family,
     /// The user whose credentials made it, by index.
     pub user: usize,
     /// The transaction id of the Allocate request that made it.

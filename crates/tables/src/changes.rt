@@ -1,16 +1,16 @@
-//! Changes. A refused one changes nothing. They are asked for addresses of IPv4 alone.
+//! Changes. A refused one changes nothing. Clients have addresses of IPv4 alone.
 
+use crate::address::are_of;
 use crate::allocation::Allocation;
 use crate::channels::{Binding, CHANNEL_LIFETIME, Channels};
 use crate::held::Held;
 use crate::permissions::{PERMISSION_LIFETIME, Permissions};
 use crate::refusal::Refused;
 use crate::storage::Tables;
-use attributes::{Addr, is_address};
+use attributes::{Addr, Family, is_address};
 
 impl Tables {
     ghost use Rattle.std.specs.Prelude.{◌≡◌, ◌≤◌, ◌<◌, IfOk, IsTrue, List, length};
-    ghost use Rattle.std.specs.List.{list_all};
     ghost use Rattle.tables.specs.Addresses.{is_ipv4};
     ghost use Rattle.tables.specs.Channels.{IsChannelNumber};
     ghost use Rattle.tables.specs.Moments.{moment_of};
@@ -29,10 +29,11 @@ impl Tables {
         client: Addr,
         user: usize,
         tx: [u8; 12],
+        family: Family,
         lifetime: u32,
     ) -> Result<usize, Refused>
         requires ipv4 { IsTrue (is_ipv4 client) }
-        ensures follows { Follows (allocation_change client user tx lifetime (rows_at now self.old)) self.old result self.new }
+        ensures follows { Follows (allocation_change client user tx family lifetime (rows_at now self.old)) self.old result self.new }
         ensures inside { IfOk result (λ slot. slot < length self.old.slots) }
         ensures moment { (self.old.moment ≤ self.new.moment) × (self.new.moment ≤ moment_of self.old.moment now) }
         ensures slots { length self.new.slots ≡ length self.old.slots }
@@ -46,6 +47,7 @@ impl Tables {
         let allocation = Allocation {
             slot,
             client,
+            family,
             user,
             tx,
             lifetime,
@@ -85,11 +87,11 @@ impl Tables {
     /// them or none. Ports are not looked at. An empty list is a change too.
     ///
     /// # Errors
-    /// `NoAllocation` where the slot has none; `Capacity` where it would have more than [`MAX_PERMISSIONS`] permissions.
+    /// `NoAllocation` where the slot has none; `Family` where an address is not of its family; `Capacity` where it would have
+    /// more than [`MAX_PERMISSIONS`] permissions.
     ///
     /// [`MAX_PERMISSIONS`]: crate::MAX_PERMISSIONS
     pub fn permit(&mut self, now: u64, slot: usize, ips: &[Addr]) -> Result<(), Refused>
-        requires ipv4 { IsTrue (list_all is_ipv4 ips.now) }
         ensures follows { Follows (permit_change slot ips.now (rows_at now self.old)) self.old result self.new }
         ensures moment { (self.old.moment ≤ self.new.moment) × (self.new.moment ≤ moment_of self.old.moment now) }
         ensures slots { length self.new.slots ≡ length self.old.slots }
@@ -111,6 +113,9 @@ impl Tables {
         ensures slots { length self.new.slots ≡ length self.old.slots }
     {
         let held = self.held(slot, moment).ok_or(Refused::NoAllocation)?;
+        if !are_of(held.allocation.family, ips) {
+            return Err(Refused::Family);
+        }
         let mut permissions = held.permissions.at(moment);
         permissions.put_all(ips, moment + PERMISSION_LIFETIME)?;
         let held = Held {
@@ -126,14 +131,14 @@ impl Tables {
     /// address as [`Tables::permit`] does (RFC 8656, section 12).
     ///
     /// # Errors
-    /// `NoAllocation` where the slot has none; `Conflict` where the number is bound to another peer, or the peer to another
-    /// number; `Capacity` where there would be more than [`MAX_CHANNELS`] channels or [`MAX_PERMISSIONS`] permissions.
+    /// `NoAllocation` where the slot has none; `Family` where the peer is not of its family; `Conflict` where the number is
+    /// bound to another peer, or the peer to another number; `Capacity` where there would be more than [`MAX_CHANNELS`] channels
+    /// or [`MAX_PERMISSIONS`] permissions.
     ///
     /// [`MAX_CHANNELS`]: crate::MAX_CHANNELS
     /// [`MAX_PERMISSIONS`]: crate::MAX_PERMISSIONS
     pub fn bind(&mut self, now: u64, slot: usize, number: u16, peer: Addr) -> Result<(), Refused>
         requires range { IsChannelNumber number }
-        requires ipv4 { IsTrue (is_ipv4 peer) }
         ensures follows { Follows (bind_change slot number peer (rows_at now self.old)) self.old result self.new }
         ensures moment { (self.old.moment ≤ self.new.moment) × (self.new.moment ≤ moment_of self.old.moment now) }
         ensures slots { length self.new.slots ≡ length self.old.slots }
@@ -157,13 +162,15 @@ impl Tables {
         requires later { self.old.moment ≤ moment }
         requires latest { moment ≤ LATEST }
         requires range { IsChannelNumber number }
-        requires ipv4 { IsTrue (is_ipv4 peer) }
         ensures follows { Follows (bind_change slot number peer (counting_rows moment self.old)) self.old result self.new }
         ensures moment { (self.old.moment ≤ self.new.moment) × (self.new.moment ≤ moment) }
         ensures slots { length self.new.slots ≡ length self.old.slots }
     {
         let held = self.held(slot, moment).ok_or(Refused::NoAllocation)?;
         is_address(&peer);
+        if !peer.is_of_family(held.allocation.family) {
+            return Err(Refused::Family);
+        }
         let mut channels = held.channels.at(moment);
         if !channels.may_bind(number, &peer) {
             return Err(Refused::Conflict);

@@ -1,13 +1,13 @@
 //! Changes in place, where nothing that is stored has to be dropped for them.
 
+use crate::address::are_of;
 use crate::permissions::PERMISSION_LIFETIME;
 use crate::storage::Tables;
 use attributes::{Addr, is_address};
 
 impl Tables {
-    ghost use Rattle.std.specs.Prelude.{◌≡◌, ◌≤◌, IsTrue, None, Ok, length};
+    ghost use Rattle.std.specs.Prelude.{◌≡◌, ◌≤◌, None, Ok, length};
     ghost use Rattle.std.specs.Bool.{OnTrue, OnFalse};
-    ghost use Rattle.tables.specs.Addresses.{is_ipv4};
     ghost use Rattle.tables.specs.Channels.{IsChannelNumber};
     ghost use Rattle.tables.specs.Rows.{counting_rows};
     ghost use Rattle.tables.specs.LookUps.{held_in};
@@ -55,7 +55,10 @@ impl Tables {
         let Some(held) = &mut self.slots[slot] else {
             return false;
         };
-        if held.allocation.end <= moment || !held.permit(ips, moment + PERMISSION_LIFETIME) {
+        if held.allocation.end <= moment || !are_of(held.allocation.family, ips) {
+            return false;
+        }
+        if !held.permit(ips, moment + PERMISSION_LIFETIME) {
             return false;
         }
         self.moment = moment;
@@ -75,7 +78,6 @@ impl Tables {
         requires later { self.old.moment ≤ moment }
         requires latest { moment ≤ LATEST }
         requires range { IsChannelNumber number }
-        requires ipv4 { IsTrue (is_ipv4 peer) }
         ensures made { OnTrue result (Follows (bind_change slot number peer (counting_rows moment self.old)) self.old (Ok tt) self.new) }
         ensures unchanged { OnFalse result (self.new ≡ self.old) }
         ensures moment { OnTrue result (self.new.moment ≡ moment) }
@@ -88,7 +90,10 @@ impl Tables {
             return false;
         };
         is_address(&peer);
-        if held.allocation.end <= moment || !held.bind(number, peer, moment) {
+        if held.allocation.end <= moment || !peer.is_of_family(held.allocation.family) {
+            return false;
+        }
+        if !held.bind(number, peer, moment) {
             return false;
         }
         self.moment = moment;

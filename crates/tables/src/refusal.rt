@@ -18,4 +18,7 @@ pub enum Refused {
     /// The slot has no allocation.
     #[error("NoAllocation")]
     NoAllocation,
+    /// An address is not of the allocation's family.
+    #[error("Family")]
+    Family,
 }

@@ -22,9 +22,9 @@ use Rattle.absstate.specs.AbstractSteps as abstract
 use Rattle.absstate.specs.Membership.{Strict, IsMember}
 use Rattle.absstate.specs.MemberSteps.{state_after}
 use Rattle.absstate.specs.StepLaws.MemoryValues.{abs_is}
-use Rattle.absstate.specs.StepLaws.Members.{at_first, first_member, loosens_itself, loosens_then}
+use Rattle.absstate.specs.StepLaws.Members.{at_first, first_member, loosens_itself, loosens_then, no_group}
 use Rattle.absstate.specs.StepReasons.{IsAboutPlaces}
-use Rattle.absstate.specs.StepLaws.Anchors.{NameNoMadeAnchor, greater_number, greater_left, greater_right, greater_least, reach_of, reach_of_plain}
+use Rattle.absstate.specs.StepLaws.Anchors.{NameNoMadeAnchor, greater_number, greater_left, greater_right, greater_least, reach_of, reach_of_plain, IsMade}
 use Rattle.absstate.specs.StepLaws.Following.{step_is}
 use Rattle.absstate.specs.StepLaws.Opening.{Opens, step_rises, step_opens}
 use Rattle.absstate.specs.StepLaws.Plainness.{step_plain}
@@ -76,7 +76,7 @@ first_plain D (suc (suc (suc (suc (suc (suc (suc zero))))))) h = h
 first_plain D (suc (suc (suc (suc (suc (suc (suc (suc zero)))))))) h = h
 first_plain D (suc (suc (suc (suc (suc (suc (suc (suc (suc zero))))))))) h = h
 first_plain D (suc (suc (suc (suc (suc (suc (suc (suc (suc (suc zero)))))))))) h = h
-first_plain D (suc (suc (suc (suc (suc (suc (suc (suc (suc (suc (suc n))))))))))) h = h
+first_plain D (suc (suc (suc (suc (suc (suc (suc (suc (suc (suc (suc n))))))))))) h = subst IsMade (no_group D n) h
 
 zeros_fit : (n : ℕ) → All (λ b. b < 256) (replicate n 0)
 zeros_fit n = All-replicate (λ (b : ℕ). b < 256) n 0 (omega arith)
@@ -86,11 +86,11 @@ zero_bytes n = record { count = let zero_byte : ℕ = 0 in length-replicate n ze
 
 environment_is_possible : IsPossible some_environment
 environment_is_possible = record {
-  context = record { side = omega arith; source = zero_bytes 8; transaction_id = zero_bytes 12 };
+  context = record { side = omega arith; source = zero_bytes 8; wide_source = zero_bytes 20; transaction_id = zero_bytes 12 };
   helpers = record {
-    channel_peer = λ n address word bytes. (omega arith, zero_bytes 8);
-    channel_to = λ n address word bytes. omega arith;
-    permitted = λ n address word bytes. omega arith;
+    channel_peer = λ form n address word bytes. (omega arith, zero_bytes 20);
+    channel_to = λ form n address word bytes. omega arith;
+    permitted = λ form n address word bytes. omega arith;
   };
 }
 
@@ -100,7 +100,7 @@ module _ {D : Type 0} (ops : Operations D) (Member : D → ℕ → Type 0) (soun
     not_negative = omega (arith, ints);
     floor = pos 0;
     proved = omega (arith, ints);
-    reach = equal_at_most (reach_of (first_abstract_state {D = D}).registers) (pos 0) refl;
+    reach = equal_at_most (reach_of (first_abstract_state {D = D}).registers) (pos 0) (reach_of_plain (first_abstract_state {D = D}).registers (first_plain D));
     over = λ n le.
         let member = first_member Member Strict (replicate n 0) (zeros_fit n) in
         record {

@@ -31,7 +31,7 @@ abbrev pub state_align : ℕ → ℕ
 state_align a = max (value_align a) 8
 
 abbrev pub state_size : ℕ → ℕ → ℕ
-state_size a s = up (state_align a) (up 8 (up 1 (up (value_align a) 0 + 11 * value_size a s) + 512) + 8)
+state_size a s = up (state_align a) (up 8 (up 1 (up (value_align a) 0 + 75 * value_size a s) + 512) + 8)
 
 abbrev pub pending_size : ℕ → ℕ → ℕ
 pending_size a s = up (max 8 (max (state_align a) 1)) (up (state_align a) 8 + state_size a s)
@@ -40,15 +40,15 @@ module _ (a s : ℕ) (aligned : a ≤ 16) (small : s ≤ 65536) where
   value_small : value_size a s ≤ 70000
   value_small = omega (arith, up_le (value_align a) (max 1 (max (up a 1 + s) 28)), up_le a 1, aligned, small)
 
-  state_small : state_size a s ≤ 1000000
+  state_small : state_size a s ≤ 10000000
   state_small =
       omega (
         arith,
         value_small,
         aligned,
-        up_le (state_align a) (up 8 (up 1 (up (value_align a) 0 + 11 * value_size a s) + 512) + 8),
-        up_le 8 (up 1 (up (value_align a) 0 + 11 * value_size a s) + 512),
-        up_le 1 (up (value_align a) 0 + 11 * value_size a s),
+        up_le (state_align a) (up 8 (up 1 (up (value_align a) 0 + 75 * value_size a s) + 512) + 8),
+        up_le 8 (up 1 (up (value_align a) 0 + 75 * value_size a s) + 512),
+        up_le 1 (up (value_align a) 0 + 75 * value_size a s),
         up_le (value_align a) 0,
       )
 

@@ -15,6 +15,9 @@ type State = AbsState<Interval>;
 
 type Known = AbstractValue<Interval>;
 
+/// How many values are known: of eleven registers, and of the stack's 64 groups after them.
+const VALUES: usize = 75;
+
 const NOTHING: Known = AbstractValue::Nothing;
 
 const DATAGRAM: Known = AbstractValue::Data {
@@ -191,9 +194,10 @@ fn between(ends: Ends) -> Known {
     AbstractValue::Scalar(Interval::range(ends.0.min(ends.1), ends.0.max(ends.1)))
 }
 
-/// Returns the state in which these five registers, from `r2` on, are known beside the first ones.
+/// Returns the state in which these five registers, from `r2` on, are known beside the first ones, and no group of the
+/// stack.
 fn state(known: [Known; 5]) -> State {
-    let mut registers = [AbstractValue::Nothing; 11];
+    let mut registers = [AbstractValue::Nothing; VALUES];
     registers[1] = AbstractValue::Ctx;
     registers[10] = AbstractValue::Stack(0);
     for i in 0..5 {
@@ -347,5 +351,6 @@ fn a_step_leads_on_forks_ends_or_is_refused(rt: HostRuntime) -> Result<(), Fail>
 fn bytes_of_the_stack_are_set(rt: HostRuntime) -> Result<(), Fail> {
     memory::check_stored(&rt, memory::STORED.as_slice())?;
     memory::check_loaded(&rt)?;
+    memory::check_kept(&rt, memory::KEPT.as_slice())?;
     calls::check_answers(&rt, calls::ANSWERS.as_slice())
 }

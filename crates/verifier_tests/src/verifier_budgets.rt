@@ -15,7 +15,7 @@ struct Row {
     interval: (usize, usize),
 }
 
-static ROWS: [Row; 12] = [
+static ROWS: [Row; 16] = [
     // slots 0 to 5, then 6 and 7, and 7 again for the taken branch
     Row {
         name: "both branches of a comparison of pointers",
@@ -113,6 +113,36 @@ static ROWS: [Row; 12] = [
         text: "ldxdw r2, [r1+16]\nmov r0, 0\njset r2, 1, +1\nja +1\nstdw [r10-8], 0\nexit",
         known: (6, 4),
         interval: (6, 4),
+    },
+    // slots 0 to 4, and 4 again: the kept state has a pointer in the stack that the second one has not
+    Row {
+        name: "a pointer is stored on the first path only",
+        text: "ldxdw r2, [r1+16]\nmov r0, 0\njset r2, 1, +1\nstxdw [r10-8], r1\nexit",
+        known: (6, 4),
+        interval: (6, 4),
+    },
+    // slots 0 to 2, 4, 5, and 3: at slot 4 the second state has a pointer in the stack beside what the kept one has
+    Row {
+        name: "a pointer is stored on the second path only",
+        text: "ldxdw r2, [r1+16]\njeq r2, 0, +1\nja +1\nstxdw [r10-8], r1\nmov r0, 0\nexit",
+        known: (6, 3),
+        interval: (6, 3),
+    },
+    // slots 0 to 4, 6, and 5: at slot 6 both states have the same pointer in the stack
+    Row {
+        name: "a pointer is stored on both paths",
+        text: "ldxdw r2, [r1+16]\nmov r0, 0\njset r2, 1, +2\nstxdw [r10-8], r1\nja +1\n\
+             stxdw [r10-8], r1\nexit",
+        known: (7, 5),
+        interval: (7, 5),
+    },
+    // slots 0 to 4, 6, 5, and 6 again: the kept state has bytes set where the second one has a pointer
+    Row {
+        name: "a pointer is stored on the second path, and bytes on the first",
+        text: "ldxdw r2, [r1+16]\nmov r0, 0\njset r2, 1, +2\nstdw [r10-8], 0\nja +1\n\
+             stxdw [r10-8], r1\nexit",
+        known: (8, 6),
+        interval: (8, 6),
     },
 ];
 

@@ -10,6 +10,7 @@ mod calls;
 mod kept;
 mod layout;
 mod pointers;
+mod pointers_on_stack;
 mod refined;
 mod stores;
 
@@ -104,6 +105,7 @@ fn programs_are_accepted_or_refused(rt: HostRuntime) -> Result<(), Fail> {
     check_rows(&rt, "pointers", pointers::ROWS.as_slice())?;
     check_rows(&rt, "anchors", anchors::ROWS.as_slice())?;
     check_rows(&rt, "stores", stores::ROWS.as_slice())?;
+    check_rows(&rt, "stack", pointers_on_stack::ROWS.as_slice())?;
     check_rows(&rt, "calls", calls::ROWS.as_slice())?;
     check_rows(&rt, "kept", kept::ROWS.as_slice())
 }

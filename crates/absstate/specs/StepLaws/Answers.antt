@@ -1,5 +1,5 @@
 -- Internal. An accepted step has as many successors as its instruction, and a refused one a reason of the steps.
-use Rattle.std.proofs.Common.{◌≡◌, ℕ, Bool, true, false, Result, Ok, Err, refl}
+use Rattle.std.proofs.Common.{◌≡◌, ℕ, Bool, true, false, not, Result, Ok, Err, refl}
 use Rattle.std.specs.Prelude.{ℤ, pos, List, Option, Some, None, ◌+ℤ◌, ◌-ℤ◌, IfOk, IfErr}
 use Rattle.std.specs.Option.{ok_or}
 use Rattle.insn.specs.Codes.{byte_count, unsigned_size}
@@ -13,6 +13,7 @@ use Rattle.insn.specs.declared.operator.UnaryOp.{UnaryOp}
 use Rattle.insn.specs.declared.operator.UnaryOp.TheVariants.{Mov, Neg, SignExtend, Swap}
 use Rattle.insn.specs.declared.condition.Condition.{Condition}
 use Rattle.insn.specs.declared.size.Size.{Size}
+use Rattle.insn.specs.declared.size.Size.TheVariants as size
 use Rattle.insn.specs.declared.instruction.Operand.{Operand}
 use Rattle.insn.specs.declared.instruction.Operand.TheVariants as operand
 use Rattle.insn.specs.declared.instruction.Insn.{Insn}
@@ -20,12 +21,14 @@ use Rattle.insn.specs.declared.instruction.Insn.TheVariants as insn
 use Rattle.fallible.specs.Fallible.{◌>>=◌, check}
 use Rattle.semantics.specs.Access.{is_within, index_within, stack_first, headroom_first}
 use Rattle.semantics.specs.Loading.{field_at}
-use Rattle.semantics.specs.Calls.{helper_of, signature_of, argument_at}
+use Rattle.semantics.specs.Calls.{helper_of, signature_of, argument_at, record_bytes}
+use Rattle.semantics.specs.declared.helper.RecordForm.{RecordForm}
+use Rattle.semantics.specs.declared.helper.Room.{Room}
 use Rattle.semantics.specs.declared.helper.Argument.{Argument}
 use Rattle.semantics.specs.declared.helper.Argument.TheVariants as argument
 use Rattle.semantics.specs.declared.helper.Helper.{Helper}
 use Rattle.insn.specs.Register.{number_of}
-use Rattle.semantics.specs.Effects.{is_writable, writable}
+use Rattle.semantics.specs.Effects.{is_writable, writable, is_group_place}
 use Rattle.semantics.specs.LooseRuns.{Bound, data_bound, converse}
 use Rattle.semantics.specs.declared.fetching.Branch.{Branch}
 use Rattle.semantics.specs.declared.limits.TheConstants.{TAILROOM}
@@ -34,11 +37,10 @@ use Rattle.semantics.specs.declared.reason.Reason.TheVariants as reasons
 use Rattle.interval.specs.Domains.{Operations}
 use Rattle.absstate.specs.AbstractStates.{abstract_at, are_marked, low_of, proved_of}
 use Rattle.absstate.specs.AbstractSteps as abstract
-use Rattle.absstate.specs.AbstractSteps.{access_region, readable}
+use Rattle.absstate.specs.AbstractSteps.{access_region, readable, abstract_load_value}
 use Rattle.absstate.specs.StepReasons.{IsStepReason}
 use Rattle.absstate.specs.Successors.{One, Two, successors_of, successors_in}
 use Rattle.absstate.specs.declared.abstract_state.AbsState.{AbsState}
-use Rattle.absstate.specs.declared.abstract_state.Marks.{Marks}
 use Rattle.absstate.specs.declared.abstract_state.AbstractValue.{AbstractValue}
 use Rattle.absstate.specs.declared.abstract_state.AbstractValue.TheVariants as known
 use Rattle.absstate.specs.declared.abstract_step.Next.{Next}
@@ -81,6 +83,30 @@ module _ {D : Type 0} (ops : Operations D) where
   forks a w c dst o (known.Scalar x) (known.Scalar y) = refl
   forks a w c dst o x y = places_forks a w c x y
 
+  number_straight : (a : AbsState D) (to : AbstractValue D) (d : ℤ) (z : Size) → IfOk (abstract.abstract_store_number a to d z) HasOne
+  unfolding HasOne
+  number_straight a to d z = every HasOne (abstract.access_region a to d (byte_count z)) _ (λ r. refl)
+
+  pointer_straight : (a : AbsState D) (to : AbstractValue D) (d : ℤ) (z : Size) (v : AbstractValue D) → IfOk (abstract.abstract_store_pointer a to d z v) HasOne
+  unfolding HasOne
+  pointer_straight a (known.Stack k) d size.Double v = every HasOne (check (is_group_place (k +ℤ d)) reasons.PointerStored) _ (λ u. every HasOne (ok_or (index_within (k +ℤ d) 8 stack_first stack_first (pos 0)) reasons.StackBounds) _ (λ i. refl))
+  pointer_straight a (known.Stack k) d size.Word v = tt
+  pointer_straight a (known.Stack k) d size.Half v = tt
+  pointer_straight a (known.Stack k) d size.Byte v = tt
+  pointer_straight a known.Nothing d z v = tt
+  pointer_straight a (known.Scalar n) d z v = tt
+  pointer_straight a known.Ctx d z v = tt
+  pointer_straight a (known.Data anchor k) d z v = tt
+  pointer_straight a known.End d z v = tt
+
+  store_straight : (a : AbsState D) (to : AbstractValue D) (d : ℤ) (z : Size) (v : AbstractValue D) → IfOk (abstract.store_known a to d z v) HasOne
+  store_straight a to d z (known.Scalar n) = number_straight a to d z
+  store_straight a to d z known.Nothing = pointer_straight a to d z known.Nothing
+  store_straight a to d z known.Ctx = pointer_straight a to d z known.Ctx
+  store_straight a to d z (known.Stack k) = pointer_straight a to d z (known.Stack k)
+  store_straight a to d z (known.Data anchor k) = pointer_straight a to d z (known.Data anchor k)
+  store_straight a to d z known.End = pointer_straight a to d z known.End
+
   helper_straight : (a : AbsState D) (helper : Helper) → IfOk (abstract.helper_step ops a helper) HasOne
   unfolding HasOne
   helper_straight a helper = every HasOne (abstract.out_of a (signature_of helper).arguments) _ (λ out. refl)
@@ -103,7 +129,7 @@ module _ {D : Type 0} (ops : Operations D) where
   step_successors a (insn.Load z dst base d) = load_straight a (λ pointer. abstract.abstract_load ops a pointer d z) dst base
   step_successors a (insn.LoadSigned z dst base d) = load_straight a (λ pointer. abstract.abstract_load_signed ops a pointer d z) dst base
   step_successors a (insn.Store z base o d) =
-      every HasOne (abstract.abstract_register_value a base) _ (λ to. every HasOne (abstract.operand_abstract ops W64 a o) _ (λ known. every HasOne (abstract.abstract_pointer to) _ (λ u. every HasOne (abstract.storable known) _ (λ v. every HasOne (abstract.access_region a to d (byte_count z)) _ (λ r. refl)))))
+      every HasOne (abstract.abstract_register_value a base) _ (λ to. every HasOne (abstract.operand_abstract ops W64 a o) _ (λ known. every HasOne (abstract.abstract_pointer to) _ (λ u. store_straight a to d z known)))
   step_successors a (insn.LoadImm dst value) = goes_straight a dst (Ok (known.Scalar (ops.exact value)))
   step_successors a (insn.Call n) = every HasOne (ok_or (helper_of n) reasons.UnknownHelper) _ (λ h. helper_straight a h)
   step_successors a insn.Exit = every (λ (answer : Next D). successors_in answer ≡ successors_of insn.Exit) (abstract.abstract_register_value a reg.R0) _ exits
@@ -178,38 +204,68 @@ module _ {D : Type 0} (ops : Operations D) where
   region_reasons a known.End d n =
       faults IsStepReason (check (is_within (pos 0 +ℤ d) n (pos 0) (pos TAILROOM)) reasons.DatagramBounds) _ (checked (is_within (pos 0 +ℤ d) n (pos 0) (pos TAILROOM)) reasons.DatagramBounds tt) (λ u. tt)
 
-  marks_reasons : (m : Marks) (n : ℕ) (region : Region) → IfErr (abstract.region_readable m n region) IsStepReason
-  marks_reasons m n (InStack i) = checked (are_marked m i n) reasons.UninitStack tt
-  marks_reasons m n InBytes = tt
+  cells_reasons : (a : AbsState D) (n i : ℕ) → IfErr (abstract.cells_readable a n i) IsStepReason
+  cells_reasons a n i = faults IsStepReason (check (not (abstract.touches_known a n i)) reasons.PointerBytes) _ (checked (not (abstract.touches_known a n i)) reasons.PointerBytes tt) (λ u. checked (are_marked a.marks i n) reasons.UninitStack tt)
+
+  marks_reasons : (a : AbsState D) (n : ℕ) (region : Region) → IfErr (abstract.region_readable a n region) IsStepReason
+  marks_reasons a n (InStack i) = cells_reasons a n i
+  marks_reasons a n InBytes = tt
+
+  known_reasons : (o : Option (AbstractValue D)) (allowed : Result (Unit {0}) Reason) (number : D) → IfErr allowed IsStepReason → IfErr (abstract.known_or o allowed number) IsStepReason
+  known_reasons (Some k) allowed number h = tt
+  known_reasons None allowed number h = faults IsStepReason allowed _ h (λ u. tt)
+
+  value_reasons : (a : AbsState D) (x : AbstractValue D) (d : ℤ) (z : Size) → IfErr (abstract.abstract_load_value ops a x d z) IsStepReason
+  unfolding abstract_load_value
+  value_reasons a x d z = faults IsStepReason (abstract.access_region a x d (byte_count z)) _ (region_reasons a x d (byte_count z)) (λ r. known_reasons (abstract.known_in a (abstract.known_group r z)) (abstract.region_readable a (byte_count z) r) (abstract.number_of_size ops z) (marks_reasons a (byte_count z) r))
 
   readable_reasons : (a : AbsState D) (x : AbstractValue D) (d : ℤ) (n : ℕ) → IfErr (abstract.readable a x d n) IsStepReason
   unfolding readable
-  readable_reasons a x d n = faults IsStepReason (abstract.access_region a x d n) _ (region_reasons a x d n) (λ r. marks_reasons a.marks n r)
+  readable_reasons a x d n = faults IsStepReason (abstract.access_region a x d n) _ (region_reasons a x d n) (λ r. marks_reasons a n r)
 
   number_reasons : (a : AbsState D) (x : AbstractValue D) (d : ℤ) (n : ℕ) (number : D) → IfErr (abstract.abstract_load_number a x d n number) IsStepReason
   number_reasons a x d n number = faults IsStepReason (abstract.readable a x d n) _ (readable_reasons a x d n) (λ u. tt)
 
   load_reasons : (a : AbsState D) (x : AbstractValue D) (d : ℤ) (z : Size) → IfErr (abstract.abstract_load ops a x d z) IsStepReason
   load_reasons a known.Ctx d z = field_reasons d z
-  load_reasons a known.Nothing d z = number_reasons a known.Nothing d (byte_count z) (abstract.number_of_size ops z)
-  load_reasons a (known.Scalar n) d z = number_reasons a (known.Scalar n) d (byte_count z) (abstract.number_of_size ops z)
-  load_reasons a (known.Stack k) d z = number_reasons a (known.Stack k) d (byte_count z) (abstract.number_of_size ops z)
-  load_reasons a (known.Data anchor k) d z = number_reasons a (known.Data anchor k) d (byte_count z) (abstract.number_of_size ops z)
-  load_reasons a known.End d z = number_reasons a known.End d (byte_count z) (abstract.number_of_size ops z)
+  load_reasons a known.Nothing d z = value_reasons a known.Nothing d z
+  load_reasons a (known.Scalar n) d z = value_reasons a (known.Scalar n) d z
+  load_reasons a (known.Stack k) d z = value_reasons a (known.Stack k) d z
+  load_reasons a (known.Data anchor k) d z = value_reasons a (known.Data anchor k) d z
+  load_reasons a known.End d z = value_reasons a known.End d z
 
   pointer_reasons : (x : AbstractValue D) → IfErr (abstract.abstract_pointer x) IsStepReason
   pointer_reasons (known.Scalar n) = tt
   pointer_reasons x = tt
 
-  storable_reasons : (x : AbstractValue D) → IfErr (abstract.storable x) IsStepReason
-  storable_reasons (known.Scalar n) = tt
-  storable_reasons x = tt
+  number_stored : (a : AbsState D) (to : AbstractValue D) (d : ℤ) (z : Size) → IfErr (abstract.abstract_store_number a to d z) IsStepReason
+  number_stored a to d z = faults IsStepReason (abstract.access_region a to d (byte_count z)) _ (region_reasons a to d (byte_count z)) (λ r. tt)
+
+  pointer_stored : (a : AbsState D) (to : AbstractValue D) (d : ℤ) (z : Size) (v : AbstractValue D) → IfErr (abstract.abstract_store_pointer a to d z v) IsStepReason
+  pointer_stored a (known.Stack k) d size.Double v =
+      faults IsStepReason (check (is_group_place (k +ℤ d)) reasons.PointerStored) _ (checked (is_group_place (k +ℤ d)) reasons.PointerStored tt)
+      (λ u. faults IsStepReason (ok_or (index_within (k +ℤ d) 8 stack_first stack_first (pos 0)) reasons.StackBounds) _ (found (index_within (k +ℤ d) 8 stack_first stack_first (pos 0)) reasons.StackBounds tt) (λ i. tt))
+  pointer_stored a (known.Stack k) d size.Word v = tt
+  pointer_stored a (known.Stack k) d size.Half v = tt
+  pointer_stored a (known.Stack k) d size.Byte v = tt
+  pointer_stored a known.Nothing d z v = tt
+  pointer_stored a (known.Scalar n) d z v = tt
+  pointer_stored a known.Ctx d z v = tt
+  pointer_stored a (known.Data anchor k) d z v = tt
+  pointer_stored a known.End d z v = tt
+
+  stored_reasons : (a : AbsState D) (to : AbstractValue D) (d : ℤ) (z : Size) (v : AbstractValue D) → IfErr (abstract.store_known a to d z v) IsStepReason
+  stored_reasons a to d z (known.Scalar n) = number_stored a to d z
+  stored_reasons a to d z known.Nothing = pointer_stored a to d z known.Nothing
+  stored_reasons a to d z known.Ctx = pointer_stored a to d z known.Ctx
+  stored_reasons a to d z (known.Stack k) = pointer_stored a to d z (known.Stack k)
+  stored_reasons a to d z (known.Data anchor k) = pointer_stored a to d z (known.Data anchor k)
+  stored_reasons a to d z known.End = pointer_stored a to d z known.End
 
   store_reasons : (a : AbsState D) (z : Size) (base : Reg) (o : Operand) (d : ℤ) → IfErr (abstract.store_step ops a z base o d) IsStepReason
   store_reasons a z base o d =
       faults IsStepReason (abstract.abstract_register_value a base) _ (held_reasons (abstract_at a.registers base)) (λ to. faults IsStepReason (abstract.operand_abstract ops W64 a o) _ (operand_reasons W64 a o)
-      (λ known. faults IsStepReason (abstract.abstract_pointer to) _ (pointer_reasons to) (λ u. faults IsStepReason (abstract.storable known) _ (storable_reasons known)
-      (λ v. faults IsStepReason (abstract.access_region a to d (byte_count z)) _ (region_reasons a to d (byte_count z)) (λ r. tt)))))
+      (λ known. faults IsStepReason (abstract.abstract_pointer to) _ (pointer_reasons to) (λ u. stored_reasons a to d z known)))
 
   context_value_reasons : (r : Reg) (x : AbstractValue D) → IfErr (abstract.abstract_context_value r x) IsStepReason
   context_value_reasons r known.Ctx = tt
@@ -225,18 +281,18 @@ module _ {D : Type 0} (ops : Operations D) where
   argument_reasons : (a : AbsState D) (r : Reg) → IfErr (abstract.abstract_number_argument a r) IsStepReason
   argument_reasons a r = faults IsStepReason (abstract.abstract_register_value a r) _ (held_reasons (abstract_at a.registers r)) (number_value_reasons r)
 
-  pointer_argument_reasons : (a : AbsState D) (r : Reg) → IfErr (abstract.abstract_stack_argument a r) IsStepReason
-  pointer_argument_reasons a r = faults IsStepReason (abstract.abstract_register_value a r) _ (held_reasons (abstract_at a.registers r)) (λ x. found (abstract.abstract_stack_index x) (reasons.HelperArgument (number_of r)) tt)
+  pointer_argument_reasons : (a : AbsState D) (n : ℕ) (r : Reg) → IfErr (abstract.abstract_stack_argument a n r) IsStepReason
+  pointer_argument_reasons a n r = faults IsStepReason (abstract.abstract_register_value a r) _ (held_reasons (abstract_at a.registers r)) (λ x. found (abstract.abstract_stack_index n x) (reasons.HelperArgument (number_of r)) tt)
 
-  record_argument_reasons : (a : AbsState D) (r : Reg) → IfErr (abstract.abstract_record_argument a r) IsStepReason
-  record_argument_reasons a r = faults IsStepReason (abstract.abstract_stack_argument a r) _ (pointer_argument_reasons a r) (λ i. checked (are_marked a.marks i 8) reasons.UninitStack tt)
+  record_argument_reasons : (a : AbsState D) (form : RecordForm) (r : Reg) → IfErr (abstract.abstract_record_argument a form r) IsStepReason
+  record_argument_reasons a form r = faults IsStepReason (abstract.abstract_stack_argument a (record_bytes form) r) _ (pointer_argument_reasons a (record_bytes form) r) (λ i. cells_reasons a (record_bytes form) i)
 
-  kind_reasons : (a : AbsState D) (r : Reg) (argument : Argument) (out : Option ℕ) → IfErr (abstract.abstract_with_argument a r argument out) IsStepReason
+  kind_reasons : (a : AbsState D) (r : Reg) (argument : Argument) (out : Option Room) → IfErr (abstract.abstract_with_argument a r argument out) IsStepReason
   kind_reasons a r argument.Unused out = tt
   kind_reasons a r argument.Context out = faults IsStepReason (abstract.abstract_context_argument a r) _ (context_reasons a r) (λ u. tt)
   kind_reasons a r argument.Number out = faults IsStepReason (abstract.abstract_number_argument a r) _ (argument_reasons a r) (λ u. tt)
-  kind_reasons a r argument.RecordIn out = faults IsStepReason (abstract.abstract_record_argument a r) _ (record_argument_reasons a r) (λ u. tt)
-  kind_reasons a r argument.RecordOut out = faults IsStepReason (abstract.abstract_stack_argument a r) _ (pointer_argument_reasons a r) (λ i. tt)
+  kind_reasons a r (argument.RecordIn form) out = faults IsStepReason (abstract.abstract_record_argument a form r) _ (record_argument_reasons a form r) (λ u. tt)
+  kind_reasons a r (argument.RecordOut form) out = faults IsStepReason (abstract.abstract_stack_argument a (record_bytes form) r) _ (pointer_argument_reasons a (record_bytes form) r) (λ i. tt)
 
   out_reasons : (a : AbsState D) (xs : List Argument) → IfErr (abstract.out_of a xs) IsStepReason
   out_reasons a xs =

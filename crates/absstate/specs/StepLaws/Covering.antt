@@ -10,7 +10,8 @@ use Rattle.semantics.specs.Effects.{value_at}
 use Rattle.semantics.specs.declared.value.Value.{Value}
 use Rattle.semantics.specs.declared.value.Value.TheVariants as value
 use Rattle.interval.specs.Domains.{Operations, AreSound}
-use Rattle.absstate.specs.AbstractStates.{low_of, high_of, proved_of, abstract_at, is_marked}
+use Rattle.absstate.specs.AbstractStates.{low_of, high_of, proved_of, abstract_at, group_at, group_index, is_marked}
+use Rattle.semantics.specs.Access.{pointer_in}
 use Rattle.absstate.specs.Covers.{same_int, covers_anchor, covers_value, covers_values, have_one_anchor, stands_for, share_alike, covers_marks, covers}
 use Rattle.absstate.specs.Membership.{Loose, Strict, Places, place_of, IsAnchorPlace, IsAnchored, IsHeld, IsValue, IsMember}
 use Rattle.absstate.specs.declared.abstract_state.Anchor.{Anchor}
@@ -152,7 +153,7 @@ loose_only x y e = absurd cc
 -- ---- states
 
 -- members of the covered state are members of the one that covers it
-pub member_covered : {D : Type 0} (ops : Operations D) (Member : D → ℕ → Type 0) → AreSound ops Member → (a b : AbsState D) (s : State) → length a.registers ≡ 11 → length a.marks.cells ≡ 512 → covers ops a b ≡ true → IsMember Member Loose b s → IsMember Member Loose a s
+pub member_covered : {D : Type 0} (ops : Operations D) (Member : D → ℕ → Type 0) → AreSound ops Member → (a b : AbsState D) (s : State) → length a.registers ≡ 75 → length a.marks.cells ≡ 512 → covers ops a b ≡ true → IsMember Member Loose b s → IsMember Member Loose a s
 member_covered ops Member sound a b s count marks_count e member =
     let values = first_of_and (covers_values ops a b a.registers b.registers && share_alike a.registers b.registers) (int_le a.proved b.proved && covers_marks a.marks.cells b.marks.cells) e in
     let others = rest_of_and (covers_values ops a b a.registers b.registers && share_alike a.registers b.registers) (int_le a.proved b.proved && covers_marks a.marks.cells b.marks.cells) e in
@@ -174,7 +175,15 @@ member_covered ops Member sound a b s count marks_count e member =
             (values_at ops a b a.registers b.registers n (first_of_and (covers_values ops a b a.registers b.registers) (share_alike a.registers b.registers) values) lt lt')
             (λ id f. place_stands member.places id a.registers b.registers n (rest_of_and (covers_values ops a b a.registers b.registers) (share_alike a.registers b.registers) values) lt lt' f)
             (m.registers r);
-        cells = λ i lt. record { held = λ f. (m.cells i lt).held (marks_at a.marks.cells b.marks.cells i marks f); no_other = λ f. loose_only (is_some (slice_index_or s.memory.stack i None)) (is_marked a.marks i) f };
+        groups = λ g below.
+            let n : ℕ = group_index g in
+            let lt : n < length a.registers = omega (arith, count, below) in
+            let lt' : n < length b.registers = omega (arith, m.known_count, below) in
+            value_covered ops Member sound member.places more s.memory.length a b m.reaches (group_at a.registers g) (group_at b.registers g) (pointer_in s.memory.stack.groups g)
+            (values_at ops a b a.registers b.registers n (first_of_and (covers_values ops a b a.registers b.registers) (share_alike a.registers b.registers) values) lt lt')
+            (λ id f. place_stands member.places id a.registers b.registers n (rest_of_and (covers_values ops a b a.registers b.registers) (share_alike a.registers b.registers) values) lt lt' f)
+            (m.groups g below);
+        cells = λ i lt. record { held = λ f. (m.cells i lt).held (marks_at a.marks.cells b.marks.cells i marks f); no_other = λ f. loose_only (is_some (slice_index_or s.memory.stack.cells i None)) (is_marked a.marks i) f };
         tagged = m.tagged;
       };
     }

@@ -5,9 +5,13 @@ use Rattle.insn.specs.Codes.{byte_count}
 use Rattle.insn.specs.Encoding.{Fits, slots_of}
 use Rattle.insn.specs.Endian.{little_bytes}
 use Rattle.insn.specs.declared.instruction.Insn.{Insn}
+use Rattle.insn.specs.declared.size.Size.{Size}
+use Rattle.insn.specs.declared.size.Size.TheVariants as size
 use Rattle.semantics.specs.Access.{written_at}
 use Rattle.semantics.specs.ContextLaws.{little_bytes_fit, length-little_bytes}
-use Rattle.semantics.specs.Calls.{signature_of}
+use Rattle.semantics.specs.Calls.{signature_of, record_bytes}
+use Rattle.semantics.specs.declared.helper.RecordForm.TheVariants.{Narrow}
+use Rattle.semantics.specs.declared.helper.Room.{Room}
 use Rattle.semantics.specs.Machine.{AreBytes, Context, IsContext, Memory, State, Environment}
 use Rattle.semantics.specs.declared.plan.Plan.{Plan}
 use Rattle.semantics.specs.declared.helper.Helper.{Helper}
@@ -18,7 +22,7 @@ use Rattle.semantics.specs.declared.access.Location.TheVariants.{InStack, InByte
 use Rattle.semantics.specs.declared.limits.TheConstants.{MAX_DATAGRAM, MAX_CHANNEL}
 use Rattle.semantics.specs.Effects as effects
 use Rattle.semantics.specs.Slots.{fetch, target}
-use Rattle.semantics.specs.Runs.{Goes, IsPossible, registers_after_call, answered_at, state_after_answer, plan_answer, with_window, with_destination, state_with_plan, step_by_effect, step_to, step_of_fetched, step, registers_with}
+use Rattle.semantics.specs.Runs.{Goes, IsPossible, memory_with_pointer, registers_after_call, answered_at, state_after_answer, plan_answer, with_window, with_destination, state_with_plan, step_by_effect, step_to, step_of_fetched, step, registers_with}
 use Rattle.semantics.specs.Flow.{Flow, flow_of, flow_slot, branch_slot}
 use Rattle.semantics.specs.Flow as flow
 use Rattle.semantics.specs.LooseRuns.{effect_of_branch}
@@ -38,8 +42,8 @@ use Rattle.absstate.specs.declared.abstract_step.Next.{Next}
 use Rattle.absstate.specs.declared.abstract_step.Next.TheVariants as next
 use Rattle.absstate.specs.StepLaws.Agreement.{Agree}
 use Rattle.absstate.specs.StepLaws.Arithmetic.{AreClaims}
-use Rattle.absstate.specs.StepLaws.Members.{member_extends, member_written, member_moved, member_stored, member_planned, member_called, member_answered}
-use Rattle.absstate.specs.StepLaws.Tagged.{written_proper}
+use Rattle.absstate.specs.StepLaws.Members.{member_extends, member_written, member_moved, member_stored, member_planned, member_called, member_answered, member_with_pointer}
+use Rattle.absstate.specs.StepLaws.Tagged.{written_proper, stored_kept}
 use Rattle.absstate.specs.StepLaws.Simulation.{IsAsked, IsEffectOf, steps_agree}
 
 abbrev none_claimed : Reason → Type 0
@@ -50,14 +54,20 @@ agreed F (Ok a) (Ok b) v agree e = (b, refl, subst (λ z. F z b) (let is : a ≡
 agreed F (Ok a) (Err f) v agree e = absurd agree
 agreed F (Err f) y v agree e = absurd cc
 
+pub eight_at_most : (z : Size) → byte_count z ≤ 8
+eight_at_most size.Byte = omega arith
+eight_at_most size.Half = omega arith
+eight_at_most size.Word = omega arith
+eight_at_most size.Double = omega arith
+
 -- a store leaves the datagram's length
 pub size_written : (m : Memory) (at : Location) (bytes : List ℕ) → (written_at m at bytes).length ≡ m.length
 size_written m (InStack i) bytes = refl
 size_written m (InBytes i) bytes = refl
 
-pub size_answered : (m : Memory) (out : Option ℕ) (address : List ℕ) → (answered_at m out address).length ≡ m.length
+pub size_answered : (m : Memory) (out : Option Room) (address : List ℕ) → (answered_at m out address).length ≡ m.length
 size_answered m None address = refl
-size_answered m (Some j) address = refl
+size_answered m (Some room) address = refl
 
 pub small_answer : {X : Type 0} (o : Option X) → plan_answer o ≤ 1
 small_answer None = omega arith
@@ -113,17 +123,17 @@ module _ {D : Type 0} (ops : Operations D) (Member : D → ℕ → Type 0) (soun
   in_range n hi small le = sound.range 0 hi n (omega (arith, small)) (omega arith) le
 
   bounded : (h : Helper) → (signature_of h).greatest ≤ MAX_CHANNEL
-  bounded helper.ChannelPeer = omega arith
-  bounded helper.ChannelTo = omega arith
-  bounded helper.Permitted = omega arith
+  bounded (helper.ChannelPeer form) = omega arith
+  bounded (helper.ChannelTo form) = omega arith
+  bounded (helper.Permitted form) = omega arith
   bounded helper.Window = omega arith
-  bounded helper.Destination = omega arith
+  bounded (helper.Destination form) = omega arith
 
-  both_of : (out : Option ℕ) (record_is : List ℕ) → IfSome out (λ j. j + 8 ≤ 512) → IfSome out (λ j. AreBytes 8 record_is) → IfSome out (λ j. (j + 8 ≤ 512) × AreBytes 8 record_is)
+  both_of : (out : Option Room) (record_is : List ℕ) → IfSome out (λ room. room.index + record_bytes room.form ≤ 512) → IfSome out (λ room. AreBytes 20 record_is) → IfSome out (λ room. (room.index + record_bytes room.form ≤ 512) × AreBytes 20 record_is)
   both_of None record_is room are = tt
   both_of (Some j) record_is room are = (room, are)
 
-  pub asked_member : (w : Environment) (code : List Insn) (mode : Mode) (places : Places) (a : AbsState D) (s : State) → IsMemberAt Member mode places a s → (i : Insn) → IsPossible w → (b : AbsState D) (q : Question) (out : Option ℕ) → IsAsked ops Member sound a i b q out
+  pub asked_member : (w : Environment) (code : List Insn) (mode : Mode) (places : Places) (a : AbsState D) (s : State) → IsMemberAt Member mode places a s → (i : Insn) → IsPossible w → (b : AbsState D) (q : Question) (out : Option Room) → IsAsked ops Member sound a i b q out
       → IsMemberAt Member mode places b (state_after_answer s (s.slot + slots_of i) out (w.answer q.helper q.number q.address))
   asked_member w code mode places a s member i real b q out is =
       let answer = w.answer q.helper q.number q.address in
@@ -171,7 +181,17 @@ module _ {D : Type 0} (ops : Operations D) (Member : D → ℕ → Type 0) (soun
         leads = straight_leads code s.slot i NotTaken is.3;
         size = size_written s.memory at (little_bytes (byte_count z) n);
         member = exists (subst (λ (c : AbsState D). IsMemberAt Member mode places c (record s { slot = s.slot + slots_of i; memory = written_at s.memory at (little_bytes (byte_count z) n) })) (sym is.1)
-            (member_stored Member mode places a s member (byte_count z) is.0 at (little_bytes (byte_count z) n) (s.slot + slots_of i) is.2 (length-little_bytes (byte_count z) n) (little_bytes_fit (byte_count z) n)));
+            (member_stored Member mode places a s member (byte_count z) is.0 at (little_bytes (byte_count z) n) (s.slot + slots_of i) is.2 (omega (arith, eight_at_most z)) (length-little_bytes (byte_count z) n) (little_bytes_fit (byte_count z) n)));
+      },
+    )
+    effect_follows short (next.On b) (effect.StorePointer g v) has is = (
+      NotTaken,
+      taken_by (Ok (effect.StorePointer g v)) flow.Straight NotTaken has is.4 tt,
+      record {
+        leads = straight_leads code s.slot i NotTaken is.4;
+        size = refl;
+        member = exists (subst (λ (c : AbsState D). IsMemberAt Member mode places c (record s { slot = s.slot + slots_of i; memory = memory_with_pointer s.memory g v })) (sym is.1)
+            (member_with_pointer Member mode places a s member g is.0 v (s.slot + slots_of i) is.3 is.2 (stored_kept w code s i g v (s.slot + slots_of i) real here fit member.tagged is.3 (step_is w code s i (Ok (effect.StorePointer g v)) here has))));
       },
     )
     effect_follows short (next.On b) (effect.Ask q out) has is = (
@@ -198,7 +218,7 @@ module _ {D : Type 0} (ops : Operations D) (Member : D → ℕ → Type 0) (soun
       record {
         leads = straight_leads code s.slot i NotTaken is.1;
         size = refl;
-        member = exists (planned_member mode places a s member i b helper.Destination (plan_answer destination) (with_destination s.plan destination) is.0 (small_answer destination) refl);
+        member = exists (planned_member mode places a s member i b (helper.Destination Narrow) (plan_answer destination) (with_destination s.plan destination) is.0 (small_answer destination) refl);
       },
     )
     effect_follows short (next.On b) (effect.Jump offset) has is =
@@ -214,6 +234,7 @@ module _ {D : Type 0} (ops : Operations D) (Member : D → ℕ → Type 0) (soun
     effect_follows short next.Exit (effect.Exit verdict) has is = tt
     effect_follows short next.Exit (effect.Write r v) has is = absurd is
     effect_follows short next.Exit (effect.Store at z n) has is = absurd is
+    effect_follows short next.Exit (effect.StorePointer g v) has is = absurd is
     effect_follows short next.Exit (effect.Ask q out) has is = absurd is
     effect_follows short next.Exit (effect.SetWindow window) has is = absurd is
     effect_follows short next.Exit (effect.SetDestination destination) has is = absurd is

@@ -3,7 +3,7 @@ use Rattle.std.proofs.Common.{◌≡◌, ℕ, zero, suc, ◌+◌, ◌<◌, ◌�
 use Rattle.std.proofs.lemmas.Bool.{cases_eq, cases_lt}
 use Rattle.std.proofs.lemmas.List.{get_or-set_same, get_or-set_other, length-set}
 use Rattle.semantics.specs.declared.limits.TheConstants.{STACK_BYTES}
-use Rattle.absstate.specs.AbstractStates.{is_marked, mark, marks_from}
+use Rattle.absstate.specs.AbstractStates.{is_marked, mark, marks_from, unmark, unmarked_from}
 use Rattle.absstate.specs.declared.abstract_state.Marks.{Marks}
 
 -- ---- one byte
@@ -43,6 +43,38 @@ marked_at (suc n) i k m count le low high = elim (cases_eq k i) [
 ] where
   above : (i k : ℕ) → i ≤ k → (k ≡ i → ⊥) → suc i ≤ k
   above i k le apart = elim (cases_lt i k) [
+    | inl lt ↦ omega (arith, lt)
+    | inr ge ↦ absurd (apart (omega (arith, ge, le)))
+  ]
+
+-- ---- bytes that are no longer set
+
+unmark_other : (m : Marks) (i k : ℕ) → (k ≡ i → ⊥) → is_marked (unmark m i) k ≡ is_marked m k
+unmark_other m i k apart = get_or-set_other m.cells i k false false apart
+
+pub length-unmarked : (n i : ℕ) (m : Marks) → length (unmarked_from m i n).cells ≡ length m.cells
+length-unmarked zero i m = refl
+length-unmarked (suc n) i m = length-unmarked n (suc i) (unmark m i) ∙ length-set m.cells i false
+
+pub unmarked_before : (n i k : ℕ) (m : Marks) → k < i → is_marked (unmarked_from m i n) k ≡ is_marked m k
+unmarked_before zero i k m lt = refl
+unmarked_before (suc n) i k m lt = unmarked_before n (suc i) k (unmark m i) (omega (arith, lt)) ∙ unmark_other m i k (λ e. omega (arith, e, lt))
+
+pub unmarked_after : (n i k : ℕ) (m : Marks) → i + n ≤ k → is_marked (unmarked_from m i n) k ≡ is_marked m k
+unmarked_after zero i k m le = refl
+unmarked_after (suc n) i k m le = unmarked_after n (suc i) k (unmark m i) (omega (arith, le)) ∙ unmark_other m i k (λ e. omega (arith, e, le))
+
+pub unmarked_at : (n i k : ℕ) (m : Marks) → length m.cells ≡ STACK_BYTES → i + n ≤ STACK_BYTES → i ≤ k → k < i + n → is_marked (unmarked_from m i n) k ≡ false
+unmarked_at zero i k m count le low high = absurd (omega (arith, low, high))
+unmarked_at (suc n) i k m count le low high = elim (cases_eq k i) [
+  | inl same ↦
+      ap (is_marked (unmarked_from (unmark m i) (suc i) n)) same
+      ∙ unmarked_before n (suc i) i (unmark m i) (omega arith)
+      ∙ get_or-set_same m.cells i false false (omega (arith, count, le))
+  | inr other ↦ unmarked_at n (suc i) k (unmark m i) (length-set m.cells i false ∙ count) (omega (arith, le)) (higher i k low other) (omega (arith, high))
+] where
+  higher : (i k : ℕ) → i ≤ k → (k ≡ i → ⊥) → suc i ≤ k
+  higher i k le apart = elim (cases_lt i k) [
     | inl lt ↦ omega (arith, lt)
     | inr ge ↦ absurd (apart (omega (arith, ge, le)))
   ]

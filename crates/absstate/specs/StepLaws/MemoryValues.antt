@@ -1,26 +1,36 @@
 -- Internal. Where the abstract step places an access, and what it lets read there, agree with the memory of a member.
-use Rattle.std.proofs.Common.{◌≡◌, ℕ, zero, suc, ◌+◌, ◌*◌, ◌<◌, ◌≤◌, ◌^◌, Bool, true, false, ◌&&◌, ℤ, pos, negsuc, ◌+ℤ◌, ◌-ℤ◌, ◌≤ℤ◌, List, ◌∷◌, length, take, drop, get_or, Option, Some, None, Result, Ok, refl, sym, ap, ◌∙◌, subst, arith, All, drop-cons}
+use Rattle.std.proofs.Common.{◌≡◌, ℕ, zero, suc, ◌+◌, ◌*◌, ◌/◌, ◌<◌, ◌≤◌, ◌^◌, Bool, true, false, not, ◌&&◌, ◌||◌, ◌-◌, ℤ, pos, negsuc, ◌+ℤ◌, ◌-ℤ◌, ◌≤ℤ◌, List, ◌∷◌, length, take, drop, get_or, Option, Some, None, Result, Ok, refl, inl, inr, sym, ap, ◌∙◌, subst, arith, All, drop-cons}
 use Rattle.std.specs.Prelude.{is_some, int_le, slice_index_or, unsigned_abs, if◌then◌else◌}
 use Rattle.std.specs.Option.{ok_or, option_map}
 use Rattle.std.proofs.lemmas.Int.{ints}
 use Rattle.fallible.specs.Fallible.{◌>>=◌, check}
-use Rattle.semantics.specs.Access.{is_within, index_within, part, cells_number, number_in, stack_first, headroom_first}
+use Rattle.semantics.specs.Access.{is_within, index_within, part, cells_number, number_in, stack_first, headroom_first, is_pointer, is_aligned, group_of, second_group, third_group, last_group, pointer_in, touches_pointer}
+use Rattle.semantics.specs.GroupLaws.{second_of_aligned, third_of_aligned, last_of_aligned}
 use Rattle.semantics.specs.Access as access
 use Rattle.semantics.specs.AccessLaws.{index_short}
 use Rattle.semantics.specs.Access.{cells_bytes}
-use Rattle.semantics.specs.Calls.{record_at}
+use Rattle.semantics.specs.Calls.{bytes_at}
 use Rattle.semantics.specs.CallLaws.{bytes_or_number}
-use Rattle.semantics.specs.Kept.{IsMemory}
-use Rattle.semantics.specs.NumberLaws.{cells_fit, bytes_fit, record_fits}
-use Rattle.semantics.specs.Machine.{AreBytes, Memory}
+use Rattle.semantics.specs.Loading.{whole_group, kept_in, pointer_or}
+use Rattle.insn.specs.Codes.{byte_count}
+use Rattle.insn.specs.declared.size.Size.{Size}
+use Rattle.insn.specs.declared.size.Size.TheVariants as size
+use Rattle.std.proofs.lemmas.Bool.{cases_eq}
+use Rattle.semantics.specs.declared.value.Value.TheVariants as value
+use Rattle.semantics.specs.NumberLaws.{cells_fit, bytes_fit, cells_read_fit}
+use Rattle.semantics.specs.Machine.{AreBytes, State}
 use Rattle.semantics.specs.declared.access.Location.{Location}
 use Rattle.semantics.specs.declared.access.Location.TheVariants.{InStack, InBytes}
 use Rattle.semantics.specs.declared.limits.TheConstants.{TAILROOM}
 use Rattle.semantics.specs.declared.reason.Reason.{Reason}
-use Rattle.semantics.specs.declared.reason.Reason.TheVariants.{UninitStack, DatagramBounds, StackBounds}
-use Rattle.absstate.specs.AbstractStates.{is_marked, are_marked}
+use Rattle.semantics.specs.declared.reason.Reason.TheVariants.{UninitStack, DatagramBounds, StackBounds, PointerBytes}
+use Rattle.absstate.specs.AbstractStates.{group_at, is_marked, are_marked}
+use Rattle.absstate.specs.declared.abstract_state.AbsState.{AbsState}
+use Rattle.absstate.specs.declared.abstract_state.AbstractValue.{AbstractValue}
+use Rattle.absstate.specs.declared.abstract_state.AbstractValue.TheVariants as known
+use Rattle.semantics.specs.declared.value.Value.{Value}
 use Rattle.absstate.specs.AbstractSteps as abstract
-use Rattle.absstate.specs.Membership.{Mode, Strict, IsAnchorPlace, IsMarkedCell}
+use Rattle.absstate.specs.Membership.{Mode, Strict, Places, IsAnchorPlace, IsHeld, IsValue, IsMarkedCell, IsMemberAt}
 use Rattle.absstate.specs.declared.memory.Region.{Region}
 use Rattle.absstate.specs.declared.memory.Region.TheVariants as regions
 use Rattle.absstate.specs.declared.abstract_state.Marks.{Marks}
@@ -153,22 +163,180 @@ module _ (claimed : Reason → Type 0) (mode : Mode) (unset : claimed UninitStac
       (λ is_mode. marks_are m stack count (λ c lt. (cells c lt).no_other is_mode) n i short)
       (cells_fit stack count fit n i short)
 
-  pub region_read : (m : Marks) (memory : Memory) → IsMemory memory → ((i : ℕ) → i < 512 → IsMarkedCell mode (is_marked m i) (slice_index_or memory.stack i None)) → (n : ℕ) (r : Region) (at : Location) → IsRegionOf n r at
-      → Agree claimed (IsReadNumber n) (abstract.region_readable m n r) (number_in memory n at)
-  region_read m memory holds cells n (regions.InStack i) (InStack j) is =
-      subst (λ (c : ℕ). Agree claimed (IsReadNumber n) (check (are_marked m i n) UninitStack) (ok_or (cells_number (part n c memory.stack)) UninitStack)) is.0
-      (stack_read m memory.stack holds.count cells holds.cells n i is.1)
-  region_read m memory holds cells n (regions.InStack i) (InBytes j) is = absurd is
-  region_read m memory holds cells n regions.InBytes (InStack j) is = absurd is
-  region_read m memory holds cells n regions.InBytes (InBytes j) is = bytes_fit memory.bytes holds.bytes n j
+  -- a pointer is no part of what may be read as bytes
+  touch_agree : {X : Type 0} (P : X → Type 0) (k t b : Bool) (option : Option X) → (k ≡ true → t ≡ true) → (b ≡ true → t ≡ false) → (mode ≡ Strict → t ≡ k)
+      → Agree claimed (λ (u : Unit {0}) (x : X). P x) (check b UninitStack) (ok_or option UninitStack)
+      → Agree claimed (λ (u : Unit {0}) (x : X). P x) (check (not k) PointerBytes >>= λ u. check b UninitStack) (check (not t) PointerBytes >>= λ u. ok_or option UninitStack)
+  touch_agree P true true b option known apart same agree = λ c. refl
+  touch_agree P true false b option known apart same agree = absurd (let bad : false ≡ true = known refl in cc)
+  touch_agree P false false b option known apart same agree = agree
+  touch_agree P false true true option known apart same agree = absurd (let bad : true ≡ false = apart refl in cc)
+  touch_agree P false true false option known apart same agree = λ c. let bad : true ≡ false = same (unset c) in absurd cc
 
-  -- an address record in the stack
-  pub record_read : (m : Marks) (memory : Memory) → IsMemory memory → ((i : ℕ) → i < 512 → IsMarkedCell mode (is_marked m i) (slice_index_or memory.stack i None)) → (i : ℕ) → i + 8 ≤ 512
-      → Agree claimed (λ (u : Unit {0}) (address : List ℕ). AreBytes 8 address) (abstract.record_readable m i) (record_at memory i)
-  record_read m memory holds cells i short =
-      let part_of : List (Option ℕ) = part 8 i memory.stack in
+-- ---- groups
+
+marked_inside : (m : Marks) (n i j : ℕ) → are_marked m i n ≡ true → i ≤ j → j < i + n → is_marked m j ≡ true
+marked_inside m zero i j e from to = absurd (omega (arith, from, to))
+marked_inside m (suc n) i j e from to = elim (cases_eq j i) [
+  | inl same ↦ subst (λ (k : ℕ). is_marked m k ≡ true) (sym same) (first_of_and (is_marked m i) (are_marked m (suc i) n) e)
+  | inr other ↦ marked_inside m n (suc i) j (rest_of_and (is_marked m i) (are_marked m (suc i) n) e) (omega (arith, from, other)) (omega (arith, to))
+]
+
+not_true : (x : Bool) → (x ≡ true → ⊥) → x ≡ false
+not_true true p = absurd (p refl)
+not_true false p = refl
+
+or_true : (x y x' y' : Bool) → (x ≡ true → x' ≡ true) → (y ≡ true → y' ≡ true) → (x || y) ≡ true → (x' || y') ≡ true
+or_true true y x' y' p q e = ap (λ (b : Bool). b || y') (p refl)
+or_true false true true y' p q e = refl
+or_true false true false y' p q e = q refl
+or_true false false x' y' p q e = absurd (let bad : false ≡ true = e in cc)
+
+module _ {D : Type 0} (Member : D → ℕ → Type 0) (mode : Mode) (places : Places) (size : ℕ) where
+  -- a group that is known to hold a pointer holds one
+  pub pointer_known : (k : AbstractValue D) (v : Value) → IsValue Member mode places size k v → abstract.is_known_pointer k ≡ true → is_pointer v ≡ true
+  pointer_known known.Nothing v is e = absurd cc
+  pointer_known (known.Scalar n) v is e = absurd cc
+  pointer_known known.Ctx v is e = ap is_pointer is.2
+  pointer_known (known.Stack n) v is e = ap is_pointer is.2
+  pointer_known (known.Data anchor n) v is e = ap is_pointer is.2
+  pointer_known known.End v is e = ap is_pointer is.2
+
+  -- and in strict membership no other does
+  pub pointer_same : (k : AbstractValue D) (v : Value) → IsValue Member mode places size k v → mode ≡ Strict → is_pointer v ≡ abstract.is_known_pointer k
+  pointer_same known.Nothing v is strict = ap is_pointer (is strict)
+  pointer_same (known.Scalar n) v is strict = ap is_pointer is.2
+  pointer_same known.Ctx v is strict = ap is_pointer is.2
+  pointer_same (known.Stack n) v is strict = ap is_pointer is.2
+  pointer_same (known.Data anchor n) v is strict = ap is_pointer is.2
+  pointer_same known.End v is strict = ap is_pointer is.2
+
+  pub held_pointer : (k : AbstractValue D) (v : Value) → IsValue Member mode places size k v → abstract.is_known_pointer k ≡ true → IsHeld Member places size k v
+  held_pointer known.Nothing v is e = absurd cc
+  held_pointer (known.Scalar n) v is e = is
+  held_pointer known.Ctx v is e = is
+  held_pointer (known.Stack n) v is e = is
+  held_pointer (known.Data anchor n) v is e = is
+  held_pointer known.End v is e = is
+
+module _ {D : Type 0} (Member : D → ℕ → Type 0) (claimed : Reason → Type 0) (mode : Mode) (places : Places) (a : AbsState D) (s : State) (member : IsMemberAt Member mode places a s) (unset : claimed UninitStack → mode ≡ Strict) where
+  abbrev groups : List Value
+  groups = s.memory.stack.groups
+
+  at_group : (i : ℕ) → i < 512 → IsValue Member mode places s.memory.length (group_at a.registers (group_of i)) (pointer_in groups (group_of i))
+  at_group i lt = member.groups (group_of i) (omega (arith, lt))
+
+  -- a cell that is set is no part of a pointer
+  set_no_pointer : (j : ℕ) → j < 512 → is_marked a.marks j ≡ true → is_pointer (pointer_in groups (group_of j)) ≡ true → ⊥
+  set_no_pointer j lt marked e =
+      let held : is_some (slice_index_or s.memory.stack.cells j None) ≡ true = (member.cells j lt).held marked in
+      let none : slice_index_or s.memory.stack.cells j None ≡ None = member.tagged.memory.apart j e in
+      let bad : false ≡ true = sym (ap is_some none) ∙ held in cc
+
+  touched_known : (n i : ℕ) → 1 ≤ n → i + n ≤ 512 → abstract.touches_known a n i ≡ true → touches_pointer groups n i ≡ true
+  touched_known n i some short e =
+      or_true (abstract.is_known_pointer (group_at a.registers (group_of i))) ((abstract.is_known_pointer (group_at a.registers (second_group n i))) || ((abstract.is_known_pointer (group_at a.registers (third_group n i))) || (abstract.is_known_pointer (group_at a.registers (last_group n i))))) (is_pointer (pointer_in groups (group_of i))) ((is_pointer (pointer_in groups (second_group n i))) || ((is_pointer (pointer_in groups (third_group n i))) || (is_pointer (pointer_in groups (last_group n i)))))
+      (pointer_known Member mode places s.memory.length _ _ (at_group i (omega (arith, some, short))))
+      (or_true (abstract.is_known_pointer (group_at a.registers (second_group n i))) ((abstract.is_known_pointer (group_at a.registers (third_group n i))) || (abstract.is_known_pointer (group_at a.registers (last_group n i)))) (is_pointer (pointer_in groups (second_group n i))) ((is_pointer (pointer_in groups (third_group n i))) || (is_pointer (pointer_in groups (last_group n i))))
+      (pointer_known Member mode places s.memory.length _ _ (at_group (i + n / 3) (omega (arith, some, short))))
+      (or_true (abstract.is_known_pointer (group_at a.registers (third_group n i))) (abstract.is_known_pointer (group_at a.registers (last_group n i))) (is_pointer (pointer_in groups (third_group n i))) (is_pointer (pointer_in groups (last_group n i)))
+      (pointer_known Member mode places s.memory.length _ _ (at_group (i + 2 * n / 3) (omega (arith, some, short))))
+      (pointer_known Member mode places s.memory.length _ _ (at_group (i + n - 1) (omega (arith, some, short)))))) e
+
+  -- none of the cells that are set is a part of a pointer
+  marked_apart : (n i j : ℕ) → i + n ≤ 512 → are_marked a.marks i n ≡ true → i ≤ j → j < i + n → is_pointer (pointer_in groups (group_of j)) ≡ false
+  marked_apart n i j short e from to = not_true (is_pointer (pointer_in groups (group_of j))) (set_no_pointer j (omega (arith, to, short)) (marked_inside a.marks n i j e from to))
+
+  pub touched_apart : (n i : ℕ) → 1 ≤ n → i + n ≤ 512 → are_marked a.marks i n ≡ true → touches_pointer groups n i ≡ false
+  touched_apart n i some short e =
+      let first : (is_pointer (pointer_in groups (group_of i))) ≡ false = marked_apart n i i short e (omega arith) (omega (arith, some)) in
+      let second : (is_pointer (pointer_in groups (second_group n i))) ≡ false = marked_apart n i (i + n / 3) short e (omega arith) (omega (arith, some)) in
+      let third : (is_pointer (pointer_in groups (third_group n i))) ≡ false = marked_apart n i (i + 2 * n / 3) short e (omega arith) (omega (arith, some)) in
+      let last : (is_pointer (pointer_in groups (last_group n i))) ≡ false = marked_apart n i (i + n - 1) short e (omega (arith, some)) (omega (arith, some)) in
+      (λ t. first t || (second t || (third t || last t)))
+
+  touched_same : (n i : ℕ) → 1 ≤ n → i + n ≤ 512 → mode ≡ Strict → touches_pointer groups n i ≡ abstract.touches_known a n i
+  touched_same n i some short strict =
+      let first = pointer_same Member mode places s.memory.length _ _ (at_group i (omega (arith, some, short))) strict in
+      let second = pointer_same Member mode places s.memory.length _ _ (at_group (i + n / 3) (omega (arith, some, short))) strict in
+      let third = pointer_same Member mode places s.memory.length _ _ (at_group (i + 2 * n / 3) (omega (arith, some, short))) strict in
+      let last = pointer_same Member mode places s.memory.length _ _ (at_group (i + n - 1) (omega (arith, some, short))) strict in
+      (λ t. first t || (second t || (third t || last t)))
+
+  cells_read : {X : Type 0} (P : X → Type 0) (option : Option X) (n i : ℕ) → 1 ≤ n → i + n ≤ 512 → Agree claimed (λ (u : Unit {0}) (x : X). P x) (check (are_marked a.marks i n) UninitStack) (ok_or option UninitStack)
+      → Agree claimed (λ (u : Unit {0}) (x : X). P x) (abstract.cells_readable a n i) (access.no_pointer groups n i >>= λ u. ok_or option UninitStack)
+  cells_read P option n i some short agree =
+      touch_agree claimed mode unset P (abstract.touches_known a n i) (touches_pointer groups n i) (are_marked a.marks i n) option (touched_known n i some short) (touched_apart n i some short) (touched_same n i some short) agree
+
+  pub region_read : (n : ℕ) (r : Region) (at : Location) → 1 ≤ n → IsRegionOf n r at → Agree claimed (IsReadNumber n) (abstract.region_readable a n r) (number_in s.memory n at)
+  region_read n (regions.InStack i) (InStack j) some is =
+      subst (λ (c : ℕ). Agree claimed (IsReadNumber n) (abstract.cells_readable a n i) (number_in s.memory n (InStack c))) is.0
+      (cells_read (λ (c : ℕ). c < 256 ^ n) (cells_number (part n i s.memory.stack.cells)) n i some is.1
+      (stack_read claimed mode unset a.marks s.memory.stack.cells member.tagged.memory.count member.cells member.tagged.memory.cells n i is.1))
+  region_read n (regions.InStack i) (InBytes j) some is = absurd is
+  region_read n regions.InBytes (InStack j) some is = absurd is
+  region_read n regions.InBytes (InBytes j) some is = bytes_fit s.memory.bytes member.tagged.memory.bytes n j
+
+  -- bytes in the stack
+  pub bytes_read : (n i : ℕ) → 1 ≤ n → i + n ≤ 512 → Agree claimed (λ (u : Unit {0}) (bytes : List ℕ). AreBytes n bytes) (abstract.cells_readable a n i) (bytes_at s.memory n i)
+  bytes_read n i some short =
+      let part_of : List (Option ℕ) = part n i s.memory.stack.cells in
       let same : is_some (cells_bytes part_of) ≡ is_some (cells_number part_of) = bytes_or_number part_of in
-      cells_agree (AreBytes 8) (are_marked m i 8) (cells_bytes part_of)
-      (λ e. same ∙ marks_hold m memory.stack holds.count (λ k lt. (cells k lt).held) 8 i short e)
-      (λ is_mode. same ∙ marks_are m memory.stack holds.count (λ k lt. (cells k lt).no_other is_mode) 8 i short)
-      (record_fits memory.stack holds.count holds.cells i short)
+      cells_read (AreBytes n) (cells_bytes part_of) n i some short
+      (cells_agree claimed mode unset (AreBytes n) (are_marked a.marks i n) (cells_bytes part_of)
+      (λ e. same ∙ marks_hold a.marks s.memory.stack.cells member.tagged.memory.count (λ k lt. (member.cells k lt).held) n i short e)
+      (λ is_mode. same ∙ marks_are a.marks s.memory.stack.cells member.tagged.memory.count (λ k lt. (member.cells k lt).no_other is_mode) n i short)
+      (cells_read_fit s.memory.stack.cells member.tagged.memory.count member.tagged.memory.cells n i short))
+
+  -- ---- a group that is read as a whole
+
+  -- a pointer that isn't known is refused, but without a claim
+  unknown_pointer : {X Y : Type 0} (F : X → Y → Type 0) (f : Unit {0} → Result X Reason) (i : ℕ) (y : Y) → i + 8 ≤ 512 → abstract.touches_known a 8 i ≡ false → touches_pointer groups 8 i ≡ true → Agree claimed F (abstract.cells_readable a 8 i >>= f) (Ok y)
+  unknown_pointer {X} {Y} F f i y short none touched =
+      subst (λ (k : Bool). Agree claimed F ((check (not k) PointerBytes >>= λ u. check (are_marked a.marks i 8) UninitStack) >>= f) (Ok y)) (sym none)
+      (by (are_marked a.marks i 8) refl) where
+        by : (b : Bool) → are_marked a.marks i 8 ≡ b → Agree claimed F (check b UninitStack >>= f) (Ok y)
+        by true e = absurd (let bad : false ≡ true = sym (touched_apart 8 i (omega arith) short e) ∙ touched in cc)
+        by false e = λ c. let bad : true ≡ false = sym touched ∙ touched_same 8 i (omega arith) short (unset c) ∙ none in absurd cc
+
+  module _ (F : AbstractValue D → Value → Type 0) (holds : (k : AbstractValue D) (v : Value) → IsHeld Member places s.memory.length k v → F k v) (number : D) where
+    whole_by : (i : ℕ) (numbers : Result ℕ Reason) → i + 8 ≤ 512 → is_aligned i ≡ true → Agree claimed F (abstract.cells_readable a 8 i >>= λ u. Ok (known.Scalar number)) (numbers >>= λ n. Ok (value.Scalar n))
+        → (p : Bool) → abstract.is_known_pointer (group_at a.registers (group_of i)) ≡ p → (q : Bool) → is_pointer (pointer_in groups (group_of i)) ≡ q
+        → Agree claimed F (abstract.known_or (if p then Some (group_at a.registers (group_of i)) else None) (abstract.cells_readable a 8 i) number) (pointer_or (if q then Some (pointer_in groups (group_of i)) else None) numbers)
+    whole_by i numbers short aligned agree true e true f = holds _ _ (held_pointer Member mode places s.memory.length _ _ (at_group i (omega (arith, short))) e)
+    whole_by i numbers short aligned agree true e false f = absurd (let bad : false ≡ true = sym f ∙ pointer_known Member mode places s.memory.length _ _ (at_group i (omega (arith, short))) e in cc)
+    whole_by i numbers short aligned agree false e false f = agree
+    whole_by i numbers short aligned agree false e true f =
+        let second : second_group 8 i ≡ group_of i = second_of_aligned i aligned in
+        let third : third_group 8 i ≡ group_of i = third_of_aligned i aligned in
+        let last : last_group 8 i ≡ group_of i = last_of_aligned i aligned in
+        let k : Bool = abstract.is_known_pointer (group_at a.registers (group_of i)) in
+        let is_one : abstract.touches_known a 8 i ≡ (k || (k || (k || k))) = (λ t. k || (abstract.is_known_pointer (group_at a.registers (second t)) || (abstract.is_known_pointer (group_at a.registers (third t)) || abstract.is_known_pointer (group_at a.registers (last t))))) in
+        unknown_pointer F (λ u. Ok (known.Scalar number)) i (pointer_in groups (group_of i)) short
+        (is_one ∙ (λ t. e t || (e t || (e t || e t))))
+        (ap (λ (b : Bool). b || (is_pointer (pointer_in groups (second_group 8 i)) || (is_pointer (pointer_in groups (third_group 8 i)) || is_pointer (pointer_in groups (last_group 8 i))))) f)
+
+    -- what a load of a size reads at a region
+    abbrev ReadsAlike : Size → Region → Location → Type 0
+    ReadsAlike z r at = Agree claimed F (abstract.known_or (abstract.known_in a (abstract.known_group r z)) (abstract.region_readable a (byte_count z) r) number) (pointer_or (kept_in s.memory (whole_group at z)) (number_in s.memory (byte_count z) at))
+
+    abbrev NumbersAlike : Size → Region → Location → Type 0
+    NumbersAlike z r at = Agree claimed F (abstract.region_readable a (byte_count z) r >>= λ u. Ok (known.Scalar number)) (number_in s.memory (byte_count z) at >>= λ n. Ok (value.Scalar n))
+
+    double_read : (i : ℕ) → i + 8 ≤ 512 → NumbersAlike size.Double (regions.InStack i) (InStack i) → (t : Bool) → is_aligned i ≡ t
+        → Agree claimed F (abstract.known_or (abstract.known_in a (if t then Some (group_of i) else None)) (abstract.cells_readable a 8 i) number) (pointer_or (kept_in s.memory (if t then Some (group_of i) else None)) (number_in s.memory 8 (InStack i)))
+    double_read i short numbers true aligned = whole_by i (number_in s.memory 8 (InStack i)) short aligned numbers (abstract.is_known_pointer (group_at a.registers (group_of i))) refl (is_pointer (pointer_in groups (group_of i))) refl
+    double_read i short numbers false aligned = numbers
+
+    stack_alike : (z : Size) (i : ℕ) → i + byte_count z ≤ 512 → NumbersAlike z (regions.InStack i) (InStack i) → ReadsAlike z (regions.InStack i) (InStack i)
+    stack_alike size.Double i short numbers = double_read i short numbers (is_aligned i) refl
+    stack_alike size.Word i short numbers = numbers
+    stack_alike size.Half i short numbers = numbers
+    stack_alike size.Byte i short numbers = numbers
+
+    pub reads_alike : (z : Size) (r : Region) (at : Location) → IsRegionOf (byte_count z) r at → NumbersAlike z r at → ReadsAlike z r at
+    reads_alike z (regions.InStack i) (InStack j) is numbers =
+        subst (λ (k : ℕ). ReadsAlike z (regions.InStack i) (InStack k)) is.0 (stack_alike z i is.1 (subst (λ (k : ℕ). NumbersAlike z (regions.InStack i) (InStack k)) (sym is.0) numbers))
+    reads_alike z (regions.InStack i) (InBytes j) is numbers = absurd is
+    reads_alike z regions.InBytes (InStack j) is numbers = absurd is
+    reads_alike z regions.InBytes (InBytes j) is numbers = numbers

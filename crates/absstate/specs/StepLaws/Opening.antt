@@ -12,10 +12,12 @@ use Rattle.semantics.specs.Access.{written_at}
 use Rattle.semantics.specs.ContextLaws.{little_bytes_fit, length-little_bytes}
 use Rattle.semantics.specs.Kept.{IsProper}
 use Rattle.semantics.specs.Calls.{signature_of}
+use Rattle.semantics.specs.declared.helper.RecordForm.TheVariants.{Narrow}
+use Rattle.semantics.specs.declared.helper.Room.{Room}
 use Rattle.semantics.specs.Machine.{Memory, State, Environment}
 use Rattle.semantics.specs.Effects as effects
 use Rattle.semantics.specs.Slots.{fetch}
-use Rattle.semantics.specs.Runs.{Goes, IsPossible, state_after_answer, plan_answer, with_window, with_destination, state_with_plan, step_by_effect, step, registers_with}
+use Rattle.semantics.specs.Runs.{Goes, IsPossible, memory_with_pointer, state_after_answer, plan_answer, with_window, with_destination, state_with_plan, step_by_effect, step, registers_with}
 use Rattle.semantics.specs.declared.helper.Helper.TheVariants as helper
 use Rattle.semantics.specs.Flow.{flow_of, branch_slot}
 use Rattle.semantics.specs.Flow as flow
@@ -38,12 +40,12 @@ use Rattle.absstate.specs.declared.memory.Region.TheVariants as regions
 use Rattle.absstate.specs.declared.abstract_state.AbsState.{AbsState}
 use Rattle.absstate.specs.declared.abstract_step.Next.{Next}
 use Rattle.absstate.specs.declared.abstract_step.Next.TheVariants as next
-use Rattle.absstate.specs.StepLaws.Members.{member_extends, member_written, member_moved, member_stored, held_kind, members_loosen, loosens_itself}
-use Rattle.absstate.specs.StepLaws.Tagged.{written_proper, same_kind_proper}
+use Rattle.absstate.specs.StepLaws.Members.{member_extends, member_written, member_moved, member_stored, held_kind, members_loosen, loosens_itself, member_with_pointer}
+use Rattle.absstate.specs.StepLaws.Tagged.{written_proper, same_kind_proper, stored_kept}
 use Rattle.absstate.specs.StepLaws.Anchors.{reach_of}
 use Rattle.absstate.specs.StepLaws.Forking.{Forks}
 use Rattle.absstate.specs.StepLaws.Simulation.{IsResultAnew, IsEffectOf}
-use Rattle.absstate.specs.StepLaws.Following.{accepted_agree, step_is, straight_leads, jump_goes, branch_goes, size_written, size_answered, small_answer, asked_member, planned_member}
+use Rattle.absstate.specs.StepLaws.Following.{accepted_agree, step_is, straight_leads, jump_goes, branch_goes, size_written, size_answered, small_answer, asked_member, planned_member, eight_at_most}
 
 -- the state that a step or a branch leads to, and its loosening, a strict member
 pub record Opens {D : Type 0} (Member : D → ℕ → Type 0) (w : Environment) (code : List Insn) (s : State) (slot : ℕ) (b : AbsState D) : Type 0 where
@@ -65,7 +67,7 @@ region_proved : {D : Type 0} (a : AbsState D) (n : ℕ) (region : Region) → a.
 region_proved a n (regions.InStack i) = refl
 region_proved a n regions.InBytes = refl
 
-out_proved : {D : Type 0} (a : AbsState D) (x : D) (out : Option ℕ) → a.proved ≡ (with_out (with_answer a x) out).proved
+out_proved : {D : Type 0} (a : AbsState D) (x : D) (out : Option Room) → a.proved ≡ (with_out (with_answer a x) out).proved
 out_proved a x None = refl
 out_proved a x (Some i) = refl
 
@@ -80,6 +82,7 @@ module _ {D : Type 0} (ops : Operations D) (Member : D → ℕ → Type 0) (soun
   effect_rises (next.On c) (effect.Write r v) is NotTaken b e = at_most a.proved b.proved (sym (ap (λ (x : AbsState D). x.proved) is.1) ∙ ap (λ (x : AbsState D). x.proved) (same_state c b e))
   effect_rises (next.On c) (effect.Jump offset) is NotTaken b e = at_most a.proved b.proved (sym (ap (λ (x : AbsState D). x.proved) is.0) ∙ ap (λ (x : AbsState D). x.proved) (same_state c b e))
   effect_rises (next.On c) (effect.Store at z n) is NotTaken b e = at_most a.proved b.proved (region_proved a (byte_count z) is.0 ∙ sym (ap (λ (x : AbsState D). x.proved) is.1) ∙ ap (λ (x : AbsState D). x.proved) (same_state c b e))
+  effect_rises (next.On c) (effect.StorePointer g v) is NotTaken b e = at_most a.proved b.proved (sym (ap (λ (x : AbsState D). x.proved) is.1) ∙ ap (λ (x : AbsState D). x.proved) (same_state c b e))
   effect_rises (next.On c) (effect.Ask q out) is NotTaken b e = at_most a.proved b.proved (out_proved a (ops.range 0 (signature_of is.asked).greatest) out ∙ sym (ap (λ (x : AbsState D). x.proved) is.after) ∙ ap (λ (x : AbsState D). x.proved) (same_state c b e))
   effect_rises (next.On c) (effect.SetWindow window) is NotTaken b e = at_most a.proved b.proved (sym (ap (λ (x : AbsState D). x.proved) is.0) ∙ ap (λ (x : AbsState D). x.proved) (same_state c b e))
   effect_rises (next.On c) (effect.SetDestination destination) is NotTaken b e = at_most a.proved b.proved (sym (ap (λ (x : AbsState D). x.proved) is.0) ∙ ap (λ (x : AbsState D). x.proved) (same_state c b e))
@@ -131,7 +134,11 @@ module _ {D : Type 0} (ops : Operations D) (Member : D → ℕ → Type 0) (soun
           let bytes = little_bytes (byte_count z) k in
           itself (record s { slot = s.slot + slots_of i; memory = written_at s.memory at bytes }) goes (straight_slot n is.3 leads) (size_written s.memory at bytes)
           (subst (λ (x : AbsState D). IsMemberAt Member Strict places x (record s { slot = s.slot + slots_of i; memory = written_at s.memory at bytes })) (sym is.1)
-          (member_stored Member Strict places a s member (byte_count z) is.0 at bytes (s.slot + slots_of i) is.2 (length-little_bytes (byte_count z) k) (little_bytes_fit (byte_count z) k)))
+          (member_stored Member Strict places a s member (byte_count z) is.0 at bytes (s.slot + slots_of i) is.2 (omega (arith, eight_at_most z)) (length-little_bytes (byte_count z) k) (little_bytes_fit (byte_count z) k)))
+      effect_opens (effect.StorePointer g v) is goes =
+          itself (record s { slot = s.slot + slots_of i; memory = memory_with_pointer s.memory g v }) goes (straight_slot n is.4 leads) refl
+          (subst (λ (x : AbsState D). IsMemberAt Member Strict places x (record s { slot = s.slot + slots_of i; memory = memory_with_pointer s.memory g v })) (sym is.1)
+          (member_with_pointer Member Strict places a s member g is.0 v (s.slot + slots_of i) is.3 is.2 (stored_kept w code s i g v (s.slot + slots_of i) real here fit member.tagged is.3 goes)))
       effect_opens (effect.Ask q out) is goes =
           let answer = w.answer q.helper q.number q.address in
           itself (state_after_answer s (s.slot + slots_of i) out answer) goes (straight_slot n is.past leads) (size_answered s.memory out answer.1) (asked_member ops Member sound w code Strict places a s member i real b q out is)
@@ -140,7 +147,7 @@ module _ {D : Type 0} (ops : Operations D) (Member : D → ℕ → Type 0) (soun
           (planned_member ops Member sound Strict places a s member i b helper.Window (plan_answer window) (with_window s.plan window) is.0 (small_answer window) refl)
       effect_opens (effect.SetDestination destination) is goes =
           itself (state_with_plan s (s.slot + slots_of i) (plan_answer destination) (with_destination s.plan destination)) goes (straight_slot n is.1 leads) refl
-          (planned_member ops Member sound Strict places a s member i b helper.Destination (plan_answer destination) (with_destination s.plan destination) is.0 (small_answer destination) refl)
+          (planned_member ops Member sound Strict places a s member i b (helper.Destination Narrow) (plan_answer destination) (with_destination s.plan destination) is.0 (small_answer destination) refl)
       effect_opens (effect.Jump offset) is goes =
           itself (record s { slot = n }) (goes ∙ jump_goes w code s i offset NotTaken n is.1 leads) refl refl
           (subst (λ (x : AbsState D). IsMemberAt Member Strict places x (record s { slot = n })) (sym is.0) (member_moved Member Strict places a s member n))

@@ -1,5 +1,5 @@
 -- Interface. In code without sums of registers, on 64 bits, no register comes to name an anchor that was made.
-use Rattle.std.proofs.Common.{◌≡◌, ℕ, zero, suc, ◌<◌, ◌^◌, Bool, true, false, ℤ, ◌+ℤ◌, ◌-ℤ◌, List, [], ◌∷◌, Option, Some, None, Result, Ok, Err, refl, sym, ap, subst}
+use Rattle.std.proofs.Common.{◌≡◌, ℕ, zero, suc, ◌<◌, ◌^◌, Bool, true, false, ℤ, ◌+ℤ◌, ◌-ℤ◌, List, [], ◌∷◌, Option, Some, None, Result, Ok, Err, refl, sym, ap, subst, pos}
 use Rattle.std.specs.Prelude.{◌==◌, IfOk, slice_set, if◌then◌else◌}
 use Rattle.std.specs.Option.{ok_or, option_map}
 use Rattle.std.proofs.lemmas.Bool.{cond_both}
@@ -21,9 +21,13 @@ use Rattle.insn.specs.declared.instruction.Operand.{Operand}
 use Rattle.insn.specs.declared.instruction.Operand.TheVariants as operand
 use Rattle.insn.specs.declared.instruction.Insn.{Insn}
 use Rattle.insn.specs.declared.instruction.Insn.TheVariants as insn
-use Rattle.semantics.specs.Calls.{helper_of, signature_of}
-use Rattle.semantics.specs.Effects.{writable, moved_place}
-use Rattle.fallible.specs.Fallible.{◌>>=◌}
+use Rattle.semantics.specs.Calls.{helper_of, signature_of, record_bytes}
+use Rattle.semantics.specs.declared.helper.Room.{Room}
+use Rattle.semantics.specs.Effects.{writable, moved_place, is_group_place}
+use Rattle.semantics.specs.Access.{index_within, stack_first, group_of, second_group, third_group, last_group}
+use Rattle.fallible.specs.Fallible.{◌>>=◌, check}
+use Rattle.insn.specs.declared.size.Size.TheVariants as size
+use Rattle.absstate.specs.AbstractSteps.{abstract_load_value}
 use Rattle.semantics.specs.Loading.{field_at}
 use Rattle.semantics.specs.LooseRuns.{data_bound, converse}
 use Rattle.semantics.specs.NumberLaws.{imm_below}
@@ -31,13 +35,13 @@ use Rattle.semantics.specs.declared.helper.Helper.{Helper}
 use Rattle.semantics.specs.declared.loading.ContextField.{ContextField}
 use Rattle.semantics.specs.declared.loading.ContextField.TheVariants as field
 use Rattle.semantics.specs.declared.reason.Reason.{Reason}
-use Rattle.semantics.specs.declared.reason.Reason.TheVariants.{PointerArithmetic, UnknownHelper, ContextAccess}
+use Rattle.semantics.specs.declared.reason.Reason.TheVariants.{PointerArithmetic, PointerStored, StackBounds, UnknownHelper, ContextAccess}
 use Rattle.semantics.specs.declared.fetching.Branch.{Branch}
 use Rattle.semantics.specs.declared.fetching.Branch.TheVariants.{NotTaken, Taken}
 use Rattle.interval.specs.Domains.{Operations, AreSound, ArePrecise}
 use Rattle.interval.specs.declared.domain.Bounds.{Bounds}
 use Rattle.interval.specs.declared.domain.Test.TheVariants.{Holds, Fails}
-use Rattle.absstate.specs.AbstractStates.{abstract_at, low_of, high_of, with_value, with_least, with_answer, with_out}
+use Rattle.absstate.specs.AbstractStates.{abstract_at, group_at, group_index, without_groups, abstract_with_pointer, low_of, high_of, with_value, with_least, with_answer, with_out}
 use Rattle.absstate.specs.AbstractSteps as abstract
 use Rattle.absstate.specs.MemberSteps.{state_after}
 use Rattle.absstate.specs.StepReasons.{IsRegisterSum}
@@ -250,29 +254,76 @@ module _ {D : Type 0} (ops : Operations D) (Member : D → ℕ → Type 0) (soun
     field_plain field.IdHead = λ h. h
     field_plain field.IdTail = λ h. h
     field_plain field.Side = λ h. h
+    field_plain field.WideHead = λ h. h
+    field_plain field.WideMiddle = λ h. h
+    field_plain field.WideTail = λ h. h
 
     number_plain : (x : AbstractValue D) (d : ℤ) (n : ℕ) (number : D) → IfOk (abstract.abstract_load_number a x d n number) Plain
     number_plain x d n number = every Plain (abstract.readable a x d n) _ (λ u h. h)
 
+    known_if : (k : AbstractValue D) → Plain k → (b : Bool) (allowed : Result (Unit {0}) Reason) (number : D) → IfOk (abstract.known_or (if b then Some k else None) allowed number) Plain
+    known_if k h true allowed number = h
+    known_if k h false allowed number = every Plain allowed _ (λ u g. g)
+
+    known_plain : (o : Option ℕ) (allowed : Result (Unit {0}) Reason) (number : D) → IfOk (abstract.known_or (abstract.known_in a o) allowed number) Plain
+    known_plain None allowed number = every Plain allowed _ (λ u h. h)
+    known_plain (Some g) allowed number = known_if (group_at a.registers g) (plain (group_index g)) (abstract.is_known_pointer (group_at a.registers g)) allowed number
+
+    value_plain : (x : AbstractValue D) (d : ℤ) (z : Size) → IfOk (abstract.abstract_load_value ops a x d z) Plain
+    unfolding abstract_load_value
+    value_plain x d z = every Plain (abstract.access_region a x d (byte_count z)) _ (λ r. known_plain (abstract.known_group r z) (abstract.region_readable a (byte_count z) r) (abstract.number_of_size ops z))
+
     load_plain : (x : AbstractValue D) (d : ℤ) (z : Size) → IfOk (abstract.abstract_load ops a x d z) Plain
     load_plain known.Ctx d z = every Plain (ok_or (field_at d z) ContextAccess) _ (λ f. field_plain f)
-    load_plain known.Nothing d z = number_plain known.Nothing d (byte_count z) (abstract.number_of_size ops z)
-    load_plain (known.Scalar n) d z = number_plain (known.Scalar n) d (byte_count z) (abstract.number_of_size ops z)
-    load_plain (known.Stack k) d z = number_plain (known.Stack k) d (byte_count z) (abstract.number_of_size ops z)
-    load_plain (known.Data anchor k) d z = number_plain (known.Data anchor k) d (byte_count z) (abstract.number_of_size ops z)
-    load_plain known.End d z = number_plain known.End d (byte_count z) (abstract.number_of_size ops z)
+    load_plain known.Nothing d z = value_plain known.Nothing d z
+    load_plain (known.Scalar n) d z = value_plain (known.Scalar n) d z
+    load_plain (known.Stack k) d z = value_plain (known.Stack k) d z
+    load_plain (known.Data anchor k) d z = value_plain (known.Data anchor k) d z
+    load_plain known.End d z = value_plain known.End d z
 
     loaded_stays : (loaded : AbstractValue D → Result (AbstractValue D) Reason) (dst base : Reg) → ((x : AbstractValue D) → IfOk (loaded x) Plain) → IfOk (abstract.loaded_step a loaded dst base) Stays
     loaded_stays loaded dst base h = every Stays (abstract.abstract_register_value a base) _ (λ x. written_stays dst (loaded x) (h x))
 
+    marks_plain : (state : AbsState D) → NameNoMadeAnchor state.registers → (n i : ℕ) → NameNoMadeAnchor (without_groups state.registers n i)
+    marks_plain state h n i =
+        let one = slice_set state.registers (group_index (group_of i)) known.Nothing in
+        let two = slice_set one (group_index (second_group n i)) known.Nothing in
+        let three = slice_set two (group_index (third_group n i)) known.Nothing in
+        let first : NameNoMadeAnchor one = plain_set state.registers h (group_index (group_of i)) known.Nothing (λ g. g) in
+        let second : NameNoMadeAnchor two = plain_set one first (group_index (second_group n i)) known.Nothing (λ g. g) in
+        let third : NameNoMadeAnchor three = plain_set two second (group_index (third_group n i)) known.Nothing (λ g. g) in
+        plain_set three third (group_index (last_group n i)) known.Nothing (λ g. g)
+
     region_plain : (n : ℕ) (region : Region) → NameNoMadeAnchor (abstract.with_region a n region).registers
-    region_plain n (regions.InStack i) = plain
+    region_plain n (regions.InStack i) = marks_plain a plain n i
     region_plain n regions.InBytes = plain
+
+    number_stays : (to : AbstractValue D) (d : ℤ) (z : Size) → IfOk (abstract.abstract_store_number a to d z) Stays
+    number_stays to d z = every Stays (abstract.access_region a to d (byte_count z)) _ (λ r. on_stays (abstract.with_region a (byte_count z) r) (region_plain (byte_count z) r))
+
+    pointer_stays : (to : AbstractValue D) (d : ℤ) (z : Size) (v : AbstractValue D) → Plain v → IfOk (abstract.abstract_store_pointer a to d z v) Stays
+    pointer_stays (known.Stack k) d size.Double v h =
+        every Stays (check (is_group_place (k +ℤ d)) PointerStored) _ (λ u. every Stays (ok_or (index_within (k +ℤ d) 8 stack_first stack_first (pos 0)) StackBounds) _ (λ i. on_stays (abstract_with_pointer a (group_of i) v) (plain_set a.registers plain (group_index (group_of i)) v h)))
+    pointer_stays (known.Stack k) d size.Word v h = tt
+    pointer_stays (known.Stack k) d size.Half v h = tt
+    pointer_stays (known.Stack k) d size.Byte v h = tt
+    pointer_stays known.Nothing d z v h = tt
+    pointer_stays (known.Scalar n) d z v h = tt
+    pointer_stays known.Ctx d z v h = tt
+    pointer_stays (known.Data anchor k) d z v h = tt
+    pointer_stays known.End d z v h = tt
+
+    known_stays : (to : AbstractValue D) (d : ℤ) (z : Size) (v : AbstractValue D) → Plain v → IfOk (abstract.store_known a to d z v) Stays
+    known_stays to d z (known.Scalar n) h = number_stays to d z
+    known_stays to d z known.Nothing h = pointer_stays to d z known.Nothing h
+    known_stays to d z known.Ctx h = pointer_stays to d z known.Ctx h
+    known_stays to d z (known.Stack k) h = pointer_stays to d z (known.Stack k) h
+    known_stays to d z (known.Data anchor k) h = pointer_stays to d z (known.Data anchor k) h
+    known_stays to d z known.End h = pointer_stays to d z known.End h
 
     store_stays : (z : Size) (base : Reg) (operand : Operand) (d : ℤ) → IfOk (abstract.store_step ops a z base operand d) Stays
     store_stays z base operand d =
-        every Stays (abstract.abstract_register_value a base) _ (λ to. every Stays (abstract.operand_abstract ops W64 a operand) _ (λ v. every Stays (abstract.abstract_pointer to) _ (λ u. every Stays (abstract.storable v) _
-        (λ t. every Stays (abstract.access_region a to d (byte_count z)) _ (λ r. on_stays (abstract.with_region a (byte_count z) r) (region_plain (byte_count z) r))))))
+        every Stays (abstract.abstract_register_value a base) _ (λ to. with_each Plain Stays (abstract.operand_abstract ops W64 a operand) _ (operand_plain W64 operand) (λ v h. every Stays (abstract.abstract_pointer to) _ (λ u. known_stays to d z v h)))
 
     -- ---- calls
 
@@ -285,9 +336,9 @@ module _ {D : Type 0} (ops : Operations D) (Member : D → ℕ → Type 0) (soun
         let p4 = plain_set _ p3 4 known.Nothing (λ h. h) in
         plain_set _ p4 5 known.Nothing (λ h. h)
 
-    out_plain : (x : D) (out : Option ℕ) → NameNoMadeAnchor (with_out (with_answer a x) out).registers
+    out_plain : (x : D) (out : Option Room) → NameNoMadeAnchor (with_out (with_answer a x) out).registers
     out_plain x None = answer_plain x
-    out_plain x (Some i) = answer_plain x
+    out_plain x (Some room) = marks_plain (with_answer a x) (answer_plain x) (record_bytes room.form) room.index
 
     helper_stays : (helper : Helper) → IfOk (abstract.helper_step ops a helper) Stays
     helper_stays helper = every Stays (abstract.out_of a (signature_of helper).arguments) _ (λ out. on_stays (abstract.state_after_call ops a helper out) (out_plain (ops.range 0 (signature_of helper).greatest) out))

@@ -1,6 +1,6 @@
 -- Internal. The abstract step of an instruction agrees with the machine's step at each member, over any sound domain.
 use Rattle.std.proofs.Common.{◌≡◌, ℕ, ℤ, pos, Bool, ◌+ℤ◌, ◌≤ℤ◌, Option, Some, None, Result, Ok, Err, refl, sym, ap, ◌∙◌, subst, arith}
-use Rattle.std.specs.Prelude.{◌+◌, ◌≤◌, IfSome, if◌then◌else◌}
+use Rattle.std.specs.Prelude.{◌+◌, ◌<◌, ◌≤◌, IfSome, if◌then◌else◌}
 use Rattle.std.specs.Option.{ok_or}
 use Rattle.insn.specs.Codes.{byte_count}
 use Rattle.insn.specs.Register.{number_of}
@@ -19,9 +19,12 @@ use Rattle.insn.specs.declared.instruction.Operand.{Operand}
 use Rattle.insn.specs.declared.instruction.Operand.TheVariants as operand
 use Rattle.insn.specs.declared.instruction.Insn.{Insn}
 use Rattle.insn.specs.declared.instruction.Insn.TheVariants as insn
-use Rattle.fallible.specs.Fallible.{◌>>=◌}
-use Rattle.semantics.specs.Access.{location}
-use Rattle.semantics.specs.Calls.{helper_of, helper_number, signature_of, question}
+use Rattle.fallible.specs.Fallible.{◌>>=◌, check}
+use Rattle.semantics.specs.Access.{location, index_within, stack_first, group_of}
+use Rattle.semantics.specs.AccessLaws.{index_short}
+use Rattle.semantics.specs.declared.limits.TheConstants.{GROUPS}
+use Rattle.insn.specs.declared.size.Size.TheVariants as size
+use Rattle.semantics.specs.Calls.{helper_of, helper_number, signature_of, question, record_bytes}
 use Rattle.semantics.specs.Machine.{AddressRecord, AreBytes, Context, IsContext, State}
 use Rattle.semantics.specs.declared.helper.Helper.{Helper}
 use Rattle.semantics.specs.declared.helper.Helper.TheVariants as helper
@@ -29,12 +32,15 @@ use Rattle.semantics.specs.declared.helper.Inputs.{Inputs}
 use Rattle.semantics.specs.declared.helper.Question.{Question}
 use Rattle.semantics.specs.Effects as effects
 use Rattle.semantics.specs.Loading as loading
-use Rattle.semantics.specs.Effects.{value_at, writable}
+use Rattle.semantics.specs.Effects.{value_at, writable, is_group_place}
 use Rattle.semantics.specs.Runs.{IsLawful}
+use Rattle.semantics.specs.declared.helper.RecordForm.{RecordForm}
+use Rattle.semantics.specs.declared.helper.RecordForm.TheVariants.{Narrow}
+use Rattle.semantics.specs.declared.helper.Room.{Room}
 use Rattle.semantics.specs.Flow.{Straight, Jumps, flow_of}
 use Rattle.semantics.specs.LooseRuns.{Bound, AtMost, Below, HoldsOf, data_bound, converse, bound_of}
 use Rattle.semantics.specs.declared.reason.Reason.{Reason}
-use Rattle.semantics.specs.declared.reason.Reason.TheVariants.{DatagramBounds, PointerArithmetic, UnknownHelper}
+use Rattle.semantics.specs.declared.reason.Reason.TheVariants.{DatagramBounds, PointerArithmetic, PointerStored, StackBounds, UnknownHelper}
 use Rattle.semantics.specs.declared.value.Value.{Value}
 use Rattle.semantics.specs.declared.value.Value.TheVariants as value
 use Rattle.semantics.specs.declared.effect.Effect.{Effect}
@@ -43,7 +49,7 @@ use Rattle.interval.specs.Domains.{Operations, AreSound}
 use Rattle.semantics.specs.declared.fetching.Branch.{Branch}
 use Rattle.std.proofs.lemmas.Int.{ints}
 use Rattle.absstate.specs.declared.branching.Implied.{Implied}
-use Rattle.absstate.specs.AbstractStates.{abstract_at, greatest_id, with_value, with_least}
+use Rattle.absstate.specs.AbstractStates.{abstract_at, greatest_id, with_value, abstract_with_pointer, with_least}
 use Rattle.absstate.specs.AbstractSteps as abstract
 use Rattle.absstate.specs.AbstractSteps.{access_region}
 use Rattle.absstate.specs.Membership.{Mode, Places, IsNumberOf, IsHeld, IsMemberAt, IsAnchorPlace, IsAnchored, place_of, concrete_value}
@@ -72,13 +78,13 @@ GoesPast i = flow_of i ≡ Straight
 module _ {D : Type 0} (ops : Operations D) (Member : D → ℕ → Type 0) (sound : AreSound ops Member) where
   -- ---- what follows
 
-  -- a question to lawful helpers: the answer lies within its bound, and the record that is written has eight bytes
-  pub record IsAsked (a : AbsState D) (i : Insn) (state : AbsState D) (q : Question) (out : Option ℕ) : Type 0 where
+  -- a question to lawful helpers: the answer lies within its bound, and the record that is given is a wide one
+  pub record IsAsked (a : AbsState D) (i : Insn) (state : AbsState D) (q : Question) (out : Option Room) : Type 0 where
     pub asked : Helper
     pub after : state ≡ abstract.state_after_call ops a asked out
     pub past : GoesPast i
-    pub room : IfSome out (λ j. j + 8 ≤ 512)
-    pub lawful : (answer : ℕ → ℕ → AddressRecord → ℕ × AddressRecord) → IsLawful answer → ((answer q.helper q.number q.address).0 ≤ (signature_of asked).greatest) × IfSome out (λ j. AreBytes 8 (answer q.helper q.number q.address).1)
+    pub room : IfSome out (λ room. room.index + record_bytes room.form ≤ 512)
+    pub lawful : (answer : ℕ → ℕ → AddressRecord → ℕ × AddressRecord) → IsLawful answer → ((answer q.helper q.number q.address).0 ≤ (signature_of asked).greatest) × IfSome out (λ room. AreBytes 20 (answer q.helper q.number q.address).1)
 
   -- a result, with the anchors at places at which those that registers name stay
   pub record IsResultAnew (places : Places) (size : ℕ) (a : AbsState D) (x : AbstractValue D) (v : Value) : Type 0 where
@@ -90,9 +96,10 @@ module _ {D : Type 0} (ops : Operations D) (Member : D → ℕ → Type 0) (soun
   abbrev pub IsEffectOf : Mode → Places → AbsState D → State → Insn → Next D → Effect → Type 0
   IsEffectOf mode places a s i (next.On b) (effect.Write r v) = (known : AbstractValue D) × (b ≡ with_value a r known) × IsResultAnew places s.memory.length a known v × GoesPast i
   IsEffectOf mode places a s i (next.On b) (effect.Store at z n) = (region : Region) × (b ≡ abstract.with_region a (byte_count z) region) × IsRegionOf (byte_count z) region at × GoesPast i
+  IsEffectOf mode places a s i (next.On b) (effect.StorePointer g v) = (known : AbstractValue D) × (b ≡ abstract_with_pointer a g known) × IsHeld Member places s.memory.length known v × (g < GROUPS) × GoesPast i
   IsEffectOf mode places a s i (next.On b) (effect.Ask q out) = IsAsked a i b q out
   IsEffectOf mode places a s i (next.On b) (effect.SetWindow window) = (b ≡ abstract.state_after_call ops a helper.Window None) × GoesPast i
-  IsEffectOf mode places a s i (next.On b) (effect.SetDestination destination) = (b ≡ abstract.state_after_call ops a helper.Destination None) × GoesPast i
+  IsEffectOf mode places a s i (next.On b) (effect.SetDestination destination) = (b ≡ abstract.state_after_call ops a (helper.Destination Narrow) None) × GoesPast i
   IsEffectOf mode places a s i (next.On b) (effect.Jump offset) = (b ≡ a) × (flow_of i ≡ Jumps offset)
   IsEffectOf mode places a s i (next.On b) effect.Pass = ⊥
   IsEffectOf mode places a s i (next.On b) (effect.Exit verdict) = ⊥
@@ -100,6 +107,7 @@ module _ {D : Type 0} (ops : Operations D) (Member : D → ℕ → Type 0) (soun
   IsEffectOf mode places a s i next.Exit (effect.Exit verdict) = Unit {0}
   IsEffectOf mode places a s i next.Exit (effect.Write r v) = ⊥
   IsEffectOf mode places a s i next.Exit (effect.Store at z n) = ⊥
+  IsEffectOf mode places a s i next.Exit (effect.StorePointer g v) = ⊥
   IsEffectOf mode places a s i next.Exit (effect.Ask q out) = ⊥
   IsEffectOf mode places a s i next.Exit (effect.SetWindow window) = ⊥
   IsEffectOf mode places a s i next.Exit (effect.SetDestination destination) = ⊥
@@ -259,78 +267,97 @@ module _ {D : Type 0} (ops : Operations D) (Member : D → ℕ → Type 0) (soun
           pointers_agree (known.Data anchor k) m h = tt
           pointers_agree known.End m h = tt
 
-          storables_agree : (y : AbstractValue D) (j : ℕ) → IsNumberOf Member places s.memory.length y j → Agree claimed (λ u k. Unit {0}) (abstract.storable y) (effects.stored_number (concrete_value places y j))
-          storables_agree (known.Scalar number) j h = tt
-          storables_agree known.Nothing j h = λ c. refl
-          storables_agree known.Ctx j h = λ c. refl
-          storables_agree (known.Stack k) j h = λ c. refl
-          storables_agree (known.Data anchor k) j h = λ c. refl
-          storables_agree known.End j h = λ c. refl
+          -- a number is stored
+          numbers_agree : (z : Size) (base : Reg) (o : Operand) (d : ℤ) → Claims (insn.Store z base o d) → (x : AbstractValue D) → (claimed DatagramBounds → IsMade x → ⊥) → (m n : ℕ) → IsNumberOf Member places s.memory.length x m
+              → Agree claimed (IsEffectOf mode places a s (insn.Store z base o d)) (abstract.abstract_store_number a x d z) (effects.store_number s.memory.length (concrete_value places x m) d z n)
+          numbers_agree z base o d claims x plain m n h =
+              and_then claimed (IsRegionOf (byte_count z)) (IsEffectOf mode places a s (insn.Store z base o d)) (abstract.access_region a x d (byte_count z)) (location s.memory.length (concrete_value places x m) d (byte_count z)) _ _
+              (locations_agree ops Member sound claimed mode places a s member (insn.Store z base o d) claims x plain m d (byte_count z) h)
+              (λ r at e f is. (r, refl, is, refl))
+
+          -- a pointer is stored
+          at_group : (i : Insn) → GoesPast i → (option : Option ℕ) (y : AbstractValue D) (v : Value) → IsHeld Member places s.memory.length y v → ((j : ℕ) → option ≡ Some j → j + 8 ≤ 512)
+              → Agree claimed (IsEffectOf mode places a s i) (ok_or option StackBounds >>= λ j. Ok (next.On (abstract_with_pointer a (group_of j) y))) (ok_or option StackBounds >>= λ j. Ok (effect.StorePointer (group_of j) v))
+          at_group i past None y v held short = λ c. refl
+          at_group i past (Some j) y v held short = (y, refl, held, omega (arith, short j refl), past)
+
+          pointers_stored : (z : Size) (base : Reg) (o : Operand) (d : ℤ) (x : AbstractValue D) (m : ℕ) → IsNumberOf Member places s.memory.length x m → (y : AbstractValue D) (v : Value) → IsHeld Member places s.memory.length y v
+              → Agree claimed (IsEffectOf mode places a s (insn.Store z base o d)) (abstract.abstract_store_pointer a x d z y) (effects.store_pointer (concrete_value places x m) d z v)
+          pointers_stored size.Double base o d (known.Stack k) m h y v held =
+              same_test claimed (IsEffectOf mode places a s (insn.Store size.Double base o d)) (check (is_group_place (k +ℤ d)) PointerStored) _ _
+              (at_group (insn.Store size.Double base o d) refl (index_within (k +ℤ d) 8 stack_first stack_first (pos 0)) y v held (λ j e. index_short (k +ℤ d) 8 j e))
+          pointers_stored size.Word base o d (known.Stack k) m h y v held = λ c. refl
+          pointers_stored size.Half base o d (known.Stack k) m h y v held = λ c. refl
+          pointers_stored size.Byte base o d (known.Stack k) m h y v held = λ c. refl
+          pointers_stored z base o d known.Nothing m h y v held = λ c. refl
+          pointers_stored z base o d (known.Scalar n) m h y v held = λ c. refl
+          pointers_stored z base o d known.Ctx m h y v held = λ c. refl
+          pointers_stored z base o d (known.Data anchor k) m h y v held = λ c. refl
+          pointers_stored z base o d known.End m h y v held = λ c. refl
+
+          values_agree : (z : Size) (base : Reg) (o : Operand) (d : ℤ) → Claims (insn.Store z base o d) → (x : AbstractValue D) → (claimed DatagramBounds → IsMade x → ⊥) → (m : ℕ) → IsNumberOf Member places s.memory.length x m → (y : AbstractValue D) (j : ℕ) → IsNumberOf Member places s.memory.length y j
+              → Agree claimed (IsEffectOf mode places a s (insn.Store z base o d)) (abstract.store_known a x d z y) (effects.store_value s.memory.length (concrete_value places x m) d z (concrete_value places y j))
+          values_agree z base o d claims x plain m h (known.Scalar number) j g = numbers_agree z base o d claims x plain m j h
+          values_agree z base o d claims x plain m h known.Nothing j g = absurd g
+          values_agree z base o d claims x plain m h known.Ctx j g = pointers_stored z base o d x m h known.Ctx value.Ctx (j, g, refl)
+          values_agree z base o d claims x plain m h (known.Stack k) j g = pointers_stored z base o d x m h (known.Stack k) (value.Stack k) (j, g, refl)
+          values_agree z base o d claims x plain m h (known.Data anchor k) j g = pointers_stored z base o d x m h (known.Data anchor k) (value.Data (place_of places anchor +ℤ k)) (j, g, refl)
+          values_agree z base o d claims x plain m h known.End j g = pointers_stored z base o d x m h known.End value.End (j, g, refl)
 
           store_numbers : (z : Size) (base : Reg) (o : Operand) (d : ℤ) → Claims (insn.Store z base o d) → (x : AbstractValue D) → (claimed DatagramBounds → IsMade x → ⊥) → (y : AbstractValue D) (m j : ℕ) → IsNumberOf Member places s.memory.length x m → IsNumberOf Member places s.memory.length y j
-              → Agree claimed (IsEffectOf mode places a s (insn.Store z base o d))
-              (abstract.abstract_pointer x >>= λ u. abstract.storable y >>= λ v. abstract.access_region a x d (byte_count z) >>= λ r. Ok (next.On (abstract.with_region a (byte_count z) r)))
-              (effects.pointer (concrete_value places x m) >>= λ u. effects.stored_number (concrete_value places y j) >>= λ k. location s.memory.length (concrete_value places x m) d (byte_count z) >>= λ at. Ok (effect.Store at z k))
+              → Agree claimed (IsEffectOf mode places a s (insn.Store z base o d)) (abstract.abstract_pointer x >>= λ u. abstract.store_known a x d z y) (effects.pointer (concrete_value places x m) >>= λ u. effects.store_value s.memory.length (concrete_value places x m) d z (concrete_value places y j))
           store_numbers z base o d claims x plain y m j h g =
               and_then claimed (λ u v. Unit {0}) (IsEffectOf mode places a s (insn.Store z base o d)) (abstract.abstract_pointer x) (effects.pointer (concrete_value places x m)) _ _ (pointers_agree x m h)
-              (λ u u' p q t. and_then claimed (λ v k. Unit {0}) (IsEffectOf mode places a s (insn.Store z base o d)) (abstract.storable y) (effects.stored_number (concrete_value places y j)) _ _ (storables_agree y j g)
-              (λ v k p' q' t'. and_then claimed (IsRegionOf (byte_count z)) (IsEffectOf mode places a s (insn.Store z base o d)) (abstract.access_region a x d (byte_count z)) (location s.memory.length (concrete_value places x m) d (byte_count z)) _ _
-              (locations_agree ops Member sound claimed mode places a s member (insn.Store z base o d) claims x plain m d (byte_count z) h)
-              (λ r at e f is. (r, refl, is, refl))))
+              (λ u u' p q t. values_agree z base o d claims x plain m h y j g)
 
           store_held : (z : Size) (base : Reg) (o : Operand) (d : ℤ) → Claims (insn.Store z base o d) → (x : AbstractValue D) → (claimed DatagramBounds → IsMade x → ⊥) → (y : AbstractValue D) (u v : Value) → IsHeld Member places s.memory.length x u → IsHeld Member places s.memory.length y v
-              → Agree claimed (IsEffectOf mode places a s (insn.Store z base o d))
-              (abstract.abstract_pointer x >>= λ t. abstract.storable y >>= λ t'. abstract.access_region a x d (byte_count z) >>= λ r. Ok (next.On (abstract.with_region a (byte_count z) r)))
-              (effects.pointer u >>= λ t. effects.stored_number v >>= λ k. location s.memory.length u d (byte_count z) >>= λ at. Ok (effect.Store at z k))
+              → Agree claimed (IsEffectOf mode places a s (insn.Store z base o d)) (abstract.abstract_pointer x >>= λ t. abstract.store_known a x d z y) (effects.pointer u >>= λ t. effects.store_value s.memory.length u d z v)
           store_held z base o d claims x plain y u v hx hy =
-              subst (λ (u' : Value). Agree claimed (IsEffectOf mode places a s (insn.Store z base o d))
-              (abstract.abstract_pointer x >>= λ t. abstract.storable y >>= λ t'. abstract.access_region a x d (byte_count z) >>= λ r. Ok (next.On (abstract.with_region a (byte_count z) r)))
-              (effects.pointer u' >>= λ t. effects.stored_number v >>= λ k. location s.memory.length u' d (byte_count z) >>= λ at. Ok (effect.Store at z k))) (sym hx.2)
-              (subst (λ (v' : Value). Agree claimed (IsEffectOf mode places a s (insn.Store z base o d))
-              (abstract.abstract_pointer x >>= λ t. abstract.storable y >>= λ t'. abstract.access_region a x d (byte_count z) >>= λ r. Ok (next.On (abstract.with_region a (byte_count z) r)))
-              (effects.pointer (concrete_value places x hx.0) >>= λ t. effects.stored_number v' >>= λ k. location s.memory.length (concrete_value places x hx.0) d (byte_count z) >>= λ at. Ok (effect.Store at z k))) (sym hy.2)
+              subst (λ (u' : Value). Agree claimed (IsEffectOf mode places a s (insn.Store z base o d)) (abstract.abstract_pointer x >>= λ t. abstract.store_known a x d z y) (effects.pointer u' >>= λ t. effects.store_value s.memory.length u' d z v)) (sym hx.2)
+              (subst (λ (v' : Value). Agree claimed (IsEffectOf mode places a s (insn.Store z base o d)) (abstract.abstract_pointer x >>= λ t. abstract.store_known a x d z y) (effects.pointer (concrete_value places x hx.0) >>= λ t. effects.store_value s.memory.length (concrete_value places x hx.0) d z v')) (sym hy.2)
               (store_numbers z base o d claims x plain y hx.0 hy.0 hx.1 hy.1))
 
-    asks : (i : Insn) (asked : Helper) (q : Question) (out : Option ℕ) → GoesPast i → IfSome out (λ j. j + 8 ≤ 512) → ((answer : ℕ → ℕ → AddressRecord → ℕ × AddressRecord) → IsLawful answer → ((answer q.helper q.number q.address).0 ≤ (signature_of asked).greatest) × IfSome out (λ j. AreBytes 8 (answer q.helper q.number q.address).1))
+    asks : (i : Insn) (asked : Helper) (q : Question) (out : Option Room) → GoesPast i → IfSome out (λ room. room.index + record_bytes room.form ≤ 512) → ((answer : ℕ → ℕ → AddressRecord → ℕ × AddressRecord) → IsLawful answer → ((answer q.helper q.number q.address).0 ≤ (signature_of asked).greatest) × IfSome out (λ room. AreBytes 20 (answer q.helper q.number q.address).1))
         → IsAsked a i (abstract.state_after_call ops a asked out) q out
     asks i helper q out past room lawful = record { asked = helper; after = refl; past = past; room = room; lawful = lawful }
 
     -- helpers that write no record
-    two_read : (result other : Result (Unit {0}) Reason) (out : Option ℕ) → ((result >>= λ u. Ok None) >>= λ first. (other >>= λ u. Ok first) >>= λ second. Ok second) ≡ Ok out → out ≡ None
+    two_read : (result other : Result (Unit {0}) Reason) (out : Option Room) → ((result >>= λ u. Ok None) >>= λ first. (other >>= λ u. Ok first) >>= λ second. Ok second) ≡ Ok out → out ≡ None
     two_read (Ok u) (Ok v) out e = cc
     two_read (Ok u) (Err f) out e = absurd cc
     two_read (Err e') result out e = absurd cc
 
-    three_read : (result other further : Result (Unit {0}) Reason) (out : Option ℕ) → ((result >>= λ u. Ok None) >>= λ first. (other >>= λ u. Ok first) >>= λ second. (further >>= λ u. Ok second) >>= λ third. Ok third) ≡ Ok out → out ≡ None
+    three_read : (result other further : Result (Unit {0}) Reason) (out : Option Room) → ((result >>= λ u. Ok None) >>= λ first. (other >>= λ u. Ok first) >>= λ second. (further >>= λ u. Ok second) >>= λ third. Ok third) ≡ Ok out → out ≡ None
     three_read (Ok u) (Ok v) (Ok t) out e = cc
     three_read (Ok u) (Ok v) (Err f) out e = absurd cc
     three_read (Ok u) (Err f) result out e = absurd cc
     three_read (Err e') result further out e = absurd cc
 
-    by_address : (out : Option ℕ) → ((abstract.abstract_context_argument a reg.R1 >>= λ u. Ok None) >>= λ first. (abstract.abstract_record_argument a reg.R2 >>= λ u. Ok first) >>= λ second. Ok second) ≡ Ok out → out ≡ None
-    by_address out e = two_read (abstract.abstract_context_argument a reg.R1) (abstract.abstract_record_argument a reg.R2) out e
+    by_address : (form : RecordForm) (out : Option Room) → ((abstract.abstract_context_argument a reg.R1 >>= λ u. Ok None) >>= λ first. (abstract.abstract_record_argument a form reg.R2 >>= λ u. Ok first) >>= λ second. Ok second) ≡ Ok out → out ≡ None
+    by_address form out e = two_read (abstract.abstract_context_argument a reg.R1) (abstract.abstract_record_argument a form reg.R2) out e
 
     -- the answer to a question without a record to write
-    looks_up : (i : Insn) (helper : Helper) (out : Option ℕ) (given : Inputs) → GoesPast i → out ≡ None → IsGiven out given
+    looks_up : (i : Insn) (helper : Helper) (out : Option Room) (given : Inputs) → GoesPast i → out ≡ None → IsGiven out given
         → ((answer : ℕ → ℕ → AddressRecord → ℕ × AddressRecord) → IsLawful answer → (answer (helper_number helper) given.number given.address).0 ≤ (signature_of helper).greatest)
         → IsAsked a i (abstract.state_after_call ops a helper out) (question helper given.number given.address) given.out
     looks_up i helper None given past e is lawful =
-        subst (λ (option : Option ℕ). IsAsked a i (abstract.state_after_call ops a helper None) (question helper given.number given.address) option) is.2 (asks i helper (question helper given.number given.address) None past tt (λ answer lawful_answer. (lawful answer lawful_answer, tt)))
+        subst (λ (option : Option Room). IsAsked a i (abstract.state_after_call ops a helper None) (question helper given.number given.address) option) is.2 (asks i helper (question helper given.number given.address) None past tt (λ answer lawful_answer. (lawful answer lawful_answer, tt)))
     looks_up i helper (Some j) given past e is lawful = absurd cc
 
-    helped : (c : Context) (n : ℤ) (helper : Helper) (out : Option ℕ) (given : Inputs) → abstract.out_of a (signature_of helper).arguments ≡ Ok out → IsGiven out given
+    helped : (c : Context) (n : ℤ) (helper : Helper) (out : Option Room) (given : Inputs) → abstract.out_of a (signature_of helper).arguments ≡ Ok out → IsGiven out given
         → IsEffectOf mode places a s (insn.Call n) (next.On (abstract.state_after_call ops a helper out)) (effects.effect_with c s.memory helper given)
-    helped c n helper.ChannelPeer out given e is =
-        subst (λ (option : Option ℕ). IsAsked a (insn.Call n) (abstract.state_after_call ops a helper.ChannelPeer out) (question helper.ChannelPeer given.number given.address) option) is.2
-        (asks (insn.Call n) helper.ChannelPeer (question helper.ChannelPeer given.number given.address) out refl is.3 (λ answer lawful. let peer = lawful.channel_peer given.number given.address is.0 is.1 in (peer.0, of_out out (answer 1 given.number given.address).1 peer.1))) where
-          of_out : (out : Option ℕ) (bytes : AddressRecord) → AreBytes 8 bytes → IfSome out (λ j. AreBytes 8 bytes)
+    helped c n (helper.ChannelPeer form) out given e is =
+        subst (λ (option : Option Room). IsAsked a (insn.Call n) (abstract.state_after_call ops a (helper.ChannelPeer form) out) (question (helper.ChannelPeer form) given.number given.address) option) is.2
+        (asks (insn.Call n) (helper.ChannelPeer form) (question (helper.ChannelPeer form) given.number given.address) out refl is.3
+        (λ answer lawful. let peer = lawful.channel_peer form given.number given.address is.0 is.1 in (peer.0, of_out out (answer (helper_number (helper.ChannelPeer form)) given.number given.address).1 peer.1))) where
+          of_out : (out : Option Room) (bytes : AddressRecord) → AreBytes 20 bytes → IfSome out (λ room. AreBytes 20 bytes)
           of_out None bytes are = tt
-          of_out (Some j) bytes are = are
-    helped c n helper.ChannelTo out given e is = looks_up (insn.Call n) helper.ChannelTo out given refl (by_address out e) is (λ answer lawful. lawful.channel_to given.number given.address is.0 is.1)
-    helped c n helper.Permitted out given e is = looks_up (insn.Call n) helper.Permitted out given refl (by_address out e) is (λ answer lawful. lawful.permitted given.number given.address is.0 is.1)
+          of_out (Some room) bytes are = are
+    helped c n (helper.ChannelTo form) out given e is = looks_up (insn.Call n) (helper.ChannelTo form) out given refl (by_address form out e) is (λ answer lawful. lawful.channel_to form given.number given.address is.0 is.1)
+    helped c n (helper.Permitted form) out given e is = looks_up (insn.Call n) (helper.Permitted form) out given refl (by_address form out e) is (λ answer lawful. lawful.permitted form given.number given.address is.0 is.1)
     helped c n helper.Window out given e is =
-        (ap (λ (option : Option ℕ). abstract.state_after_call ops a helper.Window option) (three_read (abstract.abstract_context_argument a reg.R1) (abstract.abstract_number_argument a reg.R2) (abstract.abstract_number_argument a reg.R3) out e), refl)
-    helped c n helper.Destination out given e is = (ap (λ (option : Option ℕ). abstract.state_after_call ops a helper.Destination option) (by_address out e), refl)
+        (ap (λ (option : Option Room). abstract.state_after_call ops a helper.Window option) (three_read (abstract.abstract_context_argument a reg.R1) (abstract.abstract_number_argument a reg.R2) (abstract.abstract_number_argument a reg.R3) out e), refl)
+    helped c n (helper.Destination form) out given e is = (ap (λ (option : Option Room). abstract.state_after_call ops a (helper.Destination form) option) (by_address form out e), refl)
 
     helpers_agree : (c : Context) (n : ℤ) (helper : Helper) → Claims (insn.Call n) → Agree claimed (IsEffectOf mode places a s (insn.Call n)) (abstract.helper_step ops a helper) (effects.helper_effect c s.memory s.registers helper)
     helpers_agree c n helper claims =

@@ -1,5 +1,5 @@
 -- Internal. What every tagged state keeps: after the changes of a step, and in a loosening by proper values.
-use Rattle.std.proofs.Common.{◌≡◌, ℕ, List, sym, ◌∙◌, subst, arith}
+use Rattle.std.proofs.Common.{◌≡◌, ℕ, List, sym, ◌∙◌, subst, arith, ◌<◌}
 use Rattle.std.proofs.lemmas.List.{length-set, get_or-set_same}
 use Rattle.std.proofs.lemmas.List.Elements.{All-set}
 use Rattle.insn.specs.Encoding.{Fits}
@@ -7,11 +7,12 @@ use Rattle.insn.specs.Register.{number_of}
 use Rattle.insn.specs.declared.instruction.Insn.{Insn}
 use Rattle.insn.specs.declared.register.Reg.{Reg}
 use Rattle.semantics.specs.Effects.{value_at}
-use Rattle.semantics.specs.Kept.{IsMemory, IsProper, IsTagged}
+use Rattle.semantics.specs.Kept.{IsMemory, IsKept, IsProper, IsTagged}
 use Rattle.semantics.specs.KeptLaws.{in_eleven, step_keeps}
 use Rattle.semantics.specs.LooseRuns.{SameKind}
 use Rattle.semantics.specs.Machine.{Memory, State, Environment}
-use Rattle.semantics.specs.Runs.{Goes, IsPossible, step, registers_with}
+use Rattle.semantics.specs.Runs.{Goes, IsPossible, memory_with_pointer, step, registers_with}
+use Rattle.semantics.specs.declared.limits.TheConstants.{GROUPS}
 use Rattle.semantics.specs.Slots.{fetch}
 use Rattle.semantics.specs.declared.fetching.Fetched.TheVariants.{Begins}
 use Rattle.semantics.specs.declared.plan.Plan.{Plan}
@@ -41,6 +42,14 @@ written_proper w code s i r v slot real here fit is goes =
     let next : State = record s { slot = slot; registers = registers_with s r v } in
     subst IsProper (get_or-set_same s.registers (number_of r) v value.Nothing (omega (arith, in_eleven r, is.count)))
     (register_proper next r (step_keeps w code s next i real here fit is goes))
+
+-- a step stores a pointer, or what is no number
+pub stored_kept : (w : Environment) (code : List Insn) (s : State) (i : Insn) (g : ℕ) (v : Value) (slot : ℕ) → IsPossible w → fetch code s.slot ≡ Begins i → Fits i → IsTagged s → g < GROUPS
+    → step w code s ≡ Goes (record s { slot = slot; memory = memory_with_pointer s.memory g v }) → IsKept v
+stored_kept w code s i g v slot real here fit is lt goes =
+    let next : State = record s { slot = slot; memory = memory_with_pointer s.memory g v } in
+    let after : IsTagged next = step_keeps w code s next i real here fit is goes in
+    subst IsKept (get_or-set_same s.memory.stack.groups g v value.Nothing (omega (arith, lt, is.memory.groups_count))) (after.memory.groups g value.Nothing (omega (arith, lt, after.memory.groups_count)))
 
 -- a value that differs from a proper one at most in its number, a word, is proper
 pub same_kind_proper : (u v : Value) → SameKind u v → IsProper u → IsProper v

@@ -12,7 +12,8 @@ returns c =
       users_file = (c.get_str-2.ensures ∙ first_value-rows found (codes "users")) i;
       slots = (c.get_str-3.ensures ∙ first_value-rows found (codes "slots")) i;
       relay_ip = (c.get_str-4.ensures ∙ first_value-rows found (codes "relay-ip")) i;
-      first_port = (c.get_str-5.ensures ∙ first_value-rows found (codes "first-port")) i;
-      client = (c.get_str-6.ensures ∙ first_value-rows found (codes "client")) i;
-      peer = (c.get_str-7.ensures ∙ first_value-rows found (codes "peer")) i;
+      relay_ip6 = (c.get_str-5.ensures ∙ first_value-rows found (codes "relay-ip6")) i;
+      first_port = (c.get_str-6.ensures ∙ first_value-rows found (codes "first-port")) i;
+      client = (c.get_str-7.ensures ∙ first_value-rows found (codes "client")) i;
+      peer = (c.get_str-8.ensures ∙ first_value-rows found (codes "peer")) i;
     }

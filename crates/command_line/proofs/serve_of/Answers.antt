@@ -15,8 +15,9 @@ returns-clause-found c =
         port = read_as found (codes "port") _ (Some c.in_ok-get_str.field-0) c.get_str.ensures c.in_ok-get_str.was i;
         rounds = read found (codes "rounds") _ c.get_str-2.ensures i;
         listen = read found (codes "listen") _ c.get_str-3.ensures i;
-        nonce_lifetime = read found (codes "nonce-lifetime") _ c.get_str-4.ensures i;
-        stats = read found (codes "stats") _ c.get_str-5.ensures i;
+        listen6 = read found (codes "listen6") _ c.get_str-4.ensures i;
+        nonce_lifetime = read found (codes "nonce-lifetime") _ c.get_str-5.ensures i;
+        stats = read found (codes "stats") _ c.get_str-6.ensures i;
       },
-      sym c.options_of.ensures,
+      sym c.options_of-options.ensures,
     )

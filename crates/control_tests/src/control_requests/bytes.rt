@@ -1,7 +1,10 @@
 //! Replies, byte for byte. The signed ones were made by Python's `hashlib` and `hmac`.
 
-use super::{CHANNEL, CLIENT, Credentials, FIRST, PEER, Request, USER, answer};
-use crate::control_configurations::config;
+use super::{
+    CHANNEL, CLIENT, Credentials, FIRST, IPV4_FAMILY, IPV6_FAMILY, OTHER_CLIENT, PEER, Request,
+    UDP, USER, answer,
+};
+use crate::control_configurations::{config, dual_stack_config};
 use control::{Config, all_understood, respond};
 use std::alloc::Global;
 use std::process::Abort;
@@ -121,18 +124,60 @@ const STALE: [u8; 60] = [
     0x79, 0x00, 0x00, 0x00, 0x00, 0x15, 0x00, 0x02, 0x6e, 0x31, 0x00, 0x00,
 ];
 
+/// The success of an Allocate request for IPv6: 2001:db8:1:2:3:4:5:6 port 49152 for 600 seconds, to 198.51.100.2 port
+/// 4000.
+const ALLOCATED_IPV6: [u8; 88] = [
+    0x01, 0x03, 0x00, 0x44, 0x21, 0x12, 0xa4, 0x42, 0x01, 0x01, 0x01, 0x01, 0x01, 0x01, 0x01, 0x01,
+    0x01, 0x01, 0x01, 0x01, 0x00, 0x16, 0x00, 0x14, 0x00, 0x02, 0xe1, 0x12, 0x01, 0x13, 0xa9, 0xfa,
+    0x01, 0x00, 0x01, 0x03, 0x01, 0x02, 0x01, 0x05, 0x01, 0x04, 0x01, 0x07, 0x00, 0x0d, 0x00, 0x04,
+    0x00, 0x00, 0x02, 0x58, 0x00, 0x20, 0x00, 0x08, 0x00, 0x01, 0x2e, 0xb2, 0xe7, 0x21, 0xc0, 0x40,
+    0x00, 0x08, 0x00, 0x14, 0xd4, 0x8c, 0xeb, 0xb6, 0x52, 0xa7, 0xa9, 0x36, 0x58, 0x71, 0xe4, 0xa5,
+    0x79, 0xb4, 0xa5, 0x19, 0xa2, 0x69, 0x05, 0xcb,
+];
+
+/// The success of another client's: port 49153, to 198.51.100.2 port 4001.
+const OTHER_ALLOCATED_IPV6: [u8; 88] = [
+    0x01, 0x03, 0x00, 0x44, 0x21, 0x12, 0xa4, 0x42, 0x02, 0x02, 0x02, 0x02, 0x02, 0x02, 0x02, 0x02,
+    0x02, 0x02, 0x02, 0x02, 0x00, 0x16, 0x00, 0x14, 0x00, 0x02, 0xe1, 0x13, 0x01, 0x13, 0xa9, 0xfa,
+    0x02, 0x03, 0x02, 0x00, 0x02, 0x01, 0x02, 0x06, 0x02, 0x07, 0x02, 0x04, 0x00, 0x0d, 0x00, 0x04,
+    0x00, 0x00, 0x02, 0x58, 0x00, 0x20, 0x00, 0x08, 0x00, 0x01, 0x2e, 0xb3, 0xe7, 0x21, 0xc0, 0x40,
+    0x00, 0x08, 0x00, 0x14, 0xd3, 0x72, 0xe8, 0xad, 0xf1, 0xa4, 0xaa, 0x11, 0x0d, 0xb8, 0xe9, 0x23,
+    0xb1, 0xd9, 0x56, 0x49, 0x50, 0xad, 0x25, 0x52,
+];
+
+/// A request of a user with its reply.
+type Row<'a> = (Request<'a>, &'a [u8]);
+
+/// A Refresh request with the lifetime 0.
+const DELETE: Request<'static> = Request {
+    method: Method::Refresh,
+    attributes: &[(LIFETIME, &[0, 0, 0, 0])],
+    ..FIRST
+};
+
+/// Compares the replies to some requests in turn.
+fn check_rows(
+    rt: &impl Abort,
+    alloc: Global,
+    config: &Config,
+    rows: &[Row<'_>],
+) -> Result<(), Fail> {
+    let mut tables = Tables::new(alloc, 2)?;
+    for (row, (request, reply)) in rows.iter().enumerate() {
+        let mut out = [0; 1500];
+        let n = answer(rt, &mut tables, config, request, &mut out)?;
+        assert_eq!(rt; n, reply.len(), "row {row}");
+        assert!(rt; out.starts_with(reply), "row {row}");
+    }
+    Ok(())
+}
+
 /// Compares the replies to requests of a user.
 fn check_signed(rt: &impl Abort, alloc: Global, config: &Config) -> Result<(), Fail> {
-    let mut tables = Tables::new(alloc, 2)?;
     let other = Request { tx: 2, ..FIRST };
     let bind = Request {
         method: Method::ChannelBind,
         attributes: &[CHANNEL, PEER],
-        ..FIRST
-    };
-    let delete = Request {
-        method: Method::Refresh,
-        attributes: &[(LIFETIME, &[0, 0, 0, 0])],
         ..FIRST
     };
     let stale = Request {
@@ -143,27 +188,59 @@ fn check_signed(rt: &impl Abort, alloc: Global, config: &Config) -> Result<(), F
         ..FIRST
     };
     // the first one is repeated in between, and gets the same reply
-    let rows: [(Request<'_>, &[u8]); 7] = [
+    let rows: [Row<'_>; 7] = [
         (FIRST, &ALLOCATED),
         (other, &MISMATCH),
         (bind, &BOUND),
         (FIRST, &ALLOCATED),
-        (delete, &DELETED),
+        (DELETE, &DELETED),
         (stale, &STALE),
         (FIRST, &ALLOCATED),
     ];
-    for (row, (request, reply)) in rows.into_iter().enumerate() {
-        let mut out = [0; 1500];
-        let n = answer(rt, &mut tables, config, &request, &mut out)?;
-        assert_eq!(rt; n, reply.len(), "row {row}");
-        assert!(rt; out.starts_with(reply), "row {row}");
-    }
-    Ok(())
+    check_rows(rt, alloc, config, &rows)
+}
+
+/// Compares the replies of a relay with addresses of both families.
+fn check_families(rt: &impl Abort, alloc: Global, config: &Config) -> Result<(), Fail> {
+    let ipv4 = Request {
+        attributes: &[UDP, IPV4_FAMILY],
+        ..FIRST
+    };
+    let ipv6 = Request {
+        attributes: &[UDP, IPV6_FAMILY],
+        ..FIRST
+    };
+    let other = Request {
+        client: OTHER_CLIENT,
+        tx: 2,
+        ..ipv6
+    };
+    // one that is repeated for another family, or for none, gets the same reply
+    let rows: [Row<'_>; 13] = [
+        (ipv6, &ALLOCATED_IPV6),
+        (other, &OTHER_ALLOCATED_IPV6),
+        (ipv6, &ALLOCATED_IPV6),
+        (ipv4, &ALLOCATED_IPV6),
+        (FIRST, &ALLOCATED_IPV6),
+        (DELETE, &DELETED),
+        (FIRST, &ALLOCATED),
+        (ipv6, &ALLOCATED),
+        (DELETE, &DELETED),
+        (ipv4, &ALLOCATED),
+        (ipv6, &ALLOCATED),
+        (FIRST, &ALLOCATED),
+        (other, &OTHER_ALLOCATED_IPV6),
+    ];
+    check_rows(rt, alloc, config, &rows)
 }
 
 #[test]
 fn replies_are_these_bytes(rt: HostRuntime) -> Result<(), Fail> {
-    let config = config(&rt, rt.alloc())?;
-    check_bare(&rt, rt.alloc(), &config)?;
-    check_signed(&rt, rt.alloc(), &config)
+    let single = config(&rt, rt.alloc())?;
+    check_bare(&rt, rt.alloc(), &single)?;
+    check_signed(&rt, rt.alloc(), &single)?;
+    let dual = dual_stack_config(&rt, rt.alloc())?;
+    check_bare(&rt, rt.alloc(), &dual)?;
+    check_signed(&rt, rt.alloc(), &dual)?;
+    check_families(&rt, rt.alloc(), &dual)
 }

@@ -2,7 +2,7 @@
 
 use super::{
     CHANNEL, Exchange, FIRST, GRANTED, IPV6_PEER, OTHER_CLIENT, OTHER_PEER, OTHER_USER, PEER,
-    Request, UDP, check,
+    Request, UDP, check, families,
 };
 use crate::control_configurations::config;
 use std::test::Fail;
@@ -395,5 +395,5 @@ fn each_test_of_each_method_has_its_error(rt: HostRuntime) -> Result<(), Fail> {
         let mut tables = Tables::new(rt.alloc(), 2)?;
         check(&rt, &mut tables, &config, exchanges)?;
     }
-    Ok(())
+    families::check(&rt, rt.alloc())
 }

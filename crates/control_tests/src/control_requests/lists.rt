@@ -1,8 +1,11 @@
 //! Requests with many attributes: types that are not understood, and addresses.
 
-use super::{Attribute, Exchange, FIRST, GRANTED, NO_CREDENTIALS, Request, answer, check};
-use crate::control_configurations::config;
-use attributes::Addr;
+use super::{
+    Attribute, Exchange, FIRST, GRANTED, IPV6_FAMILY, IPV6_PEER, NO_CREDENTIALS, PEER, Request,
+    UDP, answer, check,
+};
+use crate::control_configurations::{config, dual_stack_config};
+use attributes::{Addr, Family};
 use control::Config;
 use std::alloc::Global;
 use std::process::Abort;
@@ -57,8 +60,36 @@ const PERMIT: Request<'static> = Request {
 };
 
 /// Requests for the permissions of 65 addresses.
-static PERMISSIONS: [Exchange; 6] = [
+static PERMISSIONS: [Exchange; 10] = [
     GRANTED,
+    // the 66th one is of IPv6
+    Exchange {
+        request: Request {
+            peers: (0, 65),
+            last_peer: Some(Family::Ipv6),
+            ..PERMIT
+        },
+        code: 443,
+        lifetime: 0,
+    },
+    Exchange {
+        request: Request {
+            peers: (100, 110),
+            last_peer: Some(Family::Ipv6),
+            ..PERMIT
+        },
+        code: 443,
+        lifetime: 0,
+    },
+    Exchange {
+        request: Request {
+            attributes: &[IPV6_PEER],
+            peers: (100, 110),
+            ..PERMIT
+        },
+        code: 443,
+        lifetime: 0,
+    },
     Exchange {
         request: Request {
             peers: (0, 65),
@@ -71,6 +102,14 @@ static PERMISSIONS: [Exchange; 6] = [
     Exchange {
         request: Request {
             peers: (64, 65),
+            ..PERMIT
+        },
+        code: 0,
+        lifetime: 0,
+    },
+    Exchange {
+        request: Request {
+            peers: (1, 64),
             ..PERMIT
         },
         code: 0,
@@ -101,6 +140,95 @@ static PERMISSIONS: [Exchange; 6] = [
             ..PERMIT
         },
         code: 508,
+        lifetime: 0,
+    },
+];
+
+const IPV6_PERMIT: Request<'static> = Request {
+    peers_family: Family::Ipv6,
+    ..PERMIT
+};
+
+/// Requests for the permissions of 65 addresses of IPv6.
+static IPV6_PERMISSIONS: [Exchange; 9] = [
+    Exchange {
+        request: Request {
+            attributes: &[UDP, IPV6_FAMILY],
+            ..FIRST
+        },
+        code: 0,
+        lifetime: 600,
+    },
+    // the 66th one is of IPv4
+    Exchange {
+        request: Request {
+            peers: (0, 65),
+            last_peer: Some(Family::Ipv4),
+            ..IPV6_PERMIT
+        },
+        code: 443,
+        lifetime: 0,
+    },
+    Exchange {
+        request: Request {
+            peers: (100, 110),
+            last_peer: Some(Family::Ipv4),
+            ..IPV6_PERMIT
+        },
+        code: 443,
+        lifetime: 0,
+    },
+    Exchange {
+        request: Request {
+            attributes: &[PEER],
+            peers: (100, 110),
+            ..IPV6_PERMIT
+        },
+        code: 443,
+        lifetime: 0,
+    },
+    Exchange {
+        request: Request {
+            peers: (0, 65),
+            ..IPV6_PERMIT
+        },
+        code: 508,
+        lifetime: 0,
+    },
+    // none of them was permitted: there is room for 64 others
+    Exchange {
+        request: Request {
+            peers: (1, 65),
+            ..IPV6_PERMIT
+        },
+        code: 0,
+        lifetime: 0,
+    },
+    Exchange {
+        request: Request {
+            peers: (0, 1),
+            ..IPV6_PERMIT
+        },
+        code: 508,
+        lifetime: 0,
+    },
+    Exchange {
+        request: Request {
+            peers: (0, 1),
+            last_peer: Some(Family::Ipv4),
+            ..IPV6_PERMIT
+        },
+        code: 443,
+        lifetime: 0,
+    },
+    // at 1300 they have ended
+    Exchange {
+        request: Request {
+            now: 1300,
+            peers: (0, 1),
+            ..IPV6_PERMIT
+        },
+        code: 0,
         lifetime: 0,
     },
 ];
@@ -138,5 +266,9 @@ fn lists_have_their_limits(rt: HostRuntime) -> Result<(), Fail> {
     check_types(&rt, rt.alloc(), &config)?;
     let mut tables = Tables::new(rt.alloc(), 2)?;
     check(&rt, &mut tables, &config, &PERMISSIONS)?;
+    check_silence(&rt, rt.alloc(), &config)?;
+    let config = dual_stack_config(&rt, rt.alloc())?;
+    let mut tables = Tables::new(rt.alloc(), 2)?;
+    check(&rt, &mut tables, &config, &IPV6_PERMISSIONS)?;
     check_silence(&rt, rt.alloc(), &config)
 }

@@ -9,10 +9,11 @@ mod create_permission;
 mod fault;
 mod refresh;
 
-use super::{Request, ask, check_success};
-use crate::control_configurations::config;
+use super::{Request, UDP, ask, check_success};
+use crate::control_configurations::{config, dual_stack_config};
+use attributes::Family;
 use control::Config;
-use fault::{Case, EARLIER, FIRST_CASE, Fault};
+use fault::{Case, EARLIER, FIRST_CASE, Fault, IPV4, IPV6, Values};
 use std::alloc::Global;
 use std::process::Abort;
 use std::test::Fail;
@@ -117,6 +118,7 @@ fn tables_of(
     if case.has_allocation {
         let allocate = Request {
             now: EARLIER,
+            attributes: &[UDP, case.values.requested],
             tx: case.allocation_tx,
             ..case.owner_request(Method::Allocate)
         };
@@ -149,7 +151,10 @@ fn code_of(
 /// Checks that a request without a fault succeeds, that a request with one fault gets its error, and that a request with
 /// two gets the error of the earlier one.
 fn check_order(rt: &impl Abort, alloc: Global, tests: &Tests) -> Result<(), Fail> {
-    let config = config(rt, alloc)?;
+    let config = match tests.case.values.family {
+        Family::Ipv4 => config(rt, alloc)?,
+        Family::Ipv6 => dual_stack_config(rt, alloc)?,
+    };
     assert_eq!(rt; code_of(rt, alloc, &config, tests.case, &[])?, 0);
     let rows = rows_of(alloc, tests)?;
     for (i, first) in rows.iter().enumerate() {
@@ -170,15 +175,17 @@ fn check_order(rt: &impl Abort, alloc: Global, tests: &Tests) -> Result<(), Fail
 
 #[test]
 fn the_earlier_test_gives_the_error(rt: HostRuntime) -> Result<(), Fail> {
-    let methods = [
-        binding::tests(),
-        allocate::tests(),
-        refresh::tests(),
-        create_permission::tests(),
-        channel_bind::tests(),
-    ];
-    for tests in methods {
-        check_order(&rt, rt.alloc(), &tests)?;
+    for values in [IPV4, IPV6] {
+        let methods = [
+            binding::tests(values),
+            allocate::tests(values),
+            refresh::tests(values),
+            create_permission::tests(values),
+            channel_bind::tests(values),
+        ];
+        for tests in methods {
+            check_order(&rt, rt.alloc(), &tests)?;
+        }
     }
     binding::check_credentials(&rt, rt.alloc())
 }

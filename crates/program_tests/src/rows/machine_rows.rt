@@ -4,6 +4,7 @@ ghost use Rattle.std.specs.Prelude.{◌≡◌, ◌≤◌, true, length};
 
 mod memory;
 
+use super::semantics_rows::memory::KEEPS_A_PLACE;
 use super::semantics_rows::{calls, context, memory as stores};
 use super::verifier_rows::PROGRAMS;
 use super::{
@@ -220,7 +221,7 @@ struct Ran {
     steps: usize,
 }
 
-static RAN: [Ran; 9] = [
+static RAN: [Ran; 14] = [
     Ran {
         text: FOURTH_BYTE,
         hex: "",
@@ -274,6 +275,37 @@ static RAN: [Ran; 9] = [
         hex: "0102",
         verdict: 2,
         steps: 2,
+    },
+    // pointers are stored on the stack, and loaded again
+    Ran {
+        text: "stxdw [r10-8], r1\nldxdw r6, [r10-8]\nldxdw r0, [r6+16]\nexit",
+        hex: "616263",
+        verdict: 3,
+        steps: 4,
+    },
+    Ran {
+        text: KEEPS_A_PLACE,
+        hex: "",
+        verdict: 0,
+        steps: 7,
+    },
+    Ran {
+        text: KEEPS_A_PLACE,
+        hex: "01020304",
+        verdict: 4,
+        steps: 9,
+    },
+    Ran {
+        text: KEEPS_A_PLACE,
+        hex: "0102030405",
+        verdict: 4,
+        steps: 9,
+    },
+    Ran {
+        text: "stxdw [r10-8], r10\nldxdw r2, [r10-8]\nstb [r2-1], 7\nldxb r0, [r10-1]\nexit",
+        hex: "",
+        verdict: 7,
+        steps: 5,
     },
 ];
 
@@ -491,7 +523,7 @@ fn expect_kept<R: Abort + AllocGlobal>(rt: &R) -> Result<(), Fail> {
     }
     assert_eq!(rt; kept.visits().len(), KEPT);
     Silent.step(0, &Insn::Exit);
-    assert_eq!(rt; NoAllocation.answer(1, 2, [3; 8]), (0, [0; 8]));
+    assert_eq!(rt; NoAllocation.answer(1, 2, [3; 20]), (0, [0; 20]));
     Ok(())
 }
 

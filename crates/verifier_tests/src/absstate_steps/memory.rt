@@ -1,7 +1,7 @@
 //! The abstract step of loads and stores of the stack, the datagram and the tailroom.
 
-use super::{ANY, Leads, Refused, State, WORD, after, insn_of};
-use absstate::Next;
+use super::{ANY, DATAGRAM, Known, Leads, NOTHING, Refused, State, VALUES, WORD, after, insn_of};
+use absstate::{AbstractValue, Anchor, Next};
 use std::process::Abort;
 use std::test::Fail;
 
@@ -120,7 +120,7 @@ pub static LEADS: [Leads; 17] = [
     },
 ];
 
-pub static REFUSED: [Refused; 38] = [
+pub static REFUSED: [Refused; 57] = [
     // a store outside
     (FOUR_BYTES, "stb [r2-65], 0", "V10"),
     (FOUR_BYTES, "stdw [r2-65], 0", "V10"),
@@ -158,10 +158,44 @@ pub static REFUSED: [Refused; 38] = [
     ("mov r2, 0", "stxdw [r2+0], r1", "V18"),
     ("mov r2, 0", "stxdw [r2+0], r2", "V18"),
     ("mov r2, 0", "stxdw [r1+0], r10", "V13"),
-    ("mov r2, 0", "stxdw [r10+8], r1", "V13"),
-    ("mov r2, 0", "stxdw [r10-8], r10", "V13"),
+    ("mov r2, 0", "stxdw [r10+8], r1", "V8"),
+    ("mov r2, 0", "stxdw [r10-520], r1", "V8"),
+    ("mov r2, 0", "stxdw [r10+4], r1", "V13"),
+    ("mov r2, 0", "stxdw [r10-516], r1", "V13"),
+    ("mov r2, 0", "stxdw [r10-4], r10", "V13"),
+    ("mov r2, 0", "stxw [r10-8], r10", "V13"),
     ("mov r2, 0", "stxdw [r1+0], r2", "V9"),
     ("mov r2, 0", "stxdw [r10+8], r2", "V8"),
+    // a pointer is stored in the datagram, and after it
+    ("ldxdw r2, [r1+0]", "stxdw [r2-8], r1", "V13"),
+    ("ldxdw r3, [r1+8]", "stxdw [r3+0], r1", "V13"),
+    // a part of a pointer is loaded, also where nothing else of what is loaded is set
+    ("stxdw [r10-8], r1", "ldxb r5, [r10-8]", "V20"),
+    ("stxdw [r10-8], r1", "ldxh r5, [r10-2]", "V20"),
+    ("stxdw [r10-8], r1", "ldxw r5, [r10-8]", "V20"),
+    ("stxdw [r10-8], r1", "ldxsw r5, [r10-4]", "V20"),
+    ("stxdw [r10-8], r1", "ldxdw r5, [r10-12]", "V20"),
+    ("stxdw [r10-8], r1", "ldxh r5, [r10-9]", "V20"),
+    ("stxdw [r10-16], r1", "ldxdw r5, [r10-12]", "V20"),
+    ("stxdw [r10-8], r1", "ldxdw r5, [r10-4]", "V8"),
+    // beside a pointer nothing is set, and nothing is left of one of which a byte was written
+    ("stxdw [r10-8], r1", "ldxb r5, [r10-9]", "V6"),
+    ("stxdw [r10-16], r1", "ldxb r5, [r10-8]", "V6"),
+    (
+        "stxdw [r10-8], r1\nstb [r10-8], 0",
+        "ldxdw r5, [r10-8]",
+        "V6",
+    ),
+    (
+        "stxdw [r10-8], r1\nstb [r10-8], 0",
+        "ldxb r5, [r10-7]",
+        "V6",
+    ),
+    (
+        "stdw [r10-8], 0\nstxdw [r10-8], r1",
+        "ldxb r5, [r10-8]",
+        "V20",
+    ),
 ];
 
 /// A program, a store after it, and the first index of the stack's bytes that are set then, and the end of these.
@@ -213,5 +247,216 @@ pub fn check_loaded<R: Abort + AllocGlobal>(rt: &R) -> Result<(), Fail> {
     check_marks(rt, "loads of the datagram", &none, 0, 0);
     let eight = after(rt, "stdw [r10-8], 0\nldxb r5, [r10-8]")?;
     check_marks(rt, "a load of the stack", &eight, 504, 512);
+    Ok(())
+}
+
+/// A pointer that a register or a group of the stack is known to hold.
+#[derive(Clone, Copy, Debug)]
+enum Pointer {
+    Context,
+    Stack(i32),
+    Datagram,
+    /// Zero to seven bytes after the datagram's first one, from where on four bytes are proved.
+    FourProved,
+    End,
+}
+
+/// A program in two parts, the pointers that are known after it, of `r5` and of the stack's last four groups, from the
+/// place -32 on, and the first index of the stack's bytes that are set, and the end of these.
+#[derive(Clone, Copy)]
+pub struct Kept {
+    before: &'static str,
+    text: &'static str,
+    r5: Option<Pointer>,
+    groups: [Option<Pointer>; 4],
+    first: usize,
+    end: usize,
+}
+
+/// Stores the context in each of the last four groups, and leaves a number in `r2` and the stack's end in `r3`.
+const FOUR_POINTERS: &str = "stxdw [r10-32], r1\nstxdw [r10-24], r1\nstxdw [r10-16], r1\n\
+     stxdw [r10-8], r1\nmov r2, 0\nmov r3, r10";
+
+pub static KEPT: [Kept; 15] = [
+    // each kind of pointer is stored, and loaded again
+    Kept {
+        before: "stxdw [r10-8], r1",
+        text: "ldxdw r5, [r10-8]",
+        r5: Some(Pointer::Context),
+        groups: [None, None, None, Some(Pointer::Context)],
+        first: 0,
+        end: 0,
+    },
+    Kept {
+        before: "mov r2, r10\nadd r2, -16\nstxdw [r2+8], r2",
+        text: "ldxdw r5, [r10-8]",
+        r5: Some(Pointer::Stack(-16)),
+        groups: [None, None, None, Some(Pointer::Stack(-16))],
+        first: 0,
+        end: 0,
+    },
+    Kept {
+        before: "ldxdw r2, [r1+0]\nstxdw [r10-16], r2",
+        text: "ldxdw r5, [r10-16]",
+        r5: Some(Pointer::Datagram),
+        groups: [None, None, Some(Pointer::Datagram), None],
+        first: 0,
+        end: 0,
+    },
+    Kept {
+        before: "ldxdw r3, [r1+8]\nstxdw [r10-32], r3",
+        text: "ldxdw r5, [r10-32]",
+        r5: Some(Pointer::End),
+        groups: [Some(Pointer::End), None, None, None],
+        first: 0,
+        end: 0,
+    },
+    // what is proved by a comparison of a register is proved of the stored pointer too
+    Kept {
+        before: "ldxdw r2, [r1+0]\nldxdw r3, [r1+8]\nldxdw r4, [r1+16]\nand r4, 7\nadd r2, r4\n\
+             stxdw [r10-8], r2",
+        text: "add r2, 4\njgt r2, r3, +0\nldxdw r5, [r10-8]",
+        r5: Some(Pointer::FourProved),
+        groups: [None, None, None, Some(Pointer::FourProved)],
+        first: 0,
+        end: 0,
+    },
+    // a pointer is stored over bytes, of its group and of the one before it
+    Kept {
+        before: "stdw [r10-8], 0",
+        text: "stxdw [r10-8], r1",
+        r5: None,
+        groups: [None, None, None, Some(Pointer::Context)],
+        first: 0,
+        end: 0,
+    },
+    Kept {
+        before: "stdw [r10-12], 0",
+        text: "stxdw [r10-8], r1",
+        r5: None,
+        groups: [None, None, None, Some(Pointer::Context)],
+        first: 500,
+        end: 504,
+    },
+    // bytes are stored over a pointer, beside it, and over parts of two
+    Kept {
+        before: "stxdw [r10-8], r1",
+        text: "stb [r10-8], 0",
+        r5: None,
+        groups: [None; 4],
+        first: 504,
+        end: 505,
+    },
+    Kept {
+        before: "stxdw [r10-8], r1",
+        text: "stw [r10-12], 0",
+        r5: None,
+        groups: [None, None, None, Some(Pointer::Context)],
+        first: 500,
+        end: 504,
+    },
+    Kept {
+        before: FOUR_POINTERS,
+        text: "stdw [r10-12], 0",
+        r5: None,
+        groups: [Some(Pointer::Context), Some(Pointer::Context), None, None],
+        first: 500,
+        end: 508,
+    },
+    // a record is written over pointers
+    Kept {
+        before: FOUR_POINTERS,
+        text: "add r3, -12\ncall 1",
+        r5: None,
+        groups: [Some(Pointer::Context), Some(Pointer::Context), None, None],
+        first: 500,
+        end: 508,
+    },
+    Kept {
+        before: FOUR_POINTERS,
+        text: "add r3, -24\ncall 1",
+        r5: None,
+        groups: [
+            Some(Pointer::Context),
+            None,
+            Some(Pointer::Context),
+            Some(Pointer::Context),
+        ],
+        first: 488,
+        end: 496,
+    },
+    // and a wide one, over three groups, and over parts of four
+    Kept {
+        before: FOUR_POINTERS,
+        text: "add r3, -28\ncall 6",
+        r5: None,
+        groups: [None, None, None, Some(Pointer::Context)],
+        first: 484,
+        end: 504,
+    },
+    Kept {
+        before: FOUR_POINTERS,
+        text: "add r3, -24\ncall 6",
+        r5: None,
+        groups: [Some(Pointer::Context), None, None, None],
+        first: 488,
+        end: 508,
+    },
+    Kept {
+        before: FOUR_POINTERS,
+        text: "add r3, -27\ncall 6",
+        r5: None,
+        groups: [None; 4],
+        first: 485,
+        end: 505,
+    },
+];
+
+/// Returns what is known of a register or a group that holds a pointer, or nothing.
+fn known_of(pointer: Option<Pointer>) -> Known {
+    match pointer {
+        None => NOTHING,
+        Some(Pointer::Context) => AbstractValue::Ctx,
+        Some(Pointer::Stack(offset)) => AbstractValue::Stack(offset),
+        Some(Pointer::Datagram) => DATAGRAM,
+        Some(Pointer::FourProved) => AbstractValue::Data {
+            anchor: Anchor::Made {
+                id: 1,
+                low: 0,
+                high: 7,
+                proved: 4,
+            },
+            offset: 0,
+        },
+        Some(Pointer::End) => AbstractValue::End,
+    }
+}
+
+/// Checks which groups of the stack are known to hold a pointer: of the last four these, and none before them.
+fn check_groups(rt: &impl Abort, name: &str, state: &State, last: [Option<Pointer>; 4]) {
+    for i in 11..VALUES - 4 {
+        assert_eq!(rt;
+            state.registers.get(i).copied(),
+            Some(NOTHING),
+            "{name}: {i}"
+        );
+    }
+    for (i, pointer) in (VALUES - 4..VALUES).zip(last) {
+        let known = Some(known_of(pointer));
+        assert_eq!(rt; state.registers.get(i).copied(), known, "{name}: {i}");
+    }
+}
+
+/// Checks which pointers are known after each program, of `r5` and of the groups of the stack, and which bytes are set.
+pub fn check_kept<R: Abort + AllocGlobal>(rt: &R, rows: &[Kept]) -> Result<(), Fail> {
+    for (i, row) in rows.iter().enumerate() {
+        let (before, text) = (row.before, row.text);
+        let text = format!(in rt.alloc(); "{before}\n{text}")?;
+        let name = format!(in rt.alloc(); "{i}: {text:?}")?;
+        let state = after(rt, &text)?;
+        assert_eq!(rt; state.registers[5], known_of(row.r5), "{name}");
+        check_groups(rt, &name, &state, row.groups);
+        check_marks(rt, &name, &state, row.first, row.end);
+    }
     Ok(())
 }

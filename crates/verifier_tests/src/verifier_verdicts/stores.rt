@@ -2,7 +2,7 @@
 
 use super::Row;
 
-pub static ROWS: [Row; 25] = [
+pub static ROWS: [Row; 27] = [
     // what is stored is read back
     Row {
         name: "eight bytes",
@@ -114,7 +114,7 @@ pub static ROWS: [Row; 25] = [
     },
     Row {
         name: "V13 alone",
-        text: "stxdw [r10-8], r1\nexit",
+        text: "stxdw [r10-12], r1\nexit",
         known: "refused V13 at 0",
         interval: "refused V13 at 0",
     },
@@ -125,10 +125,22 @@ pub static ROWS: [Row; 25] = [
         interval: "refused V13 at 0",
     },
     Row {
-        name: "V13 before V8",
-        text: "stxdw [r10+8], r1\nexit",
+        name: "V13 before V10",
+        text: "ldxdw r2, [r1+0]\nstxdw [r2+0], r1\nexit",
+        known: "refused V13 at 1",
+        interval: "refused V13 at 1",
+    },
+    Row {
+        name: "V13 before V8, where the place is no multiple of 8",
+        text: "stxdw [r10-516], r1\nexit",
         known: "refused V13 at 0",
         interval: "refused V13 at 0",
+    },
+    Row {
+        name: "V8 before V13, where it is one",
+        text: "stxdw [r10+8], r1\nexit",
+        known: "refused V8 at 0",
+        interval: "refused V8 at 0",
     },
     Row {
         name: "V9 alone",

@@ -1,7 +1,7 @@
 use Rattle.std.proofs.Common.{ap, sym, ◌∙◌}
 use Rattle.attributes.specs.Addresses.{address_in}
 use Rattle.control.specs.Peers.{peers_of}
-use Rattle.control.proofs.Peers.{collected_value, collected_end, ipv4_value, read_ipv4}
+use Rattle.control.proofs.Peers.{collected_value, collected_end, family_value, read_families}
 use Rattle.control.proofs.create_permission.distinct_peers.Goals as goal
 
 pub loop-value-preserved-in-Some-address_in : goal.loop-value-preserved-in-Some-address_in
@@ -13,15 +13,15 @@ loop-value-preserved-in-Some-address_in c = record {
       (ap (λ tx. address_in tx c.in-Some.value.now) (sym c.tx-tx.ensures) ∙ sym c.address_in.ensures ∙ c.in-Some-address_in.is)
       c.add_peer.ensures
       c.loop-value.invariant.collected;
-  ipv4 = λ all. ipv4_value c.args.message.now.transaction_id c.loop-value.peers.items c.add_peer.new.peers.items c.in-Some-address_in.peer c.in-Some.value.now c.next.new.self c.loop-value.value-iterator
+  families = λ f all. family_value f c.args.message.now.transaction_id c.loop-value.peers.items c.add_peer.new.peers.items c.in-Some-address_in.peer c.in-Some.value.now c.next.new.self c.loop-value.value-iterator
       c.in-Some.ensures.steps
       (ap (λ tx. address_in tx c.in-Some.value.now) (sym c.tx-tx.ensures) ∙ sym c.address_in.ensures ∙ c.in-Some-address_in.is)
       c.add_peer.ensures
-      (c.loop-value.invariant.ipv4 all);
+      (c.loop-value.invariant.families f all);
 }
 
-pub returns-clause-ipv4 : goal.returns-clause-ipv4
-returns-clause-ipv4 c = λ read. (c.loop-value.invariant.ipv4 (read_ipv4 c.args.message.now read)).collected
+pub returns-clause-families : goal.returns-clause-families
+returns-clause-families c = λ f read. (c.loop-value.invariant.families f (read_families f c.args.message.now _ read)).collected
 
 pub returns-clause-same : goal.returns-clause-same
 returns-clause-same c = collected_end c.args.message.now.transaction_id c.loop-value.peers.items c.loop-value.value-iterator (peers_of c.args.message.now) c.in-None.ensures.steps.0 c.loop-value.invariant.collected

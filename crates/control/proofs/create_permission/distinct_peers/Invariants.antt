@@ -1,9 +1,9 @@
-use Rattle.std.proofs.Common.{IsTrue, filter_map}
+use Rattle.std.proofs.Common.{◌≡◌, true, filter_map}
 use Rattle.std.specs.List.{list_all}
-use Rattle.attributes.specs.Addresses.{address_in}
-use Rattle.tables.specs.Addresses.{is_ipv4}
+use Rattle.attributes.specs.Addresses.{address_in, is_of_family}
+use Rattle.attributes.specs.declared.address.Family.{Family}
 use Rattle.control.specs.Peers.{peers_of}
-use Rattle.control.proofs.Peers.{AreIpv4, Collected}
+use Rattle.control.proofs.Peers.{AreOf, Collected}
 use Rattle.control.proofs.create_permission.distinct_peers.Given as goal
 
 abbrev pub invariant-loop-value : goal.invariant-loop-value
@@ -11,5 +11,5 @@ invariant-loop-value l = record {
   can : (goal.iterator-loop-value).can_next l.value-iterator;
   finite : (goal.iterator-loop-value).is_finite l.value-iterator;
   collected : Collected l.peers.items (filter_map (address_in l.message.transaction_id) l.value-iterator) (peers_of l.message);
-  ipv4 : IsTrue (list_all is_ipv4 (peers_of l.message)) → AreIpv4 l.peers.items (filter_map (address_in l.message.transaction_id) l.value-iterator);
+  families : (f : Family) → list_all (is_of_family f) (peers_of l.message) ≡ true → AreOf f l.peers.items (filter_map (address_in l.message.transaction_id) l.value-iterator);
 }

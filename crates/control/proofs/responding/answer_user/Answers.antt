@@ -15,7 +15,7 @@ returns-in-Ok-clause-answer c =
     let old = c.args.tables.now in
     let user = c.in-Ok.authenticated.user in
     let key = user_key (string_bytes config.realm) (accounts_of config.users.items) user in
-    let served = decision_if_understood c.args.request c.args.arrival.now.client user p (rows_at c.args.arrival.now.moment old) in
+    let served = decision_if_understood c.args.request config c.args.arrival.now.client user p (rows_at c.args.arrival.now.moment old) in
     record {
       checked = Ok user;
       is_checked = c.in-Ok.ensures.found;

@@ -1,7 +1,7 @@
 //! The faults of Allocate requests (RFC 8656, section 7.2).
 
 use super::super::UDP;
-use super::{Case, FIRST_CASE, Fault, Row, Tests, UNKNOWN_ATTRIBUTE};
+use super::{Case, FIRST_CASE, Fault, Row, Tests, UNKNOWN_ATTRIBUTE, Values};
 use stun::registry::Method;
 
 /// The faults of Allocate requests after those of the credentials.
@@ -32,7 +32,7 @@ const ROWS: [Row; 10] = [
         code: 400,
     },
     Row {
-        fault: Fault::OtherFamily,
+        fault: Fault::UnsupportedFamily,
         code: 440,
     },
     Row {
@@ -54,15 +54,17 @@ const EXCLUSIVE: [&[Fault]; 2] = [
         Fault::OtherTransport,
     ],
     // each is a fault of REQUESTED-ADDRESS-FAMILY
-    &[Fault::MalformedFamily, Fault::OtherFamily],
+    &[Fault::MalformedFamily, Fault::UnsupportedFamily],
 ];
 
 /// Returns the tests of this method.
-pub(super) fn tests() -> Tests {
+pub(super) fn tests(values: Values) -> Tests {
     Tests {
         case: Case {
             method: Method::Allocate,
+            values,
             transport: UDP,
+            family: values.requested,
             has_allocation: false,
             ..FIRST_CASE
         },

@@ -1,15 +1,18 @@
 //! The fault of Binding requests (RFC 8489, section 12), whose credentials are not looked at.
 
-use super::{CREDENTIALS, FIRST_CASE, Fault, Tests, UNKNOWN_ATTRIBUTE, code_of};
+use super::{CREDENTIALS, Case, FIRST_CASE, Fault, Tests, UNKNOWN_ATTRIBUTE, Values, code_of};
 use crate::control_configurations::config;
 use std::alloc::Global;
 use std::process::Abort;
 use std::test::Fail;
 
 /// Returns the tests of this method.
-pub(super) fn tests() -> Tests {
+pub(super) fn tests(values: Values) -> Tests {
     Tests {
-        case: FIRST_CASE,
+        case: Case {
+            values,
+            ..FIRST_CASE
+        },
         has_credentials: false,
         rows: &[UNKNOWN_ATTRIBUTE],
         exclusive: &[],

@@ -1,7 +1,7 @@
 //! The faults of ChannelBind requests (RFC 8656, section 12.2).
 
-use super::super::{CHANNEL, PEER};
-use super::{Case, FIRST_CASE, Fault, Row, Tests, UNKNOWN_ATTRIBUTE};
+use super::super::CHANNEL;
+use super::{Case, FIRST_CASE, Fault, Row, Tests, UNKNOWN_ATTRIBUTE, Values};
 use stun::registry::Method;
 
 /// The faults of ChannelBind requests after those of the credentials.
@@ -36,7 +36,7 @@ const ROWS: [Row; 13] = [
         code: 400,
     },
     Row {
-        fault: Fault::Ipv6Peer,
+        fault: Fault::OtherFamilyPeer,
         code: 443,
     },
     Row {
@@ -73,11 +73,11 @@ const EXCLUSIVE: [&[Fault]; 8] = [
         Fault::NumberOutOfRange,
         Fault::BoundNumber,
     ],
-    // each is a fault of XOR-PEER-ADDRESS; one that is bound is there, well formed and of IPv4
+    // each is a fault of XOR-PEER-ADDRESS; one that is bound is there, well formed and of the allocation's family
     &[
         Fault::NoPeer,
         Fault::MalformedPeer,
-        Fault::Ipv6Peer,
+        Fault::OtherFamilyPeer,
         Fault::BoundPeer,
     ],
     // a number that is bound needs no room for another channel
@@ -85,12 +85,13 @@ const EXCLUSIVE: [&[Fault]; 8] = [
 ];
 
 /// Returns the tests of this method.
-pub(super) fn tests() -> Tests {
+pub(super) fn tests(values: Values) -> Tests {
     Tests {
         case: Case {
             method: Method::ChannelBind,
+            values,
             number: CHANNEL,
-            peer: PEER,
+            peer: values.peer,
             ..FIRST_CASE
         },
         has_credentials: true,

@@ -1,7 +1,6 @@
 //! The faults of CreatePermission requests (RFC 8656, section 10.2).
 
-use super::super::PEER;
-use super::{Case, FIRST_CASE, Fault, Row, Tests, UNKNOWN_ATTRIBUTE};
+use super::{Case, FIRST_CASE, Fault, Row, Tests, UNKNOWN_ATTRIBUTE, Values};
 use stun::registry::Method;
 
 /// The faults of CreatePermission requests after those of the credentials.
@@ -24,7 +23,7 @@ const ROWS: [Row; 7] = [
         code: 400,
     },
     Row {
-        fault: Fault::Ipv6Peer,
+        fault: Fault::OtherFamilyPeer,
         code: 443,
     },
     Row {
@@ -39,16 +38,17 @@ const EXCLUSIVE: [&[Fault]; 4] = [
     &[Fault::NoAllocation, Fault::OtherOwner],
     // a request without XOR-PEER-ADDRESS has none with a fault, and not too many
     &[Fault::NoPeer, Fault::MalformedSecondPeer],
-    &[Fault::NoPeer, Fault::Ipv6Peer],
+    &[Fault::NoPeer, Fault::OtherFamilyPeer],
     &[Fault::NoPeer, Fault::TooManyPeers],
 ];
 
 /// Returns the tests of this method.
-pub(super) fn tests() -> Tests {
+pub(super) fn tests(values: Values) -> Tests {
     Tests {
         case: Case {
             method: Method::CreatePermission,
-            peer: PEER,
+            values,
+            peer: values.peer,
             ..FIRST_CASE
         },
         has_credentials: true,

@@ -1,16 +1,17 @@
 //! The faults of requests, and how a request gets them.
 
 use super::super::{
-    Attribute, CHANNEL, Credentials, FIRST, IPV6_PEER, OTHER_CLIENT, OTHER_PEER, OTHER_USER, PEER,
-    Request, UDP, USER, ask, check_success,
+    Attribute, CHANNEL, Credentials, FIRST, IPV4_FAMILY, IPV6_FAMILY, IPV6_PEER, MALFORMED_PEER,
+    NO_FAMILY, OTHER_CHANNEL, OTHER_CLIENT, OTHER_IPV6_PEER, OTHER_PEER, OTHER_USER, PEER, Request,
+    UDP, USER, ask, check_success,
 };
-use attributes::Addr;
+use attributes::{Addr, Family};
 use control::Config;
 use std::process::Abort;
 use std::test::Fail;
 use stun::registry::Method;
 use stun::registry::attribute::{
-    CHANNEL_NUMBER, LIFETIME, REQUESTED_ADDRESS_FAMILY, REQUESTED_TRANSPORT, XOR_PEER_ADDRESS,
+    CHANNEL_NUMBER, LIFETIME, REQUESTED_ADDRESS_FAMILY, REQUESTED_TRANSPORT,
 };
 use tables::{MAX_CHANNELS, Tables};
 
@@ -36,7 +37,9 @@ pub enum Fault {
     /// A transport protocol other than UDP.
     OtherTransport,
     MalformedFamily,
-    /// An address family other than IPv4.
+    /// An address family that the relay doesn't give.
+    UnsupportedFamily,
+    /// The address family that isn't the allocation's.
     OtherFamily,
     MalformedLifetime,
     NoFreeSlot,
@@ -44,7 +47,8 @@ pub enum Fault {
     MalformedPeer,
     /// The second XOR-PEER-ADDRESS is malformed.
     MalformedSecondPeer,
-    Ipv6Peer,
+    /// The peer's address is not of the allocation's family.
+    OtherFamilyPeer,
     /// More addresses than an allocation may permit.
     TooManyPeers,
     NoNumber,
@@ -64,11 +68,52 @@ pub enum Fault {
 /// A moment before that of the request. Permissions made here have ended by then, and channels and allocations have not.
 pub const EARLIER: u64 = 600;
 
+/// What depends on the family of an allocation.
+#[derive(Clone, Copy)]
+pub struct Values {
+    pub family: Family,
+    /// REQUESTED-ADDRESS-FAMILY with this family.
+    pub requested: Attribute<'static>,
+    /// REQUESTED-ADDRESS-FAMILY with the other family.
+    pub other_requested: Attribute<'static>,
+    /// REQUESTED-ADDRESS-FAMILY with one that the relay doesn't give.
+    pub unsupported: Attribute<'static>,
+    /// XOR-PEER-ADDRESS with an address of this family.
+    pub peer: Attribute<'static>,
+    /// XOR-PEER-ADDRESS with another one.
+    pub other_peer: Attribute<'static>,
+    /// XOR-PEER-ADDRESS with an address of the other family.
+    pub other_family_peer: Attribute<'static>,
+}
+
+/// An IPv4 allocation of a relay without an IPv6 address.
+pub const IPV4: Values = Values {
+    family: Family::Ipv4,
+    requested: IPV4_FAMILY,
+    other_requested: IPV6_FAMILY,
+    unsupported: IPV6_FAMILY,
+    peer: PEER,
+    other_peer: OTHER_PEER,
+    other_family_peer: IPV6_PEER,
+};
+
+/// An IPv6 allocation of a relay with addresses of both families.
+pub const IPV6: Values = Values {
+    family: Family::Ipv6,
+    requested: IPV6_FAMILY,
+    other_requested: IPV4_FAMILY,
+    unsupported: NO_FAMILY,
+    peer: IPV6_PEER,
+    other_peer: OTHER_IPV6_PEER,
+    other_family_peer: PEER,
+};
+
 /// A request of the first client, and the allocation that it meets. An attribute that the request lacks is one that is
 /// ignored.
 #[derive(Clone, Copy)]
 pub struct Case {
     pub method: Method,
+    pub values: Values,
     pub credentials: Credentials<'static>,
     pub unknown: Attribute<'static>,
     pub transport: Attribute<'static>,
@@ -77,7 +122,7 @@ pub struct Case {
     pub number: Attribute<'static>,
     pub peer: Attribute<'static>,
     pub second_peer: Attribute<'static>,
-    /// The last bytes of further addresses 192.0.2.x, from the first on, up to the second.
+    /// The last bytes of further addresses of the family, from the first on, up to the second.
     pub peers: (u8, u8),
     /// Whether the client has an allocation.
     pub has_allocation: bool,
@@ -93,6 +138,7 @@ const IGNORED: Attribute<'static> = (0x8022, &[]);
 /// A request without attributes, of a client that has an allocation.
 pub const FIRST_CASE: Case = Case {
     method: Method::Binding,
+    values: IPV4,
     credentials: USER,
     unknown: IGNORED,
     transport: IGNORED,
@@ -128,6 +174,7 @@ impl Case {
             attributes,
             credentials: self.credentials,
             peers: self.peers,
+            peers_family: self.values.family,
             ..FIRST
         }
     }
@@ -137,6 +184,7 @@ impl Case {
         Request {
             method,
             credentials: self.owner,
+            peers_family: self.values.family,
             ..FIRST
         }
     }
@@ -147,12 +195,6 @@ const THIRD_CLIENT: Addr = Addr::V4 {
     ip: [198, 51, 100, 3],
     port: 4000,
 };
-
-/// CHANNEL-NUMBER with 0x4002.
-const OTHER_CHANNEL: Attribute<'static> = (CHANNEL_NUMBER, &[0x40, 0x02, 0, 0]);
-
-/// A malformed XOR-PEER-ADDRESS.
-const MALFORMED_PEER: Attribute<'static> = (XOR_PEER_ADDRESS, &[0; 9]);
 
 impl Fault {
     /// Gives the fault to a request, or to the allocation that it meets.
@@ -180,12 +222,13 @@ impl Fault {
             Fault::MalformedTransport => case.transport = (REQUESTED_TRANSPORT, &[17, 0, 0]),
             Fault::OtherTransport => case.transport = (REQUESTED_TRANSPORT, &[6, 0, 0, 0]),
             Fault::MalformedFamily => case.family = (REQUESTED_ADDRESS_FAMILY, &[1]),
-            Fault::OtherFamily => case.family = (REQUESTED_ADDRESS_FAMILY, &[2, 0, 0, 0]),
+            Fault::UnsupportedFamily => case.family = case.values.unsupported,
+            Fault::OtherFamily => case.family = case.values.other_requested,
             Fault::MalformedLifetime => case.lifetime = (LIFETIME, &[0]),
             Fault::NoPeer => case.peer = IGNORED,
             Fault::MalformedPeer => case.peer = MALFORMED_PEER,
             Fault::MalformedSecondPeer => case.second_peer = MALFORMED_PEER,
-            Fault::Ipv6Peer => case.peer = IPV6_PEER,
+            Fault::OtherFamilyPeer => case.peer = case.values.other_family_peer,
             Fault::TooManyPeers => case.peers = (0, 65),
             Fault::NoNumber => case.number = IGNORED,
             Fault::MalformedNumber => case.number = (CHANNEL_NUMBER, &[0x40, 0x01, 0]),
@@ -215,11 +258,17 @@ impl Fault {
                 }
                 Ok(())
             }
-            Fault::BoundNumber => bind(rt, tables, config, case, &[CHANNEL, OTHER_PEER]),
-            Fault::BoundPeer => bind(rt, tables, config, case, &[OTHER_CHANNEL, PEER]),
+            Fault::BoundNumber => {
+                let other_peer = case.values.other_peer;
+                bind(rt, tables, config, case, &[CHANNEL, other_peer])
+            }
+            Fault::BoundPeer => {
+                let peer = case.values.peer;
+                bind(rt, tables, config, case, &[OTHER_CHANNEL, peer])
+            }
             Fault::NoRoomForChannel => bind_all(rt, tables, config, case),
             Fault::NoRoomForPermission => {
-                // 192.0.2.8 to 192.0.2.71, at the moment of the request
+                // the addresses that end in 8 to 71, at the moment of the request
                 let permit = Request {
                     attributes: &[],
                     peers: (8, 72),
@@ -248,7 +297,8 @@ fn bind(
     check_success(rt, tables, config, &request)
 }
 
-/// Has the owner of the client's allocation bind all channels that it may have, from 0x4100 on, to ports of 192.0.2.9.
+/// Has the owner of the client's allocation bind all channels that it may have, from 0x4100 on, to the addresses that end in
+/// 100 to 163.
 fn bind_all(
     rt: &impl Abort,
     tables: &mut Tables,
@@ -256,13 +306,12 @@ fn bind_all(
     case: &Case,
 ) -> Result<(), Fail> {
     for i in 0..MAX_CHANNELS {
-        let last = i as u8;
-        let number = [0x41, last, 0, 0];
-        // the address is xored with the cookie
-        let peer = [0x00, 0x01, 0x32, last, 0xe1, 0x12, 0xa6, 0x4b];
+        let index = i as u8;
+        let number = [0x41, index, 0, 0];
         let request = Request {
             now: EARLIER,
-            attributes: &[(CHANNEL_NUMBER, &number), (XOR_PEER_ADDRESS, &peer)],
+            attributes: &[(CHANNEL_NUMBER, &number)],
+            peers: (100 + index, 101 + index),
             ..case.owner_request(Method::ChannelBind)
         };
         // the last one finds no room where another channel is bound

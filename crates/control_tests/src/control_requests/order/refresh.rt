@@ -1,6 +1,6 @@
 //! The faults of Refresh requests (RFC 8656, section 8.2).
 
-use super::{Case, FIRST_CASE, Fault, Row, Tests, UNKNOWN_ATTRIBUTE};
+use super::{Case, FIRST_CASE, Fault, Row, Tests, UNKNOWN_ATTRIBUTE, Values};
 use stun::registry::Method;
 
 /// The faults of Refresh requests after those of the credentials.
@@ -37,10 +37,12 @@ const EXCLUSIVE: [&[Fault]; 2] = [
 ];
 
 /// Returns the tests of this method.
-pub(super) fn tests() -> Tests {
+pub(super) fn tests(values: Values) -> Tests {
     Tests {
         case: Case {
             method: Method::Refresh,
+            values,
+            family: values.requested,
             ..FIRST_CASE
         },
         has_credentials: true,

@@ -13,15 +13,17 @@ up_to at k part old new end le e =
 pub returns : goal.returns
 unfolding context_bytes
 returns c =
-    let zeros : List ℕ = replicate 48 0 in
+    let zeros : List ℕ = replicate 68 0 in
     let one : List ℕ = c.write_part.new.bytes in
     let two : List ℕ = c.write_part-2.new.bytes in
     let three : List ℕ = c.write_part-3.new.bytes in
     let four : List ℕ = c.write_part-4.new.bytes in
-    let one_long : length one ≡ 48 = c.write_part.auto.bytes in
-    let two_long : length two ≡ 48 = c.write_part-2.auto.bytes ∙ one_long in
-    let three_long : length three ≡ 48 = c.write_part-3.auto.bytes ∙ two_long in
-    let four_long : length four ≡ 48 = c.write_part-4.auto.bytes ∙ three_long in
+    let one_long : length one ≡ 68 = c.write_part.auto.bytes in
+    let two_long : length two ≡ 68 = c.write_part-2.auto.bytes ∙ one_long in
+    let three_long : length three ≡ 68 = c.write_part-3.auto.bytes ∙ two_long in
+    let four_long : length four ≡ 68 = c.write_part-4.auto.bytes ∙ three_long in
+    let five : List ℕ = c.write_part-5.new.bytes in
+    let five_long : length five ≡ 68 = c.write_part-5.auto.bytes ∙ four_long in
     let eight : length c.to_le_bytes.result ≡ 8 = search rules in
     let source_long : length c.address_record.result ≡ 8 = search rules in
     let id_long : length c.args.context.now.tx ≡ 12 = search rules in
@@ -30,7 +32,9 @@ returns c =
     let to_source : take 32 two ≡ take 24 one ++ c.address_record.result = up_to 24 32 c.address_record.result one two (omega (arith, source_long)) (omega (arith, one_long)) c.write_part-2.ensures in
     let to_id : take 44 three ≡ take 32 two ++ c.args.context.now.tx = up_to 32 44 c.args.context.now.tx two three (omega (arith, id_long)) (omega (arith, two_long)) c.write_part-3.ensures in
     let to_side : take 48 four ≡ take 44 three ++ c.to_le_bytes-2.result = up_to 44 48 c.to_le_bytes-2.result three four (omega (arith, side_long)) (omega (arith, three_long)) c.write_part-4.ensures in
-    let whole : four ≡ replicate 16 0 ++ c.to_le_bytes.result ++ c.address_record.result ++ c.args.context.now.tx ++ c.to_le_bytes-2.result =
-    sym (take_all 48 four (omega (arith, four_long))) ∙ to_side
-    ∙ ap (λ (l : List ℕ). l ++ c.to_le_bytes-2.result) (to_id ∙ ap (λ (l : List ℕ). l ++ c.args.context.now.tx) (to_source ∙ ap (λ (l : List ℕ). l ++ c.address_record.result) to_length)) in
-    whole ∙ (λ i. replicate 16 0 ++ c.to_le_bytes.ensures i ++ c.address_record.ensures i ++ c.args.context.now.tx ++ (c.to_le_bytes-2.ensures ∙ ap (little_bytes 4) c.side_number.ensures) i)
+    let wide_long : length c.wide_record.result ≡ 20 = search rules in
+    let to_wide : take 68 five ≡ take 48 four ++ c.wide_record.result = up_to 48 68 c.wide_record.result four five (omega (arith, wide_long)) (omega (arith, four_long)) c.write_part-5.ensures in
+    let whole : five ≡ replicate 16 0 ++ c.to_le_bytes.result ++ c.address_record.result ++ c.args.context.now.tx ++ c.to_le_bytes-2.result ++ c.wide_record.result =
+    sym (take_all 68 five (omega (arith, five_long))) ∙ to_wide
+    ∙ ap (λ (l : List ℕ). l ++ c.wide_record.result) (to_side ∙ ap (λ (l : List ℕ). l ++ c.to_le_bytes-2.result) (to_id ∙ ap (λ (l : List ℕ). l ++ c.args.context.now.tx) (to_source ∙ ap (λ (l : List ℕ). l ++ c.address_record.result) to_length))) in
+    whole ∙ (λ i. replicate 16 0 ++ c.to_le_bytes.ensures i ++ c.address_record.ensures i ++ c.args.context.now.tx ++ (c.to_le_bytes-2.ensures ∙ ap (little_bytes 4) c.side_number.ensures) i ++ c.wide_record.ensures i)

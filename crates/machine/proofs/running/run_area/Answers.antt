@@ -2,14 +2,14 @@ use Rattle.std.proofs.Common.{◌≡◌, ℕ, Bool, true, false, List, ◌++◌,
 use Rattle.insn.specs.declared.instruction.Insn.{Insn}
 use Rattle.semantics.specs.Access.{overlay}
 use Rattle.semantics.specs.Machine.{Environment, context_bytes}
-use Rattle.semantics.specs.Runs.{IsDatagram}
+use Rattle.semantics.specs.Runs.{IsDatagram, IsSafe}
 use Rattle.semantics.specs.declared.limits.TheConstants.{STACK_BYTES}
 use Rattle.flat.specs.FlatSteps.{given_of}
 use Rattle.flat.specs.Following.{given_in}
 use Rattle.flat.specs.FlatRuns.{IsRun}
 use Rattle.flat.specs.Layout.{context_fields, pointers}
 use Rattle.flat.specs.FlatLaws.{fields_of_context}
-use Rattle.helpers.specs.Records.{address_record}
+use Rattle.helpers.specs.Records.{address_record, wide_record}
 use Rattle.machine.specs.Contents.{Contents, datagram_of}
 use Rattle.machine.specs.FrameFields.{HoldsDatagram, IsFrame}
 use Rattle.machine.specs.Contexts.{HelperAnswers, context_of, side_number}
@@ -22,79 +22,85 @@ use Rattle.machine.proofs.running.run_area.Goals as goal
 pub run_flat-ended-requires-clause-start : goal.run_flat-ended-requires-clause-start
 run_flat-ended-requires-clause-start g c =
     let flat : List ℕ = c.frame.inside.flat.items in
-    let f : Contents = record { area = drop 560 flat; length = c.frame.inside.length; is_started = c.frame.inside.is_started; context = c.frame.inside.context; window = c.frame.inside.window } in
+    let f : Contents = record { area = drop 580 flat; length = c.frame.inside.length; is_started = c.frame.inside.is_started; context = c.frame.inside.context; window = c.frame.inside.window } in
     let d : List ℕ = datagram_of f in
     let answers : HelperAnswers = g.H.Helpers.answers c.args.helpers.now in
     let started : c.frame.inside.is_started ≡ true = ap (λ (h : Contents). h.is_started) c.frame.view_is ∙ c.requires in
-    let holds : HoldsDatagram f.area c.frame.inside.stack.items f.length true f.window = subst (λ (b : Bool). HoldsDatagram f.area c.frame.inside.stack.items f.length b f.window) started c.frame.invariant.holds in
+    let holds : HoldsDatagram f.area c.frame.inside.stack f.length true f.window = subst (λ (b : Bool). HoldsDatagram f.area c.frame.inside.stack f.length b f.window) started c.frame.invariant.holds in
     let size : length c.datagram-size.result.now ≡ length d = ap length (c.datagram-size.ensures.bytes ∙ sym (ap datagram_of c.frame.view_is)) in
     let is_datagram : IsDatagram d = subst (λ (h : Contents). IsDatagram (datagram_of h)) (sym c.frame.view_is) c.datagram-size.ensures.short in
     let side : c.from.result ≡ side_number f.context.side = c.from.ensures ∙ c.side_number-side.ensures in
     let source : c.address_record-source.result ≡ address_record f.context.source = c.address_record-source.ensures in
+    let wide : c.wide_record-wide_source.result ≡ wide_record f.context.source = c.wide_record-wide_source.ensures in
     let laid : c.lay_out.new.area ≡ overlay STACK_BYTES (pointers (length d) ++ drop 16 (context_bytes (context_of f.context) (length d))) flat =
     c.lay_out.ensures
-    ∙ (λ i. overlay STACK_BYTES (pointers (size i) ++ context_fields (size i) (source i) f.context.tx (c.side_number-side.ensures i)) (c.deref_mut.ensures.value i))
+    ∙ (λ i. overlay STACK_BYTES (pointers (size i) ++ context_fields (size i) (source i) (wide i) f.context.tx (c.side_number-side.ensures i)) (c.deref_mut.ensures.value i))
     ∙ (λ i. overlay STACK_BYTES (pointers (length d) ++ sym (fields_of_context (context_of f.context) (length d)) i) flat) in
     let between : c.deref_mut-2.result.now ≡ c.lay_out.new.area = c.deref_mut-2.ensures.value ∙ written c.lay_out.new.area flat c.frame.inside.flat.len (c.lay_out.auto.area ∙ c.deref_mut.ensures.len) in
     let given : given_in (environment_of f answers) (length d) ≡ given_of answers (length c.datagram-size.result.now) c.from.result = λ i. given_of answers (sym size i) (sym side i) in (
       environment_of f answers,
       d,
-      is_start answers (g.H.Helpers.lawful c.args.helpers.now) c.args.program.now f flat refl c.frame.inside.stack.items holds c.frame.invariant.is_context is_datagram _ c.deref_mut-2.result.now given (between ∙ laid),
+      is_start answers (g.H.Helpers.lawful c.args.helpers.now) c.args.program.now f flat refl c.frame.inside.stack holds c.frame.invariant.is_context is_datagram _ c.deref_mut-2.result.now given (between ∙ laid),
     )
 
 pub invariant_of-frame : goal.invariant_of-frame
 invariant_of-frame g c =
     let flat : List ℕ = c.frame.inside.flat.items in
-    let f : Contents = record { area = drop 560 flat; length = c.frame.inside.length; is_started = c.frame.inside.is_started; context = c.frame.inside.context; window = c.frame.inside.window } in
+    let f : Contents = record { area = drop 580 flat; length = c.frame.inside.length; is_started = c.frame.inside.is_started; context = c.frame.inside.context; window = c.frame.inside.window } in
     let d : List ℕ = datagram_of f in
     let answers : HelperAnswers = g.H.Helpers.answers c.args.helpers.now in
     let w : Environment = environment_of f answers in
     let started : c.frame.inside.is_started ≡ true = ap (λ (h : Contents). h.is_started) c.frame.view_is ∙ c.requires in
-    let holds : HoldsDatagram f.area c.frame.inside.stack.items f.length true f.window = subst (λ (b : Bool). HoldsDatagram f.area c.frame.inside.stack.items f.length b f.window) started c.frame.invariant.holds in
+    let holds : HoldsDatagram f.area c.frame.inside.stack f.length true f.window = subst (λ (b : Bool). HoldsDatagram f.area c.frame.inside.stack f.length b f.window) started c.frame.invariant.holds in
     let size : length c.datagram-size.result.now ≡ length d = ap length (c.datagram-size.ensures.bytes ∙ sym (ap datagram_of c.frame.view_is)) in
     let is_datagram : IsDatagram d = subst (λ (h : Contents). IsDatagram (datagram_of h)) (sym c.frame.view_is) c.datagram-size.ensures.short in
     let side : c.from.result ≡ side_number f.context.side = c.from.ensures ∙ c.side_number-side.ensures in
     let source : c.address_record-source.result ≡ address_record f.context.source = c.address_record-source.ensures in
+    let wide : c.wide_record-wide_source.result ≡ wide_record f.context.source = c.wide_record-wide_source.ensures in
     let laid : c.lay_out.new.area ≡ overlay STACK_BYTES (pointers (length d) ++ drop 16 (context_bytes (context_of f.context) (length d))) flat =
     c.lay_out.ensures
-    ∙ (λ i. overlay STACK_BYTES (pointers (size i) ++ context_fields (size i) (source i) f.context.tx (c.side_number-side.ensures i)) (c.deref_mut.ensures.value i))
+    ∙ (λ i. overlay STACK_BYTES (pointers (size i) ++ context_fields (size i) (source i) (wide i) f.context.tx (c.side_number-side.ensures i)) (c.deref_mut.ensures.value i))
     ∙ (λ i. overlay STACK_BYTES (pointers (length d) ++ sym (fields_of_context (context_of f.context) (length d)) i) flat) in
     let between : c.deref_mut-2.result.now ≡ c.lay_out.new.area = c.deref_mut-2.ensures.value ∙ written c.lay_out.new.area flat c.frame.inside.flat.len (c.lay_out.auto.area ∙ c.deref_mut.ensures.len) in
     let given : given_in w (length d) ≡ given_of answers (length c.datagram-size.result.now) c.from.result = λ i. given_of answers (sym size i) (sym side i) in
-    let start = is_start answers (g.H.Helpers.lawful c.args.helpers.now) c.args.program.now f flat refl c.frame.inside.stack.items holds c.frame.invariant.is_context is_datagram (given_of answers (length c.datagram-size.result.now) c.from.result) c.deref_mut-2.result.now given (between ∙ laid) in
+    let start = is_start answers (g.H.Helpers.lawful c.args.helpers.now) c.args.program.now f flat refl c.frame.inside.stack holds c.frame.invariant.is_context is_datagram (given_of answers (length c.datagram-size.result.now) c.from.result) c.deref_mut-2.result.now given (between ∙ laid) in
     let run : IsRun w c.args.program.now d c.deref_mut-2.result.now c.run_flat-ended.new.area c.run_flat-ended.result =
     subst (λ (code : List Insn). IsRun w code d c.deref_mut-2.result.now c.run_flat-ended.new.area c.run_flat-ended.result) c.translation.ensures.code (c.run_flat-ended.ensures w d start) in
     let left = written c.run_flat-ended.new.area (take c.frame.inside.flat.len (c.lay_out.new.area ++ drop (length c.lay_out.new.area) flat)) c.frame.inside.flat.len (c.run_flat-ended.auto.area ∙ c.deref_mut-2.ensures.len) in
-    subst (λ (a : List ℕ). IsFrame a c.frame.inside.stack.items f.length false c.run_flat-ended.result.plan.window f.context) (sym left) (record {
+    subst (λ (a : List ℕ). IsFrame a c.frame.inside.stack f.length false c.run_flat-ended.result.plan.window f.context) (sym left) (record {
       long = run.memory.long;
-      holds = holds_left answers (g.H.Helpers.lawful c.args.helpers.now) c.args.program.now f flat refl c.frame.inside.stack.items holds c.frame.invariant.is_context is_datagram c.deref_mut-2.result.now c.run_flat-ended.new.area (between ∙ laid) c.run_flat-ended.result run;
+      holds = holds_left answers (g.H.Helpers.lawful c.args.helpers.now) c.args.program.now f flat refl c.frame.inside.stack holds c.frame.invariant.is_context is_datagram c.deref_mut-2.result.now c.run_flat-ended.new.area (between ∙ laid) c.run_flat-ended.result run;
       is_context = c.frame.invariant.is_context;
     })
 
 pub returns : goal.returns
 returns g c =
     let flat : List ℕ = c.frame.inside.flat.items in
-    let f : Contents = record { area = drop 560 flat; length = c.frame.inside.length; is_started = c.frame.inside.is_started; context = c.frame.inside.context; window = c.frame.inside.window } in
+    let f : Contents = record { area = drop 580 flat; length = c.frame.inside.length; is_started = c.frame.inside.is_started; context = c.frame.inside.context; window = c.frame.inside.window } in
     let d : List ℕ = datagram_of f in
     let answers : HelperAnswers = g.H.Helpers.answers c.args.helpers.now in
     let w : Environment = environment_of f answers in
     let started : c.frame.inside.is_started ≡ true = ap (λ (h : Contents). h.is_started) c.frame.view_is ∙ c.requires in
-    let holds : HoldsDatagram f.area c.frame.inside.stack.items f.length true f.window = subst (λ (b : Bool). HoldsDatagram f.area c.frame.inside.stack.items f.length b f.window) started c.frame.invariant.holds in
+    let holds : HoldsDatagram f.area c.frame.inside.stack f.length true f.window = subst (λ (b : Bool). HoldsDatagram f.area c.frame.inside.stack f.length b f.window) started c.frame.invariant.holds in
     let size : length c.datagram-size.result.now ≡ length d = ap length (c.datagram-size.ensures.bytes ∙ sym (ap datagram_of c.frame.view_is)) in
     let is_datagram : IsDatagram d = subst (λ (h : Contents). IsDatagram (datagram_of h)) (sym c.frame.view_is) c.datagram-size.ensures.short in
     let side : c.from.result ≡ side_number f.context.side = c.from.ensures ∙ c.side_number-side.ensures in
     let source : c.address_record-source.result ≡ address_record f.context.source = c.address_record-source.ensures in
+    let wide : c.wide_record-wide_source.result ≡ wide_record f.context.source = c.wide_record-wide_source.ensures in
     let laid : c.lay_out.new.area ≡ overlay STACK_BYTES (pointers (length d) ++ drop 16 (context_bytes (context_of f.context) (length d))) flat =
     c.lay_out.ensures
-    ∙ (λ i. overlay STACK_BYTES (pointers (size i) ++ context_fields (size i) (source i) f.context.tx (c.side_number-side.ensures i)) (c.deref_mut.ensures.value i))
+    ∙ (λ i. overlay STACK_BYTES (pointers (size i) ++ context_fields (size i) (source i) (wide i) f.context.tx (c.side_number-side.ensures i)) (c.deref_mut.ensures.value i))
     ∙ (λ i. overlay STACK_BYTES (pointers (length d) ++ sym (fields_of_context (context_of f.context) (length d)) i) flat) in
     let between : c.deref_mut-2.result.now ≡ c.lay_out.new.area = c.deref_mut-2.ensures.value ∙ written c.lay_out.new.area flat c.frame.inside.flat.len (c.lay_out.auto.area ∙ c.deref_mut.ensures.len) in
     let given : given_in w (length d) ≡ given_of answers (length c.datagram-size.result.now) c.from.result = λ i. given_of answers (sym size i) (sym side i) in
-    let start = is_start answers (g.H.Helpers.lawful c.args.helpers.now) c.args.program.now f flat refl c.frame.inside.stack.items holds c.frame.invariant.is_context is_datagram (given_of answers (length c.datagram-size.result.now) c.from.result) c.deref_mut-2.result.now given (between ∙ laid) in
+    let start = is_start answers (g.H.Helpers.lawful c.args.helpers.now) c.args.program.now f flat refl c.frame.inside.stack holds c.frame.invariant.is_context is_datagram (given_of answers (length c.datagram-size.result.now) c.from.result) c.deref_mut-2.result.now given (between ∙ laid) in
     let run : IsRun w c.args.program.now d c.deref_mut-2.result.now c.run_flat-ended.new.area c.run_flat-ended.result =
     subst (λ (code : List Insn). IsRun w code d c.deref_mut-2.result.now c.run_flat-ended.new.area c.run_flat-ended.result) c.translation.ensures.code (c.run_flat-ended.ensures w d start) in
     let left = written c.run_flat-ended.new.area (take c.frame.inside.flat.len (c.lay_out.new.area ++ drop (length c.lay_out.new.area) flat)) c.frame.inside.flat.len (c.run_flat-ended.auto.area ∙ c.deref_mut-2.ensures.len) in
-    let Runs : Contents → List ℕ → Type 0 = λ b a. RunsFlat answers c.args.program.now b (record { area = drop 560 a; length = f.length; is_started = false; context = f.context; window = c.run_flat-ended.result.plan.window }) c.run_flat-ended.result in
+    let Runs : Contents → List ℕ → Type 0 = λ b a. RunsFlat answers c.args.program.now b (record { area = drop 580 a; length = f.length; is_started = false; context = f.context; window = c.run_flat-ended.result.plan.window }) c.run_flat-ended.result in
     subst (λ (b : Contents). Runs b (take c.frame.inside.flat.len (c.run_flat-ended.new.area ++ drop (length c.run_flat-ended.new.area) (take c.frame.inside.flat.len (c.lay_out.new.area ++ drop (length c.lay_out.new.area) flat))))) c.frame.view_is
     (subst (λ (a : List ℕ). Runs f a) (sym left)
-    (runs_flat answers (g.H.Helpers.lawful c.args.helpers.now) c.args.program.now f flat refl c.frame.inside.stack.items holds c.frame.invariant.is_context is_datagram c.deref_mut-2.result.now c.run_flat-ended.new.area (between ∙ laid) c.run_flat-ended.result run))
+    (runs_flat answers (g.H.Helpers.lawful c.args.helpers.now) c.args.program.now f flat refl c.frame.inside.stack holds c.frame.invariant.is_context is_datagram c.deref_mut-2.result.now c.run_flat-ended.new.area (between ∙ laid) c.run_flat-ended.result run))
+
+pub run_flat-ended-requires-clause-safe : goal.run_flat-ended-requires-clause-safe
+run_flat-ended-requires-clause-safe g c = subst IsSafe (sym c.translation.ensures.code) c.translation.ensures.safe

@@ -1,5 +1,5 @@
 use Rattle.std.proofs.Common.{rules}
 use Rattle.semantics.proofs.helper.destination_at.Goals as goal
 
-pub returns-then-address-eq1 : goal.returns-then-address-eq1
-returns-then-address-eq1 c = search rules
+pub returns-then-is_valid : goal.returns-then-is_valid
+returns-then-is_valid c = search rules

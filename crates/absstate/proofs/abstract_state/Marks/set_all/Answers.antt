@@ -15,6 +15,6 @@ turn m i end lt = ap (marks_from m i) (one_more i end lt) ∙ ap (λ (k : ℕ). 
 
 pub loop-i-preserved : goal.loop-i-preserved
 loop-i-preserved c =
-    let end : ℕ = c.from-index.result + c.bytes.result in
+    let end : ℕ = c.from-index.result + c.args.n in
     ap (λ (m : Marks). marks_from m (c.loop-i.i + 1) (end - (c.loop-i.i + 1))) c.set.ensures
     ∙ sym (turn c.loop-i.self c.loop-i.i end c.loop-i-test.true) ∙ c.loop-i.invariant

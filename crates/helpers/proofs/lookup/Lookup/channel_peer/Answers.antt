@@ -14,5 +14,5 @@ no_peer slot number rows are large = elim (peer_of slot number rows) as (λ o. p
 ] refl
 
 pub returns-in_default : goal.returns-in_default
-returns-in_default c = ap peer_answer (no_peer c.args.slot c.args.number (rows_at c.args.self.now.moment c.args.self.now.tables.now)
+returns-in_default c = ap (peer_answer c.args.form) (no_peer c.args.slot c.args.number (rows_at c.args.self.now.moment c.args.self.now.tables.now)
     (rows_at-well_formed c.args.self.now.moment c.args.self.now.tables.now c.are_well_formed.ensures) c.in_default.ensures)

@@ -1,16 +1,14 @@
 use Rattle.std.proofs.Common.{◌≡◌, ℕ, List, length, drop, All, refl, sym, ap, ◌∙◌, subst, arith}
 use Rattle.std.proofs.lemmas.List.{length-replicate, drop-replicate}
 use Rattle.std.proofs.lemmas.List.Elements.{All-replicate}
-use Rattle.semantics.specs.StartLaws.{length-empty_stack}
 use Rattle.machine.proofs.frame.Frame.new.Goals as goal
 
 pub invariant_of-result : goal.invariant_of-result
 invariant_of-result c = record {
-  long = let zero_byte : ℕ = 0 in ap length c.in_ok-zeros.ensures ∙ length-replicate 66134 zero_byte;
+  long = let zero_byte : ℕ = 0 in ap length c.in_ok-zeros.ensures ∙ length-replicate 66154 zero_byte;
   holds = record {
-    long = let zero_byte : ℕ = 0 in ap (λ (l : List ℕ). length (drop 560 l)) c.in_ok-zeros.ensures ∙ ap length (drop-replicate 560 66134 zero_byte) ∙ length-replicate 65574 zero_byte;
+    long = let zero_byte : ℕ = 0 in ap (λ (l : List ℕ). length (drop 580 l)) c.in_ok-zeros.ensures ∙ ap length (drop-replicate 580 66154 zero_byte) ∙ length-replicate 65574 zero_byte;
     short = omega arith;
-    cells = ap length c.in_ok-empty_stack.ensures ∙ length-empty_stack;
     ready = λ e. absurd cc;
     inside = tt;
   };
@@ -19,8 +17,8 @@ invariant_of-result c = record {
 
 pub returns : goal.returns
 returns c = record {
-  area = let zero_byte : ℕ = 0 in ap (λ (l : List ℕ). length (drop 560 l)) c.in_ok-zeros.ensures ∙ ap length (drop-replicate 560 66134 zero_byte) ∙ length-replicate 65574 zero_byte;
-  zeros = let zero_byte : ℕ = 0 in subst (All (λ b. b ≡ 0)) (sym (ap (drop 560) c.in_ok-zeros.ensures ∙ drop-replicate 560 66134 zero_byte)) (All-replicate (λ (b : ℕ). b ≡ 0) 65574 0 refl);
+  area = let zero_byte : ℕ = 0 in ap (λ (l : List ℕ). length (drop 580 l)) c.in_ok-zeros.ensures ∙ ap length (drop-replicate 580 66154 zero_byte) ∙ length-replicate 65574 zero_byte;
+  zeros = let zero_byte : ℕ = 0 in subst (All (λ b. b ≡ 0)) (sym (ap (drop 580) c.in_ok-zeros.ensures ∙ drop-replicate 580 66154 zero_byte)) (All-replicate (λ (b : ℕ). b ≡ 0) 65574 0 refl);
   length = refl;
   is_started = refl;
   window = refl;

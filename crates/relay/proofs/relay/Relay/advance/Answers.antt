@@ -1,7 +1,7 @@
 use Rattle.std.proofs.Common.{◌≡◌, rules, sym, ap, subst, ◌∙◌}
 use Rattle.tables.specs.Rows.{rows_at}
-use Rattle.programs.specs.Runs.{planned_sending, slot_for}
-use Rattle.relay.specs.Found.{reply_of_passing, window_shown}
+use Rattle.programs.specs.Runs.{planned_sending}
+use Rattle.relay.specs.Found.{reply_of_passing, own_for, window_shown}
 use Rattle.relay.specs.Relays.{RelayContents}
 use Rattle.relay.specs.Steps.{HasStepped, outcome_of}
 use Rattle.relay.specs.Systems.{SystemReply, no_answer, reply_of_relaying}
@@ -67,7 +67,7 @@ pub returns-in-2-clause-found : goal.returns-in-2-clause-found
 returns-in-2-clause-found c =
     let kept = c.run-outcome.ensures.rest in
     c.window_found.ensures.sends c.run-outcome.new.self
-    (c.slot_for-slot.ensures ∙ (λ i. slot_for c.args.meta.now.from (rows_at (sym kept i).greatest (sym kept i).rows)))
+    (c.own_for-own.ensures ∙ (λ i. own_for c.args.meta.now.from (rows_at (sym kept i).greatest (sym kept i).rows)))
     ∙ (λ i. planned_sending c.args.meta.now.from (rows_at (kept i).greatest (kept i).rows) c.run-outcome.result.destination (window_shown c.run-outcome.new.self.frame))
     ∙ sym (ap (λ (r : SystemReply). r.answer) (plan_reply c))
     ∙ answers (the_view c.self.inside) c.args.meta.now c.args.n c.moment_of-self-inside.result c.moment_of-self-inside.ensures

@@ -1,7 +1,6 @@
-use Rattle.std.proofs.Common.{◌≡◌, ◌<◌, Some, length, arith}
+use Rattle.std.proofs.Common.{◌≡◌, ◌<◌, Some, length, arith, sym, ◌∙◌}
 use Rattle.std.proofs.lemmas.Bool.{OnTrue_at}
 use Rattle.tables.specs.Stored.{stored_at}
-use Rattle.tables.specs.WellFormedLaws.{of_ipv4}
 use Rattle.tables.proofs.InPlace.{stored_read, bind-follows, stored-binding}
 use Rattle.tables.proofs.storage.Tables.bind_in_place.Goals as goal
 
@@ -14,7 +13,7 @@ invariant_of-self-2 c =
     let made = OnTrue_at c.if-not-bind.false c.bind.ensures.made in
     let few = OnTrue_at c.if-not-bind.false c.bind.ensures.few in
     stored-binding c.self.inside.moment c.args.moment slots c.self.inside.clients.items c.self.invariant c.requires.latest slot within c.in-Some.held is c.args.number c.args.peer c.bind.new.self made c.requires.range
-    (of_ipv4 c.args.peer c.is_address.ensures c.requires.ipv4) few.0 few.1
+    c.is_address.ensures few.0 few.1
 
 pub returns-clause-made : goal.returns-clause-made
 returns-clause-made c =
@@ -25,4 +24,4 @@ returns-clause-made c =
     let made = OnTrue_at c.if-not-bind.false c.bind.ensures.made in
     let few = OnTrue_at c.if-not-bind.false c.bind.ensures.few in
     let free = OnTrue_at c.if-not-bind.false c.bind.ensures.free c.args.moment in
-    bind-follows c.self.inside.moment slots c.args.self.now c.self.view_is c.args.moment c.requires.later slot c.in-Some.held is c.if-held-moment.false c.args.number c.args.peer c.bind.new.self made free few.0 few.1
+    bind-follows c.self.inside.moment slots c.args.self.now c.self.view_is c.args.moment c.requires.later slot c.in-Some.held is c.if-held-moment.false c.args.number c.args.peer c.bind.new.self (sym c.is_of_family.ensures ∙ c.if-not-is_of_family.false) made free few.0 few.1

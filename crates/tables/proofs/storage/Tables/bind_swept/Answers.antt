@@ -1,7 +1,6 @@
 use Rattle.std.proofs.Common.{◌+◌, rules}
 use Rattle.tables.specs.declared.channels.TheConstants.{CHANNEL_LIFETIME}
 use Rattle.tables.specs.WellFormed.{IsHeldAt}
-use Rattle.tables.specs.WellFormedLaws.{of_ipv4}
 use Rattle.tables.proofs.HeldRows.{bound}
 use Rattle.tables.proofs.storage.Tables.bind_swept.Goals as goal
 
@@ -19,4 +18,4 @@ hold-requires-clause-held_at c =
     let is : IsHeldAt c.args.slot c.in_ok-held.held.now = search rules in
     let end = c.args.moment + CHANNEL_LIFETIME in
     bound c.args.slot c.args.moment c.in_ok-held.held.now is c.args.number (record { peer = c.args.peer; end = end }) c.put-2.new.self c.at-channels.result c.put.new.self
-    (record { in_range = c.requires.range; peer = of_ipv4 c.args.peer c.is_address.ensures c.requires.ipv4 }) c.at-channels.ensures (c.in_ok-put.ensures {u = tt}).put (c.in_ok-put.ensures {u = tt}).few (c.in_ok-put-2.ensures {u = tt}).few
+    (record { in_range = c.requires.range; peer = c.is_address.ensures }) c.at-channels.ensures (c.in_ok-put.ensures {u = tt}).put (c.in_ok-put.ensures {u = tt}).few (c.in_ok-put-2.ensures {u = tt}).few

@@ -1,4 +1,4 @@
-use Rattle.std.proofs.Common.{◌≡◌, ◌+◌, ◌<◌, Some, length, arith}
+use Rattle.std.proofs.Common.{◌≡◌, ◌+◌, ◌<◌, Some, length, arith, sym, ◌∙◌}
 use Rattle.std.proofs.lemmas.Bool.{OnTrue_at}
 use Rattle.tables.specs.Stored.{stored_at}
 use Rattle.tables.specs.declared.permissions.TheConstants.{PERMISSION_LIFETIME}
@@ -23,4 +23,4 @@ returns-clause-made c =
     let is : stored_at slots slot ≡ Some c.in-Some.held = stored_read slots slot c.index_mut.result.now (Some c.in-Some.held) within c.index_mut.ensures.value c.in-Some.is in
     let made = OnTrue_at c.if-not-permit.false c.permit.ensures.made in
     let few = OnTrue_at c.if-not-permit.false c.permit.ensures.few in
-    permit-follows c.self.inside.moment slots c.args.self.now c.self.view_is c.args.moment c.requires.later slot c.in-Some.held is c.if-held-moment.false c.args.ips.now c.permit.new.self made few
+    permit-follows c.self.inside.moment slots c.args.self.now c.self.view_is c.args.moment c.requires.later slot c.in-Some.held is c.if-held-moment.false c.args.ips.now c.permit.new.self (sym c.are_of.ensures ∙ c.if-not-are_of.false) made few
