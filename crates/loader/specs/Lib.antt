@@ -1,2 +1,3 @@
 -- Internal. The modules of this folder.
 pub mod Loads
+pub mod Verdicts

@@ -11,6 +11,7 @@ ghost use Rattle.verifier.specs.Refusing.{IsVerdict};
 ghost use Rattle.insn.specs.declared.decoding.TheConstants.{MAX_SLOTS};
 ghost use Rattle.loader.specs.declared.loaded.TheConstants.{BUDGET};
 ghost use Rattle.loader.specs.Loads.{IsLoaded, IsLoadRefusal, IsUnlessMemory};
+ghost use Rattle.loader.specs.Verdicts.{ComesFromWalk, IsWalked};
 ghost use Rattle.loader.specs.declared.refusal.LoadError.TheVariants.{Decode, Verify};
 
 use crate::refusal::LoadError;
@@ -62,6 +63,7 @@ fn verified_by<L: Ledger>(alloc: Global, code: &[Insn], blank: Blank) -> Result<
     requires few { slot_count code.now ≤ MAX_SLOTS }
     ensures code { IfOk result (λ v. v ≡ code.now) }
     ensures verdict { IsVerdict code.now BUDGET result }
+    ensures walked { IsWalked code.now result }
 {
     let mut steps = Steps::<L>::new(blank);
     verify(alloc, code, BUDGET, &mut steps)
@@ -72,6 +74,7 @@ fn verified(alloc: Global, code: &[Insn]) -> Result<Verified, Refusal>
     requires few { slot_count code.now ≤ MAX_SLOTS }
     ensures code { IfOk result (λ v. v ≡ code.now) }
     ensures verdict { IsVerdict code.now BUDGET result }
+    ensures walked { IsWalked code.now result }
 {
     verified_by::<Brand>(alloc, code, Blank::new(1))
 }
@@ -86,6 +89,9 @@ pub fn load(alloc: Global, bytes: &[u8]) -> Result<Loaded, LoadError>
     // What is loaded is the program that the bytes encode, and every run of it exits.
     ensures loaded { IfOk result (λ code. IsLoaded code bytes.now) }
     ensures refused { IfErr result (IsLoadRefusal bytes.now) }
+
+    // At most 100,000 steps are made, and V17 and V19 name the slot at which they come.
+    ensures verified { ComesFromWalk bytes.now result }
 
     // Allocation failures aside, the faults of the bytes are named exactly, and so are those of the layout.
     ensures decode { (e : DecodeError) → IsRefused bytes.now e → IsUnlessMemory (Decode e) result }

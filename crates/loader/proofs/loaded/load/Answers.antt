@@ -1,6 +1,8 @@
 use Rattle.std.proofs.Common.{◌≡◌, List, Result, Ok, Err, inl, sym, ap, ◌∙◌, subst}
 use Rattle.std.proofs.lemmas.Result.{err_from_is_err_and}
+use Rattle.insn.specs.Encoding.{Encodes}
 use Rattle.insn.specs.declared.instruction.Insn.{Insn}
+use Rattle.semantics.specs.Runs.{IsSafe}
 use Rattle.verifier.specs.Layout.{IsLayoutFault}
 use Rattle.verifier.specs.declared.refusal.Refusal.{Refusal}
 use Rattle.loader.specs.declared.refusal.LoadError.TheVariants.{Verify}
@@ -24,3 +26,10 @@ returns-clause-layout c code reason slot encodes fault =
     let is : c.deref.result.now ≡ code = c.deref.ensures.value ∙ c.in_ok-code.ensures.only code encodes in
     let refused = c.verified.ensures.verdict.layout reason slot (subst (λ (k : List Insn). IsLayoutFault k reason slot) (sym is) fault) in
     no_refusal c.verified.result _ _ c.in_ok-program.was refused
+
+pub returns-clause-loaded : goal.returns-clause-loaded
+returns-clause-loaded c =
+    let is : c.in_ok-program.program ≡ c.deref.result.now = c.in_ok-program.ensures.code in record {
+      encoded = subst (λ (k : List Insn). Encodes k c.args.bytes.now) (sym (is ∙ c.deref.ensures.value)) c.in_ok-code.ensures.found;
+      safe = subst IsSafe (sym is) c.in_ok-program.ensures.verdict.safe;
+    }
