@@ -9,3 +9,4 @@ mod sockets;
 mod story;
 #[cfg(test)]
 mod texts;
+pub mod wire;

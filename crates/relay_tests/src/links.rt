@@ -1,11 +1,11 @@
 //! A server over a link in memory, of which a receive or a send fails.
 
 use crate::story::{STORY, shipped};
-use attributes::Addr;
-use events::{Action, Parsed, Source, parse, write_answer};
+use crate::wire::{Fate, Wire};
+use events::{Parsed, Source, parse};
 use relay::Relay;
 use semantics::MAX_DATAGRAM;
-use serving::{Link, LinkFault, Place, ServeError, serve_once};
+use serving::{Place, ServeError, serve_once};
 use std::alloc::Global;
 use std::process::Abort;
 use std::test::Fail;
@@ -17,70 +17,6 @@ const SLOTS: usize = 2;
 
 /// The moment of the first events.
 const FIRST: u64 = 1000;
-
-/// What happens to a datagram.
-#[derive(Clone, Copy, Debug, PartialEq, Eq)]
-enum Fate {
-    /// It comes, and is answered.
-    Served,
-    /// It never comes: no receive is made.
-    Lost,
-    /// Its receive finds nothing.
-    Late,
-    /// Its receive fails.
-    ReceiveFails,
-    /// Its receive counts more bytes than a datagram may have.
-    TooLong,
-    /// The send of its answer fails.
-    SendFails,
-}
-
-/// A link with one datagram, which writes the line of what is sent to a log.
-#[derive(Drop)]
-struct Wire<'a> {
-    from: Addr,
-    datagram: &'a [u8],
-    fate: Fate,
-    log: &'a mut Vec<u8>,
-}
-
-impl Link for Wire<'_> {
-    fn receive(
-        &mut self,
-        _place: Place,
-        into: &mut [u8],
-    ) -> Result<Option<(usize, Addr)>, LinkFault> {
-        match self.fate {
-            Fate::Lost | Fate::Late => return Ok(None),
-            Fate::TooLong => return Ok(Some((MAX_DATAGRAM + 1, self.from))),
-            Fate::ReceiveFails => return Err(LinkFault),
-            Fate::Served | Fate::SendFails => {}
-        }
-        let n = self.datagram.len();
-        match into.get_mut(..n) {
-            Some(room) => {
-                room.copy_from_slice(self.datagram);
-                Ok(Some((n, self.from)))
-            }
-            None => Err(LinkFault),
-        }
-    }
-
-    fn send(&mut self, place: Place, to: Addr, bytes: &[u8]) -> Result<(), LinkFault> {
-        if self.fate == Fate::SendFails {
-            return Err(LinkFault);
-        }
-        let action = match place {
-            Place::Client => Action::ToClient { client: to, bytes },
-            Place::Slot(slot) => Action::ToPeer {
-                slot,
-                peer: to,
-                bytes,
-            },
-        };
-        write_answer(self.log, &action).map_err(|_| LinkFault)
-    }
-}
 
 /// Serves the datagram of an event's line, and returns what came of it.
 fn serve(
@@ -98,13 +34,12 @@ fn serve(
         Source::Client(client) => (Place::Client, client),
         Source::Peer { slot, addr } => (Place::Slot(slot), addr),
     };
-    let mut wire = Wire {
-        from,
-        datagram: &room[..n],
-        fate,
-        log,
-    };
-    Ok(serve_once(relay, &mut wire, place, meta.now, meta.tx))
+    let mut wire = Wire::new(alloc, from, &room[..n], fate, log);
+    let served = serve_once(relay, &mut wire, place, meta.now, meta.tx);
+    if !wire.stores_all() {
+        return Err(Fail::new("no room for a call"));
+    }
+    Ok(served)
 }
 
 /// Serves all events, that of one index with another fate, and returns what is sent and what came of that event.

@@ -129,6 +129,7 @@ fn config(alloc: Global) -> Result<Config, AllocError> {
     let _ = nonce.try_push_str("n1");
     Ok(Config {
         ip: [203, 0, 113, 1],
+        ip6: None,
         first_port: 49152,
         slots: 2,
         realm: String::from_str(alloc, "relay")?,

@@ -1,7 +1,6 @@
 -- A turn in which a datagram was received.
 use Rattle.std.proofs.Common.{◌≡◌, ℕ, ◌≤◌, List, [], ◌∷◌, ◌++◌, length, take, inl, refl, sym, ap, subst, ◌∙◌, append_assoc}
 use Rattle.std.specs.Prelude.{Bool, Option, None, Some, Result, Ok}
-use Rattle.std.proofs.lemmas.Option.{none-some, same_Some}
 use Rattle.attributes.specs.declared.address.Addr.{Addr}
 use Rattle.events.specs.Events.{Datagram, Sending}
 use Rattle.events.specs.declared.meta.Meta.{Meta}
@@ -24,10 +23,10 @@ use Rattle.serving.specs.declared.serving.ServeError.{ServeError}
 
 -- first some calls, and then others
 reported_more : (before between after : Option (List Call)) (first more : List Call) → HasReported before between first → HasReported between after more → HasReported before after (first ++ more)
-reported_more None between after first more f m = tt
-reported_more (Some calls) None after first more f m = absurd (none-some (calls ++ first) f)
-reported_more (Some calls) (Some called) after first more f m =
-    m ∙ ap (λ (l : List Call). Some (l ++ more)) (same_Some called (calls ++ first) f) ∙ ap Some (append_assoc calls first more)
+reported_more None between after first more f m = subst (λ (b : Option (List Call)). HasReported b after more) f m
+reported_more (Some calls) None after first more f m = subst (λ (a : Option (List Call)). HasReported (Some calls) a (first ++ more)) (sym m) tt
+reported_more (Some calls) (Some called) None first more f m = tt
+reported_more (Some calls) (Some called) (Some last) first more f m = m ∙ ap (λ (l : List Call). l ++ more) f ∙ append_assoc calls first more
 
 -- an answer that was sent
 pub is_sent : (answer : Option Sending) (sending : Sending) (before after : Option (List Call)) (result : Result Bool ServeError) → answer ≡ Some sending

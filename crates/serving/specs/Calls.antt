@@ -1,5 +1,5 @@
 -- Meaning. The calls of a link: what each was handed, and what it answered.
-use Rattle.std.specs.Prelude.{◌≡◌, ℕ, List, ◌++◌, Option, Some, Result, IfSome}
+use Rattle.std.specs.Prelude.{◌≡◌, ℕ, List, ◌++◌, Option, None, Some, Result}
 use Rattle.attributes.specs.declared.address.Addr.{Addr}
 use Rattle.serving.specs.declared.link.LinkFault.{LinkFault}
 use Rattle.serving.specs.declared.link.Place.{Place}
@@ -9,6 +9,9 @@ pub data Call : Type 0 where
   Received : (place : Place) (buffer : List ℕ) (answer : Result (Option (ℕ × Addr)) LinkFault) → Call
   Sent : (place : Place) (to : Addr) (bytes : List ℕ) (answer : Result (Unit {0}) LinkFault) → Call
 
--- a link that reports its calls has reported these after its former ones
+-- A link that reports its calls has reported these after its former ones, or reports no more, as where it has no memory for
+-- them. One that doesn't report never begins to.
 abbrev pub HasReported : Option (List Call) → Option (List Call) → List Call → Type 0
-HasReported old new calls = IfSome old (λ former. new ≡ Some (former ++ calls))
+HasReported None new calls = new ≡ None
+HasReported (Some former) None calls = Unit {0}
+HasReported (Some former) (Some now) calls = now ≡ former ++ calls

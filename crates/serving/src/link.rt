@@ -20,7 +20,7 @@ pub struct LinkFault;
 
 /// What datagrams come from and go to, as the sockets of a server.
 pub trait Link {
-    /// The calls so far, of a link that reports them.
+    /// The calls so far, of a link that reports them; `None` of one that doesn't, or that has stopped for good.
     ghost calls: { Self → Option (List Call) } = { λ _. None };
 
     /// Receives a datagram at a place, if one has come: its length and the address that it came from. Its bytes are written
