@@ -57,12 +57,26 @@ fn code_under(key: &Key, message: &Message<'_>) -> Option<[u8; 20]>
     Some(code_over(front, key))
 }
 
+/// Returns whether two codes are the same. Each byte is compared, so that the time doesn't say where they differ.
+fn are_same_codes(made: &[u8; 20], code: &[u8; 20]) -> bool
+    ensures { Decides result (made.now ≡ code.now) }
+{
+    let mut same = true;
+    for i in 0..20 {
+        same &= made[i] == code[i];
+    }
+    same
+}
+
 /// Returns whether a code is the right one of a message under a key.
 fn is_code(message: &Message<'_>, key: &Key, code: &[u8]) -> bool
     ensures { Decides result (code_under (key_bytes key.now) message.now ≡ Some code.now) }
 {
     match code_under(key, message) {
-        Some(made) => made.as_slice() == code,
+        Some(made) => match code.try_into() {
+            Ok(code) => are_same_codes(&made, code),
+            Err(_) => false,
+        },
         None => false,
     }
 }
