@@ -24,7 +24,7 @@ pub const TAILROOM: usize = 3;
 /// The greatest offset of a pointer, to either side.
 pub const MAX_OFFSET: i64 = 1_048_576;
 
-/// The greatest channel number, which helper 2 answers (RFC 8656, section 12).
+/// The greatest channel number, which helpers 2 and 7 answer (RFC 8656, section 12).
 pub const MAX_CHANNEL: u64 = 0x4fff;
 
 /// States the sizes in bytes, the greatest offset, and the greatest channel.
