@@ -40,6 +40,19 @@ def forked(moves):
     return NUMBER + forks + NEXT * moves + EXIT, 2 + 2 * (2**FORKS - 1) + 2**FORKS * (moves + 1)
 
 
+def storing(number):
+    """Returns a store to a byte of the stack and a jump over it, which may go either way."""
+    return JUMP + b"\x72\x0a" + (number - 512).to_bytes(2, "little", signed=True) + bytes(4)
+
+
+def meeting(fork, forks):
+    """Returns a program of which no state covers another one where 2^forks paths meet, at each of the last jumps' goals.
+
+    Each state there is compared with all that were kept before it, which is the most that a program can ask for.
+    """
+    return NUMBER + b"".join(fork(i) for i in range(forks)) + (JUMP + MOV) * FORKS + EXIT
+
+
 def counting(jumps):
     """Returns a program that adds 1 or nothing so often, and the abstract steps that it takes.
 
@@ -85,6 +98,10 @@ def print_figures(relayd):
             for program, steps in programs:
                 rate = steps / timed("verify", program) / 1e6
                 print(f"verify: {steps} abstract steps {what}, {rate:.1f} million a second")
+        for what, fork, most in (("store to other bytes", storing, 12), ("add other numbers", adding, 10)):
+            for forks in (most - 2, most - 1, most):
+                taken = timed("verify", meeting(fork, forks))
+                print(f"verify: 2^{forks} paths that {what}, in {taken * 1e3:.1f} ms")
         for slots in (1024, 2048, 4096):
             program = MOV * (slots - 1) + EXIT
             taken = timed("verify", program)

@@ -1,3 +1,4 @@
 pub mod Loads
 pub mod Raising
 pub mod Standing
+pub mod Generality

@@ -18,3 +18,4 @@ pub mod Refusing
 pub mod Opening
 pub mod Plainness
 pub mod Covering
+pub mod Words

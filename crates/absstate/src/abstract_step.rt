@@ -258,6 +258,7 @@ impl<D: Domain> AbsState<D> {
     ghost use Rattle.insn.specs.Encoding.{Fits};
     ghost use Rattle.absstate.specs.AbstractSteps.{abstract_step};
     ghost use Rattle.absstate.specs.Changes.{answer_of};
+    ghost use Rattle.absstate.specs.Generality.{NarrowsBoth};
     ghost use Rattle.absstate.specs.MemberSteps.{StepsFollow};
 
     /// Returns the transition of an instruction's abstract step: the changes that it makes.
@@ -282,6 +283,7 @@ impl<D: Domain> AbsState<D> {
     pub fn step(&self, insn: &Insn) -> Result<Next<D>, Reason>
         ensures step { result ≡ abstract_step D.ops self.now insn.now }
         ensures members { IfOk result (λ next. StepsFollow D.Member self.now insn.now next) }
+        ensures narrows { NarrowsBoth self.now }
     {
         let transition = transition_of(self, *insn)?;
         Ok(self.after(transition))

@@ -208,6 +208,7 @@ impl<D: Domain> AbsState<D> {
     ghost use Rattle.std.specs.Prelude.{◌≡◌, true};
     ghost use Rattle.semantics.specs.Machine.{State};
     ghost use Rattle.absstate.specs.Covers.{covers};
+    ghost use Rattle.absstate.specs.Generality.{CoversWider};
     ghost use Rattle.absstate.specs.Membership.{Loose, IsMember};
 
     /// Returns whether this state covers another: each member of the other one is a member of it.
@@ -215,6 +216,7 @@ impl<D: Domain> AbsState<D> {
         ensures value { result ≡ covers D.ops self.now other.now }
         ensures members { result ≡ true → (s : State) → IsMember D.Member Loose other.now s
             → IsMember D.Member Loose self.now s }
+        ensures wider { CoversWider D.ops self.now other.now }
     {
         let _registers = registers_of(self);
         let _marks = self.marks.cells();

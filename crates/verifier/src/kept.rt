@@ -1,57 +1,141 @@
 //! The states that the walk keeps, at the slots that jumps lead to.
 
-ghost use Rattle.std.specs.Prelude.{◌≡◌, ◌≤◌, ◌<◌, ℕ, true, None, length, slice_index_or, OnOk, IfOk, is_some};
+ghost use Rattle.std.specs.Prelude.{◌≡◌, ◌≤◌, ◌<◌, ℕ, true, None, [], length, slice_index_or, OnOk, IfOk, IfSome, IfNone, is_some};
 ghost use Rattle.std.specs.List.{list_any};
 ghost use Rattle.insn.specs.Encoding.{slot_count};
 ghost use Rattle.insn.specs.declared.decoding.TheConstants.{MAX_SLOTS};
+ghost use Rattle.semantics.specs.Machine.{State};
 ghost use Rattle.absstate.specs.Covers.{covers};
+ghost use Rattle.absstate.specs.MarkWords.{words_of};
+ghost use Rattle.absstate.specs.Membership.{Loose, IsMember};
 ghost use Rattle.verifier.specs.Goals.{goal_at};
+ghost use Rattle.verifier.specs.Columns.{column_of};
 ghost use Rattle.verifier.specs.Keeping.{states_of, states_with, kept_at, is_covered, HasCover, KeepsNothing, KeepsAtGoals, MarksGoal, Keeps};
 
 use crate::layout::distance;
 use crate::walk::Pending;
-use absstate::AbsState;
+use absstate::{AbsState, MarkWords, are_within};
 use insn::MAX_SLOTS;
 use interval::Domain;
 use semantics::{Fetched, Program};
 use std::alloc::{AllocError, Global};
+use std::marker::Model;
+
+/// The states that are kept at a slot, and beside them the marks of each as words, which are compared first.
+/// See docs/DECISIONS.md, "Marks are compared first".
+#[derive(Drop)]
+pub struct States<D: Domain> {
+    words: Vec<MarkWords>,
+    states: Vec<AbsState<D>>,
+}
+
+impl<D: Domain> Model for States<D> {
+    ghost use Rattle.std.specs.Prelude.{◌≡◌, List};
+    ghost use Rattle.absstate.specs.declared.abstract_state.AbsState.{AbsState};
+    ghost use Rattle.verifier.specs.Columns.{column_of};
+
+    ghost Value = { List (AbsState D) };
+
+    ghost view = { λ s. s.states.items };
+
+    ghost invariant = { λ s. s.words.items ≡ column_of s.states.items };
+}
 
 /// The states that the walk has kept, by slot: `None` at each slot that no jump leads to. The list ends at the last slot that
 /// one does.
 /// See docs/DECISIONS.md, "Covered states are skipped".
 #[derive(Drop)]
-pub struct Kept<D> {
-    by_slot: Vec<Option<Vec<AbsState<D>>>>,
+pub struct Kept<D: Domain> {
+    by_slot: Vec<Option<States<D>>>,
 }
 
-/// Returns whether one of some states covers a state.
-fn one_covers<D: Domain>(states: &[AbsState<D>], state: &AbsState<D>) -> bool
+/// Returns whether a state covers another one; of both the marks are there as words.
+fn covers_by<D: Domain>(
+    kept: &AbsState<D>,
+    words: &MarkWords,
+    state: &AbsState<D>,
+    others: &MarkWords,
+) -> bool
+    requires kept { words.now ≡ words_of kept.now.marks.cells }
+    requires state { others.now ≡ words_of state.now.marks.cells }
+    ensures value { result ≡ covers D.ops kept.now state.now }
+    ensures members { result ≡ true → (s : State) → IsMember D.Member Loose state.now s → IsMember D.Member Loose kept.now s }
+{
+    are_within(words, others) && kept.covers(state)
+}
+
+/// Returns whether one of some states, of which the marks are there as words, covers a state.
+fn one_covers<D: Domain>(words: &[MarkWords], states: &[AbsState<D>], state: &AbsState<D>) -> bool
+    requires { words.now ≡ column_of states.now }
     ensures value { result ≡ list_any (λ kept. covers D.ops kept state.now) states.now }
     ensures members { result ≡ true → HasCover D.Member states.now state.now }
 {
-    for kept in states {
-        if kept.covers(state) {
+    let others = state.marks.words();
+    for i in 0..states.len() {
+        if covers_by(&states[i], &words[i], state, &others) {
             return true;
         }
     }
     false
 }
 
+impl<D: Domain> States<D> {
+    ghost use Rattle.std.specs.Prelude.{◌≡◌, ◌++◌, ◌∷◌, [], true, OnOk};
+    ghost use Rattle.std.specs.List.{list_any};
+    ghost use Rattle.absstate.specs.Covers.{covers};
+    ghost use Rattle.verifier.specs.Keeping.{HasCover};
+
+    /// Returns no states.
+    fn new(alloc: Global) -> States<D>
+        ensures { result ≡ [] }
+    {
+        States {
+            words: Vec::new(alloc),
+            states: Vec::new(alloc),
+        }
+    }
+
+    /// Returns whether one of the states covers a state.
+    fn cover(&self, state: &AbsState<D>) -> bool
+        ensures value { result ≡ list_any (λ kept. covers D.ops kept state.now) self.now }
+        ensures members { result ≡ true → HasCover D.Member self.now state.now }
+    {
+        !self.states.is_empty() && one_covers(&self.words, &self.states, state)
+    }
+
+    /// Appends a state.
+    ///
+    /// # Errors
+    /// Where memory runs out.
+    fn push(&mut self, state: AbsState<D>) -> Result<(), AllocError>
+        ensures { OnOk result (self.new ≡ self.old ++ state ∷ []) }
+    {
+        if self.states.is_empty() {
+            self.states.reserve_exact(1)?;
+            self.words.reserve_exact(1)?;
+        }
+        let words = state.marks.words();
+        self.words.push(words)?;
+        if let Err(e) = self.states.push(state) {
+            self.words.pop();
+            return Err(e.into());
+        }
+        Ok(())
+    }
+}
+
 /// Appends a state to those that are kept at a slot, where states are.
 ///
 /// # Errors
 /// Where memory runs out.
-fn push_state<D: Copy>(
-    states: &mut Option<Vec<AbsState<D>>>,
+fn push_state<D: Domain>(
+    states: &mut Option<States<D>>,
     state: AbsState<D>,
 ) -> Result<(), AllocError>
     ensures slots { OnOk result (is_some states.new ≡ is_some states.old) }
     ensures states { OnOk result (states_of states.new ≡ states_with (is_some states.old) state (states_of states.old)) }
 {
     if let Some(states) = states {
-        if states.is_empty() {
-            states.reserve_exact(1)?;
-        }
         states.push(state)?;
     }
     Ok(())
@@ -76,10 +160,7 @@ fn goal_at(program: &Program, slot: usize) -> Option<usize>
 /// # Errors
 /// Where memory runs out.
 #[tactic(auto, using(crate::proofs::Keeping::none_more))]
-fn lengthen<D: Copy>(
-    by_slot: &mut Vec<Option<Vec<AbsState<D>>>>,
-    slot: usize,
-) -> Result<(), AllocError>
+fn lengthen<D: Domain>(by_slot: &mut Vec<Option<States<D>>>, slot: usize) -> Result<(), AllocError>
     ensures reached { OnOk result (slot < length by_slot.new.items) }
     ensures same { OnOk result ((n : ℕ) → slice_index_or by_slot.new.items n None ≡ slice_index_or by_slot.old.items n None) }
 {
@@ -122,17 +203,18 @@ impl<D: Domain> Kept<D> {
             return Ok(());
         };
         lengthen(&mut self.by_slot, slot)?;
-        self.by_slot[slot] = Some(Vec::new(alloc));
+        self.by_slot[slot] = Some(States::new(alloc));
         Ok(())
     }
 
-    /// Returns the states that are kept at a slot.
-    fn states(&self, slot: usize) -> &[AbsState<D>]
-        ensures { result.now ≡ kept_at self.now slot }
+    /// Returns the states that are kept at a slot, `None` where none are to be.
+    fn states_at(&self, slot: usize) -> Option<&States<D>>
+        ensures some { IfSome result (λ states. states.now ≡ kept_at self.now slot) }
+        ensures none { IfNone result (kept_at self.now slot ≡ []) }
     {
         match self.by_slot.get(slot) {
-            Some(Some(states)) => states,
-            _ => &[],
+            Some(Some(states)) => Some(states),
+            _ => None,
         }
     }
 
@@ -141,7 +223,10 @@ impl<D: Domain> Kept<D> {
         ensures value { result ≡ is_covered D.ops (kept_at self.now) here.now }
         ensures members { result ≡ true → HasCover D.Member (kept_at self.now here.now.slot) here.now.state }
     {
-        one_covers(self.states(here.slot), &here.state)
+        match self.states_at(here.slot) {
+            Some(states) => states.cover(&here.state),
+            None => false,
+        }
     }
 
     /// Keeps a state, if some jump leads to its slot.
