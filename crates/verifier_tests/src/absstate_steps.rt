@@ -95,7 +95,14 @@ struct Forks {
     taken: Branch,
 }
 
-static FORKS: [Forks; 13] = [
+static FORKS: [Forks; 14] = [
+    // of two registers, both are narrowed
+    Forks {
+        before: "ldxdw r2, [r1+0]\nldxb r5, [r2-1]\nmov r6, 4",
+        insn: "jgt r6, r5, +0",
+        not_taken: Some((Some((4, 255)), Some((4, 4)))),
+        taken: Some((Some((0, 3)), Some((4, 4)))),
+    },
     // with a number
     Forks {
         before: TWO_BYTES,
