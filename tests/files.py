@@ -12,6 +12,8 @@ from program import PROGRAM, finish, run
 
 # `mov r0, 2` and `exit`
 GOOD = bytes.fromhex("b700000002000000 9500000000000000")
+# `mov r0, r2` and `exit`
+STUCK = bytes.fromhex("bf20000000000000 9500000000000000")
 ACCEPTED = "accepted 2 instructions\n"
 TRACED = "0 mov r0, 2\n1 exit\nexit 2\nwindow none\ndestination none\n"
 LONGEST = 65507
@@ -19,6 +21,8 @@ LONGEST = 65507
 CASES = [
     (["verify", "good"], 0, ACCEPTED, ""),
     (["trace", "good"], 0, TRACED, ""),
+    (["verify", "stuck"], 1, "refused V5 at 0\n", ""),
+    (["trace", "stuck"], 1, "0 mov r0, r2\nstuck V5 at 0\n", ""),
     (["verify", "missing"], 3, "", "cannot read missing\n"),
     (["trace", "missing"], 3, "", "cannot read missing\n"),
     (["verify", "folder"], 3, "", "cannot read folder\n"),
@@ -51,6 +55,11 @@ READ = [
     (["assemble", "-", "out"], "text", 0, "wrote 16 bytes\n", ""),
     (["assemble", "-", "out"], "good", 3, "", "cannot read -\n"),
 ]
+# what the help says of exit statuses
+STATUSES = """
+The exit status is 0 for success, 1 for a refusal or a run that is stuck, 2 for a wrong command line,
+3 for a file, an output or a socket that can't be used, and 4 where memory runs out.
+"""
 # wrong command lines: the status is 2, and a text goes to standard error alone
 WRONG = [
     [],
@@ -65,6 +74,7 @@ WRONG = [
 def write_files(folder):
     """Writes the files that the cases name."""
     (folder / "good").write_bytes(GOOD)
+    (folder / "stuck").write_bytes(STUCK)
     (folder / "empty").write_bytes(b"")
     (folder / "cut").write_bytes(GOOD[:12])
     (folder / "long").write_bytes(bytes(40_000))
@@ -105,6 +115,13 @@ def failures_of_wrong_lines(folder):
             yield f"{shown(words)}: {(status, out, err)}"
 
 
+def failures_of_help(folder):
+    """Yields the help where it doesn't say what the exit statuses are."""
+    status, out, err = run(["--help"], cwd=folder)
+    if (status, err) != (0, "") or STATUSES not in out:
+        yield f"--help: {(status, out, err)}"
+
+
 def with_closed_output(folder, words):
     """Runs relayd with standard output closed from the start."""
     closed = ["-c", 'exec "$0" "$@" >&-', PROGRAM, *words]
@@ -141,7 +158,8 @@ def main():
     with tempfile.TemporaryDirectory() as name:
         folder = pathlib.Path(name)
         write_files(folder)
-        cases = (failures_of_cases, failures_of_standard_input, failures_of_wrong_lines, failures_of_output)
+        cases = (failures_of_cases, failures_of_standard_input, failures_of_wrong_lines, failures_of_help,
+                 failures_of_output)
         failures = [found for case in cases for found in case(folder)]
     return finish(failures, f"files, data and outputs: {len(failures)} failures")
 

@@ -14,7 +14,8 @@ from program import TOP, finish, run
 sys.path.insert(0, str(TOP / "examples"))
 import events
 from rules import (
-    ERROR_CODE, FAMILY, LIFETIME, NONCE, REALM, TRANSPORT, USERNAME, XOR_MAPPED_ADDRESS, XOR_RELAYED_ADDRESS, key_of, message)
+    ERROR_CODE, FAMILY, LIFETIME, NONCE, REALM, TRANSPORT, UNKNOWN_ATTRIBUTES, USERNAME, XOR_MAPPED_ADDRESS, XOR_RELAYED_ADDRESS,
+    key_of, message)
 
 EXAMPLES = TOP / "examples"
 SESSION = TOP / "crates" / "session_replay"
@@ -57,6 +58,10 @@ RELAYED6_VALUE = bytes.fromhex("0002e1120113a9fa" + "0" * 22 + "ab")
 MAPPED_VALUE = bytes.fromhex("00012eb2e721c040")
 RELAYED6 = "c 198.51.100.2:4000 " + allocate(
     0x0103, (XOR_RELAYED_ADDRESS, RELAYED6_VALUE), (LIFETIME, (600).to_bytes(4, "big")), (XOR_MAPPED_ADDRESS, MAPPED_VALUE)) + "\n"
+# a Binding request with two types that aren't understood, and the error 420, which has them in their order
+UNKNOWN = message(0x0001, bytes(12), [(0x0102, b""), (0x0100, b"")]).hex()
+NOT_UNDERSTOOD = "c 198.51.100.2:4000 " + message(
+    0x0111, bytes(12), [(ERROR_CODE, bytes([0, 0, 4, 20]) + b"Unknown Attribute"), (UNKNOWN_ATTRIBUTES, b"\1\2\1\0")]).hex() + "\n"
 # the words after `replay`, the status, standard error; nothing is printed to standard output. The faults come in the
 # order of the command line, the file of users, the nonce's length, the programs, the fields and the events, so the
 # second fault of a case is not named.
@@ -121,6 +126,7 @@ RUNS = [
     # a new nonce, and a text that is none
     (["renewed"], 0, f"-\n{UNSIGNED}", ""),
     (["long_nonce"], 1, "-\n", "refused line 2\n"),
+    (["unknown"], 0, NOT_UNDERSTOOD, ""),
     # a client over IPv6 is served nothing, and a peer may be over either family
     (["family6"], 0, f"-\n-\n{BOUND}", ""),
     # an IPv6 allocation: 440 where there is no address of that family, and digits of either case
@@ -180,6 +186,38 @@ to client 198.51.100.2:4000
     ChannelBind success
     signed
 """
+# after an allocation: a refresh for an hour, one that is refused since there is no allocation any more, and a peer's datagram
+# without a permission, which is discarded
+LATER = """
+from client 198.51.100.2:4000
+    Refresh request
+    LIFETIME 3600
+    signed
+to client 198.51.100.2:4000
+    Refresh success
+    LIFETIME 3600
+    signed
+from client 198.51.100.2:4000
+    Refresh request
+    signed
+to client 198.51.100.2:4000
+    Refresh error
+    ERROR-CODE 437 Allocation Mismatch
+    signed
+from peer 192.0.2.7:5000 at slot 0
+    data nobody asked
+nothing
+"""
+ALLOCATED, REFRESHED, ENDED, DISCARDED = range(1, 5)
+# moments with the lines that come then, each answered as it is above
+STORIES = [
+    # a repeated request doesn't renew the allocation, which ends at 1600
+    [(1000, ALLOCATED), (1599, ALLOCATED), (1600, ENDED)],
+    # a repeated request is answered with the lifetime of the first answer
+    [(1000, ALLOCATED), (1000, REFRESHED), (1001, ALLOCATED)],
+    # the moment of a discarded datagram counts, and a later one before it does not
+    [(1000, ALLOCATED), (2000, DISCARDED), (1200, ENDED)],
+]
 LONGEST_DATA = 65503
 DEFAULTS = {"name": "u", "password": "p", "realm": "relay", "nonce": "n1", "address": "127.0.0.1:49152"}
 # options, with what they change of the answers
@@ -216,6 +254,7 @@ def write_files(folder):
         "users": "u:p\nsecond:a b:c\n",
         "family6": f"{BINDING.replace('198.51.100.2:4000', PEER6)}p 1000 {TX} 0 {PEER6} 616263\n{BINDING}",
         "allocate6": f"c 1000 {TX} 198.51.100.2:4000 {ALLOCATE6}\n",
+        "unknown": f"c 1000 {TX} 198.51.100.2:4000 {UNKNOWN}\n",
         "bad_users": "u:p\nup\n",
     }
     for name, text in texts.items():
@@ -281,6 +320,19 @@ def failures_of_options(folder):
         yield from differences(" ".join(words), got, (0, answers, ""))
 
 
+def failures_of_stories(folder):
+    """Yields the stories of which an answer is another one."""
+    lines, answers = (text.splitlines() for text in events.lines_of(SHOWN.format(**DEFAULTS) + LATER))
+    for story in STORIES:
+        later = []
+        for now, index in story:
+            kind, _, rest = lines[index].split(" ", 2)
+            later.append(f"{kind} {now} {rest}\n")
+        (folder / "story").write_text("".join(later), encoding="utf-8")
+        wanted = "".join(f"{answers[index]}\n" for _, index in story)
+        yield from differences(str(story), run(["replay", *USER, "story"], cwd=folder), (0, wanted, ""))
+
+
 def from_peer(count, answered):
     """Returns the description of a peer's datagram of `count` bytes, answered by ChannelData or not."""
     text = "x" * count
@@ -323,6 +375,7 @@ def main():
         failures_of_faults,
         failures_of_runs,
         failures_of_options,
+        failures_of_stories,
         failures_of_sizes,
         failures_of_lines,
         failures_of_output,
