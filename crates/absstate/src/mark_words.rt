@@ -8,7 +8,7 @@ ghost use Rattle.absstate.specs.MarkWords.{shifted, word_of, word_at, words_of, 
 use crate::abstract_state::Marks;
 
 /// The marks of a stack as words.
-pub type MarkWords = [u64; 8];
+pub(crate) type MarkWords = [u64; 8];
 
 /// The number of marks in a word.
 const WORD_MARKS: usize = 64;
@@ -32,7 +32,7 @@ fn word_of(marks: &[bool]) -> u64
 }
 
 /// Returns whether each word has no bits but those of the other one at its place.
-pub fn are_within(words: &MarkWords, others: &MarkWords) -> bool
+pub(crate) fn are_within(words: &MarkWords, others: &MarkWords) -> bool
     ensures { result ≡ are_within words.now others.now }
 {
     for i in 0..words.len() {
@@ -54,7 +54,7 @@ impl Marks {
     }
 
     /// Returns the marks as words: 64 marks a word, the first one at its lowest bit.
-    pub fn words(&self) -> MarkWords
+    pub(crate) fn words(&self) -> MarkWords
         ensures { result ≡ words_of self.now.cells }
     {
         [

@@ -6,39 +6,39 @@ ghost use Rattle.insn.specs.Encoding.{slot_count};
 ghost use Rattle.insn.specs.declared.decoding.TheConstants.{MAX_SLOTS};
 ghost use Rattle.semantics.specs.Machine.{State};
 ghost use Rattle.absstate.specs.Covers.{covers};
-ghost use Rattle.absstate.specs.MarkWords.{words_of};
+ghost use Rattle.absstate.specs.Digests.{digest_of};
 ghost use Rattle.absstate.specs.Membership.{Loose, IsMember};
 ghost use Rattle.verifier.specs.Goals.{goal_at};
-ghost use Rattle.verifier.specs.Columns.{column_of};
+ghost use Rattle.verifier.specs.Digested.{digests_of};
 ghost use Rattle.verifier.specs.Keeping.{states_of, states_with, kept_at, is_covered, HasCover, KeepsNothing, KeepsAtGoals, MarksGoal, Keeps};
 
 use crate::layout::distance;
 use crate::walk::Pending;
-use absstate::{AbsState, MarkWords, are_within};
+use absstate::{AbsState, Digest};
 use insn::MAX_SLOTS;
 use interval::Domain;
 use semantics::{Fetched, Program};
 use std::alloc::{AllocError, Global};
 use std::marker::Model;
 
-/// The states that are kept at a slot, and beside them the marks of each as words, which are compared first.
-/// See docs/DECISIONS.md, "Marks are compared first".
+/// The states that are kept at a slot, and beside them the digest of each, which is compared first.
+/// See docs/DECISIONS.md, "Digests are compared first".
 #[derive(Drop)]
 pub struct States<D: Domain> {
-    words: Vec<MarkWords>,
+    digests: Vec<Digest<D>>,
     states: Vec<AbsState<D>>,
 }
 
 impl<D: Domain> Model for States<D> {
     ghost use Rattle.std.specs.Prelude.{◌≡◌, List};
     ghost use Rattle.absstate.specs.declared.abstract_state.AbsState.{AbsState};
-    ghost use Rattle.verifier.specs.Columns.{column_of};
+    ghost use Rattle.verifier.specs.Digested.{digests_of};
 
     ghost Value = { List (AbsState D) };
 
     ghost view = { λ s. s.states.items };
 
-    ghost invariant = { λ s. s.words.items ≡ column_of s.states.items };
+    ghost invariant = { λ s. s.digests.items ≡ digests_of s.states.items };
 }
 
 /// The states that the walk has kept, by slot: `None` at each slot that no jump leads to. The list ends at the last slot that
@@ -49,30 +49,30 @@ pub struct Kept<D: Domain> {
     by_slot: Vec<Option<States<D>>>,
 }
 
-/// Returns whether a state covers another one; of both the marks are there as words.
+/// Returns whether a state covers another one; of both the digest is there.
 fn covers_by<D: Domain>(
     kept: &AbsState<D>,
-    words: &MarkWords,
+    digest: &Digest<D>,
     state: &AbsState<D>,
-    others: &MarkWords,
+    other: &Digest<D>,
 ) -> bool
-    requires kept { words.now ≡ words_of kept.now.marks.cells }
-    requires state { others.now ≡ words_of state.now.marks.cells }
+    requires kept { digest.now ≡ digest_of kept.now }
+    requires state { other.now ≡ digest_of state.now }
     ensures value { result ≡ covers D.ops kept.now state.now }
     ensures members { result ≡ true → (s : State) → IsMember D.Member Loose state.now s → IsMember D.Member Loose kept.now s }
 {
-    are_within(words, others) && kept.covers(state)
+    digest.fits(other) && kept.covers(state)
 }
 
-/// Returns whether one of some states, of which the marks are there as words, covers a state.
-fn one_covers<D: Domain>(words: &[MarkWords], states: &[AbsState<D>], state: &AbsState<D>) -> bool
-    requires { words.now ≡ column_of states.now }
+/// Returns whether one of some states, each with its digest, covers a state.
+fn one_covers<D: Domain>(digests: &[Digest<D>], states: &[AbsState<D>], state: &AbsState<D>) -> bool
+    requires { digests.now ≡ digests_of states.now }
     ensures value { result ≡ list_any (λ kept. covers D.ops kept state.now) states.now }
     ensures members { result ≡ true → HasCover D.Member states.now state.now }
 {
-    let others = state.marks.words();
+    let other = state.digest();
     for i in 0..states.len() {
-        if covers_by(&states[i], &words[i], state, &others) {
+        if covers_by(&states[i], &digests[i], state, &other) {
             return true;
         }
     }
@@ -90,7 +90,7 @@ impl<D: Domain> States<D> {
         ensures { result ≡ [] }
     {
         States {
-            words: Vec::new(alloc),
+            digests: Vec::new(alloc),
             states: Vec::new(alloc),
         }
     }
@@ -100,7 +100,7 @@ impl<D: Domain> States<D> {
         ensures value { result ≡ list_any (λ kept. covers D.ops kept state.now) self.now }
         ensures members { result ≡ true → HasCover D.Member self.now state.now }
     {
-        !self.states.is_empty() && one_covers(&self.words, &self.states, state)
+        !self.states.is_empty() && one_covers(&self.digests, &self.states, state)
     }
 
     /// Appends a state.
@@ -112,12 +112,12 @@ impl<D: Domain> States<D> {
     {
         if self.states.is_empty() {
             self.states.reserve_exact(1)?;
-            self.words.reserve_exact(1)?;
+            self.digests.reserve_exact(1)?;
         }
-        let words = state.marks.words();
-        self.words.push(words)?;
+        let digest = state.digest();
+        self.digests.push(digest)?;
         if let Err(e) = self.states.push(state) {
-            self.words.pop();
+            self.digests.pop();
             return Err(e.into());
         }
         Ok(())

@@ -1,7 +1,7 @@
 use Rattle.std.proofs.Common.{sym, ◌∙◌}
-use Rattle.verifier.proofs.Columns.{not_within}
+use Rattle.verifier.proofs.Digested.{no_cover}
 use Rattle.verifier.proofs.kept.covers_by.Goals as goal
 
-pub returns-else-are_within-clause-value : goal.returns-else-are_within-clause-value
-returns-else-are_within-clause-value g c =
-    c.if-are_within.false ∙ sym (not_within g.D.Domain.ops c.args.kept.now c.args.state.now c.args.words.now c.args.others.now c.requires.kept c.requires.state (sym c.are_within.ensures ∙ c.if-are_within.false))
+pub returns-else-fits-clause-value : goal.returns-else-fits-clause-value
+returns-else-fits-clause-value g c =
+    c.if-fits.false ∙ sym (no_cover g.D.Domain.ops c.args.kept.now c.args.state.now c.args.digest.now c.args.other.now c.requires.kept c.requires.state (sym c.fits.ensures ∙ c.if-fits.false))
