@@ -35,7 +35,7 @@ module _ (answers : HelperAnswers) (lawful : IsLawful answers) (program : List I
   size_is : length d ≡ f.length
   size_is = datagram_length f.area f.length holds.long holds.short
 
-  flat_long : length flat ≡ 66154
+  flat_long : length flat ≡ 66166
   flat_long = omega (arith, holds.long, ap length area_is, length-drop headroom_index flat)
 
   -- headroom, datagram and tailroom in the area

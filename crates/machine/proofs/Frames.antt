@@ -145,12 +145,12 @@ length_written old new len e =
     ap (λ (k : ℕ). length (take k (new ++ drop (length new) old))) e ∙ length-take-le (length old) (new ++ drop (length new) old) whole
 
 -- a frame that is not started, with another area, stack and window
-pub is_unstarted : (flat new : List ℕ) (stack new_stack : StackMemory) (n : ℕ) (started : Bool) (window new_window : Option (ℕ × ℕ)) (context : Context) → length new ≡ 66154 → IfSome new_window (λ w. w.0 + w.1 ≤ frame_area_size)
+pub is_unstarted : (flat new : List ℕ) (stack new_stack : StackMemory) (n : ℕ) (started : Bool) (window new_window : Option (ℕ × ℕ)) (context : Context) → length new ≡ 66166 → IfSome new_window (λ w. w.0 + w.1 ≤ frame_area_size)
     → IsFrame flat stack n started window context → IsFrame new new_stack n false new_window context
 is_unstarted flat new stack new_stack n started window new_window context long inside is = record {
   long = long;
   holds = record {
-    long = omega (arith, long, length-drop 580 new);
+    long = omega (arith, long, length-drop 592 new);
     short = is.holds.short;
     ready = λ e. absurd (no_true e);
     inside = inside;
@@ -162,57 +162,57 @@ is_unstarted flat new stack new_stack n started window new_window context long i
     no_true e = absurd cc
 
 -- the bytes from headroom on, of an area whose room is written
-room_from_headroom : (flat bytes : List ℕ) → length flat ≡ 66154
-    → drop 580 (take (length flat) (take 644 flat ++ bytes ++ drop (644 + length bytes) flat)) ≡ take (length (drop 580 flat)) (take 64 (drop 580 flat) ++ bytes ++ drop (64 + length bytes) (drop 580 flat))
+room_from_headroom : (flat bytes : List ℕ) → length flat ≡ 66166
+    → drop 592 (take (length flat) (take 656 flat ++ bytes ++ drop (656 + length bytes) flat)) ≡ take (length (drop 592 flat)) (take 64 (drop 592 flat) ++ bytes ++ drop (64 + length bytes) (drop 592 flat))
 room_from_headroom flat bytes long =
-    let area : List ℕ = drop 580 flat in
-    let all : length flat ≡ 580 + (length flat - 580) = omega (arith, long) in
-    let front : length (take 580 flat) ≡ 580 = length-take-le 580 flat (omega (arith, long)) in
-    let split : take 644 flat ≡ take 580 flat ++ take 64 area = take-add 580 64 flat in
-    let same : 644 + length bytes ≡ 580 + (64 + length bytes) = omega arith in
-    let rest : drop (644 + length bytes) flat ≡ drop (64 + length bytes) area = ap (λ (k : ℕ). drop k flat) same ∙ sym (drop-drop (64 + length bytes) 580 flat) in
-    let regrouped : take 644 flat ++ bytes ++ drop (644 + length bytes) flat ≡ take 580 flat ++ (take 64 area ++ bytes ++ drop (64 + length bytes) area) =
-    (λ i. split i ++ bytes ++ rest i) ∙ ap (λ (l : List ℕ). l ++ drop (64 + length bytes) area) (append_assoc (take 580 flat) (take 64 area) bytes) ∙ append_assoc (take 580 flat) (take 64 area ++ bytes) (drop (64 + length bytes) area) in
-    ap (λ (k : ℕ). drop 580 (take k (take 644 flat ++ bytes ++ drop (644 + length bytes) flat))) all
-    ∙ drop-take 580 (length flat - 580) (take 644 flat ++ bytes ++ drop (644 + length bytes) flat)
-    ∙ ap (take (length flat - 580)) (ap (drop 580) regrouped ∙ drop_at (take 580 flat) (take 64 area ++ bytes ++ drop (64 + length bytes) area) 580 front)
-    ∙ ap (λ (k : ℕ). take k (take 64 area ++ bytes ++ drop (64 + length bytes) area)) (sym (length-drop 580 flat))
+    let area : List ℕ = drop 592 flat in
+    let all : length flat ≡ 592 + (length flat - 592) = omega (arith, long) in
+    let front : length (take 592 flat) ≡ 592 = length-take-le 592 flat (omega (arith, long)) in
+    let split : take 656 flat ≡ take 592 flat ++ take 64 area = take-add 592 64 flat in
+    let same : 656 + length bytes ≡ 592 + (64 + length bytes) = omega arith in
+    let rest : drop (656 + length bytes) flat ≡ drop (64 + length bytes) area = ap (λ (k : ℕ). drop k flat) same ∙ sym (drop-drop (64 + length bytes) 592 flat) in
+    let regrouped : take 656 flat ++ bytes ++ drop (656 + length bytes) flat ≡ take 592 flat ++ (take 64 area ++ bytes ++ drop (64 + length bytes) area) =
+    (λ i. split i ++ bytes ++ rest i) ∙ ap (λ (l : List ℕ). l ++ drop (64 + length bytes) area) (append_assoc (take 592 flat) (take 64 area) bytes) ∙ append_assoc (take 592 flat) (take 64 area ++ bytes) (drop (64 + length bytes) area) in
+    ap (λ (k : ℕ). drop 592 (take k (take 656 flat ++ bytes ++ drop (656 + length bytes) flat))) all
+    ∙ drop-take 592 (length flat - 592) (take 656 flat ++ bytes ++ drop (656 + length bytes) flat)
+    ∙ ap (take (length flat - 592)) (ap (drop 592) regrouped ∙ drop_at (take 592 flat) (take 64 area ++ bytes ++ drop (64 + length bytes) area) 592 front)
+    ∙ ap (λ (k : ℕ). take k (take 64 area ++ bytes ++ drop (64 + length bytes) area)) (sym (length-drop 592 flat))
 
 -- the bytes from headroom on, after a slice of a vector's bytes from the room on is written
-pub room_written_in : (old bytes : List ℕ) (len : ℕ) → len ≡ length old → length old ≡ 66154
-    → drop 580 (let new : List ℕ = take 644 old ++ (bytes ++ drop (length bytes) (drop 644 old)) in take len (new ++ drop (length new) old)) ≡ take (length (drop 580 old)) (take 64 (drop 580 old) ++ bytes ++ drop (64 + length bytes) (drop 580 old))
-room_written_in old bytes len e long = ap (drop 580) (written_after 644 old bytes len e (omega (arith, long))) ∙ room_from_headroom old bytes long
+pub room_written_in : (old bytes : List ℕ) (len : ℕ) → len ≡ length old → length old ≡ 66166
+    → drop 592 (let new : List ℕ = take 656 old ++ (bytes ++ drop (length bytes) (drop 656 old)) in take len (new ++ drop (length new) old)) ≡ take (length (drop 592 old)) (take 64 (drop 592 old) ++ bytes ++ drop (64 + length bytes) (drop 592 old))
+room_written_in old bytes len e long = ap (drop 592) (written_after 656 old bytes len e (omega (arith, long))) ∙ room_from_headroom old bytes long
 
 -- the room of an area
-pub room_in : (flat : List ℕ) → take 65507 (drop 644 flat) ≡ take 65507 (drop 64 (drop 580 flat))
-room_in flat = ap (take 65507) (sym (drop-drop 64 580 flat))
+pub room_in : (flat : List ℕ) → take 65507 (drop 656 flat) ≡ take 65507 (drop 64 (drop 592 flat))
+room_in flat = ap (take 65507) (sym (drop-drop 64 592 flat))
 
 -- the bytes from headroom on, after all of them were written
-pub all_written : (flat new : List ℕ) → 580 ≤ length flat → length new ≡ length flat - 580 → drop 580 (put_mid 580 (length flat - 580) flat new) ≡ new
+pub all_written : (flat new : List ℕ) → 592 ≤ length flat → length new ≡ length flat - 592 → drop 592 (put_mid 592 (length flat - 592) flat new) ≡ new
 all_written flat new le long =
-    let from : List ℕ = drop 580 flat in
-    let none : drop (length flat - 580) from ≡ [] = drop_all (length flat - 580) from (omega (arith, length-drop 580 flat)) in
-    drop_at (take 580 flat) (new ++ drop (length flat - 580) from) 580 (length-take-le 580 flat le) ∙ ap (λ (l : List ℕ). new ++ l) none ∙ append-nil new
+    let from : List ℕ = drop 592 flat in
+    let none : drop (length flat - 592) from ≡ [] = drop_all (length flat - 592) from (omega (arith, length-drop 592 flat)) in
+    drop_at (take 592 flat) (new ++ drop (length flat - 592) from) 592 (length-take-le 592 flat le) ∙ ap (λ (l : List ℕ). new ++ l) none ∙ append-nil new
 
-pub all_from_headroom : (flat : List ℕ) → take (length flat - 580) (drop 580 flat) ≡ drop 580 flat
-all_from_headroom flat = take_all (length flat - 580) (drop 580 flat) (omega (arith, length-drop 580 flat))
+pub all_from_headroom : (flat : List ℕ) → take (length flat - 592) (drop 592 flat) ≡ drop 592 flat
+all_from_headroom flat = take_all (length flat - 592) (drop 592 flat) (omega (arith, length-drop 592 flat))
 
 -- the bytes of headroom, datagram and tailroom, after they were written, and what follows them
-module _ (n : ℕ) (flat new : List ℕ) (room : 580 + (67 + n) ≤ length flat) (long : length new ≡ 67 + n) where
+module _ (n : ℕ) (flat new : List ℕ) (room : 592 + (67 + n) ≤ length flat) (long : length new ≡ 67 + n) where
   abbrev pub after_part : List ℕ
-  after_part = put_mid 580 (647 + n - 580) flat new
+  after_part = put_mid 592 (659 + n - 592) flat new
 
-  pub part_end : 647 + n - 580 ≡ 67 + n
+  pub part_end : 659 + n - 592 ≡ 67 + n
   part_end = omega arith
 
-  pub part_is_new : take (67 + n) (drop 580 (put_mid 580 (647 + n - 580) flat new)) ≡ new
-  part_is_new = ap (λ (k : ℕ). take k (drop 580 after_part)) (sym part_end) ∙ between-put_mid 580 (647 + n - 580) flat new (647 + n) (omega (arith, room)) (omega (arith, long))
+  pub part_is_new : take (67 + n) (drop 592 (put_mid 592 (659 + n - 592) flat new)) ≡ new
+  part_is_new = ap (λ (k : ℕ). take k (drop 592 after_part)) (sym part_end) ∙ between-put_mid 592 (659 + n - 592) flat new (659 + n) (omega (arith, room)) (omega (arith, long))
 
-  pub rest_is_old : drop (67 + n) (drop 580 (put_mid 580 (647 + n - 580) flat new)) ≡ drop (67 + n) (drop 580 flat)
+  pub rest_is_old : drop (67 + n) (drop 592 (put_mid 592 (659 + n - 592) flat new)) ≡ drop (67 + n) (drop 592 flat)
   rest_is_old =
-      drop-drop (67 + n) 580 after_part
-      ∙ drop-put_mid 580 (647 + n - 580) flat new (580 + (67 + n)) (omega arith) (omega (arith, room)) (omega (arith, long))
-      ∙ sym (drop-drop (67 + n) 580 flat)
+      drop-drop (67 + n) 592 after_part
+      ∙ drop-put_mid 592 (659 + n - 592) flat new (592 + (67 + n)) (omega arith) (omega (arith, room)) (omega (arith, long))
+      ∙ sym (drop-drop (67 + n) 592 flat)
 
 -- a frame whose vector is written so has its room written
 pub frame_written : (f now : Contents) (bytes area : List ℕ) → f ≡ now → area ≡ take (length f.area) (take 64 f.area ++ bytes ++ drop (64 + length bytes) f.area) → record f { area = area; is_started = false } ≡ with_room now bytes

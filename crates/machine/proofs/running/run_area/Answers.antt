@@ -22,7 +22,7 @@ use Rattle.machine.proofs.running.run_area.Goals as goal
 pub run_flat-ended-requires-clause-start : goal.run_flat-ended-requires-clause-start
 run_flat-ended-requires-clause-start g c =
     let flat : List ℕ = c.frame.inside.flat.items in
-    let f : Contents = record { area = drop 580 flat; length = c.frame.inside.length; is_started = c.frame.inside.is_started; context = c.frame.inside.context; window = c.frame.inside.window } in
+    let f : Contents = record { area = drop 592 flat; length = c.frame.inside.length; is_started = c.frame.inside.is_started; context = c.frame.inside.context; window = c.frame.inside.window } in
     let d : List ℕ = datagram_of f in
     let answers : HelperAnswers = g.H.Helpers.answers c.args.helpers.now in
     let started : c.frame.inside.is_started ≡ true = ap (λ (h : Contents). h.is_started) c.frame.view_is ∙ c.requires in
@@ -46,7 +46,7 @@ run_flat-ended-requires-clause-start g c =
 pub invariant_of-frame : goal.invariant_of-frame
 invariant_of-frame g c =
     let flat : List ℕ = c.frame.inside.flat.items in
-    let f : Contents = record { area = drop 580 flat; length = c.frame.inside.length; is_started = c.frame.inside.is_started; context = c.frame.inside.context; window = c.frame.inside.window } in
+    let f : Contents = record { area = drop 592 flat; length = c.frame.inside.length; is_started = c.frame.inside.is_started; context = c.frame.inside.context; window = c.frame.inside.window } in
     let d : List ℕ = datagram_of f in
     let answers : HelperAnswers = g.H.Helpers.answers c.args.helpers.now in
     let w : Environment = environment_of f answers in
@@ -76,7 +76,7 @@ invariant_of-frame g c =
 pub returns : goal.returns
 returns g c =
     let flat : List ℕ = c.frame.inside.flat.items in
-    let f : Contents = record { area = drop 580 flat; length = c.frame.inside.length; is_started = c.frame.inside.is_started; context = c.frame.inside.context; window = c.frame.inside.window } in
+    let f : Contents = record { area = drop 592 flat; length = c.frame.inside.length; is_started = c.frame.inside.is_started; context = c.frame.inside.context; window = c.frame.inside.window } in
     let d : List ℕ = datagram_of f in
     let answers : HelperAnswers = g.H.Helpers.answers c.args.helpers.now in
     let w : Environment = environment_of f answers in
@@ -97,7 +97,7 @@ returns g c =
     let run : IsRun w c.args.program.now d c.deref_mut-2.result.now c.run_flat-ended.new.area c.run_flat-ended.result =
     subst (λ (code : List Insn). IsRun w code d c.deref_mut-2.result.now c.run_flat-ended.new.area c.run_flat-ended.result) c.translation.ensures.code (c.run_flat-ended.ensures w d start) in
     let left = written c.run_flat-ended.new.area (take c.frame.inside.flat.len (c.lay_out.new.area ++ drop (length c.lay_out.new.area) flat)) c.frame.inside.flat.len (c.run_flat-ended.auto.area ∙ c.deref_mut-2.ensures.len) in
-    let Runs : Contents → List ℕ → Type 0 = λ b a. RunsFlat answers c.args.program.now b (record { area = drop 580 a; length = f.length; is_started = false; context = f.context; window = c.run_flat-ended.result.plan.window }) c.run_flat-ended.result in
+    let Runs : Contents → List ℕ → Type 0 = λ b a. RunsFlat answers c.args.program.now b (record { area = drop 592 a; length = f.length; is_started = false; context = f.context; window = c.run_flat-ended.result.plan.window }) c.run_flat-ended.result in
     subst (λ (b : Contents). Runs b (take c.frame.inside.flat.len (c.run_flat-ended.new.area ++ drop (length c.run_flat-ended.new.area) (take c.frame.inside.flat.len (c.lay_out.new.area ++ drop (length c.lay_out.new.area) flat))))) c.frame.view_is
     (subst (λ (a : List ℕ). Runs f a) (sym left)
     (runs_flat answers (g.H.Helpers.lawful c.args.helpers.now) c.args.program.now f flat refl c.frame.inside.stack holds c.frame.invariant.is_context is_datagram c.deref_mut-2.result.now c.run_flat-ended.new.area (between ∙ laid) c.run_flat-ended.result run))

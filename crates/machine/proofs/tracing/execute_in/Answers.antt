@@ -5,10 +5,10 @@ use Rattle.machine.specs.Execution.{IsWholeRun}
 use Rattle.machine.proofs.Frames.{part_end, part_is_new, rest_is_old}
 use Rattle.machine.proofs.tracing.execute_in.Goals as goal
 
-part_length : (n : ℕ) (flat : List ℕ) → 580 + (67 + n) ≤ length flat → length (take (647 + n - 580) (drop 580 flat)) ≡ 67 + n
-part_length n flat room = ap (λ (k : ℕ). length (take k (drop 580 flat))) (same n) ∙ length-take-le (67 + n) (drop 580 flat) (omega (arith, room, length-drop 580 flat))
+part_length : (n : ℕ) (flat : List ℕ) → 592 + (67 + n) ≤ length flat → length (take (659 + n - 592) (drop 592 flat)) ≡ 67 + n
+part_length n flat room = ap (λ (k : ℕ). length (take k (drop 592 flat))) (same n) ∙ length-take-le (67 + n) (drop 592 flat) (omega (arith, room, length-drop 592 flat))
   where
-    same : (n : ℕ) → 647 + n - 580 ≡ 67 + n
+    same : (n : ℕ) → 659 + n - 592 ≡ 67 + n
     same n = omega arith
 
 pub returns-clause-run : goal.returns-clause-run
@@ -18,8 +18,8 @@ returns-clause-run g c =
     let new : List ℕ = c.execute.new.bytes in
     let long : length new ≡ 67 + n = c.execute.auto.bytes ∙ part_length n flat c.requires.room in
     let Walks : List ℕ → List ℕ → Type 0 = λ old left. IsWholeRun g.S.Sink.Logs c.args.given.now.code.now (g.H.Helpers.answers c.args.given.now.helpers.now) c.args.given.now.context.now (memory_with c.args.stack.now old n) (memory_with c.execute.new.stack left n) c.execute.new.plan (g.S.Sink.log c.args.sink.now) (g.S.Sink.log c.execute.new.sink) c.execute.result in
-    subst (λ (left : List ℕ). Walks (take (67 + n) (drop 580 flat)) left) (sym (part_is_new n flat new c.requires.room long))
-    (subst (λ (k : ℕ). Walks (take k (drop 580 flat)) new) (part_end n flat new c.requires.room long) c.execute.ensures.run)
+    subst (λ (left : List ℕ). Walks (take (67 + n) (drop 592 flat)) left) (sym (part_is_new n flat new c.requires.room long))
+    (subst (λ (k : ℕ). Walks (take k (drop 592 flat)) new) (part_end n flat new c.requires.room long) c.execute.ensures.run)
 
 pub returns-clause-beyond : goal.returns-clause-beyond
 returns-clause-beyond g c =

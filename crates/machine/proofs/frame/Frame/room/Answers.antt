@@ -4,4 +4,4 @@ use Rattle.machine.proofs.Frames.{datagram_length}
 use Rattle.machine.proofs.frame.Frame.room.Goals as goal
 
 pub returns-clause-len : goal.returns-clause-len
-returns-clause-len c = sym (ap (λ f. length (room_of f)) c.self.view_is) ∙ datagram_length (drop 580 c.self.inside.flat.items) 65507 c.self.invariant.holds.long (omega arith)
+returns-clause-len c = sym (ap (λ f. length (room_of f)) c.self.view_is) ∙ datagram_length (drop 592 c.self.inside.flat.items) 65507 c.self.invariant.holds.long (omega arith)
