@@ -1,5 +1,5 @@
-//! Digests of states. Of a state that covers another one, the digest may cover the other's; so most states that do not are told
-//! apart by a fraction of their bytes.
+//! Digests of states. Where a state covers another one, its digest fits the other's; so a fraction of their bytes shows of most
+//! states that one doesn't cover the other.
 
 ghost use Rattle.std.specs.Prelude.{◌≡◌, length};
 ghost use Rattle.absstate.specs.Digests.{may_cover, may_cover_each, digest_of, fits};
