@@ -10,7 +10,7 @@ use Rattle.stun.specs.Registry.{magic_cookie}
 use Rattle.attributes.specs.Addresses.{HasWidth, IsAddressValue, cookie_half, ipv6_mask, xor_bytes}
 use Rattle.attributes.specs.declared.address.Addr.{Addr}
 use Rattle.attributes.specs.declared.address.Addr.TheVariants.{V4, V6}
-use Rattle.attributes.proofs.Bytes.{bytes_back}
+use Rattle.attributes.specs.NumberLaws.{bytes_back}
 use Rattle.attributes.proofs.Masks.{twice, read_back}
 
 whole : (n : ℕ) (ip : List ℕ) (port : ℕ) → HasWidth n ip port → big_bytes n (big_number n ip) ≡ ip

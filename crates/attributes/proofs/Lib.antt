@@ -1,4 +1,3 @@
-pub mod Bytes
 pub mod ByteOrder
 pub mod Numbers
 pub mod Masks

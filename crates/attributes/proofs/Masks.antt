@@ -10,7 +10,7 @@ use Rattle.stun.specs.Registry.{magic_cookie}
 use Rattle.attributes.specs.Addresses.{IsAddressValue, address_value, ipv6_mask, xor_bytes}
 use Rattle.attributes.specs.declared.address.Addr.{Addr}
 use Rattle.attributes.specs.declared.address.Addr.TheVariants.{V4, V6}
-use Rattle.attributes.proofs.Bytes.{bytes_back, all_fit}
+use Rattle.attributes.specs.NumberLaws.{bytes_back, all_fit}
 
 pub twice : (a mask : ℕ) → bit_xor (bit_xor a mask) mask ≡ a
 twice a mask = xor_assoc a mask mask ∙ ap (bit_xor a) (xor_self mask) ∙ xor_zero_r a

@@ -5,4 +5,5 @@ pub mod AddressOrder
 pub mod AddressOrderLaws
 pub mod AddressTexts
 pub mod Values
+pub mod NumberLaws
 pub mod Errors

@@ -1,6 +1,5 @@
 pub mod Preconditions
 pub mod LoadedValues
-pub mod BigBytes
 pub mod XorBytes
 pub mod PeerWindows
 pub mod WideWindows

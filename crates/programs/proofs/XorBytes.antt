@@ -13,7 +13,7 @@ use Rattle.insn.specs.declared.width.Width.TheVariants.{W64}
 use Rattle.semantics.specs.Machine.{AreBytes}
 use Rattle.semantics.specs.SwapLaws.{stored_again_8, stored_again_4}
 use Rattle.programs.proofs.LoadedValues.{byte_below}
-use Rattle.programs.proofs.BigBytes.{bytes_back}
+use Rattle.attributes.specs.NumberLaws.{bytes_back}
 
 -- bytes xored with others, as many as both have
 abbrev pub xor_each : List ℕ → List ℕ → List ℕ

@@ -1,4 +1,4 @@
--- The bytes of a number that was read from bytes are these.
+-- Interface. The bytes of a number that was read from bytes are these.
 use Rattle.std.proofs.Common.{◌≡◌, ℕ, zero, suc, ◌+◌, ◌*◌, ◌/◌, ◌<◌, ◌≤◌, ◌^◌, List, [], ◌∷◌, length, take, get_or, refl, sym, ap, ◌∙◌, arith, All, inl, inr, Fits, w8}
 use Rattle.std.specs.Prelude.{slice_index}
 use Rattle.std.specs.Int.{bytes_high_first, byte_at}
