@@ -1,3 +1,4 @@
 -- Internal. The modules of this folder.
 pub mod Loads
 pub mod Verdicts
+pub mod Slices

@@ -2,7 +2,9 @@
 #![tactic(auto)]
 
 mod loaded;
+mod loading;
 mod refusal;
 
 pub use loaded::{BUDGET, Loaded, limits, load};
+pub use loading::{LoadProgress, Loading};
 pub use refusal::LoadError;

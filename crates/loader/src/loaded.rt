@@ -29,10 +29,10 @@ pub fn limits()
     ensures budget { BUDGET ≡ 100000 }
 {}
 
-/// A loaded program: its bytes encode it, and every run of it exits. Only [`load`] makes one.
+/// A loaded program: its bytes encode it, and every run of it exits. Only [`load`] and [`Loading`](crate::Loading) make one.
 #[derive(Drop)]
 pub struct Loaded {
-    program: Verified,
+    pub(crate) program: Verified,
 }
 
 impl Model for Loaded {

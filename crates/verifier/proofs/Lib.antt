@@ -9,3 +9,4 @@ pub mod Reaching
 pub mod Walking
 pub mod Walked
 pub mod Verdicts
+pub mod Slicing

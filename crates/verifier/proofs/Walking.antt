@@ -26,16 +26,14 @@ use Rattle.absstate.specs.StepLaws.Answers.{step_successors, step_reasons}
 use Rattle.absstate.specs.StepLaws.Members.{at_first, first_member}
 use Rattle.absstate.specs.declared.abstract_state.AbsState.{AbsState}
 use Rattle.absstate.specs.declared.abstract_step.Next.{Next}
-use Rattle.verifier.specs.Keeping.{kept_at, keeps_at, states_with, kept_with, is_covered, Keeps}
+use Rattle.verifier.specs.Keeping.{kept_at, keeps_at, states_with, kept_with}
 use Rattle.verifier.specs.Layout.{IsLaidOut, StartsAt}
 use Rattle.verifier.specs.declared.kept.Kept.{Kept}
 use Rattle.verifier.specs.PendingStates.{AllRunsExit, IsReached, count_of_beginnings, counts_from}
 use Rattle.verifier.specs.Refusing.{IsReal, MayRefuseOver}
-use Rattle.verifier.specs.Walk.{first_pending, BeginsInside, LeadsTo, IsNext, IsLeft, GoesOn, Advances, IsStepRefusal, IsCovered, Skips, Settles, IsWalkStep, waiting_states, state_to_follow}
+use Rattle.verifier.specs.Walk.{first_pending, BeginsInside, LeadsTo, IsNext, IsLeft, GoesOn, Advances, IsStepRefusal, IsCovered, Skips, IsWalkStep, waiting_states}
 use Rattle.verifier.specs.declared.refusal.Refusal.{Refusal}
 use Rattle.verifier.specs.declared.refusal.Refusal.TheVariants as refusal
-use Rattle.verifier.specs.declared.walk.Path.{Path}
-use Rattle.verifier.specs.declared.walk.Path.TheVariants.{Continues}
 use Rattle.verifier.specs.declared.walk.Pending.{Pending}
 use Rattle.verifier.proofs.Positions.{first_begins}
 use Rattle.verifier.proofs.Branches.{branch_rises, branch_begins, state_goes_on}
@@ -127,27 +125,6 @@ module _ {D : Type 0} (ops : Operations D) (Member : D → ℕ → Type 0) (kept
     covered = All-cons (IsCovered ops Member kept) p skips.skipped covered skips.covered;
     parts = skips.parts ∙ append_assoc rest (p ∷ []) skips.skipped;
   }
-
-  skips_after : (old : List (Pending D)) (p : Pending D) (rest : List (Pending D)) → IsCovered ops Member kept p → Skips ops Member kept old rest → Skips ops Member kept (waiting_states (Some p) old) rest
-  skips_after old p rest covered skips = record {
-    skipped = skips.skipped ++ p ∷ [];
-    covered = All-push (IsCovered ops Member kept) skips.skipped p skips.covered covered;
-    parts = ap (λ (xs : List (Pending D)). xs ++ p ∷ []) skips.parts ∙ append_assoc rest skips.skipped (p ∷ []);
-  }
-
-  -- a path that continues from a state that is not covered, and from one that is
-  pub settles_here : (path : Path) (here : Pending D) (old : List (Pending D)) → path ≡ Continues → is_covered ops kept here ≡ false → Settles ops Member kept (state_to_follow path here) old (Some here) old
-  settles_here path here old is uncovered = subst (λ (p : Path). Settles ops Member kept (state_to_follow p here) old (Some here) old) (sym is) (record { skips = skips_none (waiting_states (Some here) old) (waiting_states (Some here) old) refl; uncovered = uncovered; ended = tt })
-
-  pub settles_past : (path : Path) (here : Pending D) (old : List (Pending D)) (picked : Option (Pending D)) (new : List (Pending D)) → path ≡ Continues → IsCovered ops Member kept here → Settles ops Member kept None old picked new → Settles ops Member kept (state_to_follow path here) old picked new
-  settles_past path here old picked new is covered settles = subst (λ (p : Path). Settles ops Member kept (state_to_follow p here) old picked new) (sym is) (record { skips = skips_after old here (waiting_states picked new) covered settles.skips; uncovered = settles.uncovered; ended = settles.ended })
-
--- a step, where it is known how its path ends
-pub made_so : {D : Type 0} (ops : Operations D) (Member : D → ℕ → Type 0) (code : List Insn) (here : Pending D) (old : List (Pending D)) (kept : Kept D) (next : Pending D) (new : List (Pending D)) (more : Kept D) (path other : Path) → path ≡ other → IsWalkStep ops Member code here old kept (state_to_follow path next) new more → IsWalkStep ops Member code here old kept (state_to_follow other next) new more
-made_so ops Member code here old kept next new more path other is step = subst (λ (p : Path). IsWalkStep ops Member code here old kept (state_to_follow p next) new more) is step
-
-pub makes_step : {D : Type 0} (ops : Operations D) (Member : D → ℕ → Type 0) (code : List Insn) (here : Pending D) (old : List (Pending D)) (kept : Kept D) (picked : Option (Pending D)) (new : List (Pending D)) (more : Kept D) (next : Option (Pending D)) (pending : List (Pending D)) → Keeps here kept more → Advances ops code here old next pending → Settles ops Member (kept_at more) next pending picked new → IsWalkStep ops Member code here old kept picked new more
-makes_step ops Member code here old kept picked new more next pending keeps advances settles = record { next = next; pending = pending; keeps = keeps; advances = advances; settles = settles }
 
 module _ {D : Type 0} (ops : Operations D) (Member : D → ℕ → Type 0) (sound : AreSound ops Member) (code : List Insn) where
   -- ---- kept states
@@ -300,10 +277,6 @@ module _ {D : Type 0} (ops : Operations D) (Member : D → ℕ → Type 0) (soun
   made_step made here old kept picked new more laid_out walking step =
       settles (made + 1) (kept_at more) (waiting_states step.next step.pending) (waiting_states picked new) step.settles.skips
       (stepped made here old step.pending step.next (kept_at kept) (kept_at more) (keeps_at kept here.slot) laid_out walking step.advances step.keeps.states)
-
-  -- where nothing is left to follow, every run from the first pending state exits
-  pub finished : (made : ℕ) (here : Pending D) (old : List (Pending D)) (kept : Kept D) (new : List (Pending D)) (more : Kept D) → IsLaidOut code → IsWalking made (old ++ here ∷ []) (kept_at kept) → IsWalkStep ops Member code here old kept None new more → AllRunsExit Member code first_pending
-  finished made here old kept new more laid_out walking step = (made_step made here old kept None new more laid_out walking step).good (all_none (AllRunsExit Member code) new step.settles.ended)
 
 module _ {D : Type 0} (ops : Operations D) (Member : D → ℕ → Type 0) (sound : AreSound ops Member) where
   -- ---- the ends of the walk

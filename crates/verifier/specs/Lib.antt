@@ -7,3 +7,6 @@ pub mod Walk
 pub mod Walks
 pub mod Refusing
 pub mod PendingStates
+pub mod Slices
+pub mod SliceEnds
+pub mod VerdictLaws

@@ -2,9 +2,9 @@
 use Rattle.std.specs.Prelude.{◌≡◌, ℕ, zero, suc, ◌+◌, ◌⊎◌, List, [], ◌∷◌, ◌++◌, Option, Result, Ok, Err}
 use Rattle.insn.specs.declared.instruction.Insn.{Insn}
 use Rattle.interval.specs.Domains.{Operations}
-use Rattle.verifier.specs.Keeping.{KeepsAtGoals, KeepsNothing}
+use Rattle.verifier.specs.Keeping.{KeepsAtGoals, KeepsNothing, kept_at, Keeps}
 use Rattle.verifier.specs.Layout.{IsLayoutFault}
-use Rattle.verifier.specs.Walk.{first_pending, waiting_states, IsWalkStep, IsRefusedAt}
+use Rattle.verifier.specs.Walk.{first_pending, waiting_states, Advances, Skips, IsWalkStep, IsRefusedAt}
 use Rattle.verifier.specs.declared.kept.Kept.{Kept}
 use Rattle.verifier.specs.declared.refusal.Refusal.{Refusal}
 use Rattle.verifier.specs.declared.refusal.Refusal.TheVariants as refusal
@@ -17,6 +17,14 @@ Walks ops Member code zero waits kept = (waits ≡ first_pending ∷ []) × Keep
 Walks {D = D} ops Member code (suc n) waits kept =
     (here : Pending D) × (old : List (Pending D)) × (before : Kept D) × (picked : Option (Pending D)) × (new : List (Pending D))
     × Walks ops Member code n (old ++ here ∷ []) before × IsWalkStep ops Member code here old before picked new kept × (waits ≡ waiting_states picked new)
+
+-- As `Walks`, where of the states that wait after the last step not all that are covered need be skipped yet.
+abbrev pub Pauses : {D : Type 0} → Operations D → (D → ℕ → Type 0) → List Insn → ℕ → List (Pending D) → Kept D → Type 0
+Pauses ops Member code zero waits kept = Walks ops Member code zero waits kept
+Pauses {D = D} ops Member code (suc n) waits kept =
+    (here : Pending D) × (old : List (Pending D)) × (before : Kept D) × (next : Option (Pending D)) × (new : List (Pending D))
+    × Walks ops Member code n (old ++ here ∷ []) before × Keeps here before kept × Advances ops code here old next new
+    × Skips ops Member (kept_at kept) (waiting_states next new) waits
 
 -- after a number of steps the state at hand is at a slot
 pub record ComesTo {D : Type 0} (ops : Operations D) (Member : D → ℕ → Type 0) (code : List Insn) (made slot : ℕ) : Type 0 where

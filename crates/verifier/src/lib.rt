@@ -4,8 +4,10 @@
 mod kept;
 mod layout;
 mod refusal;
+mod slices;
 mod walk;
 
 pub use refusal::Refusal;
+pub use slices::{Progress, Walk, verify_in_slices};
 pub use steps::Steps;
 pub use walk::{Verified, verify, verify_with};

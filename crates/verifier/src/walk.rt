@@ -1,5 +1,4 @@
-//! The walk: every path is followed from the first slot, the branch that is not taken first. A state that a kept one of its
-//! slot covers is skipped.
+//! The walk: every path is followed from the first slot, the branch that is not taken first.
 
 ghost use Rattle.std.specs.Prelude.{◌≡◌, ◌≤◌, ◌<◌, None, Ok, IfOk, IfErr, OnOk, IsOk};
 ghost use Rattle.std.specs.Option.{option_map};
@@ -9,16 +8,16 @@ ghost use Rattle.semantics.specs.Runs.{IsSafe};
 ghost use Rattle.semantics.specs.Flow.{branch_slot};
 ghost use Rattle.absstate.specs.Changes.{state_after_change};
 ghost use Rattle.verifier.specs.Layout.{IsLaidOut};
-ghost use Rattle.verifier.specs.Refusing.{MayRefuseOver, IsVerdict, IsVerdictOver, CountsSteps};
-ghost use Rattle.verifier.specs.Keeping.{kept_at};
-ghost use Rattle.verifier.specs.Walk.{IsStepRefusal, BeginsInside, IsNext, IsOutOfMemory, Leaves, Advances, Settles, IsWalkStep, state_to_follow};
+ghost use Rattle.verifier.specs.Refusing.{IsVerdict, IsVerdictOver, CountsSteps};
+ghost use Rattle.verifier.specs.Keeping.{Keeps};
+ghost use Rattle.verifier.specs.Walk.{IsStepRefusal, BeginsInside, IsNext, IsOutOfMemory, Leaves, Advances, state_to_follow};
 ghost use Rattle.verifier.specs.Walks.{EndsWalk};
 ghost use Rattle.interval.specs.Intervals.{LiesBetween, interval_ops};
 ghost use Rattle.semantics.specs.declared.fetching.Branch.TheVariants.{NotTaken, Taken};
 
 use crate::kept::Kept;
-use crate::layout::check_layout;
 use crate::refusal::Refusal;
+use crate::slices::verify_in_slices;
 use absstate::{AbsState, Change, Transition};
 use insn::Insn;
 use interval::{Domain, Interval};
@@ -55,10 +54,10 @@ pub enum Path {
     Ended,
 }
 
-/// A program that was accepted: every run of it exits. Only `verify_with` makes one.
+/// A program that was accepted: every run of it exits. Only a walk that has ended makes one.
 #[derive(Drop)]
 pub struct Verified {
-    translation: Translation,
+    pub(crate) translation: Translation,
 }
 
 impl Model for Verified {
@@ -196,53 +195,11 @@ fn advance<D: Domain>(
     }
 }
 
-/// Goes on to the last pending state that no kept one of its slot covers, and skips those after it. Where there is none,
-/// all paths have ended.
-fn pop_uncovered<D: Domain>(
-    kept: &Kept<D>,
-    here: &mut Pending<D>,
-    pending: &mut Vec<Pending<D>>,
-) -> Path
-    ensures { Settles D.ops D.Member (kept_at kept.now) None pending.old.items
-        (state_to_follow result here.new) pending.new.items }
-{
-    while let Some(last) = pending.pop() {
-        if !kept.covers(&last) {
-            *here = last;
-            return Path::Continues;
-        }
-    }
-    Path::Ended
-}
-
-/// Goes on to the state to follow next: that of the current path, or, where it has ended, the last pending one. A state that
-/// a kept one of its slot covers is skipped. Where no other is left, all paths have ended.
-fn settle<D: Domain>(
-    path: Path,
-    kept: &Kept<D>,
-    here: &mut Pending<D>,
-    pending: &mut Vec<Pending<D>>,
-) -> Path
-    ensures { Settles D.ops D.Member (kept_at kept.now) (state_to_follow path here.old) pending.old.items
-        (state_to_follow result here.new) pending.new.items }
-{
-    match path {
-        Path::Ended => pop_uncovered(kept, here, pending),
-        Path::Continues => {
-            if kept.covers(here) {
-                return pop_uncovered(kept, here, pending);
-            }
-            Path::Continues
-        }
-    }
-}
-
-/// Makes one step of the walk: keeps the state at hand, if some jump leads to its slot, makes its step, and goes on to the
-/// state to follow next.
+/// Makes one step of the walk: keeps the state at hand, if some jump leads to its slot, and makes its step.
 ///
 /// # Errors
 /// The refusal of the step; V19 where memory runs out for a state that is kept or left pending.
-fn make_step<D: Domain>(
+pub(crate) fn make_step<D: Domain>(
     program: &Program,
     kept: &mut Kept<D>,
     here: &mut Pending<D>,
@@ -251,50 +208,15 @@ fn make_step<D: Domain>(
     requires few { slot_count program.now ≤ MAX_SLOTS }
     requires laid_out { IsLaidOut program.now }
     requires inside { BeginsInside program.now here.old }
-    ensures made { IfOk result (λ path. IsWalkStep D.ops D.Member program.now here.old pending.old.items kept.old
-        (state_to_follow path here.new) pending.new.items kept.new) }
+    ensures kept { OnOk result (Keeps here.old kept.old kept.new) }
+    ensures made { IfOk result (λ path. Advances D.ops program.now here.old pending.old.items
+        (state_to_follow path here.new) pending.new.items) }
     ensures refused { IfErr result (IsStepRefusal D.ops program.now here.old) }
 {
     let Ok(()) = kept.keep(here) else {
         return Err(Refusal::Memory { slot: here.slot });
     };
-    let path = advance(program, here, pending)?;
-    Ok(settle(path, kept, here, pending))
-}
-
-/// Follows every path from the first slot on, in at most `budget` steps.
-///
-/// # Errors
-/// The first refusal that is met.
-fn walk<D: Domain, L: Ledger>(
-    alloc: Global,
-    program: &Program,
-    budget: usize,
-    steps: &mut Steps<L>,
-) -> Result<(), Refusal>
-    requires few { slot_count program.now ≤ MAX_SLOTS }
-    requires laid_out { IsLaidOut program.now }
-    ensures safe { OnOk result (IsSafe program.now) }
-    ensures refused { IfErr result (MayRefuseOver D.ops D.Member program.now budget) }
-    ensures counts { CountsSteps budget steps.old steps.new result }
-    ensures walked { EndsWalk D.ops D.Member program.now steps.old steps.new result }
-{
-    let Ok(mut kept) = Kept::new(alloc, program) else {
-        return Err(Refusal::Memory { slot: 0 });
-    };
-    let mut pending = Vec::new(alloc);
-    let mut here = Pending::<D> {
-        slot: 0,
-        state: AbsState::start(),
-    };
-    for _ in 0..budget {
-        steps.tick();
-        match make_step(program, &mut kept, &mut here, &mut pending)? {
-            Path::Continues => {}
-            Path::Ended => return Ok(()),
-        }
-    }
-    Err(Refusal::Budget { slot: here.slot })
+    advance(program, here, pending)
 }
 
 /// Verifies a program, with what a numeric domain knows of its numbers: accepts it if no step of it, on any path, can be
@@ -317,12 +239,7 @@ pub fn verify_with<D: Domain, L: Ledger>(
     ensures counts { CountsSteps budget steps.old steps.new result }
     ensures walked { EndsWalk D.ops D.Member code.now steps.old steps.new result }
 {
-    check_layout(code)?;
-    let Ok(translation) = Translation::new(alloc, code) else {
-        return Err(Refusal::Memory { slot: 0 });
-    };
-    walk::<D, L>(alloc, translation.program(), budget, steps)?;
-    Ok(Verified { translation })
+    verify_in_slices::<D, L>(alloc, code, budget, usize::MAX, steps)
 }
 
 /// Verifies a program with intervals: accepts it if no step of it, on any path, can be stuck. `steps` counts one for each

@@ -1,0 +1,102 @@
+//! Loading in slices: a program is decoded at once, and its verification goes on by so much work at a time.
+
+ghost use Rattle.std.specs.Prelude.{◌≡◌, ◌<◌, ℕ, List, IfOk, IfErr};
+ghost use Rattle.insn.specs.Encoding.{Encodes};
+ghost use Rattle.insn.specs.Refusal.{IsRefused};
+ghost use Rattle.insn.specs.declared.instruction.Insn.{Insn};
+ghost use Rattle.insn.specs.declared.refusal.DecodeError.{DecodeError};
+ghost use Rattle.semantics.specs.declared.reason.Reason.{Reason};
+ghost use Rattle.verifier.specs.Layout.{IsLayoutFault};
+ghost use Rattle.loader.specs.Loads.{IsLoadRefusal, IsUnlessMemory};
+ghost use Rattle.loader.specs.Slices.{IsSliceOf};
+ghost use Rattle.loader.specs.declared.refusal.LoadError.TheVariants.{Decode, Verify};
+
+use crate::loaded::{BUDGET, Loaded};
+use crate::refusal::LoadError;
+use insn::decode;
+use interval::Interval;
+use std::alloc::Global;
+use std::marker::{Brand, Model};
+use std::sync::ledger::{Blank, Ledger};
+use verifier::{Progress, Refusal, Steps, Walk};
+
+/// A program that is being loaded: its bytes are decoded, and its verification goes on in slices.
+#[derive(Drop)]
+pub struct Loading {
+    walk: Walk<Interval>,
+}
+
+impl Model for Loading {
+    ghost use Rattle.std.specs.Prelude.{◌≡◌};
+    ghost use Rattle.interval.specs.declared.interval.Interval.{Interval};
+    ghost use Rattle.loader.specs.declared.loaded.TheConstants.{BUDGET};
+    ghost use Rattle.verifier.specs.Slices.{Walking};
+
+    ghost Value = { Walking Interval };
+
+    ghost view = { λ l. l.walk };
+
+    ghost invariant = { λ l. l.walk.budget ≡ BUDGET };
+}
+
+/// What loading has come to after a slice.
+#[derive(Drop)]
+pub enum LoadProgress {
+    /// It goes on.
+    Going(Loading),
+    /// It has ended: the program is loaded, or refused.
+    Ended(Result<Loaded, Refusal>),
+}
+
+/// Goes on by a slice, and counts its steps.
+fn advanced_by<L: Ledger>(walk: Walk<Interval>, slice: usize, blank: Blank) -> Progress<Interval>
+    requires name { blank.name ≡ L.name }
+    requires parts { blank.parts ≡ L.parts }
+    requires some { 0 < L.parts }
+    ensures { IsSliceOf walk slice result }
+{
+    let mut steps = Steps::<L>::new(blank);
+    walk.advance(slice, &mut steps)
+}
+
+/// Goes on by a slice; nothing counts its steps.
+fn advanced(walk: Walk<Interval>, slice: usize) -> Progress<Interval>
+    ensures { IsSliceOf walk slice result }
+{
+    advanced_by::<Brand>(walk, slice, Blank::new(1))
+}
+
+impl Loading {
+    ghost use Rattle.std.specs.Prelude.{◌≡◌, ℕ, List, IfOk, IfErr};
+    ghost use Rattle.loader.specs.Slices.{IsLoadSlice};
+
+    /// Begins to load a program: decodes its bytes (RFC 9669, sections 3 to 5), and tests its layout.
+    ///
+    /// # Errors
+    /// E1 to E7 where the bytes encode no program; V1 to V4 where its layout is faulty. E8, and V19 at slot 0, where memory
+    /// runs out.
+    pub fn new(alloc: Global, bytes: &[u8]) -> Result<Loading, LoadError>
+        ensures begun { IfOk result (λ l. Encodes l.code bytes.now) }
+        ensures refused { IfErr result (IsLoadRefusal bytes.now) }
+        ensures decode { (e : DecodeError) → IsRefused bytes.now e → IsUnlessMemory (Decode e) result }
+        ensures layout { (code : List Insn) (reason : Reason) (slot : ℕ)
+            → Encodes code bytes.now → IsLayoutFault code reason slot
+            → IsUnlessMemory (Verify (Refusal.Stuck reason slot)) result }
+    {
+        let code = decode(alloc, bytes)?;
+        let walk = Walk::new(alloc, &code, BUDGET)?;
+        Ok(Loading { walk })
+    }
+
+    /// Goes on by `slice` units of work, or fewer where the verification ends. Whatever the slices are, it ends as
+    /// [`load`](crate::load) does.
+    pub fn advance(self, slice: usize) -> LoadProgress
+        ensures { IsLoadSlice self slice result }
+    {
+        match advanced(self.walk, slice) {
+            Progress::Going(walk) => LoadProgress::Going(Loading { walk }),
+            Progress::Ended(Ok(program)) => LoadProgress::Ended(Ok(Loaded { program })),
+            Progress::Ended(Err(refusal)) => LoadProgress::Ended(Err(refusal)),
+        }
+    }
+}
