@@ -80,10 +80,13 @@ abbrev pub high_of : Anchor → ℤ
 high_of First = pos 0
 high_of (Made id low high proved) = high
 
--- how far from an anchor on the datagram is proved to reach
+-- how far from an anchor on a datagram is proved to reach, whose first byte it is proved to have n bytes from on
+abbrev pub proved_from : Anchor → ℤ → ℤ
+proved_from First n = n
+proved_from (Made id low high proved) n = proved
+
 abbrev pub proved_of : {D : Type 0} → AbsState D → Anchor → ℤ
-proved_of a First = a.proved
-proved_of a (Made id low high proved) = proved
+proved_of a anchor = proved_from anchor a.proved
 
 -- the number of the anchor that a value names; 0 where it names none that was made
 abbrev pub id_of : {D : Type 0} → AbstractValue D → ℕ

@@ -1,5 +1,5 @@
 -- Interface. Marks as words: 64 marks a word, the first one at its lowest bit.
-use Rattle.std.specs.Prelude.{ℕ, ◌*◌, ◌%◌, ◌^◌, ◌==◌, ◌&&◌, Bool, true, false, List, [], ◌∷◌, map, take, drop, bit_or, bit_and}
+use Rattle.std.specs.Prelude.{ℕ, zero, suc, ◌*◌, ◌/◌, ◌%◌, ◌^◌, ◌==◌, ◌&&◌, Bool, true, false, List, [], ◌∷◌, ◌++◌, map, take, drop, bit_or, bit_and}
 
 abbrev pub bit_of : Bool → ℕ
 bit_of true = 1
@@ -24,3 +24,13 @@ words_of marks = map (word_at marks) (0 ∷ 1 ∷ 2 ∷ 3 ∷ 4 ∷ 5 ∷ 6 ∷ 
 abbrev pub are_within : List ℕ → List ℕ → Bool
 are_within (w ∷ words) (o ∷ others) = (bit_and w o == w) && are_within words others
 are_within _ _ = true
+
+-- the lowest bits of a word as marks, the lowest one first
+abbrev pub bits_of : ℕ → ℕ → List Bool
+bits_of zero word = []
+bits_of (suc n) word = (word % 2 == 1) ∷ bits_of n (word / 2)
+
+-- the marks that words have
+unfoldable pub marks_of : List ℕ → List Bool
+marks_of [] = []
+marks_of (word ∷ words) = bits_of 64 word ++ marks_of words

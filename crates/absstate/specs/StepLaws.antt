@@ -19,4 +19,4 @@ pub mod Opening
 pub mod Plainness
 pub mod Covering
 pub mod Words
-pub mod Digesting
+pub mod Packing

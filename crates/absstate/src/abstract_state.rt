@@ -4,7 +4,7 @@ ghost use Rattle.std.specs.Prelude.{◌≡◌, ◌+◌, ◌*◌, ◌≤◌, ◌<
 ghost use Rattle.insn.specs.Codes.{byte_count};
 ghost use Rattle.absstate.specs.Covers.{covers_marks};
 ghost use Rattle.semantics.specs.declared.limits.TheConstants.{STACK_BYTES, GROUP_BYTES, GROUPS};
-ghost use Rattle.absstate.specs.AbstractStates.{no_marks, is_marked, are_marked, mark, marks_from, unmark, unmarked_from, group_at, group_index, without_groups, with_marks, abstract_with_pointer, first_abstract_state, low_of, high_of, id_of, greatest_id, proved_up_to, raised_anchor, raised_value, proved_of, with_value, with_length, with_least, with_answer, with_out};
+ghost use Rattle.absstate.specs.AbstractStates.{no_marks, is_marked, are_marked, mark, marks_from, unmark, unmarked_from, group_at, group_index, without_groups, with_marks, abstract_with_pointer, first_abstract_state, low_of, high_of, id_of, greatest_id, proved_up_to, raised_anchor, raised_value, proved_from, proved_of, with_value, with_length, with_least, with_answer, with_out};
 
 use crate::covering::covers_marks;
 use insn::Reg;
@@ -73,6 +73,16 @@ impl Anchor {
         match self {
             Anchor::First => 0,
             Anchor::Made { high, .. } => high,
+        }
+    }
+
+    /// Returns how far from this anchor on a datagram is proved to reach that has `proved` bytes at least.
+    pub(crate) fn proved_from(self, proved: i64) -> i64
+        ensures { result ≡ proved_from self proved }
+    {
+        match self {
+            Anchor::First => proved,
+            Anchor::Made { proved, .. } => i64::from(proved),
         }
     }
 
@@ -299,10 +309,7 @@ impl<D: Copy> AbsState<D> {
     pub(crate) fn proved_of(&self, anchor: Anchor) -> i64
         ensures { result ≡ proved_of self.now anchor }
     {
-        match anchor {
-            Anchor::First => self.proved,
-            Anchor::Made { proved, .. } => i64::from(proved),
-        }
+        anchor.proved_from(self.proved)
     }
 
     /// Writes a register.

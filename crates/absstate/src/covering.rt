@@ -1,12 +1,13 @@
 //! Whether one abstract state covers another: then each machine state that the other one describes it describes too.
 
 ghost use Rattle.std.specs.Prelude.{◌≡◌, length};
-ghost use Rattle.absstate.specs.Covers.{same_int, same_anchor, covers_places, proves_less, covers_anchor, covers_value, covers_values, have_one_anchor, is_place, stands_for, share_alike, covers_marks, covers_memory, covers};
+ghost use Rattle.absstate.specs.declared.abstract_state.AbsState.{AbsState};
+ghost use Rattle.absstate.specs.Covers.{same_int, same_anchor, covers_places, covers_anchor, covers_value, covers_values, have_one_anchor, is_place, stands_for, share_alike, covers_marks, covers_memory, covers};
 
 use crate::abstract_state::{AbsState, AbstractValue, Anchor};
 use interval::Domain;
 
-fn same_offset(a: i32, b: i32) -> bool
+pub(crate) fn same_offset(a: i32, b: i32) -> bool
     ensures { result ≡ same_int a b }
 {
     a <= b && b <= a
@@ -24,7 +25,7 @@ fn same_anchor(a: Anchor, b: Anchor) -> bool
 }
 
 /// Returns whether an anchor has each place of another one.
-fn covers_places(a: Anchor, b: Anchor) -> bool
+pub(crate) fn covers_places(a: Anchor, b: Anchor) -> bool
     ensures { result ≡ covers_places a b }
 {
     let (a_low, b_low) = (a.low(), b.low());
@@ -32,28 +33,22 @@ fn covers_places(a: Anchor, b: Anchor) -> bool
     a_low <= b_low && b_high <= a_high
 }
 
-/// Returns whether no more is proved of an anchor of a state than of one of the other state.
-fn proves_less<D: Copy>(state: &AbsState<D>, other: &AbsState<D>, a: Anchor, b: Anchor) -> bool
-    ensures { result ≡ proves_less state.now other.now a b }
+/// Returns whether an anchor has each place of another one, and no more is proved of it. `proved` and `other_proved` are the
+/// proved lengths of their states.
+fn covers_anchor<D: Copy>(a: Anchor, b: Anchor, proved: i64, other_proved: i64) -> bool
+    ensures { (s t : AbsState D) → s.proved ≡ proved → t.proved ≡ other_proved → result ≡ covers_anchor s t a b }
 {
-    state.proved_of(a) <= other.proved_of(b)
+    covers_places(a, b) && a.proved_from(proved) <= b.proved_from(other_proved)
 }
 
-/// Returns whether an anchor of a state has each place of one of the other state, and no more is proved of it.
-fn covers_anchor<D: Copy>(state: &AbsState<D>, other: &AbsState<D>, a: Anchor, b: Anchor) -> bool
-    ensures { result ≡ covers_anchor state.now other.now a b }
-{
-    covers_places(a, b) && proves_less(state, other, a, b)
-}
-
-/// Returns whether no more is known of a value of a state than of one of the other state.
-fn covers_value<D: Domain>(
-    state: &AbsState<D>,
-    other: &AbsState<D>,
+/// Returns whether no more is known of a value of a state than of one of another state, whose proved lengths are these.
+pub(crate) fn covers_value<D: Domain>(
     a: AbstractValue<D>,
     b: AbstractValue<D>,
+    proved: i64,
+    other_proved: i64,
 ) -> bool
-    ensures { result ≡ covers_value D.ops state.now other.now a b }
+    ensures { (s t : AbsState D) → s.proved ≡ proved → t.proved ≡ other_proved → result ≡ covers_value D.ops s t a b }
 {
     match (a, b) {
         (AbstractValue::Nothing, _) => true,
@@ -66,27 +61,29 @@ fn covers_value<D: Domain>(
                 anchor: b,
                 offset: k,
             },
-        ) => same_offset(offset, k) && covers_anchor(state, other, anchor, b),
+        ) => same_offset(offset, k) && covers_anchor::<D>(anchor, b, proved, other_proved),
         (AbstractValue::End, AbstractValue::End) => true,
         _ => false,
     }
 }
 
-/// Returns whether no more is known of the values of a state than of those of the other state.
+/// Returns whether no more is known of the values of a state than of those of another state, whose proved lengths are these.
 fn covers_values<D: Domain>(
-    state: &AbsState<D>,
-    other: &AbsState<D>,
     values: &[AbstractValue<D>],
     others: &[AbstractValue<D>],
+    proved: i64,
+    other_proved: i64,
 ) -> bool
-    ensures { result ≡ covers_values D.ops state.now other.now values.now others.now }
+    ensures { (s t : AbsState D) → s.proved ≡ proved → t.proved ≡ other_proved
+        → result ≡ covers_values D.ops s t values.now others.now }
 {
     match values {
         [] => true,
         [a, values @ ..] => match others {
             [] => false,
             [b, others @ ..] => {
-                covers_value(state, other, *a, *b) && covers_values(state, other, values, others)
+                covers_value(*a, *b, proved, other_proved)
+                    && covers_values(values, others, proved, other_proved)
             }
         },
     }
@@ -152,7 +149,7 @@ fn place_stands_for<D: Copy>(
 }
 
 /// Returns whether values at one anchor stand for values at one anchor.
-fn share_alike<D: Copy>(values: &[AbstractValue<D>], others: &[AbstractValue<D>]) -> bool
+pub(crate) fn share_alike<D: Copy>(values: &[AbstractValue<D>], others: &[AbstractValue<D>]) -> bool
     ensures { result ≡ share_alike values.now others.now }
 {
     match values {
@@ -191,13 +188,17 @@ fn covers_memory<D: Copy>(state: &AbsState<D>, other: &AbsState<D>) -> bool
 fn covers_state<D: Domain>(state: &AbsState<D>, other: &AbsState<D>) -> bool
     ensures { result ≡ covers D.ops state.now other.now }
 {
-    let values = covers_values(state, other, &state.registers, &other.registers)
-        && share_alike(&state.registers, &other.registers);
+    let values = covers_values(
+        &state.registers,
+        &other.registers,
+        state.proved,
+        other.proved,
+    ) && share_alike(&state.registers, &other.registers);
     values && covers_memory(state, other)
 }
 
 /// Returns the values of the registers and the groups.
-fn registers_of<D: Copy>(state: &AbsState<D>) -> &[AbstractValue<D>]
+pub(crate) fn registers_of<D: Copy>(state: &AbsState<D>) -> &[AbstractValue<D>]
     ensures values { result.now ≡ state.now.registers }
     ensures count { length state.now.registers ≡ 75 }
 {

@@ -7,14 +7,16 @@ mod branching;
 mod calling;
 mod change;
 mod covering;
-mod digest;
 mod loading;
 mod mark_words;
 mod memory;
+mod packed;
+mod part;
 mod storing;
 mod sums;
 
 pub use abstract_state::{AbsState, AbstractValue, Anchor, Marks};
 pub use abstract_step::Next;
 pub use change::{Change, Transition};
-pub use digest::Digest;
+pub use packed::PackedState;
+pub use part::Part;

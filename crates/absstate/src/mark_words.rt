@@ -1,7 +1,7 @@
 //! The marks of a state as words. A state covers only states whose words have all bits of its own, which a few comparisons
 //! decide.
 
-ghost use Rattle.std.specs.Prelude.{◌≡◌, ◌<◌, length};
+ghost use Rattle.std.specs.Prelude.{◌≡◌, ◌<◌, true, false, length, IfNone, IfSome};
 ghost use Rattle.semantics.specs.declared.limits.TheConstants.{STACK_BYTES};
 ghost use Rattle.absstate.specs.MarkWords.{shifted, word_of, word_at, words_of, are_within};
 
@@ -31,16 +31,28 @@ fn word_of(marks: &[bool]) -> u64
     word
 }
 
-/// Returns whether each word has no bits but those of the other one at its place.
-pub(crate) fn are_within(words: &MarkWords, others: &MarkWords) -> bool
-    ensures { result ≡ are_within words.now others.now }
+/// Returns the index of the first word with a bit that the other one at its place lacks.
+pub(crate) fn first_outside(words: &MarkWords, others: &MarkWords) -> Option<usize>
+    ensures none { IfNone result (are_within words.now others.now ≡ true) }
+    ensures some { IfSome result (λ i. (i < length words.now) × (are_within words.now others.now ≡ false)) }
 {
     for i in 0..words.len() {
         if words[i] & others[i] != words[i] {
-            return false;
+            return Some(i);
         }
     }
-    true
+    None
+}
+
+/// Returns whether one of some marks is set.
+fn is_any_set(marks: &[bool]) -> bool
+    ensures { result ≡ false → word_of marks.now ≡ 0 }
+{
+    let mut any = false;
+    for i in 0..marks.len() {
+        any |= marks[i];
+    }
+    any
 }
 
 impl Marks {
@@ -50,7 +62,8 @@ impl Marks {
         ensures { result ≡ word_at self.now.cells index }
     {
         let first = WORD_MARKS * index;
-        word_of(&self.cells()[first..first + WORD_MARKS])
+        let marks = &self.cells()[first..first + WORD_MARKS];
+        if is_any_set(marks) { word_of(marks) } else { 0 }
     }
 
     /// Returns the marks as words: 64 marks a word, the first one at its lowest bit.

@@ -44,7 +44,7 @@ is_itself goal n e = subst (λ (g : Option ℕ). is_slot g n ≡ true) (sym e) (
   itself : (n : ℕ) → (n == n) ≡ true
   itself n = search rules
 
-pub none_below : {D : Type 0} (code : List Insn) (kept : Kept D) → kept.by_slot.items ≡ [] → KeepsBelow code 0 kept
+pub none_below : {D : Type 0} (code : List Insn) (kept : Kept D) → kept ≡ [] → KeepsBelow code 0 kept
 none_below code kept none = record {
   only = λ slot e. absurd (let no : keeps_at kept slot ≡ false = ap (λ (rows : List _). is_some (slice_index_or rows slot None)) none in cc);
   all = λ slot goal. absurd (omega (arith, goal.1));

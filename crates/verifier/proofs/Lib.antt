@@ -3,7 +3,6 @@ pub mod Positions
 pub mod Branches
 pub mod Counting
 pub mod Keeping
-pub mod Digested
 pub mod Safety
 pub mod Reaching
 pub mod Walking

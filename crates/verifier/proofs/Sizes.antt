@@ -33,8 +33,8 @@ state_align a = max (value_align a) 8
 abbrev pub state_size : ℕ → ℕ → ℕ
 state_size a s = up (state_align a) (up 8 (up 1 (up (value_align a) 0 + 75 * value_size a s) + 512) + 8)
 
-abbrev pub digest_size : ℕ → ℕ → ℕ
-digest_size a s = up (max (value_align a) 8) (up 8 (up (value_align a) 0 + 11 * value_size a s) + 64)
+abbrev pub packed_size : ℕ → ℕ → ℕ
+packed_size a s = up (max (value_align a) 8) (up 8 (up 8 (up 8 (up (value_align a) 0 + 11 * value_size a s) + 24) + 64) + 8)
 
 abbrev pub pending_size : ℕ → ℕ → ℕ
 pending_size a s = up (max 8 (max (state_align a) 1)) (up (state_align a) 8 + state_size a s)
@@ -55,13 +55,15 @@ module _ (a s : ℕ) (aligned : a ≤ 16) (small : s ≤ 65536) where
         up_le (value_align a) 0,
       )
 
-  digest_small : digest_size a s < 2 ^ 63
-  digest_small =
+  packed_small : packed_size a s < 2 ^ 63
+  packed_small =
       omega (
         arith,
         value_small,
         aligned,
-        up_le (max (value_align a) 8) (up 8 (up (value_align a) 0 + 11 * value_size a s) + 64),
+        up_le (max (value_align a) 8) (up 8 (up 8 (up 8 (up (value_align a) 0 + 11 * value_size a s) + 24) + 64) + 8),
+        up_le 8 (up 8 (up 8 (up (value_align a) 0 + 11 * value_size a s) + 24) + 64),
+        up_le 8 (up 8 (up (value_align a) 0 + 11 * value_size a s) + 24),
         up_le 8 (up (value_align a) 0 + 11 * value_size a s),
         up_le (value_align a) 0,
       )
@@ -74,8 +76,8 @@ module _ (t : Ty) (small : size t ≤ 65536) where
   pub state_fits : state_size (align t) (size t) < 2 ^ 63
   state_fits = omega (arith, state_small (align t) (size t) (small_alignment t) small)
 
-  pub digest_fits : digest_size (align t) (size t) < 2 ^ 63
-  digest_fits = digest_small (align t) (size t) (small_alignment t) small
+  pub packed_fits : packed_size (align t) (size t) < 2 ^ 63
+  packed_fits = packed_small (align t) (size t) (small_alignment t) small
 
   pub pending_fits : pending_size (align t) (size t) < 2 ^ 63
   pending_fits = pending_small (align t) (size t) (small_alignment t) small

@@ -1,7 +1,6 @@
 -- Internal. The modules of this folder.
 pub mod Layout
 pub mod Goals
-pub mod Digested
 pub mod Keeping
 pub mod Walk
 pub mod Walks

@@ -4,41 +4,52 @@ ghost use Rattle.std.specs.Prelude.{◌≡◌, ◌≤◌, ◌<◌, ℕ, true, No
 ghost use Rattle.std.specs.List.{list_any};
 ghost use Rattle.insn.specs.Encoding.{slot_count};
 ghost use Rattle.insn.specs.declared.decoding.TheConstants.{MAX_SLOTS};
-ghost use Rattle.semantics.specs.Machine.{State};
 ghost use Rattle.absstate.specs.Covers.{covers};
-ghost use Rattle.absstate.specs.Digests.{digest_of};
-ghost use Rattle.absstate.specs.Membership.{Loose, IsMember};
+ghost use Rattle.absstate.specs.MarkWords.{words_of};
 ghost use Rattle.verifier.specs.Goals.{goal_at};
-ghost use Rattle.verifier.specs.Digested.{digests_of};
 ghost use Rattle.verifier.specs.Keeping.{states_of, states_with, kept_at, is_covered, HasCover, KeepsNothing, KeepsAtGoals, MarksGoal, Keeps};
 
 use crate::layout::distance;
 use crate::walk::Pending;
-use absstate::{AbsState, Digest};
+use absstate::{AbsState, PackedState, Part};
 use insn::MAX_SLOTS;
 use interval::Domain;
 use semantics::{Fetched, Program};
 use std::alloc::{AllocError, Global};
 use std::marker::Model;
 
-/// The states that are kept at a slot, and beside them the digest of each, which is compared first.
-/// See docs/DECISIONS.md, "Digests are compared first".
+/// A state that is kept, behind the part of it in which it was last found to differ from another one.
+/// See docs/DECISIONS.md, "What tells a kept state apart".
+#[derive(Drop)]
+pub struct KeptState<D: Domain> {
+    part: Part<D>,
+    state: Box<PackedState<D>>,
+}
+
+impl<D: Domain> Model for KeptState<D> {
+    ghost use Rattle.absstate.specs.Packing.{IsPartOf};
+    ghost use Rattle.absstate.specs.declared.abstract_state.AbsState.{AbsState};
+
+    ghost Value = { AbsState D };
+
+    ghost view = { λ k. k.state.value };
+
+    ghost invariant = { λ k. IsPartOf k.state.value k.part };
+}
+
+/// The states that are kept at a slot.
 #[derive(Drop)]
 pub struct States<D: Domain> {
-    digests: Vec<Digest<D>>,
-    states: Vec<AbsState<D>>,
+    states: Vec<KeptState<D>>,
 }
 
 impl<D: Domain> Model for States<D> {
-    ghost use Rattle.std.specs.Prelude.{◌≡◌, List};
+    ghost use Rattle.std.specs.Prelude.{List};
     ghost use Rattle.absstate.specs.declared.abstract_state.AbsState.{AbsState};
-    ghost use Rattle.verifier.specs.Digested.{digests_of};
 
     ghost Value = { List (AbsState D) };
 
     ghost view = { λ s. s.states.items };
-
-    ghost invariant = { λ s. s.digests.items ≡ digests_of s.states.items };
 }
 
 /// The states that the walk has kept, by slot: `None` at each slot that no jump leads to. The list ends at the last slot that
@@ -46,33 +57,76 @@ impl<D: Domain> Model for States<D> {
 /// See docs/DECISIONS.md, "Covered states are skipped".
 #[derive(Drop)]
 pub struct Kept<D: Domain> {
+    alloc: Global,
     by_slot: Vec<Option<States<D>>>,
 }
 
-/// Returns whether a state covers another one; of both the digest is there.
-fn covers_by<D: Domain>(
-    kept: &AbsState<D>,
-    digest: &Digest<D>,
-    state: &AbsState<D>,
-    other: &Digest<D>,
-) -> bool
-    requires kept { digest.now ≡ digest_of kept.now }
-    requires state { other.now ≡ digest_of state.now }
-    ensures value { result ≡ covers D.ops kept.now state.now }
-    ensures members { result ≡ true → (s : State) → IsMember D.Member Loose state.now s → IsMember D.Member Loose kept.now s }
-{
-    digest.fits(other) && kept.covers(state)
+impl<D: Domain> Model for Kept<D> {
+    ghost use Rattle.std.specs.Prelude.{List, Option};
+    ghost use Rattle.absstate.specs.declared.abstract_state.AbsState.{AbsState};
+
+    ghost Value = { List (Option (List (AbsState D))) };
+
+    ghost view = { λ k. k.by_slot.items };
 }
 
-/// Returns whether one of some states, each with its digest, covers a state.
-fn one_covers<D: Domain>(digests: &[Digest<D>], states: &[AbsState<D>], state: &AbsState<D>) -> bool
-    requires { digests.now ≡ digests_of states.now }
-    ensures value { result ≡ list_any (λ kept. covers D.ops kept state.now) states.now }
-    ensures members { result ≡ true → HasCover D.Member states.now state.now }
+impl<D: Domain> KeptState<D> {
+    ghost use Rattle.std.specs.Prelude.{◌≡◌, true, IfOk};
+    ghost use Rattle.semantics.specs.Machine.{State};
+    ghost use Rattle.absstate.specs.Covers.{covers};
+    ghost use Rattle.absstate.specs.MarkWords.{words_of};
+    ghost use Rattle.absstate.specs.Membership.{Loose, IsMember};
+
+    /// Returns a state as it is kept.
+    ///
+    /// # Errors
+    /// Where memory runs out.
+    fn new(alloc: Global, state: &AbsState<D>) -> Result<KeptState<D>, AllocError>
+        ensures { IfOk result (λ k. k ≡ state.now) }
+    {
+        match Box::new(alloc, state.packed(alloc)?) {
+            Ok(state) => Ok(KeptState {
+                part: Part::Unknown,
+                state,
+            }),
+            Err(e) => Err(e.into()),
+        }
+    }
+
+    /// Returns whether this state covers another one, whose marks are these words. Where it doesn't, the part that shows it is
+    /// looked at first the next time.
+    fn covers(&mut self, state: &AbsState<D>, words: &[u64; 8]) -> bool
+        requires { words.now ≡ words_of state.now.marks.cells }
+        ensures same { self.new ≡ self.old }
+        ensures value { result ≡ covers D.ops self.old state.now }
+        ensures members { result ≡ true → (s : State) → IsMember D.Member Loose state.now s → IsMember D.Member Loose self.old s }
+    {
+        if self.part.rules_out(state, words) {
+            return false;
+        }
+        match self.state.difference(state, words) {
+            None => true,
+            Some(part) => {
+                self.part = part;
+                false
+            }
+        }
+    }
+}
+
+/// Returns whether one of some states covers a state, whose marks are these words.
+fn one_covers<D: Domain>(
+    states: &mut Vec<KeptState<D>>,
+    state: &AbsState<D>,
+    words: &[u64; 8],
+) -> bool
+    requires { words.now ≡ words_of state.now.marks.cells }
+    ensures same { states.new.items ≡ states.old.items }
+    ensures value { result ≡ list_any (λ kept. covers D.ops kept state.now) states.old.items }
+    ensures members { result ≡ true → HasCover D.Member states.old.items state.now }
 {
-    let other = state.digest();
     for i in 0..states.len() {
-        if covers_by(&states[i], &digests[i], state, &other) {
+        if states[i].covers(state, words) {
             return true;
         }
     }
@@ -90,37 +144,47 @@ impl<D: Domain> States<D> {
         ensures { result ≡ [] }
     {
         States {
-            digests: Vec::new(alloc),
             states: Vec::new(alloc),
         }
     }
 
     /// Returns whether one of the states covers a state.
-    fn cover(&self, state: &AbsState<D>) -> bool
-        ensures value { result ≡ list_any (λ kept. covers D.ops kept state.now) self.now }
-        ensures members { result ≡ true → HasCover D.Member self.now state.now }
+    fn cover(&mut self, state: &AbsState<D>) -> bool
+        ensures same { self.new ≡ self.old }
+        ensures value { result ≡ list_any (λ kept. covers D.ops kept state.now) self.old }
+        ensures members { result ≡ true → HasCover D.Member self.old state.now }
     {
-        !self.states.is_empty() && one_covers(&self.digests, &self.states, state)
+        if self.states.is_empty() {
+            return false;
+        }
+        let words = state.words();
+        one_covers(&mut self.states, state, &words)
     }
 
     /// Appends a state.
     ///
     /// # Errors
     /// Where memory runs out.
-    fn push(&mut self, state: AbsState<D>) -> Result<(), AllocError>
-        ensures { OnOk result (self.new ≡ self.old ++ state ∷ []) }
+    fn push(&mut self, alloc: Global, state: &AbsState<D>) -> Result<(), AllocError>
+        ensures { OnOk result (self.new ≡ self.old ++ state.now ∷ []) }
     {
         if self.states.is_empty() {
             self.states.reserve_exact(1)?;
-            self.digests.reserve_exact(1)?;
         }
-        let digest = state.digest();
-        self.digests.push(digest)?;
-        if let Err(e) = self.states.push(state) {
-            self.digests.pop();
-            return Err(e.into());
-        }
+        self.states.push(KeptState::new(alloc, state)?)?;
         Ok(())
+    }
+}
+
+/// Returns whether one of the states that are kept at a slot, where states are, covers a state.
+fn covered<D: Domain>(states: &mut Option<States<D>>, state: &AbsState<D>) -> bool
+    ensures same { states.new ≡ states.old }
+    ensures value { result ≡ list_any (λ kept. covers D.ops kept state.now) (states_of states.old) }
+    ensures members { result ≡ true → HasCover D.Member (states_of states.old) state.now }
+{
+    match states {
+        Some(states) => states.cover(state),
+        None => false,
     }
 }
 
@@ -129,14 +193,15 @@ impl<D: Domain> States<D> {
 /// # Errors
 /// Where memory runs out.
 fn push_state<D: Domain>(
+    alloc: Global,
     states: &mut Option<States<D>>,
-    state: AbsState<D>,
+    state: &AbsState<D>,
 ) -> Result<(), AllocError>
     ensures slots { OnOk result (is_some states.new ≡ is_some states.old) }
-    ensures states { OnOk result (states_of states.new ≡ states_with (is_some states.old) state (states_of states.old)) }
+    ensures states { OnOk result (states_of states.new ≡ states_with (is_some states.old) state.now (states_of states.old)) }
 {
     if let Some(states) = states {
-        states.push(state)?;
+        states.push(alloc, state)?;
     }
     Ok(())
 }
@@ -182,6 +247,7 @@ impl<D: Domain> Kept<D> {
         ensures none { IfOk result KeepsNothing }
     {
         let mut kept = Kept {
+            alloc,
             by_slot: Vec::new(alloc),
         };
         // no jump is at a slot after the last one
@@ -207,25 +273,16 @@ impl<D: Domain> Kept<D> {
         Ok(())
     }
 
-    /// Returns the states that are kept at a slot, `None` where none are to be.
-    fn states_at(&self, slot: usize) -> Option<&States<D>>
-        ensures some { IfSome result (λ states. states.now ≡ kept_at self.now slot) }
-        ensures none { IfNone result (kept_at self.now slot ≡ []) }
-    {
-        match self.by_slot.get(slot) {
-            Some(Some(states)) => Some(states),
-            _ => None,
-        }
-    }
-
     /// Returns whether a kept state of its slot covers a state.
-    pub fn covers(&self, here: &Pending<D>) -> bool
-        ensures value { result ≡ is_covered D.ops (kept_at self.now) here.now }
-        ensures members { result ≡ true → HasCover D.Member (kept_at self.now here.now.slot) here.now.state }
+    pub fn covers(&mut self, here: &Pending<D>) -> bool
+        ensures same { self.new ≡ self.old }
+        ensures value { result ≡ is_covered D.ops (kept_at self.old) here.now }
+        ensures members { result ≡ true → HasCover D.Member (kept_at self.old here.now.slot) here.now.state }
     {
-        match self.states_at(here.slot) {
-            Some(states) => states.cover(&here.state),
-            None => false,
+        if here.slot < self.by_slot.len() {
+            covered(&mut self.by_slot[here.slot], &here.state)
+        } else {
+            false
         }
     }
 
@@ -237,7 +294,7 @@ impl<D: Domain> Kept<D> {
         ensures { OnOk result (Keeps here.now self.old self.new) }
     {
         if here.slot < self.by_slot.len() {
-            push_state(&mut self.by_slot[here.slot], here.state)?;
+            push_state(self.alloc, &mut self.by_slot[here.slot], &here.state)?;
         }
         Ok(())
     }

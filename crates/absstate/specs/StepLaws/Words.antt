@@ -1,12 +1,17 @@
--- Interface. Where one state covers another, each word of its marks has no bits but those of the other's.
-use Rattle.std.proofs.Common.{◌≡◌, ℕ, zero, suc, ◌+◌, ◌*◌, ◌%◌, ◌^◌, Bool, true, false, not, ◌&&◌, ◌||◌, List, [], ◌∷◌, map, take, drop, refl, sym, ap, ◌∙◌, subst, arith, rules, bit_and, bit_or}
+-- Interface. Marks and their words: where one state covers another, each word of its marks has no bits but those of the other's.
+use Rattle.std.proofs.Common.{◌≡◌, ℕ, zero, suc, ◌+◌, ◌*◌, ◌/◌, ◌%◌, ◌^◌, ◌<◌, ◌≤◌, Bool, true, false, not, ◌&&◌, ◌||◌, List, [], ◌∷◌, ◌++◌, length, map, take, drop, refl, sym, ap, ◌∙◌, subst, arith, rules, bit_and, bit_or, pow_pos}
 use Rattle.std.specs.Prelude.{◌==◌, min, max, int_le}
 use Rattle.std.specs.Int.{bit_at}
-use Rattle.std.proofs.lemmas.Nat.{and_block, and_le_l, and_mod}
+use Rattle.std.proofs.lemmas.Nat.{and_block, or_block, and_le_l, and_mod}
+use Rattle.std.specs.Int.Bits.{or_zero_l, or_zero_r}
+use Rattle.std.proofs.Math.Pow.{pow_mono}
+use Rattle.std.proofs.lemmas.Grind.{pow_more}
+use Rattle.std.proofs.lemmas.Bool.{eqb-true}
+use Rattle.std.proofs.lemmas.List.{take-append-drop, drop-drop, drop_all, length-take, length-drop}
 use Rattle.std.proofs.lemmas.Nat.Bits.{bit_at_and, bit_at_or, same_from_bits}
 use Rattle.interval.specs.Domains.{Operations}
 use Rattle.absstate.specs.Covers.{covers_values, share_alike, covers_marks, covers}
-use Rattle.absstate.specs.MarkWords.{bit_of, shifted, word_of, word_at, words_of, are_within}
+use Rattle.absstate.specs.MarkWords.{bit_of, shifted, word_of, word_at, words_of, are_within, bits_of, marks_of}
 use Rattle.absstate.specs.StepLaws.MemoryValues.{first_of_and, rest_of_and, both_true}
 use Rattle.absstate.specs.declared.abstract_state.AbsState.{AbsState}
 
@@ -101,3 +106,129 @@ pub covered_within : {D : Type 0} (ops : Operations D) (a b : AbsState D) → co
 covered_within ops a b e =
     let memory = rest_of_and (covers_values ops a b a.registers b.registers && share_alike a.registers b.registers) (int_le a.proved b.proved && covers_marks a.marks.cells b.marks.cells) e in
     words_within a.marks.cells b.marks.cells (0 ∷ 1 ∷ 2 ∷ 3 ∷ 4 ∷ 5 ∷ 6 ∷ 7 ∷ []) (rest_of_and (int_le a.proved b.proved) (covers_marks a.marks.cells b.marks.cells) memory)
+
+-- ---- marks from words
+
+bit_small : (m : Bool) → bit_of m < 2 ^ 1
+bit_small true = omega arith
+bit_small false = omega arith
+
+-- a shifted word, in numbers
+shifted_is : (n : ℕ) (m : Bool) → n < 2 ^ 63 → shifted n m ≡ n * 2 + bit_of m
+shifted_is n m small =
+    let fits : n * 2 ^ 1 % 2 ^ 64 ≡ n * 2 ^ 1 + 0 = omega (arith, small) in
+    let none : 0 * 2 ^ 1 + bit_of m ≡ bit_of m = omega arith in
+    let double : n * 2 ^ 1 + bit_of m ≡ n * 2 + bit_of m = omega arith in
+    ap (λ (x : ℕ). bit_or x (bit_of m)) fits ∙ ap (λ (y : ℕ). bit_or (n * 2 ^ 1 + 0) y) (sym none) ∙ or_block 1 n 0 0 (bit_of m) (omega arith) (bit_small m)
+    ∙ ap (λ (x : ℕ). x * 2 ^ 1 + bit_or 0 (bit_of m)) (or_zero_r n) ∙ ap (λ (y : ℕ). n * 2 ^ 1 + y) (or_zero_l (bit_of m)) ∙ double
+
+-- a word of few marks is small
+word_small : (k : ℕ) (ms : List Bool) → length ms ≤ k → k ≤ 64 → word_of ms < 2 ^ k
+word_small zero [] short fits = omega arith
+word_small zero (m ∷ ms) short fits = absurd (omega (arith, short))
+word_small (suc k) [] short fits = pow_pos (suc k)
+word_small (suc k) (m ∷ ms) short fits =
+    let small : word_of ms < 2 ^ k = word_small k ms (omega (arith, short)) (omega (arith, fits)) in
+    let below : 2 ^ k ≤ 2 ^ 63 = pow_mono {i = k} {j = 63} (omega (arith, fits)) in
+    let power : 2 ^ (k + 1) ≡ 2 ^ k * 2 = pow_more 2 k in
+    let next : suc k ≡ k + 1 = omega arith in
+    let whole : 2 ^ suc k ≡ 2 ^ k * 2 = ap (λ (n : ℕ). 2 ^ n) next ∙ power in
+    let bit : bit_of m < 2 = bit_small m in
+    omega (arith, shifted_is (word_of ms) m (omega (arith, small, below)), small, whole, bit)
+
+tail_small : (ms : List Bool) → length ms ≤ 63 → word_of ms < 2 ^ 63
+tail_small ms short = word_small 63 ms short (omega arith)
+
+-- the bits of a word of marks are these marks
+bits_of_word : (ms : List Bool) → length ms ≤ 64 → bits_of (length ms) (word_of ms) ≡ ms
+bits_of_word [] short = refl
+bits_of_word (m ∷ ms) short =
+    let is : shifted (word_of ms) m ≡ word_of ms * 2 + bit_of m = shifted_is (word_of ms) m (tail_small ms (omega (arith, short))) in
+    let bit : bit_of m < 2 = bit_small m in
+    let half : shifted (word_of ms) m / 2 ≡ word_of ms = omega (arith, is, bit) in
+    let odd : shifted (word_of ms) m % 2 ≡ bit_of m = omega (arith, is, bit) in
+    ap (λ (n : ℕ). (n == 1) ∷ bits_of (length ms) (shifted (word_of ms) m / 2)) odd ∙ ap (λ (b : Bool). b ∷ bits_of (length ms) (shifted (word_of ms) m / 2)) (mark_of_bit m)
+    ∙ ap (λ (n : ℕ). m ∷ bits_of (length ms) n) half ∙ ap (λ (rest : List Bool). m ∷ rest) (bits_of_word ms (omega (arith, short)))
+  where
+    mark_of_bit : (m : Bool) → (bit_of m == 1) ≡ m
+    mark_of_bit true = refl
+    mark_of_bit false = refl
+
+-- a word within another one covers its marks
+bit_within : (m o : Bool) → bit_and (bit_of m) (bit_of o) ≡ bit_of m → (not m || o) ≡ true
+bit_within true true e = refl
+bit_within true false e = absurd cc
+bit_within false o e = refl
+
+within_covers : (ms os : List Bool) → length ms ≡ length os → length ms ≤ 64 → IsWithin (word_of ms) (word_of os) → covers_marks ms os ≡ true
+within_covers [] os same short h = refl
+within_covers (m ∷ ms) [] same short h = absurd (omega (arith, same))
+within_covers (m ∷ ms) (o ∷ os) same short h =
+    let n = word_of ms in
+    let k = word_of os in
+    let mine : shifted n m ≡ n * 2 ^ 1 + bit_of m = shifted_is n m (tail_small ms (omega (arith, short))) in
+    let other : shifted k o ≡ k * 2 ^ 1 + bit_of o = shifted_is k o (tail_small os (omega (arith, short, same))) in
+    let block : bit_and (n * 2 ^ 1 + bit_of m) (k * 2 ^ 1 + bit_of o) ≡ bit_and n k * 2 ^ 1 + bit_and (bit_of m) (bit_of o) = and_block 1 n k (bit_of m) (bit_of o) (bit_small m) (bit_small o) in
+    let whole : bit_and n k * 2 ^ 1 + bit_and (bit_of m) (bit_of o) ≡ n * 2 ^ 1 + bit_of m = sym block ∙ ap (λ (x : ℕ). bit_and x (k * 2 ^ 1 + bit_of o)) (sym mine) ∙ ap (λ (y : ℕ). bit_and (shifted n m) y) (sym other) ∙ h ∙ mine in
+    let low : bit_and (bit_of m) (bit_of o) ≤ bit_of m = and_le_l (bit_of m) (bit_of o) in
+    let bit : bit_of m < 2 ^ 1 = bit_small m in
+    both_true (not m || o) (covers_marks ms os) (bit_within m o (omega (arith, whole, low, bit))) (within_covers ms os (omega (arith, same)) (omega (arith, short)) (omega (arith, whole, low, bit)))
+
+-- ---- eight words
+
+-- marks of the first words, and those after them
+chunk : (k : ℕ) (ms : List Bool) → drop (64 * k) ms ≡ take 64 (drop (64 * k) ms) ++ drop (64 * (k + 1)) ms
+chunk k ms =
+    let next : 64 * k + 64 ≡ 64 * (k + 1) = omega arith in
+    sym (take-append-drop 64 (drop (64 * k) ms)) ∙ ap (λ (rest : List Bool). take 64 (drop (64 * k) ms) ++ rest) (drop-drop 64 (64 * k) ms ∙ ap (λ (n : ℕ). drop n ms) next)
+
+chunk_length : (k : ℕ) (ms : List Bool) → length ms ≡ 512 → k < 8 → length (take 64 (drop (64 * k) ms)) ≡ 64
+chunk_length k ms whole lt = omega (arith, length-take 64 (drop (64 * k) ms), length-drop (64 * k) ms, whole, lt)
+
+chunk_bits : (k : ℕ) (ms : List Bool) → length ms ≡ 512 → k < 8 → bits_of 64 (word_at ms k) ≡ take 64 (drop (64 * k) ms)
+chunk_bits k ms whole lt =
+    let long = chunk_length k ms whole lt in
+    ap (λ (n : ℕ). bits_of n (word_at ms k)) (sym long) ∙ bits_of_word (take 64 (drop (64 * k) ms)) (omega (arith, long))
+
+-- the places of n words from the k-th on
+abbrev places_from : ℕ → ℕ → List ℕ
+places_from k zero = []
+places_from k (suc n) = k ∷ places_from (k + 1) n
+
+marks_from_words : (n k : ℕ) (ms : List Bool) → length ms ≡ 512 → k + n ≡ 8 → marks_of (map (word_at ms) (places_from k n)) ≡ drop (64 * k) ms
+unfolding marks_of
+marks_from_words zero k ms whole all = sym (drop_all (64 * k) ms (omega (arith, whole, all)))
+marks_from_words (suc n) k ms whole all =
+    ap (λ (first : List Bool). first ++ marks_of (map (word_at ms) (places_from (k + 1) n))) (chunk_bits k ms whole (omega (arith, all)))
+    ∙ ap (λ (rest : List Bool). take 64 (drop (64 * k) ms) ++ rest) (marks_from_words n (k + 1) ms whole (omega (arith, all))) ∙ sym (chunk k ms)
+
+-- marks are those of their words
+pub marks_of_words : (ms : List Bool) → length ms ≡ 512 → marks_of (words_of ms) ≡ ms
+marks_of_words ms whole = marks_from_words 8 0 ms whole refl
+
+covers_append : (ms os more others : List Bool) → length ms ≡ length os → covers_marks ms os ≡ true → covers_marks more others ≡ true → covers_marks (ms ++ more) (os ++ others) ≡ true
+covers_append [] [] more others same e f = f
+covers_append [] (o ∷ os) more others same e f = absurd (omega (arith, same))
+covers_append (m ∷ ms) [] more others same e f = absurd (omega (arith, same))
+covers_append (m ∷ ms) (o ∷ os) more others same e f =
+    both_true (not m || o) (covers_marks (ms ++ more) (os ++ others)) (first_of_and (not m || o) (covers_marks ms os) e) (covers_append ms os more others (omega (arith, same)) (rest_of_and (not m || o) (covers_marks ms os) e) f)
+
+equal_number : (m n : ℕ) → (m == n) ≡ true → m ≡ n
+equal_number m n e = eqb-true m n e
+
+within_from : (n k : ℕ) (ms os : List Bool) → length ms ≡ 512 → length os ≡ 512 → k + n ≡ 8 → are_within (map (word_at ms) (places_from k n)) (map (word_at os) (places_from k n)) ≡ true → covers_marks (drop (64 * k) ms) (drop (64 * k) os) ≡ true
+within_from zero k ms os whole other all e = ap (λ (xs : List Bool). covers_marks xs (drop (64 * k) os)) (drop_all (64 * k) ms (omega (arith, whole, all)))
+within_from (suc n) k ms os whole other all e =
+    let test = bit_and (word_at ms k) (word_at os k) == word_at ms k in
+    let rest = are_within (map (word_at ms) (places_from (k + 1) n)) (map (word_at os) (places_from (k + 1) n)) in
+    let word : IsWithin (word_at ms k) (word_at os k) = equal_number (bit_and (word_at ms k) (word_at os k)) (word_at ms k) (first_of_and test rest e) in
+    let long = chunk_length k ms whole (omega (arith, all)) in
+    let long_too = chunk_length k os other (omega (arith, all)) in
+    ap (λ (xs : List Bool). covers_marks xs (drop (64 * k) os)) (chunk k ms) ∙ ap (λ (xs : List Bool). covers_marks (take 64 (drop (64 * k) ms) ++ drop (64 * (k + 1)) ms) xs) (chunk k os)
+    ∙ covers_append (take 64 (drop (64 * k) ms)) (take 64 (drop (64 * k) os)) (drop (64 * (k + 1)) ms) (drop (64 * (k + 1)) os) (long ∙ sym long_too)
+    (within_covers (take 64 (drop (64 * k) ms)) (take 64 (drop (64 * k) os)) (long ∙ sym long_too) (omega (arith, long)) word)
+    (within_from n (k + 1) ms os whole other (omega (arith, all)) (rest_of_and test rest e))
+
+-- where each word is within the other one, the marks are covered
+pub words_cover : (ms os : List Bool) → length ms ≡ 512 → length os ≡ 512 → are_within (words_of ms) (words_of os) ≡ true → covers_marks ms os ≡ true
+words_cover ms os whole other e = within_from 8 0 ms os whole other refl e

@@ -1,0 +1,46 @@
+-- Interface. States as they are kept, and the parts by which they are told apart.
+use Rattle.std.specs.Prelude.{◌≡◌, ℕ, ◌++◌, ◌&&◌, Bool, true, false, ℤ, List, [], ◌∷◌, drop, length, slice_index_or}
+use Rattle.interval.specs.Domains.{Operations}
+use Rattle.absstate.specs.AbstractStates.{no_groups}
+use Rattle.absstate.specs.Covers.{covers, covers_places, same_int}
+use Rattle.absstate.specs.MarkWords.{words_of, marks_of}
+use Rattle.absstate.specs.declared.abstract_state.AbstractValue.{AbstractValue}
+use Rattle.absstate.specs.declared.abstract_state.AbstractValue.TheVariants.{Nothing, Scalar, Ctx, Stack, Data, End}
+use Rattle.absstate.specs.declared.abstract_state.AbsState.{AbsState}
+use Rattle.absstate.specs.declared.part.Part.{Part}
+use Rattle.absstate.specs.declared.part.Part.TheVariants as part
+
+-- no value is known
+abbrev pub are_unknown : {D : Type 0} → List (AbstractValue D) → Bool
+are_unknown [] = true
+are_unknown (Nothing ∷ values) = are_unknown values
+are_unknown (v ∷ values) = false
+
+-- the groups, where those after the ones that are listed hold no pointer
+abbrev pub all_groups : {D : Type 0} → List (AbstractValue D) → List (AbstractValue D)
+all_groups groups = groups ++ drop (length groups) no_groups
+
+-- the state that is kept in these parts
+abbrev pub unpacked : {D : Type 0} → List (AbstractValue D) → List (AbstractValue D) → List ℕ → ℤ → AbsState D
+unpacked registers groups words proved = record { registers = registers ++ all_groups groups; marks = record { cells = marks_of words }; proved = proved }
+
+-- a value may cover another one, whatever is proved of their anchors
+abbrev pub may_cover : {D : Type 0} → Operations D → AbstractValue D → AbstractValue D → Bool
+may_cover ops Nothing v = true
+may_cover ops (Scalar x) (Scalar y) = ops.covers x y
+may_cover ops Ctx Ctx = true
+may_cover ops (Stack k) (Stack l) = same_int k l
+may_cover ops (Data x k) (Data y l) = same_int k l && covers_places x y
+may_cover ops End End = true
+may_cover ops _ _ = false
+
+-- a part of a state
+abbrev pub IsPartOf : {D : Type 0} → AbsState D → Part D → Type 0
+IsPartOf a part.Unknown = Unit {0}
+IsPartOf a (part.Value index value) = slice_index_or a.registers index Nothing ≡ value
+IsPartOf a (part.Word index word) = slice_index_or (words_of a.marks.cells) index 0 ≡ word
+
+-- a state does not cover another one, from which this part of it may tell it apart
+pub record Differs {D : Type 0} (ops : Operations D) (a b : AbsState D) (part : Part D) : Type 0 where
+  pub uncovered : covers ops a b ≡ false
+  pub is_part : IsPartOf a part

@@ -1,0 +1,217 @@
+//! States as they are kept: in few bytes, and compared from the part on in which they most likely differ.
+
+ghost use Rattle.std.specs.Prelude.{◌≡◌, ◌≤◌, ◌<◌, ◌+◌, ◌++◌, true, false, take, drop, length, int_le, slice_index_or, IfOk, IfNone, IfSome};
+ghost use Rattle.absstate.specs.Covers.{covers_value, covers_values};
+ghost use Rattle.semantics.specs.declared.limits.TheConstants.{GROUPS};
+ghost use Rattle.absstate.specs.Packing.{are_unknown, all_groups};
+ghost use Rattle.absstate.specs.declared.packed.TheConstants.{REGISTERS};
+ghost use Rattle.absstate.specs.declared.abstract_state.AbsState.{AbsState};
+ghost use Rattle.absstate.specs.declared.abstract_state.AbstractValue.TheVariants.{Nothing};
+
+use crate::abstract_state::{AbsState, AbstractValue, Anchor, VALUES};
+use crate::covering::{covers_value, registers_of, share_alike};
+use crate::mark_words::{MarkWords, first_outside};
+use crate::part::Part;
+use interval::Domain;
+use std::alloc::{AllocError, Global};
+use std::marker::Model;
+
+/// The number of registers.
+const REGISTERS: usize = 11;
+
+/// A state that is kept: its marks are words, and its groups are there only where one holds a pointer.
+#[derive(Drop)]
+pub struct PackedState<D> {
+    registers: [AbstractValue<D>; REGISTERS],
+    groups: Vec<AbstractValue<D>>,
+    words: MarkWords,
+    proved: i64,
+}
+
+impl<D> Model for PackedState<D> {
+    ghost use Rattle.std.specs.Prelude.{◌≡◌, ◌≤◌, length};
+    ghost use Rattle.semantics.specs.declared.limits.TheConstants.{STACK_BYTES, GROUPS};
+    ghost use Rattle.absstate.specs.MarkWords.{words_of, marks_of};
+    ghost use Rattle.absstate.specs.Packing.{unpacked};
+    ghost use Rattle.absstate.specs.declared.abstract_state.AbsState.{AbsState};
+
+    ghost Value = { AbsState D };
+
+    ghost view = { λ p. unpacked p.registers p.groups.items p.words p.proved };
+
+    ghost invariant = { λ p. (length p.groups.items ≤ GROUPS) × (words_of (marks_of p.words) ≡ p.words) × (length (marks_of p.words) ≡ STACK_BYTES) };
+}
+
+/// Writes values from an index on.
+fn put<D: Copy>(values: &mut [AbstractValue<D>], at: usize, part: &[AbstractValue<D>])
+    requires { at + length part.now ≤ length values.old }
+    ensures { values.new ≡ take at values.old ++ part.now ++ drop (at + length part.now) values.old }
+{
+    values[at..at + part.len()].copy_from_slice(part);
+}
+
+/// Returns whether no value is known.
+fn are_unknown<D: Copy>(values: &[AbstractValue<D>]) -> bool
+    ensures { result ≡ are_unknown values.now }
+{
+    match values {
+        [] => true,
+        [AbstractValue::Nothing, values @ ..] => are_unknown(values),
+        _ => false,
+    }
+}
+
+/// Returns the values of groups as they are kept: none, where no group is known to hold a pointer.
+///
+/// # Errors
+/// Where memory runs out.
+fn groups_of<D: Copy>(
+    alloc: Global,
+    values: &[AbstractValue<D>],
+) -> Result<Vec<AbstractValue<D>>, AllocError>
+    requires { length values.now ≡ GROUPS }
+    ensures { IfOk result (λ groups. (all_groups groups.items ≡ values.now) × (length groups.items ≤ GROUPS)) }
+{
+    if are_unknown(values) {
+        Ok(Vec::new(alloc))
+    } else {
+        Ok(values.to_vec(alloc)?)
+    }
+}
+
+/// Returns the values of the registers, of which there are eleven.
+fn eleven<D: Copy>(values: &[AbstractValue<D>]) -> [AbstractValue<D>; REGISTERS]
+    requires { length values.now ≡ REGISTERS }
+    ensures { result ≡ values.now }
+{
+    let mut registers = [AbstractValue::Nothing; REGISTERS];
+    registers.copy_from_slice(values);
+    registers
+}
+
+/// Returns the first value of a state, with its index, that doesn't cover the one of another state at its place. `proved` and
+/// `other_proved` are the proved lengths of both.
+fn first_uncovered<D: Domain>(
+    values: &[AbstractValue<D>],
+    others: &[AbstractValue<D>],
+    proved: i64,
+    other_proved: i64,
+) -> Option<(usize, AbstractValue<D>)>
+    requires { length values.now ≤ length others.now }
+    ensures none { (a b : AbsState D) → a.proved ≡ proved → b.proved ≡ other_proved
+        → IfNone result (covers_values D.ops a b values.now others.now ≡ true) }
+    ensures found { IfSome result (λ f. (f.0 < length values.now) × (slice_index_or values.now f.0 Nothing ≡ f.1)) }
+    ensures some { (a b : AbsState D) → a.proved ≡ proved → b.proved ≡ other_proved
+        → IfSome result (λ f. covers_value D.ops a b f.1 (slice_index_or others.now f.0 Nothing) ≡ false) }
+{
+    match (values, others) {
+        ([a, values @ ..], [b, others @ ..]) => {
+            if !covers_value(*a, *b, proved, other_proved) {
+                return Some((0, *a));
+            }
+            let (index, value) = first_uncovered(values, others, proved, other_proved)?;
+            Some((index + 1, value))
+        }
+        _ => None,
+    }
+}
+
+/// Returns whether a proved length is no greater than another one.
+fn proves_no_more(proved: i64, other_proved: i64) -> bool
+    ensures { result ≡ int_le proved other_proved }
+{
+    proved <= other_proved
+}
+
+impl<D: Domain> PackedState<D> {
+    ghost use Rattle.std.specs.Prelude.{◌≡◌, None, Some, true, IfNone, IfSome};
+    ghost use Rattle.semantics.specs.Machine.{State};
+    ghost use Rattle.absstate.specs.Covers.{covers};
+    ghost use Rattle.absstate.specs.MarkWords.{words_of};
+    ghost use Rattle.absstate.specs.Membership.{Loose, IsMember};
+    ghost use Rattle.absstate.specs.Packing.{Differs};
+
+    /// Returns the values of the registers and, after them, those of the groups.
+    fn values(&self) -> [AbstractValue<D>; VALUES]
+        ensures { result ≡ self.now.registers }
+    {
+        let mut values = [AbstractValue::Nothing; VALUES];
+        put(&mut values, 0, &self.registers);
+        put(&mut values, REGISTERS, &self.groups);
+        values
+    }
+
+    /// Returns a length that the datagram is proved to have.
+    fn proved(&self) -> i64
+        ensures { result ≡ self.now.proved }
+    {
+        self.proved
+    }
+
+    /// Returns the part in which a state, whose marks are these words, is found to differ from this one, which doesn't cover it.
+    /// `None` is a state that it covers: each member of that one is a member of this one.
+    pub fn difference(&self, other: &AbsState<D>, words: &MarkWords) -> Option<Part<D>>
+        requires { words.now ≡ words_of other.now.marks.cells }
+        ensures none { IfNone result (covers D.ops self.now other.now ≡ true) }
+        ensures members { result ≡ None → (s : State) → IsMember D.Member Loose other.now s → IsMember D.Member Loose self.now s }
+        ensures some { IfSome result (Differs D.ops self.now other.now) }
+    {
+        if let Some(index) = first_outside(&self.words, words) {
+            let word = self.words[index];
+            return Some(Part::Word { index, word });
+        }
+        let (proved, other_proved) = (self.proved(), other.proved_of(Anchor::First));
+        if !proves_no_more(proved, other_proved) {
+            return Some(Part::Unknown);
+        }
+        let _marks = other.marks.cells();
+        let (registers, groups) = registers_of(other).split_at(REGISTERS);
+        if let Some((index, value)) = first_uncovered(
+            &self.registers,
+            registers,
+            proved,
+            other_proved,
+        ) {
+            return Some(Part::Value { index, value });
+        }
+        if let Some((i, value)) = first_uncovered(&self.groups, groups, proved, other_proved) {
+            let index = REGISTERS + i;
+            return Some(Part::Value { index, value });
+        }
+        if share_alike(&self.values(), registers_of(other)) {
+            None
+        } else {
+            Some(Part::Unknown)
+        }
+    }
+}
+
+impl<D: Copy> AbsState<D> {
+    ghost use Rattle.std.specs.Prelude.{◌≡◌, IfOk};
+    ghost use Rattle.absstate.specs.MarkWords.{words_of};
+
+    /// Returns the marks of the stack as words: 64 marks a word, the first one at its lowest bit.
+    pub fn words(&self) -> MarkWords
+        ensures { result ≡ words_of self.now.marks.cells }
+    {
+        self.marks.words()
+    }
+
+    /// Returns this state as it is kept.
+    ///
+    /// # Errors
+    /// Where memory runs out.
+    pub fn packed(&self, alloc: Global) -> Result<PackedState<D>, AllocError>
+        ensures { IfOk result (λ p. p ≡ self.now) }
+    {
+        let (registers, groups) = registers_of(self).split_at(REGISTERS);
+        let _marks = self.marks.cells();
+        let groups = groups_of(alloc, groups)?;
+        Ok(PackedState {
+            registers: eleven(registers),
+            groups,
+            words: self.words(),
+            proved: self.proved_of(Anchor::First),
+        })
+    }
+}

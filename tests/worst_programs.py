@@ -1,0 +1,144 @@
+"""Verifies the programs that are known to take longest, and prints what each takes; times and memory are bounded.
+
+    tests/worst_programs.py [SEEDS]
+
+The paths of each program come to one slot in many states of which none covers another: so many, and compared so long, as a
+budget of 100,000 abstract steps allows. With SEEDS so many programs more are made of the same parts, drawn anew for each seed,
+and the slowest of them is printed. Times are of the processor, and the bounds are several times what is expected, so that a
+slower machine passes.
+"""
+
+import pathlib
+import random
+import subprocess
+import sys
+import tempfile
+
+from program import PROGRAM, build, finish, run
+
+# bounds of a verification: processor time in seconds, and memory in MiB, of which the process itself takes a few
+MOST_SECONDS, MOST_MEMORY = 20, 200
+BYTES = 512
+# two numbers of which nothing is known, from the context: the source's record in r2, the transaction id in r3
+HEAD = ["ldxdw r2, [r1+24]", "ldxdw r3, [r1+32]"]
+UNKNOWN = ["ldxdw r{}, [r1+24]".format(register) for register in (4, 5, 6, 7, 8)]
+TAIL = ["mov r0, 0", "exit"]
+# a chain of jumps, at the target of each of which a state is kept
+LONG = 4_000
+
+
+def forks(bodies, first=0):
+    """Returns lines that go past each body or into it, whatever was done before."""
+    lines = []
+    for number, body in enumerate(bodies, first):
+        register, bit = divmod(number, 30)
+        lines += [f"jset r{2 + register}, {1 << bit}, past{number}", *body, f"past{number}:"]
+    return lines
+
+
+def chain(jumps):
+    """Returns jumps over nothing."""
+    return ["jset r2, 1, +0"] * jumps
+
+
+def sums(count, register):
+    """Returns bodies that add other numbers to a register."""
+    return [[f"add r{register}, {1 << number}"] for number in range(count)]
+
+
+def marks(count, place):
+    """Returns bodies that set other bytes of the stack."""
+    return [[f"stb [r10-{BYTES - place(number)}], 0"] for number in range(count)]
+
+
+def pointers(count, registers):
+    """Returns bodies that keep a pointer in other groups of the stack."""
+    return [[f"stxdw [r10-{8 * (number + 1)}], r{registers[number % len(registers)]}"] for number in range(count)]
+
+
+def bounds(count):
+    """Returns jumps that leave other intervals in five registers."""
+    return [f"jgt r{4 + number % 5}, {1000 * (number + 1)}, +0" for number in range(count)]
+
+
+def anchors(count):
+    """Returns bodies that move a pointer into the datagram by a number that was read."""
+    return [["mov r6, r9", f"and r7, {(1 << number) | 1}", "add r6, r7", "ldxdw r7, [r1+24]"] for number in range(count)]
+
+
+def known_programs():
+    """Returns the texts of the programs that are known, with their names."""
+    zero = ["mov r0, 0", "mov r9, 0"]
+    datagram = ["ldxdw r9, [r1+0]", "ldxdw r7, [r1+24]", "mov r6, r9"]
+    kept = [f"stxdw [r10-{8 * (group + 1)}], r1" for group in range(64)]
+    return {
+        "sums in r0": HEAD + zero + forks(sums(16, 0)) + TAIL,
+        "sums in the last register": HEAD + zero + forks(sums(16, 9)) + TAIL,
+        "sums in two registers": HEAD + zero + forks([*sums(8, 0), *sums(8, 9)]) + TAIL,
+        "marks": HEAD + forks(marks(16, lambda number: number)) + TAIL,
+        "marks with a chain": HEAD + forks(marks(14, lambda number: number)) + chain(3) + TAIL,
+        "marks of all words": HEAD + forks(marks(16, lambda number: 32 * number + 1)) + TAIL,
+        "marks of one bit of their words": HEAD + forks(marks(8, lambda number: 64 * number)) + chain(3) + TAIL,
+        "pointers on the stack": HEAD + forks(pointers(16, [1])) + TAIL,
+        "two kinds of pointers on the stack": HEAD + forks(pointers(16, [1, 10])) + TAIL,
+        "intervals of five registers": UNKNOWN + bounds(20) + TAIL,
+        "places of the datagram": HEAD + datagram + forks(anchors(12)) + TAIL,
+        "32 states, and 4,000 jumps": HEAD + zero + forks(sums(5, 0)) + chain(LONG) + TAIL,
+        "64 pointers, 32 states, and 4,000 jumps": HEAD + zero[:1] + kept + forks(sums(5, 0)) + chain(LONG - 100) + TAIL,
+    }
+
+
+def drawn(seed):
+    """Returns the text of a program of parts that are drawn."""
+    source = random.Random(seed)
+    bodies = []
+    for _ in range(source.randrange(12, 18)):
+        bodies.append(source.choice([
+            lambda: [f"add r{source.choice((0, 9))}, {1 << source.randrange(30)}"],
+            lambda: [f"stb [r10-{source.randrange(1, BYTES + 1)}], 0"],
+            lambda: [f"stxdw [r10-{8 * source.randrange(1, 65)}], r{source.choice((1, 10))}"],
+            lambda: [f"jgt r{source.randrange(4, 9)}, {source.randrange(1 << 30)}, +0"],
+            lambda: ["mov r9, 0"],
+        ])())
+    start = HEAD + UNKNOWN + ["mov r0, 0", "mov r9, 0"]
+    return start + forks(bodies) + chain(source.choice((0, 1, 3, 100))) + TAIL
+
+
+def measure(folder, text):
+    """Returns what the verification of a text prints, and its processor time and greatest memory."""
+    source, target = folder / "text.s", folder / "program.bpf"
+    source.write_text("\n".join(text) + "\n", encoding="utf-8")
+    status, _, err = run(["assemble", source, target])
+    if status:
+        sys.exit(err)
+    code = ("import resource, subprocess, sys\n"
+            "ran = subprocess.run(sys.argv[1:], capture_output=True, text=True)\n"
+            "used = resource.getrusage(resource.RUSAGE_CHILDREN)\n"
+            "print(used.ru_utime + used.ru_stime, used.ru_maxrss, ran.stdout, end='')\n")
+    ran = subprocess.run([sys.executable, "-c", code, PROGRAM, "verify", target], capture_output=True, text=True, check=True)
+    seconds, kilobytes, verdict = ran.stdout.split(maxsplit=2)
+    return verdict.strip(), float(seconds), int(kilobytes) / 1024
+
+
+def main():
+    """Prints a line for each program, and one for the slowest of those that are drawn."""
+    build()
+    seeds = int(sys.argv[1]) if len(sys.argv) > 1 else 12
+    failures = []
+    with tempfile.TemporaryDirectory() as name:
+        folder = pathlib.Path(name)
+        programs = dict(known_programs())
+        slowest = ("", 0.0, 0.0)
+        for title, text in [*programs.items(), *((f"seed {seed}", drawn(seed)) for seed in range(seeds))]:
+            verdict, seconds, memory = measure(folder, text)
+            if title in programs:
+                print(f"{title}: {verdict}, {seconds:.2f} s, {memory:.0f} MiB", flush=True)
+            slowest = max(slowest, (title, seconds, memory), key=lambda row: row[1]) if title not in programs else slowest
+            if seconds > MOST_SECONDS or memory > MOST_MEMORY:
+                failures.append(f"{title}: {seconds:.2f} s, {memory:.0f} MiB")
+        print(f"the slowest of {seeds} seeds, {slowest[0]}: {slowest[1]:.2f} s, {slowest[2]:.0f} MiB")
+    return finish(failures, f"worst programs: {len(programs)} and {seeds} seeds, {len(failures)} failures")
+
+
+if __name__ == "__main__":
+    sys.exit(main())
