@@ -1,9 +1,10 @@
 """Makes the smallest input for each code of docs/REFUSALS.md, and compares the code that relayd prints of it.
 
-A text that is refused is assembled, bytes and programs are verified. No command reads messages: each of theirs has
-to be, with its code, in the rows of a test.
+A text that is refused is assembled, bytes and programs are verified, and begin a replay as the program of either side. No
+command reads messages: each of theirs has to be, with its code, in the rows of a test.
 """
 
+import os
 import pathlib
 import re
 import sys
@@ -29,40 +30,67 @@ def lines_of(cell):
     return lines
 
 
-def refused(folder, code, lines):
-    """Returns what relayd prints of an input."""
-    text, file = folder / "text.s", folder / "file.bpf"
-    if code.startswith("E"):
-        file.write_bytes(bytes.fromhex("".join(lines)))
-    else:
-        text.write_text("".join(f"{line}\n" for line in lines), encoding="utf-8")
-        status, _, err = run(["assemble", text, file])
-        if status:
-            return err
-    return run(["verify", file])[1]
+def rows_of_page():
+    """Returns each code of the page with the cell of its smallest input."""
+    return ROW.findall((TOP / "docs" / "REFUSALS.md").read_text(encoding="utf-8"))
+
+
+def assembled(folder, lines, file):
+    """Writes a program of these lines to a file, and returns what relayd prints to its standard error."""
+    text = folder / "text.s"
+    text.write_text("".join(f"{line}\n" for line in lines), encoding="utf-8")
+    return run(["assemble", text, file])[2]
+
+
+def refused_programs(folder):
+    """Yields each code for which a program is refused, with the bytes of the smallest one."""
+    file = folder / "file.bpf"
+    for code, cell in rows_of_page():
+        if code[0] not in "EV" or code in WITHOUT:
+            continue
+        if code[0] == "E":
+            yield code, bytes.fromhex("".join(lines_of(cell)))
+        else:
+            assembled(folder, lines_of(cell), file)
+            yield code, file.read_bytes()
+
+
+def failures_of_programs(folder):
+    """Yields the programs that are not refused by their code, by themselves and as the program of either side of a relay."""
+    file = folder / "program.bpf"
+    for code, data in refused_programs(folder):
+        file.write_bytes(data)
+        ends = {"verify": run(["verify", file])}
+        for side in ("--client", "--peer"):
+            status, out, err = run(["replay", "--user", "u:p", side, file, os.devnull])
+            ends[side] = status, err, out
+        for name, (status, printed, rest) in ends.items():
+            if status != 1 or rest or not re.fullmatch(rf"refused {code}( [a-z0-9 ]+)?\n", printed):
+                yield f"{code} by {name}: {status} {printed}{rest}"
 
 
 def failures_of_rows(folder, rows):
-    """Yields the codes that are not met by their input."""
+    """Yields the codes of texts and of messages that are not met by their input."""
     tested = {code: bytes.fromhex(digits) for code, digits in TESTED.findall(TEST.read_text(encoding="utf-8"))}
     for code, cell in rows:
         lines = lines_of(cell)
-        if code in WITHOUT:
+        if code in WITHOUT or code[0] in "EV":
             continue
         if code[0] in "SAC":
             if tested.get(code) != bytes.fromhex("".join(lines)):
                 yield f"{code}: other bytes in {TEST.name}"
             continue
-        printed = refused(folder, code, lines)
+        printed = assembled(folder, lines, folder / "file.bpf")
         if not re.match(rf"refused {code}( |\n)", printed):
             yield f"{code}: {printed}"
 
 
 def main():
     """Meets every code, and returns the exit status."""
-    rows = ROW.findall((TOP / "docs" / "REFUSALS.md").read_text(encoding="utf-8"))
+    rows = rows_of_page()
     with tempfile.TemporaryDirectory() as name:
-        failures = [*failures_of_rows(pathlib.Path(name), rows)]
+        folder = pathlib.Path(name)
+        failures = [*failures_of_rows(folder, rows), *failures_of_programs(folder)]
     if len(rows) != 46:
         failures.append(f"{len(rows)} codes")
     return finish(failures, f"refusals: {len(rows)} codes, {len(failures)} failures")

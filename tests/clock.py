@@ -1,0 +1,321 @@
+"""Runs the built relayd's `serve` with clocks that stand still until they are set.
+
+What ends at a moment, or is done from time to time, is there one nanosecond before and not there at it: allocations, channels,
+permissions and nonces by their lifetimes, the files of programs and the counters each second. It needs gcc.
+"""
+
+import collections
+import contextlib
+import itertools
+import os
+import pathlib
+import re
+import struct
+import subprocess
+import sys
+import tempfile
+
+from program import TOP, build, finish, run
+import refusals
+from memory import over_additions
+from rules import BINDING, CREATE_PERMISSION, NONCE, REFRESH
+from serve import (
+    BAD, DISCARD, Client, Server, address_of, channel_data, code_of, comes, counters, passed, put, udp_socket, wanted)
+
+SECOND = 10**9
+# three quarters of a second after a whole one, whose half and double are other moments; and the time since a start
+REAL, MONOTONIC = 1_700_000_000 * SECOND + SECOND * 3 // 4, 1_000 * SECOND
+# the seconds of a moment, of which the last quarter is gone when the clocks begin
+WHOLE = REAL // SECOND * SECOND
+# `mov r0, 1` and `exit`: all is passed on to the rules, which discard what peers send. As long as DISCARD
+PASS = bytes.fromhex("b700000001000000 9500000000000000")
+# `mov r0, 0` alone, refused for its end, and as long as BAD
+UNENDED = bytes.fromhex("b700000000000000")
+# 32 paths of 4,000 steps each: quick to refuse, since few states are kept
+TOO_MANY_STEPS = over_additions([1, 2, 4, 8, 16], 4000)
+# passes messages on to the rules, and discards all else
+MESSAGES = """
+    ldxdw r2, [r1+0]
+    ldxdw r3, [r1+8]
+    mov r4, r2
+    add r4, 1
+    mov r0, 0
+    jgt r4, r3, end
+    ldxb r5, [r2+0]
+    jgt r5, 63, end
+    mov r0, 1
+end:
+    exit
+"""
+# how often a nonce is replaced, in seconds, by the words that say so
+LIFETIMES = [([], 3600), (["--nonce-lifetime", "7"], 7)]
+RENEWALS = 20
+# how often lines of counters are printed
+PERIODS = [1, 5]
+# datagrams of clients that are discarded, each after one of another kind: ChannelData, messages, and others
+DISCARDED = [b"\x40", b"\x3f", b"", b"\x4f", b"\x00", b"\x50", b"\x47\0\0\0", b"", b"\x3f", b"\xff", b"\x40", b""]
+OF_EACH = (4, 3, 5)
+
+
+class Clocks:
+    """The clocks of a server: they stand still until they are set."""
+
+    def __init__(self, folder):
+        self.library, path = folder / "set_clocks.so", folder / "clocks"
+        command = ["gcc", "-O1", "-Wall", "-shared", "-fPIC", "-o", self.library, TOP / "tests" / "set_clocks.c"]
+        subprocess.run(command, check=True)
+        self.file = open(path, "wb")
+        self.environment = {**os.environ, "LD_PRELOAD": str(self.library), "CLOCKS": str(path)}
+        self.set(REAL, MONOTONIC)
+
+    def set(self, real, monotonic):
+        """Sets both clocks; one below zero fails."""
+        self.real, self.monotonic = real, monotonic
+        os.pwrite(self.file.fileno(), struct.pack("<qq", real, monotonic), 0)
+
+    # a server reads its clocks after each wait, so they are set while it waits
+
+    def become(self, server, real):
+        """Sets the clock of moments while a server waits."""
+        server.becomes("S")
+        self.set(real, self.monotonic)
+
+    def pass_by(self, server, nanoseconds):
+        """Sets the clock that never goes back so many nanoseconds forward while a server waits."""
+        server.becomes("S")
+        self.set(self.real, self.monotonic + nanoseconds)
+
+    @contextlib.contextmanager
+    def serving(self, *words):
+        """Yields a server with these clocks, which begin anew, and a client of it with an allocation."""
+        self.set(REAL, MONOTONIC)
+        with Server(*words, env=self.environment) as server, Client(server) as client:
+            client.allocate()
+            yield server, client
+
+
+def permit(client, peer):
+    """Asks for a permission, and returns the code of the response."""
+    return code_of(client.signed(CREATE_PERMISSION, [], address_of(peer)))
+
+
+def sent(client, peer):
+    """Whether a Send indication comes to the peer. A request comes to the server after it, so nothing is waited for."""
+    client.send_to(address_of(peer), b"sent")
+    client.ask(BINDING, [])
+    peer.setblocking(False)
+    try:
+        return peer.recv(100) == b"sent"
+    except BlockingIOError:
+        return False
+    finally:
+        peer.settimeout(5)
+
+
+# ---- moments of datagrams
+
+def lifetimes(clocks):
+    """Yields what ends at another moment than the one at which its lifetime is over."""
+    # the nanoseconds from the beginning of the second of the requests, and whether each of these is still there
+    rows = [(299 * SECOND, True, True), (300 * SECOND - 1, True, True), (300 * SECOND, False, True),
+            (600 * SECOND - 1, False, True), (600 * SECOND, False, False)]
+    with clocks.serving() as (server, client), udp_socket() as peer, udp_socket() as other:
+        yield from wanted("CreatePermission", permit(client, peer), 0)
+        yield from wanted("ChannelBind", code_of(client.bind(address_of(other))), 0)
+        for after, permitted, allocated in rows:
+            clocks.become(server, WHOLE + after)
+            yield from wanted(f"the permission after {after} ns", sent(client, peer), permitted)
+            client.send(channel_data(b"over"))
+            yield from wanted(f"the channel after {after} ns", comes(other, b"over", allocated), allocated)
+        yield from wanted("the allocation", permit(client, peer), 437)
+        yield from wanted("another one", code_of(client.allocate()), 0)
+
+
+def clocks_that_go_back(clocks):
+    """Yields what is otherwise where the clock is set back, or fails: then the greatest moment goes on."""
+    for what, real in (("set back", 5 * SECOND), ("at the start", 0), ("failing", -1)):
+        with clocks.serving() as (server, client), udp_socket() as peer:
+            clocks.become(server, real)
+            yield from wanted(f"a permission with the clock {what}", permit(client, peer), 0)
+            yield from wanted(f"a Send indication with the clock {what}", sent(client, peer), True)
+            clocks.become(server, WHOLE + 300 * SECOND - 1)
+            yield from wanted(f"one 299 seconds after the clock was {what}", sent(client, peer), True)
+            clocks.become(server, real)
+            yield from wanted(f"one with the clock {what} again", sent(client, peer), True)
+            clocks.become(server, WHOLE + 300 * SECOND)
+            yield from wanted(f"one 300 seconds after the clock was {what}", sent(client, peer), False)
+            clocks.become(server, real)
+            yield from wanted(f"one after them with the clock {what}", sent(client, peer), False)
+
+
+# ---- what is done from time to time
+
+def nonces(clocks):
+    """Yields what is otherwise than that each lifetime a new nonce comes, whose digits are drawn."""
+    found = []
+    for words, lifetime in LIFETIMES:
+        with clocks.serving(*words) as (server, client):
+            for number in range(RENEWALS):
+                found.append(client.nonce.decode())
+                clocks.pass_by(server, lifetime * SECOND - 1)
+                before = code_of(client.signed(REFRESH, []))
+                clocks.pass_by(server, 1)
+                answer = client.signed(REFRESH, [])
+                client.nonce = answer.first(NONCE) or client.nonce
+                codes = before, code_of(answer), code_of(client.signed(REFRESH, []))
+                yield from wanted(f"{words}, nonce {number} before its end, at its end, and the next", codes, (0, 438, 0))
+    yield from wanted("nonces of 16 digits", sum(bool(re.fullmatch("[0-9a-f]{16}", nonce)) for nonce in found), len(found))
+    yield from wanted("nonces that differ", len(set(found)), len(found))
+    yield from wanted("places whose digit is always the same", [i for i, of in enumerate(zip(*found)) if len(set(of)) == 1], [])
+
+
+def lines(clocks):
+    """Yields what is otherwise than that each period a line of counters is printed, of all that came before."""
+    for period in PERIODS:
+        with clocks.serving("--stats", str(period)) as (server, client):
+            printed = ""
+            for number in range(1, 5):
+                for nanoseconds in (period * SECOND - 1, 1):
+                    clocks.pass_by(server, nanoseconds)
+                    came = 2 * number + (nanoseconds == 1)
+                    client.ask(BINDING, [])
+                    printed += counters(from_clients=came, granted=came - 1, challenged=1) if nanoseconds == 1 else ""
+                    yield from wanted(f"lines each {period} s, after {number}", server.printed(), printed)
+
+
+def counted(clocks):
+    """Yields what is counted otherwise: an old nonce among what is challenged, and what is discarded by its first byte."""
+    with clocks.serving("--stats", "1", "--nonce-lifetime", "1") as (server, client):
+        clocks.pass_by(server, SECOND)
+        yield from wanted("an old nonce", code_of(client.signed(REFRESH, [])), 438)
+        for data in DISCARDED:
+            client.send(data)
+        client.ask(BINDING, [])
+        clocks.pass_by(server, SECOND)
+        client.ask(BINDING, [])
+        first = counters(from_clients=2, granted=1, challenged=1)
+        last = counters(from_clients=4 + len(DISCARDED), granted=2, challenged=2, discarded=(*OF_EACH, 0))
+        yield from wanted("counters", server.printed(), first + last)
+
+
+# ---- programs that are replaced
+
+def replacements(good, messages):
+    """Yields which programs a server begins with, by side, and the steps in which files are changed.
+
+    Each step has the new bytes of files, by side; what is printed then of each side, in any order; and whether data of the client,
+    and data of the peer, pass afterwards. A side without a file has the shipped program.
+    """
+    client, peer = good["client"], good["peer"]
+    refused, unended = "refused V5 at 0 in", "refused V4 at 0 in"
+    yield {"client": client}, [
+        ("before", {}, {}, (True, True)),
+        ("a program that discards", {"client": DISCARD}, {"client": "loaded"}, (False, True)),
+        ("one of the same length", {"client": PASS}, {"client": "loaded"}, (True, True)),
+        ("a refused one", {"client": BAD}, {"client": refused}, (True, True)),
+        ("another of the same length", {"client": UNENDED}, {"client": unended}, (True, True)),
+        ("the one that runs", {"client": PASS}, {}, (True, True)),
+        ("the refused one again", {"client": UNENDED}, {"client": unended}, (True, True)),
+        ("a good one", {"client": DISCARD}, {"client": "loaded"}, (False, True)),
+        ("the refused one once more", {"client": UNENDED}, {"client": unended}, (False, True)),
+    ]
+    yield {"peer": peer}, [
+        ("before", {}, {}, (True, True)),
+        ("a program of peers that discards", {"peer": DISCARD}, {"peer": "loaded"}, (True, False)),
+        ("a refused one", {"peer": BAD}, {"peer": refused}, (True, False)),
+        ("the one that runs", {"peer": DISCARD}, {}, (True, False)),
+        ("the refused one again", {"peer": BAD}, {"peer": refused}, (True, False)),
+        ("a good one", {"peer": peer}, {"peer": "loaded"}, (True, True)),
+        ("the refused one once more", {"peer": BAD}, {"peer": refused}, (True, True)),
+    ]
+    # neither is the shipped one, and each stays while the other is replaced
+    own = {"client": messages, "peer": DISCARD}
+    yield own, [
+        ("before", {}, {}, (False, False)),
+        ("another one of peers", {"peer": peer}, {"peer": "loaded"}, (False, True)),
+        ("another one of clients", {"client": client}, {"client": "loaded"}, (True, True)),
+        ("the first one of peers", {"peer": DISCARD}, {"peer": "loaded"}, (True, False)),
+        ("the first one of clients", {"client": messages}, {"client": "loaded"}, (False, False)),
+    ]
+    yield own, [
+        ("another one of clients first", {"client": client}, {"client": "loaded"}, (True, False)),
+        ("a refused one of clients", {"client": BAD, "peer": peer}, {"client": refused, "peer": "loaded"}, (True, True)),
+    ]
+
+
+def replaced_programs(clocks, folder):
+    """Yields what happens otherwise than said where the files of programs are changed, each a second after the last."""
+    text, bytes_of = folder / "messages.s", folder / "messages"
+    text.write_text(MESSAGES, encoding="utf-8")
+    run(["assemble", text, bytes_of])
+    good = {side: folder / side for side in ("client", "peer")}
+    for side, path in good.items():
+        run(["assemble", TOP / "examples" / "relay" / f"{side}.s", path])
+    good = {side: path.read_bytes() for side, path in good.items()}
+    for number, (begun, steps) in enumerate(replacements(good, bytes_of.read_bytes())):
+        paths = {side: folder / f"{side}{number}" for side in begun}
+        for side, data in begun.items():
+            put(paths[side], data)
+        options = itertools.chain.from_iterable((f"--{side}", str(path)) for side, path in paths.items())
+        with clocks.serving(*options) as (server, client), udp_socket() as peer:
+            client.bind(address_of(peer))
+            yield from steps_of(clocks, server, client, peer, paths, steps)
+
+
+def steps_of(clocks, server, client, peer, paths, steps):
+    """Yields what happens otherwise than the steps say."""
+    printed = collections.Counter()
+    for what, changed, said, passing in steps:
+        for side, data in changed.items():
+            put(paths[side], data)
+        clocks.pass_by(server, SECOND)
+        added = [f"{words} {paths[side]}\n" for side, words in said.items()]
+        printed.update(added)
+        client.send(b"\xff")
+        if any(server.awaited(line, printed[line]) != printed[line] for line in added):
+            yield f"{what}: {server.printed()!r}"
+        yield from wanted(what, passed(server, client, peer, passing), passing)
+    yield from wanted("lines", sorted(server.printed().splitlines(True)), sorted(printed.elements()))
+
+
+def refused_programs(clocks, folder):
+    """Yields the refusals of a program that are printed otherwise while a server runs, and after which the old one doesn't go on."""
+    path = folder / "refused"
+    put(path, DISCARD)
+    with clocks.serving("--peer", str(path)) as (server, client):
+        printed = ""
+        programs = {**dict(refusals.refused_programs(folder)), "V17": TOO_MANY_STEPS}
+        for code, data in programs.items():
+            put(path, data)
+            clocks.pass_by(server, SECOND - 1)
+            client.ask(BINDING, [])
+            yield from wanted(f"{code}, too early", server.printed(), printed)
+            clocks.pass_by(server, 1)
+            client.send(b"\xff")
+            server.awaited(f"refused {code}")
+            found = server.printed()
+            if not re.fullmatch(rf"refused {code}( [a-z0-9 ]+)? in {re.escape(str(path))}\n", found[len(printed):]):
+                yield f"{code}: {found[len(printed):]!r}"
+            printed = found
+        yield from wanted("the allocation", code_of(client.signed(REFRESH, [])), 0)
+
+
+def main():
+    """Runs every part, and returns the exit status."""
+    build()
+    failures = []
+    with tempfile.TemporaryDirectory() as name:
+        folder = pathlib.Path(name)
+        clocks = Clocks(folder)
+        parts = [(lifetimes, []), (clocks_that_go_back, []), (nonces, []), (lines, []), (counted, []),
+                 (replaced_programs, [folder]), (refused_programs, [folder])]
+        for part, given in parts:
+            try:
+                failures += [f"{part.__name__}: {failure}" for failure in part(clocks, *given)]
+            except (OSError, ValueError, AttributeError, RuntimeError, subprocess.TimeoutExpired) as error:
+                failures.append(f"{part.__name__}: {error!r}")
+    return finish(failures, f"clocks: {len(parts)} parts, {len(failures)} failures")
+
+
+if __name__ == "__main__":
+    sys.exit(main())
