@@ -14,8 +14,8 @@ from program import TOP, finish, run
 sys.path.insert(0, str(TOP / "examples"))
 import events
 from rules import (
-    ERROR_CODE, FAMILY, LIFETIME, NONCE, REALM, TRANSPORT, UNKNOWN_ATTRIBUTES, USERNAME, XOR_MAPPED_ADDRESS, XOR_RELAYED_ADDRESS,
-    key_of, message)
+    DATA, ERROR_CODE, FAMILY, LIFETIME, NONCE, REALM, SEND, TRANSPORT, UNKNOWN_ATTRIBUTES, USERNAME, XOR_MAPPED_ADDRESS,
+    XOR_PEER_ADDRESS, XOR_RELAYED_ADDRESS, address_value, key_of, message)
 
 EXAMPLES = TOP / "examples"
 SESSION = TOP / "crates" / "session_replay"
@@ -35,7 +35,8 @@ UNREAD = "cannot read missing\n"
 REFUSED = "refused V5 at 0\n"
 BINDING = f"c 1000 {'0' * 24} 198.51.100.2:4000 000100002112a442{'0' * 24}\n"
 BOUND = f"c 198.51.100.2:4000 0101000c2112a442{'0' * 24}0020000800012eb2e721c040\n"
-# the answer to an Allocate request without attributes, where the nonce is n2
+# a new nonce and an Allocate request without attributes, and the answer to this
+RENEWED = f"n n2\nc 1000 {'0' * 24} 198.51.100.2:4000 000300002112a442{'0' * 24}\n"
 UNSIGNED = (
     f"c 198.51.100.2:4000 0113002c2112a442{'0' * 24}00090013000004"
     "01556e61757468656e74696361746564000014000572656c6179000000001500026e320000\n"
@@ -44,9 +45,9 @@ IP6 = "20010db80000000000000000000000Ab"
 PEER6 = "[20010db8000000000000000000000001]:5000"
 
 
-def allocate(kind, *given):
-    """A message of a signed Allocate exchange, in the transaction of zeros."""
-    return message(kind, bytes(12), list(given), key_of("u", "relay", "p")).hex()
+def allocate(kind, *given, name="u", password="p"):
+    """A message of a signed Allocate exchange of a user, in the transaction of zeros."""
+    return message(kind, bytes(12), list(given), key_of(name, "relay", password)).hex()
 
 
 # an Allocate request for an IPv6 address, the error 440, and the response with [2001:db8::ab]:49152: the port is xored with
@@ -54,6 +55,8 @@ def allocate(kind, *given):
 ALLOCATE6 = allocate(
     0x0003, (TRANSPORT, b"\x11\0\0\0"), (FAMILY, b"\2\0\0\0"), (USERNAME, b"u"), (REALM, b"relay"), (NONCE, b"n1"))
 NO_FAMILY = f"c 198.51.100.2:4000 {allocate(0x0113, (ERROR_CODE, bytes([0, 0, 4, 40]) + b'Address Family not Supported'))}\n"
+# and 127.0.0.1:49152, and the client's own address
+RELAYED_VALUE = bytes.fromhex("0001e1125e12a443")
 RELAYED6_VALUE = bytes.fromhex("0002e1120113a9fa" + "0" * 22 + "ab")
 MAPPED_VALUE = bytes.fromhex("00012eb2e721c040")
 RELAYED6 = "c 198.51.100.2:4000 " + allocate(
@@ -123,8 +126,15 @@ RUNS = [
     (["slot"], 1, "", "refused line 1\n"),
     (["--slots", "17", "slot"], 0, "-\n", ""),
     (["--", "events"], 0, BOUND, ""),
+    # slot 15 is by default, and slots are there up to the last that is asked for
+    (["slot15"], 0, "-\n", ""),
+    (["--slots", "256", "slot255"], 0, "-\n", ""),
     # a new nonce, and a text that is none
     (["renewed"], 0, f"-\n{UNSIGNED}", ""),
+    # the three kinds of lines as one file; then with a slot that is not there, and with a needless zero
+    (["kinds"], 0, f"-\n{UNSIGNED}-\n", ""),
+    (["kinds16"], 1, f"-\n{UNSIGNED}", "refused line 3\n"),
+    (["kinds01000"], 1, "-\n", "refused line 2\n"),
     (["long_nonce"], 1, "-\n", "refused line 2\n"),
     (["unknown"], 0, NOT_UNDERSTOOD, ""),
     # a client over IPv6 is served nothing, and a peer may be over either family
@@ -135,6 +145,32 @@ RUNS = [
     (["--relay-ip6", IP6.upper(), "allocate6"], 0, RELAYED6, ""),
 ]
 TX = "0" * 24
+# texts of a file of users, with a name and a password that they have, or what is refused: blanks belong to a password, no name
+# has any, and there are no comments and no empty lines
+FILES_OF_USERS = [
+    ("u:p", "u", "p"),
+    ("u:p\r\n", "u", "p"),
+    ("u:p \n", "u", "p "),
+    ("u: p\n", "u", " p"),
+    ("v:q\n#u:p#\n", "#u", "p#"),
+    (" u:p\n", "users"),
+    ("u :p\n", "users"),
+    ("u:p\t\n", "users"),
+    ("# the users:\nu:p\n", "users"),
+    ("# the users\nu:p\n", "users at line 1"),
+    ("u:p\n#\n", "users at line 2"),
+    ("\nu:p\n", "users at line 1"),
+    ("u:p\n\nv:q\n", "users at line 2"),
+    ("u:p\nv:q\n\n", "users at line 3"),
+    ("u:p\n \n", "users at line 2"),
+]
+# a Send indication after a ChannelBind, whose attribute that isn't understood is padded, comes first, and is ignored
+IGNORED = message(SEND, bytes(12), [
+    (0x8001, b"\xff"), (XOR_PEER_ADDRESS, address_value((bytes([192, 0, 2, 7]), 5000))), (DATA, b"abc")]).hex()
+# the numbers of slots of which all are allocated, and the last one is used
+NUMBERS_OF_SLOTS = [70, 256]
+# the answers that a full output is asked to take: more than a buffer holds
+MANY = 10_000
 # lines that are no event's: an empty one, needless zeros, numbers too great, digits that are upper-case or odd, an id that is
 # cut, a slot that isn't there, addresses that aren't over IPv4, fields that lack or are too many, and lines that are too long
 NO_EVENTS = [
@@ -218,6 +254,42 @@ STORIES = [
     # the moment of a discarded datagram counts, and a later one before it does not
     [(1000, ALLOCATED), (2000, DISCARDED), (1200, ENDED)],
 ]
+# the allocation of a slot by a client of its own, its channel, and a peer's datagram over it
+SLOT = """
+from client 198.51.100.2:{client}
+    Allocate request
+    REQUESTED-TRANSPORT 17
+    signed
+to client 198.51.100.2:{client}
+    Allocate success
+    XOR-RELAYED-ADDRESS 127.0.0.1:{port}
+    LIFETIME 600
+    XOR-MAPPED-ADDRESS 198.51.100.2:{client}
+    signed
+from client 198.51.100.2:{client}
+    ChannelBind request
+    CHANNEL-NUMBER 0x4001
+    XOR-PEER-ADDRESS 192.0.2.7:5000
+    signed
+to client 198.51.100.2:{client}
+    ChannelBind success
+    signed
+from peer 192.0.2.7:5000 at slot {slot}
+    data to slot {slot}
+to client 198.51.100.2:{client}
+    ChannelData 0x4001 to slot {slot}
+"""
+# one client too many
+NO_SLOT = """
+from client 198.51.100.2:3999
+    Allocate request
+    REQUESTED-TRANSPORT 17
+    signed
+to client 198.51.100.2:3999
+    Allocate error
+    ERROR-CODE 508 Insufficient Capacity
+    signed
+"""
 LONGEST_DATA = 65503
 DEFAULTS = {"name": "u", "password": "p", "realm": "relay", "nonce": "n1", "address": "127.0.0.1:49152"}
 # options, with what they change of the answers
@@ -248,8 +320,14 @@ def write_files(folder):
         "unended": BINDING.rstrip("\n"),
         "second": f"{BINDING}c 1000\n{BINDING}",
         "blank": f"\n{BINDING}",
-        "slot": f"p 1000 {'0' * 24} 16 192.0.2.7:5000 616263\n",
-        "renewed": f"n n2\nc 1000 {'0' * 24} 198.51.100.2:4000 000300002112a442{'0' * 24}\n",
+        "slot": f"p 1000 {TX} 16 192.0.2.7:5000 616263\n",
+        "slot15": f"p 1000 {TX} 15 192.0.2.7:5000 616263\n",
+        "slot255": f"p 1000 {TX} 255 192.0.2.7:5000 616263\n",
+        "renewed": RENEWED,
+        "kinds": f"{RENEWED}p 1000 {TX} 0 192.0.2.7:5000 616263\n",
+        "kinds16": f"{RENEWED}p 1000 {TX} 16 192.0.2.7:5000 616263\n",
+        "kinds01000": f"{RENEWED.replace('c 1000', 'c 01000')}p 1000 {TX} 0 192.0.2.7:5000 616263\n",
+        "many": BINDING * MANY,
         "long_nonce": f"n {'n' * 64}\nn {'n' * 65}\n",
         "users": "u:p\nsecond:a b:c\n",
         "family6": f"{BINDING.replace('198.51.100.2:4000', PEER6)}p 1000 {TX} 0 {PEER6} 616263\n{BINDING}",
@@ -333,6 +411,44 @@ def failures_of_stories(folder):
         yield from differences(str(story), run(["replay", *USER, "story"], cwd=folder), (0, wanted, ""))
 
 
+def failures_of_users(folder):
+    """Yields the files of users whose user, or whose line that is refused, is another one."""
+    for text, *wanted in FILES_OF_USERS:
+        with open(folder / "texts", "w", encoding="utf-8", newline="") as file:
+            file.write(text)
+        if len(wanted) == 1:
+            (folder / "line").write_text("", encoding="utf-8")
+            end = 1, "", f"refused {wanted[0]}\n"
+        else:
+            name, password = wanted
+            request = allocate(0x0003, (TRANSPORT, b"\x11\0\0\0"), (USERNAME, name.encode()), (REALM, b"relay"), (NONCE, b"n1"),
+                               name=name, password=password)
+            answer = allocate(0x0103, (XOR_RELAYED_ADDRESS, RELAYED_VALUE), (LIFETIME, (600).to_bytes(4, "big")),
+                              (XOR_MAPPED_ADDRESS, MAPPED_VALUE), name=name, password=password)
+            (folder / "line").write_text(f"c 1000 {TX} 198.51.100.2:4000 {request}\n", encoding="utf-8")
+            end = 0, f"c 198.51.100.2:4000 {answer}\n", ""
+        got = run(["replay", "--users", "texts", "line"], cwd=folder)
+        yield from differences(f"the users {text!r}", got, end)
+
+
+def failures_of_slots(folder):
+    """Yields what is answered otherwise where each of many slots is allocated and used, and one client more asks for one."""
+    for count in NUMBERS_OF_SLOTS:
+        slots = [SLOT.format(slot=slot, client=4000 + slot, port=49152 + slot) for slot in range(count)]
+        lines, answers = events.lines_of("user u:p\nrealm relay\nnonce n1\nnow 1\n" + "".join(slots) + NO_SLOT)
+        (folder / "slots").write_text(lines, encoding="utf-8")
+        got = run(["replay", *USER, "--slots", str(count), "slots"], cwd=folder)
+        yield from differences(f"{count} slots", got, (0, answers, ""))
+
+
+def failures_of_ignored(folder):
+    """Yields what is answered otherwise to a Send indication with an attribute that is ignored."""
+    lines, answers = events.lines_of(SHOWN.format(**DEFAULTS) + CHANNEL)
+    (folder / "ignored").write_text(f"{lines}c 1 {TX} 198.51.100.2:4000 {IGNORED}\n", encoding="utf-8")
+    got = run(["replay", *USER, "ignored"], cwd=folder)
+    yield from differences("an ignored attribute", got, (0, f"{answers}p 0 192.0.2.7:5000 616263\n", ""))
+
+
 def from_peer(count, answered):
     """Returns the description of a peer's datagram of `count` bytes, answered by ChannelData or not."""
     text = "x" * count
@@ -360,9 +476,9 @@ def failures_of_lines(folder):
 
 def failures_of_output(folder):
     """Yields the outputs that fail and are not reported."""
-    for words in (["events"], ["second"], ["-"]):
+    for words in (["events"], ["second"], ["-"], ["many"]):
         with open("/dev/full", "w", encoding="utf-8") as full, open(folder / "events", encoding="utf-8") as source:
-            got = run(["replay", *USER, *words], cwd=folder, stdout=full, stdin=source)
+            got = run(["replay", *USER, *words], cwd=folder, stdout=full, stdin=source, timeout=60)
         if got != (3, None, "cannot write output\n"):
             yield f"{words}, output full: {got}"
 
@@ -376,6 +492,9 @@ def main():
         failures_of_runs,
         failures_of_options,
         failures_of_stories,
+        failures_of_users,
+        failures_of_slots,
+        failures_of_ignored,
         failures_of_sizes,
         failures_of_lines,
         failures_of_output,
