@@ -1,6 +1,7 @@
 /* Preloaded into a program, makes its reads of standard input and its writes to standard output short or fail. Each moves
-   at most IO_SHORT bytes, where that is given; read number FAIL_READ and write number FAIL_WRITE, counted from 1, fail with EIO.
-   For each failure it writes a byte to the file descriptor FAIL_REPORT. */
+   at most IO_SHORT bytes, where that is given; read number FAIL_READ and write number FAIL_WRITE, counted from 1, fail with EIO;
+   and each read or write whose number is no multiple of IO_INTERRUPT, where that is given, is interrupted (EINTR). For each
+   failure it writes a byte to the file descriptor FAIL_REPORT. */
 #define _GNU_SOURCE
 #include <dlfcn.h>
 #include <errno.h>
@@ -26,14 +27,22 @@ static ssize_t real_write(int fd, const void *bytes, size_t count) {
   return real(fd, bytes, count);
 }
 
+/* Returns the error of a call of a number on a stream, or 0 for none. */
+static int error_of(int stream, unsigned long number) {
+  unsigned long whole = number_in("IO_INTERRUPT");
+  if (whole && number % whole != 0)
+    return EINTR;
+  return number == number_in(stream == INPUT ? "FAIL_READ" : "FAIL_WRITE") ? EIO : 0;
+}
+
 /* Counts a call on a stream, and returns whether it fails. */
 static int fails(int stream) {
-  counts[stream] += 1;
-  if (counts[stream] != number_in(stream == INPUT ? "FAIL_READ" : "FAIL_WRITE"))
+  int error = error_of(stream, ++counts[stream]);
+  if (error == 0)
     return 0;
   if (real_write((int)number_in("FAIL_REPORT"), "x", 1) != 1)
     _exit(99);
-  errno = EIO;
+  errno = error;
   return 1;
 }
 

@@ -1,9 +1,11 @@
-"""Runs the built relayd's `replay` with reads and writes that are short, of every size, and with each of them failing in turn.
+"""Runs the built relayd's `replay` with reads and writes that are short, of every size, or interrupted, and with each of them
+failing in turn.
 
-Short ones change nothing. Where a read or a write fails, the status and the line say which, and what was written is a beginning of
+Short and interrupted ones change nothing. Where a read or a write fails, the status and the line say which, and what was written is a beginning of
 the right answers; where a read fails, it is whole answers. It needs gcc.
 """
 
+import itertools
 import os
 import pathlib
 import subprocess
@@ -18,6 +20,8 @@ WORDS = ["replay", "--users", EXAMPLES / "users.txt", "--relay-ip", "203.0.113.1
 UNREAD, UNWRITTEN = (3, b"cannot read -\n"), (3, b"cannot write output\n")
 # bytes a call, in the runs in which each call fails in turn
 SIZES = [7, 64, 1_000, 10**9]
+# how many calls it takes to have one that is not interrupted
+CALLS = [2, 5]
 
 
 def ran(library, **environment):
@@ -38,6 +42,14 @@ def failures_of_short(library, answers):
         end, out, _ = ran(library, IO_SHORT=size)
         if (end, out) != ((0, b""), answers):
             yield f"{size} bytes a call: {end}"
+
+
+def failures_of_interrupted(library, answers):
+    """Yields the sizes of reads and writes with which a run ends otherwise where the calls before each are interrupted."""
+    for size, calls in itertools.product(SIZES, CALLS):
+        end, out, interrupted = ran(library, IO_SHORT=size, IO_INTERRUPT=calls)
+        if (end, out) != ((0, b""), answers) or interrupted < 2 * (calls - 1):
+            yield f"{size} bytes a call, {interrupted} interrupted: {end}"
 
 
 def failures_of_failing(library, answers, size, which, wanted):
@@ -63,6 +75,7 @@ def main():
         end, answers, _ = ran(library)
         failures = [] if end == (0, b"") and answers else [f"whole reads and writes: {end}"]
         failures += failures_of_short(library, answers)
+        failures += failures_of_interrupted(library, answers)
         for size in SIZES:
             failures += failures_of_failing(library, answers, size, "FAIL_READ", UNREAD)
             failures += failures_of_failing(library, answers, size, "FAIL_WRITE", UNWRITTEN)
