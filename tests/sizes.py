@@ -13,6 +13,8 @@ from program import finish, run
 SLOTS = 4096
 # states that are pending at once
 PENDING = 4000
+# forks after each other: the exit keeps 2^9 states
+FORKS = 9
 
 
 def text_of(lines):
@@ -31,6 +33,9 @@ def rows():
     # each jump leaves a state pending, as either side may be taken; the datagram is traced to come from 0.0.0.0
     branches = [f"    jeq r2, {i}, end" for i in range(1, PENDING + 1)]
     yield "branches", ["    mov r0, 0", "    ldxw r2, [r1+40]", *branches, "end:", "    exit"], PENDING + 3, PENDING + 3
+    # paths that add other powers of two meet at the exit, and none of their states covers another; no jump of the trace is taken
+    forks = [line for i in range(FORKS) for line in ("    jset r2, 1, +1", f"    add r3, {2**i}")]
+    yield "kept states", ["    mov r0, 0", "    ldxdw r2, [r1+16]", "    mov r3, 0", *forks, "    exit"], 2 * FORKS + 4, 2 * FORKS + 4
 
 
 def failures_of(folder, name, lines, slots, steps):
