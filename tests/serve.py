@@ -51,20 +51,32 @@ BATCH_OF_REQUESTS, FAILED_AHEAD = 10, (15, 19, 25)
 # make an allocation with a channel, and then those of the batch.
 STOPPED_RECEIVE = 3 + 2 * 3 + 32
 # Preloaded into a program, makes receive number FAIL_RECEIVE fail, and stops the program before receive number STOP_RECEIVE.
-# That it was loaded is seen by the file LOADED.
+# The file LOADED has a line for each receive, with the port of its socket and the socket's family, AF_INET or AF_INET6.
 RECEIVES = r"""
 #define _GNU_SOURCE
 #include <dlfcn.h>
 #include <errno.h>
 #include <fcntl.h>
+#include <netinet/in.h>
 #include <signal.h>
+#include <stdio.h>
 #include <stdlib.h>
 #include <sys/socket.h>
 #include <unistd.h>
 
+static int loaded;
+
 __attribute__((constructor)) static void begin(void) {
-  if (close(open(getenv("LOADED"), O_CREAT | O_WRONLY, 0600)) != 0)
+  loaded = open(getenv("LOADED"), O_CREAT | O_APPEND | O_WRONLY, 0600);
+  if (loaded < 0)
     _exit(99);
+}
+
+static void log_receive(int fd) {
+  struct sockaddr_in6 own;
+  socklen_t length = sizeof own;
+  if (getsockname(fd, (struct sockaddr *)&own, &length) == 0)
+    dprintf(loaded, "%d %d\n", ntohs(own.sin6_port), own.sin6_family);
 }
 
 static int is_chosen(const char *variable, unsigned long count) {
@@ -78,6 +90,7 @@ ssize_t recvfrom(int fd, void *bytes, size_t size, int flags, struct sockaddr *f
   if (!real)
     real = (ssize_t(*)(int, void *, size_t, int, struct sockaddr *, socklen_t *))dlsym(RTLD_NEXT, "recvfrom");
   count++;
+  log_receive(fd);
   if (is_chosen("FAIL_RECEIVE", count)) {
     errno = ECONNREFUSED;
     return -1;
@@ -87,6 +100,10 @@ ssize_t recvfrom(int fd, void *bytes, size_t size, int flags, struct sockaddr *f
   return real(fd, bytes, size, flags, from, length);
 }
 """
+# the Data indications whose transaction ids are looked at
+INDICATIONS = 40
+# the most slots, and those that are used when all are allocated
+MOST_SLOTS, USED_SLOTS = 256, (0, 69, 254, 255)
 # what can't be tried here, each with its reason
 PASSED_OVER = []
 
@@ -421,6 +438,35 @@ def counted_rounds():
     yield from wanted("requests that three rounds answer", (answers, printed), (3, counters(from_clients=3, granted=3)))
 
 
+def default_slots():
+    """Yields how many slots are bound by default, where they aren't 16."""
+    first = free_ports(18)
+    words = ["serve", "--port", str(first + 17), "--first-port", str(first), "--rounds", "0", *USER]
+    with udp_socket(first + 15):
+        yield from wanted("slot 15's port in use", run(words), (3, "", f"cannot bind 127.0.0.1:{first + 15}\n"))
+    with udp_socket(first + 16):
+        yield from wanted("the next port in use", run(words), (0, f"listening 127.0.0.1:{first + 17}\n", ""))
+
+
+def receives_of_rounds():
+    """Yields the receives that rounds make, where they aren't one at each socket: that of clients, and those of the slots, first
+    over IPv4 and then over IPv6."""
+    with preloading("the receives of rounds") as environment:
+        if environment is None:
+            return
+        first = free_ports(4)
+        port, slots = first + 3, range(first, first + 3)
+        words = ["serve", "--port", str(port), "--first-port", str(first), "--slots", "3", *USER, "--rounds", "2"]
+        loaded = pathlib.Path(environment["LOADED"])
+        ipv4 = [(port, socket.AF_INET), *((slot, socket.AF_INET) for slot in slots)]
+        ipv6 = [(slot, socket.AF_INET6) for slot in slots]
+        for options, wanted_round in (([], ipv4), (["--listen6", "::1"], ipv4 + ipv6)):
+            loaded.write_text("", encoding="utf-8")
+            run([*words, *options], env=environment)
+            found = [tuple(map(int, line.split())) for line in loaded.read_text(encoding="utf-8").splitlines()]
+            yield from wanted(f"the receives of two rounds {options}", found, 2 * wanted_round)
+
+
 # ---- sessions
 
 def session():
@@ -516,6 +562,36 @@ def no_family6():
         yield from wanted("no IPv6", code_of(client.allocate(FAMILY6)), 440)
 
 
+def transactions():
+    """Yields what the transaction ids of Data indications have otherwise than that each of their bytes is drawn anew."""
+    found = []
+    with Server() as server, Client(server) as client, udp_socket() as peer:
+        client.allocate()
+        yield from wanted("CreatePermission", code_of(client.signed(CREATE_PERMISSION, [], address_of(peer))), 0)
+        for _ in range(INDICATIONS):
+            peer.sendto(b"back", ("127.0.0.1", server.first_port))
+            found.append(read(client.receive()).tx)
+    yield from wanted("ids that differ", len(set(found)), INDICATIONS)
+    yield from wanted("bytes that are always the same", [i for i, of in enumerate(zip(*found)) if len(set(of)) == 1], [])
+
+
+def many_slots():
+    """Yields what is otherwise where each of the most slots is allocated, and the last ones are used."""
+    with Server(slots=MOST_SLOTS) as server, contextlib.ExitStack() as stack:
+        clients = [stack.enter_context(Client(server)) for _ in range(MOST_SLOTS + 1)]
+        answers = [client.allocate() for client in clients]
+        found = [address_in(answer.first(XOR_RELAYED_ADDRESS), answer.tx) for answer in answers[:-1]]
+        yield from wanted("relayed addresses", found, [(LOOPBACK, server.first_port + slot) for slot in range(MOST_SLOTS)])
+        yield from wanted("one client more", code_of(answers[-1]), 508)
+        for slot in USED_SLOTS:
+            client, peer = clients[slot], stack.enter_context(udp_socket())
+            yield from wanted(f"ChannelBind of slot {slot}", code_of(client.bind(address_of(peer))), 0)
+            client.send(channel_data(b"there"))
+            yield from wanted(f"slot {slot}", peer.recvfrom(100), (b"there", ("127.0.0.1", server.first_port + slot)))
+            peer.sendto(b"back", ("127.0.0.1", server.first_port + slot))
+            yield from wanted(f"slot {slot} back", client.receive(), channel_data(b"back"))
+
+
 def faults():
     """Yields what a server does otherwise than go on after a send that fails, and count it."""
     with Server("--stats", "1", "--relay-ip", "203.0.113.9") as server, Client(server) as client:
@@ -599,6 +675,24 @@ def idle():
         used = server.ticks() - before
         if used >= 5:
             yield f"an idle server used {used} ticks in 2 seconds"
+
+
+def idle_files():
+    """Yields the files that an idle server doesn't look at: no datagram comes, and no signal."""
+    with tempfile.TemporaryDirectory() as name:
+        for given in (["client"], ["peer"], ["client", "peer"]):
+            paths = {side: pathlib.Path(name) / side for side in given}
+            for path in paths.values():
+                put(path, DISCARD)
+            options = itertools.chain.from_iterable((f"--{side}", str(path)) for side, path in paths.items())
+            with Server(*options) as server:
+                server.becomes("S")
+                for path in paths.values():
+                    put(path, BAD)
+                lines = sorted(f"refused V5 at 0 in {path}\n" for path in paths.values())
+                for line in lines:
+                    server.awaited(line)
+                yield from wanted(f"an idle server with files of {given}", sorted(server.printed().splitlines(True)), lines)
 
 
 def nonces():
@@ -793,8 +887,9 @@ def many():
 def main():
     """Runs every part, and returns the exit status."""
     build()
-    parts = [refused_lines, rounds, addresses, addresses6, default_ports, counted_rounds, session, session6, no_family6, faults,
-             failed_receives, idle, nonces, replaced_programs, turns, ahead, many]
+    parts = [refused_lines, rounds, addresses, addresses6, default_ports, default_slots, counted_rounds, receives_of_rounds,
+             session, session6, no_family6, transactions, many_slots, faults, failed_receives, idle, idle_files, nonces,
+             replaced_programs, turns, ahead, many]
     failures = []
     for part in parts:
         try:
