@@ -4,7 +4,9 @@
 mod arithmetic;
 mod domain;
 mod interval;
+mod narrowness;
 mod refinement;
 
 pub use domain::{Bounds, Domain, Refined, Test};
 pub use interval::Interval;
+pub use narrowness::intervals_are_narrow;
