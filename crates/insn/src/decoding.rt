@@ -3,7 +3,7 @@
 ghost use Rattle.std.specs.Prelude.{true, IfSome, ◌≡◌, ℕ, ℤ, ◌*◌, ◌≤◌, ◌<◌, ◌%◌, ◌⊎◌, List, length, take, IfOk, IfErr, IsErrAnd, MatchResult};
 ghost use Rattle.insn.specs.Fields.{HaveRoom};
 ghost use Rattle.insn.specs.Encoding.{encoding, encodings, fields_of, second_of, slots_of, Fits, AllFit, Encodes};
-ghost use Rattle.insn.specs.Refusal.{HasFault, IsFaulty, IsRefused};
+ghost use Rattle.insn.specs.Refusal.{HasFault, IsFaulty, IsRefused, IsWhole};
 ghost use Rattle.insn.specs.Forms.{form, move_form, with_source, HasHead, LacksHead, HasSecond, imm_in, IsForm, LacksForm};
 ghost use Rattle.insn.specs.declared.instruction.Insn.{Insn};
 ghost use Rattle.insn.specs.declared.opcode.Opcode.TheVariants.{LoadImm};
@@ -241,6 +241,8 @@ pub fn decode(alloc: Global, bytes: &[u8]) -> Result<Vec<Insn>, DecodeError>
         → MatchResult result (λ v. v.items ≡ code) (λ e. e ≡ Memory) }
     ensures refused { IfErr result (λ e. (e ≡ Memory) ⊎ IsRefused bytes.now e) }
     ensures exact { (e : DecodeError) → IsRefused bytes.now e → IsErrAnd result (λ f. (f ≡ e) ⊎ (f ≡ Memory)) }
+    // The length is tested before memory is taken.
+    ensures whole { MatchResult result (λ v. IsWhole bytes.now) (λ e. e ≡ Memory → IsWhole bytes.now) }
 {
     if bytes.is_empty() {
         return Err(DecodeError::Empty);

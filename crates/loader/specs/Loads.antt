@@ -6,6 +6,7 @@ use Rattle.insn.specs.declared.instruction.Insn.{Insn}
 use Rattle.insn.specs.declared.refusal.DecodeError.TheVariants as error
 use Rattle.semantics.specs.Runs.{IsSafe}
 use Rattle.verifier.specs.Refusing.{MayRefuse, refusal_text}
+use Rattle.verifier.specs.declared.refusal.Refusal.TheVariants as refusal
 use Rattle.loader.specs.declared.loaded.TheConstants.{BUDGET}
 use Rattle.loader.specs.declared.refusal.LoadError.{LoadError}
 use Rattle.loader.specs.declared.refusal.LoadError.TheVariants.{Decode, Verify}
@@ -25,6 +26,11 @@ pub record IsLoaded (code : List Insn) (bytes : List ℕ) : Type 0 where
 abbrev pub IsLoadRefusal : List ℕ → LoadError → Type 0
 IsLoadRefusal bytes (Decode e) = (e ≡ error.Memory) ⊎ IsRefused bytes e
 IsLoadRefusal bytes (Verify e) = (code : List Insn) × Encodes code bytes × MayRefuse code BUDGET e
+
+-- memory ran out
+abbrev pub IsMemoryRefusal : LoadError → Type 0
+IsMemoryRefusal (Decode e) = e ≡ error.Memory
+IsMemoryRefusal (Verify e) = (slot : ℕ) × (e ≡ refusal.Memory slot)
 
 -- the result is this refusal, unless memory ran out while decoding
 abbrev pub IsUnlessMemory : {T : Type 0} → LoadError → Result T LoadError → Type 0

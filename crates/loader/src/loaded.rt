@@ -2,7 +2,7 @@
 
 ghost use Rattle.std.specs.Prelude.{◌≡◌, ◌<◌, ◌≤◌, ℕ, List, IfOk, IfErr};
 ghost use Rattle.insn.specs.Encoding.{Encodes, slot_count};
-ghost use Rattle.insn.specs.Refusal.{IsRefused};
+ghost use Rattle.insn.specs.Refusal.{IsRefused, IsWhole};
 ghost use Rattle.insn.specs.declared.instruction.Insn.{Insn};
 ghost use Rattle.insn.specs.declared.refusal.DecodeError.{DecodeError};
 ghost use Rattle.semantics.specs.declared.reason.Reason.{Reason};
@@ -10,7 +10,7 @@ ghost use Rattle.verifier.specs.Layout.{IsLayoutFault};
 ghost use Rattle.verifier.specs.Refusing.{IsVerdict};
 ghost use Rattle.insn.specs.declared.decoding.TheConstants.{MAX_SLOTS};
 ghost use Rattle.loader.specs.declared.loaded.TheConstants.{BUDGET};
-ghost use Rattle.loader.specs.Loads.{IsLoaded, IsLoadRefusal, IsUnlessMemory};
+ghost use Rattle.loader.specs.Loads.{IsLoaded, IsLoadRefusal, IsMemoryRefusal, IsUnlessMemory};
 ghost use Rattle.loader.specs.Verdicts.{ComesFromWalk, IsWalked};
 ghost use Rattle.loader.specs.declared.refusal.LoadError.TheVariants.{Decode, Verify};
 
@@ -93,8 +93,10 @@ pub fn load(alloc: Global, bytes: &[u8]) -> Result<Loaded, LoadError>
     // At most 100,000 steps are made, and V17 and V19 name the slot at which they come.
     ensures verified { ComesFromWalk bytes.now result }
 
-    // Allocation failures aside, the faults of the bytes are named exactly, and so are those of the layout.
+    // Allocation failures aside, the faults of the bytes are named exactly, and so are those of the layout. Memory runs out only
+    // where the bytes are whole slots, at most as many as a program may have.
     ensures decode { (e : DecodeError) → IsRefused bytes.now e → IsUnlessMemory (Decode e) result }
+    ensures whole { IfErr result (λ e. IsMemoryRefusal e → IsWhole bytes.now) }
     ensures layout { (code : List Insn) (reason : Reason) (slot : ℕ)
         → Encodes code bytes.now → IsLayoutFault code reason slot
         → IsUnlessMemory (Verify (Refusal.Stuck reason slot)) result }

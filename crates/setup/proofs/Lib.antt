@@ -1,2 +1,3 @@
 pub mod RefusedFields
+pub mod NamedFaults
 pub mod NoValues

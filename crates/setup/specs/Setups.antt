@@ -5,10 +5,14 @@ use Rattle.control.specs.Configs.{fault}
 use Rattle.control.specs.declared.config.Config.{Config}
 use Rattle.control.specs.declared.config.Field.{Field}
 use Rattle.insn.specs.declared.instruction.Insn.{Insn}
-use Rattle.insn.specs.declared.refusal.DecodeError.TheVariants as decode
-use Rattle.loader.specs.Loads.{IsLoaded, IsLoadRefusal}
+use Rattle.insn.specs.Encoding.{Encodes}
+use Rattle.insn.specs.Refusal.{IsRefused, IsWhole}
+use Rattle.insn.specs.declared.refusal.DecodeError.{DecodeError}
+use Rattle.loader.specs.Loads.{IsLoaded, IsLoadRefusal, IsMemoryRefusal}
 use Rattle.loader.specs.declared.refusal.LoadError.{LoadError}
 use Rattle.loader.specs.declared.refusal.LoadError.TheVariants.{Decode, Verify}
+use Rattle.semantics.specs.declared.reason.Reason.{Reason}
+use Rattle.verifier.specs.Layout.{IsLayoutFault}
 use Rattle.verifier.specs.declared.refusal.Refusal.TheVariants as verify
 use Rattle.setup.specs.declared.error.ProgramError.{ProgramError}
 use Rattle.setup.specs.declared.error.ProgramError.TheVariants as program
@@ -34,15 +38,21 @@ pub record IsConfigOf (s : Setup) (c : Config) : Type 0 where
 abbrev pub IsProgram : Option (Bor (List ℕ)) → List Insn → Type 0
 IsProgram bytes code = IsSomeAnd bytes (λ b. IsLoaded code b.now)
 
-abbrev pub IsMemoryRefusal : LoadError → Type 0
-IsMemoryRefusal (Decode e) = e ≡ decode.Memory
-IsMemoryRefusal (Verify e) = (slot : ℕ) × (e ≡ verify.Memory slot)
+-- Bytes are refused, memory aside. The fault of the bytes is the one that is named, where there is one, and so is the fault of the
+-- layout of the program that they encode.
+pub record IsNamed (bytes : List ℕ) (e : LoadError) : Type 0 where
+  pub refusal : IsLoadRefusal bytes e
+  pub aside : ¬ (IsMemoryRefusal e)
+  pub of_bytes : (d : DecodeError) → IsRefused bytes d → e ≡ Decode d
+  pub of_layout : (code : List Insn) (reason : Reason) (slot : ℕ) → Encodes code bytes → IsLayoutFault code reason slot
+      → e ≡ Verify (verify.Stuck reason slot)
 
--- why no program is loaded: the bytes weren't read; or they are refused; or they were read, and memory ran out
+-- why no program is loaded: the bytes weren't read; or they are refused; or they were read, are whole slots, at most as many as a
+-- program may have, and memory ran out
 abbrev pub IsProgramFault : Option (Bor (List ℕ)) → ProgramError → Type 0
 IsProgramFault bytes program.File = bytes ≡ None
-IsProgramFault bytes (program.Refused e) = IsSomeAnd bytes (λ b. IsLoadRefusal b.now e) × ¬ (IsMemoryRefusal e)
-IsProgramFault bytes program.Memory = IsSomeAnd bytes (λ b. (e : LoadError) × IsMemoryRefusal e × IsLoadRefusal b.now e)
+IsProgramFault bytes (program.Refused e) = IsSomeAnd bytes (λ b. IsNamed b.now e)
+IsProgramFault bytes program.Memory = IsSomeAnd bytes (λ b. IsWhole b.now)
 
 -- the bytes were read, and encode a safe program
 abbrev pub IsLoadable : Option (Bor (List ℕ)) → Type 0
