@@ -213,6 +213,7 @@ def replacements(good, messages):
         ("a program that discards", {"client": DISCARD}, {"client": "loaded"}, (False, True)),
         ("one of the same length", {"client": PASS}, {"client": "loaded"}, (True, True)),
         ("a refused one", {"client": BAD}, {"client": refused}, (True, True)),
+        ("the same one", {}, {}, (True, True)),
         ("another of the same length", {"client": UNENDED}, {"client": unended}, (True, True)),
         ("the one that runs", {"client": PASS}, {}, (True, True)),
         ("the refused one again", {"client": UNENDED}, {"client": unended}, (True, True)),
