@@ -1,4 +1,5 @@
 mod Events
+mod Fronts
 mod Numbers
 mod Splits
 mod WrittenBytes

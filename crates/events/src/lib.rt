@@ -10,4 +10,4 @@ mod writing;
 pub use action::Action;
 pub use meta::{Meta, Source};
 pub use parsing::{Parsed, parse};
-pub use writing::write_answer;
+pub use writing::{fronts_have_room, write_answer};

@@ -1,10 +1,13 @@
 //! Writes the lines of answers.
 
-ghost use Rattle.std.specs.Prelude.{◌≡◌, ◌≤◌, ◌++◌, ◌∷◌, [], length, IfOk, IfSome, OnOk, OnErr};
+ghost use Rattle.std.specs.Prelude.{◌≡◌, ℕ, ◌≤◌, ◌++◌, ◌∷◌, [], List, Some, length, IfOk, IfSome, OnOk, OnErr};
 ghost use Rattle.std.specs.Io.KnownBytes.{Appends};
 ghost use Rattle.hex.specs.Hex.{encode_lower};
 ghost use Rattle.events.specs.Actions.{sending_of};
-ghost use Rattle.events.specs.Lines.{bytes_text, answer_line, AppendsBeginning};
+ghost use Rattle.attributes.specs.declared.address.Addr.{Addr};
+ghost use Rattle.events.specs.Events.{Sending, ToPeer, ToClient};
+ghost use Rattle.events.specs.Lines.{bytes_text, answer_line, front_text, IsSending, AppendsBeginning};
+ghost use Rattle.events.specs.declared.writing.TheConstants.{FRONT};
 
 use crate::action::Action;
 use arrayvec::ArrayString;
@@ -70,6 +73,15 @@ fn write_bytes<W: Write>(writer: &mut W, bytes: &[u8]) -> io::Result<()>
     }
     Ok(())
 }
+
+/// States that what precedes the bytes of a line has room.
+pub fn fronts_have_room()
+    ensures room { (s : Sending) → IsSending s → length (front_text s) ≤ FRONT }
+    ensures to_peer { (slot : ℕ) (peer : Addr) (bytes : List ℕ)
+        → answer_line (Some (ToPeer slot peer bytes)) ≡ front_text (ToPeer slot peer bytes) ++ bytes_text bytes }
+    ensures to_client { (client : Addr) (bytes : List ℕ)
+        → answer_line (Some (ToClient client bytes)) ≡ front_text (ToClient client bytes) ++ bytes_text bytes }
+{}
 
 /// Returns the text that precedes the bytes of a line.
 ///
