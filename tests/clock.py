@@ -15,9 +15,9 @@ import subprocess
 import sys
 import tempfile
 
-from program import TOP, build, finish, run
 import refusals
 from memory import over_additions
+from program import TOP, build, finish, run
 from rules import BINDING, CREATE_PERMISSION, NONCE, REFRESH
 from serve import (
     BAD, DISCARD, Client, Server, address_of, channel_data, code_of, comes, counters, passed, put, udp_socket, wanted)
@@ -280,7 +280,7 @@ def steps_of(clocks, server, client, peer, paths, steps):
 
 
 def refused_programs(clocks, folder):
-    """Yields the refusals of a program that are printed otherwise while a server runs, and after which the old one doesn't go on."""
+    """Yields the refusals of a program that a running server prints otherwise, or after which the old program doesn't go on."""
     path = folder / "refused"
     put(path, DISCARD)
     with clocks.serving("--peer", str(path)) as (server, client):

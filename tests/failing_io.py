@@ -1,8 +1,8 @@
 """Runs the built relayd's `replay` with reads and writes that are short, of every size, or interrupted, and with each of them
 failing in turn.
 
-Short and interrupted ones change nothing. Where a read or a write fails, the status and the line say which, and what was written is a beginning of
-the right answers; where a read fails, it is whole answers. It needs gcc.
+Short and interrupted ones change nothing. Where a read or a write fails, the status and the line say which, and what was written
+is a beginning of the right answers; where a read fails, it is whole answers. It needs gcc.
 """
 
 import itertools
