@@ -61,13 +61,15 @@ fn ipv4_of(bytes: &[u8; WIDE_RECORD_BYTES]) -> [u8; 4]
     ip
 }
 
-/// Returns the IPv6 address in a wide record.
+/// Returns the IPv6 address in a wide record. Its last byte is copied apart, so that the eight before it, which stand where an
+/// IPv4 address has nothing, are moved as one word.
 fn ipv6_of(bytes: &[u8; WIDE_RECORD_BYTES]) -> [u8; 16]
     ensures { result ≡ drop 4 bytes.now }
 {
     let mut ip = [0; 16];
     let (_, rest) = bytes.split_at(4);
     ip.copy_from_slice(rest);
+    ip[15] = bytes[19];
     ip
 }
 
