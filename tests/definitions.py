@@ -39,7 +39,7 @@ MOST_TESTS = 60
 MOST_EDITS = 150
 MOST_EDITS_OF_CRATE = 8
 MOST_PARAMETERS = 5
-LONG = {"respond", "allocate", "allocate_anew", "lay_out"}
+LONG = {"respond", "allocate", "allocate_anew"}
 
 
 def specs():

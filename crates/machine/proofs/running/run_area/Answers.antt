@@ -7,6 +7,7 @@ use Rattle.semantics.specs.declared.limits.TheConstants.{STACK_BYTES}
 use Rattle.flat.specs.FlatSteps.{given_of}
 use Rattle.flat.specs.Following.{given_in}
 use Rattle.flat.specs.FlatRuns.{IsRun}
+use Rattle.flat.specs.Forms.{narrow_bytes, wide_bytes}
 use Rattle.flat.specs.Layout.{context_fields, pointers}
 use Rattle.flat.specs.FlatLaws.{fields_of_context}
 use Rattle.helpers.specs.Records.{address_record, wide_record}
@@ -30,8 +31,8 @@ run_flat-ended-requires-clause-start g c =
     let size : length c.datagram-size.result.now ≡ length d = ap length (c.datagram-size.ensures.bytes ∙ sym (ap datagram_of c.frame.view_is)) in
     let is_datagram : IsDatagram d = subst (λ (h : Contents). IsDatagram (datagram_of h)) (sym c.frame.view_is) c.datagram-size.ensures.short in
     let side : c.from.result ≡ side_number f.context.side = c.from.ensures ∙ c.side_number-side.ensures in
-    let source : c.address_record-source.result ≡ address_record f.context.source = c.address_record-source.ensures in
-    let wide : c.wide_record-wide_source.result ≡ wide_record f.context.source = c.wide_record-wide_source.ensures in
+    let source : narrow_bytes c.source_record-source.result ≡ address_record f.context.source = c.source_record-source.ensures.narrow in
+    let wide : wide_bytes c.source_record-source.result ≡ wide_record f.context.source = c.source_record-source.ensures.wide in
     let laid : c.lay_out.new.area ≡ overlay STACK_BYTES (pointers (length d) ++ drop 16 (context_bytes (context_of f.context) (length d))) flat =
     c.lay_out.ensures
     ∙ (λ i. overlay STACK_BYTES (pointers (size i) ++ context_fields (size i) (source i) (wide i) f.context.tx (c.side_number-side.ensures i)) (c.deref_mut.ensures.value i))
@@ -55,8 +56,8 @@ invariant_of-frame g c =
     let size : length c.datagram-size.result.now ≡ length d = ap length (c.datagram-size.ensures.bytes ∙ sym (ap datagram_of c.frame.view_is)) in
     let is_datagram : IsDatagram d = subst (λ (h : Contents). IsDatagram (datagram_of h)) (sym c.frame.view_is) c.datagram-size.ensures.short in
     let side : c.from.result ≡ side_number f.context.side = c.from.ensures ∙ c.side_number-side.ensures in
-    let source : c.address_record-source.result ≡ address_record f.context.source = c.address_record-source.ensures in
-    let wide : c.wide_record-wide_source.result ≡ wide_record f.context.source = c.wide_record-wide_source.ensures in
+    let source : narrow_bytes c.source_record-source.result ≡ address_record f.context.source = c.source_record-source.ensures.narrow in
+    let wide : wide_bytes c.source_record-source.result ≡ wide_record f.context.source = c.source_record-source.ensures.wide in
     let laid : c.lay_out.new.area ≡ overlay STACK_BYTES (pointers (length d) ++ drop 16 (context_bytes (context_of f.context) (length d))) flat =
     c.lay_out.ensures
     ∙ (λ i. overlay STACK_BYTES (pointers (size i) ++ context_fields (size i) (source i) (wide i) f.context.tx (c.side_number-side.ensures i)) (c.deref_mut.ensures.value i))
@@ -85,8 +86,8 @@ returns g c =
     let size : length c.datagram-size.result.now ≡ length d = ap length (c.datagram-size.ensures.bytes ∙ sym (ap datagram_of c.frame.view_is)) in
     let is_datagram : IsDatagram d = subst (λ (h : Contents). IsDatagram (datagram_of h)) (sym c.frame.view_is) c.datagram-size.ensures.short in
     let side : c.from.result ≡ side_number f.context.side = c.from.ensures ∙ c.side_number-side.ensures in
-    let source : c.address_record-source.result ≡ address_record f.context.source = c.address_record-source.ensures in
-    let wide : c.wide_record-wide_source.result ≡ wide_record f.context.source = c.wide_record-wide_source.ensures in
+    let source : narrow_bytes c.source_record-source.result ≡ address_record f.context.source = c.source_record-source.ensures.narrow in
+    let wide : wide_bytes c.source_record-source.result ≡ wide_record f.context.source = c.source_record-source.ensures.wide in
     let laid : c.lay_out.new.area ≡ overlay STACK_BYTES (pointers (length d) ++ drop 16 (context_bytes (context_of f.context) (length d))) flat =
     c.lay_out.ensures
     ∙ (λ i. overlay STACK_BYTES (pointers (size i) ++ context_fields (size i) (source i) (wide i) f.context.tx (c.side_number-side.ensures i)) (c.deref_mut.ensures.value i))
