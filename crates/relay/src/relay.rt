@@ -77,7 +77,7 @@ fn is_served(from: Source, tables: &Tables) -> bool
 }
 
 impl Relay {
-    ghost use Rattle.std.specs.Prelude.{◌≡◌, ◌≤◌, ◌↔◌, IsOk, IsTrue, IfOk, IfErr, OnOk, OnErr, length, true};
+    ghost use Rattle.std.specs.Prelude.{◌≡◌, ◌≤◌, ◌↔◌, IsOk, IsTrue, IfOk, IfErr, OnOk, OnErr, length, true, unwrap_or};
     ghost use Rattle.std.specs.Borrow.{sem};
     ghost use Rattle.control.specs.Configs.{fault, is_nonce};
     ghost use Rattle.control.specs.declared.config.Field.TheVariants.{Nonce};
@@ -164,12 +164,17 @@ impl Relay {
         self.frame.area()
     }
 
-    /// Replaces both programs. Allocations, moments and the nonce stay as they are.
-    pub fn set_programs(&mut self, client: Loaded, peer: Loaded)
-        ensures { self.new ≡ record self.old { programs = record { client = client; peer = peer } } }
+    /// Replaces the programs of the sides for which there is another one. Allocations, moments and the nonce stay as they are.
+    pub fn set_programs(&mut self, client: Option<Loaded>, peer: Option<Loaded>)
+        ensures { self.new ≡ record self.old { programs = record { client = unwrap_or client self.old.programs.client;
+            peer = unwrap_or peer self.old.programs.peer } } }
     {
-        self.client = client;
-        self.peer = peer;
+        if let Some(client) = client {
+            self.client = client;
+        }
+        if let Some(peer) = peer {
+            self.peer = peer;
+        }
     }
 
     /// Sets the nonce.

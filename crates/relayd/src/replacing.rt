@@ -1,14 +1,28 @@
-//! Programs that are replaced while a server runs.
+//! Programs that are replaced while a server runs. Each is verified in slices, so that datagrams are served meanwhile.
 
 use crate::options::ProgramBytes;
 use command_line::Options;
-use loader::Loaded;
-use programs::{CLIENT, PEER};
+use loader::{LoadError, LoadProgress, Loaded, Loading};
 use relay::Relay;
-use setup::{ProgramError, program};
+use setup::ProgramError;
 use std::fs;
 use std::io::Write;
+use std::mem;
 use std::rt::Files;
+
+/// How many units of work of a verification are done before the clock is read again.
+const SLICE: usize = 4;
+
+/// A program that is to replace the one that runs.
+#[derive(Drop)]
+enum Next {
+    /// There is none.
+    Nothing,
+    /// Its bytes are being verified.
+    Verifying { loading: Loading, bytes: Vec<u8> },
+    /// It is loaded from these bytes.
+    Ready { loaded: Loaded, bytes: Vec<u8> },
+}
 
 /// The program of a side, and the file that it is replaced from.
 #[derive(Drop)]
@@ -19,14 +33,7 @@ pub(crate) struct Side<'a> {
     running: Option<Vec<u8>>,
     /// The bytes that the file had when it was last refused.
     refused: Option<Vec<u8>>,
-    shipped: &'static [u8],
-}
-
-/// A program that is to run, and its bytes where it is a new one.
-#[derive(Drop)]
-struct Next {
-    loaded: Loaded,
-    bytes: Option<Vec<u8>>,
+    next: Next,
 }
 
 /// The programs of both sides.
@@ -44,63 +51,101 @@ fn is_kept(kept: &Option<Vec<u8>>, bytes: &[u8]) -> bool {
     }
 }
 
+impl Next {
+    /// Returns whether there is one, of these bytes.
+    fn is_of(&self, other: &[u8]) -> bool {
+        match self {
+            Next::Nothing => false,
+            Next::Verifying { bytes, .. } | Next::Ready { bytes, .. } => bytes.as_slice() == other,
+        }
+    }
+
+    /// Returns whether it is being verified.
+    fn is_verifying(&self) -> bool {
+        match self {
+            Next::Verifying { .. } => true,
+            _ => false,
+        }
+    }
+}
+
 impl<'a> Side<'a> {
-    fn new(path: Option<&'a str>, running: Option<Vec<u8>>, shipped: &'static [u8]) -> Side<'a> {
+    fn new(path: Option<&'a str>, running: Option<Vec<u8>>) -> Side<'a> {
         Side {
             path,
             running,
             refused: None,
-            shipped,
+            next: Next::Nothing,
         }
     }
 
-    /// Loads the program of the file, where its bytes are others than those that run and those that were last refused. A
-    /// program that is refused is reported once. A file that can't be read changes nothing.
-    fn look<R: Files + AllocGlobal, E: Write>(&mut self, rt: &R, err: &mut E) -> Option<Next> {
-        let path = self.path?;
-        let bytes = fs::read(rt, path).ok()?;
-        if is_kept(&self.running, &bytes) {
-            self.refused = None;
-            return None;
+    /// Reports that the file is refused, and keeps its bytes, so that it is reported once. Where memory ran out it is tried
+    /// again.
+    fn refuse<E: Write>(&mut self, err: &mut E, error: LoadError, bytes: Vec<u8>) {
+        let error = ProgramError::from(error);
+        if let Some(path) = self.path {
+            let _ = writeln!(err, "{error} in {path}");
         }
-        if is_kept(&self.refused, &bytes) {
-            return None;
-        }
-        let error = match program(rt.alloc(), Some(bytes.as_slice())) {
-            Ok(loaded) => {
-                let bytes = Some(bytes);
-                return Some(Next { loaded, bytes });
-            }
-            Err(error) => error,
-        };
-        let _ = writeln!(err, "{error} in {path}");
         if error != ProgramError::Memory {
             self.refused = Some(bytes);
         }
-        None
     }
 
-    /// Returns what was found, or the program that runs, loaded anew.
-    fn next<R: AllocGlobal>(&self, rt: &R, found: Option<Next>) -> Result<Next, ProgramError> {
-        if let Some(next) = found {
-            return Ok(next);
-        }
-        let loaded = match &self.running {
-            Some(bytes) => program(rt.alloc(), Some(bytes.as_slice()))?,
-            None => program(rt.alloc(), Some(self.shipped))?,
+    /// Begins to load the program of the file, where its bytes are others than those that run, are verified, and were last
+    /// refused. A file that can't be read changes nothing.
+    fn look<R: Files + AllocGlobal, E: Write>(&mut self, rt: &R, err: &mut E) {
+        let Some(path) = self.path else {
+            return;
         };
-        Ok(Next {
-            loaded,
-            bytes: None,
-        })
+        let Ok(bytes) = fs::read(rt, path) else {
+            return;
+        };
+        if self.next.is_of(&bytes) {
+            return;
+        }
+        self.next = Next::Nothing;
+        if is_kept(&self.running, &bytes) {
+            self.refused = None;
+            return;
+        }
+        if is_kept(&self.refused, &bytes) {
+            return;
+        }
+        match Loading::new(rt.alloc(), &bytes) {
+            Ok(loading) => self.next = Next::Verifying { loading, bytes },
+            Err(error) => self.refuse(err, error, bytes),
+        }
     }
 
-    /// Keeps and reports that the program of these bytes runs, if it is new.
-    fn keep<E: Write>(&mut self, err: &mut E, bytes: Option<Vec<u8>>) {
-        if let (Some(path), Some(bytes)) = (self.path, bytes) {
-            let _ = writeln!(err, "loaded {path}");
-            self.running = Some(bytes);
-            self.refused = None;
+    /// Goes on verifying the next program by a slice, if one is being verified.
+    fn advance<E: Write>(&mut self, err: &mut E) {
+        match mem::replace(&mut self.next, Next::Nothing) {
+            Next::Verifying { loading, bytes } => match loading.advance(SLICE) {
+                LoadProgress::Going(loading) => self.next = Next::Verifying { loading, bytes },
+                LoadProgress::Ended(Ok(loaded)) => self.next = Next::Ready { loaded, bytes },
+                LoadProgress::Ended(Err(refusal)) => {
+                    self.refuse(err, LoadError::from(refusal), bytes);
+                }
+            },
+            next => self.next = next,
+        }
+    }
+
+    /// Takes the next program, if it is loaded, as the one that runs, and reports it.
+    fn take<E: Write>(&mut self, err: &mut E) -> Option<Loaded> {
+        match mem::replace(&mut self.next, Next::Nothing) {
+            Next::Ready { loaded, bytes } => {
+                if let Some(path) = self.path {
+                    let _ = writeln!(err, "loaded {path}");
+                }
+                self.running = Some(bytes);
+                self.refused = None;
+                Some(loaded)
+            }
+            next => {
+                self.next = next;
+                None
+            }
         }
     }
 }
@@ -109,8 +154,8 @@ impl<'a> Sides<'a> {
     /// Returns the programs of a relay, with their files and the bytes that these had.
     pub(crate) fn new(options: &Options<'a>, programs: ProgramBytes) -> Sides<'a> {
         Sides {
-            client: Side::new(options.client, programs.client, CLIENT),
-            peer: Side::new(options.peer, programs.peer, PEER),
+            client: Side::new(options.client, programs.client),
+            peer: Side::new(options.peer, programs.peer),
         }
     }
 
@@ -119,29 +164,27 @@ impl<'a> Sides<'a> {
         self.client.path.is_some() || self.peer.path.is_some()
     }
 
-    /// Replaces the programs of a relay by those of the files that have changed. Where one is refused, or can't be loaded for
-    /// want of memory, the old one goes on.
-    /// See docs/DECISIONS.md, "Both programs are loaded anew".
-    pub(crate) fn replace<R: Files + AllocGlobal, E: Write>(
-        &mut self,
-        rt: &R,
-        relay: &mut Relay,
-        err: &mut E,
-    ) {
-        let client = self.client.look(rt, err);
-        let peer = self.peer.look(rt, err);
-        if client.is_none() && peer.is_none() {
-            return;
-        }
-        match (self.client.next(rt, client), self.peer.next(rt, peer)) {
-            (Ok(client), Ok(peer)) => {
-                relay.set_programs(client.loaded, peer.loaded);
-                self.client.keep(err, client.bytes);
-                self.peer.keep(err, peer.bytes);
-            }
-            (Err(error), _) | (_, Err(error)) => {
-                let _ = writeln!(err, "{error}");
-            }
+    /// Returns whether a program is being verified.
+    pub(crate) fn is_verifying(&self) -> bool {
+        self.client.next.is_verifying() || self.peer.next.is_verifying()
+    }
+
+    /// Begins to load the programs of the files that have changed.
+    pub(crate) fn look<R: Files + AllocGlobal, E: Write>(&mut self, rt: &R, err: &mut E) {
+        self.client.look(rt, err);
+        self.peer.look(rt, err);
+    }
+
+    /// Goes on verifying by a slice of each program. Where all are verified, those that are loaded replace the ones that run;
+    /// a program that is refused leaves the one that runs.
+    /// See docs/DECISIONS.md, "Verification in slices".
+    pub(crate) fn advance<E: Write>(&mut self, relay: &mut Relay, err: &mut E) {
+        self.client.advance(err);
+        self.peer.advance(err);
+        if !self.is_verifying() {
+            let client = self.client.take(err);
+            let peer = self.peer.take(err);
+            relay.set_programs(client, peer);
         }
     }
 }

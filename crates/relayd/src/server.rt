@@ -25,6 +25,13 @@ const EVENTS: usize = 256;
 /// from time to time.
 const PERIOD: u64 = 1;
 
+/// The time for which programs are verified between two turns.
+/// See docs/DECISIONS.md, "Verification in slices".
+const VERIFYING: Duration = Duration::from_micros(250);
+
+/// The most slices of a verification between two turns.
+const SLICES: usize = 10_000;
+
 /// The seconds after which a nonce is replaced, where none are given.
 const NONCE_LIFETIME: u64 = 3600;
 
@@ -201,7 +208,17 @@ impl Server<'_> {
         let _ = self.relay.set_nonce(nonce.as_str());
     }
 
-    /// Does what is due: draws a nonce, replaces programs, and prints counters.
+    /// Goes on verifying programs for some time, and replaces those that run where all are verified.
+    fn verify<R: Clock, E: Write>(&mut self, rt: &R, err: &mut E, start: Duration) {
+        for _ in 0..SLICES {
+            if !self.sides.is_verifying() || elapsed(rt).saturating_sub(start) >= VERIFYING {
+                return;
+            }
+            self.sides.advance(&mut self.relay, err);
+        }
+    }
+
+    /// Does what is due: draws a nonce, looks for other programs, goes on verifying them, and prints counters.
     /// See docs/DECISIONS.md, "What is looked at once a second".
     fn tend<R: Files + Clock + AllocGlobal, E: Write>(&mut self, rt: &R, err: &mut E) {
         let now = elapsed(rt);
@@ -209,8 +226,9 @@ impl Server<'_> {
             self.renew_nonce();
         }
         if self.files.is_due(now) {
-            self.sides.replace(rt, &mut self.relay, err);
+            self.sides.look(rt, err);
         }
+        self.verify(rt, err, now);
         if let Some(stats) = &mut self.stats
             && stats.is_due(now)
         {
@@ -359,7 +377,8 @@ impl Server<'_> {
         let longest = self.longest_wait();
         let mut more = true;
         for _ in 0..u64::MAX {
-            let wait = if more { Some(Duration::ZERO) } else { longest };
+            let is_idle = !more && !self.sides.is_verifying();
+            let wait = if is_idle { longest } else { Some(Duration::ZERO) };
             waiting.wait(wait)?;
             self.tend(rt, err);
             let more_reported = self.drain_reported(rt, err, &waiting.events, &mut waiting.places);

@@ -8,6 +8,7 @@ use Rattle.insn.specs.declared.instruction.Insn.{Insn}
 use Rattle.insn.specs.Encoding.{Encodes}
 use Rattle.insn.specs.Refusal.{IsRefused, IsWhole}
 use Rattle.insn.specs.declared.refusal.DecodeError.{DecodeError}
+use Rattle.insn.specs.declared.refusal.DecodeError.TheVariants as decode
 use Rattle.loader.specs.Loads.{IsLoaded, IsLoadRefusal, IsMemoryRefusal}
 use Rattle.loader.specs.declared.refusal.LoadError.{LoadError}
 use Rattle.loader.specs.declared.refusal.LoadError.TheVariants.{Decode, Verify}
@@ -46,6 +47,12 @@ pub record IsNamed (bytes : List ℕ) (e : LoadError) : Type 0 where
   pub of_bytes : (d : DecodeError) → IsRefused bytes d → e ≡ Decode d
   pub of_layout : (code : List Insn) (reason : Reason) (slot : ℕ) → Encodes code bytes → IsLayoutFault code reason slot
       → e ≡ Verify (verify.Stuck reason slot)
+
+-- a refusal of the loader, told apart from memory that ran out
+abbrev pub program_error : LoadError → ProgramError
+program_error (Decode decode.Memory) = program.Memory
+program_error (Verify (verify.Memory slot)) = program.Memory
+program_error e = program.Refused e
 
 -- why no program is loaded: the bytes weren't read; or they are refused; or they were read, are whole slots, at most as many as a
 -- program may have, and memory ran out

@@ -1,8 +1,13 @@
 //! Why a relay can't be set up.
 
+ghost use Rattle.std.specs.Prelude.{◌≡◌};
+ghost use Rattle.setup.specs.Setups.{program_error};
+
 use control::Field;
+use insn::DecodeError;
 use loader::LoadError;
 use thiserror::Error;
+use verifier::Refusal;
 
 /// Why the program of a side can't be used.
 #[derive(Clone, Copy, Debug, PartialEq, Eq, Error)]
@@ -16,6 +21,18 @@ pub enum ProgramError {
     /// Memory ran out.
     #[error("out of memory")]
     Memory,
+}
+
+impl From<LoadError> for ProgramError {
+    ghost from_gives = { λ e p. p ≡ program_error e };
+
+    fn from(e: LoadError) -> ProgramError {
+        match e {
+            LoadError::Decode(DecodeError::Memory) => ProgramError::Memory,
+            LoadError::Verify(Refusal::Memory { .. }) => ProgramError::Memory,
+            e => ProgramError::Refused(e),
+        }
+    }
 }
 
 /// Why a relay can't be set up: the first fault, in this order.
