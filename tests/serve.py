@@ -28,6 +28,7 @@ from rules import (
     ALLOCATE, BINDING, CHANNEL_BIND, CHANNEL_NUMBER, CREATE_PERMISSION, DATA, DATA_INDICATION, ERROR_CODE, FAMILY, INTEGRITY,
     LIFETIME, NONCE, REALM, REFRESH, SEND, TRANSPORT, USERNAME, XOR_MAPPED_ADDRESS, XOR_PEER_ADDRESS,
     XOR_RELAYED_ADDRESS, address_in, address_value, key_of, message, read)
+from worst_programs import known_programs
 
 LOOPBACK = bytes([127, 0, 0, 1])
 LOOPBACK6 = bytes(15) + b"\1"
@@ -40,6 +41,10 @@ DISCARD = bytes.fromhex("b700000000000000 9500000000000000")
 # `exit`, which is refused since r0 is not set
 BAD = bytes.fromhex("9500000000000000")
 CLIENTS, DATAGRAMS, BATCH = 10, 200_000, 40
+# programs whose verification takes seconds, the round trips that are made meanwhile, and how long one may take, in seconds: a
+# server verifies for a quarter of a millisecond between two turns, and other processes take their time too
+SLOW = "sums in the last register", "marks with a chain", "64 pointers, 32 states, and 4,000 jumps"
+ROUND_TRIPS, LATE = 10_000, 0.1
 PERIOD = 1.0  # seconds: how often a server looks at what is due
 # The receives that fail, counted from the start. With two slots the first three are one at each socket, where nothing
 # has come yet; the next is that of the first datagram, and the one after it would find nothing more.
@@ -796,6 +801,43 @@ def replaced_programs():
             yield from wanted("the allocation", code_of(client.signed(REFRESH, [])), 0)
 
 
+def round_trip(client, peer, relayed, data):
+    """Sends data to the peer and back, and returns how long both took, or None where one is lost."""
+    start = time.perf_counter()
+    try:
+        client.send(channel_data(data))
+        there = peer.recv(100) == data
+        peer.sendto(data, relayed)
+        back = client.receive() == channel_data(data)
+    except TimeoutError:
+        return None
+    return time.perf_counter() - start if there and back else None
+
+
+def slow_programs():
+    """Yields what is lost, or late, of datagrams that come while programs are verified that take long."""
+    with tempfile.TemporaryDirectory() as name:
+        folder = pathlib.Path(name)
+        path, text = folder / "client", folder / "text.s"
+        run(["assemble", TOP / "examples" / "relay" / "client.s", path])
+        with Server("--client", str(path)) as server, Client(server) as client, udp_socket() as peer:
+            client.allocate()
+            client.bind(address_of(peer))
+            relayed = ("127.0.0.1", server.first_port)
+            for title in SLOW:
+                text.write_text("\n".join(known_programs()[title]) + "\n", encoding="utf-8")
+                run(["assemble", text, folder / "slow"])
+                put(path, (folder / "slow").read_bytes())
+                refusals = server.printed().count("refused V17")
+                trips = [round_trip(client, peer, relayed, struct.pack(">I", number)) for number in range(ROUND_TRIPS)]
+                yield from wanted(f"{title}: datagrams lost", trips.count(None), 0)
+                slowest = max(trip or 0 for trip in trips)
+                if slowest > LATE:
+                    yield f"{title}: a round trip took {slowest * 1000:.1f} ms"
+                if server.awaited("refused V17", refusals + 1) != refusals + 1:
+                    yield f"{title}: {server.printed()!r}"
+
+
 def requests_before(server, amid, address="127.0.0.1"):
     """How many of 200 requests are answered before a datagram of a peer, which came after all of them; or amid them, while
     the server had stopped itself."""
@@ -889,7 +931,7 @@ def main():
     build()
     parts = [refused_lines, rounds, addresses, addresses6, default_ports, default_slots, counted_rounds, receives_of_rounds,
              session, session6, no_family6, transactions, many_slots, faults, failed_receives, idle, idle_files, nonces,
-             replaced_programs, turns, ahead, many]
+             replaced_programs, slow_programs, turns, ahead, many]
     failures = []
     for part in parts:
         try:
