@@ -23,14 +23,19 @@ pub struct Context {
     pub tx: [u8; 12],
 }
 
-/// Returns the number of a side in the context record: 0 for a client, 1 for a peer.
+/// The numbers of the sides in the context record.
+const SIDE_NUMBERS: [u32; 2] = [0, 1];
+
+/// Returns the number of a side in the context record: 0 for a client, 1 for a peer. It is looked up, so that the compiler
+/// doesn't know its upper bytes: where it does, a store of the number becomes stores of its parts.
 pub(crate) fn side_number(side: Side) -> u32
     ensures { result ≡ side_number side }
 {
-    match side {
+    let index = match side {
         Side::Client => 0,
         Side::Peer => 1,
-    }
+    };
+    SIDE_NUMBERS[index]
 }
 
 /// Writes a part of a record over the bytes from an index on.
