@@ -18,8 +18,9 @@ use std::marker::Model;
 /// [`Frame::new`].
 #[derive(Drop)]
 pub struct Frame {
-    pub(crate) flat: Vec<u8>,
+    // first, since it is long and only traced runs use it: what every run reads and writes stands together after it
     pub(crate) stack: StackMemory,
+    pub(crate) flat: Vec<u8>,
     pub(crate) length: usize,
     pub(crate) is_started: bool,
     pub(crate) context: Context,
