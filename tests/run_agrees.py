@@ -4,7 +4,8 @@ The programs are those of verdicts.py, kernel_vectors.json and kernel_verdicts.j
 program_tests, the examples, and the shipped programs, of which each bit and seeded pairs of bits are flipped too. A
 text in the rows that the assembler refuses is passed over, and counted. Each program that is accepted runs over
 datagrams that are empty, short and as long as they may be, some of them ChannelData and Send indications, with contexts
-of both sides, and with helpers that look up, find nothing, or give drawn answers.
+of both sides, and with helpers that look up, find nothing, or give drawn answers. Each with one flipped bit also runs
+over the datagrams of a worked session.
 """
 
 import pathlib
@@ -23,6 +24,8 @@ EXAMPLES = TOP / "examples"
 ROWS = TOP / "crates" / "program_tests" / "src"
 # the datagrams of each program, and of each with flipped bits
 DATAGRAMS, FEW_DATAGRAMS = 1_000, 20
+# the datagrams of the worked session, over which a program with one flipped bit runs too
+WORKED = 14
 # the pairs of bits for each shipped program
 PAIRS = 50_000
 SHIPPED = ["relay/client", "relay/peer"]
@@ -92,15 +95,15 @@ def compared(listed, datagrams, *words):
     return counts, []
 
 
-def failures_of(counts, loaded, datagrams):
+def failures_of(counts, loaded, runs):
     """Yields what is wrong with the counts.
 
-    Each program has one, each accepted program its runs, and a window is set.
+    Each program has one, each accepted program as many runs as this, and a window is set.
     """
     accepted = counts.get("accepted", 0)
     if accepted + sum(counts[name] for name in counts if CODE.fullmatch(name)) != loaded:
         yield f"not all of {loaded} programs are counted"
-    if counts["runs"] != accepted * datagrams:
+    if counts["runs"] != accepted * runs:
         yield f"{counts['runs']} runs of {accepted} programs"
     if not counts["windows"]:
         yield "no run sets a window"
@@ -119,17 +122,17 @@ def compare(folder):
     of_rows = [assembled(folder, text, may_be_refused=True) for text in texts_of_rows()]
     listed = programs(folder, shipped) + [program for program in of_rows if program is not None]
     bits = 8 * sum(map(len, shipped))
-    # a title, the programs, how many are loaded, how many datagrams each has, and the other words
+    # a title, the programs, how many are loaded, the seeded datagrams and the runs of each, and the other words
     works = [
-        ("as they are", listed, len(listed), DATAGRAMS, []),
-        ("each bit flipped", shipped, bits, FEW_DATAGRAMS, ["flips"]),
-        ("two bits flipped", shipped, PAIRS * len(shipped), FEW_DATAGRAMS, ["pairs", str(PAIRS)]),
+        ("as they are", listed, len(listed), DATAGRAMS, DATAGRAMS, []),
+        ("each bit flipped", shipped, bits, FEW_DATAGRAMS, FEW_DATAGRAMS + WORKED, ["flips"]),
+        ("two bits flipped", shipped, PAIRS * len(shipped), FEW_DATAGRAMS, FEW_DATAGRAMS, ["pairs", str(PAIRS)]),
     ]
     failures = []
     phrases = [f"{len(of_rows)} texts in the rows, {of_rows.count(None)} of them refused by the assembler"]
-    for title, given, loaded, datagrams, words in works:
+    for title, given, loaded, datagrams, runs, words in works:
         counts, found = compared(given, datagrams, *words)
-        found = found or failures_of(counts, loaded, datagrams)
+        found = found or failures_of(counts, loaded, runs)
         failures += [f"{title}: {failure}" for failure in found]
         phrases.append(f"{title}: {summed(counts)}")
     return finish(failures, f"runs and traces: {'; '.join(phrases)}; {len(failures)} failures")

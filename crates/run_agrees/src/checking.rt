@@ -6,6 +6,7 @@ use anyhow::{Result, bail};
 use loader::load;
 use std::alloc::{AllocError, Global};
 use std::collections::BTreeMap;
+use verifier::Verified;
 
 /// The seed of the pairs of bits.
 const SEED: u64 = 21;
@@ -15,7 +16,7 @@ const SEED: u64 = 21;
 pub enum Work {
     /// The program itself is checked.
     Whole,
-    /// Each of its bits is flipped in turn.
+    /// Each of its bits is flipped in turn; the datagrams of the worked session come too.
     Flips,
     /// Pairs of its bits are flipped, as many as this.
     Pairs(u64),
@@ -72,11 +73,21 @@ impl Checks {
         self.count(alloc, code)
     }
 
+    /// Compares the runs of a program, and returns which datagram is the first one where they differ, and what differs.
+    fn first_difference(&mut self, program: &Verified, work: Work) -> Option<(u64, &'static str)> {
+        let found = self.comparison.first_difference(program, self.datagrams);
+        if found.is_some() || work != Work::Flips {
+            return found;
+        }
+        let (number, part) = self.comparison.first_worked_difference(program)?;
+        Some((self.datagrams.saturating_add(number), part))
+    }
+
     /// Loads a program, counts what comes of it, and compares its runs where it is accepted.
     ///
     /// # Errors
     /// Where a run and a trace differ, or memory runs out.
-    fn check(&mut self, alloc: Global, bytes: &[u8]) -> Result<()> {
+    fn check(&mut self, alloc: Global, bytes: &[u8], work: Work) -> Result<()> {
         let loaded = match load(alloc, bytes) {
             Ok(loaded) => loaded,
             Err(error) => {
@@ -86,9 +97,7 @@ impl Checks {
             }
         };
         self.count(alloc, "accepted")?;
-        let found = self
-            .comparison
-            .first_difference(loaded.program(), self.datagrams);
+        let found = self.first_difference(loaded.program(), work);
         if let Some((number, part)) = found {
             let program = hex::encode(alloc, bytes)?;
             bail!("datagram {number}: another {part} of the program {program}");
@@ -101,7 +110,7 @@ impl Checks {
         let bits = bytes.len().saturating_mul(8);
         for bit in 0..bits {
             flip(bytes, bit);
-            self.check(alloc, bytes)?;
+            self.check(alloc, bytes, Work::Flips)?;
             flip(bytes, bit);
         }
         Ok(())
@@ -114,7 +123,7 @@ impl Checks {
             let second = any_bit(&mut self.random, bytes);
             flip(bytes, first);
             flip(bytes, second);
-            self.check(alloc, bytes)?;
+            self.check(alloc, bytes, Work::Pairs(count))?;
             flip(bytes, first);
             flip(bytes, second);
         }
@@ -128,7 +137,7 @@ impl Checks {
     pub fn check_line(&mut self, alloc: Global, line: &str, work: Work) -> Result<()> {
         let mut bytes = hex::decode(alloc, line)?;
         match work {
-            Work::Whole => self.check(alloc, &bytes),
+            Work::Whole => self.check(alloc, &bytes, work),
             Work::Flips => self.check_flips(alloc, &mut bytes),
             Work::Pairs(count) => self.check_pairs(alloc, &mut bytes, count),
         }

@@ -3,13 +3,13 @@
 ghost use Rattle.std.specs.Prelude.{◌≡◌, ◌≤◌, true};
 ghost use Rattle.semantics.specs.declared.limits.TheConstants.{MAX_DATAGRAM};
 
-use crate::datagram::{context, write_datagram};
+use crate::datagram::{WORKED, Worked, context, worked_context, write_datagram, write_worked};
 use crate::drawn::Drawn;
 use crate::random::Random;
-use crate::rows::{NOW, tables};
+use crate::rows::{NOW, tables, worked_tables};
 use anyhow::Result;
 use helpers::Lookup;
-use machine::{Frame, Helpers, NoAllocation, Silent, run, trace};
+use machine::{Context, Frame, Helpers, NoAllocation, Silent, run, trace};
 use std::alloc::Global;
 use tables::Tables;
 use verifier::Verified;
@@ -26,16 +26,15 @@ fn copy_room(from: &Frame, to: &mut Frame, length: usize)
     room.copy_from_slice(bytes);
 }
 
-/// Starts both frames over the datagram of a number, with the same context.
-fn start_both(random: &mut Random, number: u64, ran: &mut Frame, traced: &mut Frame)
+/// Starts both frames over the datagram in the room of the first one, with the same context.
+fn start_both(context: &Context, length: usize, ran: &mut Frame, traced: &mut Frame)
+    requires { length ≤ MAX_DATAGRAM }
     ensures ran { ran.new.is_started ≡ true }
     ensures traced { traced.new.is_started ≡ true }
 {
-    let length = write_datagram(random, number, ran.area());
     copy_room(ran, traced, length);
-    let context = context(random);
-    ran.start(&context, length);
-    traced.start(&context, length);
+    ran.start(context, length);
+    traced.start(context, length);
 }
 
 /// Returns what two frames show that is not the same.
@@ -73,6 +72,7 @@ fn difference<H: Helpers>(
 pub struct Comparison {
     random: Random,
     tables: Tables,
+    worked_tables: Tables,
     ran: Frame,
     traced: Frame,
     runs: u64,
@@ -88,6 +88,7 @@ impl Comparison {
         Ok(Comparison {
             random: Random::new(SEED),
             tables: tables(alloc)?,
+            worked_tables: worked_tables(alloc)?,
             ran: Frame::new(alloc)?,
             traced: Frame::new(alloc)?,
             runs: 0,
@@ -108,7 +109,8 @@ impl Comparison {
     /// Runs and traces a program over the next datagram, with helpers that are drawn, and returns what differs.
     fn next_difference(&mut self, program: &Verified) -> Option<&'static str> {
         let (ran, traced) = (&mut self.ran, &mut self.traced);
-        start_both(&mut self.random, self.runs, ran, traced);
+        let length = write_datagram(&mut self.random, self.runs, ran.area());
+        start_both(&context(&mut self.random), length, ran, traced);
         match self.random.below(8) {
             0 => difference(program, ran, traced, &NoAllocation),
             1 | 2 => difference(program, ran, traced, &Drawn::new(&mut self.random)),
@@ -122,6 +124,22 @@ impl Comparison {
         }
     }
 
+    /// Runs and traces a program over a datagram of the worked session, with look-ups, and returns what differs.
+    fn worked_difference(&mut self, program: &Verified, worked: &Worked) -> Option<&'static str> {
+        let (ran, traced) = (&mut self.ran, &mut self.traced);
+        let length = write_worked(worked, ran.area());
+        start_both(&worked_context(worked.0), length, ran, traced);
+        let helpers = Lookup::new(&self.worked_tables, NOW, Some(0));
+        difference(program, ran, traced, &helpers)
+    }
+
+    /// Counts a run, and its window if it has set one.
+    fn count(&mut self) {
+        self.runs = self.runs.saturating_add(1);
+        let window = u64::from(self.ran.window().is_some());
+        self.windows = self.windows.saturating_add(window);
+    }
+
     /// Runs and traces a program over some datagrams, and returns the number of the first one where the two differ, and
     /// what differs.
     pub fn first_difference(
@@ -133,10 +151,18 @@ impl Comparison {
             if let Some(part) = self.next_difference(program) {
                 return Some((number, part));
             }
-            self.runs = self.runs.saturating_add(1);
-            self.windows = self
-                .windows
-                .saturating_add(u64::from(self.ran.window().is_some()));
+            self.count();
+        }
+        None
+    }
+
+    /// As [`first_difference`](Comparison::first_difference), over the datagrams of the worked session.
+    pub fn first_worked_difference(&mut self, program: &Verified) -> Option<(u64, &'static str)> {
+        for (number, worked) in (0..).zip(&WORKED) {
+            if let Some(part) = self.worked_difference(program, worked) {
+                return Some((number, part));
+            }
+            self.count();
         }
         None
     }

@@ -1,15 +1,61 @@
-//! Seeded datagrams and contexts.
+//! Seeded datagrams and contexts, and those of a worked session.
 
 ghost use Rattle.std.specs.Prelude.{◌≡◌, ◌≤◌, length};
 ghost use Rattle.semantics.specs.declared.limits.TheConstants.{MAX_DATAGRAM};
 
 use crate::random::Random;
-use crate::rows::{client, peer};
+use crate::rows::{client, other_peer, peer};
 use attributes::Addr;
 use machine::{Context, MAX_DATAGRAM, Side};
 
 /// How many datagrams there are to each that is empty, and to each that is about as long as it may be.
 const PERIOD: u64 = 250;
+
+/// A datagram of a worked session: its side, its length, and its first bytes. All others are `a`.
+pub type Worked = (Side, usize, &'static [u8]);
+
+/// The datagrams of a worked session.
+pub static WORKED: [Worked; 14] = [
+    // ChannelData: with data and padding, too little data, no data, a number that is no channel's, no header
+    (Side::Client, 8, b"\x40\x01\x00\x03abc\x00"),
+    (Side::Client, 8, b"\x40\x01\x00\x05abc\x00"),
+    (Side::Client, 4, b"\x40\x01\x00\x00"),
+    (Side::Client, 4, b"\x50\x00\x00\x00"),
+    (Side::Client, 3, b"\x40\x01\x00"),
+    // Send indications: of two attributes, with three more that are ignored, and with one that isn't understood
+    (
+        Side::Client,
+        40,
+        b"\x00\x16\x00\x14\x21\x12\xa4\x42\x00\x00\x00\x00\x00\x00\x00\x00\x00\x00\x00\x00\
+        \x00\x12\x00\x08\x00\x01\x32\x9a\xe1\x12\xa6\x45\x00\x13\x00\x03abc\x00",
+    ),
+    (
+        Side::Client,
+        52,
+        b"\x00\x16\x00\x20\x21\x12\xa4\x42\x00\x00\x00\x00\x00\x00\x00\x00\x00\x00\x00\x00\
+        \x00\x12\x00\x08\x00\x01\x32\x9a\xe1\x12\xa6\x45\x00\x13\x00\x03abc\x00\
+        \x80\x01\x00\x00\x80\x01\x00\x00\x80\x01\x00\x00",
+    ),
+    (
+        Side::Client,
+        44,
+        b"\x00\x16\x00\x18\x21\x12\xa4\x42\x00\x00\x00\x00\x00\x00\x00\x00\x00\x00\x00\x00\
+        \x00\x1a\x00\x00\
+        \x00\x12\x00\x08\x00\x01\x32\x9a\xe1\x12\xa6\x45\x00\x13\x00\x03abc\x00",
+    ),
+    // a Binding request
+    (
+        Side::Client,
+        20,
+        b"\x00\x01\x00\x00\x21\x12\xa4\x42\x00\x00\x00\x00\x00\x00\x00\x00\x00\x00\x00\x00",
+    ),
+    // a peer's data: three bytes, none, the longest that fits in ChannelData, one more, and the longest datagram
+    (Side::Peer, 3, b"abc"),
+    (Side::Peer, 0, b""),
+    (Side::Peer, 65_503, b""),
+    (Side::Peer, 65_504, b""),
+    (Side::Peer, 65_507, b""),
+];
 
 /// Returns a length below 300, half of the time one that is divisible by 4.
 fn short_length(random: &mut Random) -> usize
@@ -80,6 +126,32 @@ pub fn write_datagram(random: &mut Random, number: u64, room: &mut [u8]) -> usiz
         _ => {}
     }
     length
+}
+
+/// Writes a datagram of the worked session over the first bytes of a room, and returns its length.
+pub fn write_worked(worked: &Worked, room: &mut [u8]) -> usize
+    requires { length room.old ≡ MAX_DATAGRAM }
+    ensures { result ≤ MAX_DATAGRAM }
+{
+    let &(_, length, first) = worked;
+    let length = length.min(MAX_DATAGRAM);
+    let (bytes, _) = room.split_at_mut(length);
+    bytes.fill(b'a');
+    begin_with(bytes, first);
+    length
+}
+
+/// Returns the context of a side in the worked session.
+pub fn worked_context(side: Side) -> Context {
+    let source = match side {
+        Side::Client => client(),
+        Side::Peer => other_peer(),
+    };
+    Context {
+        side,
+        source,
+        tx: [0; 12],
+    }
 }
 
 /// Returns the side and the source of a context: the client, the peer, that peer at another port, or an address of IPv6.

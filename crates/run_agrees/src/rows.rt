@@ -34,6 +34,16 @@ pub fn peer() -> Addr
     }
 }
 
+/// Returns the peer of the worked session, which has a permission and the second channel.
+pub fn other_peer() -> Addr
+    ensures { IsTrue (is_ipv4 result) }
+{
+    Addr::V4 {
+        ip: [192, 0, 2, 7],
+        port: 5000,
+    }
+}
+
 /// Makes tables with one allocation, in slot 0, that has a permission and the first channel.
 ///
 /// # Errors
@@ -42,5 +52,16 @@ pub fn tables(alloc: Global) -> Result<Tables> {
     let mut tables = Tables::new(alloc, 2)?;
     let slot = tables.allocate(NOW, client(), 0, [1; 12], Family::Ipv4, LIFETIME)?;
     tables.bind(NOW, slot, FIRST_CHANNEL, peer())?;
+    Ok(tables)
+}
+
+/// Makes the tables of the worked session, in which the allocation has the second channel.
+///
+/// # Errors
+/// Where memory runs out.
+pub fn worked_tables(alloc: Global) -> Result<Tables> {
+    let mut tables = Tables::new(alloc, 2)?;
+    let slot = tables.allocate(NOW, client(), 0, [1; 12], Family::Ipv4, LIFETIME)?;
+    tables.bind(NOW, slot, FIRST_CHANNEL + 1, other_peer())?;
     Ok(tables)
 }
