@@ -3,7 +3,9 @@
 A run whose allocations are refused has to end as one whose are not, or with `out of memory` on standard
 error, nothing on standard output, and the status 4. Allocations are counted from a constructor of the
 preloaded library on, so all those of `main` are counted. And `session_replay`, which makes a refused call once more: it has to
-print the right answers wherever memory is refused in the middle of a replay. It needs gcc.
+print the right answers wherever memory is refused in the middle of a replay. And `memory_refusals`, which makes a call
+twice: the one that is refused memory has to name that as its own refusal, with the slot in V19, and the other one to
+give the right answer. It needs gcc.
 """
 
 import os
@@ -51,6 +53,30 @@ CASES = [
     (["load"], 2),
     (["--help"], 0),
 ]
+# what memory_refusals disassembles: jumps at slots 3, 5 and 7 lead to slots 5, 7 and 9
+LISTING = """\
+mov r0, 0
+ldxdw r2, [r1+32]
+ldxw r3, [r1+40]
+jgt r2, 5, +1
+mov r0, 1
+jgt r3, 9, +1
+mov r0, 0
+jeq r2, 7, +1
+mov r0, 1
+exit
+"""
+# a state is left pending at each jump, and one is kept at each slot that a jump leads to; before the first step it is slot 0
+SLOTS = [0, 3, 5, 7, 9]
+# each call of memory_refusals with its answer, and its refusals of memory in the order in which they first come
+CALLS = {
+    "decode": ("10 instructions", ["E8"]),
+    "load": ("10 instructions", ["E8", *[f"V19 at {slot}" for slot in SLOTS]]),
+    "assemble": ("80 bytes", ["L6"]),
+    "disassemble": (f"{len(LISTING)} bytes", ["memory allocation failed"]),
+    "relay": ("2 slots", ["out of memory"]),
+    "frame": ("65507 bytes", ["memory allocation failed"]),
+}
 
 
 def counted_run(words, program=PROGRAM, events=os.devnull, **environment):
@@ -97,6 +123,16 @@ def failures_of(words, status, library):
     return failures, count
 
 
+def built(name, *words):
+    """Returns the program of a crate, which is built where it is not there, and is run on these words then."""
+    folder = TOP / "crates" / name
+    program = folder / "out" / name
+    if not program.exists():
+        command = ["rt", "run", "--", *words]
+        subprocess.run(command, cwd=folder, stdin=subprocess.DEVNULL, capture_output=True, check=True)
+    return program
+
+
 def failures_of_repeated(library):
     """Returns what is wrong with the runs in which a replay is refused memory once and is called again, and how many there were.
 
@@ -104,7 +140,7 @@ def failures_of_repeated(library):
     """
     folder = TOP / "crates" / "session_replay"
     answers = (folder / "stdout").read_text(encoding="utf-8")
-    ends = dict(refused_runs([], library, False, program=folder / "out" / "session_replay", events=folder / "stdin"))
+    ends = dict(refused_runs([], library, False, program=built("session_replay"), events=folder / "stdin"))
     well = {first for first, end in ends.items() if end == (0, answers, "")}
     failures = [f"session_replay, refused at {first}: {end[0]}, {end[2]!r}" for first, end in ends.items()
                 if first not in well and not (end[0] == 1 and answers.startswith(end[1]))]
@@ -114,21 +150,52 @@ def failures_of_repeated(library):
     return failures, len(ends)
 
 
+def failures_of_call(command, ends):
+    """Yields what is wrong with the runs that make a call twice, each with another allocation refused.
+
+    Where memory is refused before the first call, nothing is printed. Each allocation of the second call is refused as the
+    same one of the first.
+    """
+    answer, refusals = CALLS[command]
+    right = f"{command} {answer}"
+    refused = [], []
+    for number, (status, out, err) in ends.items():
+        lines = out.splitlines()
+        if (status, out) == (1, "") or (status, lines, err) == (0, [right, right], ""):
+            continue
+        if (status, err, len(lines), lines.count(right)) != (0, "", 2, 1):
+            yield f"memory_refusals {command}, refused at {number}: {status}, {out!r}, {err!r}"
+            continue
+        call = lines.index(right) ^ 1
+        refused[call].append(lines[call].removeprefix(f"{command} "))
+    if list(dict.fromkeys(refused[0])) != refusals or refused[1] != refused[0]:
+        yield f"memory_refusals {command}: {refused}"
+
+
+def failures_of_calls(library):
+    """Returns what is wrong with the calls that are made twice, and how many runs there were."""
+    program = built("memory_refusals", "load")
+    failures, runs = [], 0
+    for command in CALLS:
+        ends = dict(refused_runs([command], library, False, program=program))
+        failures += failures_of_call(command, ends)
+        runs += len(ends)
+    return failures, runs
+
+
 def main():
     """Runs every case, and returns the exit status."""
     build()
-    failures, runs = [], 0
     with tempfile.TemporaryDirectory() as folder:
         library = str(pathlib.Path(folder) / "refuse_malloc.so")
         source = TOP / "tests" / "refuse_malloc.c"
         command = ["gcc", "-O1", "-Wall", "-shared", "-fPIC", "-o", library, source, "-ldl"]
         subprocess.run(command, check=True)
-        for words, status in CASES:
-            found, count = failures_of(words, status, library)
-            failures += found
-            runs += count
-        found, count = failures_of_repeated(library)
-    return finish(failures + found, f"refused memory: {runs + count} runs, {len(failures + found)} failures")
+        checks = [failures_of(words, status, library) for words, status in CASES]
+        checks += [failures_of_repeated(library), failures_of_calls(library)]
+    failures = [failure for found, _ in checks for failure in found]
+    runs = sum(count for _, count in checks)
+    return finish(failures, f"refused memory: {runs} runs, {len(failures)} failures")
 
 
 if __name__ == "__main__":
