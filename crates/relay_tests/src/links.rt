@@ -18,12 +18,21 @@ const SLOTS: usize = 2;
 /// The moment of the first events.
 const FIRST: u64 = 1000;
 
-/// Serves the datagram of an event's line, and returns what came of it.
+/// A moment after that of all events.
+const LATER: u64 = 1_000_000;
+
+/// How many of the first events bring an allocation with a channel about.
+const OPENING: usize = 5;
+
+/// The end of the allocation where these are served again: 600 seconds after the moment of the last event, 1600.
+const END: u64 = 2200;
+
+/// Serves the datagram of an event's line, at another moment if there is one, and returns what came of it.
 fn serve(
     alloc: Global,
     relay: &mut Relay,
     line: &str,
-    fate: Fate,
+    (fate, now): (Fate, Option<u64>),
     log: &mut Vec<u8>,
 ) -> Result<Result<bool, ServeError>, Fail> {
     let mut room = vec![in alloc; 0u8; MAX_DATAGRAM]?;
@@ -35,7 +44,8 @@ fn serve(
         Source::Peer { slot, addr } => (Place::Slot(slot), addr),
     };
     let mut wire = Wire::new(alloc, from, &room[..n], fate, log);
-    let served = serve_once(relay, &mut wire, place, meta.now, meta.tx);
+    let now = now.unwrap_or(meta.now);
+    let served = serve_once(relay, &mut wire, place, now, meta.tx);
     if !wire.stores_all() {
         return Err(Fail::new("no room for a call"));
     }
@@ -53,9 +63,9 @@ fn story(
     let mut result = Ok(false);
     for (i, &(line, _)) in STORY.iter().enumerate() {
         if i != index {
-            serve(alloc, &mut relay, line, Fate::Served, &mut log)?.ok();
+            serve(alloc, &mut relay, line, (Fate::Served, None), &mut log)?.ok();
         } else if fate != Fate::Lost {
-            result = serve(alloc, &mut relay, line, fate, &mut log)?;
+            result = serve(alloc, &mut relay, line, (fate, None), &mut log)?;
         }
     }
     Ok((log, result))
@@ -93,25 +103,31 @@ fn check_rows(rt: &impl Abort, relay: &Relay, other: &Relay, event: &str) {
     }
 }
 
-/// What comes of a datagram that isn't received.
-const UNRECEIVED: [(Fate, Result<bool, ServeError>); 3] = [
-    (Fate::Late, Ok(false)),
-    (Fate::ReceiveFails, Err(ServeError::Receive)),
-    (Fate::TooLong, Err(ServeError::Receive)),
+/// What happens to a datagram, at which moment if it isn't that of its event, and what comes of it.
+type Turn = (Fate, Option<u64>, Result<bool, ServeError>);
+
+/// The turns at which a datagram isn't received: in each way at a moment after all others, and then before them.
+const UNRECEIVED: [Turn; 6] = [
+    (Fate::Late, Some(LATER), Ok(false)),
+    (Fate::Late, Some(0), Ok(false)),
+    (Fate::ReceiveFails, Some(LATER), Err(ServeError::Receive)),
+    (Fate::ReceiveFails, Some(0), Err(ServeError::Receive)),
+    (Fate::TooLong, Some(LATER), Err(ServeError::Receive)),
+    (Fate::TooLong, Some(0), Err(ServeError::Receive)),
 ];
 
-/// Serves an event in a way, and checks what comes of it.
-fn check_fate(
+/// Serves an event by a turn, checks what comes of it, and returns what is sent.
+fn check_turn(
     rt: &impl Abort,
     alloc: Global,
     relay: &mut Relay,
     event: &str,
-    (fate, wanted): (Fate, Result<bool, ServeError>),
-) -> Result<(), Fail> {
+    (fate, now, wanted): Turn,
+) -> Result<Vec<u8>, Fail> {
     let mut log = Vec::new(alloc);
-    let result = serve(alloc, relay, event, fate, &mut log)?;
-    assert!(rt; result == wanted, "{fate:?}: {event}");
-    Ok(())
+    let result = serve(alloc, relay, event, (fate, now), &mut log)?;
+    assert!(rt; result == wanted, "{fate:?} {now:?}: {event}");
+    Ok(log)
 }
 
 /// Checks that an event that isn't received leaves a relay's tables as those of another.
@@ -122,8 +138,8 @@ fn check_unreceived(
     other: &Relay,
     event: &str,
 ) -> Result<(), Fail> {
-    for fate in UNRECEIVED {
-        check_fate(rt, alloc, relay, event, fate)?;
+    for turn in UNRECEIVED {
+        check_turn(rt, alloc, relay, event, turn)?;
         check_rows(rt, relay, other, event);
     }
     Ok(())
@@ -148,19 +164,54 @@ fn check_event(
     (event, answer): (&str, &str),
 ) -> Result<(), Fail> {
     check_unreceived(rt, alloc, relay, other, event)?;
-    check_fate(rt, alloc, relay, event, (Fate::SendFails, unsent(answer)))?;
-    check_fate(rt, alloc, other, event, (Fate::Served, Ok(true)))?;
+    let turn = (Fate::SendFails, None, unsent(answer));
+    check_turn(rt, alloc, relay, event, turn)?;
+    check_turn(rt, alloc, other, event, (Fate::Served, None, Ok(true)))?;
     check_rows(rt, relay, other, event);
     Ok(())
 }
 
-/// Checks the tables after each event.
+/// Checks the answer of a relay to an event that is served.
+fn check_answer(
+    rt: &impl Abort,
+    alloc: Global,
+    relay: &mut Relay,
+    (event, answer): (&str, &str),
+) -> Result<(), Fail> {
+    let sent = check_turn(rt, alloc, relay, event, (Fate::Served, None, Ok(true)))?;
+    assert!(rt;
+        sent.strip_suffix(b"\n") == Some(answer.as_bytes()),
+        "again: {event}"
+    );
+    Ok(())
+}
+
+/// Checks that two relays answer the first events once more, with the same nonce, and that these are served at the greatest
+/// moment so far, from which the end of the allocation is counted.
+fn check_again(
+    rt: &impl Abort,
+    alloc: Global,
+    relay: &mut Relay,
+    other: &mut Relay,
+) -> Result<(), Fail> {
+    for &event in &STORY[..OPENING] {
+        check_unreceived(rt, alloc, relay, other, event.0)?;
+        check_answer(rt, alloc, relay, event)?;
+        check_answer(rt, alloc, other, event)?;
+        check_rows(rt, relay, other, event.0);
+    }
+    let end = allocation_at(relay.tables(), 0, FIRST).map(|allocation| allocation.end);
+    assert_eq!(rt; end, Some(END));
+    Ok(())
+}
+
+/// Checks the tables after each event, and then the greatest moment and the nonce.
 fn check_tables(rt: &impl Abort, alloc: Global) -> Result<(), Fail> {
     let (mut relay, mut other) = (shipped(alloc)?, shipped(alloc)?);
     for &event in &STORY {
         check_event(rt, alloc, &mut relay, &mut other, event)?;
     }
-    Ok(())
+    check_again(rt, alloc, &mut relay, &mut other)
 }
 
 #[test]
