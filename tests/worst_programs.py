@@ -17,7 +17,7 @@ import tempfile
 from program import PROGRAM, build, finish, run
 
 # bounds of a verification: processor time in seconds, and memory in MiB, of which the process itself takes a few
-MOST_SECONDS, MOST_MEMORY = 20, 200
+MOST_SECONDS, MOST_MEMORY = 20, 400
 BYTES = 512
 # two numbers of which nothing is known, from the context: the source's record in r2, the transaction id in r3
 HEAD = ["ldxdw r2, [r1+24]", "ldxdw r3, [r1+32]"]
