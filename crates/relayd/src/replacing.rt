@@ -5,10 +5,9 @@ use command_line::Options;
 use loader::{LoadError, LoadProgress, Loaded, Loading};
 use relay::Relay;
 use setup::ProgramError;
-use std::fs;
 use std::io::Write;
-use std::mem;
 use std::rt::Files;
+use std::{fs, mem};
 
 /// How many units of work of a verification are done before the clock is read again.
 const SLICE: usize = 4;
@@ -57,6 +56,14 @@ impl Next {
         match self {
             Next::Nothing => false,
             Next::Verifying { bytes, .. } | Next::Ready { bytes, .. } => bytes.as_slice() == other,
+        }
+    }
+
+    /// Returns whether there is one.
+    fn is_some(&self) -> bool {
+        match self {
+            Next::Nothing => false,
+            _ => true,
         }
     }
 
@@ -164,9 +171,9 @@ impl<'a> Sides<'a> {
         self.client.path.is_some() || self.peer.path.is_some()
     }
 
-    /// Returns whether a program is being verified.
-    pub(crate) fn is_verifying(&self) -> bool {
-        self.client.next.is_verifying() || self.peer.next.is_verifying()
+    /// Returns whether a program is to replace one that runs.
+    pub(crate) fn is_replacing(&self) -> bool {
+        self.client.next.is_some() || self.peer.next.is_some()
     }
 
     /// Begins to load the programs of the files that have changed.
@@ -181,7 +188,7 @@ impl<'a> Sides<'a> {
     pub(crate) fn advance<E: Write>(&mut self, relay: &mut Relay, err: &mut E) {
         self.client.advance(err);
         self.peer.advance(err);
-        if !self.is_verifying() {
+        if !self.client.next.is_verifying() && !self.peer.next.is_verifying() {
             let client = self.client.take(err);
             let peer = self.peer.take(err);
             relay.set_programs(client, peer);

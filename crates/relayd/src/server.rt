@@ -25,9 +25,9 @@ const EVENTS: usize = 256;
 /// from time to time.
 const PERIOD: u64 = 1;
 
-/// The time for which programs are verified between two turns.
+/// The microseconds for which programs are verified between two turns.
 /// See docs/DECISIONS.md, "Verification in slices".
-const VERIFYING: Duration = Duration::from_micros(250);
+const VERIFYING: u64 = 250;
 
 /// The most slices of a verification between two turns.
 const SLICES: usize = 10_000;
@@ -210,8 +210,9 @@ impl Server<'_> {
 
     /// Goes on verifying programs for some time, and replaces those that run where all are verified.
     fn verify<R: Clock, E: Write>(&mut self, rt: &R, err: &mut E, start: Duration) {
+        let end = start.saturating_add(Duration::from_micros(VERIFYING));
         for _ in 0..SLICES {
-            if !self.sides.is_verifying() || elapsed(rt).saturating_sub(start) >= VERIFYING {
+            if !self.sides.is_replacing() || elapsed(rt) >= end {
                 return;
             }
             self.sides.advance(&mut self.relay, err);
@@ -377,8 +378,12 @@ impl Server<'_> {
         let longest = self.longest_wait();
         let mut more = true;
         for _ in 0..u64::MAX {
-            let is_idle = !more && !self.sides.is_verifying();
-            let wait = if is_idle { longest } else { Some(Duration::ZERO) };
+            let is_idle = !more && !self.sides.is_replacing();
+            let wait = if is_idle {
+                longest
+            } else {
+                Some(Duration::ZERO)
+            };
             waiting.wait(wait)?;
             self.tend(rt, err);
             let more_reported = self.drain_reported(rt, err, &waiting.events, &mut waiting.places);
