@@ -166,8 +166,12 @@ impl Relay {
 
     /// Replaces the programs of the sides for which there is another one. Allocations, moments and the nonce stay as they are.
     pub fn set_programs(&mut self, client: Option<Loaded>, peer: Option<Loaded>)
-        ensures { self.new ≡ record self.old { programs = record { client = unwrap_or client self.old.programs.client;
-            peer = unwrap_or peer self.old.programs.peer } } }
+        ensures { self.new ≡ record self.old {
+          programs = record {
+            client = unwrap_or client self.old.programs.client;
+            peer = unwrap_or peer self.old.programs.peer;
+          };
+        } }
     {
         if let Some(client) = client {
             self.client = client;
