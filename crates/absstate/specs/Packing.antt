@@ -1,4 +1,4 @@
--- Interface. States as they are kept, and the parts by which they are told apart.
+-- Interface. States as they are kept, and the parts that distinguish them.
 use Rattle.std.specs.Prelude.{◌≡◌, ℕ, ◌++◌, ◌&&◌, Bool, true, false, ℤ, List, [], ◌∷◌, drop, length, slice_index_or}
 use Rattle.interval.specs.Domains.{Operations}
 use Rattle.absstate.specs.AbstractStates.{no_groups}

@@ -1,4 +1,4 @@
-//! Parts of kept states, by which they are told apart from others.
+//! Parts of kept states, which distinguish them from other states.
 
 ghost use Rattle.std.specs.Prelude.{◌≡◌, true, false};
 ghost use Rattle.absstate.specs.MarkWords.{words_of};

@@ -48,7 +48,7 @@ pub record IsNamed (bytes : List ℕ) (e : LoadError) : Type 0 where
   pub of_layout : (code : List Insn) (reason : Reason) (slot : ℕ) → Encodes code bytes → IsLayoutFault code reason slot
       → e ≡ Verify (verify.Stuck reason slot)
 
--- a refusal of the loader, told apart from memory that ran out
+-- the fault of a program that the loader refuses, or for which memory ran out
 abbrev pub program_error : LoadError → ProgramError
 program_error (Decode decode.Memory) = program.Memory
 program_error (Verify (verify.Memory slot)) = program.Memory

@@ -18,8 +18,8 @@ use semantics::{Fetched, Program};
 use std::alloc::{AllocError, Global};
 use std::marker::Model;
 
-/// A state that is kept, behind the part of it in which it was last found to differ from another one.
-/// See docs/DECISIONS.md, "What tells a kept state apart".
+/// A kept state, with the part of it in which it last differed from another one.
+/// See docs/DECISIONS.md, "What distinguishes a kept state".
 #[derive(Drop)]
 pub struct KeptState<D: Domain> {
     part: Part<D>,
