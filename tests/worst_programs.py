@@ -4,8 +4,8 @@
 
 The paths of each program come to one slot in many states of which none covers another: so many, and compared so long, as a
 budget of 100,000 abstract steps allows. With SEEDS so many programs more are made of the same parts, drawn anew for each seed,
-and the slowest of them is printed. Times are of the processor, and the bounds are several times what is expected, so that a
-slower machine passes.
+and the slowest of them is printed. Times are of the processor, and their bound is several times what is expected, so that a
+slower machine passes; the bound of memory is one and a half times that of the program that takes most.
 """
 
 import pathlib
