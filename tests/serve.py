@@ -44,6 +44,7 @@ CLIENTS, DATAGRAMS, BATCH = 10, 200_000, 40
 # programs whose verification takes seconds, the round trips that are made meanwhile, and how long one may take, in seconds: a
 # server verifies for a quarter of a millisecond between two turns, and other processes take their time too
 SLOW = "sums in the last register", "marks with a chain", "64 pointers, 32 states, and 4,000 jumps"
+SLOWEST = "pointers on the stack"
 ROUND_TRIPS, LATE = 10_000, 0.1
 PERIOD = 1.0  # seconds: how often a server looks at what is due
 # The receives that fail, counted from the start. With two slots the first three are one at each socket, where nothing
@@ -838,6 +839,27 @@ def slow_programs():
                     yield f"{title}: {server.printed()!r}"
 
 
+def withdrawn_programs():
+    """Yields what is not as it should be where one side has a new program, and a slow one of the other side is withdrawn while
+    it is verified: the new one runs."""
+    with tempfile.TemporaryDirectory() as name:
+        folder = pathlib.Path(name)
+        paths = {side: folder / side for side in ("client", "peer")}
+        for side, path in paths.items():
+            run(["assemble", TOP / "examples" / "relay" / f"{side}.s", path])
+        good, text, slow = paths["peer"].read_bytes(), folder / "text.s", folder / "slow"
+        text.write_text("\n".join(known_programs()[SLOWEST]) + "\n", encoding="utf-8")
+        run(["assemble", text, slow])
+        with Server("--client", str(paths["client"]), "--peer", str(paths["peer"])) as server:
+            with server.stopped():
+                put(paths["client"], DISCARD)
+                put(paths["peer"], slow.read_bytes())
+            time.sleep(1.2 * PERIOD)
+            yield from wanted("lines before", server.printed(), "")
+            put(paths["peer"], good)
+            yield from wanted("loaded", server.awaited(f"loaded {paths['client']}\n"), 1)
+
+
 def requests_before(server, amid, address="127.0.0.1"):
     """How many of 200 requests are answered before a datagram of a peer, which came after all of them; or amid them, while
     the server had stopped itself."""
@@ -931,7 +953,7 @@ def main():
     build()
     parts = [refused_lines, rounds, addresses, addresses6, default_ports, default_slots, counted_rounds, receives_of_rounds,
              session, session6, no_family6, transactions, many_slots, faults, failed_receives, idle, idle_files, nonces,
-             replaced_programs, slow_programs, turns, ahead, many]
+             replaced_programs, slow_programs, withdrawn_programs, turns, ahead, many]
     failures = []
     for part in parts:
         try:
