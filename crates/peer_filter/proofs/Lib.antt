@@ -1,0 +1,5 @@
+pub mod Deciding
+pub mod DefaultRules
+pub mod Decisions
+pub mod Shifts
+pub mod Texts

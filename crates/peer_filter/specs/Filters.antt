@@ -1,0 +1,94 @@
+-- Meaning. Which rule decides on an address, and which peers a filter allows.
+use Rattle.std.specs.Prelude.{◌≡◌, ◌<◌, ◌≤◌, Bool, true, false, not, ◌&&◌, nat_eq, nat_lt, List, [], ◌∷◌, ◌++◌, length, Option, Some, None, Result, Ok, Err, if◌then◌else◌, ⊤}
+use Rattle.std.specs.List.{list_any}
+use Rattle.attributes.specs.AddressOrder.{is_same_address}
+use Rattle.attributes.specs.Addresses.{port_of}
+use Rattle.attributes.specs.declared.address.Addr.{Addr}
+use Rattle.peer_filter.specs.Networks.{network_contains, prefix_bits}
+use Rattle.peer_filter.specs.declared.defaults.TheConstants.{ALWAYS_DENIED, LOOPBACK_V4, LOOPBACK_V6}
+use Rattle.peer_filter.specs.declared.filter.FilterError.{FilterError}
+use Rattle.peer_filter.specs.declared.filter.FilterError.TheVariants.{Rules, Endpoints}
+use Rattle.peer_filter.specs.declared.filter.TheConstants.{MAX_RULES, MAX_ENDPOINTS}
+use Rattle.peer_filter.specs.declared.rule.Action.{Action}
+use Rattle.peer_filter.specs.declared.rule.Action.TheVariants.{Deny, Allow}
+use Rattle.peer_filter.specs.declared.rule.Endpoint.{Endpoint}
+use Rattle.peer_filter.specs.declared.rule.Endpoint.TheVariants.{At, Port}
+use Rattle.peer_filter.specs.declared.rule.Loopback.{Loopback}
+use Rattle.peer_filter.specs.declared.rule.Rule.{Rule}
+
+-- whether an endpoint of the server is that of a peer
+abbrev pub is_at : Addr → Endpoint → Bool
+is_at peer (At address) = is_same_address address peer
+is_at peer (Port port) = nat_eq port (port_of peer)
+
+-- ---- rules
+
+-- whether a rule allows the addresses of its network
+abbrev pub is_allow : Action → Bool
+is_allow Deny = false
+is_allow Allow = true
+
+-- whether the network of a rule contains an address
+abbrev pub covers_peer : Addr → Rule → Bool
+covers_peer peer rule = network_contains rule.network peer
+
+-- the rule that decides where one more rule comes before others, of which one decides or none: the first one only where it
+-- contains the address and has more bits
+abbrev pub before_others : Addr → Rule → Option Rule → Option Rule
+before_others peer rule None = if covers_peer peer rule then Some rule else None
+before_others peer rule (Some other) =
+    if covers_peer peer rule && nat_lt (prefix_bits other.network) (prefix_bits rule.network) then Some rule else Some other
+
+-- the rule that decides on an address; `DecidesOn` says which it is
+abbrev pub deciding_rule : List Rule → Addr → Option Rule
+deciding_rule [] peer = None
+deciding_rule (rule ∷ rules) peer = before_others peer rule (deciding_rule rules peer)
+
+-- whether an address is allowed by the rule that decides: it is where no rule contains it
+abbrev pub is_allowed_by : Option Rule → Bool
+is_allowed_by None = true
+is_allowed_by (Some rule) = is_allow rule.action
+
+-- each rule of a list that contains the address has a property
+abbrev pub EachCovering : Addr → (Rule → Type 0) → List Rule → Type 0
+EachCovering peer P [] = ⊤
+EachCovering peer P (rule ∷ rules) = (covers_peer peer rule ≡ true → P rule) × EachCovering peer P rules
+
+-- the rule is one of the list, and contains the address; each other one that does has fewer bits, or as many and comes
+-- before it
+pub record DecidesOn (rules : List Rule) (peer : Addr) (rule : Rule) : Type 0 where
+  pub before : List Rule
+  pub after : List Rule
+  pub member : rules ≡ before ++ rule ∷ after
+  pub covers : covers_peer peer rule ≡ true
+  pub not_shorter : EachCovering peer (λ other. prefix_bits other.network ≤ prefix_bits rule.network) before
+  pub longer : EachCovering peer (λ other. prefix_bits other.network < prefix_bits rule.network) after
+
+-- the rule that decides, or none where no rule contains the address
+abbrev pub IsDecision : List Rule → Addr → Option Rule → Type 0
+IsDecision rules peer (Some rule) = DecidesOn rules peer rule
+IsDecision rules peer None = EachCovering peer (λ _. ⊥) rules
+
+-- ---- filters
+
+-- the rules, and the endpoints of the server
+pub record Filter : Type 0 where
+  pub rules : List Rule
+  pub endpoints : List Endpoint
+
+-- nothing is sent to port 0, to an endpoint of the server, or to an address that is denied
+abbrev pub allows : Filter → Addr → Bool
+allows filter peer = not (nat_eq (port_of peer) 0)
+    && (not (list_any (is_at peer) filter.endpoints) && is_allowed_by (deciding_rule filter.rules peer))
+
+-- the rules that hold without options
+abbrev pub default_rules : Loopback → List Rule
+default_rules loopback = ALWAYS_DENIED
+    ++ (if loopback.ipv4 then [] else LOOPBACK_V4 ∷ []) ++ (if loopback.ipv6 then [] else LOOPBACK_V6 ∷ [])
+
+-- the filter that is made, or the first limit that is passed
+abbrev pub IsMade : Loopback → List Endpoint → List Rule → Result Filter FilterError → Type 0
+IsMade loopback endpoints rules (Ok filter) = (filter ≡ record { rules = default_rules loopback ++ rules; endpoints = endpoints })
+    × ((length rules ≤ MAX_RULES) × (length endpoints ≤ MAX_ENDPOINTS))
+IsMade loopback endpoints rules (Err Rules) = MAX_RULES < length rules
+IsMade loopback endpoints rules (Err Endpoints) = (length rules ≤ MAX_RULES) × (MAX_ENDPOINTS < length endpoints)

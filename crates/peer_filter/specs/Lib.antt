@@ -1,0 +1,4 @@
+-- Internal. The modules of this folder.
+pub mod Defaults
+pub mod Filters
+pub mod Networks

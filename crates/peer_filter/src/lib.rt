@@ -1,0 +1,16 @@
+//! Which peers a server sends to: rules over networks, and the server's own endpoints.
+#![tactic(auto)]
+
+mod defaults;
+mod filter;
+mod laws;
+mod network;
+mod rule;
+#[cfg(test)]
+mod tests;
+mod text;
+
+pub use filter::{FilterError, MAX_ENDPOINTS, MAX_RULES, PeerFilter};
+pub use laws::{defaults_deny_v4, defaults_deny_v6, longest_prefix_decides};
+pub use network::{Network, NetworkError};
+pub use rule::{Action, Endpoint, Loopback, Rule};

@@ -1,0 +1,96 @@
+//! Rules over networks, and endpoints.
+
+ghost use Rattle.std.specs.Prelude.{◌≡◌};
+ghost use Rattle.std.specs.Ordering.{eq_by_cmp};
+ghost use Rattle.attributes.specs.Addresses.{ip_of};
+ghost use Rattle.attributes.specs.AddressOrder.{ip_cmp};
+
+use crate::network::Network;
+use attributes::Addr;
+
+/// What a rule does with the addresses of its network.
+#[derive(Clone, Copy, Debug, PartialEq, Eq)]
+pub enum Action {
+    Deny,
+    Allow,
+}
+
+impl Action {
+    ghost use Rattle.std.specs.Prelude.{◌≡◌};
+    ghost use Rattle.peer_filter.specs.Filters.{is_allow};
+
+    /// Returns whether the action is to allow.
+    pub(crate) fn is_allow(self) -> bool
+        ensures { result ≡ is_allow self }
+    {
+        match self {
+            Action::Deny => false,
+            Action::Allow => true,
+        }
+    }
+}
+
+/// A network that is denied or allowed.
+#[derive(Clone, Copy, Debug, PartialEq, Eq)]
+pub struct Rule {
+    pub network: Network,
+    pub action: Action,
+}
+
+impl Default for Rule {
+    /// Denies 0.0.0.0/0.
+    fn default() -> Self {
+        Rule {
+            network: Network::V4 {
+                address: 0,
+                bits: 0,
+            },
+            action: Action::Deny,
+        }
+    }
+}
+
+/// An endpoint of the server, to which nothing is sent.
+#[derive(Clone, Copy, Debug, PartialEq, Eq)]
+pub enum Endpoint {
+    /// One transport address.
+    At(Addr),
+    /// A port of every address.
+    Port(u16),
+}
+
+impl Default for Endpoint {
+    /// The port 0 of every address.
+    fn default() -> Self {
+        Endpoint::Port(0)
+    }
+}
+
+/// Returns whether two addresses have the same IP address.
+fn is_same_ip(a: &Addr, b: &Addr) -> bool
+    ensures { result ≡ eq_by_cmp ip_cmp (ip_of a.now) (ip_of b.now) }
+{
+    a.cmp_ip(b).is_eq()
+}
+
+impl Endpoint {
+    ghost use Rattle.std.specs.Prelude.{◌≡◌};
+    ghost use Rattle.peer_filter.specs.Filters.{is_at};
+
+    /// Returns whether the endpoint is that of a peer.
+    pub fn is_at(&self, peer: &Addr) -> bool
+        ensures { result ≡ is_at peer.now self.now }
+    {
+        match self {
+            Endpoint::At(address) => { address.port() == peer.port() && is_same_ip(address, peer) }
+            Endpoint::Port(port) => *port == peer.port(),
+        }
+    }
+}
+
+/// In which families the server listens on its loopback interface. The rule that denies it is then left out.
+#[derive(Clone, Copy, Debug, PartialEq, Eq)]
+pub struct Loopback {
+    pub ipv4: bool,
+    pub ipv6: bool,
+}
