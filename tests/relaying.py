@@ -423,6 +423,12 @@ def stored():
     return [f"model: {e}" for e, a in zip(events, answers, strict=True) if answer_line(rules.answer(event_of(e))) != a]
 
 
+def denied():
+    """Lists of events with the answers where clients send nothing to private networks, and their options."""
+    from private_peers import private_rows  # it uses this module
+    return private_rows()
+
+
 def main():
     build()
     failures = [*texts(), *stored()]
@@ -458,6 +464,10 @@ def main():
                 count += len(events)
         for kind, events in (("one after another", systematic()), ("seeded", pairs)):
             failures += compare(folder, f"{kind}, the programs of before", events, before)
+            count += len(events)
+        deny = ["--client", program(folder, "deny_private", "client")]
+        for events, words in denied():
+            failures += compare(folder, "deny_private", events, [*deny, *words])
             count += len(events)
         for program_name, events, words in (*odd_programs(folder), ("odd moments", odd_moments(), []), ("cut datagrams", cut_datagrams(), [])):
             failures += compare(folder, program_name, events, words)
