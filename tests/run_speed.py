@@ -1,9 +1,9 @@
-"""Prints how long an instruction takes in `run`, beside a plain interpreter in C, a switch without tests.
+"""Prints how long an instruction takes in `run`, beside two plain interpreters in C without tests: a switch, and a threaded one.
 
     tests/run_speed.py
 
-What a run takes is the lowest time of a start with its run less the lowest of a start. The two interpreters take turns,
-and the lowest time of each counts. No time is asserted; the verdicts of both have to be the same. Needs gcc.
+What a run takes is the lowest time of a start with its run less the lowest of a start. The interpreters take turns, and the lowest
+time of each counts. No time is asserted; the verdicts of all have to be the same. Needs gcc.
 """
 
 import pathlib
@@ -83,15 +83,16 @@ def printed(words):
 
 
 class Taken(NamedTuple):
-    """The steps of a run, and the nanoseconds of a start, of the run after it, and of the run in C."""
+    """The steps of a run, and the nanoseconds of a start, of the run after it, and of the runs in C, of a switch and threaded."""
 
     steps: int
     start: float
     run: float
-    beside: float
+    switch: float
+    threaded: float
 
 
-def measure(tool, side, program, datagram):
+def measure(tools, side, program, datagram):
     """Returns the steps of a program over a datagram, and what it takes by the lowest times.
 
     Different verdicts end the script.
@@ -101,12 +102,13 @@ def measure(tool, side, program, datagram):
     rounds = []
     for _ in range(ROUNDS):
         found = printed([PROGRAM, side, program, datagram.hex(), count])
-        beside = printed([tool, program, datagram.hex(), count])
-        if found["verdict"] != beside["verdict"]:
-            sys.exit(f"verdict {found['verdict']:.0f}, in C {beside['verdict']:.0f}")
-        rounds.append((found["start"], found["run"], beside["run"]))
-    start, both, other = (min(times) for times in zip(*rounds))
-    return Taken(int(first["steps"]), start, both - start, other)
+        beside = [printed([tool, program, datagram.hex(), count]) for tool in tools]
+        for other in beside:
+            if found["verdict"] != other["verdict"]:
+                sys.exit(f"verdict {found['verdict']:.0f}, in C {other['verdict']:.0f}")
+        rounds.append((found["start"], found["run"], *(other["run"] for other in beside)))
+    start, both, *others = (min(times) for times in zip(*rounds))
+    return Taken(int(first["steps"]), start, both - start, *others)
 
 
 def programs():
@@ -130,13 +132,14 @@ def main():
                    capture_output=True, check=True)
     with tempfile.TemporaryDirectory() as name:
         folder = pathlib.Path(name)
-        tool = folder / "run_speed"
-        subprocess.run(["gcc", "-O2", "-o", tool, SOURCE], check=True)
+        tools = folder / "switch", folder / "threaded"
+        for tool, flags in zip(tools, ([], ["-DTHREADED"])):
+            subprocess.run(["gcc", "-O2", *flags, "-o", tool, SOURCE], check=True)
         for title, side, text, datagram in programs():
-            taken = measure(tool, side, assembled(folder, text), datagram)
+            taken = measure(tools, side, assembled(folder, text), datagram)
             print(f"{title}: {taken.steps} steps, a start {taken.start:.1f} ns, a run {taken.run:.1f}, "
-                  f"{taken.run / taken.steps:.2f} an instruction; in C {taken.beside:.1f}, "
-                  f"{taken.beside / taken.steps:.2f}; ratio {taken.run / taken.beside:.2f}", flush=True)
+                  f"{taken.run / taken.steps:.2f} an instruction; in C {taken.switch:.1f} and threaded {taken.threaded:.1f}; "
+                  f"ratios {taken.run / taken.switch:.2f} and {taken.run / taken.threaded:.2f}", flush=True)
 
 
 if __name__ == "__main__":
