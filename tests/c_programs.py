@@ -9,6 +9,7 @@ import collections
 import itertools
 import os
 import pathlib
+import re
 import shutil
 import subprocess
 import sys
@@ -22,6 +23,7 @@ from rules import DATA, XOR_PEER_ADDRESS, Rules, read
 
 FOLDER = TOP / "examples" / "c"
 COMPILED = FOLDER / "compiled"
+PAGE = TOP / "docs" / "C.md"
 # each text with the options that load its program, and the sides that it is for
 SIDES = {
     "client": ["--client"], "peer": ["--peer"], "deny_private": ["--client"], "media_only": ["--client"],
@@ -132,6 +134,15 @@ def compiled(environment, folder):
         yield programs, None
 
 
+def text_of_page(environment, folder):
+    """Yields what is said of the C text of the page, where it isn't accepted."""
+    path = folder / "mine.c"
+    path.write_text(re.search(r"^```c\n(.*?)^```$", PAGE.read_text(encoding="utf-8"), re.MULTILINE | re.DOTALL)[1], encoding="utf-8")
+    status, printed = compile_text(environment, path, folder / "mine.bpf", "")
+    if status or not printed.startswith("accepted "):
+        yield f"the text of {PAGE.name}: {printed}"
+
+
 def wrong_texts(environment, folder):
     """Yields the texts that can't become a program, where that isn't said."""
     for number, (text, said) in enumerate(WRONG):
@@ -154,7 +165,7 @@ def main():
         environment = compiler()
         passed_over = "" if environment else "; clang or LLVM's objcopy or readelf isn't there, and nothing was compiled"
         if environment:
-            failures += wrong_texts(environment, folder)
+            failures += [*text_of_page(environment, folder), *wrong_texts(environment, folder)]
             # one list of events for each program, and its beginning
             short = list({name: (name, pairs[:FEW], words) for name, pairs, words in reversed(events)}.values())
             for programs, failure in compiled(environment, folder):

@@ -2,12 +2,15 @@
 
 Each page has a folder of its own, in which examples/ is. A block `asm` is assembled to program.bpf. A block
 `console` has lines `$ relayd WORD..` or `$ ./relayd WORD..`, each with what that command prints, and lines
-`$ cat FILE.. > FILE`. A block `sh` has commands, of which those of relayd are run and have to succeed.
+`$ cat FILE.. > FILE`. A block `sh` has commands, of which those of relayd are run and have to succeed. The unit of systemd is read by
+`systemd-analyze`, where that is installed.
 """
 
 import pathlib
 import re
 import shlex
+import shutil
+import subprocess
 import sys
 import tempfile
 
@@ -47,6 +50,20 @@ def failures_of_block(kind, text, folder):
                 yield command
 
 
+def failures_of_unit():
+    """Yields what systemd says of the unit, with a program that is there in place of relayd."""
+    tool = shutil.which("systemd-analyze")
+    if tool is None:
+        return
+    with tempfile.TemporaryDirectory() as name:
+        unit = pathlib.Path(name) / "relayd.service"
+        text = (TOP / "examples" / "relayd.service").read_text(encoding="utf-8")
+        unit.write_text(text.replace("/usr/local/bin/relayd", "/bin/true"), encoding="utf-8")
+        ran = subprocess.run([tool, "verify", unit], capture_output=True, text=True, check=False)
+        if ran.returncode or ran.stderr:
+            yield f"examples/relayd.service: {ran.stderr}"
+
+
 def failures_of_page(page, blocks):
     """Yields the blocks of a page that do otherwise than they say."""
     with tempfile.TemporaryDirectory() as name:
@@ -61,6 +78,7 @@ def main():
     """Runs every block, and returns the exit status."""
     blocks = {page: BLOCK.findall(page.read_text(encoding="utf-8")) for page in PAGES}
     failures = [failure for page, found in blocks.items() for failure in failures_of_page(page, found)]
+    failures += failures_of_unit()
     count = sum(len(found) for found in blocks.values())
     if not count:
         failures.append("no blocks")

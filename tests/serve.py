@@ -14,6 +14,7 @@ import itertools
 import os
 import pathlib
 import random
+import re
 import shutil
 import signal
 import socket
@@ -23,7 +24,8 @@ import sys
 import tempfile
 import time
 
-from program import PROGRAM, TOP, build, finish, run
+import program
+from program import PROGRAM, TOP, build, finish
 from rules import (
     ALLOCATE, BINDING, CHANNEL_BIND, CHANNEL_NUMBER, CREATE_PERMISSION, DATA, DATA_INDICATION, ERROR_CODE, FAMILY, INTEGRITY,
     LIFETIME, NONCE, REALM, REFRESH, SEND, TRANSPORT, USERNAME, XOR_MAPPED_ADDRESS, XOR_PEER_ADDRESS,
@@ -114,6 +116,17 @@ MOST_SLOTS, USED_SLOTS = 256, (0, 69, 254, 255)
 PASSED_OVER = []
 
 
+def without_buffers(printed):
+    """What a server printed, without the line that says how small the system's limits make its buffers."""
+    return re.sub(r"\Abuffers of \d+ bytes, not .*\n", "", printed)
+
+
+def run(words, **options):
+    """Runs the program, and returns its status and what it printed, without the line of buffers."""
+    status, out, err = program.run(words, **options)
+    return status, out, err and without_buffers(err)
+
+
 def udp_socket(port=0, address="127.0.0.1"):
     """A socket of loopback, of either family, whose receives give up after five seconds."""
     bound = socket.socket(socket.AF_INET6 if ":" in address else socket.AF_INET, socket.SOCK_DGRAM)
@@ -192,7 +205,11 @@ class Server:
             time.sleep(0.001)
 
     def printed(self):
-        """What was printed to the standard error so far."""
+        """What was printed to the standard error so far, without the line of buffers."""
+        return without_buffers(self.all_printed())
+
+    def all_printed(self):
+        """All that was printed to the standard error so far."""
         return os.pread(self.errors.fileno(), 1 << 20, 0).decode()
 
     def awaited(self, text, count=1):
@@ -291,8 +308,18 @@ def wanted(what, found, expected):
         yield f"{what}: {found!r} in place of {expected!r}"
 
 
+def started(port, first, last, address="127.0.0.1", relayed=("127.0.0.1",)):
+    """The lines of a server that begins, with the ports of its clients and of its first and last slot."""
+    return f"listening {address}:{port}\n" + "".join(f"relaying {ip}:{first} to {last}\n" for ip in relayed)
+
+
+def fault_line(receive=0, send=0):
+    """The line of receives and sends that failed."""
+    return f"receive faults {receive} send faults {send}\n"
+
+
 def counters(from_clients=0, from_peers=0, to_peers=0, to_clients=0, granted=0, challenged=0, refused=0,
-             discarded=(0, 0, 0, 0), receive_faults=0, send_faults=0):
+             discarded=(0, 0, 0, 0), receive_faults=0, send_faults=0, denied=0):
     """The line of counters.
 
     What is discarded is ChannelData, messages and others of clients, and what comes from peers.
@@ -302,7 +329,7 @@ def counters(from_clients=0, from_peers=0, to_peers=0, to_clients=0, granted=0, 
             f"relayed to peers {to_peers} clients {to_clients}, "
             f"granted {granted} challenged {challenged} refused {refused}, "
             f"discarded channel data {of_channels} messages {messages} others {others} from peers {of_peers}, "
-            f"receive faults {receive_faults} send faults {send_faults}\n")
+            f"receive faults {receive_faults} send faults {send_faults}, denied {denied} dropped 0\n")
 
 
 # ---- command lines and sockets
@@ -317,6 +344,9 @@ def refused_lines():
         port = ["--port", taken]
         free = str(free_ports(2))
         value = "error: invalid value '{}' for '{}'\n".format
+        in_use = "cannot bind {}\naddress in use\n".format
+        network = "error: invalid value '{}' for '{}': {}\n".format
+        many = [word for number in range(65) for word in ("--deny", f"192.0.2.{number}/32")]
         needs = "error: '--user <NAME:PASSWORD>' or '--users <FILE>' is required\n"
         cases = [
             (["--port", "x"], 2, value("x", "--port <P>")),
@@ -333,10 +363,26 @@ def refused_lines():
             ([*port, *USER, "--peer", str(bad), "--slots", "0"], 1, "refused V5 at 0\n"),
             ([*port, *USER, "--slots", "0"], 1, "refused slots\n"),
             ([*port, *USER, "--first-port", "65535", "--slots", "2"], 1, "refused slots\n"),
-            ([*port, *USER, "--first-port", taken], 3, f"cannot bind 127.0.0.1:{taken}\n"),
-            (["--port", "0", *USER, "--first-port", taken], 3, f"cannot bind 127.0.0.1:{taken}\n"),
-            (["--port", free, *USER, "--first-port", free], 3, f"cannot bind 127.0.0.1:{free}\n"),
-            (["--port", "0", *USER, "--listen", "192.0.2.1"], 3, "cannot bind 192.0.2.1:0\n"),
+            ([*port, *USER, "--first-port", taken], 3, in_use(f"127.0.0.1:{taken}")),
+            (["--port", "0", *USER, "--first-port", taken], 3, in_use(f"127.0.0.1:{taken}")),
+            (["--port", free, *USER, "--first-port", free], 3, in_use(f"127.0.0.1:{free}")),
+            ([*port, *USER, "--reuse-port"], 3, in_use(f"127.0.0.1:{taken}")),
+            (["--port", "0", *USER, "--listen", "192.0.2.1"], 3, "cannot bind 192.0.2.1:0\nnot an address of this machine\n"),
+            ([*port, *USER, "--buffer", "0"], 2, value("0", "--buffer <BYTES>")),
+            ([*port, *USER, "--buffer", "1073741824"], 2, value("1073741824", "--buffer <BYTES>")),
+            ([*port, *USER, "--buffer", "4MB", "--deny", "x"], 2, value("4MB", "--buffer <BYTES>")),
+            ([*port, "--deny", "10.0.0.0"], 2, network("10.0.0.0", "--deny <NETWORK>", "not ADDRESS/BITS")),
+            ([*port, "--allow", "x", "--deny", "10.0.0.0/33"], 2,
+             network("10.0.0.0/33", "--deny <NETWORK>", "more bits than the address has")),
+            ([*port, "--allow", "fd00::1/8", "--slots", "x"], 2,
+             network("fd00::1/8", "--allow <NETWORK>", "a bit after the prefix is set")),
+            ([*port, *many], 2, "error: more than 64 rules of '--deny <NETWORK>' and '--allow <NETWORK>'\n"),
+            ([*port, *USER, "--listen", "0.0.0.0", "--slots", "0"], 2,
+             "error: '--relay-ip <A>' is required with '--listen 0.0.0.0'\n"),
+            ([*port, *USER, "--relay-ip", "0.0.0.0", "--slots", "0"], 1, "refused slots\n"),
+            ([*port, *USER, "--relay-ip", "0.0.0.0"], 1, "refused ip\n"),
+            ([*port, *USER, "--relay-ip", "224.0.0.1"], 1, "refused ip\n"),
+            ([*port, *USER, "--relay-ip", "255.255.255.255", "--listen6", "::"], 1, "refused ip\n"),
             ([*port, "--listen6", "127.0.0.1", *USER], 2, value("127.0.0.1", "--listen6 <A>")),
             ([*port, "--listen6", "[::1]", "--stats", "0", *USER], 2, value("[::1]", "--listen6 <A>")),
             ([*port, "--listen6", "::1", "--relay-ip6", "::1", *USER], 2, value("::1", "--relay-ip6 <HEX>")),
@@ -345,8 +391,9 @@ def refused_lines():
             ([*port, "--listen6", "::", *USER], 1, "refused ip6\n"),
             ([*port, "--listen6", "ff02::1", *USER], 1, "refused ip6\n"),
             ([*port, "--listen6", "::1", "--relay-ip6", "0" * 32, *USER], 1, "refused ip6\n"),
-            ([*port, "--listen6", "::1", *USER], 3, f"cannot bind 127.0.0.1:{taken}\n"),
-            (["--port", "0", *USER, "--listen6", "2001:db8::1", "--first-port", free], 3, f"cannot bind [2001:db8::1]:{free}\n"),
+            ([*port, "--listen6", "::1", *USER], 3, in_use(f"127.0.0.1:{taken}")),
+            (["--port", "0", *USER, "--listen6", "2001:db8::1", "--first-port", free], 3,
+             f"cannot bind [2001:db8::1]:{free}\nnot an address of this machine\n"),
         ]
         for words, status, printed in cases:
             yield from wanted(" ".join(words), run(["serve", "--rounds", "0", *words]), (status, "", printed))
@@ -358,7 +405,7 @@ def rounds():
     port = first + 1
     slots = ["--first-port", str(first), "--slots", "1"]
     words = ["serve", "--port", str(port), *USER, *slots]
-    listening = f"listening 127.0.0.1:{port}\n"
+    listening = started(port, first, first)
     value = "error: invalid value '-1' for '--rounds <N>'\n"
     yield from wanted("rounds below 0", run([*words, "--rounds=-1"]), (2, "", value))
     yield from wanted("no rounds", run([*words, "--rounds", "0"]), (0, listening, ""))
@@ -374,9 +421,9 @@ def addresses():
     first = free_ports(2, address)
     words = ["serve", "--port", str(first + 1), "--first-port", str(first), "--slots", "1", "--listen", address,
              "--users", TOP / "examples" / "users.txt", "--rounds", "0"]
-    yield from wanted("--listen", run(words), (0, f"listening {address}:{first + 1}\n", ""))
+    yield from wanted("--listen", run(words), (0, started(first + 1, first, first, address, [address]), ""))
     with udp_socket(first, address):
-        yield from wanted("slot 0's port in use", run(words), (3, "", f"cannot bind {address}:{first}\n"))
+        yield from wanted("slot 0's port in use", run(words), (3, "", f"cannot bind {address}:{first}\naddress in use\n"))
 
 
 def addresses6():
@@ -384,13 +431,15 @@ def addresses6():
     its own."""
     first = free_ports(2)
     words = ["serve", *USER, "--rounds", "0", "--port", str(first + 1), "--first-port", str(first), "--slots", "1"]
-    listening = f"listening 127.0.0.1:{first + 1}\n"
-    any_address = ["--listen", "0.0.0.0", "--listen6", "::", "--relay-ip6", LOOPBACK6.hex()]
-    yield from wanted("--listen6", run([*words, "--listen6", "::1"]), (0, listening, ""))
-    yield from wanted("all addresses", run([*words, *any_address]), (0, f"listening 0.0.0.0:{first + 1}\n", ""))
+    both = "127.0.0.1", "[::1]"
+    any_address = ["--listen", "0.0.0.0", "--relay-ip", "127.0.0.1", "--listen6", "::", "--relay-ip6", LOOPBACK6.hex()]
+    yield from wanted("--listen6", run([*words, "--listen6", "::1"]), (0, started(first + 1, first, first, relayed=both), ""))
+    found = run([*words, *any_address])
+    yield from wanted("all addresses", found, (0, started(first + 1, first, first, "0.0.0.0", both), ""))
     with udp_socket(first, "::1"):
-        yield from wanted("another family's port in use", run(words), (0, listening, ""))
-        yield from wanted("its own port in use", run([*words, "--listen6", "::1"]), (3, "", f"cannot bind [::1]:{first}\n"))
+        yield from wanted("another family's port in use", run(words), (0, started(first + 1, first, first), ""))
+        found = run([*words, "--listen6", "::1"])
+        yield from wanted("its own port in use", found, (3, "", f"cannot bind [::1]:{first}\naddress in use\n"))
 
 
 def default_ports():
@@ -399,7 +448,7 @@ def default_ports():
     Where another socket has it, of this script or of anyone, the line is the same.
     """
     words = ["serve", "--rounds", "0", "--port", "49152", "--user", "u:p"]
-    cannot_bind = 3, "", "cannot bind 127.0.0.1:49152\n"
+    cannot_bind = 3, "", "cannot bind 127.0.0.1:49152\naddress in use\n"
     yield from wanted("slot 0's port for clients", run(words), cannot_bind)
     with contextlib.ExitStack() as stack:
         with contextlib.suppress(OSError):  # someone else has it
@@ -434,7 +483,7 @@ def counted_rounds():
                 break
         with open(read_end, "rb") as output:
             output.read()
-        printed = process.stderr.read()
+        printed = without_buffers(process.stderr.read())
         client.setblocking(False)
         answers = 0
         with contextlib.suppress(BlockingIOError, ConnectionRefusedError):
@@ -449,9 +498,9 @@ def default_slots():
     first = free_ports(18)
     words = ["serve", "--port", str(first + 17), "--first-port", str(first), "--rounds", "0", *USER]
     with udp_socket(first + 15):
-        yield from wanted("slot 15's port in use", run(words), (3, "", f"cannot bind 127.0.0.1:{first + 15}\n"))
+        yield from wanted("slot 15's port in use", run(words), (3, "", f"cannot bind 127.0.0.1:{first + 15}\naddress in use\n"))
     with udp_socket(first + 16):
-        yield from wanted("the next port in use", run(words), (0, f"listening 127.0.0.1:{first + 17}\n", ""))
+        yield from wanted("the next port in use", run(words), (0, started(first + 17, first, first + 15), ""))
 
 
 def receives_of_rounds():
@@ -608,7 +657,7 @@ def faults():
         given = [(XOR_PEER_ADDRESS, address_value((bytes([192, 0, 2, 1]), 5000)))]
         yield from wanted("CreatePermission", code_of(client.signed(CREATE_PERMISSION, given)), 0)
         client.send(message(SEND, random.randbytes(12), [*given, (DATA, b"lost")]))
-        yield from wanted("lines of a send fault", server.awaited("send fault\n"), 1)
+        yield from wanted("lines of a send fault", server.awaited(fault_line(send=1)), 1)
         yield from wanted("Binding after it", client.ask(BINDING, []).kind, BINDING | 0x100)
         if not server.awaited(counters(from_clients=5, granted=3, challenged=1, send_faults=1)):
             yield f"other counters: {server.printed()!r}"
@@ -648,7 +697,7 @@ def failed_receive(server, what):
     """Yields what a server with a receive that fails does otherwise than print it, count it, and answer requests."""
     with Client(server) as client:
         answers = [client.ask(BINDING, []).kind for _ in range(3)]
-        yield from wanted(f"{what}, lines of its fault", server.awaited("receive fault\n"), 1)
+        yield from wanted(f"{what}, lines of its fault", server.awaited(fault_line(receive=1)), 1)
         answers.append(client.ask(BINDING, []).kind)
         yield from wanted(what, answers, 4 * [BINDING | 0x100])
         if not server.awaited(counters(from_clients=4, granted=4, receive_faults=1)):
@@ -665,7 +714,7 @@ def failed_ahead(server, what):
                     client.send(message(BINDING, random.randbytes(12), []))
             answers += [read(client.receive()).kind for _ in range(BATCH_OF_REQUESTS)]
         yield from wanted(what, answers, count * [BINDING | 0x100])
-        yield from wanted(f"{what}, lines of its fault", server.awaited("receive fault\n"), 1)
+        yield from wanted(f"{what}, lines of its fault", server.awaited(fault_line(receive=1)), 1)
         if not server.awaited(counters(from_clients=count, granted=count, receive_faults=1)):
             yield f"{what}, other counters: {server.printed()!r}"
 

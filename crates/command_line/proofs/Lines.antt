@@ -3,7 +3,7 @@ use Rattle.std.proofs.Common.{◌≡◌, ◌∙◌, ap, ◌++◌, arith, ℕ, Bo
 use Rattle.std.specs.Prelude.{option_map}
 use Rattle.std.proofs.lemmas.Option.{none-some, same_Some}
 use Rattle.clap.specs.Kinds.{Kinds}
-use Rattle.clap.specs.Words.{FailsBy, HasKind, App, HasMatchesOf, Text, Row, fault_of, first_of, is_simple_and_free, kind_of, subcommand_rows_of}
+use Rattle.clap.specs.Words.{FailsBy, HasKind, App, HasMatchesOf, Text, Row, fault_of, first_of, is_simple_and_free, kind_of, one_of, subcommand_rows_of}
 use Rattle.clap.specs.Walk.{Held}
 use Rattle.clap.specs.declared.error.Error.{Error}
 use Rattle.clap.specs.declared.error.kind.ErrorKind.TheVariants.{OutOfMemory}
@@ -132,21 +132,24 @@ every_read : (name events : Text) (g : GivenOptions) (nonce : Text) → IsOperan
 every_read name events g nonce e =
     replay_made_of name events (Some nonce) (every_words g nonce) (every_option g) (every_held g nonce) e (every_options g nonce) (every_texts events g nonce)
 
--- the line has no fault, and its subcommand is serve with these texts
-pub record ReadsServer (words : List Text) (server : ServerTexts) (texts : Texts) : Type 0 where
+-- the line has no fault, and its subcommand is serve with these texts and this value of the flag
+pub record ReadsServer (words : List Text) (server : ServerTexts) (reuse_port : Text) (texts : Texts) : Type 0 where
   pub good : faults_of words ≡ []
   pub name_is : option_map (λ p. p.0) (subcommand_in words) ≡ Some (codes "serve")
   pub server_is : option_map (λ p. server_texts_in p.1) (subcommand_in words) ≡ Some server
+  pub flag_is : option_map (λ p. flag_of p (codes "reuse-port")) (subcommand_in words) ≡ Some (Some reuse_port)
   pub texts_is : option_map (λ p. texts_in p.1) (subcommand_in words) ≡ Some texts
 
 -- what clap makes of the options of a server
-serve_made_of : (name : Text) (words : List Text) (server : ServerTexts) (texts : Texts) (h : Held) → IsServing words h server texts
-    → ReadsServer (name ∷ codes "serve" ∷ words) server texts
-serve_made_of name words server texts h o = record {
+serve_made_of : (name : Text) (words : List Text) (server : ServerTexts) (reuse_port : Text) (texts : Texts) (h : Held)
+    → IsServing words h server reuse_port texts → ReadsServer (name ∷ codes "serve" ∷ words) server reuse_port texts
+serve_made_of name words server reuse_port texts h o = record {
   good = serve_faults name words ∙ (all_options serve_shape words h o.walks o.passes ∙ o.good);
   name_is = ap (option_map (λ p. p.0)) (serve_rows name words);
   server_is = ap (option_map (λ p. server_texts_in p.1)) (serve_rows name words)
       ∙ ap (λ rows. Some (server_texts_in rows)) (options_rows serve_shape words h o.walks) ∙ ap Some o.server_is;
+  flag_is = ap (option_map (λ p. flag_of p (codes "reuse-port"))) (serve_rows name words)
+      ∙ ap (λ rows. Some (one_of (codes "reuse-port") rows)) (options_rows serve_shape words h o.walks) ∙ ap Some o.flag_is;
   texts_is = ap (option_map (λ p. texts_in p.1)) (serve_rows name words)
       ∙ ap (λ rows. Some (texts_in rows)) (options_rows serve_shape words h o.walks) ∙ ap Some o.texts_is;
 }
@@ -168,13 +171,19 @@ events_collected : (o : Option (Text × List Row)) (events : Text) (given : Opti
 events_collected None events given texts n f g d = absurd (none-some (codes "replay") n)
 events_collected (Some p) events given texts n f g d = (same_Some _ _ n, same_Some _ _ f, same_Some _ _ g, same_Some _ _ d)
 
-abbrev HasServer : ServerTexts → Texts → Text × List Row → Type 0
-HasServer server texts p = (p.0 ≡ codes "serve") × (server_texts_in p.1 ≡ server) × (texts_in p.1 ≡ texts)
+abbrev HasServer : ServerTexts → Text → Texts → Text × List Row → Type 0
+HasServer server reuse_port texts p = (p.0 ≡ codes "serve") × (server_texts_in p.1 ≡ server)
+    × (flag_of p (codes "reuse-port") ≡ Some reuse_port) × (texts_in p.1 ≡ texts)
 
-server_collected : (o : Option (Text × List Row)) (server : ServerTexts) (texts : Texts) → option_map (λ p. p.0) o ≡ Some (codes "serve")
-    → option_map (λ p. server_texts_in p.1) o ≡ Some server → option_map (λ p. texts_in p.1) o ≡ Some texts → IsSomeAnd o (HasServer server texts)
-server_collected None server texts n f d = absurd (none-some (codes "serve") n)
-server_collected (Some p) server texts n f d = (same_Some _ _ n, same_Some _ _ f, same_Some _ _ d)
+server_collected : (words : List Text) (server : ServerTexts) (reuse_port : Text) (texts : Texts) (o : Option (Text × List Row)) → o ≡ subcommand_in words
+    → ReadsServer words server reuse_port texts → IsSomeAnd o (HasServer server reuse_port texts)
+server_collected words server reuse_port texts None same r = absurd (none-some (codes "serve") (ap (option_map (λ p. p.0)) same ∙ r.name_is))
+server_collected words server reuse_port texts (Some p) same r = (
+  same_Some _ _ (ap (option_map (λ p. p.0)) same ∙ r.name_is),
+  same_Some _ _ (ap (option_map (λ p. server_texts_in p.1)) same ∙ r.server_is),
+  same_Some _ _ (ap (option_map (λ p. flag_of p (codes "reuse-port"))) same ∙ r.flag_is),
+  same_Some _ _ (ap (option_map (λ p. texts_in p.1)) same ∙ r.texts_is),
+)
 
 files_collected : (o : Option (Text × List Row)) (name input output : Text) → option_map (λ p. p.0) o ≡ Some name
     → option_map (λ p. argument_value p (codes "in")) o ≡ Some (Some input) → option_map (λ p. argument_value p (codes "out")) o ≡ Some (Some output)
@@ -241,10 +250,13 @@ replay_made words events nonce options r = record {
   subcommand = events_collected (subcommand_in words) events.now (text_of nonce) (texts_of options) r.name_is r.events_is r.nonce_is r.texts_is;
 }
 
-serve_made : (words : List Text) (server : ServerOptions) (options : Options) → ReadsServer words (server_texts_of server) (texts_of options) → Makes words (Serve server options)
-serve_made words server options r = record {
+serve_made : (words : List Text) (server : ServerOptions) (options : Options) (value : Text) → IsFlag (Some value) server.reuse_port
+    → ReadsServer words (server_texts_of server) value (texts_of options) → Makes words (Serve server options)
+serve_made words server options value says r = record {
   good = r.good;
-  subcommand = server_collected (subcommand_in words) (server_texts_of server) (texts_of options) r.name_is r.server_is r.texts_is;
+  subcommand = weaker (subcommand_in words) (HasServer (server_texts_of server) value (texts_of options)) (λ p. IsSubcommand p (Serve server options))
+      (λ p h. (h.0, h.1, subst (λ o. IsFlag o server.reuse_port) (sym h.2) says, h.3))
+      (server_collected words (server_texts_of server) value (texts_of options) (subcommand_in words) refl r);
 }
 
 with_events : (events : Text) (nonce : Option Text) (texts : Texts) (words : List Text) → IsOperand events → IsReplayLine events nonce texts words
@@ -259,18 +271,6 @@ with_events events nonce texts words o (name, inr (g, (given, (n, (t, w))))) =
     (subst (λ t. ReadsEvents (name ∷ codes "replay" ∷ options_before g ((codes "--nonce=" ++ given) ∷ events ∷ [])) events nonce t) (sym t)
     (subst (λ n. ReadsEvents (name ∷ codes "replay" ∷ options_before g ((codes "--nonce=" ++ given) ∷ events ∷ [])) events n (every_option g)) (sym n)
     (every_read name events g given o)))
-
-with_server : (server : ServerTexts) (texts : Texts) (words : List Text) → IsServeLine server texts words → ReadsServer words server texts
-with_server server texts words (name, inl (port, (file, (s, (t, w))))) =
-    subst (λ w. ReadsServer w server texts) (sym w)
-    (subst (λ t. ReadsServer (name ∷ codes "serve" ∷ port_words port file) server t) (sym t)
-    (subst (λ s. ReadsServer (name ∷ codes "serve" ∷ port_words port file) s (only_users_file file)) (sym s)
-    (serve_made_of name (port_words port file) (only_port port) (only_users_file file) (port_held port file) (port_serves port file))))
-with_server server texts words (name, inr (given, (g, (s, (t, w))))) =
-    subst (λ w. ReadsServer w server texts) (sym w)
-    (subst (λ t. ReadsServer (name ∷ codes "serve" ∷ all_words given g) server t) (sym t)
-    (subst (λ s. ReadsServer (name ∷ codes "serve" ∷ all_words given g) s (every_option g)) (sym s)
-    (serve_made_of name (all_words given g) (every_server_option given) (every_option g) (all_held given g) (all_serve given g))))
 
 with_data : (file hex : Bor Text) (words : List Text) → IsOperand file.now → IsTraceLine file.now hex.now words → Reads words (codes "trace") file.now (Some hex.now)
 with_data file hex words o (name, inl l) = subst (λ w. Reads w (codes "trace") file.now (Some hex.now)) (sym l.1) (data_last name file.now hex.now o l.0)
@@ -303,6 +303,21 @@ says_true = record {
   missing = λ e. absurd (none-some (codes "true") (sym e));
 }
 
+with_server : (server : ServerOptions) (options : Options) (words : List Text) → IsServeLine (server_texts_of server) server.reuse_port (texts_of options) words
+    → Makes words (Serve server options)
+with_server server options words (name, inl (port, (file, (s, (r, (t, w)))))) =
+    serve_made words server options (codes "false") (subst (IsFlag (Some (codes "false"))) (sym r) says_false)
+    (subst (λ w. ReadsServer w (server_texts_of server) (codes "false") (texts_of options)) (sym w)
+    (subst (λ t. ReadsServer (name ∷ codes "serve" ∷ port_words port file) (server_texts_of server) (codes "false") t) (sym t)
+    (subst (λ s. ReadsServer (name ∷ codes "serve" ∷ port_words port file) s (codes "false") (only_users_file file)) (sym s)
+    (serve_made_of name (port_words port file) (only_port port) (codes "false") (only_users_file file) (port_held port file) (port_serves port file)))))
+with_server server options words (name, inr (given, (g, (s, (r, (t, w)))))) =
+    serve_made words server options (codes "true") (subst (IsFlag (Some (codes "true"))) (sym r) says_true)
+    (subst (λ w. ReadsServer w (server_texts_of server) (codes "true") (texts_of options)) (sym w)
+    (subst (λ t. ReadsServer (name ∷ codes "serve" ∷ all_words given g) (server_texts_of server) (codes "true") t) (sym t)
+    (subst (λ s. ReadsServer (name ∷ codes "serve" ∷ all_words given g) s (codes "true") (every_option g)) (sym s)
+    (serve_made_of name (all_words given g) (every_server_option given) (codes "true") (every_option g) (all_held given g) (all_serve given g)))))
+
 made : (r : Subcommand) (words : List Text) → IsLineOf r words → Makes words r
 made (Verify file) words (o, (name, l)) = verify_made words file (subst (λ w. Reads w (codes "verify") file.now None) (sym l) (verify_read name file.now o))
 made (Assemble input output) words (o, (name, l)) = assemble_made words input output (subst (λ w. ReadsFiles w (codes "assemble") input.now output.now) (sym l) (assemble_read name input.now output.now o.0 o.1))
@@ -314,7 +329,7 @@ made (Disassemble file true) words (o, l) =
 made (Trace file None) words (o, (name, l)) = trace_made words file None (subst (λ w. Reads w (codes "trace") file.now None) (sym l) (trace_read name file.now o))
 made (Trace file (Some hex)) words (o, l) = trace_made words file (Some hex) (with_data file hex words o l)
 made (Replay events nonce options) words (o, l) = replay_made words events nonce options (with_events events.now (text_of nonce) (texts_of options) words o l)
-made (Serve server options) words l = serve_made words server options (with_server (server_texts_of server) (texts_of options) words l)
+made (Serve server options) words l = with_server server options words l
 
 no_kind : (kinds : Kinds) (e : Error) → kinds ≡ [] → HasKind kinds e → kind_of e ≡ OutOfMemory
 no_kind kinds e none h = elim (subst (λ ks. HasKind ks e) none h) [ inl memory ↦ memory | inr among ↦ absurd among ]

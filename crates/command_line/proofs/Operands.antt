@@ -5,7 +5,7 @@ use Rattle.std.specs.List.{fold}
 use Rattle.clap.specs.Faults.{check_fault, entered_fault, defaults_fault, level_fault, settle_fault, step_fault, turn_fault, walk_fault}
 use Rattle.clap.specs.Kinds.{Kinds, or_else}
 use Rattle.clap.specs.Simple.{Shape, built, built_leaf, entered, inherited, names_of}
-use Rattle.clap.specs.Walk.{Held, Names, Rule, Text, Walk, arg_by_id, arg_by_index, finished, first_of, nothing_held, option, option_word, rows_after, settled, to_positional, value, walk, walk_from, walked}
+use Rattle.clap.specs.Walk.{Held, Names, Rule, Text, Walk, arg_by_id, arg_by_index, finished, first_of, nothing_held, one_of, option, option_word, rows_after, settled, to_positional, value, walk, walk_from, walked}
 use Rattle.clap.proofs.FaultLemmas.{stopped_fault}
 use Rattle.clap.proofs.OnLiterals.{clap_on_literals}
 use Rattle.clap.proofs.WalkLemmas.{walk_stopped}
@@ -235,12 +235,13 @@ every_texts events g nonce = record { good = refl; events_is = refl; nonce_is = 
 
 -- ---- the options of `serve`
 
--- the words have no fault, and these texts
-pub record IsServing (words : List Text) (h : Held) (server : ServerTexts) (texts : Texts) : Type 0 where
+-- the words have no fault, these texts, and this value of the flag
+pub record IsServing (words : List Text) (h : Held) (server : ServerTexts) (reuse_port : Text) (texts : Texts) : Type 0 where
   pub walks : fold (walked serve_shape.rules []) (walk_from nothing_held) words ≡ walk_from h
   pub passes : walk_fault serve_shape [] (walk_from nothing_held) words ≡ []
   pub good : rest_fault serve_shape h ≡ []
   pub server_is : server_texts_in (finished serve_shape.rules h) ≡ server
+  pub flag_is : one_of (codes "reuse-port") (finished serve_shape.rules h) ≡ Some reuse_port
   pub texts_is : texts_in (finished serve_shape.rules h) ≡ texts
 
 abbrev pub port_words : Text → Text → List Text
@@ -249,9 +250,9 @@ port_words port file = (codes "--port=" ++ port) ∷ (codes "--users=" ++ file) 
 abbrev pub port_held : Text → Text → Held
 port_held port file = (fold (walked serve_shape.rules []) (walk_from nothing_held) (port_words port file)).held
 
-pub port_serves : (port file : Text) → IsServing (port_words port file) (port_held port file) (only_port port) (only_users_file file)
+pub port_serves : (port file : Text) → IsServing (port_words port file) (port_held port file) (only_port port) (codes "false") (only_users_file file)
 unfolding clap_on_literals
-port_serves port file = record { walks = refl; passes = refl; good = refl; server_is = refl; texts_is = refl }
+port_serves port file = record { walks = refl; passes = refl; good = refl; server_is = refl; flag_is = refl; texts_is = refl }
 
 abbrev pub all_words : GivenServer → GivenOptions → List Text
 all_words s g = server_before s (options_before g [])
@@ -259,6 +260,6 @@ all_words s g = server_before s (options_before g [])
 abbrev pub all_held : GivenServer → GivenOptions → Held
 all_held s g = (fold (walked serve_shape.rules []) (walk_from nothing_held) (all_words s g)).held
 
-pub all_serve : (s : GivenServer) (g : GivenOptions) → IsServing (all_words s g) (all_held s g) (every_server_option s) (every_option g)
+pub all_serve : (s : GivenServer) (g : GivenOptions) → IsServing (all_words s g) (all_held s g) (every_server_option s) (codes "true") (every_option g)
 unfolding clap_on_literals
-all_serve s g = record { walks = refl; passes = refl; good = refl; server_is = refl; texts_is = refl }
+all_serve s g = record { walks = refl; passes = refl; good = refl; server_is = refl; flag_is = refl; texts_is = refl }

@@ -1,16 +1,16 @@
 -- What the name and the entries of a subcommand that was met say of it.
 use Rattle.std.proofs.Common.{◌≡◌, ◌∙◌, ◌⊎◌, sym, ap, refl, arith, inl, inr, codes, ℕ, Bool, true, false, List, [], ◌∷◌, Option, Some, None, IfNone, IfSome, IsSomeAnd, Bor, subst}
-use Rattle.command_line.specs.Subcommands.{IsFlag, TakesFile, IsNoSubcommand, IsSubcommand}
+use Rattle.command_line.specs.Subcommands.{IsFlag, TakesFile, list_of, IsNoSubcommand, IsSubcommand}
 use Rattle.command_line.specs.declared.Subcommand.{Subcommand}
 use Rattle.std.specs.Prelude.{option_map, Box}
 use Rattle.std.specs.Box.{box_value}
 use Rattle.std.proofs.lemmas.Option.{none-some, same_Some}
-use Rattle.clap.specs.Words.{Text, Row, first_of, first_value, one_of, one_text, rows_of, subcommand_name_of, subcommand_rows, subcommand_rows_of}
+use Rattle.clap.specs.Words.{Text, Row, all_of, first_of, first_value, matched_of, one_of, one_text, raw_values, rows_of, subcommand_name_of, subcommand_rows, subcommand_rows_of}
 use Rattle.clap.specs.declared.parser.matches.ArgMatches.{ArgMatches}
 use Rattle.clap.specs.declared.parser.matches.ArgMatches.TheViews.{out-ArgMatches, out-SubCommand}
 use Rattle.clap.specs.declared.parser.matches.Found.{Found}
 use Rattle.clap.specs.declared.parser.matches.SubCommand.{SubCommand}
-use Rattle.clap.proofs.WalkLemmas.{first_value-rows, one_text-rows}
+use Rattle.clap.proofs.WalkLemmas.{first_value-rows, one_text-rows, raw_values-rows}
 
 paired : {A B : Type 0} (o : Option (A × B)) (a : A) (b : B) → Some a ≡ option_map (λ p. p.0) o → Some b ≡ option_map (λ p. p.1) o → o ≡ Some (a, b)
 paired None a b h k = absurd (none-some a (sym h))
@@ -45,6 +45,11 @@ read found id value e = sym (first_value-rows found id) ∙ sym e
 pub read_as : (found : Found) (id : Text) (value other : Option (Bor Text)) → option_map (λ s. s.now) value ≡ first_value found id → value ≡ other
     → first_of id (rows_of found) ≡ option_map (λ s. s.now) other
 read_as found id value other e same = read found id value e ∙ ap (option_map (λ s. s.now)) same
+
+-- the values that were read of an option that may be repeated
+pub read_list : (found : Found) (id : Text) (values : Option (Bor (List (Bor Text)))) → list_of values ≡ option_map raw_values (matched_of found id)
+    → all_of id (rows_of found) ≡ list_of values
+read_list found id values e = sym (raw_values-rows found id) ∙ sym e
 
 -- what the value that was read of a flag says of it
 pub read_flag : (found : Found) (id : Text) (given : Bool) → (one_text found id ≡ None → given ≡ false)

@@ -6,13 +6,21 @@ use Rattle.clap.specs.declared.builder.action.ArgAction.TheVariants.{Set, SetTru
 use Rattle.clap.specs.declared.builder.command.Command.{Command}
 use Rattle.clap.specs.declared.builder.command.Command.TheViews.{out-Command}
 
+-- --NAME VALUE: optional, one value, at most once
+abbrev pub option : Text → Rule
+option name = record (new_rule name) { long = Some name; action = Some Set; value_names = 1 }
+
+-- --NAME VALUE: optional, one value each time
+abbrev pub repeated_option : Text → Rule
+repeated_option name = record (option name) { action = Some Append }
+
+-- --NAME: a flag, at most once
+abbrev pub flag : Text → Rule
+flag name = record (new_rule name) { long = Some name; action = Some SetTrue }
+
 -- FILE: required, one value
 abbrev pub file_argument : Rule
 file_argument = record (new_rule (codes "file")) { action = Some Set; value_names = 1; required = true }
-
--- --data HEX: optional, one value, at most once
-abbrev pub data_option : Rule
-data_option = record (new_rule (codes "data")) { long = Some (codes "data"); action = Some Set; value_names = 1 }
 
 -- IN and OUT: required, one value each
 abbrev pub input_argument : Rule
@@ -25,13 +33,9 @@ output_argument = record (new_rule (codes "out")) { action = Some Set; value_nam
 abbrev pub assemble_command : App
 assemble_command = with_rule (with_rule (new_app (codes "assemble")) input_argument) output_argument
 
--- --slots: a flag, at most once
-abbrev pub slots_flag : Rule
-slots_flag = record (new_rule (codes "slots")) { long = Some (codes "slots"); action = Some SetTrue }
-
 -- disassemble [--slots] FILE
 abbrev pub disassemble_command : App
-disassemble_command = with_rule (with_rule (new_app (codes "disassemble")) file_argument) slots_flag
+disassemble_command = with_rule (with_rule (new_app (codes "disassemble")) file_argument) (flag (codes "slots"))
 
 -- verify FILE
 abbrev pub verify_command : App
@@ -39,23 +43,15 @@ verify_command = with_rule (new_app (codes "verify")) file_argument
 
 -- trace [--data HEX] FILE
 abbrev pub trace_command : App
-trace_command = with_rule (with_rule (new_app (codes "trace")) file_argument) data_option
+trace_command = with_rule (with_rule (new_app (codes "trace")) file_argument) (option (codes "data"))
 
 -- EVENTS: required, one value
 abbrev pub events_argument : Rule
 events_argument = record (new_rule (codes "events")) { action = Some Set; value_names = 1; required = true }
 
--- --NAME VALUE: optional, one value, at most once
-abbrev pub option : Text → Rule
-option name = record (new_rule name) { long = Some name; action = Some Set; value_names = 1 }
-
--- --user NAME:PASSWORD: optional, one value each time
-abbrev pub user_option : Rule
-user_option = record (new_rule (codes "user")) { long = Some (codes "user"); action = Some Append; value_names = 1 }
-
 -- the command with the options of the users, with those of the relayed addresses, and with those of the programs
 abbrev pub with_users : App → App
-with_users app = with_rule (with_rule (with_rule app (option (codes "realm"))) user_option) (option (codes "users"))
+with_users app = with_rule (with_rule (with_rule app (option (codes "realm"))) (repeated_option (codes "user"))) (option (codes "users"))
 
 abbrev pub with_addresses : App → App
 with_addresses app = with_rule (with_rule (with_rule (with_rule app (option (codes "slots"))) (option (codes "relay-ip"))) (option (codes "relay-ip6")))
@@ -76,13 +72,20 @@ replay_command = with_rule (with_options (with_rule (new_app (codes "replay")) e
 abbrev pub port_option : Rule
 port_option = record (option (codes "port")) { required = true }
 
--- serve --port P, with the options of a server, and those that set up a relay
-abbrev pub server_command : App
-server_command = with_rule (with_rule (with_rule (with_rule (with_rule (with_rule (new_app (codes "serve")) port_option)
-    (option (codes "rounds"))) (option (codes "listen"))) (option (codes "listen6"))) (option (codes "nonce-lifetime"))) (option (codes "stats"))
+-- the command with the options of sockets, with those of the peers that are sent to, and with those of time
+abbrev pub with_sockets : App → App
+with_sockets app = with_rule (with_rule (with_rule (with_rule app (option (codes "listen"))) (option (codes "listen6"))) (option (codes "buffer")))
+    (flag (codes "reuse-port"))
 
+abbrev pub with_filter : App → App
+with_filter app = with_rule (with_rule app (repeated_option (codes "deny"))) (repeated_option (codes "allow"))
+
+abbrev pub with_times : App → App
+with_times app = with_rule (with_rule (with_rule app (option (codes "rounds"))) (option (codes "nonce-lifetime"))) (option (codes "stats"))
+
+-- serve --port P, with the options of a server, and those that set up a relay
 abbrev pub serve_command : App
-serve_command = with_options server_command
+serve_command = with_options (with_times (with_filter (with_sockets (with_rule (new_app (codes "serve")) port_option))))
 
 -- relayd COMMAND, of which COMMAND is required: with no word after the name, the answer is the help. It has a version
 abbrev pub bare_command : App

@@ -106,11 +106,25 @@ pub record GivenServer : Type 0 where
   pub rounds : Text
   pub listen : Text
   pub listen6 : Text
+  pub buffer : Text
+  pub deny : Text
+  pub further_deny : Text
+  pub allow : Text
   pub nonce_lifetime : Text
   pub stats : Text
 
 abbrev pub only_port : Text → ServerTexts
-only_port port = record { port = Some port; rounds = None; listen = None; listen6 = None; nonce_lifetime = None; stats = None }
+only_port port = record {
+  port = Some port;
+  rounds = None;
+  listen = None;
+  listen6 = None;
+  buffer = None;
+  deny = None;
+  allow = None;
+  nonce_lifetime = None;
+  stats = None;
+}
 
 abbrev pub every_server_option : GivenServer → ServerTexts
 every_server_option s = record {
@@ -118,24 +132,28 @@ every_server_option s = record {
   rounds = Some s.rounds;
   listen = Some s.listen;
   listen6 = Some s.listen6;
+  buffer = Some s.buffer;
+  deny = Some (s.deny ∷ s.further_deny ∷ []);
+  allow = Some (s.allow ∷ []);
   nonce_lifetime = Some s.nonce_lifetime;
   stats = Some s.stats;
 }
 
--- the options of a server, each with its text after an equals sign, and the words after them
+-- the options of a server, each with its text after an equals sign, its flag, and the words after them
 abbrev pub server_before : GivenServer → List Text → List Text
 server_before s rest =
     (codes "--port=" ++ s.port) ∷ (codes "--rounds=" ++ s.rounds) ∷ (codes "--listen=" ++ s.listen)
-    ∷ (codes "--listen6=" ++ s.listen6) ∷ (codes "--nonce-lifetime=" ++ s.nonce_lifetime)
-    ∷ (codes "--stats=" ++ s.stats) ∷ rest
+    ∷ (codes "--listen6=" ++ s.listen6) ∷ (codes "--buffer=" ++ s.buffer) ∷ codes "--reuse-port"
+    ∷ (codes "--deny=" ++ s.deny) ∷ (codes "--deny=" ++ s.further_deny) ∷ (codes "--allow=" ++ s.allow)
+    ∷ (codes "--nonce-lifetime=" ++ s.nonce_lifetime) ∷ (codes "--stats=" ++ s.stats) ∷ rest
 
 -- a program's name, `serve`, and --port=P with --users=FILE, or with every option
-abbrev pub IsServeLine : ServerTexts → Texts → List Text → Type 0
-IsServeLine server texts words = (name : Text) × (
-    ((port : Text) × ((file : Text) × ((server ≡ only_port port) × ((texts ≡ only_users_file file)
-    × (words ≡ name ∷ codes "serve" ∷ (codes "--port=" ++ port) ∷ (codes "--users=" ++ file) ∷ [])))))
-    ⊎ ((s : GivenServer) × ((g : GivenOptions) × ((server ≡ every_server_option s) × ((texts ≡ every_option g)
-    × (words ≡ name ∷ codes "serve" ∷ server_before s (options_before g [])))))))
+abbrev pub IsServeLine : ServerTexts → Bool → Texts → List Text → Type 0
+IsServeLine server reuse_port texts words = (name : Text) × (
+    ((port : Text) × ((file : Text) × ((server ≡ only_port port) × ((reuse_port ≡ false) × ((texts ≡ only_users_file file)
+    × (words ≡ name ∷ codes "serve" ∷ (codes "--port=" ++ port) ∷ (codes "--users=" ++ file) ∷ []))))))
+    ⊎ ((s : GivenServer) × ((g : GivenOptions) × ((server ≡ every_server_option s) × ((reuse_port ≡ true) × ((texts ≡ every_option g)
+    × (words ≡ name ∷ codes "serve" ∷ server_before s (options_before g []))))))))
 
 -- the words are one of the usual lines of the subcommand, in which the files are operands
 abbrev pub IsLineOf : Subcommand → List Text → Type 0
@@ -148,7 +166,7 @@ IsLineOf (Disassemble file false) words = IsOperand file.now
     × ((name : Text) × (words ≡ name ∷ codes "disassemble" ∷ file.now ∷ []))
 IsLineOf (Disassemble file true) words = IsOperand file.now × IsSlotsLine file.now words
 IsLineOf (Replay events nonce options) words = IsOperand events.now × IsReplayLine events.now (text_of nonce) (texts_of options) words
-IsLineOf (Serve server options) words = IsServeLine (server_texts_of server) (texts_of options) words
+IsLineOf (Serve server options) words = IsServeLine (server_texts_of server) server.reuse_port (texts_of options) words
 
 -- the matches are those of this subcommand, or memory ran out
 abbrev pub IsParsedAs : Subcommand → Result ArgMatches Error → Type 0

@@ -72,6 +72,9 @@ pub record ServerTexts : Type 0 where
   pub rounds : Option Text
   pub listen : Option Text
   pub listen6 : Option Text
+  pub buffer : Option Text
+  pub deny : Option (List Text)
+  pub allow : Option (List Text)
   pub nonce_lifetime : Option Text
   pub stats : Option Text
 
@@ -81,6 +84,9 @@ server_texts_in rows = record {
   rounds = first_of (codes "rounds") rows;
   listen = first_of (codes "listen") rows;
   listen6 = first_of (codes "listen6") rows;
+  buffer = first_of (codes "buffer") rows;
+  deny = all_of (codes "deny") rows;
+  allow = all_of (codes "allow") rows;
   nonce_lifetime = first_of (codes "nonce-lifetime") rows;
   stats = first_of (codes "stats") rows;
 }
@@ -91,6 +97,9 @@ server_texts_of s = record {
   rounds = text_of s.rounds;
   listen = text_of s.listen;
   listen6 = text_of s.listen6;
+  buffer = text_of s.buffer;
+  deny = list_of s.deny;
+  allow = list_of s.allow;
   nonce_lifetime = text_of s.nonce_lifetime;
   stats = text_of s.stats;
 }
@@ -107,7 +116,8 @@ IsSubcommand p (Disassemble file slots) = (p.0 ≡ codes "disassemble") × (argu
 IsSubcommand p (Replay events nonce options) = (p.0 ≡ codes "replay") × (argument_value p (codes "events") ≡ Some events.now)
     × (argument_value p (codes "nonce") ≡ text_of nonce) × (texts_in p.1 ≡ texts_of options)
 IsSubcommand p (Serve server options) = (p.0 ≡ codes "serve")
-    × (server_texts_in p.1 ≡ server_texts_of server) × (texts_in p.1 ≡ texts_of options)
+    × (server_texts_in p.1 ≡ server_texts_of server) × IsFlag (flag_of p (codes "reuse-port")) server.reuse_port
+    × (texts_in p.1 ≡ texts_of options)
 
 -- the subcommand is one that takes FILE
 abbrev pub TakesFile : Text → Type 0

@@ -3,7 +3,7 @@
 
 ghost use Rattle.std.specs.Prelude.{◌≡◌, None, true, false, codes, map, IfOk, IfSome, IfNone, IsSomeAnd};
 ghost use Rattle.clap.specs.Words.{FailsBy, first_of, found_of, has_subcommand, rows_of, rule_of, subcommand_rows_of};
-ghost use Rattle.command_line.specs.Commands.{HasAdded, HasShape, assemble_command, bare_command, data_option, disassemble_command, events_argument, faults_of, file_argument, input_argument, option, output_argument, port_option, program_command, relayd_command, replay_command, serve_command, server_command, slots_flag, subcommand_in, text_command, trace_command, user_option, verify_command, with_addresses, with_options, with_programs, with_users};
+ghost use Rattle.command_line.specs.Commands.{HasAdded, HasShape, assemble_command, bare_command, disassemble_command, events_argument, faults_of, file_argument, flag, input_argument, option, output_argument, port_option, program_command, relayd_command, repeated_option, replay_command, serve_command, subcommand_in, text_command, trace_command, verify_command, with_addresses, with_filter, with_options, with_programs, with_sockets, with_times, with_users};
 ghost use Rattle.command_line.specs.Lines.{IsLineOf, IsParsedAs};
 ghost use Rattle.command_line.specs.Subcommands.{IsSubcommand, IsNoSubcommand, texts_in, texts_of};
 ghost use Rattle.command_line.specs.declared.Subcommand.{Subcommand};
@@ -56,6 +56,14 @@ pub struct ServerOptions<'a> {
     pub listen: Option<&'a str>,
     /// The IPv6 address that further sockets of the slots are bound to.
     pub listen6: Option<&'a str>,
+    /// The size of each socket's buffers.
+    pub buffer: Option<&'a str>,
+    /// Whether other processes may serve the same port.
+    pub reuse_port: bool,
+    /// The networks that nothing is sent to, in the order in which they are given.
+    pub deny: Option<&'a [&'a str]>,
+    /// The networks that are sent to, in the order in which they are given.
+    pub allow: Option<&'a [&'a str]>,
     /// The seconds after which a new nonce is drawn.
     pub nonce_lifetime: Option<&'a str>,
     /// The seconds between two lines of counters.
@@ -98,6 +106,41 @@ pub enum Subcommand<'a> {
     },
 }
 
+/// Returns an option with one value.
+fn option<'a>(alloc: Global, name: &'a str, value: &'a str, help: &'a str) -> Arg<'a>
+    ensures rule { rule_of result ≡ option name.entry.now }
+    ensures local { result.global ≡ false }
+{
+    Arg::new(alloc, name)
+        .long(name)
+        .value_name(value)
+        .help(help)
+        .action(ArgAction::Set)
+}
+
+/// Returns an option with one value, which may be repeated.
+fn repeated_option<'a>(alloc: Global, name: &'a str, value: &'a str, help: &'a str) -> Arg<'a>
+    ensures rule { rule_of result ≡ repeated_option name.entry.now }
+    ensures local { result.global ≡ false }
+{
+    Arg::new(alloc, name)
+        .long(name)
+        .value_name(value)
+        .help(help)
+        .action(ArgAction::Append)
+}
+
+/// Returns a flag.
+fn flag<'a>(alloc: Global, name: &'a str, help: &'a str) -> Arg<'a>
+    ensures rule { rule_of result ≡ flag name.entry.now }
+    ensures local { result.global ≡ false }
+{
+    Arg::new(alloc, name)
+        .long(name)
+        .help(help)
+        .action(ArgAction::SetTrue)
+}
+
 /// Returns the argument `FILE`.
 fn file<'a>(alloc: Global) -> Arg<'a>
     ensures rule { rule_of result ≡ file_argument }
@@ -107,18 +150,6 @@ fn file<'a>(alloc: Global) -> Arg<'a>
         .value_name("FILE")
         .help("The program: its encoded instructions (RFC 9669), 1 to 4,096 slots of 8 bytes")
         .required(true)
-        .action(ArgAction::Set)
-}
-
-/// Returns the option `--data HEX`.
-fn data<'a>(alloc: Global) -> Arg<'a>
-    ensures rule { rule_of result ≡ data_option }
-    ensures local { result.global ≡ false }
-{
-    Arg::new(alloc, "data")
-        .long("data")
-        .value_name("HEX")
-        .help("The datagram in hexadecimal digits, at most 65,507 bytes; empty by default")
         .action(ArgAction::Set)
 }
 
@@ -146,17 +177,6 @@ fn output<'a>(alloc: Global) -> Arg<'a>
         .action(ArgAction::Set)
 }
 
-/// Returns the flag `--slots`.
-fn slots<'a>(alloc: Global) -> Arg<'a>
-    ensures rule { rule_of result ≡ slots_flag }
-    ensures local { result.global ≡ false }
-{
-    Arg::new(alloc, "slots")
-        .long("slots")
-        .help("Write the slot of each instruction after it, as a comment")
-        .action(ArgAction::SetTrue)
-}
-
 /// Returns the subcommand `verify`.
 fn verify<'a>(alloc: Global) -> Result<Command<'a>, AllocError>
     ensures { IfOk result (HasShape verify_command) }
@@ -173,7 +193,12 @@ fn trace<'a>(alloc: Global) -> Result<Command<'a>, AllocError>
     Command::new(alloc, "trace")
         .about("Run a program over one datagram, and print each instruction as it is reached")
         .arg(file(alloc))?
-        .arg(data(alloc))
+        .arg(option(
+            alloc,
+            "data",
+            "HEX",
+            "The datagram in hexadecimal digits, at most 65,507 bytes; empty by default",
+        ))
 }
 
 /// Returns the subcommand `assemble`.
@@ -193,7 +218,11 @@ fn disassemble<'a>(alloc: Global) -> Result<Command<'a>, AllocError>
     Command::new(alloc, "disassemble")
         .about("Print a program as text, which assembles to the same program")
         .arg(file(alloc))?
-        .arg(slots(alloc))
+        .arg(flag(
+            alloc,
+            "slots",
+            "Write the slot of each instruction after it, as a comment",
+        ))
 }
 
 /// Returns the argument `EVENTS`.
@@ -208,39 +237,18 @@ fn events<'a>(alloc: Global) -> Arg<'a>
         .action(ArgAction::Set)
 }
 
-/// Returns an option with one value.
-fn option<'a>(alloc: Global, name: &'a str, value: &'a str, help: &'a str) -> Arg<'a>
-    ensures rule { rule_of result ≡ option name.entry.now }
-    ensures local { result.global ≡ false }
-{
-    Arg::new(alloc, name)
-        .long(name)
-        .value_name(value)
-        .help(help)
-        .action(ArgAction::Set)
-}
-
-/// Returns the option `--user NAME:PASSWORD`, which may be repeated.
-fn user<'a>(alloc: Global) -> Arg<'a>
-    ensures rule { rule_of result ≡ user_option }
-    ensures local { result.global ≡ false }
-{
-    Arg::new(alloc, "user")
-        .long("user")
-        .value_name("NAME:PASSWORD")
-        .help(
-            "A user, whose name ends at the first colon; may be repeated. Other users of the machine can see it: see --users",
-        )
-        .action(ArgAction::Append)
-}
-
 /// Adds the options of the users.
 fn with_users<'a>(alloc: Global, command: Command<'a>) -> Result<Command<'a>, AllocError>
     ensures { IfOk result (HasAdded with_users command.entry) }
 {
     command
         .arg(option(alloc, "realm", "R", "The realm; relay by default"))?
-        .arg(user(alloc))?
+        .arg(repeated_option(
+            alloc,
+            "user",
+            "NAME:PASSWORD",
+            "A user, whose name ends at the first colon; may be repeated. Other users of the machine can see it: see --users",
+        ))?
         .arg(option(
             alloc,
             "users",
@@ -264,7 +272,7 @@ fn with_addresses<'a>(alloc: Global, command: Command<'a>) -> Result<Command<'a>
             alloc,
             "relay-ip",
             "A",
-            "The relayed IPv4 address; 127.0.0.1 by default",
+            "The relayed IPv4 address; 127.0.0.1 by default, and of a server that of --listen",
         ))?
         .arg(option(
             alloc,
@@ -332,21 +340,11 @@ fn port<'a>(alloc: Global) -> Arg<'a>
     .required(true)
 }
 
-/// Returns the subcommand `serve` with the options of a server alone.
-fn server<'a>(alloc: Global) -> Result<Command<'a>, AllocError>
-    ensures { IfOk result (HasShape server_command) }
+/// Adds the options of the sockets.
+fn with_sockets<'a>(alloc: Global, command: Command<'a>) -> Result<Command<'a>, AllocError>
+    ensures { IfOk result (HasAdded with_sockets command.entry) }
 {
-    Command::new(alloc, "serve")
-        .about(
-            "Serve clients and peers over UDP, until it is stopped; programs whose files change are replaced",
-        )
-        .arg(port(alloc))?
-        .arg(option(
-            alloc,
-            "rounds",
-            "N",
-            "End after N rounds, which never wait: each tries one receive at each socket",
-        ))?
+    command
         .arg(option(
             alloc,
             "listen",
@@ -358,6 +356,49 @@ fn server<'a>(alloc: Global) -> Result<Command<'a>, AllocError>
             "listen6",
             "A",
             "An IPv6 address that each slot has a further socket at; none by default",
+        ))?
+        .arg(option(
+            alloc,
+            "buffer",
+            "BYTES",
+            "What each socket holds of datagrams that came, and of those to send; 4194304 by default",
+        ))?
+        .arg(flag(
+            alloc,
+            "reuse-port",
+            "Let other processes serve the same port; the system keeps each client with one of them",
+        ))
+}
+
+/// Adds the options of the peers that are sent to.
+fn with_filter<'a>(alloc: Global, command: Command<'a>) -> Result<Command<'a>, AllocError>
+    ensures { IfOk result (HasAdded with_filter command.entry) }
+{
+    command
+        .arg(repeated_option(
+            alloc,
+            "deny",
+            "NETWORK",
+            "A network, as 10.0.0.0/8, that nothing is sent to; may be repeated, and the longest prefix decides",
+        ))?
+        .arg(repeated_option(
+            alloc,
+            "allow",
+            "NETWORK",
+            "A network of one that nothing is sent to, that is sent to all the same; may be repeated",
+        ))
+}
+
+/// Adds the options of time.
+fn with_times<'a>(alloc: Global, command: Command<'a>) -> Result<Command<'a>, AllocError>
+    ensures { IfOk result (HasAdded with_times command.entry) }
+{
+    command
+        .arg(option(
+            alloc,
+            "rounds",
+            "N",
+            "End after N rounds, which never wait: each tries one receive at each socket",
         ))?
         .arg(option(
             alloc,
@@ -377,7 +418,15 @@ fn server<'a>(alloc: Global) -> Result<Command<'a>, AllocError>
 fn serve<'a>(alloc: Global) -> Result<Command<'a>, AllocError>
     ensures { IfOk result (HasShape serve_command) }
 {
-    with_options(alloc, server(alloc)?)
+    let command = Command::new(alloc, "serve")
+        .about(
+            "Serve clients and peers over UDP, until it is stopped; programs whose files change are replaced",
+        )
+        .arg(port(alloc))?;
+    let command = with_sockets(alloc, command)?;
+    let command = with_filter(alloc, command)?;
+    let command = with_times(alloc, command)?;
+    with_options(alloc, command)
 }
 
 /// Returns the command without its subcommands. With no word after its name it answers with the help.
@@ -461,6 +510,10 @@ fn serve_of<'a>(matches: &'a ArgMatches<'_>) -> Option<Subcommand<'a>>
         rounds: matches.get_str("rounds"),
         listen: matches.get_str("listen"),
         listen6: matches.get_str("listen6"),
+        buffer: matches.get_str("buffer"),
+        reuse_port: matches.get_flag("reuse-port"),
+        deny: matches.get_strs("deny"),
+        allow: matches.get_strs("allow"),
         nonce_lifetime: matches.get_str("nonce-lifetime"),
         stats: matches.get_str("stats"),
     };

@@ -135,7 +135,7 @@ const GOOD: [Good; 26] = [
     // a server with its port alone, and with every option
     Good {
         words: &["relayd", "serve", "--port", "3478"],
-        subcommand: r#"Serve { server: ServerOptions { port: "3478", rounds: None, listen: None, listen6: None, nonce_lifetime: None, stats: None }, options: Options { realm: None, users: None, users_file: None, slots: None, relay_ip: None, relay_ip6: None, first_port: None, client: None, peer: None } }"#,
+        subcommand: r#"Serve { server: ServerOptions { port: "3478", rounds: None, listen: None, listen6: None, buffer: None, reuse_port: false, deny: None, allow: None, nonce_lifetime: None, stats: None }, options: Options { realm: None, users: None, users_file: None, slots: None, relay_ip: None, relay_ip6: None, first_port: None, client: None, peer: None } }"#,
     },
     Good {
         words: &[
@@ -164,12 +164,20 @@ const GOOD: [Good; 26] = [
             "60",
             "--listen=l",
             "--listen6=m",
+            "--deny=d",
+            "--allow",
+            "f",
+            "--reuse-port",
+            "--deny",
+            "e",
+            "--buffer",
+            "b",
             "--rounds",
             "n",
             "--port",
             "3478",
         ],
-        subcommand: r#"Serve { server: ServerOptions { port: "3478", rounds: Some("n"), listen: Some("l"), listen6: Some("m"), nonce_lifetime: Some("60"), stats: Some("5") }, options: Options { realm: Some("r"), users: Some(["u", "v"]), users_file: Some("f"), slots: Some("2"), relay_ip: Some("i"), relay_ip6: Some("j"), first_port: Some("1"), client: Some("c"), peer: Some("p") } }"#,
+        subcommand: r#"Serve { server: ServerOptions { port: "3478", rounds: Some("n"), listen: Some("l"), listen6: Some("m"), buffer: Some("b"), reuse_port: true, deny: Some(["d", "e"]), allow: Some(["f"]), nonce_lifetime: Some("60"), stats: Some("5") }, options: Options { realm: Some("r"), users: Some(["u", "v"]), users_file: Some("f"), slots: Some("2"), relay_ip: Some("i"), relay_ip6: Some("j"), first_port: Some("1"), client: Some("c"), peer: Some("p") } }"#,
     },
     // the program may have any name
     Good {

@@ -32,6 +32,13 @@ enum Kind {
 /// How many kinds there are.
 const KINDS: usize = 4;
 
+/// Receives and sends that failed. Displays as a line.
+#[derive(Clone, Copy, PartialEq, Eq)]
+pub(crate) struct Faults {
+    receive: u64,
+    send: u64,
+}
+
 /// The counters of a server. Displays as a line.
 /// See docs/DECISIONS.md, "What a server can count".
 #[derive(Clone, Copy)]
@@ -48,10 +55,38 @@ pub(crate) struct Counters {
     refused: u64,
     /// Datagrams that nothing was sent for, by the index of what they are.
     discarded: [u64; KINDS],
-    receive_faults: u64,
-    send_faults: u64,
+    /// Datagrams that weren't sent, since their peers are denied.
+    denied: u64,
+    faults: Faults,
+    /// The faults when they were last printed.
+    printed: Faults,
     /// What the last datagram that came is.
     last: Kind,
+}
+
+impl Faults {
+    const NONE: Faults = Faults {
+        receive: 0,
+        send: 0,
+    };
+
+    /// Returns the faults that came after others.
+    fn since(self, others: Faults) -> Faults {
+        Faults {
+            receive: self.receive.saturating_sub(others.receive),
+            send: self.send.saturating_sub(others.send),
+        }
+    }
+}
+
+impl fmt::Display for Faults {
+    fn fmt<W: fmt::Write>(&self, f: &mut fmt::Formatter<W>) -> fmt::Result {
+        write!(
+            f,
+            "receive faults {} send faults {}",
+            self.receive, self.send
+        )
+    }
 }
 
 impl Kind {
@@ -113,8 +148,9 @@ impl Counters {
             challenged: 0,
             refused: 0,
             discarded: [0; KINDS],
-            receive_faults: 0,
-            send_faults: 0,
+            denied: 0,
+            faults: Faults::NONE,
+            printed: Faults::NONE,
             last: Kind::Other,
         }
     }
@@ -141,7 +177,7 @@ impl Counters {
 
     /// Counts a receive that failed.
     pub(crate) fn receive_failed(&mut self) {
-        count(&mut self.receive_faults);
+        count(&mut self.faults.receive);
     }
 
     /// The last datagram that came isn't discarded.
@@ -166,7 +202,25 @@ impl Counters {
     /// Counts a send that failed, for the last datagram that came.
     pub(crate) fn send_failed(&mut self) {
         self.keep();
-        count(&mut self.send_faults);
+        count(&mut self.faults.send);
+    }
+
+    /// Counts a datagram that isn't sent, since its peer is denied, for the last one that came.
+    pub(crate) fn denied(&mut self) {
+        self.keep();
+        count(&mut self.denied);
+    }
+
+    /// Returns whether there were faults since they were last taken.
+    pub(crate) fn has_faults(&self) -> bool {
+        self.faults != self.printed
+    }
+
+    /// Returns the faults since they were last taken.
+    pub(crate) fn take_faults(&mut self) -> Faults {
+        let faults = self.faults.since(self.printed);
+        self.printed = self.faults;
+        faults
     }
 }
 
@@ -190,10 +244,6 @@ impl fmt::Display for Counters {
             self.discarded[Kind::Other.index()],
             self.discarded[Kind::FromPeer.index()]
         )?;
-        write!(
-            f,
-            "receive faults {} send faults {}",
-            self.receive_faults, self.send_faults
-        )
+        write!(f, "{}, denied {}", self.faults, self.denied)
     }
 }

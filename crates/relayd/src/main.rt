@@ -2,7 +2,12 @@
 #![tactic(auto)]
 
 mod ahead;
+mod arguments;
+mod clock;
 mod counters;
+mod drops;
+mod error_lines;
+mod files;
 mod options;
 mod replacing;
 mod replaying;

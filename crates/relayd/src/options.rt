@@ -1,7 +1,9 @@
 //! Options that set up a relay, and why a command that takes them ends early.
 
+use crate::sockets::BindReason;
 use command_line::Options;
 use credentials::User;
+use peer_filter::{FilterError, NetworkError};
 use programs::{CLIENT, PEER};
 use relay::Relay;
 use setup::{ProgramError, Setup, SetupError, defaults, ip, octets6, port, relay_of, slots, user};
@@ -16,7 +18,26 @@ use thiserror::Error;
 pub(crate) enum Fault<'a> {
     /// The text of an option is no value of it.
     #[error("error: invalid value '{text}' for '{option}'")]
-    Value { option: &'static str, text: &'a str },
+    Value {
+        option: &'static str,
+        text: &'a str,
+    },
+    /// The text of an option is no network.
+    #[error("error: invalid value '{text}' for '{option}': {error}")]
+    Network {
+        option: &'static str,
+        text: &'a str,
+        error: NetworkError,
+    },
+    /// There are too many networks.
+    #[error("error: {0} of '--deny <NETWORK>' and '--allow <NETWORK>'")]
+    Filter(FilterError),
+    /// Sockets are bound to all addresses of the machine, and none is given as the relayed one.
+    #[error("error: '--relay-ip <A>' is required with '--listen 0.0.0.0'")]
+    NoRelayedAddress,
+    /// Peers can't send to the relayed IPv4 address.
+    #[error("refused ip")]
+    RelayedAddress,
     /// A relayed IPv6 address is given, and none that sockets are bound to.
     #[error("error: '--relay-ip6 <HEX>' needs '--listen6 <A>'")]
     NoListen6,
@@ -36,8 +57,8 @@ pub(crate) enum Fault<'a> {
     #[error("{0}")]
     Setup(SetupError),
     /// A socket can't be bound to this address.
-    #[error("cannot bind {0}")]
-    Bind(SocketAddr),
+    #[error("cannot bind {0}\n{1}")]
+    Bind(SocketAddr, BindReason),
     /// The system doesn't say which sockets are ready.
     #[error("cannot wait for sockets")]
     Wait,
@@ -59,10 +80,12 @@ impl Fault<'_> {
     /// Returns the exit status.
     pub(crate) fn status(&self) -> u8 {
         match self {
-            Fault::Users(_) | Fault::Setup(_) | Fault::Line(_) | Fault::RelayedAddress6 => 1,
-            Fault::Value { .. } | Fault::NoUsers | Fault::NoListen6 => 2,
+            Fault::Users(_) | Fault::Setup(_) | Fault::Line(_) => 1,
+            Fault::RelayedAddress | Fault::RelayedAddress6 => 1,
+            Fault::Value { .. } | Fault::Network { .. } | Fault::Filter(_) => 2,
+            Fault::NoUsers | Fault::NoListen6 | Fault::NoRelayedAddress => 2,
             Fault::File(_) | Fault::Output => 3,
-            Fault::Bind(_) | Fault::Wait | Fault::Random => 3,
+            Fault::Bind(..) | Fault::Wait | Fault::Random => 3,
             Fault::Memory => 4,
         }
     }
@@ -78,10 +101,10 @@ pub(crate) fn slots_of<'a>(options: &Options<'a>) -> Result<usize, Fault<'a>> {
     slots(text).ok_or(Fault::Value { option, text })
 }
 
-/// Returns the relayed IPv4 address.
-fn ip_of<'a>(options: &Options<'a>) -> Result<[u8; 4], Fault<'a>> {
+/// Returns the relayed IPv4 address, which is `default` where none is given.
+fn ip_of<'a>(options: &Options<'a>, default: Option<[u8; 4]>) -> Result<[u8; 4], Fault<'a>> {
     let Some(text) = options.relay_ip else {
-        return Ok(defaults::RELAY_IP);
+        return default.ok_or(Fault::NoRelayedAddress);
     };
     let option = "--relay-ip <A>";
     ip(text).ok_or(Fault::Value { option, text })
@@ -188,10 +211,20 @@ pub(crate) struct ProgramBytes {
     pub(crate) peer: Option<Vec<u8>>,
 }
 
-/// A relay that can begin, and the bytes of its programs' files.
+/// The relayed addresses of a relay.
+#[derive(Clone, Copy)]
+pub(crate) struct Relayed {
+    /// That of IPv4 where none is given; `None` is to require one.
+    pub(crate) ip: Option<[u8; 4]>,
+    /// That of IPv6, if there is one.
+    pub(crate) ip6: Option<[u8; 16]>,
+}
+
+/// A relay that can begin, its relayed IPv4 address, and the bytes of its programs' files.
 #[derive(Drop)]
 pub(crate) struct SetUp {
     pub(crate) relay: Relay,
+    pub(crate) ip: [u8; 4],
     pub(crate) programs: ProgramBytes,
 }
 
@@ -235,17 +268,16 @@ fn setup_fault<'a>(error: SetupError, options: &Options<'a>) -> Fault<'a> {
     }
 }
 
-/// Sets up the relay that the options describe, with a nonce and a relayed IPv6 address, if there is one. The programs' files
-/// are both read first.
+/// Sets up the relay that the options describe, with a nonce and relayed addresses. The programs' files are both read first.
 /// See docs/DECISIONS.md, "The first fault of a replay".
 pub(crate) fn set_up<'a, R: Files + AllocGlobal>(
     rt: &R,
     options: &Options<'a>,
     nonce: &'a str,
-    ip6: Option<[u8; 16]>,
+    relayed: Relayed,
 ) -> Result<SetUp, Fault<'a>> {
     let slots = slots_of(options)?;
-    let ip = ip_of(options)?;
+    let ip = ip_of(options, relayed.ip)?;
     let first_port = port_of(options)?;
     let Ok(realm) = String::from_str(rt.alloc(), options.realm.unwrap_or(defaults::REALM)) else {
         return Err(Fault::Memory);
@@ -257,7 +289,7 @@ pub(crate) fn set_up<'a, R: Files + AllocGlobal>(
     };
     let setup = Setup {
         ip,
-        ip6,
+        ip6: relayed.ip6,
         first_port,
         slots,
         realm,
@@ -267,7 +299,11 @@ pub(crate) fn set_up<'a, R: Files + AllocGlobal>(
         peer: program(options.peer, &programs.peer, PEER),
     };
     match relay_of(rt.alloc(), setup) {
-        Ok(relay) => Ok(SetUp { relay, programs }),
+        Ok(relay) => Ok(SetUp {
+            relay,
+            ip,
+            programs,
+        }),
         Err(error) => Err(setup_fault(error, options)),
     }
 }

@@ -1,16 +1,21 @@
 //! Programs that are replaced while a server runs. Each is verified in slices, so that datagrams are served meanwhile.
 
+use crate::files::{Unusable, read_regular};
 use crate::options::ProgramBytes;
 use command_line::Options;
+use insn::MAX_SLOTS;
 use loader::{LoadError, LoadProgress, Loaded, Loading};
 use relay::Relay;
 use setup::ProgramError;
 use std::io::Write;
+use std::mem;
 use std::rt::Files;
-use std::{fs, mem};
 
 /// How many units of work of a verification are done before the clock is read again.
 const SLICE: usize = 4;
+
+/// The most bytes of a program: eight for each slot.
+const LONGEST: u64 = MAX_SLOTS as u64 * 8;
 
 /// A program that is to replace the one that runs.
 #[derive(Drop)]
@@ -32,6 +37,8 @@ pub(crate) struct Side<'a> {
     running: Option<Vec<u8>>,
     /// The bytes that the file had when it was last refused.
     refused: Option<Vec<u8>>,
+    /// Why the file couldn't be used when it was last looked at.
+    unusable: Option<Unusable>,
     next: Next,
 }
 
@@ -82,6 +89,7 @@ impl<'a> Side<'a> {
             path,
             running,
             refused: None,
+            unusable: None,
             next: Next::Nothing,
         }
     }
@@ -98,13 +106,28 @@ impl<'a> Side<'a> {
         }
     }
 
+    /// Reads the file, if there is one. One that can't be used is reported once, until it can be.
+    fn read<R: Files + AllocGlobal, E: Write>(&mut self, rt: &R, err: &mut E) -> Option<Vec<u8>> {
+        let path = self.path?;
+        match read_regular(rt, path, LONGEST) {
+            Ok(bytes) => {
+                self.unusable = None;
+                bytes
+            }
+            Err(unusable) => {
+                if self.unusable != Some(unusable) {
+                    let _ = writeln!(err, "cannot use {path}: {unusable}");
+                }
+                self.unusable = Some(unusable);
+                None
+            }
+        }
+    }
+
     /// Begins to load the program of the file, where its bytes are others than those that run, are verified, and were last
-    /// refused. A file that can't be read changes nothing.
+    /// refused. A file that can't be read or used changes nothing.
     fn look<R: Files + AllocGlobal, E: Write>(&mut self, rt: &R, err: &mut E) {
-        let Some(path) = self.path else {
-            return;
-        };
-        let Ok(bytes) = fs::read(rt, path) else {
+        let Some(bytes) = self.read(rt, err) else {
             return;
         };
         if self.next.is_of(&bytes) {

@@ -1,6 +1,6 @@
 //! The command `replay`: replays the events of a file through a relay.
 
-use crate::options::{Fault, octets6_of, set_up, unread};
+use crate::options::{Fault, Relayed, octets6_of, set_up, unread};
 use command_line::Options;
 use relay::{Relay, ReplayError};
 use setup::defaults;
@@ -40,8 +40,11 @@ fn replay_events<'a, R: Files + Input + Print + AllocGlobal>(
     nonce: Option<&'a str>,
     options: &Options<'a>,
 ) -> Result<(), Fault<'a>> {
-    let ip6 = octets6_of(options)?;
-    let mut relay = set_up(rt, options, nonce.unwrap_or(defaults::NONCE), ip6)?.relay;
+    let relayed = Relayed {
+        ip: Some(defaults::RELAY_IP),
+        ip6: octets6_of(options)?,
+    };
+    let mut relay = set_up(rt, options, nonce.unwrap_or(defaults::NONCE), relayed)?.relay;
     if events == "-" {
         return match BufReader::new(rt.alloc(), rt.reader()) {
             Ok(mut reader) => play(rt, &mut relay, &mut reader, events),

@@ -1,17 +1,22 @@
 //! The command `serve`: relays the datagrams of UDP sockets.
 
 use crate::ahead::TURNS;
-use crate::options::{Fault, octets6_of, port_of, set_up, slots_of};
+use crate::arguments::{Arguments, filter_of, parse, rules_of};
+use crate::clock::{Moments, Timer, elapsed};
+use crate::drops::Ports;
+use crate::error_lines::ErrorLines;
+use crate::options::{Fault, Relayed, octets6_of, port_of, set_up, slots_of};
 use crate::replacing::Sides;
-use crate::sockets::{Addresses, BindFault, Sockets};
+use crate::sockets::{Addresses, BindFault, Places, Sockets};
 use command_line::{Options, ServerOptions};
 use mio::{Events, Poll, Token};
+use peer_filter::Rule;
 use rand::make_rng;
 use rand::rngs::StdRng;
 use rand_core::Rng;
 use relay::Relay;
-use serving::{Place, ServeError, draw_nonce, serve_once};
-use setup::{defaults, ip, ip6, number, port};
+use serving::{Place, draw_nonce, serve_once};
+use setup::defaults;
 use std::io::{self, Write};
 use std::net::{Ipv4Addr, Ipv6Addr, Net};
 use std::random::RandomSource;
@@ -32,39 +37,20 @@ const VERIFYING: u64 = 250;
 /// The most slices of a verification between two turns.
 const SLICES: usize = 10_000;
 
-/// The seconds after which a nonce is replaced, where none are given.
-const NONCE_LIFETIME: u64 = 3600;
-
-/// The values of the arguments of a server.
-#[derive(Clone, Copy)]
-struct Arguments {
-    port: u16,
-    listen: Ipv4Addr,
-    listen6: Option<Ipv6Addr>,
-    /// How many rounds are made; `None` is to serve until the process is stopped.
-    rounds: Option<u64>,
-    nonce_lifetime: Duration,
-    /// The time between two lines of counters; `None` is to print none.
-    stats: Option<Duration>,
-}
-
-/// What is done from time to time. Its moments are those of a clock that never goes back.
-#[derive(Clone, Copy)]
-struct Timer {
-    /// The time between two moments.
-    every: Duration,
-    next: Duration,
-}
-
 /// A server that has bound its sockets.
 #[derive(Drop)]
 struct Server<'a> {
     relay: Relay,
+    relayed: [u8; 4],
+    relayed6: Option<[u8; 16]>,
     sockets: Sockets,
     sides: Sides<'a>,
     rng: StdRng,
+    moments: Moments,
     nonces: Timer,
     files: Timer,
+    /// When faults may be printed next.
+    faults: Timer,
     stats: Option<Timer>,
     /// Whether several datagrams had come at the place that was served last.
     is_busy: bool,
@@ -90,28 +76,6 @@ struct Waiting {
     places: Vec<Readiness>,
 }
 
-/// Parses a number of an option.
-fn number_of<'a>(option: &'static str, text: &'a str) -> Result<u64, Fault<'a>> {
-    number(text).ok_or(Fault::Value { option, text })
-}
-
-/// Parses a number of seconds, at least 1.
-fn seconds_of<'a>(option: &'static str, text: &'a str) -> Result<Duration, Fault<'a>> {
-    match number_of(option, text)? {
-        0 => Err(Fault::Value { option, text }),
-        seconds => Ok(Duration::from_secs(seconds)),
-    }
-}
-
-/// Parses the IPv6 address that sockets are bound to.
-fn listen6_of<'a>(text: &'a str) -> Result<Ipv6Addr, Fault<'a>> {
-    let option = "--listen6 <A>";
-    match ip6(text) {
-        Some(octets) => Ok(Ipv6Addr::from(octets)),
-        None => Err(Fault::Value { option, text }),
-    }
-}
-
 /// Returns the relayed IPv6 address: that of `--relay-ip6`, or else the one that sockets are bound to.
 fn relayed6<'a>(
     listen6: Option<Ipv6Addr>,
@@ -124,81 +88,16 @@ fn relayed6<'a>(
     }
 }
 
+/// Returns whether peers can send to a relayed IPv4 address: it is one, and not of a group or of all.
+fn is_reachable(octets: [u8; 4]) -> bool {
+    let ip = Ipv4Addr::from(octets);
+    !ip.is_unspecified() && !ip.is_multicast() && !ip.is_broadcast()
+}
+
 /// Returns whether peers can send to a relayed IPv6 address: it is one, and not of a group.
 fn is_reachable6(octets: [u8; 16]) -> bool {
     let ip = Ipv6Addr::from(octets);
     !ip.is_unspecified() && !ip.is_multicast()
-}
-
-/// Parses the options of a server.
-fn parse<'a>(texts: ServerOptions<'a>) -> Result<Arguments, Fault<'a>> {
-    let (option, text) = ("--port <P>", texts.port);
-    let port = port(text).ok_or(Fault::Value { option, text })?;
-    let rounds = match texts.rounds {
-        Some(text) => Some(number_of("--rounds <N>", text)?),
-        None => None,
-    };
-    let listen = match texts.listen {
-        Some(text) => {
-            let option = "--listen <A>";
-            Ipv4Addr::from(ip(text).ok_or(Fault::Value { option, text })?)
-        }
-        None => Ipv4Addr::LOCALHOST,
-    };
-    let listen6 = match texts.listen6 {
-        Some(text) => Some(listen6_of(text)?),
-        None => None,
-    };
-    let nonce_lifetime = match texts.nonce_lifetime {
-        Some(text) => seconds_of("--nonce-lifetime <S>", text)?,
-        None => Duration::from_secs(NONCE_LIFETIME),
-    };
-    let stats = match texts.stats {
-        Some(text) => Some(seconds_of("--stats <S>", text)?),
-        None => None,
-    };
-    Ok(Arguments {
-        port,
-        listen,
-        listen6,
-        rounds,
-        nonce_lifetime,
-        stats,
-    })
-}
-
-/// Returns the moment of a datagram: the whole seconds of the clock, since 1970. Where the clock fails it is 0, and the relay
-/// goes on at the greatest moment that it has seen.
-fn moment<R: Clock>(rt: &R) -> u64 {
-    match rt.since_1970() {
-        Ok(time) => time.as_secs(),
-        Err(_) => 0,
-    }
-}
-
-/// Returns the time since an arbitrary start. Where the clock fails it is that start, and nothing is due.
-fn elapsed<R: Clock>(rt: &R) -> Duration {
-    match rt.monotonic() {
-        Ok(time) => time,
-        Err(_) => Duration::ZERO,
-    }
-}
-
-impl Timer {
-    /// Returns a timer that is due one period after `now`.
-    fn new(now: Duration, every: Duration) -> Timer {
-        let next = now.saturating_add(every);
-        Timer { every, next }
-    }
-
-    /// Returns whether the timer is due, and then sets it for one period after `now`.
-    fn is_due(&mut self, now: Duration) -> bool {
-        if now < self.next {
-            return false;
-        }
-        self.next = now.saturating_add(self.every);
-        true
-    }
 }
 
 impl Server<'_> {
@@ -206,6 +105,49 @@ impl Server<'_> {
     fn renew_nonce(&mut self) {
         let nonce = draw_nonce(&mut self.rng);
         let _ = self.relay.set_nonce(nonce.as_str());
+    }
+
+    /// Prints the lines that say where clients are served, and which addresses are relayed.
+    /// See docs/DECISIONS.md, "The port that the system chooses".
+    fn announce<R: Print>(&self, rt: &R) -> io::Result<()> {
+        let address = self.sockets.address()?;
+        let Ports { first, last, .. } = self.sockets.ports();
+        let relayed = Ipv4Addr::from(self.relayed);
+        let mut out = io::writer(rt);
+        writeln!(out, "listening {address}")?;
+        writeln!(out, "relaying {relayed}:{first} to {last}")?;
+        if let Some(octets) = self.relayed6 {
+            writeln!(
+                out,
+                "relaying [{}]:{first} to {last}",
+                Ipv6Addr::from(octets)
+            )?;
+        }
+        out.flush()
+    }
+
+    /// Prints how large the buffers of sockets are, where the system gives less than was asked for. A failure to print is ignored.
+    fn report_buffer<E: Write>(&self, err: &mut E, wanted: i32) {
+        if let Ok(bytes) = self.sockets.buffer()
+            && bytes < wanted
+        {
+            let _ = writeln!(
+                err,
+                "buffers of {bytes} bytes, not {wanted}: see net.core.rmem_max and wmem_max"
+            );
+        }
+    }
+
+    /// Says that the server listens, once all its memory is taken.
+    fn begin<R: Print, E: Write>(
+        &self,
+        rt: &R,
+        err: &mut E,
+        arguments: &Arguments,
+    ) -> Result<(), Fault<'static>> {
+        self.announce(rt).map_err(|_| Fault::Output)?;
+        self.report_buffer(err, arguments.socket.buffer);
+        Ok(())
     }
 
     /// Goes on verifying programs for some time, and replaces those that run where all are verified.
@@ -219,7 +161,7 @@ impl Server<'_> {
         }
     }
 
-    /// Does what is due: draws a nonce, looks for other programs, goes on verifying them, and prints counters.
+    /// Does what is due: draws a nonce, looks for other programs, goes on verifying them, and prints faults and counters.
     /// See docs/DECISIONS.md, "What is looked at once a second".
     fn tend<R: Files + Clock + AllocGlobal, E: Write>(&mut self, rt: &R, err: &mut E) {
         let now = elapsed(rt);
@@ -230,45 +172,42 @@ impl Server<'_> {
             self.sides.look(rt, err);
         }
         self.verify(rt, err, now);
+        if self.sockets.has_faults() && self.faults.is_due(now) {
+            self.sockets.report_faults(err);
+        }
         if let Some(stats) = &mut self.stats
             && stats.is_due(now)
         {
-            self.sockets.report(err);
+            self.sockets.report(rt, err);
         }
     }
 
     /// Returns the longest wait for a datagram. Without end where nothing but datagrams matters: a nonce that is due is
     /// drawn before the next of them is served.
     fn longest_wait(&self) -> Option<Duration> {
-        if self.sides.has_files() || self.stats.is_some() {
+        if self.sides.has_files() || self.stats.is_some() || self.sockets.has_faults() {
             Some(Duration::from_secs(PERIOD))
         } else {
             None
         }
     }
 
-    /// Serves one datagram at a place, if one has come there, at a moment. Returns whether one has come, or a fault, which is
-    /// printed.
+    /// Serves one datagram at a place, if one has come there, at a moment. Returns whether one has come, or a fault, which the
+    /// sockets have counted.
     /// See docs/DECISIONS.md, "One function serves a datagram".
     #[inline(always)]
-    fn turn<E: Write>(&mut self, err: &mut E, place: Place, now: u64) -> bool {
+    fn turn(&mut self, place: Place, now: u64) -> bool {
         let mut tx = [0u8; 12];
         self.rng.fill_bytes(&mut tx);
-        match serve_once(&mut self.relay, &mut self.sockets, place, now, tx) {
-            Ok(came) => came,
-            Err(fault) => {
-                report_fault(err, fault);
-                true
-            }
-        }
+        serve_once(&mut self.relay, &mut self.sockets, place, now, tx).unwrap_or(true)
     }
 
     /// Tries one datagram at each socket: that of clients first, then those of the slots in order.
-    fn round<R: Clock, E: Write>(&mut self, rt: &R, err: &mut E) {
-        let now = moment(rt);
+    fn round<R: Clock>(&mut self, rt: &R) {
+        let now = self.moments.now(rt);
         for token in 0..self.sockets.count() {
             let place = self.sockets.choose(token);
-            self.turn(err, place, now);
+            self.turn(place, now);
         }
     }
 
@@ -281,20 +220,23 @@ impl Server<'_> {
         rounds: u64,
     ) {
         for _ in 0..rounds {
-            self.round(rt, err);
+            self.round(rt);
             self.tend(rt, err);
         }
+        if self.sockets.has_faults() {
+            self.sockets.report_faults(err);
+        }
         if self.stats.is_some() {
-            self.sockets.report(err);
+            self.sockets.report(rt, err);
         }
     }
 
     /// Serves a place until nothing comes there, or for as many datagrams as it may have, all at one moment. Returns how many
     /// came.
     #[inline(always)]
-    fn turns<E: Write>(&mut self, err: &mut E, place: Place, now: u64) -> usize {
+    fn turns(&mut self, place: Place, now: u64) -> usize {
         for count in 0..TURNS {
-            if !self.turn(err, place, now) {
+            if !self.turn(place, now) {
                 return count;
             }
         }
@@ -306,25 +248,24 @@ impl Server<'_> {
     /// See docs/DECISIONS.md, "One function serves a datagram".
     /// See docs/DECISIONS.md, "A busy server receives ahead".
     #[inline(never)]
-    fn drain<R: Clock, E: Write>(&mut self, rt: &R, err: &mut E, token: usize) -> bool {
-        let now = moment(rt);
+    fn drain<R: Clock>(&mut self, rt: &R, token: usize) -> bool {
+        let now = self.moments.now(rt);
         let place = self.sockets.choose(token);
         if self.is_busy {
             self.sockets.receive_ahead(place);
         }
         let count = match place {
-            Place::Client => self.turns(err, Place::Client, now),
-            Place::Slot(slot) => self.turns(err, Place::Slot(slot), now),
+            Place::Client => self.turns(Place::Client, now),
+            Place::Slot(slot) => self.turns(Place::Slot(slot), now),
         };
         self.is_busy = count > 1;
         count == TURNS
     }
 
     /// Serves each place that a wait reports and that wasn't known to be ready. Returns whether one of them may have more.
-    fn drain_reported<R: Clock, E: Write>(
+    fn drain_reported<R: Clock>(
         &mut self,
         rt: &R,
-        err: &mut E,
         events: &Events,
         places: &mut [Readiness],
     ) -> bool {
@@ -333,7 +274,7 @@ impl Server<'_> {
             let Token(token) = event.token();
             if let Some(readiness) = places.get_mut(token)
                 && let Readiness::Empty = *readiness
-                && self.drain(rt, err, token)
+                && self.drain(rt, token)
             {
                 *readiness = Readiness::Served;
                 more = true;
@@ -344,17 +285,12 @@ impl Server<'_> {
 
     /// Serves each place that was ready before the last wait; one that was served since is ready from now on. Returns whether
     /// one is.
-    fn drain_ready<R: Clock, E: Write>(
-        &mut self,
-        rt: &R,
-        err: &mut E,
-        places: &mut [Readiness],
-    ) -> bool {
+    fn drain_ready<R: Clock>(&mut self, rt: &R, places: &mut [Readiness]) -> bool {
         let mut more = false;
         for (token, readiness) in places.iter_mut().enumerate() {
             let has_more = match *readiness {
                 Readiness::Empty => continue,
-                Readiness::Ready => self.drain(rt, err, token),
+                Readiness::Ready => self.drain(rt, token),
                 Readiness::Served => true,
             };
             *readiness = if has_more {
@@ -375,21 +311,41 @@ impl Server<'_> {
         err: &mut E,
         mut waiting: Waiting,
     ) -> Result<(), Fault<'static>> {
-        let longest = self.longest_wait();
         let mut more = true;
         for _ in 0..u64::MAX {
             let is_idle = !more && !self.sides.is_replacing();
             let wait = if is_idle {
-                longest
+                self.longest_wait()
             } else {
                 Some(Duration::ZERO)
             };
             waiting.wait(wait)?;
             self.tend(rt, err);
-            let more_reported = self.drain_reported(rt, err, &waiting.events, &mut waiting.places);
-            more = (more || more_reported) && self.drain_ready(rt, err, &mut waiting.places);
+            let more_reported = self.drain_reported(rt, &waiting.events, &mut waiting.places);
+            more = (more || more_reported) && self.drain_ready(rt, &mut waiting.places);
         }
         Ok(())
+    }
+
+    /// Makes rounds, or serves until the process is stopped.
+    fn serve<R: Files + Print + Net + Clock + AllocGlobal, E: Write>(
+        &mut self,
+        rt: &R,
+        err: &mut E,
+        arguments: &Arguments,
+    ) -> Result<(), Fault<'static>> {
+        match arguments.rounds {
+            Some(rounds) => {
+                self.begin(rt, err, arguments)?;
+                self.make_rounds(rt, err, rounds);
+                Ok(())
+            }
+            None => {
+                let waiting = Waiting::new(rt, &mut self.sockets)?;
+                self.begin(rt, err, arguments)?;
+                self.run(rt, err, waiting)
+            }
+        }
     }
 }
 
@@ -416,56 +372,78 @@ impl Waiting {
     }
 }
 
-/// Prints the line of a fault. A failure to print is ignored.
-#[cold]
-#[inline(never)]
-fn report_fault<E: Write>(err: &mut E, fault: ServeError) {
-    let _ = writeln!(err, "{fault}");
+/// Returns the relayed addresses where no option gives one: those that sockets are bound to.
+/// See docs/DECISIONS.md, "The default of a server's relayed address".
+fn relayed_of<'a>(arguments: &Arguments, options: &Options<'a>) -> Result<Relayed, Fault<'a>> {
+    let ip = if arguments.listen.is_unspecified() {
+        None
+    } else {
+        Some(arguments.listen.octets())
+    };
+    let ip6 = relayed6(arguments.listen6, options)?;
+    Ok(Relayed { ip, ip6 })
 }
 
-/// Prints the line that says where clients are served.
-/// See docs/DECISIONS.md, "The port that the system chooses".
-fn announce<R: Print>(rt: &R, sockets: &Sockets) -> io::Result<()> {
-    let address = sockets.address()?;
-    let mut out = io::writer(rt);
-    writeln!(out, "listening {address}")?;
-    out.flush()
+/// Refuses relayed addresses that peers can't send to.
+fn check_reachable(ip: [u8; 4], ip6: Option<[u8; 16]>) -> Result<(), Fault<'static>> {
+    if !is_reachable(ip) {
+        return Err(Fault::RelayedAddress);
+    }
+    match ip6 {
+        Some(octets) if !is_reachable6(octets) => Err(Fault::RelayedAddress6),
+        _ => Ok(()),
+    }
+}
+
+/// Binds the sockets of a server, which relays from an IPv4 address.
+fn bind_sockets<R: Net + AllocGlobal>(
+    rt: &R,
+    addresses: Addresses,
+    relayed: [u8; 4],
+    rules: &[Rule],
+) -> Result<Sockets, Fault<'static>> {
+    let places = match Places::bind(rt, addresses) {
+        Ok(places) => places,
+        Err(BindFault::Address(address, reason)) => return Err(Fault::Bind(address, reason)),
+        Err(BindFault::Memory) => return Err(Fault::Memory),
+    };
+    let filter = filter_of(&addresses, places.client_port(), relayed, rules)?;
+    Sockets::new(rt.alloc(), places, filter).map_err(|_| Fault::Memory)
 }
 
 /// Sets up a server: its relay, and then its sockets, all of which are bound.
 fn start<'a, R: Files + Net + Clock + RandomSource + AllocGlobal>(
     rt: &R,
     arguments: Arguments,
+    rules: &[Rule],
     options: &Options<'a>,
 ) -> Result<Server<'a>, Fault<'a>> {
-    let ip6 = relayed6(arguments.listen6, options)?;
-    let set = set_up(rt, options, defaults::NONCE, ip6)?;
-    if let Some(octets) = ip6
-        && !is_reachable6(octets)
-    {
-        return Err(Fault::RelayedAddress6);
-    }
+    let relayed = relayed_of(&arguments, options)?;
+    let set = set_up(rt, options, defaults::NONCE, relayed)?;
+    check_reachable(set.ip, relayed.ip6)?;
     let addresses = Addresses {
         listen: arguments.listen,
         listen6: arguments.listen6,
         port: arguments.port,
         first_port: port_of(options)?,
         slots: slots_of(options)?,
+        options: arguments.socket,
     };
-    let sockets = match Sockets::bind(rt, addresses) {
-        Ok(sockets) => sockets,
-        Err(BindFault::Address(address)) => return Err(Fault::Bind(address)),
-        Err(BindFault::Memory) => return Err(Fault::Memory),
-    };
+    let sockets = bind_sockets(rt, addresses, set.ip, rules)?;
     let rng = make_rng(rt).map_err(|_| Fault::Random)?;
     let now = elapsed(rt);
+    let period = Duration::from_secs(PERIOD);
     let mut server = Server {
         relay: set.relay,
+        relayed: set.ip,
+        relayed6: relayed.ip6,
         sockets,
         sides: Sides::new(options, set.programs),
         rng,
+        moments: Moments::starting_now(rt),
         nonces: Timer::new(now, arguments.nonce_lifetime),
-        files: Timer::new(now, Duration::from_secs(PERIOD)),
+        files: Timer::new(now, period),
+        faults: Timer::new(now, period),
         stats: arguments.stats.map(|every| Timer::new(now, every)),
         is_busy: false,
     };
@@ -477,22 +455,15 @@ fn start<'a, R: Files + Net + Clock + RandomSource + AllocGlobal>(
 fn serve_sockets<'a, R: Files + Print + Net + Clock + RandomSource + AllocGlobal, E: Write>(
     rt: &R,
     err: &mut E,
-    texts: ServerOptions<'a>,
+    texts: &ServerOptions<'a>,
     options: &Options<'a>,
 ) -> Result<(), Fault<'a>> {
     let arguments = parse(texts)?;
-    let mut server = start(rt, arguments, options)?;
-    match arguments.rounds {
-        Some(rounds) => {
-            announce(rt, &server.sockets).map_err(|_| Fault::Output)?;
-            server.make_rounds(rt, err, rounds);
-            Ok(())
-        }
-        None => {
-            let waiting = Waiting::new(rt, &mut server.sockets)?;
-            announce(rt, &server.sockets).map_err(|_| Fault::Output)?;
-            server.run(rt, err, waiting)
-        }
+    let rules = rules_of(rt.alloc(), texts)?;
+    let mut server = start(rt, arguments, &rules, options)?;
+    match ErrorLines::new(rt.alloc(), err) {
+        Ok(mut lines) => server.serve(rt, &mut lines, &arguments),
+        Err(_) => Err(Fault::Memory),
     }
 }
 
@@ -504,7 +475,7 @@ pub(crate) fn serve<R: Files + Print + Net + Clock + RandomSource + AllocGlobal,
     texts: ServerOptions<'_>,
     options: &Options<'_>,
 ) -> u8 {
-    match serve_sockets(rt, err, texts, options) {
+    match serve_sockets(rt, err, &texts, options) {
         Ok(()) => 0,
         Err(fault) => {
             let _ = writeln!(err, "{fault}");

@@ -2,13 +2,18 @@
 
 use crate::ahead::{Ahead, Received};
 use crate::counters::Counters;
-use crate::udp::bind6;
+use crate::drops::{Ports, dropped};
+use crate::udp::{SocketOptions, bind, buffer_of};
 use attributes::{Addr, Family};
 use mio::net::UdpSocket;
 use mio::{Interest, Poll, Registry, Token};
+use peer_filter::PeerFilter;
 use serving::{Link, LinkFault, Place};
-use std::io;
+use std::alloc::{AllocError, Global};
+use std::io::{self, ErrorKind};
 use std::net::{IpAddr, Ipv4Addr, Ipv6Addr, Net, SocketAddr, SocketAddrV4, SocketAddrV6};
+use std::rt::Files;
+use thiserror::Error;
 
 /// The addresses that the sockets of a server are bound to.
 #[derive(Clone, Copy)]
@@ -23,13 +28,49 @@ pub(crate) struct Addresses {
     pub(crate) first_port: u16,
     /// The number of slots.
     pub(crate) slots: usize,
+    /// The options of the clients' socket. The others' ports aren't shared.
+    pub(crate) options: SocketOptions,
+}
+
+impl Addresses {
+    /// Returns the address of the clients' socket.
+    pub(crate) fn client(&self) -> SocketAddr {
+        SocketAddr::new(IpAddr::V4(self.listen), self.port)
+    }
+
+    /// Returns the ports, of which the clients' is `client`.
+    fn ports(&self, client: u16) -> Ports {
+        let first = self.first_port;
+        let last = usize::from(first).saturating_add(self.slots.saturating_sub(1));
+        Ports {
+            client,
+            first,
+            last: u16::try_from(last).unwrap_or(u16::MAX),
+        }
+    }
+}
+
+/// Why a socket can't be bound. Displays as the reason.
+#[derive(Clone, Copy, Debug, Error)]
+pub(crate) enum BindReason {
+    #[error("address in use")]
+    InUse,
+    #[error("not an address of this machine")]
+    NotHere,
+    #[error("permission denied")]
+    Denied,
+    #[error("too many open files")]
+    Files,
+    /// Another error of the system, by its number.
+    #[error("error {0} of the system")]
+    Other(i32),
 }
 
 /// Why the sockets can't be bound.
 #[derive(Clone, Copy)]
 pub(crate) enum BindFault {
-    /// The first address that can't be bound.
-    Address(SocketAddr),
+    /// The first address that can't be bound, and why.
+    Address(SocketAddr, BindReason),
     /// Memory ran out.
     Memory,
 }
@@ -37,12 +78,13 @@ pub(crate) enum BindFault {
 /// The sockets of each place. No call on them waits.
 /// See docs/DECISIONS.md, "Two sockets for each slot".
 #[derive(Drop)]
-struct Places {
+pub(crate) struct Places {
     client: UdpSocket,
     /// The socket of IPv4 of each slot.
     slots: Vec<UdpSocket>,
     /// The socket of IPv6 of each slot; empty without an IPv6 address.
     slots6: Vec<UdpSocket>,
+    ports: Ports,
 }
 
 /// The sockets of a server, what was received ahead at one of them, and what was counted.
@@ -52,28 +94,58 @@ pub(crate) struct Sockets {
     /// The family of the sockets at which the datagrams of slots are received.
     family: Family,
     ahead: Ahead,
+    filter: PeerFilter,
     counters: Counters,
 }
 
+/// The numbers of the system's errors for too many open files, of the process and of the machine.
+const EMFILE: i32 = 24;
+
+const ENFILE: i32 = 23;
+
+/// Why a datagram isn't sent.
+enum Unsent {
+    /// Its peer is denied.
+    Denied,
+    /// The send failed.
+    Fault,
+}
+
+impl From<io::Error> for BindReason {
+    fn from(error: io::Error) -> BindReason {
+        match (error.kind(), error.raw_os_error()) {
+            (ErrorKind::AddrInUse, _) => BindReason::InUse,
+            (ErrorKind::AddrNotAvailable, _) => BindReason::NotHere,
+            (ErrorKind::PermissionDenied, _) => BindReason::Denied,
+            (_, Some(EMFILE | ENFILE)) => BindReason::Files,
+            (_, number) => BindReason::Other(number.unwrap_or(0)),
+        }
+    }
+}
+
 /// Binds a socket to an address.
-fn bind<R: Net>(rt: &R, address: SocketAddr) -> Result<UdpSocket, BindFault> {
-    let socket = match address {
-        SocketAddr::V4(_) => UdpSocket::bind(rt, address),
-        SocketAddr::V6(address) => bind6(rt, address),
-    };
-    socket.map_err(|_| BindFault::Address(address))
+fn bind_one<R: Net>(
+    rt: &R,
+    address: SocketAddr,
+    options: SocketOptions,
+) -> Result<UdpSocket, BindFault> {
+    match bind(rt, address, options) {
+        Ok(socket) => Ok(socket),
+        Err(error) => Err(BindFault::Address(address, BindReason::from(error))),
+    }
 }
 
 /// Binds a socket for each of a number of slots to an IP address, that of slot 0 at the first port.
 fn bind_slots<R: Net + AllocGlobal>(
     rt: &R,
     ip: IpAddr,
-    first_port: u16,
-    slots: usize,
+    addresses: Addresses,
 ) -> Result<Vec<UdpSocket>, BindFault> {
+    let mut options = addresses.options;
+    options.reuse_port = false;
     let mut sockets = Vec::new(rt.alloc());
-    for port in (first_port..=u16::MAX).take(slots) {
-        let socket = bind(rt, SocketAddr::new(ip, port))?;
+    for port in (addresses.first_port..=u16::MAX).take(addresses.slots) {
+        let socket = bind_one(rt, SocketAddr::new(ip, port), options)?;
         if sockets.push(socket).is_err() {
             return Err(BindFault::Memory);
         }
@@ -91,23 +163,35 @@ fn register_all(registry: &Registry, sockets: &mut [UdpSocket], first: usize) ->
 
 impl Places {
     /// Binds the socket of clients, then those of IPv4 of the slots in order, and then those of IPv6.
-    fn bind<R: Net + AllocGlobal>(rt: &R, addresses: Addresses) -> Result<Places, BindFault> {
-        let Addresses {
-            listen,
-            listen6,
-            port,
-            first_port,
-            slots,
-        } = addresses;
-        let listen = IpAddr::V4(listen);
+    ///
+    /// # Errors
+    /// The first address that can't be bound, and where memory runs out.
+    pub(crate) fn bind<R: Net + AllocGlobal>(
+        rt: &R,
+        addresses: Addresses,
+    ) -> Result<Places, BindFault> {
+        let listen = IpAddr::V4(addresses.listen);
+        let client = bind_one(rt, addresses.client(), addresses.options)?;
+        let port = match client.local_addr() {
+            Ok(address) => address.port(),
+            Err(error) => {
+                return Err(BindFault::Address(addresses.client(), BindReason::from(error)));
+            }
+        };
         Ok(Places {
-            client: bind(rt, SocketAddr::new(listen, port))?,
-            slots: bind_slots(rt, listen, first_port, slots)?,
-            slots6: match listen6 {
-                Some(ip) => bind_slots(rt, IpAddr::V6(ip), first_port, slots)?,
+            client,
+            slots: bind_slots(rt, listen, addresses)?,
+            slots6: match addresses.listen6 {
+                Some(ip) => bind_slots(rt, IpAddr::V6(ip), addresses)?,
                 None => Vec::new(rt.alloc()),
             },
+            ports: addresses.ports(port),
         })
+    }
+
+    /// Returns the port of the clients' socket. Where port 0 was asked for, it is the one that the system chose.
+    pub(crate) fn client_port(&self) -> u16 {
+        self.ports.client
     }
 
     /// Returns the socket of a family at a place. That of clients is of IPv4.
@@ -123,25 +207,32 @@ impl Places {
 }
 
 impl Sockets {
-    /// Binds the sockets, that of clients first, then those of IPv4 of the slots in order, and then those of IPv6.
+    /// Returns the sockets of a server, which sends nothing to peers that the filter denies.
     ///
     /// # Errors
-    /// The first address that can't be bound, and where memory runs out.
-    pub(crate) fn bind<R: Net + AllocGlobal>(
-        rt: &R,
-        addresses: Addresses,
-    ) -> Result<Sockets, BindFault> {
-        let places = Places::bind(rt, addresses)?;
-        let Ok(ahead) = Ahead::new(rt.alloc()) else {
-            return Err(BindFault::Memory);
-        };
-        let counters = Counters::new();
+    /// Where memory runs out.
+    pub(crate) fn new(
+        alloc: Global,
+        places: Places,
+        filter: PeerFilter,
+    ) -> Result<Sockets, AllocError> {
         Ok(Sockets {
             places,
             family: Family::Ipv4,
-            ahead,
-            counters,
+            ahead: Ahead::new(alloc)?,
+            filter,
+            counters: Counters::new(),
         })
+    }
+
+    /// Returns the ports.
+    pub(crate) fn ports(&self) -> Ports {
+        self.places.ports
+    }
+
+    /// Returns the bytes that the smaller buffer of the clients' socket has.
+    pub(crate) fn buffer(&self) -> io::Result<i32> {
+        buffer_of(&self.places.client)
     }
 
     /// Returns the address of the clients' socket. Where port 0 was asked for, its port is the one that the system chose.
@@ -162,6 +253,7 @@ impl Sockets {
             client,
             slots,
             slots6,
+            ..
         } = &mut self.places;
         let registry = poll.registry();
         registry.register(client, Token(0), Interest::READABLE)?;
@@ -191,8 +283,22 @@ impl Sockets {
     }
 
     /// Prints the line of counters. A failure to print is ignored.
-    pub(crate) fn report<E: io::Write>(&self, err: &mut E) {
-        let _ = writeln!(err, "{}", self.counters);
+    pub(crate) fn report<R: Files + AllocGlobal, E: io::Write>(&self, rt: &R, err: &mut E) {
+        let _ = match dropped(rt, &self.places.ports) {
+            Some(dropped) => writeln!(err, "{} dropped {dropped}", self.counters),
+            None => writeln!(err, "{} dropped unknown", self.counters),
+        };
+    }
+
+    /// Returns whether receives or sends failed since that was last printed.
+    pub(crate) fn has_faults(&self) -> bool {
+        self.counters.has_faults()
+    }
+
+    /// Prints how many receives and sends failed since that was last printed. A failure to print is ignored.
+    pub(crate) fn report_faults<E: io::Write>(&mut self, err: &mut E) {
+        let faults = self.counters.take_faults();
+        let _ = writeln!(err, "{faults}");
     }
 
     /// Receives ahead at a place.
@@ -209,8 +315,14 @@ impl Sockets {
         self.ahead.receive(socket, into)
     }
 
-    /// Sends a datagram from a place. One that would have to wait, or isn't sent whole, is a fault.
-    fn put(&self, place: Place, to: Addr, bytes: &[u8]) -> Result<(), LinkFault> {
+    /// Sends a datagram from a place, unless it is to a peer that is denied. One that would have to wait, or isn't sent whole, is
+    /// a fault.
+    fn put(&self, place: Place, to: Addr, bytes: &[u8]) -> Result<(), Unsent> {
+        if let Place::Slot(_) = place
+            && !self.filter.allows(&to)
+        {
+            return Err(Unsent::Denied);
+        }
         let (family, to) = match to {
             Addr::V4 { ip, port } => {
                 let to = SocketAddrV4::new(Ipv4Addr::from(ip), port);
@@ -221,9 +333,12 @@ impl Sockets {
                 (Family::Ipv6, SocketAddr::V6(to))
             }
         };
-        match self.places.at(place, family)?.send_to(bytes, to) {
+        let Ok(socket) = self.places.at(place, family) else {
+            return Err(Unsent::Fault);
+        };
+        match socket.send_to(bytes, to) {
             Ok(n) if n == bytes.len() => Ok(()),
-            _ => Err(LinkFault),
+            _ => Err(Unsent::Fault),
         }
     }
 }
@@ -250,11 +365,14 @@ impl Link for Sockets {
 
     #[inline(always)]
     fn send(&mut self, place: Place, to: Addr, bytes: &[u8]) -> Result<(), LinkFault> {
-        let result = self.put(place, to, bytes);
-        match &result {
-            Ok(()) => self.counters.sent(place, bytes),
-            Err(_) => self.counters.send_failed(),
+        match self.put(place, to, bytes) {
+            Ok(()) => {
+                self.counters.sent(place, bytes);
+                return Ok(());
+            }
+            Err(Unsent::Denied) => self.counters.denied(),
+            Err(Unsent::Fault) => self.counters.send_failed(),
         }
-        result
+        Err(LinkFault)
     }
 }

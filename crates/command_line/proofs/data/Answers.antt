@@ -1,9 +1,0 @@
-use Rattle.std.proofs.Common.{Some, codes, ap}
-use Rattle.clap.specs.Words.{Rule}
-use Rattle.clap.specs.declared.builder.action.ArgAction.TheVariants.{Set}
-use Rattle.command_line.proofs.data.Goals as goal
-
-pub returns-clause-rule : goal.returns-clause-rule
-returns-clause-rule c =
-    rw c.action.ensures (rw c.help.ensures (rw c.value_name.ensures (rw c.long.ensures
-    (ap (λ (r : Rule). record r { long = Some (codes "data"); action = Some Set; value_names = 1 }) c.new.ensures.rule))))

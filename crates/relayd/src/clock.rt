@@ -1,0 +1,78 @@
+//! The moments of datagrams, and what is due from time to time.
+
+use libc::types::timespec;
+use std::rt::Clock;
+use std::time::Duration;
+
+/// Linux's clock that isn't set, and that goes on while the machine is suspended.
+const CLOCK_BOOTTIME: i32 = 7;
+
+/// Returns the time since an arbitrary start, by a clock that isn't set and goes on while the machine is suspended; where the
+/// system has none, by the monotonic one. Where the clock fails it is that start, and nothing is due.
+pub(crate) fn elapsed<R: Clock>(rt: &R) -> Duration {
+    let mut time = timespec {
+        tv_sec: 0,
+        tv_nsec: 0,
+    };
+    if libc::clock_gettime(CLOCK_BOOTTIME, &mut time) == 0
+        && let Ok(seconds) = u64::try_from(time.tv_sec)
+        && let Ok(nanos) = u64::try_from(time.tv_nsec)
+    {
+        return Duration::from_secs(seconds).saturating_add(Duration::from_nanos(nanos));
+    }
+    match rt.monotonic() {
+        Ok(time) => time,
+        Err(_) => Duration::ZERO,
+    }
+}
+
+/// The clock of a server: that of the system at the start, and since then one that isn't set.
+/// See docs/DECISIONS.md, "A server's clock isn't set".
+#[derive(Clone, Copy)]
+pub(crate) struct Moments {
+    /// When the server started, since 1970.
+    start: Duration,
+    /// What [`elapsed`] was then.
+    elapsed: Duration,
+}
+
+impl Moments {
+    /// Returns the clock of a server that starts now. Where the system's clock fails the start is 1970's.
+    pub(crate) fn starting_now<R: Clock>(rt: &R) -> Moments {
+        Moments {
+            start: rt.since_1970().unwrap_or(Duration::ZERO),
+            elapsed: elapsed(rt),
+        }
+    }
+
+    /// Returns the moment of a datagram that comes now: whole seconds since 1970.
+    pub(crate) fn now<R: Clock>(&self, rt: &R) -> u64 {
+        let since = elapsed(rt).saturating_sub(self.elapsed);
+        self.start.saturating_add(since).as_secs()
+    }
+}
+
+/// What is done from time to time. Its moments are those of [`elapsed`].
+#[derive(Clone, Copy)]
+pub(crate) struct Timer {
+    /// The time between two moments.
+    every: Duration,
+    next: Duration,
+}
+
+impl Timer {
+    /// Returns a timer that is due one period after `now`.
+    pub(crate) fn new(now: Duration, every: Duration) -> Timer {
+        let next = now.saturating_add(every);
+        Timer { every, next }
+    }
+
+    /// Returns whether the timer is due, and then sets it for one period after `now`.
+    pub(crate) fn is_due(&mut self, now: Duration) -> bool {
+        if now < self.next {
+            return false;
+        }
+        self.next = now.saturating_add(self.every);
+        true
+    }
+}

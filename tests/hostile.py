@@ -1,0 +1,326 @@
+"""Runs the built relayd's `serve` among users, files and neighbours that would harm others.
+
+Peers that nothing is sent to, a user who allocates through the server's own port, a standard error that nobody reads, files that
+are pipes, folders or too long, bursts, few file descriptors, and two processes that serve one port. All of it stays on loopback.
+"""
+
+import contextlib
+import os
+import pathlib
+import random
+import resource
+import struct
+import subprocess
+import sys
+import tempfile
+import time
+
+from program import PROGRAM, build, finish
+from rules import ALLOCATE, BINDING, CHANNEL_BIND, CHANNEL_NUMBER, CREATE_PERMISSION, message
+from serve import (
+    CHANNEL, LOOPBACK, UDP, USER, Client, Server, address_of, channel_data, code_of, comes, counters, fault_line,
+    free_ports, put, udp_socket, wanted)
+
+# networks of peers, those of the server's loopback addresses among them, and the addresses that are sent to all the same
+RULES = [
+    ([], ["127.0.0.1", "127.0.0.2", "127.1.0.1"]),
+    (["--deny", "127.0.0.2/32"], ["127.0.0.1", "127.1.0.1"]),
+    (["--deny", "127.0.0.0/8"], []),
+    (["--deny", "127.0.0.0/8", "--allow", "127.0.0.0/16"], ["127.0.0.1", "127.0.0.2"]),
+    (["--allow", "127.0.0.0/8", "--deny", "127.0.0.0/16"], ["127.1.0.1"]),
+    (["--deny", "127.0.0.1/32", "--deny", "0.0.0.0/0", "--allow", "127.0.0.1/32"], ["127.0.0.1"]),
+    (["--deny", "::1/128"], ["127.0.0.1", "127.0.0.2", "127.1.0.1"]),
+]
+PEERS = RULES[0][1]
+# addresses that nothing is sent to without any option, by a server that listens on loopback
+NEVER = ["0.0.0.0", "0.1.2.3", "169.254.169.254", "224.0.0.1", "239.255.255.255", "240.0.0.1", "255.255.255.255"]
+# `mov r0, 1` and `exit`: all is passed on to the rules
+PASS = bytes.fromhex("b700000001000000 9500000000000000")
+# a burst, and the length of each of its datagrams: more than the system's usual buffers hold
+BURST, LENGTH = 1_000, 1_200
+# the sessions of two processes that serve one port, each with two channels
+SESSIONS = 64
+
+
+def octets(address):
+    return bytes(int(part) for part in address.split("."))
+
+
+def permit(client, peer):
+    """Asks for a permission for an address and a port, and returns the code of the response."""
+    return code_of(client.signed(CREATE_PERMISSION, [], peer))
+
+
+def denied_peers():
+    """Yields the peers that are sent to and shouldn't be, and those that aren't and should be, by Send and over a channel."""
+    for words, allowed in RULES:
+        with Server(*words, "--stats", "1") as server, Client(server) as client, contextlib.ExitStack() as stack:
+            peers = {address: stack.enter_context(udp_socket(0, address)) for address in PEERS}
+            client.allocate()
+            for address, peer in peers.items():
+                at = octets(address), peer.getsockname()[1]
+                yield from wanted(f"{words}, a permission for {address}", permit(client, at), 0)
+                client.send_to(at, b"sent")
+                found = comes(peer, b"sent", address in allowed)
+                yield from wanted(f"{words}, a Send to {address}", found, address in allowed)
+            address, peer = next(iter(peers.items()))
+            client.bind((octets(address), peer.getsockname()[1]))
+            client.send(channel_data(b"over"))
+            yield from wanted(f"{words}, ChannelData to {address}", comes(peer, b"over", address in allowed), address in allowed)
+            peer.sendto(b"back", ("127.0.0.1", server.first_port))
+            yield from wanted(f"{words}, data of {address}", client.receive(), channel_data(b"back"))
+            denied = len(peers) - len(allowed) + (address not in allowed)
+            expected = counters(
+                from_clients=2 + 2 * len(peers) + 2, from_peers=1, to_peers=len(allowed) + (address in allowed), to_clients=1,
+                granted=2 + len(peers), challenged=1, denied=denied)
+            if not server.awaited(expected):
+                yield f"{words}, other counters: {server.printed()!r}"
+
+
+def never_sent():
+    """Yields the addresses and ports for which a permission is given, and that are sent to."""
+    with Server("--stats", "1") as server, Client(server) as client, udp_socket() as peer:
+        client.allocate()
+        at = [(octets(address), 5000) for address in NEVER]
+        at += [(LOOPBACK, 0), (LOOPBACK, server.port)]
+        for to in at:
+            yield from wanted(f"a permission for {to}", permit(client, to), 0)
+            client.send_to(to, b"sent")
+        client.send_to(address_of(peer), b"sent")
+        yield from wanted("data to a peer on loopback", comes(peer, b"sent", True), True)
+        # all of these are at 127.0.0.1, and one permission is for each address
+        expected = counters(from_clients=3 + 2 * len(at), to_peers=1, granted=1 + len(at), challenged=1, denied=len(at))
+        if not server.awaited(expected):
+            yield f"other counters: {server.printed()!r}"
+
+
+def loopback_behind_all_addresses():
+    """Yields what reaches a service of the machine through a server that listens at all addresses."""
+    first = free_ports(2)
+    words = ["--listen", "0.0.0.0", "--relay-ip", "127.0.0.1", "--port", str(first + 1), "--first-port", str(first)]
+    command = [PROGRAM, "serve", *USER, "--slots", "1", *words, "--stats", "1"]
+    with udp_socket() as service, udp_socket(0, "127.0.0.2") as other:
+        process = subprocess.Popen(command, stdout=subprocess.PIPE, stderr=subprocess.DEVNULL, text=True)
+        try:
+            yield from wanted("the server's line", process.stdout.readline(), f"listening 0.0.0.0:{first + 1}\n")
+            server = type("Address", (), {"port": first + 1})
+            with Client(server) as client:
+                client.allocate()
+                for peer in (service, other):
+                    at = octets(peer.getsockname()[0]), peer.getsockname()[1]
+                    yield from wanted("a permission", permit(client, at), 0)
+                    client.send_to(at, b"sent")
+                    yield from wanted(f"data to {at}", comes(peer, b"sent", False), False)
+        finally:
+            process.terminate()
+            process.wait(5)
+
+
+def loops():
+    """Yields what an allocation through the server's own port does otherwise than fail: no slot reaches that port."""
+    for slots in (2, 3):
+        with Server("--stats", "1", slots=slots) as server, Client(server) as client:
+            client.allocate()
+            own = LOOPBACK, server.port
+            yield from wanted("a permission for the server", permit(client, own), 0)
+            for _ in range(slots):
+                request = message(ALLOCATE, random.randbytes(12), [UDP])
+                client.send_to(own, request)
+            yield from wanted("a Binding after it", client.ask(BINDING, []).kind, BINDING | 0x100)
+            expected = counters(from_clients=4 + slots, granted=3, challenged=1, denied=slots)
+            if not server.awaited(expected):
+                yield f"{slots} slots, other counters: {server.printed()!r}"
+
+
+def unread_errors():
+    """Yields what a server does otherwise than go on where its standard error is a full pipe and its sends fail."""
+    read_end, write_end = os.pipe()
+    os.set_blocking(write_end, False)
+    with contextlib.suppress(BlockingIOError):
+        while True:
+            os.write(write_end, bytes(4096))
+    os.set_blocking(write_end, True)
+    first = free_ports(2)
+    command = [PROGRAM, "serve", "--port", "0", "--first-port", str(first), "--slots", "2", *USER, "--stats", "1"]
+    process = subprocess.Popen(command, stdout=subprocess.PIPE, stderr=write_end, text=True)
+    os.close(write_end)
+    try:
+        server = type("Address", (), {"port": int(process.stdout.readline().rpartition(":")[2])})
+        with Client(server) as client:
+            client.allocate()
+            # a socket of loopback can't send to this address
+            unreachable = bytes([192, 0, 2, 1]), 5000
+            yield from wanted("a channel to a peer without a route", code_of(client.bind(unreachable)), 0)
+            end = time.monotonic() + 2.5
+            while time.monotonic() < end:
+                client.send(channel_data(b"lost"))
+                yield from wanted("a Binding meanwhile", client.ask(BINDING, []).kind, BINDING | 0x100)
+                time.sleep(0.02)
+    finally:
+        os.close(read_end)
+        process.terminate()
+        process.wait(5)
+
+
+def few_fault_lines():
+    """Yields how many lines of faults come in some seconds, where it is more than one a second, or what they add up to."""
+    with Server() as server, Client(server) as client:
+        client.allocate()
+        client.bind((bytes([192, 0, 2, 1]), 5000))
+        start = time.monotonic()
+        for _ in range(150):
+            client.send(channel_data(b"lost"))
+            client.ask(BINDING, [])
+            time.sleep(0.02)
+        seconds = time.monotonic() - start
+        end = time.monotonic() + 5
+        while sum(faults_in(server)) < 150 and time.monotonic() < end:
+            time.sleep(0.05)
+        found = faults_in(server)
+        yield from wanted("faults that are printed", sum(found), 150)
+        if not 2 <= len(found) <= seconds + 2:
+            yield f"{len(found)} lines in {seconds:.1f} seconds: {server.printed()!r}"
+
+
+def faults_in(server):
+    """The numbers of send faults in the lines that a server has printed."""
+    lines = server.printed().splitlines(True)
+    found = [int(line.split()[-1]) for line in lines]
+    return found if lines == [fault_line(send=count) for count in found] else [-1]
+
+
+def odd_files():
+    """Yields what a server does otherwise than report once, and go on, where a program's file becomes something else."""
+    with tempfile.TemporaryDirectory() as name:
+        for side in ("client", "peer"):
+            path = pathlib.Path(name) / side
+            put(path, PASS)
+            with Server(f"--{side}", str(path)) as server, Client(server) as client:
+                printed = ""
+                for what, line in made_into(path):
+                    printed += f"cannot use {path}: {line}\n" if line else ""
+                    if line:
+                        server.awaited("\n", printed.count("\n"))
+                    else:
+                        time.sleep(2.2)
+                    yield from wanted(f"lines of {what}", server.printed(), printed)
+                    yield from wanted(f"a Binding after {what}", client.ask(BINDING, []).kind, BINDING | 0x100)
+            path.unlink(missing_ok=True)
+
+
+def made_into(path):
+    """Makes the file of a path into something else, again and again, and yields what it is and what is reported of it."""
+    path.unlink()
+    os.mkfifo(path)
+    yield "a pipe", "not a regular file"
+    path.unlink()
+    path.mkdir()
+    yield "a folder after it", ""
+    path.rmdir()
+    with open(path, "wb") as file:
+        file.truncate(300_000_000)
+    yield "300 MB", "more than 32768 bytes"
+    path.unlink()
+    yield "nothing", ""
+    put(path, PASS)
+    yield "the program that runs", ""
+    path.unlink()
+    path.symlink_to("/dev/zero")
+    yield "a device", "not a regular file"
+    path.unlink()
+
+
+def bursts():
+    """Yields what is lost of a burst that comes while the server is stopped, and how the system's drops are counted."""
+    largest = int(pathlib.Path("/proc/sys/net/core/rmem_max").read_text())
+    with Server("--stats", "1") as server, Client(server) as client, udp_socket() as peer:
+        client.allocate()
+        client.bind(address_of(peer))
+        if largest < 4 << 20:
+            yield from wanted("the line of buffers", server.all_printed().startswith("buffers of "), True)
+            return
+        with server.stopped():
+            for number in range(BURST):
+                client.send(channel_data(struct.pack(">I", number) * (LENGTH // 4)))
+        expected = counters(from_clients=3 + BURST, to_peers=BURST, granted=2, challenged=1)
+        if not server.awaited(expected):
+            yield f"other counters after a burst: {server.printed()!r}"
+    with Server("--stats", "1", "--buffer", "4096") as server, Client(server) as client:
+        with server.stopped():
+            for _ in range(100):
+                client.send(channel_data(bytes(LENGTH)))
+        time.sleep(0.5)
+        client.ask(BINDING, [])
+        came = dropped = 0
+        end = time.monotonic() + 5
+        while came + dropped != 101 and time.monotonic() < end:
+            time.sleep(0.1)
+            words = (server.printed().splitlines() or ["received from clients 0 dropped 0"])[-1].split()
+            came, dropped = int(words[3]), int(words[-1])
+        yield from wanted("datagrams that came and those that were dropped", came + dropped, 101)
+        yield from wanted("that some were dropped", dropped > 0, True)
+
+
+def few_descriptors():
+    """Yields what is printed otherwise where the process may open few files."""
+    first = free_ports(16)
+
+    def limit():
+        resource.setrlimit(resource.RLIMIT_NOFILE, (12, 12))
+
+    words = [PROGRAM, "serve", "--port", "0", "--first-port", str(first), *USER, "--rounds", "0"]
+    ran = subprocess.run(words, capture_output=True, text=True, preexec_fn=limit, check=False)
+    yield from wanted("the status", ran.returncode, 3)
+    if not (ran.stderr.startswith("cannot bind 127.0.0.1:") and ran.stderr.endswith("\ntoo many open files\n")):
+        yield f"printed {ran.stderr!r}"
+
+
+def shared_port():
+    """Yields what two processes that serve one port do otherwise than keep each client, whose data come back to it."""
+    first = free_ports(2 * SESSIONS + 1)
+    port = first + 2 * SESSIONS
+    with contextlib.ExitStack() as stack:
+        for index in range(2):
+            words = ["--port", str(port), "--first-port", str(first + index * SESSIONS), "--slots", str(SESSIONS), "--reuse-port"]
+            process = subprocess.Popen([PROGRAM, "serve", *USER, *words], stdout=subprocess.PIPE, text=True)
+            stack.callback(process.wait, 5)
+            stack.callback(process.terminate)
+            yield from wanted("the line of a server", process.stdout.readline(), f"listening 127.0.0.1:{port}\n")
+        server = type("Address", (), {"port": port})
+        sessions, used = [], set()
+        for number in range(SESSIONS):
+            client = stack.enter_context(Client(server))
+            peers = [stack.enter_context(udp_socket()) for _ in range(2)]
+            yield from wanted(f"allocation {number}", code_of(client.allocate()), 0)
+            for channel, peer in enumerate(peers):
+                given = [(CHANNEL_NUMBER, struct.pack(">HH", CHANNEL + channel, 0))]
+                yield from wanted(f"channel {channel} of {number}", code_of(client.signed(CHANNEL_BIND, given, address_of(peer))), 0)
+            sessions.append((client, peers))
+        for number, (client, peers) in enumerate(sessions):
+            for channel, peer in enumerate(peers):
+                data = struct.pack(">HHII", CHANNEL + channel, 8, number, channel)
+                client.send(data)
+                found, relayed = peer.recvfrom(100)
+                yield from wanted(f"data {number} over channel {channel}", found, data[4:])
+                peer.sendto(found, relayed)
+                yield from wanted(f"data {number} back over channel {channel}", client.receive(), data)
+                used.add((relayed[1] - first) // SESSIONS)
+        yield from wanted("the processes that serve", used, {0, 1})
+
+
+def main():
+    """Runs every part, and returns the exit status."""
+    build()
+    parts = [denied_peers, never_sent, loopback_behind_all_addresses, loops, unread_errors, few_fault_lines, odd_files, bursts,
+             few_descriptors, shared_port]
+    failures = []
+    for part in parts:
+        try:
+            failures += [f"{part.__name__}: {failure}" for failure in part()]
+        except (OSError, ValueError, AttributeError, RuntimeError, subprocess.TimeoutExpired) as error:
+            failures.append(f"{part.__name__}: {error!r}")
+    return finish(failures, f"hostile: {len(parts)} parts, {len(failures)} failures")
+
+
+if __name__ == "__main__":
+    sys.exit(main())
