@@ -20,3 +20,4 @@ pub mod Plainness
 pub mod Covering
 pub mod Words
 pub mod Packing
+pub mod Signing

@@ -12,6 +12,7 @@ mod mark_words;
 mod memory;
 mod packed;
 mod part;
+mod signature;
 mod storing;
 mod sums;
 
@@ -20,3 +21,4 @@ pub use abstract_step::Next;
 pub use change::{Change, Transition};
 pub use packed::PackedState;
 pub use part::Part;
+pub use signature::StateSignature;

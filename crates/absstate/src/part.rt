@@ -96,6 +96,7 @@ impl<D: Domain> Part<D> {
     ghost use Rattle.absstate.specs.declared.abstract_state.AbsState.{AbsState};
 
     /// Returns whether no state with this part covers a state, whose marks are these words.
+    #[inline(always)]
     pub fn rules_out(&self, other: &AbsState<D>, words: &MarkWords) -> bool
         requires { words.now ≡ words_of other.now.marks.cells }
         ensures { (a : AbsState D) → IsPartOf a self.now → result ≡ true → covers D.ops a other.now ≡ false }

@@ -1,6 +1,6 @@
 -- Interface. Intervals are a sound domain, and a precise one.
-use Rattle.std.proofs.Common.{◌≡◌, ℕ, ◌-◌, ◌^◌, true, refl, arith}
-use Rattle.std.specs.Prelude.{nat_le}
+use Rattle.std.proofs.Common.{◌≡◌, ℕ, ◌-◌, ◌^◌, true, refl, ap, ◌∙◌, arith}
+use Rattle.std.specs.Prelude.{nat_le, ◌≤◌, ◌&&◌}
 use Rattle.std.proofs.lemmas.Bool.{leb-true, and_parts}
 use Rattle.interval.specs.declared.domain.Bounds.{Bounds}
 use Rattle.interval.specs.Domains.{AreSound, ArePrecise}
@@ -16,14 +16,25 @@ pub mod Refinements
 pub mod Narrow
 pub mod Passing
 
+-- the ends of an interval and of one that it contains, in their order
+ends_in_order : (x y : Bounds) → contains x y ≡ true → (x.lo ≤ y.lo) × (y.lo ≤ y.hi) × (y.hi ≤ x.hi)
+ends_in_order x y e =
+    let first = and_parts (nat_le x.lo y.lo) (nat_le y.lo y.hi && nat_le y.hi x.hi) e in
+    let rest = and_parts (nat_le y.lo y.hi) (nat_le y.hi x.hi) first.1 in
+    (leb-true x.lo y.lo first.0, leb-true y.lo y.hi rest.0, leb-true y.hi x.hi rest.1)
+
 covers_member : (x y : Bounds) (n : ℕ) → contains x y ≡ true → LiesBetween y n → LiesBetween x n
 covers_member x y n e h =
-    let ends = and_parts (nat_le x.lo y.lo) (nat_le y.hi x.hi) e in
-    record {
-      word = h.word;
-      above = omega (arith, h.above, leb-true x.lo y.lo ends.0);
-      below = omega (arith, h.below, leb-true y.hi x.hi ends.1);
-    }
+    let ends = ends_in_order x y e in
+    record { word = h.word; above = omega (arith, h.above, ends.0); below = omega (arith, h.below, ends.2) }
+
+-- an interval of one word contains itself alone
+one_contains : (x y : Bounds) → contains x y ≡ true → x.lo ≡ x.hi → y ≡ x
+one_contains x y e one =
+    let ends = ends_in_order x y e in
+    let lo : y.lo ≡ x.lo = omega (arith, one, ends.0, ends.1, ends.2) in
+    let hi : y.hi ≡ x.hi = omega (arith, one, ends.0, ends.1, ends.2) in
+    ap (λ (n : ℕ). record { lo = n; hi = y.hi }) lo ∙ ap (λ (n : ℕ). record { lo = x.lo; hi = n }) hi
 
 pub interval_laws : AreSound interval_ops LiesBetween
 interval_laws = record {
@@ -36,6 +47,7 @@ interval_laws = record {
   unary = λ op x n h. is_member _ _ (unary_sound op x n h);
   refine = λ test w x y m n h k passed. refine_sound x y m n h k w test passed;
   covers = covers_member;
+  covered_by_one = one_contains;
 }
 
 pub interval_precise : ArePrecise interval_ops LiesBetween

@@ -192,8 +192,9 @@ interval_refine test w x y =
 
 -- ---- all operations
 
+-- the ends of an interval lie between those of another one, in their order
 abbrev pub contains : Bounds → Bounds → Bool
-contains x y = nat_le x.lo y.lo && nat_le y.hi x.hi
+contains x y = nat_le x.lo y.lo && (nat_le y.lo y.hi && nat_le y.hi x.hi)
 
 abbrev pub interval_ops : Operations Bounds
 interval_ops = record {

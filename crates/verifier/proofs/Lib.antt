@@ -3,6 +3,7 @@ pub mod Positions
 pub mod Branches
 pub mod Counting
 pub mod Keeping
+pub mod Signed
 pub mod Safety
 pub mod Reaching
 pub mod Walking

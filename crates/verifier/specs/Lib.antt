@@ -1,6 +1,7 @@
 -- Internal. The modules of this folder.
 pub mod Layout
 pub mod Goals
+pub mod Signed
 pub mod Keeping
 pub mod Walk
 pub mod Walks

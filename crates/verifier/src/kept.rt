@@ -1,17 +1,20 @@
 //! The states that the walk keeps, at the slots that jumps lead to.
 
-ghost use Rattle.std.specs.Prelude.{◌≡◌, ◌≤◌, ◌<◌, ℕ, true, None, [], length, slice_index_or, OnOk, IfOk, IfSome, IfNone, is_some};
+ghost use Rattle.std.specs.Prelude.{◌≡◌, ◌≤◌, ◌<◌, ℕ, true, false, None, [], length, slice_index_or, OnOk, IfOk, IfSome, IfNone, is_some};
 ghost use Rattle.std.specs.List.{list_any};
 ghost use Rattle.insn.specs.Encoding.{slot_count};
 ghost use Rattle.insn.specs.declared.decoding.TheConstants.{MAX_SLOTS};
 ghost use Rattle.absstate.specs.Covers.{covers};
 ghost use Rattle.absstate.specs.MarkWords.{words_of};
+ghost use Rattle.absstate.specs.Signatures.{lies_within};
+ghost use Rattle.absstate.specs.declared.signature.StateSignature.{StateSignature};
 ghost use Rattle.verifier.specs.Goals.{goal_at};
+ghost use Rattle.verifier.specs.Signed.{signatures_of};
 ghost use Rattle.verifier.specs.Keeping.{states_of, states_with, kept_at, is_covered, HasCover, KeepsNothing, KeepsAtGoals, MarksGoal, Keeps};
 
 use crate::layout::distance;
 use crate::walk::Pending;
-use absstate::{AbsState, PackedState, Part};
+use absstate::{AbsState, PackedState, Part, StateSignature};
 use insn::MAX_SLOTS;
 use interval::Domain;
 use semantics::{Fetched, Program};
@@ -37,19 +40,23 @@ impl<D: Domain> Model for KeptState<D> {
     ghost invariant = { λ k. IsPartOf k.state.value k.part };
 }
 
-/// The states that are kept at a slot.
+/// The states that are kept at a slot, and beside them the signature of each, which is compared first.
 #[derive(Drop)]
 pub struct States<D: Domain> {
+    signatures: Vec<StateSignature>,
     states: Vec<KeptState<D>>,
 }
 
 impl<D: Domain> Model for States<D> {
-    ghost use Rattle.std.specs.Prelude.{List};
+    ghost use Rattle.std.specs.Prelude.{◌≡◌, List};
     ghost use Rattle.absstate.specs.declared.abstract_state.AbsState.{AbsState};
+    ghost use Rattle.verifier.specs.Signed.{signatures_of};
 
     ghost Value = { List (AbsState D) };
 
     ghost view = { λ s. s.states.items };
+
+    ghost invariant = { λ s. s.signatures.items ≡ signatures_of D.ops s.states.items };
 }
 
 /// The states that the walk has kept, by slot: `None` at each slot that no jump leads to. The list ends at the last slot that
@@ -114,21 +121,40 @@ impl<D: Domain> KeptState<D> {
     }
 }
 
-/// Returns whether one of some states covers a state, whose marks are these words.
+/// Returns the index of the first signature, from an index on, that is within another one; their number where none is.
+fn next_within(signatures: &[StateSignature], other: StateSignature, from: usize) -> usize
+    requires { from ≤ length signatures.now }
+    ensures after { from ≤ result }
+    ensures inside { result ≤ length signatures.now }
+    ensures none { (i : ℕ) → (s : StateSignature) → from ≤ i → i < result → slice_index_or signatures.now i s ≡ s → lies_within s other ≡ false }
+{
+    let mut next = from;
+    while next < signatures.len() && !signatures[next].lies_within(other) {
+        next += 1;
+    }
+    next
+}
+
+/// Returns whether one of some states, each with its signature, covers a state, whose marks are these words.
 fn one_covers<D: Domain>(
+    signatures: &[StateSignature],
     states: &mut Vec<KeptState<D>>,
     state: &AbsState<D>,
     words: &[u64; 8],
 ) -> bool
-    requires { words.now ≡ words_of state.now.marks.cells }
+    requires signatures { signatures.now ≡ signatures_of D.ops states.old.items }
+    requires words { words.now ≡ words_of state.now.marks.cells }
     ensures same { states.new.items ≡ states.old.items }
     ensures value { result ≡ list_any (λ kept. covers D.ops kept state.now) states.old.items }
     ensures members { result ≡ true → HasCover D.Member states.old.items state.now }
 {
-    for i in 0..states.len() {
-        if states[i].covers(state, words) {
+    let signature = state.signature(words);
+    let mut at = next_within(signatures, signature, 0);
+    while at < states.len() {
+        if states[at].covers(state, words) {
             return true;
         }
+        at = next_within(signatures, signature, at + 1);
     }
     false
 }
@@ -144,6 +170,7 @@ impl<D: Domain> States<D> {
         ensures { result ≡ [] }
     {
         States {
+            signatures: Vec::new(alloc),
             states: Vec::new(alloc),
         }
     }
@@ -158,7 +185,21 @@ impl<D: Domain> States<D> {
             return false;
         }
         let words = state.words();
-        one_covers(&mut self.states, state, &words)
+        one_covers(&self.signatures, &mut self.states, state, &words)
+    }
+
+    /// Makes room for the first state alone, where none is kept: most slots have no other one.
+    ///
+    /// # Errors
+    /// Where memory runs out.
+    fn reserve_first(&mut self) -> Result<(), AllocError>
+        ensures { OnOk result (self.new ≡ self.old) }
+    {
+        if self.states.is_empty() {
+            self.states.reserve_exact(1)?;
+            self.signatures.reserve_exact(1)?;
+        }
+        Ok(())
     }
 
     /// Appends a state.
@@ -168,10 +209,14 @@ impl<D: Domain> States<D> {
     fn push(&mut self, alloc: Global, state: &AbsState<D>) -> Result<(), AllocError>
         ensures { OnOk result (self.new ≡ self.old ++ state.now ∷ []) }
     {
-        if self.states.is_empty() {
-            self.states.reserve_exact(1)?;
+        self.reserve_first()?;
+        let kept = KeptState::new(alloc, state)?;
+        let signature = state.signature(&state.words());
+        self.signatures.push(signature)?;
+        if let Err(e) = self.states.push(kept) {
+            self.signatures.pop();
+            return Err(e.into());
         }
-        self.states.push(KeptState::new(alloc, state)?)?;
         Ok(())
     }
 }

@@ -143,6 +143,13 @@ impl Domain for Known {
         ]
         | Unknown ↦ elim [ Exact b ↦ λ n e h. h.0 | Unknown ↦ λ n e h. h ]
       ];
+      covered_by_one = elim [
+        | Exact a ↦ elim [
+          | Exact b ↦ λ e one i. record { lo = sym (eqb-true a b e) i; hi = sym (eqb-true a b e) i }
+          | Unknown ↦ λ e one. absurd (true≢false (sym e))
+        ]
+        | Unknown ↦ λ y e one. absurd (Prim.omega (arith, one))
+      ];
     } };
 
     ghost small = { Prim.omega arith };

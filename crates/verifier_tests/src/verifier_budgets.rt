@@ -19,7 +19,7 @@ struct Row {
     interval: Steps,
 }
 
-static ROWS: [Row; 19] = [
+static ROWS: [Row; 23] = [
     // slots 0 to 5, then 6 and 7, and 7 again for the taken branch
     Row {
         name: "both branches of a comparison of pointers",
@@ -171,6 +171,46 @@ static ROWS: [Row; 19] = [
              stxdw [r10-8], r1\nexit",
         known: Some((8, 6)),
         interval: (8, 6),
+    },
+    // slots 0 to 4, and 4 again: the signatures of 34 and of 0 in r0 are the same
+    Row {
+        name: "two states differ and have one signature",
+        text: "ldxdw r2, [r1+16]\nmov r0, 0\njset r2, 1, +1\nmov r0, 34\nexit",
+        known: Some((6, 4)),
+        interval: (6, 4),
+    },
+    // slots 0 to 8, and 8 twice more: there r0 is 1, 2 and 3, and then 2 again
+    Row {
+        name: "a state is covered by the second of three",
+        text: "ldxdw r2, [r1+16]\nmov r0, 2\njset r2, 1, +5\nmov r0, 3\njset r2, 2, +3\nmov r0, 2\n\
+             jset r2, 4, +1\nmov r0, 1\nexit",
+        known: Some((11, 8)),
+        interval: (11, 8),
+    },
+    // slots 0 to 19, 20 to 38 with each of ten numbers in r3, and 39 and 40 with each of ten in r4 too
+    Row {
+        name: "a hundred states are kept at a slot",
+        text: "ldxdw r2, [r1+16]\nmov r3, 0\njset r2, 1, first\nmov r3, 1\njset r2, 1, first\n\
+             mov r3, 2\njset r2, 1, first\nmov r3, 3\njset r2, 1, first\nmov r3, 4\n\
+             jset r2, 1, first\nmov r3, 5\njset r2, 1, first\nmov r3, 6\njset r2, 1, first\n\
+             mov r3, 7\njset r2, 1, first\nmov r3, 8\njset r2, 1, first\nmov r3, 9\nfirst:\n\
+             mov r4, 0\njset r2, 1, second\nmov r4, 1\njset r2, 1, second\nmov r4, 2\n\
+             jset r2, 1, second\nmov r4, 3\njset r2, 1, second\nmov r4, 4\n\
+             jset r2, 1, second\nmov r4, 5\njset r2, 1, second\nmov r4, 6\n\
+             jset r2, 1, second\nmov r4, 7\njset r2, 1, second\nmov r4, 8\n\
+             jset r2, 1, second\nmov r4, 9\nsecond:\nmov r0, 0\nexit",
+        known: Some((410, 40)),
+        interval: (410, 40),
+    },
+    // slots 0 and 1, then 2 of 1, 2, 4 .. 256 states, and 20 of 512
+    Row {
+        name: "512 states are kept at a slot",
+        text: "ldxdw r2, [r1+16]\nmov r0, 0\njset r2, 1, +1\nadd r0, 1\njset r2, 1, +1\n\
+             add r0, 2\njset r2, 1, +1\nadd r0, 4\njset r2, 1, +1\nadd r0, 8\n\
+             jset r2, 1, +1\nadd r0, 16\njset r2, 1, +1\nadd r0, 32\njset r2, 1, +1\n\
+             add r0, 64\njset r2, 1, +1\nadd r0, 128\njset r2, 1, +1\nadd r0, 256\nexit",
+        known: Some((1536, 20)),
+        interval: (1536, 20),
     },
 ];
 

@@ -93,7 +93,7 @@ values_at ops a b (v ∷ vs) [] n e lt lt' = absurd (omega (arith, lt'))
 values_at ops a b (v ∷ vs) (u ∷ us) zero e lt lt' = first_of_and (covers_value ops a b v u) (covers_values ops a b vs us) e
 values_at ops a b (v ∷ vs) (u ∷ us) (suc n) e lt lt' = values_at ops a b vs us n (rest_of_and (covers_value ops a b v u) (covers_values ops a b vs us) e) (omega (arith, lt)) (omega (arith, lt'))
 
-int_same : (p k : ℤ) → same_int p k ≡ true → p ≡ k
+pub int_same : (p k : ℤ) → same_int p k ≡ true → p ≡ k
 int_same k l e = let p = le_of k l (first_of_and (int_le k l) (int_le l k) e) in let q = le_of l k (rest_of_and (int_le k l) (int_le l k) e) in omega (arith, ints, p, q)
 
 between_zero : (p : ℤ) → pos 0 ≤ℤ p → p ≤ℤ pos 0 → p ≡ pos 0

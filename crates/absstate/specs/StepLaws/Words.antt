@@ -16,25 +16,25 @@ use Rattle.absstate.specs.StepLaws.MemoryValues.{first_of_and, rest_of_and, both
 use Rattle.absstate.specs.declared.abstract_state.AbsState.{AbsState}
 
 -- each bit of the first number is one of the second
-abbrev IsWithin : ℕ → ℕ → Type 0
+abbrev pub IsWithin : ℕ → ℕ → Type 0
 IsWithin a b = bit_and a b ≡ a
 
 -- ---- a word
 
-within_double : (a b : ℕ) → IsWithin a b → IsWithin (a * 2 ^ 1) (b * 2 ^ 1)
-within_double a b h =
-    let block : bit_and (a * 2 ^ 1 + 0) (b * 2 ^ 1 + 0) ≡ bit_and a b * 2 ^ 1 + bit_and 0 0 = and_block 1 a b 0 0 (omega arith) (omega arith) in
-    let one : a * 2 ^ 1 + 0 ≡ a * 2 ^ 1 = omega arith in
-    let other : b * 2 ^ 1 + 0 ≡ b * 2 ^ 1 = omega arith in
-    ap (λ (x : ℕ). bit_and x (b * 2 ^ 1)) (sym one) ∙ ap (λ (y : ℕ). bit_and (a * 2 ^ 1 + 0) y) (sym other) ∙ block ∙ ap (λ (x : ℕ). x * 2 ^ 1 + 0) h ∙ one
+pub within_times : (a b k : ℕ) → IsWithin a b → IsWithin (a * 2 ^ k) (b * 2 ^ k)
+within_times a b k h =
+    let block : bit_and (a * 2 ^ k + 0) (b * 2 ^ k + 0) ≡ bit_and a b * 2 ^ k + bit_and 0 0 = and_block k a b 0 0 (pow_pos k) (pow_pos k) in
+    let one : a * 2 ^ k + 0 ≡ a * 2 ^ k = omega arith in
+    let other : b * 2 ^ k + 0 ≡ b * 2 ^ k = omega arith in
+    ap (λ (x : ℕ). bit_and x (b * 2 ^ k)) (sym one) ∙ ap (λ (y : ℕ). bit_and (a * 2 ^ k + 0) y) (sym other) ∙ block ∙ ap (λ (x : ℕ). x * 2 ^ k + 0) h ∙ one
 
-within_mod : (a b k : ℕ) → IsWithin a b → IsWithin (a % 2 ^ k) (b % 2 ^ k)
+pub within_mod : (a b k : ℕ) → IsWithin a b → IsWithin (a % 2 ^ k) (b % 2 ^ k)
 within_mod a b k h = sym (and_mod a b k) ∙ ap (λ (x : ℕ). x % 2 ^ k) h
 
 least : (x y u v : ℕ) → min x u ≡ x → min y v ≡ y → min (max x y) (max u v) ≡ max x y
 least x y u v p q = omega (arith, p, q)
 
-within_or : (a b c d : ℕ) → IsWithin a b → IsWithin c d → IsWithin (bit_or a c) (bit_or b d)
+pub within_or : (a b c d : ℕ) → IsWithin a b → IsWithin c d → IsWithin (bit_or a c) (bit_or b d)
 within_or a b c d h k = same_from_bits (bit_and (bit_or a c) (bit_or b d)) (bit_or a c) (λ i.
     bit_at_and (bit_or a c) (bit_or b d) i
     ∙ ap (λ (x : ℕ). min x (bit_at (bit_or b d) i)) (bit_at_or a c i)
@@ -50,9 +50,9 @@ within_bit false false e = refl
 
 within_shifted : (a b : ℕ) (m o : Bool) → IsWithin a b → (not m || o) ≡ true → IsWithin (shifted a m) (shifted b o)
 within_shifted a b m o h e =
-    within_or (a * 2 ^ 1 % 2 ^ 64) (b * 2 ^ 1 % 2 ^ 64) (bit_of m) (bit_of o) (within_mod (a * 2 ^ 1) (b * 2 ^ 1) 64 (within_double a b h)) (within_bit m o e)
+    within_or (a * 2 ^ 1 % 2 ^ 64) (b * 2 ^ 1 % 2 ^ 64) (bit_of m) (bit_of o) (within_mod (a * 2 ^ 1) (b * 2 ^ 1) 64 (within_times a b 1 h)) (within_bit m o e)
 
-nothing_within : (b : ℕ) → IsWithin 0 b
+pub nothing_within : (b : ℕ) → IsWithin 0 b
 nothing_within b = omega (arith, and_le_l 0 b)
 
 no_mark : (m : Bool) → not m ≡ true → (not m || false) ≡ true
@@ -90,7 +90,7 @@ covers_drop (suc n) (m ∷ ms) (o ∷ os) e = covers_drop n ms os (rest_of_and (
 
 -- ---- all words
 
-same_number : (m n : ℕ) → m ≡ n → (m == n) ≡ true
+pub same_number : (m n : ℕ) → m ≡ n → (m == n) ≡ true
 same_number m n e = subst (λ (k : ℕ). (m == k) ≡ true) e (itself m) where
   itself : (k : ℕ) → (k == k) ≡ true
   itself k = search rules

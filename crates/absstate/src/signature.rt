@@ -1,0 +1,114 @@
+//! Signatures of states. A state covers only states whose signatures have all bits of its own, which two words decide.
+
+ghost use Rattle.std.specs.Prelude.{◌≡◌, ◌≤◌, ◌+◌, length};
+ghost use Rattle.absstate.specs.MarkWords.{words_of};
+ghost use Rattle.absstate.specs.Signatures.{hashed_bit, number_bit, value_bit, value_bits, mark_bits, state_signature, lies_within};
+
+use crate::abstract_state::{AbsState, AbstractValue};
+use crate::covering::registers_of;
+use crate::mark_words::MarkWords;
+use interval::{Bounds, Domain};
+
+/// What is compared of states first: two words that have a bit for each value that is known exactly, and for each mark.
+/// See docs/DECISIONS.md, "What distinguishes a kept state".
+#[derive(Clone, Copy, Debug, PartialEq, Eq)]
+pub struct StateSignature {
+    values: u64,
+    marks: u64,
+}
+
+/// Returns one bit of 64, by a hash of an index, a kind and a number.
+fn hashed_bit(index: usize, kind: u64, number: u64) -> u64
+    requires index { index ≤ 75 }
+    requires kind { kind ≤ 7 }
+    ensures { result ≡ hashed_bit index kind number }
+{
+    let place = (8 * index as u64 + kind).wrapping_mul(13_787_848_793_156_543_929);
+    let hash = number
+        .wrapping_add(place)
+        .wrapping_mul(11_400_714_819_323_198_485);
+    1 << (hash >> 58)
+}
+
+/// Returns the bit of a number with these bounds, if it is known exactly.
+fn number_bit(index: usize, bounds: Bounds) -> u64
+    requires { index ≤ 75 }
+    ensures { result ≡ number_bit index bounds }
+{
+    if bounds.lo == bounds.hi {
+        hashed_bit(index, 0, bounds.lo)
+    } else {
+        0
+    }
+}
+
+/// Returns the bit of a value; none where the value isn't known exactly.
+fn value_bit<D: Domain>(index: usize, value: AbstractValue<D>) -> u64
+    requires { index ≤ 75 }
+    ensures { result ≡ value_bit D.ops index value }
+{
+    match value {
+        AbstractValue::Nothing => 0,
+        AbstractValue::Scalar(number) => number_bit(index, number.bounds()),
+        AbstractValue::Ctx => hashed_bit(index, 1, 0),
+        AbstractValue::Stack(offset) => hashed_bit(index, 2, u64::from(offset.cast_unsigned())),
+        AbstractValue::Data { offset, .. } => hashed_bit(
+            index,
+            3,
+            u64::from(offset.cast_unsigned()),
+        ),
+        AbstractValue::End => hashed_bit(index, 4, 0),
+    }
+}
+
+/// Returns the bits of values from an index on.
+fn value_bits<D: Domain>(index: usize, values: &[AbstractValue<D>]) -> u64
+    requires { index + length values.now ≤ 75 }
+    ensures { result ≡ value_bits D.ops index values.now }
+{
+    match values {
+        [] => 0,
+        [AbstractValue::Nothing, values @ ..] => value_bits(index + 1, values),
+        [first, values @ ..] => value_bit(index, *first) | value_bits(index + 1, values),
+    }
+}
+
+/// Returns the bits of words of marks, of which each is rotated by 9 bits more than the one before it.
+fn mark_bits(index: usize, words: &[u64]) -> u64
+    requires { index + length words.now ≤ 8 }
+    ensures { result ≡ mark_bits index words.now }
+{
+    match words {
+        [] => 0,
+        [first, words @ ..] => first.rotate_left(9 * index as u32) | mark_bits(index + 1, words),
+    }
+}
+
+impl StateSignature {
+    ghost use Rattle.std.specs.Prelude.{◌≡◌};
+    ghost use Rattle.absstate.specs.Signatures.{lies_within};
+
+    /// Returns whether all bits of this signature are bits of another one.
+    pub fn lies_within(self, other: StateSignature) -> bool
+        ensures { result ≡ lies_within self other }
+    {
+        self.values & other.values == self.values && self.marks & other.marks == self.marks
+    }
+}
+
+impl<D: Domain> AbsState<D> {
+    ghost use Rattle.std.specs.Prelude.{◌≡◌};
+    ghost use Rattle.absstate.specs.MarkWords.{words_of};
+    ghost use Rattle.absstate.specs.Signatures.{state_signature};
+
+    /// Returns the signature of this state, whose marks are these words.
+    pub fn signature(&self, words: &MarkWords) -> StateSignature
+        requires { words.now ≡ words_of self.now.marks.cells }
+        ensures { result ≡ state_signature D.ops self.now }
+    {
+        StateSignature {
+            values: value_bits(0, registers_of(self)),
+            marks: mark_bits(0, words),
+        }
+    }
+}
