@@ -71,10 +71,15 @@ def known_programs():
     zero = ["mov r0, 0", "mov r9, 0"]
     datagram = ["ldxdw r9, [r1+0]", "ldxdw r7, [r1+24]", "mov r6, r9"]
     kept = [f"stxdw [r10-{8 * (group + 1)}], r1" for group in range(64)]
+    registers = (0, 3, 4, 5, 6, 7, 8, 9)
+    a_byte = [line for register in registers for line in (f"ldxdw r{register}, [r1+24]", f"and r{register}, 255")]
+    wide = [[f"add r{registers[number // 2]}, {256 << number}"] for number in range(16)]
     return {
         "sums in r0": HEAD + zero + forks(sums(16, 0)) + TAIL,
         "sums in the last register": HEAD + zero + forks(sums(16, 9)) + TAIL,
         "sums in two registers": HEAD + zero + forks([*sums(8, 0), *sums(8, 9)]) + TAIL,
+        "sums of a byte in a register": HEAD[:1] + a_byte[-2:] + zero[:1] + forks([[f"add r9, {256 << n}"] for n in range(16)]) + TAIL,
+        "sums of bytes in eight registers": HEAD[:1] + a_byte + forks(wide) + TAIL,
         "marks": HEAD + forks(marks(16, lambda number: number)) + TAIL,
         "marks with a chain": HEAD + forks(marks(14, lambda number: number)) + chain(3) + TAIL,
         "marks of all words": HEAD + forks(marks(16, lambda number: 32 * number + 1)) + TAIL,
