@@ -30,7 +30,7 @@ INLINE int channel_data(struct context *ctx, u8 *data, u8 *end) {
 INLINE int send_indication(u8 *data, u8 *end) {
   struct attribute *at = (void *)(data + sizeof(struct header));
 #pragma unroll
-  for (int i = 0; i < ATTRIBUTES; i++) {
+  for (int i = 1; i < ATTRIBUTES; i++) {
     if ((u8 *)(at + 1) > end)
       return DISCARD;
     if (at->type == SWAP16(XOR_PEER_ADDRESS))
