@@ -36,7 +36,7 @@ TEST = re.compile(r"^ *#\[test\]$", re.MULTILINE)
 # how many test functions there may be, how many edits that must fail, in all and of a crate, and how many parameters of
 # a function besides `self`; and the functions that may have more: see docs/DECISIONS.md, "Six arguments of `respond`"
 MOST_TESTS = 60
-MOST_EDITS = 160
+MOST_EDITS = 150
 MOST_EDITS_OF_CRATE = 8
 MOST_PARAMETERS = 5
 LONG = {"respond", "allocate", "allocate_anew"}
