@@ -19,7 +19,7 @@ from program import PROGRAM, build, finish
 from rules import ALLOCATE, BINDING, CHANNEL_BIND, CHANNEL_NUMBER, CREATE_PERMISSION, message
 from serve import (
     CHANNEL, LOOPBACK, UDP, USER, Client, Server, address_of, channel_data, code_of, comes, counters, fault_line,
-    free_ports, put, udp_socket, wanted)
+    free_ports, full_pipe, put, udp_socket, wanted)
 
 # networks of peers, those of the server's loopback addresses among them, and the addresses that are sent to all the same
 RULES = [
@@ -134,12 +134,7 @@ def loops():
 
 def unread_errors():
     """Yields what a server does otherwise than go on where its standard error is a full pipe and its sends fail."""
-    read_end, write_end = os.pipe()
-    os.set_blocking(write_end, False)
-    with contextlib.suppress(BlockingIOError):
-        while True:
-            os.write(write_end, bytes(4096))
-    os.set_blocking(write_end, True)
+    read_end, write_end = full_pipe()
     first = free_ports(2)
     command = [PROGRAM, "serve", "--port", "0", "--first-port", str(first), "--slots", "2", *USER, "--stats", "1"]
     process = subprocess.Popen(command, stdout=subprocess.PIPE, stderr=write_end, text=True)

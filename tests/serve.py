@@ -456,6 +456,17 @@ def default_ports():
         yield from wanted("slot 0's port in use", run(words), cannot_bind)
 
 
+def full_pipe():
+    """The ends of a pipe that has no room: a write to it waits until something is read."""
+    read_end, write_end = os.pipe()
+    os.set_blocking(write_end, False)
+    with contextlib.suppress(BlockingIOError):
+        while True:
+            os.write(write_end, bytes(4096))
+    os.set_blocking(write_end, True)
+    return read_end, write_end
+
+
 def counted_rounds():
     """Yields how many of ten waiting requests three rounds answer, where that isn't three.
 
@@ -465,12 +476,7 @@ def counted_rounds():
     port = first + 1
     words = [PROGRAM, "serve", "--port", str(port), "--first-port", str(first), "--slots", "1", *USER,
              "--rounds", "3", "--stats", "60"]
-    read_end, write_end = os.pipe()
-    os.set_blocking(write_end, False)
-    with contextlib.suppress(BlockingIOError):
-        while True:
-            os.write(write_end, bytes(4096))
-    os.set_blocking(write_end, True)
+    read_end, write_end = full_pipe()
     streams = {"stdout": write_end, "stderr": subprocess.PIPE}
     with subprocess.Popen(words, text=True, **streams) as process, udp_socket() as client:
         os.close(write_end)
