@@ -44,7 +44,7 @@ if [ "${1:-}" = --list ]; then
 fi
 check_kit
 mapfile -t crates < <(crates_of_relayd)
-echo "proving and building relayd: ${#crates[@]} crates, about 20 minutes on 4 processors the first time" >&2
+echo "proving and building relayd: ${#crates[@]} crates, about half an hour on 4 processors the first time" >&2
 : >"$log"
 for i in "${!crates[@]}"; do
   next=${crates[i + 1]:-}
