@@ -17,7 +17,7 @@ import tempfile
 from program import PROGRAM, build, finish, run
 
 # bounds of a verification: processor time in seconds, and memory in MiB, of which the process itself takes a few
-MOST_SECONDS, MOST_MEMORY = 20, 400
+MOST_SECONDS, MOST_MEMORY = 4, 150
 BYTES = 512
 # two numbers of which nothing is known, from the context: the source's record in r2, the transaction id in r3
 HEAD = ["ldxdw r2, [r1+24]", "ldxdw r3, [r1+32]"]
@@ -61,6 +61,26 @@ def bounds(count):
     return [f"jgt r{4 + number % 5}, {1000 * (number + 1)}, +0" for number in range(count)]
 
 
+def stores(count):
+    """Returns jumps that are never taken, and stores of pointers that they lead to, so that each store keeps a state."""
+    jumps = [f"jeq r0, 1, store{number}" for number in range(count)]
+    stored = [(f"store{number}:", f"stxdw [r10-{8 * (number % 64 + 1)}], r{(1, 10)[number // 64 % 2]}") for number in range(count)]
+    return jumps, [line for pair in stored for line in pair]
+
+
+def spans(count, registers):
+    """Returns forks that first leave some registers as they are, and then add a number to each: of a smaller span to the one, and
+    of a greater span to the other."""
+    lines = []
+    for number in range(count):
+        lines += [f"jset r2, {1 << number}, into{number}", f"ja past{number}", f"into{number}:"]
+        for place, register in enumerate(registers):
+            span = (2 << (number, count - 1 - number)[place]) - 1
+            lines += ["ldxdw r8, [r1+24]", f"and r8, {span}", f"add r{register}, r8"]
+        lines += ["mov r8, 0", f"past{number}:"]
+    return lines
+
+
 def anchors(count):
     """Returns bodies that move a pointer into the datagram by a number that was read."""
     return [["mov r6, r9", f"and r7, {(1 << number) | 1}", "add r6, r7", "ldxdw r7, [r1+24]"] for number in range(count)]
@@ -73,6 +93,7 @@ def known_programs():
     kept = [f"stxdw [r10-{8 * (group + 1)}], r1" for group in range(64)]
     registers = (0, 3, 4, 5, 6, 7, 8, 9)
     a_byte = [line for register in registers for line in (f"ldxdw r{register}, [r1+24]", f"and r{register}, 255")]
+    jumps, stored = stores(1_900)
     wide = [[f"add r{registers[number // 2]}, {256 << number}"] for number in range(16)]
     return {
         "sums in r0": HEAD + zero + forks(sums(16, 0)) + TAIL,
@@ -80,6 +101,8 @@ def known_programs():
         "sums in two registers": HEAD + zero + forks([*sums(8, 0), *sums(8, 9)]) + TAIL,
         "sums of a byte in a register": HEAD[:1] + a_byte[-2:] + zero[:1] + forks([[f"add r9, {256 << n}"] for n in range(16)]) + TAIL,
         "sums of bytes in eight registers": HEAD[:1] + a_byte + forks(wide) + TAIL,
+        "sums of numbers of other spans": HEAD[:1] + zero + spans(16, [9]) + TAIL,
+        "sums of numbers of other spans in two registers": HEAD[:1] + zero + spans(16, [9, 0]) + TAIL,
         "marks": HEAD + forks(marks(16, lambda number: number)) + TAIL,
         "marks with a chain": HEAD + forks(marks(14, lambda number: number)) + chain(3) + TAIL,
         "marks of all words": HEAD + forks(marks(16, lambda number: 32 * number + 1)) + TAIL,
@@ -90,6 +113,7 @@ def known_programs():
         "places of the datagram": HEAD + datagram + forks(anchors(12)) + TAIL,
         "32 states, and 4,000 jumps": HEAD + zero + forks(sums(5, 0)) + chain(LONG) + TAIL,
         "64 pointers, 32 states, and 4,000 jumps": HEAD + zero[:1] + kept + forks(sums(5, 0)) + chain(LONG - 100) + TAIL,
+        "64 pointers, of which each target stores one": HEAD + zero + kept + jumps + forks(sums(6, 9)) + stored + TAIL,
     }
 
 

@@ -1,5 +1,6 @@
 -- Interface. States as they are kept, and the parts that distinguish them.
 use Rattle.std.specs.Prelude.{◌≡◌, ℕ, ◌++◌, ◌&&◌, Bool, true, false, ℤ, List, [], ◌∷◌, drop, length, slice_index_or}
+use Rattle.std.specs.List.{flat_map}
 use Rattle.interval.specs.Domains.{Operations}
 use Rattle.absstate.specs.AbstractStates.{no_groups}
 use Rattle.absstate.specs.Covers.{covers, covers_places, same_int}
@@ -15,6 +16,10 @@ abbrev pub are_unknown : {D : Type 0} → List (AbstractValue D) → Bool
 are_unknown [] = true
 are_unknown (Nothing ∷ values) = are_unknown values
 are_unknown (v ∷ values) = false
+
+-- the groups of chunks, one chunk after the other
+abbrev pub joined : {D : Type 0} → List (List (AbstractValue D)) → List (AbstractValue D)
+joined chunks = flat_map (λ values. values) chunks
 
 -- the groups, where those after the ones that are listed hold no pointer
 abbrev pub all_groups : {D : Type 0} → List (AbstractValue D) → List (AbstractValue D)

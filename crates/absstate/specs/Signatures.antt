@@ -1,7 +1,7 @@
--- Interface. Signatures of states: two words, whose bits are among those of the signature of each state that is covered.
-use Rattle.std.specs.Prelude.{ℕ, suc, ◌+◌, ◌*◌, ◌/◌, ◌%◌, ◌^◌, ◌==◌, ◌&&◌, Bool, List, [], ◌∷◌, bit_and, bit_or, if◌then◌else◌}
+-- Interface. Signatures of states, by which most states that a state doesn't cover are ruled out.
+use Rattle.std.specs.Prelude.{ℕ, suc, ◌+◌, ◌-◌, ◌*◌, ◌/◌, ◌%◌, ◌^◌, ◌==◌, nat_lt, ◌&&◌, ◌||◌, Bool, List, [], ◌∷◌, bit_and, bit_or, if◌then◌else◌}
 use Rattle.std.specs.Int.{w32, w64, rotate_left, cast_unsigned}
-use Rattle.interval.specs.Domains.{Operations}
+use Rattle.interval.specs.Domains.{Operations, span}
 use Rattle.interval.specs.declared.domain.Bounds.{Bounds}
 use Rattle.absstate.specs.MarkWords.{words_of}
 use Rattle.absstate.specs.declared.abstract_state.AbstractValue.{AbstractValue}
@@ -36,9 +36,45 @@ abbrev pub mark_bits : ℕ → List ℕ → ℕ
 mark_bits index [] = 0
 mark_bits index (word ∷ words) = bit_or (rotate_left w64 word (9 * index)) (mark_bits (suc index) words)
 
-abbrev pub state_signature : {D : Type 0} → Operations D → AbsState D → StateSignature
-state_signature ops a = record { values = value_bits ops 0 a.registers; marks = mark_bits 0 (words_of a.marks.cells) }
+-- how precisely a value is known: not at all, to a span of fewer and fewer words, or exactly
+abbrev pub precision : {D : Type 0} → Operations D → AbstractValue D → ℕ
+precision ops Nothing = 0
+precision ops (Scalar x) = 2 ^ 57 - span (ops.bounds x)
+precision ops Ctx = 2 ^ 57
+precision ops (Stack k) = 2 ^ 57
+precision ops (Data anchor k) = 2 ^ 57
+precision ops End = 2 ^ 57
 
--- all bits of a signature are bits of another one
+abbrev pub precisions : {D : Type 0} → Operations D → List (AbstractValue D) → ℕ
+precisions ops [] = 0
+precisions ops (v ∷ values) = precision ops v + precisions ops values
+
+-- both bounds of a number that is known to some precision, hashed
+abbrev pub hashed_bounds : Bounds → ℕ
+hashed_bounds b = if nat_lt (span b) (2 ^ 57) then (b.lo + b.hi * 13787848793156543929 % 2 ^ 64) % 2 ^ 64 else 0
+
+abbrev pub bounds_hash : {D : Type 0} → Operations D → AbstractValue D → ℕ
+bounds_hash ops Nothing = 0
+bounds_hash ops (Scalar x) = hashed_bounds (ops.bounds x)
+bounds_hash ops Ctx = 0
+bounds_hash ops (Stack k) = 0
+bounds_hash ops (Data anchor k) = 0
+bounds_hash ops End = 0
+
+-- the bounds of all numbers among values, hashed
+abbrev pub bounds_hashes : {D : Type 0} → Operations D → List (AbstractValue D) → ℕ
+bounds_hashes ops [] = 0
+bounds_hashes ops (v ∷ values) = (bounds_hash ops v + bounds_hashes ops values * 11400714819323198485 % 2 ^ 64) % 2 ^ 64
+
+abbrev pub state_signature : {D : Type 0} → Operations D → AbsState D → StateSignature
+state_signature ops a = record {
+  values = value_bits ops 0 a.registers;
+  marks = mark_bits 0 (words_of a.marks.cells);
+  precisions = precisions ops a.registers;
+  bounds = bounds_hashes ops a.registers;
+}
+
+-- all bits of a signature are bits of another one, of a state that is known more precisely or whose numbers have the same bounds
 abbrev pub lies_within : StateSignature → StateSignature → Bool
-lies_within s t = (bit_and s.values t.values == s.values) && (bit_and s.marks t.marks == s.marks)
+lies_within s t =
+    (bit_and s.values t.values == s.values) && ((bit_and s.marks t.marks == s.marks) && (nat_lt s.precisions t.precisions || (s.bounds == t.bounds)))

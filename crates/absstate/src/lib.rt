@@ -6,6 +6,7 @@ mod abstract_step;
 mod branching;
 mod calling;
 mod change;
+mod chunk;
 mod covering;
 mod loading;
 mod mark_words;

@@ -3,12 +3,13 @@
 ghost use Rattle.std.specs.Prelude.{◌≡◌, ◌≤◌, ◌<◌, ◌+◌, ◌++◌, true, false, take, drop, length, int_le, slice_index_or, IfOk, IfNone, IfSome};
 ghost use Rattle.absstate.specs.Covers.{covers_value, covers_values};
 ghost use Rattle.semantics.specs.declared.limits.TheConstants.{GROUPS};
-ghost use Rattle.absstate.specs.Packing.{are_unknown, all_groups};
+ghost use Rattle.absstate.specs.Packing.{are_unknown, all_groups, joined};
 ghost use Rattle.absstate.specs.declared.packed.TheConstants.{REGISTERS};
 ghost use Rattle.absstate.specs.declared.abstract_state.AbsState.{AbsState};
 ghost use Rattle.absstate.specs.declared.abstract_state.AbstractValue.TheVariants.{Nothing};
 
 use crate::abstract_state::{AbsState, AbstractValue, Anchor, VALUES};
+use crate::chunk::{Chunk, push_chunks};
 use crate::covering::{covers_value, registers_of, share_alike};
 use crate::mark_words::{MarkWords, first_outside};
 use crate::part::Part;
@@ -19,11 +20,12 @@ use std::marker::Model;
 /// The number of registers.
 const REGISTERS: usize = 11;
 
-/// A state that is kept: its marks are words, and its groups are there only where one holds a pointer.
+/// A state that is kept: its marks are words, and its groups are there only where one holds a pointer, in chunks that kept
+/// states share.
 #[derive(Drop)]
 pub struct PackedState<D> {
     registers: [AbstractValue<D>; REGISTERS],
-    groups: Vec<AbstractValue<D>>,
+    chunks: Vec<Chunk<D>>,
     words: MarkWords,
     proved: i64,
 }
@@ -32,14 +34,14 @@ impl<D> Model for PackedState<D> {
     ghost use Rattle.std.specs.Prelude.{◌≡◌, ◌≤◌, length};
     ghost use Rattle.semantics.specs.declared.limits.TheConstants.{STACK_BYTES, GROUPS};
     ghost use Rattle.absstate.specs.MarkWords.{words_of, marks_of};
-    ghost use Rattle.absstate.specs.Packing.{unpacked};
+    ghost use Rattle.absstate.specs.Packing.{joined, unpacked};
     ghost use Rattle.absstate.specs.declared.abstract_state.AbsState.{AbsState};
 
     ghost Value = { AbsState D };
 
-    ghost view = { λ p. unpacked p.registers p.groups.items p.words p.proved };
+    ghost view = { λ p. unpacked p.registers (joined p.chunks.items) p.words p.proved };
 
-    ghost invariant = { λ p. (length p.groups.items ≤ GROUPS) × (words_of (marks_of p.words) ≡ p.words) × (length (marks_of p.words) ≡ STACK_BYTES) };
+    ghost invariant = { λ p. (length (joined p.chunks.items) ≤ GROUPS) × (words_of (marks_of p.words) ≡ p.words) × (length (marks_of p.words) ≡ STACK_BYTES) };
 }
 
 /// Writes values from an index on.
@@ -61,22 +63,40 @@ fn are_unknown<D: Copy>(values: &[AbstractValue<D>]) -> bool
     }
 }
 
-/// Returns the values of groups as they are kept: none, where no group is known to hold a pointer.
+/// Writes the values of chunks, one after the other, from an index on.
+fn put_chunks<D: Copy>(values: &mut [AbstractValue<D>], at: usize, chunks: &[Chunk<D>])
+    requires { at + length (joined chunks.now) ≤ length values.old }
+    ensures { values.new ≡ take at values.old ++ joined chunks.now ++ drop (at + length (joined chunks.now)) values.old }
+{
+    match chunks {
+        [] => {}
+        [first, chunks @ ..] => {
+            let part = first.values();
+            put(values, at, part);
+            put_chunks(values, at + part.len(), chunks);
+        }
+    }
+}
+
+/// Returns the values of groups as they are kept: none, where no group is known to hold a pointer. Chunks of another state
+/// are shared where it knows the same.
 ///
 /// # Errors
 /// Where memory runs out.
-fn groups_of<D: Copy>(
+fn chunks_of<D: Copy>(
     alloc: Global,
     values: &[AbstractValue<D>],
-) -> Result<Vec<AbstractValue<D>>, AllocError>
+    like: &[Chunk<D>],
+) -> Result<Vec<Chunk<D>>, AllocError>
     requires { length values.now ≡ GROUPS }
-    ensures { IfOk result (λ groups. (all_groups groups.items ≡ values.now) × (length groups.items ≤ GROUPS)) }
+    ensures { IfOk result (λ chunks. (all_groups (joined chunks.items) ≡ values.now) × (length (joined chunks.items) ≤ GROUPS)) }
 {
+    let mut chunks = Vec::new(alloc);
     if are_unknown(values) {
-        Ok(Vec::new(alloc))
-    } else {
-        Ok(values.to_vec(alloc)?)
+        return Ok(chunks);
     }
+    push_chunks(alloc, &mut chunks, values, like)?;
+    Ok(chunks)
 }
 
 /// Returns the values of the registers, of which there are eleven.
@@ -137,7 +157,7 @@ impl<D: Domain> PackedState<D> {
     {
         let mut values = [AbstractValue::Nothing; VALUES];
         put(&mut values, 0, &self.registers);
-        put(&mut values, REGISTERS, &self.groups);
+        put_chunks(&mut values, REGISTERS, &self.chunks);
         values
     }
 
@@ -165,20 +185,12 @@ impl<D: Domain> PackedState<D> {
             return Some(Part::Unknown);
         }
         let _marks = other.marks.cells();
-        let (registers, groups) = registers_of(other).split_at(REGISTERS);
-        if let Some((index, value)) = first_uncovered(
-            &self.registers,
-            registers,
-            proved,
-            other_proved,
-        ) {
+        let others = registers_of(other);
+        let values = self.values();
+        if let Some((index, value)) = first_uncovered(&values, others, proved, other_proved) {
             return Some(Part::Value { index, value });
         }
-        if let Some((i, value)) = first_uncovered(&self.groups, groups, proved, other_proved) {
-            let index = REGISTERS + i;
-            return Some(Part::Value { index, value });
-        }
-        if share_alike(&self.values(), registers_of(other)) {
+        if share_alike(&values, others) {
             None
         } else {
             Some(Part::Unknown)
@@ -197,19 +209,27 @@ impl<D: Copy> AbsState<D> {
         self.marks.words()
     }
 
-    /// Returns this state as it is kept.
+    /// Returns this state as it is kept. It shares what it knows of groups with a kept state that knows the same of them.
     ///
     /// # Errors
     /// Where memory runs out.
-    pub fn packed(&self, alloc: Global) -> Result<PackedState<D>, AllocError>
+    pub fn packed(
+        &self,
+        alloc: Global,
+        like: Option<&PackedState<D>>,
+    ) -> Result<PackedState<D>, AllocError>
         ensures { IfOk result (λ p. p ≡ self.now) }
     {
         let (registers, groups) = registers_of(self).split_at(REGISTERS);
         let _marks = self.marks.cells();
-        let groups = groups_of(alloc, groups)?;
+        let like = match like {
+            Some(like) => like.chunks.as_slice(),
+            None => &[],
+        };
+        let chunks = chunks_of(alloc, groups, like)?;
         Ok(PackedState {
             registers: eleven(registers),
-            groups,
+            chunks,
             words: self.words(),
             proved: self.proved_of(Anchor::First),
         })

@@ -1,21 +1,27 @@
-//! Signatures of states. A state covers only states whose signatures have all bits of its own, which two words decide.
+//! Signatures of states. A state covers only states whose signatures its own lies within, which a few words decide.
 
-ghost use Rattle.std.specs.Prelude.{◌≡◌, ◌≤◌, ◌+◌, length};
+ghost use Rattle.std.specs.Prelude.{◌≡◌, ◌≤◌, ◌+◌, ◌*◌, ◌^◌, length};
 ghost use Rattle.absstate.specs.MarkWords.{words_of};
-ghost use Rattle.absstate.specs.Signatures.{hashed_bit, number_bit, value_bit, value_bits, mark_bits, state_signature, lies_within};
+ghost use Rattle.absstate.specs.Signatures.{hashed_bit, number_bit, value_bit, value_bits, mark_bits, precision, precisions, hashed_bounds, bounds_hash, bounds_hashes, state_signature, lies_within};
 
 use crate::abstract_state::{AbsState, AbstractValue};
 use crate::covering::registers_of;
 use crate::mark_words::MarkWords;
 use interval::{Bounds, Domain};
 
-/// What is compared of states first: two words that have a bit for each value that is known exactly, and for each mark.
+/// What is compared of states first: two words that have a bit for each value that is known exactly, and for each mark; how
+/// precisely all values are known together; and the bounds of all numbers, hashed.
 /// See docs/DECISIONS.md, "What distinguishes a kept state".
 #[derive(Clone, Copy, Debug, PartialEq, Eq)]
 pub struct StateSignature {
     values: u64,
     marks: u64,
+    precisions: u64,
+    bounds: u64,
 }
+
+/// The precision of a value that is known exactly. A number of which as many words may be in a span has none.
+const EXACT: u64 = 1 << 57;
 
 /// Returns one bit of 64, by a hash of an index, a kind and a number.
 fn hashed_bit(index: usize, kind: u64, number: u64) -> u64
@@ -84,15 +90,80 @@ fn mark_bits(index: usize, words: &[u64]) -> u64
     }
 }
 
+/// Returns how precisely a value is known.
+fn precision<D: Domain>(value: AbstractValue<D>) -> u64
+    ensures value { result ≡ precision D.ops value }
+    ensures small { result ≤ 2 ^ 57 }
+{
+    match value {
+        AbstractValue::Nothing => 0,
+        AbstractValue::Scalar(number) => {
+            let Bounds { lo, hi } = number.bounds();
+            EXACT.saturating_sub(hi.saturating_sub(lo))
+        }
+        _ => EXACT,
+    }
+}
+
+/// Returns how precisely values are known, as the sum.
+fn precisions<D: Domain>(values: &[AbstractValue<D>]) -> u64
+    requires { length values.now ≤ 75 }
+    ensures value { result ≡ precisions D.ops values.now }
+    ensures small { result ≤ length values.now * 2 ^ 57 }
+{
+    match values {
+        [] => 0,
+        [first, values @ ..] => precision(*first) + precisions(values),
+    }
+}
+
+/// Returns both bounds of a number that is known to some precision, hashed.
+fn hashed_bounds(bounds: Bounds) -> u64
+    ensures { result ≡ hashed_bounds bounds }
+{
+    let Bounds { lo, hi } = bounds;
+    if hi.saturating_sub(lo) < EXACT {
+        lo.wrapping_add(hi.wrapping_mul(13_787_848_793_156_543_929))
+    } else {
+        0
+    }
+}
+
+/// Returns the bounds of a number among values, hashed; 0 for any other value.
+fn bounds_hash<D: Domain>(value: AbstractValue<D>) -> u64
+    ensures { result ≡ bounds_hash D.ops value }
+{
+    match value {
+        AbstractValue::Scalar(number) => hashed_bounds(number.bounds()),
+        _ => 0,
+    }
+}
+
+/// Returns the bounds of all numbers among values, hashed.
+fn bounds_hashes<D: Domain>(values: &[AbstractValue<D>]) -> u64
+    ensures { result ≡ bounds_hashes D.ops values.now }
+{
+    match values {
+        [] => 0,
+        [first, values @ ..] => {
+            let rest = bounds_hashes(values);
+            bounds_hash(*first).wrapping_add(rest.wrapping_mul(11_400_714_819_323_198_485))
+        }
+    }
+}
+
 impl StateSignature {
     ghost use Rattle.std.specs.Prelude.{◌≡◌};
     ghost use Rattle.absstate.specs.Signatures.{lies_within};
 
-    /// Returns whether all bits of this signature are bits of another one.
+    /// Returns whether all bits of this signature are bits of another one, of a state that is known more precisely or whose
+    /// numbers have the same bounds.
     pub fn lies_within(self, other: StateSignature) -> bool
         ensures { result ≡ lies_within self other }
     {
-        self.values & other.values == self.values && self.marks & other.marks == self.marks
+        self.values & other.values == self.values
+            && self.marks & other.marks == self.marks
+            && (self.precisions < other.precisions || self.bounds == other.bounds)
     }
 }
 
@@ -106,9 +177,12 @@ impl<D: Domain> AbsState<D> {
         requires { words.now ≡ words_of self.now.marks.cells }
         ensures { result ≡ state_signature D.ops self.now }
     {
+        let values = registers_of(self);
         StateSignature {
-            values: value_bits(0, registers_of(self)),
+            values: value_bits(0, values),
             marks: mark_bits(0, words),
+            precisions: precisions(values),
+            bounds: bounds_hashes(values),
         }
     }
 }

@@ -1,12 +1,13 @@
 -- The slots at which states are kept.
-use Rattle.std.proofs.Common.{◌≡◌, ℕ, zero, suc, ◌+◌, ◌<◌, ◌≤◌, Bool, true, false, ◌||◌, List, [], ◌∷◌, ◌++◌, Option, Some, None, inl, inr, refl, sym, ap, ◌∙◌, subst, arith, rules}
-use Rattle.std.specs.Prelude.{◌==◌, ◌⊎◌, slice_index_or, is_some}
-use Rattle.std.proofs.lemmas.Bool.{cases_lt, eqb-true}
+use Rattle.std.proofs.Common.{◌≡◌, ℕ, zero, suc, ◌+◌, ◌<◌, ◌≤◌, Bool, true, false, ◌&&◌, ◌||◌, List, [], ◌∷◌, ◌++◌, length, Option, Some, None, inl, inr, refl, sym, ap, ◌∙◌, subst, arith, rules}
+use Rattle.std.specs.Prelude.{◌==◌, ◌⊎◌, slice_index_or, slice_set, is_some}
+use Rattle.std.proofs.lemmas.Bool.{cases_lt, eqb-true, eqb-false}
 use Rattle.insn.specs.Encoding.{slot_count}
 use Rattle.insn.specs.declared.instruction.Insn.{Insn}
 use Rattle.semantics.specs.SlotLaws.{fetch_past}
+use Rattle.absstate.specs.declared.abstract_state.AbsState.{AbsState}
 use Rattle.verifier.specs.Goals.{goal_of, goal_at, IsGoal}
-use Rattle.verifier.specs.Keeping.{keeps_at, is_slot, KeepsAtGoals, MarksGoal, Keeps}
+use Rattle.verifier.specs.Keeping.{states_of, states_with, keeps_at, is_slot, KeepsAtGoals, MarksGoal, Keeps}
 use Rattle.verifier.specs.declared.kept.Kept.{Kept}
 use Rattle.verifier.specs.declared.walk.Pending.{Pending}
 
@@ -84,4 +85,60 @@ pub goals_after : {D : Type 0} (code : List Insn) (p : Pending D) (old new : Kep
 goals_after code p old new goals keeps = record {
   only = λ slot e. goals.only slot (sym (keeps.slots slot) ∙ e);
   all = λ slot goal. keeps.slots slot ∙ goals.all slot goal;
+}
+
+-- ---- a state is kept
+
+at_itself : (x : Bool) → (x && true) ≡ x
+at_itself true = refl
+at_itself false = refl
+
+elsewhere : (x : Bool) → (x && false) ≡ false
+elsewhere true = refl
+elsewhere false = refl
+
+pub kept_inside : {A : Type 0} (rows : List (Option A)) (n : ℕ) → is_some (slice_index_or rows n None) ≡ true → n < length rows
+kept_inside [] n e = absurd cc
+kept_inside (row ∷ rows) zero e = omega arith
+kept_inside (row ∷ rows) (suc n) e = omega (arith, kept_inside rows n e)
+
+module _ {D : Type 0} (state : AbsState D) where
+  slots_with : (rows : List (Option (List (AbsState D)))) (at n : ℕ) (new : Option (List (AbsState D))) → at < length rows → is_some new ≡ is_some (slice_index_or rows at None) → is_some (slice_index_or (slice_set rows at new) n None) ≡ is_some (slice_index_or rows n None)
+  slots_with [] at n new lt e = absurd (omega (arith, lt))
+  slots_with (row ∷ rows) zero zero new lt e = e
+  slots_with (row ∷ rows) zero (suc n) new lt e = refl
+  slots_with (row ∷ rows) (suc at) zero new lt e = refl
+  slots_with (row ∷ rows) (suc at) (suc n) new lt e = slots_with rows at n new (omega (arith, lt)) e
+
+  set_same : (rows : List (Option (List (AbsState D)))) (at : ℕ) (new : Option (List (AbsState D))) → at < length rows → slice_index_or (slice_set rows at new) at None ≡ new
+  set_same [] at new lt = absurd (omega (arith, lt))
+  set_same (row ∷ rows) zero new lt = refl
+  set_same (row ∷ rows) (suc at) new lt = set_same rows at new (omega (arith, lt))
+
+  set_other : (rows : List (Option (List (AbsState D)))) (at n : ℕ) (new : Option (List (AbsState D))) → (n ≡ at → ⊥) → slice_index_or (slice_set rows at new) n None ≡ slice_index_or rows n None
+  set_other [] at n new other = refl
+  set_other (row ∷ rows) zero zero new other = absurd (other refl)
+  set_other (row ∷ rows) zero (suc n) new other = refl
+  set_other (row ∷ rows) (suc at) zero new other = refl
+  set_other (row ∷ rows) (suc at) (suc n) new other = set_other rows at n new (λ same. other (ap suc same))
+
+  states_here : (rows : List (Option (List (AbsState D)))) (at n : ℕ) (new : Option (List (AbsState D))) → at < length rows → states_of new ≡ states_with (is_some (slice_index_or rows at None)) state (states_of (slice_index_or rows at None))
+      → states_of (slice_index_or (slice_set rows at new) n None) ≡ states_with (is_some (slice_index_or rows at None) && (n == at)) state (states_of (slice_index_or rows n None))
+  states_here rows at n new lt e = by (n == at) refl where
+    by : (test : Bool) → (n == at) ≡ test → states_of (slice_index_or (slice_set rows at new) n None) ≡ states_with (is_some (slice_index_or rows at None) && (n == at)) state (states_of (slice_index_or rows n None))
+    by true here =
+        let is : n ≡ at = eqb-true n at here in
+        ap (λ (k : ℕ). states_of (slice_index_or (slice_set rows at new) k None)) is ∙ ap (λ (o : Option (List (AbsState D))). states_of o) (set_same rows at new lt) ∙ e
+        ∙ ap (λ (b : Bool). states_with b state (states_of (slice_index_or rows at None))) (sym (at_itself (is_some (slice_index_or rows at None))) ∙ ap (λ (b : Bool). is_some (slice_index_or rows at None) && b) (sym here))
+        ∙ ap (λ (k : ℕ). states_with (is_some (slice_index_or rows at None) && (n == at)) state (states_of (slice_index_or rows k None))) (sym is)
+    by false there =
+        ap (λ (o : Option (List (AbsState D))). states_of o) (set_other rows at n new (eqb-false n at there))
+        ∙ ap (λ (b : Bool). states_with b state (states_of (slice_index_or rows n None))) (sym (elsewhere (is_some (slice_index_or rows at None))) ∙ ap (λ (b : Bool). is_some (slice_index_or rows at None) && b) (sym there))
+
+-- what is kept where the states of a slot, to which a state is appended, take their place
+pub keeps_here : {D : Type 0} (p : Pending D) (kept : Kept D) (old new : Option (List (AbsState D))) → p.slot < length kept → old ≡ slice_index_or kept p.slot None → is_some new ≡ is_some old
+    → states_of new ≡ states_with (is_some old) p.state (states_of old) → Keeps p kept (slice_set kept p.slot new)
+keeps_here p kept old new lt is slots states = record {
+  slots = λ slot. slots_with p.state kept p.slot slot new lt (slots ∙ ap (λ (o : Option (List (AbsState _))). is_some o) is);
+  states = λ slot. states_here p.state kept p.slot slot new lt (states ∙ ap (λ (o : Option (List (AbsState _))). states_with (is_some o) p.state (states_of o)) is);
 }

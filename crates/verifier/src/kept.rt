@@ -10,7 +10,7 @@ ghost use Rattle.absstate.specs.Signatures.{lies_within};
 ghost use Rattle.absstate.specs.declared.signature.StateSignature.{StateSignature};
 ghost use Rattle.verifier.specs.Goals.{goal_at};
 ghost use Rattle.verifier.specs.Signed.{signatures_of};
-ghost use Rattle.verifier.specs.Keeping.{states_of, states_with, kept_at, is_covered, HasCover, KeepsNothing, KeepsAtGoals, MarksGoal, Keeps};
+ghost use Rattle.verifier.specs.Keeping.{states_of, states_with, kept_at, keeps_at, is_covered, HasCover, KeepsNothing, KeepsAtGoals, MarksGoal, Keeps};
 
 use crate::layout::distance;
 use crate::walk::Pending;
@@ -66,6 +66,8 @@ impl<D: Domain> Model for States<D> {
 pub struct Kept<D: Domain> {
     alloc: Global,
     by_slot: Vec<Option<States<D>>>,
+    // the slot of the state that was kept last, which the next one is most like
+    latest: usize,
 }
 
 impl<D: Domain> Model for Kept<D> {
@@ -84,14 +86,22 @@ impl<D: Domain> KeptState<D> {
     ghost use Rattle.absstate.specs.MarkWords.{words_of};
     ghost use Rattle.absstate.specs.Membership.{Loose, IsMember};
 
-    /// Returns a state as it is kept.
+    /// Returns a state as it is kept. It shares what it can with a state that is kept already.
     ///
     /// # Errors
     /// Where memory runs out.
-    fn new(alloc: Global, state: &AbsState<D>) -> Result<KeptState<D>, AllocError>
+    fn new(
+        alloc: Global,
+        state: &AbsState<D>,
+        like: Option<&KeptState<D>>,
+    ) -> Result<KeptState<D>, AllocError>
         ensures { IfOk result (λ k. k ≡ state.now) }
     {
-        match Box::new(alloc, state.packed(alloc)?) {
+        let like = match like {
+            Some(like) => Some(&*like.state),
+            None => None,
+        };
+        match Box::new(alloc, state.packed(alloc, like)?) {
             Ok(state) => Ok(KeptState {
                 part: Part::Unknown,
                 state,
@@ -202,15 +212,15 @@ impl<D: Domain> States<D> {
         Ok(())
     }
 
-    /// Appends a state.
+    /// Appends a state, as it is kept.
     ///
     /// # Errors
     /// Where memory runs out.
-    fn push(&mut self, alloc: Global, state: &AbsState<D>) -> Result<(), AllocError>
+    fn push(&mut self, kept: KeptState<D>, state: &AbsState<D>) -> Result<(), AllocError>
+        requires { kept ≡ state.now }
         ensures { OnOk result (self.new ≡ self.old ++ state.now ∷ []) }
     {
         self.reserve_first()?;
-        let kept = KeptState::new(alloc, state)?;
         let signature = state.signature(&state.words());
         self.signatures.push(signature)?;
         if let Err(e) = self.states.push(kept) {
@@ -233,20 +243,21 @@ fn covered<D: Domain>(states: &mut Option<States<D>>, state: &AbsState<D>) -> bo
     }
 }
 
-/// Appends a state to those that are kept at a slot, where states are.
+/// Appends a state, as it is kept, to those that are kept at a slot, where states are.
 ///
 /// # Errors
 /// Where memory runs out.
 fn push_state<D: Domain>(
-    alloc: Global,
     states: &mut Option<States<D>>,
+    kept: KeptState<D>,
     state: &AbsState<D>,
 ) -> Result<(), AllocError>
+    requires { kept ≡ state.now }
     ensures slots { OnOk result (is_some states.new ≡ is_some states.old) }
     ensures states { OnOk result (states_of states.new ≡ states_with (is_some states.old) state.now (states_of states.old)) }
 {
     if let Some(states) = states {
-        states.push(alloc, state)?;
+        states.push(kept, state)?;
     }
     Ok(())
 }
@@ -294,6 +305,7 @@ impl<D: Domain> Kept<D> {
         let mut kept = Kept {
             alloc,
             by_slot: Vec::new(alloc),
+            latest: 0,
         };
         // no jump is at a slot after the last one
         for slot in 0..MAX_SLOTS {
@@ -331,6 +343,24 @@ impl<D: Domain> Kept<D> {
         }
     }
 
+    /// Returns whether states are kept at a slot.
+    fn keeps_at(&self, slot: usize) -> bool
+        ensures { result ≡ keeps_at self.now slot }
+    {
+        match self.by_slot.get(slot) {
+            Some(Some(_)) => true,
+            _ => false,
+        }
+    }
+
+    /// Returns the state that was kept last, if there is one.
+    fn latest(&self) -> Option<&KeptState<D>> {
+        match self.by_slot.get(self.latest) {
+            Some(Some(states)) => states.states.last(),
+            _ => None,
+        }
+    }
+
     /// Keeps a state, if some jump leads to its slot.
     ///
     /// # Errors
@@ -338,8 +368,10 @@ impl<D: Domain> Kept<D> {
     pub fn keep(&mut self, here: &Pending<D>) -> Result<(), AllocError>
         ensures { OnOk result (Keeps here.now self.old self.new) }
     {
-        if here.slot < self.by_slot.len() {
-            push_state(self.alloc, &mut self.by_slot[here.slot], &here.state)?;
+        if self.keeps_at(here.slot) {
+            let kept = KeptState::new(self.alloc, &here.state, self.latest())?;
+            push_state(&mut self.by_slot[here.slot], kept, &here.state)?;
+            self.latest = here.slot;
         }
         Ok(())
     }

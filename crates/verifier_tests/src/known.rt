@@ -1,7 +1,7 @@
 //! A second domain, to see that the trait can be met without intervals: one number, or none known.
 
 ghost use Rattle.std.specs.Prelude.{◌≡◌, ℕ, ◌-◌, ◌^◌, ◌<◌, ◌==◌, true, false, Some, None, if◌then◌else◌};
-ghost use Rattle.std.proofs.Common.{refl, sym, ap, ◌∙◌, arith};
+ghost use Rattle.std.proofs.Common.{inl, inr, refl, sym, ap, ◌∙◌, arith};
 ghost use Rattle.std.proofs.lemmas.Bool.{cond_both, eqb-true, true≢false};
 ghost use Rattle.insn.specs.Words.{alu, unary};
 ghost use Rattle.interval.specs.Domains.{passes, KeepsPair};
@@ -143,12 +143,12 @@ impl Domain for Known {
         ]
         | Unknown ↦ elim [ Exact b ↦ λ n e h. h.0 | Unknown ↦ λ n e h. h ]
       ];
-      covered_by_one = elim [
+      covered_nearer = elim [
         | Exact a ↦ elim [
-          | Exact b ↦ λ e one i. record { lo = sym (eqb-true a b e) i; hi = sym (eqb-true a b e) i }
-          | Unknown ↦ λ e one. absurd (true≢false (sym e))
+          | Exact b ↦ λ e. inr (λ i. record { lo = sym (eqb-true a b e) i; hi = sym (eqb-true a b e) i })
+          | Unknown ↦ λ e. absurd (true≢false (sym e))
         ]
-        | Unknown ↦ λ y e one. absurd (Prim.omega (arith, one))
+        | Unknown ↦ elim [ Exact b ↦ λ e. inl (Prim.omega arith) | Unknown ↦ λ e. inr refl ]
       ];
     } };
 

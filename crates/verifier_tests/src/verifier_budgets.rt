@@ -172,12 +172,13 @@ static ROWS: [Row; 23] = [
         known: Some((8, 6)),
         interval: (8, 6),
     },
-    // slots 0 to 4, and 4 again: the signatures of 34 and of 0 in r0 are the same
+    // slots 0 to 6, and 6 again: 34 and 0 in r0 are hashed to one bit, and the second state knows r3 too
     Row {
-        name: "two states differ and have one signature",
-        text: "ldxdw r2, [r1+16]\nmov r0, 0\njset r2, 1, +1\nmov r0, 34\nexit",
-        known: Some((6, 4)),
-        interval: (6, 4),
+        name: "two states differ, and the signature of the first lies within that of the second",
+        text: "ldxdw r2, [r1+16]\nmov r0, 0\nmov r3, 5\njset r2, 1, +2\nmov r0, 34\n\
+             ldxdw r3, [r1+16]\nexit",
+        known: Some((8, 6)),
+        interval: (8, 6),
     },
     // slots 0 to 8, and 8 twice more: there r0 is 1, 2 and 3, and then 2 again
     Row {

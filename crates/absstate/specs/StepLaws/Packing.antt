@@ -1,12 +1,12 @@
 -- Interface. What a part of a state shows of what it covers, and a state from the parts in which it is kept.
-use Rattle.std.proofs.Common.{◌≡◌, ℕ, zero, suc, ◌+◌, ◌-◌, ◌<◌, ◌≤◌, Bool, true, false, ◌&&◌, ℤ, List, [], ◌∷◌, ◌++◌, length, take, drop, replicate, ◌⊎◌, inl, inr, refl, sym, ap, ◌∙◌, arith, append-nil, append_assoc}
+use Rattle.std.proofs.Common.{◌≡◌, ℕ, zero, suc, ◌+◌, ◌-◌, ◌<◌, ◌≤◌, Bool, true, false, ◌&&◌, ℤ, List, [], ◌∷◌, ◌++◌, length, take, drop, replicate, ◌⊎◌, inl, inr, refl, sym, ap, ap₂, ◌∙◌, arith, append-nil, append_assoc}
 use Rattle.std.specs.Prelude.{slice_index_or, int_le}
 use Rattle.interval.specs.Domains.{Operations}
 use Rattle.absstate.specs.Covers.{covers_places, proves_less, covers_value, covers_values, share_alike, covers_marks, covers_memory, covers, same_int}
-use Rattle.std.proofs.lemmas.List.{take_at, drop_at, drop_all, drop-drop, length-append, length-drop, length-replicate}
+use Rattle.std.proofs.lemmas.List.{length-take-le, take_all, take_at, drop_at, drop_all, drop-drop, length-append, length-replicate}
 use Rattle.absstate.specs.AbstractStates.{no_groups}
 use Rattle.absstate.specs.MarkWords.{words_of, are_within, marks_of}
-use Rattle.absstate.specs.Packing.{are_unknown, all_groups, unpacked, may_cover, Differs}
+use Rattle.absstate.specs.Packing.{are_unknown, all_groups, joined, unpacked, may_cover, Differs}
 use Rattle.absstate.specs.StepLaws.Words.{covered_within, marks_of_words, words_cover}
 use Rattle.absstate.specs.StepLaws.MemoryValues.{first_of_and, rest_of_and, both_true}
 use Rattle.absstate.specs.declared.abstract_state.AbstractValue.{AbstractValue}
@@ -23,32 +23,6 @@ pub same_item : {A : Type 0} (i : ℕ) (xs : List A) (d e : A) → i < length xs
 same_item i [] d e lt = absurd (omega (arith, lt))
 same_item zero (x ∷ xs) d e lt = refl
 same_item (suc i) (x ∷ xs) d e lt = same_item i xs d e (omega (arith, lt))
-
--- an item of the first of two lists, of the second one, of the first items of a list, and of those after them
-item_left : {A : Type 0} (i : ℕ) (xs ys : List A) (d : A) → i < length xs → slice_index_or (xs ++ ys) i d ≡ slice_index_or xs i d
-item_left i [] ys d lt = absurd (omega (arith, lt))
-item_left zero (x ∷ xs) ys d lt = refl
-item_left (suc i) (x ∷ xs) ys d lt = item_left i xs ys d (omega (arith, lt))
-
-item_right : {A : Type 0} (i : ℕ) (xs ys : List A) (d : A) → slice_index_or (xs ++ ys) (length xs + i) d ≡ slice_index_or ys i d
-item_right i [] ys d = let same : 0 + i ≡ i = omega arith in ap (λ (k : ℕ). slice_index_or ys k d) same
-item_right i (x ∷ xs) ys d = let next : suc (length xs) + i ≡ suc (length xs + i) = omega arith in ap (λ (k : ℕ). slice_index_or (x ∷ xs ++ ys) k d) next ∙ item_right i xs ys d
-
-item_take : {A : Type 0} (n i : ℕ) (xs : List A) (d : A) → i < n → slice_index_or (take n xs) i d ≡ slice_index_or xs i d
-item_take zero i xs d lt = absurd (omega (arith, lt))
-item_take (suc n) i [] d lt = refl
-item_take (suc n) zero (x ∷ xs) d lt = refl
-item_take (suc n) (suc i) (x ∷ xs) d lt = item_take n i xs d (omega (arith, lt))
-
-item_drop : {A : Type 0} (n i : ℕ) (xs : List A) (d : A) → slice_index_or (drop n xs) i d ≡ slice_index_or xs (n + i) d
-item_drop zero i xs d = let same : i ≡ 0 + i = omega arith in ap (λ (k : ℕ). slice_index_or xs k d) same
-item_drop (suc n) i [] d = refl
-item_drop (suc n) i (x ∷ xs) d = let next : suc (n + i) ≡ suc n + i = omega arith in item_drop n i xs d ∙ ap (λ (k : ℕ). slice_index_or (x ∷ xs) k d) next
-
-drop_replicate : {A : Type 0} (k n : ℕ) (x : A) → k ≤ n → drop k (replicate n x) ≡ replicate (n - k) x
-drop_replicate zero n x le = let same : n ≡ n - 0 = omega arith in ap (λ (m : ℕ). replicate m x) same
-drop_replicate (suc k) zero x le = absurd (omega (arith, le))
-drop_replicate (suc k) (suc n) x le = let same : n - k ≡ suc n - suc k = omega arith in drop_replicate k n x (omega (arith, le)) ∙ ap (λ (m : ℕ). replicate m x) same
 
 -- an item after the first one
 pub item_after : {A : Type 0} (i : ℕ) (xs : List A) (d : A) → slice_index_or xs (i + 1) d ≡ slice_index_or (drop 1 xs) i d
@@ -105,19 +79,6 @@ module _ {D : Type 0} (ops : Operations D) (a b : AbsState D) where
   may_cover_at i (v ∷ vs) [] e = absurd cc
   may_cover_at zero (v ∷ vs) (u ∷ us) e = covered_value v u (first_of_and (covers_value ops a b v u) (covers_values ops a b vs us) e)
   may_cover_at (suc i) (v ∷ vs) (u ∷ us) e = may_cover_at i vs us (rest_of_and (covers_value ops a b v u) (covers_values ops a b vs us) e)
-
-  -- some values, and those after them
-  pub covered_together : (vs ws us : List (AbstractValue D)) → length vs ≤ length us → covers_values ops a b vs us ≡ true → covers_values ops a b ws (drop (length vs) us) ≡ true → covers_values ops a b (vs ++ ws) us ≡ true
-  covered_together [] ws us long e f = f
-  covered_together (v ∷ vs) ws [] long e f = absurd cc
-  covered_together (v ∷ vs) ws (u ∷ us) long e f =
-      both_true (covers_value ops a b v u) (covers_values ops a b (vs ++ ws) us) (first_of_and (covers_value ops a b v u) (covers_values ops a b vs us) e)
-      (covered_together vs ws us (omega (arith, long)) (rest_of_and (covers_value ops a b v u) (covers_values ops a b vs us) e) f)
-
-  pub nothing_covers : (n : ℕ) (us : List (AbstractValue D)) → n ≤ length us → covers_values ops a b (replicate n Nothing) us ≡ true
-  nothing_covers zero us long = refl
-  nothing_covers (suc n) [] long = absurd (omega (arith, long))
-  nothing_covers (suc n) (u ∷ us) long = nothing_covers n us (omega (arith, long))
 
   -- ---- the parts of a state that covers another one
 
@@ -189,18 +150,52 @@ laid_out {D} registers groups first all count few is last =
     last ∙ ap (λ (xs : List (AbstractValue D)). xs ++ groups ++ drop (11 + length groups) first) front ∙ ap (λ (xs : List (AbstractValue D)). registers ++ groups ++ xs) back
     ∙ append_assoc registers groups (drop (length groups) (replicate 64 Nothing))
 
+-- ---- chunks
+
+-- the first chunk, and those after it
+pub joined_first : {D : Type 0} (chunks : List (List (AbstractValue D))) (first : List (AbstractValue D)) → 1 ≤ length chunks → first ≡ slice_index_or chunks 0 first → joined chunks ≡ first ++ joined (take (length chunks - 1) (drop 1 chunks))
+joined_first [] first some is = absurd (omega (arith, some))
+joined_first {D} (chunk ∷ chunks) first some is =
+    ap₂ (λ (xs : List (AbstractValue D)) (ys : List (List (AbstractValue D))). xs ++ joined ys) (sym is) (sym (take_all (length (chunk ∷ chunks) - 1) chunks (omega arith)))
+
+-- values written from an index on, and others after them
+pub written_after : {A : Type 0} (at : ℕ) (part others values written : List A) → at ≤ length values → written ≡ take at values ++ part ++ drop (at + length part) values
+    → take (at + length part) written ++ others ++ drop (at + length part + length others) written ≡ take at values ++ (part ++ others) ++ drop (at + length (part ++ others)) values
+written_after {A} at part others values written inside is =
+    let front = take at values ++ part in
+    let rest = drop (at + length part) values in
+    let long : length (take at values ++ part) ≡ at + length part = length-append (take at values) part ∙ ap (λ (n : ℕ). n + length part) (length-take-le at values inside) in
+    let first : take (at + length part) written ≡ front = ap (take (at + length part)) is ∙ take_at front rest (at + length part) long in
+    let after : drop (at + length part) written ≡ rest = ap (drop (at + length part)) is ∙ drop_at front rest (at + length part) long in
+    let sum : at + length part + length others ≡ at + length (part ++ others) = omega (arith, length-append part others) in
+    let last : drop (at + length part + length others) written ≡ drop (at + length (part ++ others)) values =
+    sym (drop-drop (length others) (at + length part) written) ∙ ap (drop (length others)) after ∙ drop-drop (length others) (at + length part) values ∙ ap (λ (n : ℕ). drop n values) sum in
+    ap₂ (λ (xs ys : List A). xs ++ others ++ ys) first last ∙ ap (λ (xs : List A). xs ++ drop (at + length (part ++ others)) values) (append_assoc (take at values) part others)
+
 -- ---- a kept state beside another one
+
+contradiction : (x : Bool) → x ≡ true → x ≡ false → ⊥
+contradiction true e f = absurd cc
+contradiction false e f = absurd cc
+
+module _ {D : Type 0} (ops : Operations D) (a b : AbsState D) where
+  pub proved_differs : int_le a.proved b.proved ≡ false → Differs ops a b part.Unknown
+  proved_differs more = record { uncovered = not_true (covers ops a b) (λ covered. contradiction (int_le a.proved b.proved) (proved_of_covered ops a b covered) more); is_part = tt }
+
+  pub sharing_differs : share_alike a.registers b.registers ≡ false → Differs ops a b part.Unknown
+  sharing_differs apart = record { uncovered = not_true (covers ops a b) (λ covered. contradiction (share_alike a.registers b.registers) (shares_of ops a b covered) apart); is_part = tt }
+
+  pub value_differs : (i : ℕ) (v : AbstractValue D) → i < length a.registers → slice_index_or a.registers i Nothing ≡ v → covers_value ops a b v (slice_index_or b.registers i Nothing) ≡ false → Differs ops a b (part.Value i v)
+  value_differs i v lt at outside = record {
+    uncovered = not_true (covers ops a b) (λ covered.
+        contradiction (covers_value ops a b v (slice_index_or b.registers i Nothing))
+        (ap (λ (x : AbstractValue D). covers_value ops a b x (slice_index_or b.registers i Nothing)) (sym at) ∙ covered_at ops a b i a.registers b.registers lt (values_of ops a b covered)) outside);
+    is_part = at;
+  }
 
 module _ {D : Type 0} (ops : Operations D) (registers groups : List (AbstractValue D)) (words : List ℕ) (proved : ℤ) (a b : AbsState D) (is : unpacked registers groups words proved ≡ a) where
   words_are : words_of (marks_of words) ≡ words → words_of a.marks.cells ≡ words
   words_are kept = ap (λ (s : AbsState D). words_of s.marks.cells) (sym is) ∙ kept
-
-  registers_are : a.registers ≡ registers ++ all_groups groups
-  registers_are = ap (λ (s : AbsState D). s.registers) (sym is)
-
-  contradiction : (x : Bool) → x ≡ true → x ≡ false → ⊥
-  contradiction true e f = absurd cc
-  contradiction false e f = absurd cc
 
   pub word_differs : words_of (marks_of words) ≡ words → (others : List ℕ) (i : ℕ) → others ≡ words_of b.marks.cells → are_within words others ≡ false → Differs ops a b (part.Word i (slice_index_or words i 0))
   word_differs kept others i same outside = record {
@@ -209,66 +204,9 @@ module _ {D : Type 0} (ops : Operations D) (registers groups : List (AbstractVal
     is_part = ap (λ (xs : List ℕ). slice_index_or xs i 0) (words_are kept);
   }
 
-  pub proved_differs : int_le a.proved b.proved ≡ false → Differs ops a b part.Unknown
-  proved_differs more = record { uncovered = not_true (covers ops a b) (λ covered. contradiction (int_le a.proved b.proved) (proved_of_covered ops a b covered) more); is_part = tt }
-
-  pub sharing_differs : share_alike a.registers b.registers ≡ false → Differs ops a b part.Unknown
-  sharing_differs apart = record { uncovered = not_true (covers ops a b) (λ covered. contradiction (share_alike a.registers b.registers) (shares_of ops a b covered) apart); is_part = tt }
-
-  value_differs : (i : ℕ) (v : AbstractValue D) → i < length a.registers → slice_index_or a.registers i Nothing ≡ v → covers_value ops a b v (slice_index_or b.registers i Nothing) ≡ false → Differs ops a b (part.Value i v)
-  value_differs i v lt at outside = record {
-    uncovered = not_true (covers ops a b) (λ covered.
-        contradiction (covers_value ops a b v (slice_index_or b.registers i Nothing))
-        (ap (λ (x : AbstractValue D). covers_value ops a b x (slice_index_or b.registers i Nothing)) (sym at) ∙ covered_at ops a b i a.registers b.registers lt (values_of ops a b covered)) outside);
-    is_part = at;
-  }
-
-  module _ (count : length registers ≡ 11) (few : length groups ≤ 64) where
-    length_are : length a.registers ≡ 11 + length (all_groups groups)
-    length_are = ap (λ (xs : List (AbstractValue D)). length xs) registers_are ∙ length-append registers (all_groups groups) ∙ ap (λ (n : ℕ). n + length (all_groups groups)) count
-
-    all_groups_length : length (all_groups groups) ≡ 64
-    unfolding no_groups
-    all_groups_length = length-append groups (drop (length groups) (replicate 64 Nothing)) ∙ omega (arith, few, length-drop (length groups) (replicate {A = AbstractValue D} 64 Nothing), length-replicate {A = AbstractValue D} 64 Nothing)
-
-    pub registers_length : length a.registers ≡ 75
-    registers_length = omega (arith, length_are, all_groups_length)
-
-    pub register_differs : (i : ℕ) (v : AbstractValue D) → i < length registers → slice_index_or registers i Nothing ≡ v → covers_value ops a b v (slice_index_or (take 11 b.registers) i Nothing) ≡ false → Differs ops a b (part.Value i v)
-    register_differs i v lt at outside =
-        value_differs i v (omega (arith, lt, count, registers_length)) (ap (λ (xs : List (AbstractValue D)). slice_index_or xs i Nothing) registers_are ∙ item_left i registers (all_groups groups) Nothing lt ∙ at)
-        (ap (λ (x : AbstractValue D). covers_value ops a b v x) (sym (item_take 11 i b.registers Nothing (omega (arith, lt, count)))) ∙ outside)
-
-    pub group_differs : (i : ℕ) (v : AbstractValue D) → i < length groups → slice_index_or groups i Nothing ≡ v → covers_value ops a b v (slice_index_or (drop 11 b.registers) i Nothing) ≡ false → Differs ops a b (part.Value (11 + i) v)
-    group_differs i v lt at outside =
-        let place : 11 + i ≡ length registers + i = omega (arith, count) in
-        value_differs (11 + i) v (omega (arith, lt, few, registers_length))
-        (ap (λ (xs : List (AbstractValue D)). slice_index_or xs (11 + i) Nothing) registers_are ∙ ap (λ (k : ℕ). slice_index_or (registers ++ all_groups groups) k Nothing) place
-        ∙ item_right i registers (all_groups groups) Nothing ∙ item_left i groups (drop (length groups) no_groups) Nothing lt ∙ at)
-        (ap (λ (x : AbstractValue D). covers_value ops a b v x) (sym (item_drop 11 i b.registers Nothing)) ∙ outside)
-
-    covered_longer : (n : ℕ) (vs us : List (AbstractValue D)) → covers_values ops a b vs (take n us) ≡ true → covers_values ops a b vs us ≡ true
-    covered_longer n [] us e = refl
-    covered_longer zero (v ∷ vs) us e = absurd cc
-    covered_longer (suc n) (v ∷ vs) [] e = e
-    covered_longer (suc n) (v ∷ vs) (u ∷ us) e =
-        both_true (covers_value ops a b v u) (covers_values ops a b vs us) (first_of_and (covers_value ops a b v u) (covers_values ops a b vs (take n us)) e) (covered_longer n vs us (rest_of_and (covers_value ops a b v u) (covers_values ops a b vs (take n us)) e))
-
-    groups_covered : length b.registers ≡ 75 → covers_values ops a b groups (drop 11 b.registers) ≡ true → covers_values ops a b (all_groups groups) (drop 11 b.registers) ≡ true
-    unfolding no_groups
-    groups_covered other e =
-        let long : length (drop 11 b.registers) ≡ 64 = omega (arith, length-drop 11 b.registers, other) in
-        covered_together ops a b groups (drop (length groups) (replicate 64 Nothing)) (drop 11 b.registers) (omega (arith, long, few)) e
-        (ap (λ (xs : List (AbstractValue D)). covers_values ops a b xs (drop (length groups) (drop 11 b.registers))) (drop_replicate (length groups) 64 Nothing few)
-        ∙ nothing_covers ops a b (64 - length groups) (drop (length groups) (drop 11 b.registers)) (omega (arith, length-drop (length groups) (drop 11 b.registers), long)))
-
-    pub covers_all : words_of (marks_of words) ≡ words → (others : List ℕ) → others ≡ words_of b.marks.cells → length (marks_of words) ≡ 512 → length b.registers ≡ 75 → length b.marks.cells ≡ 512 → are_within words others ≡ true → int_le a.proved b.proved ≡ true
-        → covers_values ops a b registers (take 11 b.registers) ≡ true → covers_values ops a b groups (drop 11 b.registers) ≡ true → share_alike a.registers b.registers ≡ true → covers ops a b ≡ true
-    covers_all kept others same long other cells within proved first rest shares =
-        let mine : length a.marks.cells ≡ 512 = ap (λ (s : AbsState D). length s.marks.cells) (sym is) ∙ long in
-        let marks : covers_marks a.marks.cells b.marks.cells ≡ true =
-        words_cover a.marks.cells b.marks.cells mine cells (ap (λ (xs : List ℕ). are_within xs (words_of b.marks.cells)) (words_are kept) ∙ ap (are_within words) (sym same) ∙ within) in
-        let values : covers_values ops a b (registers ++ all_groups groups) b.registers ≡ true =
-        covered_together ops a b registers (all_groups groups) b.registers (omega (arith, count, other)) (covered_longer 11 registers b.registers first)
-        (ap (λ (n : ℕ). covers_values ops a b (all_groups groups) (drop n b.registers)) count ∙ groups_covered other rest) in
-        all_covered ops a b (ap (λ (xs : List (AbstractValue D)). covers_values ops a b xs b.registers) registers_are ∙ values) shares proved marks
+  pub covers_all : words_of (marks_of words) ≡ words → (others : List ℕ) → others ≡ words_of b.marks.cells → length (marks_of words) ≡ 512 → length b.marks.cells ≡ 512 → are_within words others ≡ true → int_le a.proved b.proved ≡ true
+      → covers_values ops a b a.registers b.registers ≡ true → share_alike a.registers b.registers ≡ true → covers ops a b ≡ true
+  covers_all kept others same long cells within proved values shares =
+      let mine : length a.marks.cells ≡ 512 = ap (λ (s : AbsState D). length s.marks.cells) (sym is) ∙ long in
+      all_covered ops a b values shares proved
+      (words_cover a.marks.cells b.marks.cells mine cells (ap (λ (xs : List ℕ). are_within xs (words_of b.marks.cells)) (words_are kept) ∙ ap (are_within words) (sym same) ∙ within))

@@ -1,4 +1,5 @@
 use Rattle.std.proofs.Common.{◌≡◌, ◌+◌, ◌++◌, List, length, take, drop, ap, ◌∙◌, rules}
+use Rattle.absstate.specs.Packing.{joined}
 use Rattle.absstate.specs.StepLaws.Packing.{laid_out}
 use Rattle.absstate.specs.declared.abstract_state.AbstractValue.{AbstractValue}
 use Rattle.absstate.specs.declared.abstract_state.AbsState.{AbsState}
@@ -7,6 +8,6 @@ use Rattle.absstate.proofs.packed.PackedState.values.Goals as goal
 pub returns : goal.returns
 returns g c =
     let count : length c.self.inside.registers ≡ 11 = search rules in
-    laid_out c.self.inside.registers c.self.inside.groups.items c.put.new.values c.put-2.new.values count c.self.invariant.0 c.put.ensures
-    (c.put-2.ensures ∙ ap (λ (xs : List (AbstractValue g.row.D.Denot)). take 11 c.put.new.values ++ xs ++ drop (11 + length xs) c.put.new.values) c.deref.ensures.value)
+    laid_out c.self.inside.registers (joined c.self.inside.chunks.items) c.put.new.values c.put_chunks.new.values count c.self.invariant.0 c.put.ensures
+    (c.put_chunks.ensures ∙ ap (λ (xs : List (List (AbstractValue g.row.D.Denot))). take 11 c.put.new.values ++ joined xs ++ drop (11 + length (joined xs)) c.put.new.values) c.deref.ensures.value)
     ∙ ap (λ (a : AbsState g.row.D.Denot). a.registers) c.self.view_is

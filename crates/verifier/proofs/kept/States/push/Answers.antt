@@ -11,6 +11,9 @@ use Rattle.verifier.proofs.kept.States.push.Goals as goal
 pub drop-kept-inside-requires-room-T-Destruct : goal.drop-kept-inside-requires-room-T-Destruct
 drop-kept-inside-requires-room-T-Destruct g c κs within = packed_fits (lone g.row.D.mir) g.met.D.Domain.small
 
+pub drop-kept-inside-requires-in_err-push-room-T-Destruct : goal.drop-kept-inside-requires-in_err-push-room-T-Destruct
+drop-kept-inside-requires-in_err-push-room-T-Destruct g c κs within = packed_fits (lone g.row.D.mir) g.met.D.Domain.small
+
 pub invariant_of-self-in_default : goal.invariant_of-self-in_default
 invariant_of-self-in_default g c =
     let states = c.self.inside.states.items in
