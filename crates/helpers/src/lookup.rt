@@ -47,6 +47,7 @@ impl<'a> Lookup<'a> {
     }
 
     /// Answers with the peer that a number is bound to, if a record of the form has it.
+    #[inline(always)]
     fn channel_peer(
         &self,
         form: RecordForm,
@@ -109,6 +110,7 @@ impl Helpers for Lookup<'_> {
 
     ghost lawful = { λ l. l.lawful };
 
+    #[inline(always)]
     fn answer(&self, id: u8, number: u64, address: [u8; 20]) -> (u64, [u8; 20]) {
         let Some(slot) = self.slot else {
             return NOTHING;
