@@ -42,7 +42,7 @@ WRONG = [
     ("int program(struct context *ctx) { volatile u64 a[80]; for (int i = 0; i < 80; i++) a[i] = i; return a[ctx->length & 63]; }",
      "is not compiled"),
     ("int program(struct context *ctx) { return ctx->data[0]; }", "refused V10 at 1"),
-    ("int program(struct context *ctx) { u64 n = 0; while (n < ctx->length) n += 3; return n; }", "refused V1 at"),
+    ("int program(struct context *ctx) { u64 n = 0; while (n < ctx->length) n += 3; return n; }", "refused loop at"),
     ("int program(struct context *ctx) { return ctx->lenght; }", "is not compiled"),
 ]
 

@@ -54,6 +54,9 @@ READ = [
     (["disassemble", "-"], "good", 0, "mov r0, 2\nexit\n", ""),
     (["assemble", "-", "out"], "text", 0, "wrote 16 bytes\n", ""),
     (["assemble", "-", "out"], "good", 3, "", "cannot read -\n"),
+    (["order", "-", "out"], "good", 0, "wrote 16 bytes\n", ""),
+    (["order", "-", "out"], "empty", 1, "", "refused E1\n"),
+    (["order", "-", "out"], "folder", 3, "", "cannot read -\n"),
 ]
 # what the help says of exit statuses
 STATUSES = """

@@ -21,6 +21,7 @@ EXAMPLES = TOP / "examples"
 FOURTH_BYTE = str(EXAMPLES / "fourth_byte.bpf")
 BRANCHES = str(EXAMPLES / "first_byte_class.bpf")
 HEADER = str(EXAMPLES / "channel_data_header.bpf")
+BACKWARD = str(EXAMPLES / "shared_block.bpf")
 BRANCHES_TEXT = str(EXAMPLES / "first_byte_class.s")
 UNCHECKED_TEXT = str(EXAMPLES / "unchecked_byte.s")
 USERS = str(EXAMPLES / "users.txt")
@@ -43,6 +44,9 @@ CASES = [
     (["assemble", BRANCHES_TEXT, "/dev/null"], 0),
     (["assemble", UNCHECKED_TEXT, "/dev/null"], 0),
     (["assemble", str(TOP / "README.md"), "/dev/null"], 1),
+    (["order", HEADER, "/dev/null"], 0),
+    (["order", BACKWARD, "/dev/null"], 0),
+    (["order", BRANCHES_TEXT, "/dev/null"], 1),
     (["disassemble", HEADER], 0),
     (["disassemble", BRANCHES_TEXT], 1),
     (["replay", "--user", "u:p", "--users", USERS, "--client", FOURTH_BYTE, "--peer", HEADER, "/dev/null"], 0),

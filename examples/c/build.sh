@@ -18,10 +18,8 @@ done
 folder=$(mktemp -d)
 trap 'rm -rf "$folder"' EXIT
 object=$folder/program.o
-# jumps have to lead forward: blocks stay in their order, and ends that are alike are not shared
 read -ra flags <<<"-O2 ${CFLAGS:-}"
-"$clang" -target bpf -I "$here" "${flags[@]}" -Wall -Wextra -mllvm -disable-block-placement -mllvm -enable-tail-merge=0 \
-  -c "$1" -o "$object" || fail "$1 is not compiled"
+"$clang" -target bpf -I "$here" "${flags[@]}" -Wall -Wextra -c "$1" -o "$object" || fail "$1 is not compiled"
 
 # prints the sections of a kind that have bytes
 sections() {
@@ -36,5 +34,7 @@ if [ -n "$(sections '^[.](rodata|data|bss|maps)')" ]; then
 fi
 functions=$("$readelf" -s --wide "$object" | awk '$4 == "FUNC" { print $8 }')
 [ "$(wc -w <<<"$functions")" -eq 1 ] || fail "$1 has several functions, and a program is one: make $(tr '\n' ' ' <<<"$functions")INLINE but for one"
-"$objcopy" -O binary --only-section=.text "$object" "$2"
+"$objcopy" -O binary --only-section=.text "$object" "$folder/program.bpf"
+# clang shares blocks, and puts some before their users: jumps have to lead forward
+"$relayd" order "$folder/program.bpf" "$2" >"$folder/said" || exit $?
 "$relayd" verify "$2"

@@ -16,7 +16,7 @@ use Rattle.command_line.specs.Subcommands.{IsFlag, IsSubcommand, ServerTexts, Te
 use Rattle.command_line.specs.declared.Options.{Options}
 use Rattle.command_line.specs.declared.ServerOptions.{ServerOptions}
 use Rattle.command_line.specs.declared.Subcommand.{Subcommand}
-use Rattle.command_line.specs.declared.Subcommand.TheVariants.{Verify, Trace, Assemble, Disassemble, Replay, Serve}
+use Rattle.command_line.specs.declared.Subcommand.TheVariants.{Verify, Trace, Assemble, Order, Disassemble, Replay, Serve}
 
 -- the line has no fault, and its subcommand has this name and these values
 pub record Reads (words : List Text) (name file : Text) (hex : Option Text) : Type 0 where
@@ -71,6 +71,13 @@ assemble_read name [] [] e h = record { good = refl; name_is = refl; input_is = 
 assemble_read name (x ∷ xs) [] e h = record { good = simp e refl; name_is = refl; input_is = simp e refl; output_is = simp e refl }
 assemble_read name [] (y ∷ ys) e h = record { good = simp h refl; name_is = refl; input_is = simp h refl; output_is = simp h refl }
 assemble_read name (x ∷ xs) (y ∷ ys) e h = record { good = simp (e, h) refl; name_is = refl; input_is = simp (e, h) refl; output_is = simp (e, h) refl }
+
+order_read : (name input output : Text) → IsOperand input → IsOperand output → ReadsFiles (name ∷ codes "order" ∷ input ∷ output ∷ []) (codes "order") input output
+unfolding clap_on_literals
+order_read name [] [] e h = record { good = refl; name_is = refl; input_is = refl; output_is = refl }
+order_read name (x ∷ xs) [] e h = record { good = simp e refl; name_is = refl; input_is = simp e refl; output_is = simp e refl }
+order_read name [] (y ∷ ys) e h = record { good = simp h refl; name_is = refl; input_is = simp h refl; output_is = simp h refl }
+order_read name (x ∷ xs) (y ∷ ys) e h = record { good = simp (e, h) refl; name_is = refl; input_is = simp (e, h) refl; output_is = simp (e, h) refl }
 
 trace_read : (name file : Text) → IsOperand file → Reads (name ∷ codes "trace" ∷ file ∷ []) (codes "trace") file None
 unfolding clap_on_literals
@@ -237,6 +244,12 @@ assemble_made words input output r = record {
   subcommand = files_collected (subcommand_in words) (codes "assemble") input.now output.now r.name_is r.input_is r.output_is;
 }
 
+order_made : (words : List Text) (input output : Bor Text) → ReadsFiles words (codes "order") input.now output.now → Makes words (Order input output)
+order_made words input output r = record {
+  good = r.good;
+  subcommand = files_collected (subcommand_in words) (codes "order") input.now output.now r.name_is r.input_is r.output_is;
+}
+
 trace_made : (words : List Text) (file : Bor Text) (hex : Option (Bor Text)) → Reads words (codes "trace") file.now (option_map (λ s. s.now) hex) → Makes words (Trace file hex)
 trace_made words file hex r = record {
   good = r.good;
@@ -321,6 +334,7 @@ with_server server options words (name, inr (given, (g, (s, (r, (t, w)))))) =
 made : (r : Subcommand) (words : List Text) → IsLineOf r words → Makes words r
 made (Verify file) words (o, (name, l)) = verify_made words file (subst (λ w. Reads w (codes "verify") file.now None) (sym l) (verify_read name file.now o))
 made (Assemble input output) words (o, (name, l)) = assemble_made words input output (subst (λ w. ReadsFiles w (codes "assemble") input.now output.now) (sym l) (assemble_read name input.now output.now o.0 o.1))
+made (Order input output) words (o, (name, l)) = order_made words input output (subst (λ w. ReadsFiles w (codes "order") input.now output.now) (sym l) (order_read name input.now output.now o.0 o.1))
 made (Disassemble file false) words (o, (name, l)) =
     disassemble_made words file (codes "false") false says_false
     (subst (λ w. ReadsFlag w file.now (codes "false")) (sym l) (disassemble_read name file.now o))

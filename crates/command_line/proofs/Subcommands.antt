@@ -1,6 +1,6 @@
 -- What the name and the entries of a subcommand that was met say of it.
 use Rattle.std.proofs.Common.{◌≡◌, ◌∙◌, ◌⊎◌, sym, ap, refl, arith, inl, inr, codes, ℕ, Bool, true, false, List, [], ◌∷◌, Option, Some, None, IfNone, IfSome, IsSomeAnd, Bor, subst}
-use Rattle.command_line.specs.Subcommands.{IsFlag, TakesFile, list_of, IsNoSubcommand, IsSubcommand}
+use Rattle.command_line.specs.Subcommands.{IsFlag, TakesFile, TakesFiles, list_of, IsNoSubcommand, IsSubcommand}
 use Rattle.command_line.specs.declared.Subcommand.{Subcommand}
 use Rattle.std.specs.Prelude.{option_map, Box}
 use Rattle.std.specs.Box.{box_value}
@@ -70,30 +70,35 @@ file_letter name (inl is) = inl (ap head is)
 file_letter name (inr (inl is)) = inr (inl (ap head is))
 file_letter name (inr (inr is)) = inr (inr (ap head is))
 
+-- the first letter of a subcommand that takes IN and OUT
+files_letter : (name : Text) → TakesFiles name → (head name ≡ 97) ⊎ (head name ≡ 111)
+files_letter name (inl is) = inl (ap head is)
+files_letter name (inr is) = inr (ap head is)
+
 -- a subcommand that takes FILE is none without it
 pub lacks_file : (name : Text) (rows : List Row) → TakesFile name → first_of (codes "file") rows ≡ None → IsNoSubcommand (name, rows)
 lacks_file name rows takes none = record {
   file = λ _. none;
-  files = λ e. let letter = file_letter name takes in let other : head name ≡ 97 = ap head e in absurd (omega (arith, letter, other));
+  files = λ e. let letter = file_letter name takes in let other = files_letter name e in absurd (omega (arith, letter, other));
   events = λ e. let letter = file_letter name takes in let other : head name ≡ 114 = ap head e in absurd (omega (arith, letter, other));
   port = λ e. let letter = file_letter name takes in let other : head name ≡ 115 = ap head e in absurd (omega (arith, letter, other));
 }
 
--- assemble is none without one of its files
-pub lacks_files : (name : Text) (rows : List Row) → name ≡ codes "assemble"
+-- a subcommand that takes IN and OUT is none without one of them
+pub lacks_files : (name : Text) (rows : List Row) → TakesFiles name
     → (first_of (codes "in") rows ≡ None) ⊎ (first_of (codes "out") rows ≡ None) → IsNoSubcommand (name, rows)
-lacks_files name rows is none = record {
-  file = λ takes. let letter = file_letter name takes in let other : head name ≡ 97 = ap head is in absurd (omega (arith, letter, other));
+lacks_files name rows takes none = record {
+  file = λ e. let letter = file_letter name e in let other = files_letter name takes in absurd (omega (arith, letter, other));
   files = λ _. none;
-  events = λ e. let one : head name ≡ 97 = ap head is in let other : head name ≡ 114 = ap head e in absurd (omega (arith, one, other));
-  port = λ e. let one : head name ≡ 97 = ap head is in let other : head name ≡ 115 = ap head e in absurd (omega (arith, one, other));
+  events = λ e. let letter = files_letter name takes in let other : head name ≡ 114 = ap head e in absurd (omega (arith, letter, other));
+  port = λ e. let letter = files_letter name takes in let other : head name ≡ 115 = ap head e in absurd (omega (arith, letter, other));
 }
 
 -- replay is none without its events
 pub lacks_events : (name : Text) (rows : List Row) → name ≡ codes "replay" → first_of (codes "events") rows ≡ None → IsNoSubcommand (name, rows)
 lacks_events name rows is none = record {
   file = λ takes. let letter = file_letter name takes in let other : head name ≡ 114 = ap head is in absurd (omega (arith, letter, other));
-  files = λ e. let one : head name ≡ 97 = ap head e in let other : head name ≡ 114 = ap head is in absurd (omega (arith, one, other));
+  files = λ e. let letter = files_letter name e in let other : head name ≡ 114 = ap head is in absurd (omega (arith, letter, other));
   events = λ _. none;
   port = λ e. let one : head name ≡ 114 = ap head is in let other : head name ≡ 115 = ap head e in absurd (omega (arith, one, other));
 }
@@ -102,7 +107,7 @@ lacks_events name rows is none = record {
 pub lacks_port : (name : Text) (rows : List Row) → name ≡ codes "serve" → first_of (codes "port") rows ≡ None → IsNoSubcommand (name, rows)
 lacks_port name rows is none = record {
   file = λ takes. let letter = file_letter name takes in let other : head name ≡ 115 = ap head is in absurd (omega (arith, letter, other));
-  files = λ e. let one : head name ≡ 97 = ap head e in let other : head name ≡ 115 = ap head is in absurd (omega (arith, one, other));
+  files = λ e. let letter = files_letter name e in let other : head name ≡ 115 = ap head is in absurd (omega (arith, letter, other));
   events = λ e. let one : head name ≡ 114 = ap head e in let other : head name ≡ 115 = ap head is in absurd (omega (arith, one, other));
   port = λ _. none;
 }

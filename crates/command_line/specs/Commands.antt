@@ -33,6 +33,10 @@ output_argument = record (new_rule (codes "out")) { action = Some Set; value_nam
 abbrev pub assemble_command : App
 assemble_command = with_rule (with_rule (new_app (codes "assemble")) input_argument) output_argument
 
+-- order IN OUT
+abbrev pub order_command : App
+order_command = with_rule (with_rule (new_app (codes "order")) input_argument) output_argument
+
 -- disassemble [--slots] FILE
 abbrev pub disassemble_command : App
 disassemble_command = with_rule (with_rule (new_app (codes "disassemble")) file_argument) (flag (codes "slots"))
@@ -94,7 +98,7 @@ bare_command = let app = new_app (codes "relayd") in record app {
 }
 
 abbrev pub text_command : App
-text_command = with_subcommand (with_subcommand bare_command assemble_command.top) disassemble_command.top
+text_command = with_subcommand (with_subcommand (with_subcommand bare_command assemble_command.top) order_command.top) disassemble_command.top
 
 abbrev pub program_command : App
 program_command = with_subcommand (with_subcommand text_command verify_command.top) trace_command.top

@@ -6,7 +6,7 @@ use Rattle.clap.specs.declared.error.kind.ErrorKind.TheVariants.{OutOfMemory}
 use Rattle.clap.specs.declared.parser.matches.ArgMatches.{ArgMatches}
 use Rattle.command_line.specs.Subcommands.{IsSubcommand, ServerTexts, Texts, server_texts_of, text_of, texts_of}
 use Rattle.command_line.specs.declared.Subcommand.{Subcommand}
-use Rattle.command_line.specs.declared.Subcommand.TheVariants.{Verify, Trace, Assemble, Disassemble, Replay, Serve}
+use Rattle.command_line.specs.declared.Subcommand.TheVariants.{Verify, Trace, Assemble, Order, Disassemble, Replay, Serve}
 
 abbrev pub begins_with_minus : Text → Bool
 begins_with_minus [] = false
@@ -162,6 +162,8 @@ IsLineOf (Trace file None) words = IsOperand file.now × ((name : Text) × (word
 IsLineOf (Trace file (Some hex)) words = IsOperand file.now × IsTraceLine file.now hex.now words
 IsLineOf (Assemble input output) words = (IsOperand input.now × IsOperand output.now)
     × ((name : Text) × (words ≡ name ∷ codes "assemble" ∷ input.now ∷ output.now ∷ []))
+IsLineOf (Order input output) words = (IsOperand input.now × IsOperand output.now)
+    × ((name : Text) × (words ≡ name ∷ codes "order" ∷ input.now ∷ output.now ∷ []))
 IsLineOf (Disassemble file false) words = IsOperand file.now
     × ((name : Text) × (words ≡ name ∷ codes "disassemble" ∷ file.now ∷ []))
 IsLineOf (Disassemble file true) words = IsOperand file.now × IsSlotsLine file.now words

@@ -5,7 +5,7 @@ use Rattle.clap.specs.Words.{Text, Row, all_of, first_of, one_of}
 use Rattle.command_line.specs.declared.Options.{Options}
 use Rattle.command_line.specs.declared.ServerOptions.{ServerOptions}
 use Rattle.command_line.specs.declared.Subcommand.{Subcommand}
-use Rattle.command_line.specs.declared.Subcommand.TheVariants.{Verify, Trace, Assemble, Disassemble, Replay, Serve}
+use Rattle.command_line.specs.declared.Subcommand.TheVariants.{Verify, Trace, Assemble, Order, Disassemble, Replay, Serve}
 
 -- the value of an argument of the subcommand
 abbrev pub argument_value : Text × List Row → Text → Option Text
@@ -111,6 +111,8 @@ IsSubcommand p (Trace file hex) = (p.0 ≡ codes "trace") × (argument_value p (
     × (argument_value p (codes "data") ≡ option_map (λ s. s.now) hex)
 IsSubcommand p (Assemble input output) = (p.0 ≡ codes "assemble") × (argument_value p (codes "in") ≡ Some input.now)
     × (argument_value p (codes "out") ≡ Some output.now)
+IsSubcommand p (Order input output) = (p.0 ≡ codes "order") × (argument_value p (codes "in") ≡ Some input.now)
+    × (argument_value p (codes "out") ≡ Some output.now)
 IsSubcommand p (Disassemble file slots) = (p.0 ≡ codes "disassemble") × (argument_value p (codes "file") ≡ Some file.now)
     × IsFlag (flag_of p (codes "slots")) slots
 IsSubcommand p (Replay events nonce options) = (p.0 ≡ codes "replay") × (argument_value p (codes "events") ≡ Some events.now)
@@ -123,9 +125,13 @@ IsSubcommand p (Serve server options) = (p.0 ≡ codes "serve")
 abbrev pub TakesFile : Text → Type 0
 TakesFile name = (name ≡ codes "disassemble") ⊎ ((name ≡ codes "verify") ⊎ (name ≡ codes "trace"))
 
--- they are those of no subcommand: the name is none of the six, or a file or the port is missing
+-- the subcommand is one that takes IN and OUT
+abbrev pub TakesFiles : Text → Type 0
+TakesFiles name = (name ≡ codes "assemble") ⊎ (name ≡ codes "order")
+
+-- they are those of no subcommand: the name is none of the seven, or a file or the port is missing
 pub record IsNoSubcommand (p : Text × List Row) : Type 0 where
   pub file : TakesFile p.0 → argument_value p (codes "file") ≡ None
-  pub files : p.0 ≡ codes "assemble" → (argument_value p (codes "in") ≡ None) ⊎ (argument_value p (codes "out") ≡ None)
+  pub files : TakesFiles p.0 → (argument_value p (codes "in") ≡ None) ⊎ (argument_value p (codes "out") ≡ None)
   pub events : p.0 ≡ codes "replay" → argument_value p (codes "events") ≡ None
   pub port : p.0 ≡ codes "serve" → argument_value p (codes "port") ≡ None

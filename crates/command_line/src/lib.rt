@@ -3,7 +3,7 @@
 
 ghost use Rattle.std.specs.Prelude.{◌≡◌, None, true, false, codes, map, IfOk, IfSome, IfNone, IsSomeAnd};
 ghost use Rattle.clap.specs.Words.{FailsBy, first_of, found_of, has_subcommand, rows_of, rule_of, subcommand_rows_of};
-ghost use Rattle.command_line.specs.Commands.{HasAdded, HasShape, assemble_command, bare_command, disassemble_command, events_argument, faults_of, file_argument, flag, input_argument, option, output_argument, port_option, program_command, relayd_command, repeated_option, replay_command, serve_command, subcommand_in, text_command, trace_command, verify_command, with_addresses, with_filter, with_options, with_programs, with_sockets, with_times, with_users};
+ghost use Rattle.command_line.specs.Commands.{HasAdded, HasShape, assemble_command, bare_command, disassemble_command, events_argument, faults_of, file_argument, flag, input_argument, option, order_command, output_argument, port_option, program_command, relayd_command, repeated_option, replay_command, serve_command, subcommand_in, text_command, trace_command, verify_command, with_addresses, with_filter, with_options, with_programs, with_sockets, with_times, with_users};
 ghost use Rattle.command_line.specs.Lines.{IsLineOf, IsParsedAs};
 ghost use Rattle.command_line.specs.Subcommands.{IsSubcommand, IsNoSubcommand, texts_in, texts_of};
 ghost use Rattle.command_line.specs.declared.Subcommand.{Subcommand};
@@ -88,6 +88,11 @@ pub enum Subcommand<'a> {
         input: &'a str,
         output: &'a str,
     },
+    /// Put the program in a file in an order in which every jump leads forward, and write the program to another.
+    Order {
+        input: &'a str,
+        output: &'a str,
+    },
     /// Print the program in a file as text, with the slot of each instruction where `slots` says so.
     Disassemble {
         file: &'a str,
@@ -154,13 +159,13 @@ fn file<'a>(alloc: Global) -> Arg<'a>
 }
 
 /// Returns the argument `IN`.
-fn input<'a>(alloc: Global) -> Arg<'a>
+fn input<'a>(alloc: Global, help: &'a str) -> Arg<'a>
     ensures rule { rule_of result ≡ input_argument }
     ensures local { result.global ≡ false }
 {
     Arg::new(alloc, "in")
         .value_name("IN")
-        .help("The text of a program: one instruction or label a line")
+        .help(help)
         .required(true)
         .action(ArgAction::Set)
 }
@@ -207,7 +212,25 @@ fn assemble<'a>(alloc: Global) -> Result<Command<'a>, AllocError>
 {
     Command::new(alloc, "assemble")
         .about("Assemble the text of a program, or print which line is wrong")
-        .arg(input(alloc))?
+        .arg(input(
+            alloc,
+            "The text of a program: one instruction or label a line",
+        ))?
+        .arg(output(alloc))
+}
+
+/// Returns the subcommand `order`.
+fn order<'a>(alloc: Global) -> Result<Command<'a>, AllocError>
+    ensures { IfOk result (HasShape order_command) }
+{
+    Command::new(alloc, "order")
+        .about(
+            "Put a program in an order in which every jump leads forward, or print where it has a loop",
+        )
+        .arg(input(
+            alloc,
+            "The program: its encoded instructions (RFC 9669), 1 to 4,096 slots of 8 bytes",
+        ))?
         .arg(output(alloc))
 }
 
@@ -447,6 +470,7 @@ fn with_texts<'a>(alloc: Global) -> Result<Command<'a>, AllocError>
 {
     bare(alloc)
         .subcommand(assemble(alloc)?)?
+        .subcommand(order(alloc)?)?
         .subcommand(disassemble(alloc)?)
 }
 
@@ -533,6 +557,11 @@ pub fn subcommand_of<'a>(matches: &'a ArgMatches<'_>) -> Option<Subcommand<'a>>
             let input = matches.get_str("in")?;
             let output = matches.get_str("out")?;
             Some(Subcommand::Assemble { input, output })
+        }
+        "order" => {
+            let input = matches.get_str("in")?;
+            let output = matches.get_str("out")?;
+            Some(Subcommand::Order { input, output })
         }
         "disassemble" => {
             let file = matches.get_str("file")?;

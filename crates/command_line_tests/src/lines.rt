@@ -10,7 +10,7 @@ struct Good {
     subcommand: &'static str,
 }
 
-const GOOD: [Good; 26] = [
+const GOOD: [Good; 27] = [
     Good {
         words: &["relayd", "verify", "a.bpf"],
         subcommand: r#"Verify { file: "a.bpf" }"#,
@@ -26,6 +26,10 @@ const GOOD: [Good; 26] = [
     Good {
         words: &["relayd", "assemble", "--", "--help", "-o"],
         subcommand: r#"Assemble { input: "--help", output: "-o" }"#,
+    },
+    Good {
+        words: &["relayd", "order", "a.bpf", "b.bpf"],
+        subcommand: r#"Order { input: "a.bpf", output: "b.bpf" }"#,
     },
     Good {
         words: &["relayd", "disassemble", "a.bpf"],
@@ -209,7 +213,7 @@ struct Refused {
     parts: &'static [&'static str],
 }
 
-const REFUSED: [Refused; 51] = [
+const REFUSED: [Refused; 52] = [
     // no word after the name: the help
     Refused {
         words: &[],
@@ -251,6 +255,11 @@ const REFUSED: [Refused; 51] = [
         words: &["relayd", "assemble", "a.s", "a.bpf", "b.bpf"],
         status: 2,
         parts: &["b.bpf", "--help"],
+    },
+    Refused {
+        words: &["relayd", "order", "a.bpf"],
+        status: 2,
+        parts: &["<OUT>", "--help"],
     },
     Refused {
         words: &["relayd", "disassemble"],

@@ -1,4 +1,5 @@
-//! The program: parses the command line, and reports on a program file, assembles a text, replays events or serves sockets.
+//! The program: parses the command line, and reports on a program file, puts it in order, assembles a text, replays events or serves
+//! sockets.
 #![tactic(auto)]
 
 mod ahead;
@@ -21,6 +22,7 @@ use asm::{AsmError, assemble};
 use clap::ArgMatches;
 use clap::error::ErrorKind as LineErrorKind;
 use command_line::{Subcommand, line, subcommand_of};
+use ordering::{FileError, order_file};
 use report::{Ask, ReportError, fail, report};
 use std::alloc::AllocError;
 use std::io::{self, BufWriter, Read, Write};
@@ -35,6 +37,9 @@ const FILE_FAULT: u8 = 3;
 
 /// The exit status of a bad command line.
 const BAD_LINE: u8 = 2;
+
+/// The exit status of a refusal.
+const REFUSED: u8 = 1;
 
 /// Prints an error of the command line, or the help text that it requests, and returns the exit status.
 fn report_line<R: Print + Eprint, E: Write>(rt: &R, err: &mut E, error: &clap::Error) -> u8 {
@@ -114,13 +119,59 @@ fn assemble_file<R: Files + Input + Print + AllocGlobal, E: Write>(
         Err(AsmError::Memory) => return fail(err, ReportError::Memory),
         Err(refusal) => return fail(err, ReportError::Text(refusal)),
     };
-    if fs::write(rt, output, &program).is_err() {
+    write_program(rt, err, output, &program)
+}
+
+/// Writes a program to the file `output`, prints its length and returns the exit status.
+fn write_program<R: Files + Print + AllocGlobal, E: Write>(
+    rt: &R,
+    err: &mut E,
+    output: &str,
+    program: &[u8],
+) -> u8 {
+    if fs::write(rt, output, program).is_err() {
         return fail_at(err, "write", output);
     }
     let length = program.len();
     match println!(rt; "wrote {length} bytes") {
         Ok(()) => 0,
         Err(_) => fail(err, ReportError::Output),
+    }
+}
+
+/// Prints why a file is not put in order, and what to do where it is an object file, and returns the exit status.
+fn refuse_order<E: Write>(err: &mut E, file: &[u8], error: FileError) -> u8 {
+    if error == FileError::Memory {
+        return fail(err, ReportError::Memory);
+    }
+    let _ = writeln!(err, "refused {error}");
+    if file.starts_with(b"\x7fELF") {
+        let _ = writeln!(
+            err,
+            "an object file: take its .text by llvm-objcopy -O binary --only-section=.text"
+        );
+    }
+    REFUSED
+}
+
+/// Puts the program in the file `input` in an order in which every jump leads forward, writes it to the file `output` and
+/// returns the exit status. A program that is refused writes nothing.
+fn reorder_file<R: Files + Input + Print + AllocGlobal, E: Write>(
+    rt: &R,
+    err: &mut E,
+    input: &str,
+    output: &str,
+) -> u8 {
+    let file = match read_whole(rt, input) {
+        Ok(file) => file,
+        Err(error) if error.kind() == io::ErrorKind::OutOfMemory => {
+            return fail(err, ReportError::Memory);
+        }
+        Err(_) => return fail_at(err, "read", input),
+    };
+    match order_file(rt.alloc(), &file) {
+        Ok(program) => write_program(rt, err, output, &program),
+        Err(error) => refuse_order(err, &file, error),
     }
 }
 
@@ -139,6 +190,7 @@ fn run_subcommand<R: Files + Input + Print + Net + Clock + RandomSource + AllocG
             report_file(rt, err, file, Ask::Disassemble { slots })
         }
         Some(Subcommand::Assemble { input, output }) => assemble_file(rt, err, input, output),
+        Some(Subcommand::Order { input, output }) => reorder_file(rt, err, input, output),
         Some(
             Subcommand::Replay {
                 events,

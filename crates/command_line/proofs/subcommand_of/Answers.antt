@@ -7,12 +7,22 @@ use Rattle.command_line.proofs.subcommand_of.Goals as goal
 pub returns-in_err-input-in-assemble-clause-none : goal.returns-in_err-input-in-assemble-clause-none
 returns-in_err-input-in-assemble-clause-none c =
     rw c.from_residual-in_err-input-in-assemble.ensures (any_met c.args.matches.now c.in_ok-name.name.now (found_of c.in_ok-name.matches.now) IsNoSubcommand c.in_ok-name.ensures.name c.in_ok-name.ensures.rows
-    (lacks_files c.in_ok-name.name.now (rows_of (found_of c.in_ok-name.matches.now)) c.in-assemble.is (inl (read_as (found_of c.in_ok-name.matches.now) (codes "in") _ None c.get_str.ensures c.in_err-input-in-assemble.was))))
+    (lacks_files c.in_ok-name.name.now (rows_of (found_of c.in_ok-name.matches.now)) (inl c.in-assemble.is) (inl (read_as (found_of c.in_ok-name.matches.now) (codes "in") _ None c.get_str.ensures c.in_err-input-in-assemble.was))))
+
+pub returns-in_err-input-in-order-clause-none : goal.returns-in_err-input-in-order-clause-none
+returns-in_err-input-in-order-clause-none c =
+    rw c.from_residual-in_err-input-in-order.ensures (any_met c.args.matches.now c.in_ok-name.name.now (found_of c.in_ok-name.matches.now) IsNoSubcommand c.in_ok-name.ensures.name c.in_ok-name.ensures.rows
+    (lacks_files c.in_ok-name.name.now (rows_of (found_of c.in_ok-name.matches.now)) (inr c.in-order.is) (inl (read_as (found_of c.in_ok-name.matches.now) (codes "in") _ None c.get_str-in-order.ensures c.in_err-input-in-order.was))))
 
 pub returns-in_err-output-in-assemble-clause-none : goal.returns-in_err-output-in-assemble-clause-none
 returns-in_err-output-in-assemble-clause-none c =
     rw c.from_residual-in_err-output-in-assemble.ensures (any_met c.args.matches.now c.in_ok-name.name.now (found_of c.in_ok-name.matches.now) IsNoSubcommand c.in_ok-name.ensures.name c.in_ok-name.ensures.rows
-    (lacks_files c.in_ok-name.name.now (rows_of (found_of c.in_ok-name.matches.now)) c.in-assemble.is (inr (read_as (found_of c.in_ok-name.matches.now) (codes "out") _ None c.get_str-in-assemble.ensures c.in_err-output-in-assemble.was))))
+    (lacks_files c.in_ok-name.name.now (rows_of (found_of c.in_ok-name.matches.now)) (inl c.in-assemble.is) (inr (read_as (found_of c.in_ok-name.matches.now) (codes "out") _ None c.get_str-in-assemble.ensures c.in_err-output-in-assemble.was))))
+
+pub returns-in_err-output-in-order-clause-none : goal.returns-in_err-output-in-order-clause-none
+returns-in_err-output-in-order-clause-none c =
+    rw c.from_residual-in_err-output-in-order.ensures (any_met c.args.matches.now c.in_ok-name.name.now (found_of c.in_ok-name.matches.now) IsNoSubcommand c.in_ok-name.ensures.name c.in_ok-name.ensures.rows
+    (lacks_files c.in_ok-name.name.now (rows_of (found_of c.in_ok-name.matches.now)) (inr c.in-order.is) (inr (read_as (found_of c.in_ok-name.matches.now) (codes "out") _ None c.get_str-in-order-2.ensures c.in_err-output-in-order.was))))
 
 pub returns-in_err-file-in-disassemble-clause-none : goal.returns-in_err-file-in-disassemble-clause-none
 returns-in_err-file-in-disassemble-clause-none c =
@@ -33,6 +43,11 @@ pub returns-in_ok-output-in-assemble-clause-found : goal.returns-in_ok-output-in
 returns-in_ok-output-in-assemble-clause-found c =
     one_met c.args.matches.now c.in_ok-name.name.now (found_of c.in_ok-name.matches.now) _ c.in_ok-name.ensures.name c.in_ok-name.ensures.rows
     (c.in-assemble.is, read_as (found_of c.in_ok-name.matches.now) (codes "in") _ (Some c.in_ok-input-in-assemble.input) c.get_str.ensures c.in_ok-input-in-assemble.was, read_as (found_of c.in_ok-name.matches.now) (codes "out") _ (Some c.in_ok-output-in-assemble.output) c.get_str-in-assemble.ensures c.in_ok-output-in-assemble.was)
+
+pub returns-in_ok-output-in-order-clause-found : goal.returns-in_ok-output-in-order-clause-found
+returns-in_ok-output-in-order-clause-found c =
+    one_met c.args.matches.now c.in_ok-name.name.now (found_of c.in_ok-name.matches.now) _ c.in_ok-name.ensures.name c.in_ok-name.ensures.rows
+    (c.in-order.is, read_as (found_of c.in_ok-name.matches.now) (codes "in") _ (Some c.in_ok-input-in-order.input) c.get_str-in-order.ensures c.in_ok-input-in-order.was, read_as (found_of c.in_ok-name.matches.now) (codes "out") _ (Some c.in_ok-output-in-order.output) c.get_str-in-order-2.ensures c.in_ok-output-in-order.was)
 
 pub returns-in_ok-file-in-disassemble-clause-found : goal.returns-in_ok-file-in-disassemble-clause-found
 returns-in_ok-file-in-disassemble-clause-found c =

@@ -1,0 +1,11 @@
+pub mod Backs
+pub mod Goals
+pub mod Paths
+pub mod Fitting
+pub mod Placing
+pub mod Room
+pub mod Searching
+pub mod Forwards
+pub mod Effects
+pub mod Meaning
+pub mod Running

@@ -1,0 +1,18 @@
+//! A pass over a program that makes every jump lead forward.
+#![tactic(auto)]
+
+mod branches;
+mod error;
+mod file;
+mod forward;
+mod laws;
+mod pass;
+mod search;
+mod tail;
+#[cfg(test)]
+mod tests;
+
+pub use error::OrderError;
+pub use file::{FileError, order_file};
+pub use laws::runs_are_kept;
+pub use pass::order;
