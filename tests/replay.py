@@ -146,22 +146,24 @@ RUNS = [
 ]
 TX = "0" * 24
 # texts of a file of users, with a name and a password that they have, or what is refused: blanks belong to a password, no name
-# has any, and there are no comments and no empty lines
+# has any, and lines that are empty or begin with # have no user but are counted
 FILES_OF_USERS = [
     ("u:p", "u", "p"),
     ("u:p\r\n", "u", "p"),
     ("u:p \n", "u", "p "),
     ("u: p\n", "u", " p"),
-    ("v:q\n#u:p#\n", "#u", "p#"),
+    ("v:q\nu:p#\n", "u", "p#"),
+    ("v:q\nu:#p\n", "u", "#p"),
     (" u:p\n", "users"),
     ("u :p\n", "users"),
     ("u:p\t\n", "users"),
-    ("# the users:\nu:p\n", "users"),
-    ("# the users\nu:p\n", "users at line 1"),
-    ("u:p\n#\n", "users at line 2"),
-    ("\nu:p\n", "users at line 1"),
-    ("u:p\n\nv:q\n", "users at line 2"),
-    ("u:p\nv:q\n\n", "users at line 3"),
+    ("# the users:\nu:p\n", "u", "p"),
+    ("# the users\r\n\r\nu:p\r\n", "u", "p"),
+    ("#v:q\n\n\nu:p\n#\n\n", "u", "p"),
+    ("#u:p\n\n", "users"),
+    ("# the users\n\nu:p\nv\n", "users at line 4"),
+    (" # the users\nu:p\n", "users at line 1"),
+    (" #u:p\n", "users"),
     ("u:p\n \n", "users at line 2"),
 ]
 # a Send indication after a ChannelBind, whose attribute that isn't understood is padded, comes first, and is ignored

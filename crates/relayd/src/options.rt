@@ -6,7 +6,7 @@ use credentials::User;
 use peer_filter::{FilterError, NetworkError};
 use programs::{CLIENT, PEER};
 use relay::Relay;
-use setup::{ProgramError, Setup, SetupError, defaults, ip, octets6, port, relay_of, slots, user};
+use setup::{ProgramError, Setup, SetupError, defaults, ip, is_comment, octets6, port, relay_of, slots, user};
 use std::alloc::Global;
 use std::net::SocketAddr;
 use std::rt::Files;
@@ -166,7 +166,7 @@ fn add_users<'a>(alloc: Global, users: &mut Vec<User>, texts: &[&'a str]) -> Res
     Ok(())
 }
 
-/// Adds the users of a file, one a line.
+/// Adds the users of a file, one a line; empty lines and comments, which begin with `#`, have none.
 /// See docs/DECISIONS.md, "Users from a file".
 fn add_users_of_file<'a, R: Files + AllocGlobal>(
     rt: &R,
@@ -178,7 +178,7 @@ fn add_users_of_file<'a, R: Files + AllocGlobal>(
         Err(error) => return Err(unread(&error, path)),
     };
     for (number, line) in (1u64..).zip(text.lines()) {
-        if !add_user(rt.alloc(), users, line)? {
+        if !is_comment(line) && !add_user(rt.alloc(), users, line)? {
             return Err(Fault::Users(number));
         }
     }

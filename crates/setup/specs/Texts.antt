@@ -1,5 +1,5 @@
 -- Meaning. The values that the texts of options have.
-use Rattle.std.specs.Prelude.{◌≡◌, ℕ, ◌<◌, Bool, false, List, length, Option, Some, None, Ok, ◌==◌, string_bytes}
+use Rattle.std.specs.Prelude.{◌≡◌, ℕ, ◌<◌, Bool, true, false, List, [], ◌∷◌, length, Option, Some, None, Ok, ◌==◌, string_bytes}
 use Rattle.std.specs.List.{list_any, before_first, after_first}
 use Rattle.std.specs.Net.Addr.{ipv6_octets}
 use Rattle.std.specs.Net.Grammar.{IsDotted, IsIpv6Text}
@@ -35,6 +35,11 @@ AreOctets6 text ip = (decode_of text ≡ Ok ip) × (length ip ≡ 16)
 abbrev pub IsOctets6In : List ℕ → Option (List ℕ) → Type 0
 IsOctets6In text (Some ip) = AreOctets6 text ip
 IsOctets6In text None = (ip : List ℕ) → ¬ (AreOctets6 text ip)
+
+-- a line without a user: nothing, or a comment
+abbrev pub is_comment : List ℕ → Bool
+is_comment [] = true
+is_comment (byte ∷ line) = byte == 0x23
 
 abbrev pub is_colon : ℕ → Bool
 is_colon byte = byte == 0x3a

@@ -8,4 +8,4 @@ mod texts;
 
 pub use error::{ProgramError, SetupError};
 pub use setting_up::{Setup, program, relay_of};
-pub use texts::{ip, ip6, number, octets6, port, slots, user};
+pub use texts::{ip, ip6, is_comment, number, octets6, port, slots, user};

@@ -1,7 +1,7 @@
 //! The values that the texts of options have.
 
-ghost use Rattle.std.specs.Prelude.{◌^◌, IfOk};
-ghost use Rattle.setup.specs.Texts.{IsNumberIn, IsAddressIn, IsAddress6In, IsOctets6In, IsUserIn};
+ghost use Rattle.std.specs.Prelude.{◌≡◌, ◌^◌, IfOk};
+ghost use Rattle.setup.specs.Texts.{IsNumberIn, IsAddressIn, IsAddress6In, IsOctets6In, is_comment, IsUserIn};
 
 use credentials::User;
 use hex::FromHex;
@@ -51,6 +51,13 @@ pub fn octets6(text: &str) -> Option<[u8; 16]>
     ensures { IsOctets6In text.now result }
 {
     <[u8; 16] as FromHex>::from_hex(text).ok()
+}
+
+/// Returns whether a line of a file of users is empty or a comment, which begins with `#`.
+pub fn is_comment(line: &str) -> bool
+    ensures { result ≡ is_comment line.now }
+{
+    line.is_empty() || line.starts_with('#')
 }
 
 /// Parses a user, written as `NAME:PASSWORD`: the name ends at the first colon. `None` is a text without a colon.
