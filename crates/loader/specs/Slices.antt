@@ -27,4 +27,4 @@ IsLoadEnd code (Err e) = MayRefuse code BUDGET e × IsWalked {T = Loaded} code (
 -- it goes on with the same program, and less work is left; or it has ended
 abbrev pub IsLoadSlice : Walking Interval → ℕ → LoadProgress → Type 0
 IsLoadSlice w slice (progress.Going next) = (next.code ≡ w.code) × (work_left next.budget next.made next.waits + slice ≤ work_left w.budget w.made w.waits)
-IsLoadSlice w slice (progress.Ended result) = IsLoadEnd w.code result
+IsLoadSlice w slice (progress.Ended result remains) = IsLoadEnd w.code result

@@ -6,5 +6,5 @@ mod loading;
 mod refusal;
 
 pub use loaded::{BUDGET, Loaded, limits, load};
-pub use loading::{LoadProgress, Loading};
+pub use loading::{LoadProgress, Loading, Remains};
 pub use refusal::LoadError;

@@ -44,8 +44,22 @@ impl Model for Loading {
 pub enum LoadProgress {
     /// It goes on.
     Going(Loading),
-    /// It has ended: the program is loaded, or refused.
-    Ended(Result<Loaded, Refusal>),
+    /// It has ended: the program is loaded, or refused. What the verification has kept is still there.
+    Ended(Result<Loaded, Refusal>, Remains),
+}
+
+/// What a verification has kept, once it has ended. Where it is much, freeing it at once takes long.
+#[derive(Drop)]
+pub struct Remains {
+    states: verifier::Remains<Interval>,
+}
+
+impl Remains {
+    /// Frees some of it, in `count` units of work. Returns the rest, `None` where nothing is left.
+    pub fn free(self, count: usize) -> Option<Remains> {
+        let states = self.states.free(count)?;
+        Some(Remains { states })
+    }
 }
 
 /// Goes on by a slice, and counts its steps.
@@ -88,6 +102,12 @@ impl Loading {
         Ok(Loading { walk })
     }
 
+    /// Gives the loading up, and returns what its verification has kept.
+    pub fn into_remains(self) -> Remains {
+        let states = self.walk.into_remains();
+        Remains { states }
+    }
+
     /// Goes on by `slice` units of work, or fewer where the verification ends. Whatever the slices are, it ends as
     /// [`load`](crate::load) does.
     pub fn advance(self, slice: usize) -> LoadProgress
@@ -95,8 +115,13 @@ impl Loading {
     {
         match advanced(self.walk, slice) {
             Progress::Going(walk) => LoadProgress::Going(Loading { walk }),
-            Progress::Ended(Ok(program)) => LoadProgress::Ended(Ok(Loaded { program })),
-            Progress::Ended(Err(refusal)) => LoadProgress::Ended(Err(refusal)),
+            Progress::Ended(result, states) => {
+                let remains = Remains { states };
+                match result {
+                    Ok(program) => LoadProgress::Ended(Ok(Loaded { program }), remains),
+                    Err(refusal) => LoadProgress::Ended(Err(refusal), remains),
+                }
+            }
         }
     }
 }

@@ -4,7 +4,7 @@ use crate::files::{Unusable, read_regular};
 use crate::options::ProgramBytes;
 use command_line::Options;
 use insn::MAX_SLOTS;
-use loader::{LoadError, LoadProgress, Loaded, Loading};
+use loader::{LoadError, LoadProgress, Loaded, Loading, Remains};
 use relay::Relay;
 use setup::ProgramError;
 use std::io::Write;
@@ -13,6 +13,9 @@ use std::rt::Files;
 
 /// How many units of work of a verification are done before the clock is read again.
 const SLICE: usize = 4;
+
+/// How many units of work are done of freeing what a verification has kept, before the clock is read again.
+const FREED: usize = 64;
 
 /// The most bytes of a program: eight for each slot.
 const LONGEST: u64 = MAX_SLOTS as u64 * 8;
@@ -40,6 +43,8 @@ pub(crate) struct Side<'a> {
     /// Why the file couldn't be used when it was last looked at.
     unusable: Option<Unusable>,
     next: Next,
+    /// What the last verification has kept, which is freed by and by.
+    remains: Option<Remains>,
 }
 
 /// The programs of both sides.
@@ -91,6 +96,26 @@ impl<'a> Side<'a> {
             refused: None,
             unusable: None,
             next: Next::Nothing,
+            remains: None,
+        }
+    }
+
+    /// Returns whether there is a next program, or what is left of a verification.
+    fn is_busy(&self) -> bool {
+        self.next.is_some() || self.remains.is_some()
+    }
+
+    /// Gives the next program up, if there is one.
+    fn withdraw(&mut self) {
+        if let Next::Verifying { loading, .. } = mem::replace(&mut self.next, Next::Nothing) {
+            self.remains = Some(loading.into_remains());
+        }
+    }
+
+    /// Frees some of what the last verification has kept.
+    fn free(&mut self) {
+        if let Some(remains) = mem::replace(&mut self.remains, None) {
+            self.remains = remains.free(FREED);
         }
     }
 
@@ -133,7 +158,7 @@ impl<'a> Side<'a> {
         if self.next.is_of(&bytes) {
             return;
         }
-        self.next = Next::Nothing;
+        self.withdraw();
         if is_kept(&self.running, &bytes) {
             self.refused = None;
             return;
@@ -147,14 +172,18 @@ impl<'a> Side<'a> {
         }
     }
 
-    /// Goes on verifying the next program by a slice, if one is being verified.
+    /// Goes on verifying the next program by a slice, if one is being verified, and freeing what the last verification has kept.
     fn advance<E: Write>(&mut self, err: &mut E) {
+        self.free();
         match mem::replace(&mut self.next, Next::Nothing) {
             Next::Verifying { loading, bytes } => match loading.advance(SLICE) {
                 LoadProgress::Going(loading) => self.next = Next::Verifying { loading, bytes },
-                LoadProgress::Ended(Ok(loaded)) => self.next = Next::Ready { loaded, bytes },
-                LoadProgress::Ended(Err(refusal)) => {
-                    self.refuse(err, LoadError::from(refusal), bytes);
+                LoadProgress::Ended(result, remains) => {
+                    self.remains = Some(remains);
+                    match result {
+                        Ok(loaded) => self.next = Next::Ready { loaded, bytes },
+                        Err(refusal) => self.refuse(err, LoadError::from(refusal), bytes),
+                    }
                 }
             },
             next => self.next = next,
@@ -194,9 +223,9 @@ impl<'a> Sides<'a> {
         self.client.path.is_some() || self.peer.path.is_some()
     }
 
-    /// Returns whether a program is to replace one that runs.
+    /// Returns whether a program is to replace one that runs, or what is left of a verification is to be freed.
     pub(crate) fn is_replacing(&self) -> bool {
-        self.client.next.is_some() || self.peer.next.is_some()
+        self.client.is_busy() || self.peer.is_busy()
     }
 
     /// Begins to load the programs of the files that have changed.

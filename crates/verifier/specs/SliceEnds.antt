@@ -44,4 +44,4 @@ pub record EndsIn {D : Type 0} (ops : Operations D) (Member : D → ℕ → Type
 
 abbrev pub IsSlice : {D : Type 0} → Operations D → (D → ℕ → Type 0) → Walking D → ℕ → ℕ → ℕ → Progress D → Type 0
 IsSlice ops Member w slice old new (progress.Going next) = GoesOnBy w next slice old new
-IsSlice ops Member w slice old new (progress.Ended result) = EndsIn ops Member w slice old new result
+IsSlice ops Member w slice old new (progress.Ended result remains) = EndsIn ops Member w slice old new result

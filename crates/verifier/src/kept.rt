@@ -376,3 +376,45 @@ impl<D: Domain> Kept<D> {
         Ok(())
     }
 }
+
+/// The states that a walk has kept, once it has ended. Where there are many, freeing all of them at once takes long.
+#[derive(Drop)]
+pub struct Remains<D: Domain> {
+    by_slot: Vec<Option<States<D>>>,
+    states: Vec<KeptState<D>>,
+}
+
+impl<D: Domain> Remains<D> {
+    /// Returns what is left of the states that a walk has kept.
+    pub(crate) fn new(kept: Kept<D>) -> Remains<D> {
+        Remains {
+            by_slot: kept.by_slot,
+            states: Vec::new(kept.alloc),
+        }
+    }
+
+    /// Frees a state, or goes on to those of another slot, and returns whether there was anything to do.
+    fn free_one(&mut self) -> bool {
+        if self.states.pop().is_some() {
+            return true;
+        }
+        match self.by_slot.pop() {
+            None => false,
+            Some(None) => true,
+            Some(Some(states)) => {
+                self.states = states.states;
+                true
+            }
+        }
+    }
+
+    /// Frees some of the states, in `count` units of work: a state, or a slot. Returns the others, `None` where none is left.
+    pub fn free(mut self, count: usize) -> Option<Remains<D>> {
+        for _ in 0..count {
+            if !self.free_one() {
+                return None;
+            }
+        }
+        Some(self)
+    }
+}

@@ -7,6 +7,8 @@ mod refusal;
 mod slices;
 mod walk;
 
+pub use kept::Remains;
+pub use layout::distance;
 pub use refusal::Refusal;
 pub use slices::{Progress, Walk, verify_in_slices};
 pub use steps::Steps;

@@ -10,7 +10,7 @@ ghost use Rattle.verifier.specs.Walks.{Pauses, EndsWalk};
 ghost use Rattle.verifier.specs.Slices.{waits_of, HasWorked, IfContinues, StopsIn};
 ghost use Rattle.verifier.specs.declared.walk.Path.TheVariants.{Ended};
 
-use crate::kept::Kept;
+use crate::kept::{Kept, Remains};
 use crate::layout::check_layout;
 use crate::refusal::Refusal;
 use crate::walk::{Path, Pending, Verified, make_step};
@@ -149,8 +149,8 @@ impl<D: Domain> Model for Walk<D> {
 pub enum Progress<D: Domain> {
     /// It goes on.
     Going(Walk<D>),
-    /// It has ended: the program is accepted, or refused.
-    Ended(Result<Verified, Refusal>),
+    /// It has ended: the program is accepted, or refused. The states that it has kept are still there.
+    Ended(Result<Verified, Refusal>, Remains<D>),
 }
 
 impl<D: Domain> Walk<D> {
@@ -200,6 +200,13 @@ impl<D: Domain> Walk<D> {
         })
     }
 
+    /// Gives the walk up, and returns the states that it has kept.
+    pub fn into_remains(self) -> Remains<D> {
+        let Walk { at, .. } = self;
+        let Frontier { kept, .. } = at;
+        Remains::new(kept)
+    }
+
     /// Goes on by `slice` units of work, or fewer where the walk ends. A unit is a step, or a state that is skipped, and compares
     /// at most one state with those that are kept at its slot.
     pub fn advance<L: Ledger>(self, slice: usize, steps: &mut Steps<L>) -> Progress<D>
@@ -211,8 +218,8 @@ impl<D: Domain> Walk<D> {
             mut at,
         } = self;
         match work_on(translation.program(), &mut at, budget, slice, steps) {
-            Err(e) => Progress::Ended(Err(e)),
-            Ok(Path::Ended) => Progress::Ended(Ok(Verified { translation })),
+            Err(e) => Progress::Ended(Err(e), Remains::new(at.kept)),
+            Ok(Path::Ended) => Progress::Ended(Ok(Verified { translation }), Remains::new(at.kept)),
             Ok(Path::Continues) => Progress::Going(Walk {
                 translation,
                 budget,
@@ -244,7 +251,7 @@ pub fn verify_in_slices<D: Domain, L: Ledger>(
     loop {
         match walk.advance(slice, steps) {
             Progress::Going(next) => walk = next,
-            Progress::Ended(result) => return result,
+            Progress::Ended(result, _) => return result,
         }
     }
 }

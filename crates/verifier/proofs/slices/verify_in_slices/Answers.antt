@@ -44,16 +44,14 @@ returns-in-Ended-clause-verdict g c =
     subst (λ (b : ℕ). IsVerdictOver g.D.Domain.ops g.D.Domain.Member c.args.code.now b c.in-Ended.result) c.loop-next.invariant.budget_is
     (subst (λ (code : List Insn). IsVerdictOver g.D.Domain.ops g.D.Domain.Member code c.loop-next.walk.budget c.in-Ended.result) c.loop-next.invariant.code_is c.in-Ended.ensures.verdict)
 
--- the steps of all slices
-all_steps : (g : given.Over) (c : goal.In-Ended g) → c.advance.new.steps ≡ c.args.steps.now + c.in-Ended.ensures.made
-all_steps g c = omega (arith, c.in-Ended.ensures.count, c.loop-next.invariant.count)
-
 pub returns-in-Ended-clause-counts : goal.returns-in-Ended-clause-counts
 returns-in-Ended-clause-counts g c =
+    let all_steps : c.advance.new.steps ≡ c.args.steps.now + c.in-Ended.ensures.made = omega (arith, c.in-Ended.ensures.count, c.loop-next.invariant.count) in
     subst (λ (b : ℕ). CountsSteps b c.args.steps.now c.advance.new.steps c.in-Ended.result) c.loop-next.invariant.budget_is
-    (counts_from g.D.Domain.ops g.D.Domain.Member c.loop-next.walk.budget c.args.steps.now c.advance.new.steps c.in-Ended.ensures.made c.in-Ended.result (all_steps g c) c.in-Ended.ensures.counts)
+    (counts_from g.D.Domain.ops g.D.Domain.Member c.loop-next.walk.budget c.args.steps.now c.advance.new.steps c.in-Ended.ensures.made c.in-Ended.result all_steps c.in-Ended.ensures.counts)
 
 pub returns-in-Ended-clause-walked : goal.returns-in-Ended-clause-walked
 returns-in-Ended-clause-walked g c =
+    let all_steps : c.advance.new.steps ≡ c.args.steps.now + c.in-Ended.ensures.made = omega (arith, c.in-Ended.ensures.count, c.loop-next.invariant.count) in
     subst (λ (code : List Insn). EndsWalk g.D.Domain.ops g.D.Domain.Member code c.args.steps.now c.advance.new.steps c.in-Ended.result) c.loop-next.invariant.code_is
-    (walked_from g.D.Domain.ops g.D.Domain.Member c.loop-next.walk.code c.args.steps.now c.advance.new.steps c.in-Ended.ensures.made c.in-Ended.result (all_steps g c) c.in-Ended.ensures.walked)
+    (walked_from g.D.Domain.ops g.D.Domain.Member c.loop-next.walk.code c.args.steps.now c.advance.new.steps c.in-Ended.ensures.made c.in-Ended.result all_steps c.in-Ended.ensures.walked)

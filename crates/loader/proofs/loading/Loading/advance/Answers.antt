@@ -35,14 +35,14 @@ refused w slice new e budget ends = (
   },
 )
 
-pub returns-in-Ended-Ok : goal.returns-in-Ended-Ok
-returns-in-Ended-Ok c =
-    let ends : EndsIn interval_ops LiesBetween c.self.inside.walk c.args.slice 0 c.in-Ended-Ok.ensures.0 (Ok c.in-Ended-Ok.program) =
-    subst (λ (r : Result Verified Refusal). EndsIn interval_ops LiesBetween c.self.inside.walk c.args.slice 0 c.in-Ended-Ok.ensures.0 r) c.in-Ended-Ok.field-0-is c.in-Ended-Ok.ensures.1 in
-    subst (λ (w : Walking Interval). IsLoadEnd w.code (Ok c.in-Ended-Ok.program)) c.self.view_is (accepted c.self.inside.walk c.args.slice c.in-Ended-Ok.ensures.0 c.in-Ended-Ok.program c.self.invariant ends)
+pub returns-in-Ok : goal.returns-in-Ok
+returns-in-Ok c =
+    let ends : EndsIn interval_ops LiesBetween c.self.inside.walk c.args.slice 0 c.in-Ended.ensures.0 (Ok c.in-Ok.program) =
+    subst (λ (r : Result Verified Refusal). EndsIn interval_ops LiesBetween c.self.inside.walk c.args.slice 0 c.in-Ended.ensures.0 r) c.in-Ok.is c.in-Ended.ensures.1 in
+    subst (λ (w : Walking Interval). IsLoadEnd w.code (Ok c.in-Ok.program)) c.self.view_is (accepted c.self.inside.walk c.args.slice c.in-Ended.ensures.0 c.in-Ok.program c.self.invariant ends)
 
-pub returns-in-Ended-Err : goal.returns-in-Ended-Err
-returns-in-Ended-Err c =
-    let ends : EndsIn interval_ops LiesBetween c.self.inside.walk c.args.slice 0 c.in-Ended-Err.ensures.0 (Err c.in-Ended-Err.refusal) =
-    subst (λ (r : Result Verified Refusal). EndsIn interval_ops LiesBetween c.self.inside.walk c.args.slice 0 c.in-Ended-Err.ensures.0 r) c.in-Ended-Err.field-0-is c.in-Ended-Err.ensures.1 in
-    subst (λ (w : Walking Interval). IsLoadEnd w.code (Err c.in-Ended-Err.refusal)) c.self.view_is (refused c.self.inside.walk c.args.slice c.in-Ended-Err.ensures.0 c.in-Ended-Err.refusal c.self.invariant ends)
+pub returns-in-Err : goal.returns-in-Err
+returns-in-Err c =
+    let ends : EndsIn interval_ops LiesBetween c.self.inside.walk c.args.slice 0 c.in-Ended.ensures.0 (Err c.in-Err.refusal) =
+    subst (λ (r : Result Verified Refusal). EndsIn interval_ops LiesBetween c.self.inside.walk c.args.slice 0 c.in-Ended.ensures.0 r) c.in-Err.is c.in-Ended.ensures.1 in
+    subst (λ (w : Walking Interval). IsLoadEnd w.code (Err c.in-Err.refusal)) c.self.view_is (refused c.self.inside.walk c.args.slice c.in-Ended.ensures.0 c.in-Err.refusal c.self.invariant ends)
