@@ -1,5 +1,6 @@
 -- Interface. States as they are kept, and the parts that distinguish them.
-use Rattle.std.specs.Prelude.{◌≡◌, ℕ, ◌++◌, ◌&&◌, Bool, true, false, ℤ, List, [], ◌∷◌, drop, length, slice_index_or}
+use Rattle.std.specs.Prelude.{◌≡◌, ℕ, ◌+◌, ◌≤◌, ◌++◌, ◌&&◌, Bool, true, false, ℤ, List, [], ◌∷◌, take, drop, length, slice_index_or}
+use Rattle.semantics.specs.declared.limits.TheConstants.{GROUPS}
 use Rattle.std.specs.List.{flat_map}
 use Rattle.interval.specs.Domains.{Operations}
 use Rattle.absstate.specs.AbstractStates.{no_groups}
@@ -21,9 +22,17 @@ are_unknown (v ∷ values) = false
 abbrev pub joined : {D : Type 0} → List (List (AbstractValue D)) → List (AbstractValue D)
 joined chunks = flat_map (λ values. values) chunks
 
+-- values with others written over them from an index on
+abbrev pub written_over : {D : Type 0} → ℕ → List (AbstractValue D) → List (AbstractValue D) → List (AbstractValue D)
+written_over at part values = take at values ++ part ++ drop (at + length part) values
+
 -- the groups, where those after the ones that are listed hold no pointer
 abbrev pub all_groups : {D : Type 0} → List (AbstractValue D) → List (AbstractValue D)
 all_groups groups = groups ++ drop (length groups) no_groups
+
+-- chunks hold the groups of a state
+abbrev pub HoldGroups : {D : Type 0} → List (AbstractValue D) → List (List (AbstractValue D)) → Type 0
+HoldGroups values chunks = (all_groups (joined chunks) ≡ values) × (length (joined chunks) ≤ GROUPS)
 
 -- the state that is kept in these parts
 abbrev pub unpacked : {D : Type 0} → List (AbstractValue D) → List (AbstractValue D) → List ℕ → ℤ → AbsState D

@@ -3,7 +3,7 @@
 ghost use Rattle.std.specs.Prelude.{◌≡◌, ◌≤◌, ◌<◌, ◌+◌, ◌++◌, true, false, take, drop, length, int_le, slice_index_or, IfOk, IfNone, IfSome};
 ghost use Rattle.absstate.specs.Covers.{covers_value, covers_values};
 ghost use Rattle.semantics.specs.declared.limits.TheConstants.{GROUPS};
-ghost use Rattle.absstate.specs.Packing.{are_unknown, all_groups, joined};
+ghost use Rattle.absstate.specs.Packing.{are_unknown, joined, written_over, HoldGroups};
 ghost use Rattle.absstate.specs.declared.packed.TheConstants.{REGISTERS};
 ghost use Rattle.absstate.specs.declared.abstract_state.AbsState.{AbsState};
 ghost use Rattle.absstate.specs.declared.abstract_state.AbstractValue.TheVariants.{Nothing};
@@ -47,7 +47,7 @@ impl<D> Model for PackedState<D> {
 /// Writes values from an index on.
 fn put<D: Copy>(values: &mut [AbstractValue<D>], at: usize, part: &[AbstractValue<D>])
     requires { at + length part.now ≤ length values.old }
-    ensures { values.new ≡ take at values.old ++ part.now ++ drop (at + length part.now) values.old }
+    ensures { values.new ≡ written_over at part.now values.old }
 {
     values[at..at + part.len()].copy_from_slice(part);
 }
@@ -66,7 +66,7 @@ fn are_unknown<D: Copy>(values: &[AbstractValue<D>]) -> bool
 /// Writes the values of chunks, one after the other, from an index on.
 fn put_chunks<D: Copy>(values: &mut [AbstractValue<D>], at: usize, chunks: &[Chunk<D>])
     requires { at + length (joined chunks.now) ≤ length values.old }
-    ensures { values.new ≡ take at values.old ++ joined chunks.now ++ drop (at + length (joined chunks.now)) values.old }
+    ensures { values.new ≡ written_over at (joined chunks.now) values.old }
 {
     match chunks {
         [] => {}
@@ -89,7 +89,7 @@ fn chunks_of<D: Copy>(
     like: &[Chunk<D>],
 ) -> Result<Vec<Chunk<D>>, AllocError>
     requires { length values.now ≡ GROUPS }
-    ensures { IfOk result (λ chunks. (all_groups (joined chunks.items) ≡ values.now) × (length (joined chunks.items) ≤ GROUPS)) }
+    ensures { IfOk result (λ chunks. HoldGroups values.now chunks.items) }
 {
     let mut chunks = Vec::new(alloc);
     if are_unknown(values) {

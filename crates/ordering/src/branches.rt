@@ -10,18 +10,7 @@ ghost use Rattle.ordering.specs.Goals.{falls_through, IsVisit, IsLanding, IsBran
 
 use insn::Insn;
 use semantics::{Branch, Fetched, Program, Reason, Visit};
-
-/// Returns the distance of a jump, `None` for an instruction that is no jump.
-pub(crate) fn distance(insn: Insn) -> Option<i32>
-    ensures { result ≡ flow_distance (flow_of insn) }
-{
-    match insn {
-        Insn::Jump { offset } => Some(i32::from(offset)),
-        Insn::JumpIf { offset, .. } => Some(i32::from(offset)),
-        Insn::LongJump { offset } => Some(offset),
-        _ => None,
-    }
-}
+use verifier::distance;
 
 /// Returns whether the next instruction may follow an instruction.
 fn falls_through(insn: Insn) -> bool

@@ -54,7 +54,8 @@ impl From<AllocError> for FileError {
 /// The first fault of the bytes, the fault of the program, or `Memory`.
 pub fn order_file(alloc: Global, bytes: &[u8]) -> Result<Vec<u8>, FileError>
     ensures ok { IfOk result (λ new. IsInOrder bytes.now new.items) }
-    ensures unchanged { (code : List Insn) → Encodes code bytes.now → HasGoodJumps code → IfOk result (λ new. new.items ≡ bytes.now) }
+    ensures unchanged { (code : List Insn) → Encodes code bytes.now → HasGoodJumps code
+        → IfOk result (λ new. new.items ≡ bytes.now) }
     ensures refused { IfErr result (IsFileFault bytes.now) }
 {
     let code = match decode(alloc, bytes) {

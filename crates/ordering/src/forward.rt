@@ -5,9 +5,9 @@ ghost use Rattle.insn.specs.Encoding.{slot_count};
 ghost use Rattle.insn.specs.declared.decoding.TheConstants.{MAX_SLOTS};
 ghost use Rattle.semantics.specs.Slots.{fetch};
 
-use crate::branches::distance;
 use insn::MAX_SLOTS;
 use semantics::{Fetched, Program};
+use verifier::distance;
 
 /// Returns whether a jump at a slot, if there is one, leads to an instruction ahead.
 fn is_forward_at(program: &Program, slot: usize) -> bool

@@ -119,7 +119,8 @@ impl Tail {
         requires fits { Fits insn }
         requires taken { HasPlace (tail_list self.old) insn taken }
         ensures tail { OnOk result (IsTail self.new) }
-        ensures list { OnOk result (tail_list self.new ≡ jump_to (tail_list self.old) insn taken ∷ tail_list self.old) }
+        ensures list { OnOk result (tail_list self.new
+            ≡ jump_to (tail_list self.old) insn taken ∷ tail_list self.old) }
         ensures err { IfErr result (IsNoRoom (slot_count (tail_list self.old) + slots_of insn)) }
     {
         match taken {

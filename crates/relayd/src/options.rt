@@ -6,7 +6,9 @@ use credentials::User;
 use peer_filter::{FilterError, NetworkError};
 use programs::{CLIENT, PEER};
 use relay::Relay;
-use setup::{ProgramError, Setup, SetupError, defaults, ip, is_comment, octets6, port, relay_of, slots, user};
+use setup::{
+    ProgramError, Setup, SetupError, defaults, ip, is_comment, octets6, port, relay_of, slots, user,
+};
 use std::alloc::Global;
 use std::net::SocketAddr;
 use std::rt::Files;
