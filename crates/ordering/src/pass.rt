@@ -16,6 +16,7 @@ use std::alloc::Global;
 /// Returns a program with the same meaning, all of whose jumps lead forward: the program itself where they do already,
 /// and else the instructions that are reached from slot 0 in another order, with a jump wherever a fall-through would
 /// lead to another instruction than before.
+/// See docs/DECISIONS.md, "A program is put in order by a depth-first search".
 ///
 /// # Errors
 /// `Loop` at a slot of a loop; `Stuck` at a reached instruction that leads outside, into a wide instruction or off the
