@@ -34,9 +34,9 @@ contains_nearer x y e =
     let ends = ends_in_order x y e in
     ⊎_elim inl
     (λ no_nearer.
-        let lo : y.lo ≡ x.lo = omega (arith, no_nearer, ends.0, ends.1, ends.2) in
-        let hi : y.hi ≡ x.hi = omega (arith, no_nearer, ends.0, ends.1, ends.2) in
-        inr (ap (λ (n : ℕ). record { lo = n; hi = y.hi }) lo ∙ ap (λ (n : ℕ). record { lo = x.lo; hi = n }) hi))
+    let lo : y.lo ≡ x.lo = omega (arith, no_nearer, ends.0, ends.1, ends.2) in
+    let hi : y.hi ≡ x.hi = omega (arith, no_nearer, ends.0, ends.1, ends.2) in
+    inr (ap (λ (n : ℕ). record { lo = n; hi = y.hi }) lo ∙ ap (λ (n : ℕ). record { lo = x.lo; hi = n }) hi))
     (cases_lt (span y) (span x))
 
 pub interval_laws : AreSound interval_ops LiesBetween
