@@ -27,7 +27,7 @@ impl<D> Model for Chunk<D> {
     ghost view = { λ c. c.values.value.items };
 }
 
-/// Returns whether two anchors are the same, whatever is proved of them.
+/// Returns whether two anchors are the same, with as much proved of them.
 fn are_same_anchors(a: Anchor, b: Anchor) -> bool
     ensures { result ≡ true → a ≡ b }
 {

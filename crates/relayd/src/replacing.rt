@@ -43,7 +43,7 @@ pub(crate) struct Side<'a> {
     /// Why the file couldn't be used when it was last looked at.
     unusable: Option<Unusable>,
     next: Next,
-    /// What the last verification has kept, which is freed by and by.
+    /// What the last verification has kept, which is freed gradually.
     remains: Option<Remains>,
 }
 
