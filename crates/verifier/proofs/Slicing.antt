@@ -1,6 +1,6 @@
 -- A walk in slices: what its steps say of every run, and the verdict at its end.
 use Rattle.std.proofs.Common.{◌≡◌, ℕ, zero, suc, ◌+◌, ◌≤◌, ◌<◌, true, false, List, [], ◌∷◌, ◌++◌, length, Option, Some, None, Result, Ok, Err, inl, inr, refl, sym, ap, ◌∙◌, subst, arith}
-use Rattle.std.specs.Prelude.{IfOk}
+use Rattle.std.specs.Prelude.{IfOk, ◌⊎◌}
 use Rattle.std.specs.List.{list_any}
 use Rattle.std.proofs.lemmas.List.{length-append}
 use Rattle.insn.specs.declared.instruction.Insn.{Insn}
@@ -18,6 +18,7 @@ use Rattle.verifier.specs.PendingStates.{AllRunsExit}
 use Rattle.verifier.specs.Refusing.{IsReal, MayRefuseOver, IsVerdictOver, CountsSteps, IfBudget}
 use Rattle.verifier.specs.SliceEnds.{MayRefuseStart, EndsIn}
 use Rattle.verifier.specs.Slices.{Walking, IsWalk, waits_of, HasWorked, Stops}
+use Rattle.verifier.specs.Units.{DoesUnit, RefusesUnit}
 use Rattle.verifier.specs.Walk.{first_pending, waiting_states, state_to_follow, BeginsInside, IsLeft, Advances, IsStepRefusal, IsCovered, Skips}
 use Rattle.verifier.specs.Walks.{Walks, Pauses, ComesTo, IsRefusedEnd, IsEndOf, EndsWalk}
 use Rattle.verifier.specs.declared.kept.Kept.{Kept}
@@ -198,6 +199,24 @@ module _ {D : Type 0} (ops : Operations D) (Member : D → ℕ → Type 0) (code
         let count : length (waits_of at) ≡ length at.pending.items + 1 = ap (λ (xs : List (Pending D)). length xs) in_hand ∙ length-append at.pending.items (p ∷ []) in
         let same : length (waits_of at) ≡ length (waits_of from) = ap (λ (xs : List (Pending D)). length xs) is.waits in
         omega (arith, count, same)
+
+    old_waits : waits_of from ≡ at.pending.items ++ p ∷ []
+    old_waits = sym is.waits ∙ in_hand
+
+    -- what becomes of it
+    pub skips_it : DoesUnit ops code (waits_of from) (waits_of (record at { path = Ended })) from.made at.made
+    skips_it = record { rest = at.pending.items; here = p; old_is = old_waits; does = inl (refl, is.made) }
+
+    pub steps_on : (waits pending : List (Pending D)) (made : ℕ) (next : Option (Pending D)) → made ≡ at.made + 1 → Advances ops code p at.pending.items next pending → waits ≡ waiting_states next pending → DoesUnit ops code (waits_of from) waits from.made made
+    steps_on waits pending made next count advances is_waiting = record {
+      rest = at.pending.items;
+      here = p;
+      old_is = old_waits;
+      does = inr (record { next = next; pending = pending; advances = advances; waits_are = is_waiting; count = count ∙ ap (λ (n : ℕ). n + 1) is.made });
+    }
+
+    pub refuses_it : (e : Refusal) → IsStepRefusal ops code p e ⊎ (e ≡ refusal.Budget p.slot) → RefusesUnit ops code (waits_of from) e
+    refuses_it e cause = record { rest = at.pending.items; here = p; old_is = old_waits; cause = cause }
 
     -- it is skipped
     pub unit_skips : (old : ℕ) → IsCovered ops Member (kept_at at.kept) p → HasWorked ops Member code budget from (record at { path = Ended }) 1 old old

@@ -9,4 +9,5 @@ pub mod Refusing
 pub mod PendingStates
 pub mod Slices
 pub mod SliceEnds
+pub mod Units
 pub mod VerdictLaws

@@ -12,4 +12,4 @@ pub use layout::distance;
 pub use refusal::Refusal;
 pub use slices::{Progress, Walk, verify_in_slices};
 pub use steps::Steps;
-pub use walk::{Verified, verify, verify_with};
+pub use walk::{Pending, Verified, verify, verify_with};

@@ -8,6 +8,7 @@ ghost use Rattle.verifier.specs.Layout.{IsLaidOut};
 ghost use Rattle.verifier.specs.Refusing.{IsVerdictOver, CountsSteps};
 ghost use Rattle.verifier.specs.Walks.{Pauses, EndsWalk};
 ghost use Rattle.verifier.specs.Slices.{waits_of, HasWorked, IfContinues, StopsIn};
+ghost use Rattle.verifier.specs.Units.{IsUnitBetween};
 ghost use Rattle.verifier.specs.declared.walk.Path.TheVariants.{Ended};
 
 use crate::kept::{Kept, Remains};
@@ -75,6 +76,7 @@ fn work<D: Domain, L: Ledger>(
     requires pauses { Pauses D.ops D.Member program.now at.old.made (waits_of at.old) at.old.kept }
     ensures on { IfOk result (IfContinues (HasWorked D.ops D.Member program.now budget at.old at.new 1 steps.old steps.new)) }
     ensures ended { StopsIn D.ops D.Member program.now budget at.old.made 1 steps.old steps.new result }
+    ensures unit { IsUnitBetween D.ops program.now at.old at.new result }
 {
     if let Path::Ended = resume(at) {
         return Ok(Path::Ended);
@@ -154,13 +156,16 @@ pub enum Progress<D: Domain> {
 }
 
 impl<D: Domain> Walk<D> {
-    ghost use Rattle.std.specs.Prelude.{◌≤◌, Err, IfOk, IfErr};
+    ghost use Rattle.std.specs.Prelude.{◌≡◌, ◌≤◌, ◌-◌, [], ◌∷◌, Err, IfOk, IfErr, length, slice_get};
+    ghost use Rattle.std.specs.Option.{option_copied};
     ghost use Rattle.insn.specs.Encoding.{slot_count};
     ghost use Rattle.insn.specs.declared.decoding.TheConstants.{MAX_SLOTS};
     ghost use Rattle.verifier.specs.Refusing.{IsVerdictOver};
+    ghost use Rattle.verifier.specs.Walk.{first_pending};
     ghost use Rattle.verifier.specs.Walks.{EndsWalk};
     ghost use Rattle.verifier.specs.declared.walk.Verified.{Verified};
     ghost use Rattle.verifier.specs.SliceEnds.{IsNewWalk, MayRefuseStart, IsSlice};
+    ghost use Rattle.verifier.specs.Units.{IsUnit};
 
     /// Begins the walk over all paths of a program, which makes at most `budget` steps. None is made yet.
     ///
@@ -169,6 +174,7 @@ impl<D: Domain> Walk<D> {
     pub fn new(alloc: Global, code: &[Insn], budget: usize) -> Result<Walk<D>, Refusal>
         requires { slot_count code.now ≤ MAX_SLOTS }
         ensures started { IfOk result (IsNewWalk code.now budget) }
+        ensures waits { IfOk result (λ w. w.waits ≡ first_pending ∷ []) }
         ensures refused { IfErr result (MayRefuseStart code.now) }
         ensures verdict { IfErr result (λ e. IsVerdictOver {T = Verified} D.ops D.Member code.now budget (Err e)) }
         ensures walked { IfErr result (λ e. EndsWalk {T = Verified} D.ops D.Member code.now 0 0 (Err e)) }
@@ -205,6 +211,55 @@ impl<D: Domain> Walk<D> {
         let Walk { at, .. } = self;
         let Frontier { kept, .. } = at;
         Remains::new(kept)
+    }
+
+    /// Returns the state to follow next: the last one that waits.
+    pub fn next(&self) -> Option<&Pending<D>>
+        ensures { option_copied result ≡ slice_get self.now.waits (length self.now.waits - 1) }
+    {
+        match self.at.path {
+            Path::Continues => Some(&self.at.here),
+            Path::Ended => self.at.pending.last(),
+        }
+    }
+
+    /// Returns how many states wait.
+    pub fn waiting(&self) -> usize
+        ensures { result ≡ length self.now.waits }
+    {
+        match self.at.path {
+            Path::Continues => self.at.pending.len() + 1,
+            Path::Ended => self.at.pending.len(),
+        }
+    }
+
+    /// Returns how many steps are made.
+    pub fn made(&self) -> usize
+        ensures { result ≡ self.now.made }
+    {
+        self.at.made
+    }
+
+    /// Goes on by one unit of work: skips the state to follow next, where a kept one of its slot covers it, or else makes its
+    /// step.
+    pub fn step<L: Ledger>(self, steps: &mut Steps<L>) -> Progress<D>
+        ensures slice { IsSlice D.ops D.Member self 1 steps.old steps.new result }
+        ensures unit { IsUnit D.ops self result }
+    {
+        let Walk {
+            translation,
+            budget,
+            mut at,
+        } = self;
+        match work(translation.program(), &mut at, budget, steps) {
+            Err(refusal) => Progress::Ended(Err(refusal), Remains::new(at.kept)),
+            Ok(Path::Ended) => Progress::Ended(Ok(Verified { translation }), Remains::new(at.kept)),
+            Ok(Path::Continues) => Progress::Going(Walk {
+                translation,
+                budget,
+                at,
+            }),
+        }
     }
 
     /// Goes on by `slice` units of work, or fewer where the walk ends. A unit is a step, or a state that is skipped, and compares
