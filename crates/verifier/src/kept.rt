@@ -377,6 +377,9 @@ impl<D: Domain> Kept<D> {
     }
 }
 
+/// The size of the piece of memory that is asked for after some states are freed, in bytes.
+const LARGE_PIECE: usize = 4_096;
+
 /// The states that a walk has kept, once it has ended. Where there are many, freeing all of them at once takes long.
 #[derive(Drop)]
 pub struct Remains<D: Domain> {
@@ -408,6 +411,12 @@ impl<D: Domain> Remains<D> {
         }
     }
 
+    /// Asks for a large piece of memory, and gives it back. An allocator that joins small pieces only at such a request, as that of
+    /// glibc does, then joins the few that were freed since the last one, and never all of them at once.
+    fn join_freed(&self) {
+        let _ = Vec::<u8>::with_capacity(*self.states.allocator(), LARGE_PIECE);
+    }
+
     /// Frees some of the states, in `count` units of work: a state, or a slot. Returns the others, `None` where none is left.
     pub fn free(mut self, count: usize) -> Option<Remains<D>> {
         for _ in 0..count {
@@ -415,6 +424,7 @@ impl<D: Domain> Remains<D> {
                 return None;
             }
         }
+        self.join_freed();
         Some(self)
     }
 }
