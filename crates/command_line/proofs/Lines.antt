@@ -11,24 +11,24 @@ use Rattle.clap.specs.declared.parser.matches.ArgMatches.{ArgMatches}
 use Rattle.clap.proofs.OnLiterals.{clap_on_literals}
 use Rattle.command_line.proofs.Operands.{HasTexts, IsOptions, IsServing, all_held, all_options, all_serve, all_words, every_held, every_options, every_texts, every_words, last_operand, last_rows, options_rows, port_held, port_serves, port_words, replay_faults, replay_rows, replay_shape, serve_faults, serve_rows, serve_shape, user_held, user_options, user_texts}
 use Rattle.command_line.specs.Commands.{faults_of, relayd_command, subcommand_in}
-use Rattle.command_line.specs.Lines.{GivenOptions, IsOperand, IsLineOf, IsParsedAs, IsReplayLine, IsServeLine, IsSlotsLine, IsTraceLine, options_before, every_option, every_server_option, only_port, only_user, only_users_file}
+use Rattle.command_line.specs.Lines.{GivenOptions, IsOperand, IsLineOf, IsParsedAs, IsReplayLine, IsServeLine, IsExplainLine, IsSlotsLine, IsTraceLine, options_before, every_option, every_server_option, only_port, only_user, only_users_file}
 use Rattle.command_line.specs.Subcommands.{IsFlag, IsSubcommand, ServerTexts, Texts, flag_of, server_texts_in, server_texts_of, text_of, texts_in, texts_of, argument_value}
 use Rattle.command_line.specs.declared.Options.{Options}
 use Rattle.command_line.specs.declared.ServerOptions.{ServerOptions}
 use Rattle.command_line.specs.declared.Subcommand.{Subcommand}
-use Rattle.command_line.specs.declared.Subcommand.TheVariants.{Verify, Trace, Assemble, Order, Disassemble, Replay, Serve}
+use Rattle.command_line.specs.declared.Subcommand.TheVariants.{Verify, Explain, Trace, Assemble, Order, Disassemble, Replay, Serve}
 
--- the line has no fault, and its subcommand has this name and these values
-pub record Reads (words : List Text) (name file : Text) (hex : Option Text) : Type 0 where
+-- the line has no fault, and its subcommand has this name, this file and this value of an option
+pub record Reads (words : List Text) (name id file : Text) (value : Option Text) : Type 0 where
   pub good : faults_of words ≡ []
   pub name_is : option_map (λ p. p.0) (subcommand_in words) ≡ Some name
   pub file_is : option_map (λ p. argument_value p (codes "file")) (subcommand_in words) ≡ Some (Some file)
-  pub data_is : option_map (λ p. argument_value p (codes "data")) (subcommand_in words) ≡ Some hex
+  pub value_is : option_map (λ p. argument_value p id) (subcommand_in words) ≡ Some value
 
-verify_read : (name file : Text) → IsOperand file → Reads (name ∷ codes "verify" ∷ file ∷ []) (codes "verify") file None
+verify_read : (name file : Text) → IsOperand file → Reads (name ∷ codes "verify" ∷ file ∷ []) (codes "verify") (codes "data") file None
 unfolding clap_on_literals
-verify_read name [] e = record { good = refl; name_is = refl; file_is = refl; data_is = refl }
-verify_read name (x ∷ xs) e = record { good = simp e refl; name_is = refl; file_is = simp e refl; data_is = simp e refl }
+verify_read name [] e = record { good = refl; name_is = refl; file_is = refl; value_is = refl }
+verify_read name (x ∷ xs) e = record { good = simp e refl; name_is = refl; file_is = simp e refl; value_is = simp e refl }
 
 -- the line has no fault, and its subcommand is disassemble with this file and this value of the flag
 pub record ReadsFlag (words : List Text) (file value : Text) : Type 0 where
@@ -79,34 +79,51 @@ order_read name (x ∷ xs) [] e h = record { good = simp e refl; name_is = refl;
 order_read name [] (y ∷ ys) e h = record { good = simp h refl; name_is = refl; input_is = simp h refl; output_is = simp h refl }
 order_read name (x ∷ xs) (y ∷ ys) e h = record { good = simp (e, h) refl; name_is = refl; input_is = simp (e, h) refl; output_is = simp (e, h) refl }
 
-trace_read : (name file : Text) → IsOperand file → Reads (name ∷ codes "trace" ∷ file ∷ []) (codes "trace") file None
+trace_read : (name file : Text) → IsOperand file → Reads (name ∷ codes "trace" ∷ file ∷ []) (codes "trace") (codes "data") file None
 unfolding clap_on_literals
-trace_read name [] e = record { good = refl; name_is = refl; file_is = refl; data_is = refl }
-trace_read name (x ∷ xs) e = record { good = simp e refl; name_is = refl; file_is = simp e refl; data_is = simp e refl }
+trace_read name [] e = record { good = refl; name_is = refl; file_is = refl; value_is = refl }
+trace_read name (x ∷ xs) e = record { good = simp e refl; name_is = refl; file_is = simp e refl; value_is = simp e refl }
 
-joined_last : (name file hex : Text) → IsOperand file → Reads (name ∷ codes "trace" ∷ file ∷ (codes "--data=" ++ hex) ∷ []) (codes "trace") file (Some hex)
+joined_last : (name file hex : Text) → IsOperand file → Reads (name ∷ codes "trace" ∷ file ∷ (codes "--data=" ++ hex) ∷ []) (codes "trace") (codes "data") file (Some hex)
 unfolding clap_on_literals
-joined_last name [] hex e = record { good = refl; name_is = refl; file_is = refl; data_is = refl }
-joined_last name (x ∷ xs) hex e = record { good = simp e refl; name_is = refl; file_is = simp e refl; data_is = simp e refl }
+joined_last name [] hex e = record { good = refl; name_is = refl; file_is = refl; value_is = refl }
+joined_last name (x ∷ xs) hex e = record { good = simp e refl; name_is = refl; file_is = simp e refl; value_is = simp e refl }
 
-joined_first : (name file hex : Text) → IsOperand file → Reads (name ∷ codes "trace" ∷ (codes "--data=" ++ hex) ∷ file ∷ []) (codes "trace") file (Some hex)
+joined_first : (name file hex : Text) → IsOperand file → Reads (name ∷ codes "trace" ∷ (codes "--data=" ++ hex) ∷ file ∷ []) (codes "trace") (codes "data") file (Some hex)
 unfolding clap_on_literals
-joined_first name [] hex e = record { good = refl; name_is = refl; file_is = refl; data_is = refl }
-joined_first name (x ∷ xs) hex e = record { good = simp e refl; name_is = refl; file_is = simp e refl; data_is = simp e refl }
+joined_first name [] hex e = record { good = refl; name_is = refl; file_is = refl; value_is = refl }
+joined_first name (x ∷ xs) hex e = record { good = simp e refl; name_is = refl; file_is = simp e refl; value_is = simp e refl }
 
-data_last : (name file hex : Text) → IsOperand file → IsOperand hex → Reads (name ∷ codes "trace" ∷ file ∷ codes "--data" ∷ hex ∷ []) (codes "trace") file (Some hex)
+explain_read : (name file : Text) → IsOperand file → Reads (name ∷ codes "explain" ∷ file ∷ []) (codes "explain") (codes "slot") file None
 unfolding clap_on_literals
-data_last name [] [] e h = record { good = refl; name_is = refl; file_is = refl; data_is = refl }
-data_last name (x ∷ xs) [] e h = record { good = simp e refl; name_is = refl; file_is = simp e refl; data_is = simp e refl }
-data_last name [] (y ∷ ys) e h = record { good = simp h refl; name_is = refl; file_is = simp h refl; data_is = simp h refl }
-data_last name (x ∷ xs) (y ∷ ys) e h = record { good = simp (e, h) refl; name_is = refl; file_is = simp (e, h) refl; data_is = simp (e, h) refl }
+explain_read name [] e = record { good = refl; name_is = refl; file_is = refl; value_is = refl }
+explain_read name (x ∷ xs) e = record { good = simp e refl; name_is = refl; file_is = simp e refl; value_is = simp e refl }
 
-data_first : (name file hex : Text) → IsOperand file → IsOperand hex → Reads (name ∷ codes "trace" ∷ codes "--data" ∷ hex ∷ file ∷ []) (codes "trace") file (Some hex)
+slot_first : (name file slot : Text) → IsOperand file → Reads (name ∷ codes "explain" ∷ (codes "--slot=" ++ slot) ∷ file ∷ []) (codes "explain") (codes "slot") file (Some slot)
 unfolding clap_on_literals
-data_first name [] [] e h = record { good = refl; name_is = refl; file_is = refl; data_is = refl }
-data_first name (x ∷ xs) [] e h = record { good = simp e refl; name_is = refl; file_is = simp e refl; data_is = simp e refl }
-data_first name [] (y ∷ ys) e h = record { good = simp h refl; name_is = refl; file_is = simp h refl; data_is = simp h refl }
-data_first name (x ∷ xs) (y ∷ ys) e h = record { good = simp (e, h) refl; name_is = refl; file_is = simp (e, h) refl; data_is = simp (e, h) refl }
+slot_first name [] slot e = record { good = refl; name_is = refl; file_is = refl; value_is = refl }
+slot_first name (x ∷ xs) slot e = record { good = simp e refl; name_is = refl; file_is = simp e refl; value_is = simp e refl }
+
+slot_last : (name file slot : Text) → IsOperand file → IsOperand slot → Reads (name ∷ codes "explain" ∷ file ∷ codes "--slot" ∷ slot ∷ []) (codes "explain") (codes "slot") file (Some slot)
+unfolding clap_on_literals
+slot_last name [] [] e h = record { good = refl; name_is = refl; file_is = refl; value_is = refl }
+slot_last name (x ∷ xs) [] e h = record { good = simp e refl; name_is = refl; file_is = simp e refl; value_is = simp e refl }
+slot_last name [] (y ∷ ys) e h = record { good = simp h refl; name_is = refl; file_is = simp h refl; value_is = simp h refl }
+slot_last name (x ∷ xs) (y ∷ ys) e h = record { good = simp (e, h) refl; name_is = refl; file_is = simp (e, h) refl; value_is = simp (e, h) refl }
+
+data_last : (name file hex : Text) → IsOperand file → IsOperand hex → Reads (name ∷ codes "trace" ∷ file ∷ codes "--data" ∷ hex ∷ []) (codes "trace") (codes "data") file (Some hex)
+unfolding clap_on_literals
+data_last name [] [] e h = record { good = refl; name_is = refl; file_is = refl; value_is = refl }
+data_last name (x ∷ xs) [] e h = record { good = simp e refl; name_is = refl; file_is = simp e refl; value_is = simp e refl }
+data_last name [] (y ∷ ys) e h = record { good = simp h refl; name_is = refl; file_is = simp h refl; value_is = simp h refl }
+data_last name (x ∷ xs) (y ∷ ys) e h = record { good = simp (e, h) refl; name_is = refl; file_is = simp (e, h) refl; value_is = simp (e, h) refl }
+
+data_first : (name file hex : Text) → IsOperand file → IsOperand hex → Reads (name ∷ codes "trace" ∷ codes "--data" ∷ hex ∷ file ∷ []) (codes "trace") (codes "data") file (Some hex)
+unfolding clap_on_literals
+data_first name [] [] e h = record { good = refl; name_is = refl; file_is = refl; value_is = refl }
+data_first name (x ∷ xs) [] e h = record { good = simp e refl; name_is = refl; file_is = simp e refl; value_is = simp e refl }
+data_first name [] (y ∷ ys) e h = record { good = simp h refl; name_is = refl; file_is = simp h refl; value_is = simp h refl }
+data_first name (x ∷ xs) (y ∷ ys) e h = record { good = simp (e, h) refl; name_is = refl; file_is = simp (e, h) refl; value_is = simp (e, h) refl }
 
 -- the line has no fault, and its subcommand is replay with these events, nonce and options
 pub record ReadsEvents (words : List Text) (events : Text) (nonce : Option Text) (texts : Texts) : Type 0 where
@@ -162,8 +179,8 @@ serve_made_of name words server reuse_port texts h o = record {
 }
 
 -- the subcommand has this name and these values
-abbrev Has : Text → Text → Option Text → Text × List Row → Type 0
-Has name file hex p = (p.0 ≡ name) × (argument_value p (codes "file") ≡ Some file) × (argument_value p (codes "data") ≡ hex)
+abbrev Has : Text → Text → Text → Option Text → Text × List Row → Type 0
+Has name id file value p = (p.0 ≡ name) × (argument_value p (codes "file") ≡ Some file) × (argument_value p id ≡ value)
 
 abbrev HasFiles : Text → Text → Text → Text × List Row → Type 0
 HasFiles name input output p = (p.0 ≡ name) × (argument_value p (codes "in") ≡ Some input) × (argument_value p (codes "out") ≡ Some output)
@@ -209,10 +226,10 @@ flag_collected : (o : Option (Text × List Row)) (file value : Text)
 flag_collected None file value n f d = absurd (none-some (codes "disassemble") n)
 flag_collected (Some p) file value n f d = (same_Some _ _ n, same_Some _ _ f, same_Some _ _ d)
 
-collected : (o : Option (Text × List Row)) (name file : Text) (hex : Option Text) → option_map (λ p. p.0) o ≡ Some name
-    → option_map (λ p. argument_value p (codes "file")) o ≡ Some (Some file) → option_map (λ p. argument_value p (codes "data")) o ≡ Some hex → IsSomeAnd o (Has name file hex)
-collected None name file hex n f d = absurd (none-some name n)
-collected (Some p) name file hex n f d = (same_Some _ _ n, same_Some _ _ f, same_Some _ _ d)
+collected : (o : Option (Text × List Row)) (name id file : Text) (value : Option Text) → option_map (λ p. p.0) o ≡ Some name
+    → option_map (λ p. argument_value p (codes "file")) o ≡ Some (Some file) → option_map (λ p. argument_value p id) o ≡ Some value → IsSomeAnd o (Has name id file value)
+collected None name id file value n f d = absurd (none-some name n)
+collected (Some p) name id file value n f d = (same_Some _ _ n, same_Some _ _ f, same_Some _ _ d)
 
 -- the line has no fault, and has this subcommand
 pub record Makes (words : List Text) (r : Subcommand) : Type 0 where
@@ -223,10 +240,10 @@ weaker : {A : Type 0} (o : Option A) (P Q : A → Type 0) → ((a : A) → P a �
 weaker None P Q f h = h
 weaker (Some a) P Q f h = f a h
 
-verify_made : (words : List Text) (file : Bor Text) → Reads words (codes "verify") file.now None → Makes words (Verify file)
+verify_made : (words : List Text) (file : Bor Text) → Reads words (codes "verify") (codes "data") file.now None → Makes words (Verify file)
 verify_made words file r = record {
   good = r.good;
-  subcommand = weaker (subcommand_in words) (Has (codes "verify") file.now None) (λ p. IsSubcommand p (Verify file)) (λ p h. (h.0, h.1)) (collected (subcommand_in words) (codes "verify") file.now None r.name_is r.file_is r.data_is);
+  subcommand = weaker (subcommand_in words) (Has (codes "verify") (codes "data") file.now None) (λ p. IsSubcommand p (Verify file)) (λ p h. (h.0, h.1)) (collected (subcommand_in words) (codes "verify") (codes "data") file.now None r.name_is r.file_is r.value_is);
 }
 
 disassemble_made : (words : List Text) (file : Bor Text) (value : Text) (slots : Bool) → IsFlag (Some value) slots
@@ -250,10 +267,16 @@ order_made words input output r = record {
   subcommand = files_collected (subcommand_in words) (codes "order") input.now output.now r.name_is r.input_is r.output_is;
 }
 
-trace_made : (words : List Text) (file : Bor Text) (hex : Option (Bor Text)) → Reads words (codes "trace") file.now (option_map (λ s. s.now) hex) → Makes words (Trace file hex)
+explain_made : (words : List Text) (file : Bor Text) (slot : Option (Bor Text)) → Reads words (codes "explain") (codes "slot") file.now (option_map (λ s. s.now) slot) → Makes words (Explain file slot)
+explain_made words file slot r = record {
+  good = r.good;
+  subcommand = collected (subcommand_in words) (codes "explain") (codes "slot") file.now (option_map (λ s. s.now) slot) r.name_is r.file_is r.value_is;
+}
+
+trace_made : (words : List Text) (file : Bor Text) (hex : Option (Bor Text)) → Reads words (codes "trace") (codes "data") file.now (option_map (λ s. s.now) hex) → Makes words (Trace file hex)
 trace_made words file hex r = record {
   good = r.good;
-  subcommand = collected (subcommand_in words) (codes "trace") file.now (option_map (λ s. s.now) hex) r.name_is r.file_is r.data_is;
+  subcommand = collected (subcommand_in words) (codes "trace") (codes "data") file.now (option_map (λ s. s.now) hex) r.name_is r.file_is r.value_is;
 }
 
 replay_made : (words : List Text) (events : Bor Text) (nonce : Option (Bor Text)) (options : Options)
@@ -285,11 +308,15 @@ with_events events nonce texts words o (name, inr (g, (given, (n, (t, w))))) =
     (subst (λ n. ReadsEvents (name ∷ codes "replay" ∷ options_before g ((codes "--nonce=" ++ given) ∷ events ∷ [])) events n (every_option g)) (sym n)
     (every_read name events g given o)))
 
-with_data : (file hex : Bor Text) (words : List Text) → IsOperand file.now → IsTraceLine file.now hex.now words → Reads words (codes "trace") file.now (Some hex.now)
-with_data file hex words o (name, inl l) = subst (λ w. Reads w (codes "trace") file.now (Some hex.now)) (sym l.1) (data_last name file.now hex.now o l.0)
-with_data file hex words o (name, inr (inl l)) = subst (λ w. Reads w (codes "trace") file.now (Some hex.now)) (sym l.1) (data_first name file.now hex.now o l.0)
-with_data file hex words o (name, inr (inr (inl l))) = subst (λ w. Reads w (codes "trace") file.now (Some hex.now)) (sym l) (joined_last name file.now hex.now o)
-with_data file hex words o (name, inr (inr (inr l))) = subst (λ w. Reads w (codes "trace") file.now (Some hex.now)) (sym l) (joined_first name file.now hex.now o)
+with_data : (file hex : Bor Text) (words : List Text) → IsOperand file.now → IsTraceLine file.now hex.now words → Reads words (codes "trace") (codes "data") file.now (Some hex.now)
+with_data file hex words o (name, inl l) = subst (λ w. Reads w (codes "trace") (codes "data") file.now (Some hex.now)) (sym l.1) (data_last name file.now hex.now o l.0)
+with_data file hex words o (name, inr (inl l)) = subst (λ w. Reads w (codes "trace") (codes "data") file.now (Some hex.now)) (sym l.1) (data_first name file.now hex.now o l.0)
+with_data file hex words o (name, inr (inr (inl l))) = subst (λ w. Reads w (codes "trace") (codes "data") file.now (Some hex.now)) (sym l) (joined_last name file.now hex.now o)
+with_data file hex words o (name, inr (inr (inr l))) = subst (λ w. Reads w (codes "trace") (codes "data") file.now (Some hex.now)) (sym l) (joined_first name file.now hex.now o)
+
+with_slot : (file slot : Bor Text) (words : List Text) → IsOperand file.now → IsExplainLine file.now slot.now words → Reads words (codes "explain") (codes "slot") file.now (Some slot.now)
+with_slot file slot words o (name, inl l) = subst (λ w. Reads w (codes "explain") (codes "slot") file.now (Some slot.now)) (sym l.1) (slot_last name file.now slot.now o l.0)
+with_slot file slot words o (name, inr l) = subst (λ w. Reads w (codes "explain") (codes "slot") file.now (Some slot.now)) (sym l) (slot_first name file.now slot.now o)
 
 with_slots : (file : Text) (words : List Text) → IsOperand file → IsSlotsLine file words
     → ReadsFlag words file (codes "true")
@@ -332,7 +359,7 @@ with_server server options words (name, inr (given, (g, (s, (r, (t, w)))))) =
     (serve_made_of name (all_words given g) (every_server_option given) (codes "true") (every_option g) (all_held given g) (all_serve given g)))))
 
 made : (r : Subcommand) (words : List Text) → IsLineOf r words → Makes words r
-made (Verify file) words (o, (name, l)) = verify_made words file (subst (λ w. Reads w (codes "verify") file.now None) (sym l) (verify_read name file.now o))
+made (Verify file) words (o, (name, l)) = verify_made words file (subst (λ w. Reads w (codes "verify") (codes "data") file.now None) (sym l) (verify_read name file.now o))
 made (Assemble input output) words (o, (name, l)) = assemble_made words input output (subst (λ w. ReadsFiles w (codes "assemble") input.now output.now) (sym l) (assemble_read name input.now output.now o.0 o.1))
 made (Order input output) words (o, (name, l)) = order_made words input output (subst (λ w. ReadsFiles w (codes "order") input.now output.now) (sym l) (order_read name input.now output.now o.0 o.1))
 made (Disassemble file false) words (o, (name, l)) =
@@ -340,7 +367,10 @@ made (Disassemble file false) words (o, (name, l)) =
     (subst (λ w. ReadsFlag w file.now (codes "false")) (sym l) (disassemble_read name file.now o))
 made (Disassemble file true) words (o, l) =
     disassemble_made words file (codes "true") true says_true (with_slots file.now words o l)
-made (Trace file None) words (o, (name, l)) = trace_made words file None (subst (λ w. Reads w (codes "trace") file.now None) (sym l) (trace_read name file.now o))
+made (Explain file None) words (o, (name, l)) =
+    explain_made words file None (subst (λ w. Reads w (codes "explain") (codes "slot") file.now None) (sym l) (explain_read name file.now o))
+made (Explain file (Some slot)) words (o, l) = explain_made words file (Some slot) (with_slot file slot words o l)
+made (Trace file None) words (o, (name, l)) = trace_made words file None (subst (λ w. Reads w (codes "trace") (codes "data") file.now None) (sym l) (trace_read name file.now o))
 made (Trace file (Some hex)) words (o, l) = trace_made words file (Some hex) (with_data file hex words o l)
 made (Replay events nonce options) words (o, l) = replay_made words events nonce options (with_events events.now (text_of nonce) (texts_of options) words o l)
 made (Serve server options) words l = with_server server options words l

@@ -65,10 +65,11 @@ head [] = 0
 head (c ∷ rest) = c
 
 -- the first letter of a subcommand that takes FILE
-file_letter : (name : Text) → TakesFile name → (head name ≡ 100) ⊎ ((head name ≡ 118) ⊎ (head name ≡ 116))
+file_letter : (name : Text) → TakesFile name → (head name ≡ 100) ⊎ ((head name ≡ 118) ⊎ ((head name ≡ 101) ⊎ (head name ≡ 116)))
 file_letter name (inl is) = inl (ap head is)
 file_letter name (inr (inl is)) = inr (inl (ap head is))
-file_letter name (inr (inr is)) = inr (inr (ap head is))
+file_letter name (inr (inr (inl is))) = inr (inr (inl (ap head is)))
+file_letter name (inr (inr (inr is))) = inr (inr (inr (ap head is)))
 
 -- the first letter of a subcommand that takes IN and OUT
 files_letter : (name : Text) → TakesFiles name → (head name ≡ 97) ⊎ (head name ≡ 111)

@@ -45,6 +45,10 @@ disassemble_command = with_rule (with_rule (new_app (codes "disassemble")) file_
 abbrev pub verify_command : App
 verify_command = with_rule (new_app (codes "verify")) file_argument
 
+-- explain [--slot N] FILE
+abbrev pub explain_command : App
+explain_command = with_rule (with_rule (new_app (codes "explain")) file_argument) (option (codes "slot"))
+
 -- trace [--data HEX] FILE
 abbrev pub trace_command : App
 trace_command = with_rule (with_rule (new_app (codes "trace")) file_argument) (option (codes "data"))
@@ -101,7 +105,7 @@ abbrev pub text_command : App
 text_command = with_subcommand (with_subcommand (with_subcommand bare_command assemble_command.top) order_command.top) disassemble_command.top
 
 abbrev pub program_command : App
-program_command = with_subcommand (with_subcommand text_command verify_command.top) trace_command.top
+program_command = with_subcommand (with_subcommand (with_subcommand text_command verify_command.top) explain_command.top) trace_command.top
 
 abbrev pub relayd_command : App
 relayd_command = with_subcommand (with_subcommand program_command replay_command.top) serve_command.top

@@ -6,7 +6,7 @@ use Rattle.clap.specs.declared.error.kind.ErrorKind.TheVariants.{OutOfMemory}
 use Rattle.clap.specs.declared.parser.matches.ArgMatches.{ArgMatches}
 use Rattle.command_line.specs.Subcommands.{IsSubcommand, ServerTexts, Texts, server_texts_of, text_of, texts_of}
 use Rattle.command_line.specs.declared.Subcommand.{Subcommand}
-use Rattle.command_line.specs.declared.Subcommand.TheVariants.{Verify, Trace, Assemble, Order, Disassemble, Replay, Serve}
+use Rattle.command_line.specs.declared.Subcommand.TheVariants.{Verify, Explain, Trace, Assemble, Order, Disassemble, Replay, Serve}
 
 abbrev pub begins_with_minus : Text → Bool
 begins_with_minus [] = false
@@ -23,6 +23,12 @@ IsTraceLine file hex words = (name : Text) × (
     ⊎ ((IsOperand hex × (words ≡ name ∷ codes "trace" ∷ codes "--data" ∷ hex ∷ file ∷ []))
     ⊎ ((words ≡ name ∷ codes "trace" ∷ file ∷ (codes "--data=" ++ hex) ∷ [])
     ⊎ (words ≡ name ∷ codes "trace" ∷ (codes "--data=" ++ hex) ∷ file ∷ []))))
+
+-- a program's name, `explain`, and FILE with --slot N after it, or --slot=N before it
+abbrev pub IsExplainLine : Text → Text → List Text → Type 0
+IsExplainLine file slot words = (name : Text) × (
+    (IsOperand slot × (words ≡ name ∷ codes "explain" ∷ file ∷ codes "--slot" ∷ slot ∷ []))
+    ⊎ (words ≡ name ∷ codes "explain" ∷ (codes "--slot=" ++ slot) ∷ file ∷ []))
 
 -- a program's name, `disassemble`, and FILE with --slots after it or before it
 abbrev pub IsSlotsLine : Text → List Text → Type 0
@@ -158,6 +164,8 @@ IsServeLine server reuse_port texts words = (name : Text) × (
 -- the words are one of the usual lines of the subcommand, in which the files are operands
 abbrev pub IsLineOf : Subcommand → List Text → Type 0
 IsLineOf (Verify file) words = IsOperand file.now × ((name : Text) × (words ≡ name ∷ codes "verify" ∷ file.now ∷ []))
+IsLineOf (Explain file None) words = IsOperand file.now × ((name : Text) × (words ≡ name ∷ codes "explain" ∷ file.now ∷ []))
+IsLineOf (Explain file (Some slot)) words = IsOperand file.now × IsExplainLine file.now slot.now words
 IsLineOf (Trace file None) words = IsOperand file.now × ((name : Text) × (words ≡ name ∷ codes "trace" ∷ file.now ∷ []))
 IsLineOf (Trace file (Some hex)) words = IsOperand file.now × IsTraceLine file.now hex.now words
 IsLineOf (Assemble input output) words = (IsOperand input.now × IsOperand output.now)

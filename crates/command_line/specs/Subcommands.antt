@@ -5,7 +5,7 @@ use Rattle.clap.specs.Words.{Text, Row, all_of, first_of, one_of}
 use Rattle.command_line.specs.declared.Options.{Options}
 use Rattle.command_line.specs.declared.ServerOptions.{ServerOptions}
 use Rattle.command_line.specs.declared.Subcommand.{Subcommand}
-use Rattle.command_line.specs.declared.Subcommand.TheVariants.{Verify, Trace, Assemble, Order, Disassemble, Replay, Serve}
+use Rattle.command_line.specs.declared.Subcommand.TheVariants.{Verify, Explain, Trace, Assemble, Order, Disassemble, Replay, Serve}
 
 -- the value of an argument of the subcommand
 abbrev pub argument_value : Text × List Row → Text → Option Text
@@ -107,6 +107,8 @@ server_texts_of s = record {
 -- a name and the values of arguments are those of a subcommand
 abbrev pub IsSubcommand : Text × List Row → Subcommand → Type 0
 IsSubcommand p (Verify file) = (p.0 ≡ codes "verify") × (argument_value p (codes "file") ≡ Some file.now)
+IsSubcommand p (Explain file slot) = (p.0 ≡ codes "explain") × (argument_value p (codes "file") ≡ Some file.now)
+    × (argument_value p (codes "slot") ≡ text_of slot)
 IsSubcommand p (Trace file hex) = (p.0 ≡ codes "trace") × (argument_value p (codes "file") ≡ Some file.now)
     × (argument_value p (codes "data") ≡ option_map (λ s. s.now) hex)
 IsSubcommand p (Assemble input output) = (p.0 ≡ codes "assemble") × (argument_value p (codes "in") ≡ Some input.now)
@@ -123,13 +125,13 @@ IsSubcommand p (Serve server options) = (p.0 ≡ codes "serve")
 
 -- the subcommand is one that takes FILE
 abbrev pub TakesFile : Text → Type 0
-TakesFile name = (name ≡ codes "disassemble") ⊎ ((name ≡ codes "verify") ⊎ (name ≡ codes "trace"))
+TakesFile name = (name ≡ codes "disassemble") ⊎ ((name ≡ codes "verify") ⊎ ((name ≡ codes "explain") ⊎ (name ≡ codes "trace")))
 
 -- the subcommand is one that takes IN and OUT
 abbrev pub TakesFiles : Text → Type 0
 TakesFiles name = (name ≡ codes "assemble") ⊎ (name ≡ codes "order")
 
--- they are those of no subcommand: the name is none of the seven, or a file or the port is missing
+-- they are those of no subcommand: the name is none of the eight, or a file or the port is missing
 pub record IsNoSubcommand (p : Text × List Row) : Type 0 where
   pub file : TakesFile p.0 → argument_value p (codes "file") ≡ None
   pub files : TakesFiles p.0 → (argument_value p (codes "in") ≡ None) ⊎ (argument_value p (codes "out") ≡ None)

@@ -3,7 +3,7 @@
 
 ghost use Rattle.std.specs.Prelude.{◌≡◌, None, true, false, codes, map, IfOk, IfSome, IfNone, IsSomeAnd};
 ghost use Rattle.clap.specs.Words.{FailsBy, first_of, found_of, has_subcommand, rows_of, rule_of, subcommand_rows_of};
-ghost use Rattle.command_line.specs.Commands.{HasAdded, HasShape, assemble_command, bare_command, disassemble_command, events_argument, faults_of, file_argument, flag, input_argument, option, order_command, output_argument, port_option, program_command, relayd_command, repeated_option, replay_command, serve_command, subcommand_in, text_command, trace_command, verify_command, with_addresses, with_filter, with_options, with_programs, with_sockets, with_times, with_users};
+ghost use Rattle.command_line.specs.Commands.{HasAdded, HasShape, assemble_command, bare_command, disassemble_command, events_argument, explain_command, faults_of, file_argument, flag, input_argument, option, order_command, output_argument, port_option, program_command, relayd_command, repeated_option, replay_command, serve_command, subcommand_in, text_command, trace_command, verify_command, with_addresses, with_filter, with_options, with_programs, with_sockets, with_times, with_users};
 ghost use Rattle.command_line.specs.Lines.{IsLineOf, IsParsedAs};
 ghost use Rattle.command_line.specs.Subcommands.{IsSubcommand, IsNoSubcommand, texts_in, texts_of};
 ghost use Rattle.command_line.specs.declared.Subcommand.{Subcommand};
@@ -76,6 +76,12 @@ pub enum Subcommand<'a> {
     /// Verify the program in a file.
     Verify {
         file: &'a str,
+    },
+    /// Print what the verifier knows of the program in a file, or why it refuses it. `slot` is the slot whose states are
+    /// printed, and `None` stands for all.
+    Explain {
+        file: &'a str,
+        slot: Option<&'a str>,
     },
     /// Run the program in a file over a datagram and print each step. `data` is the datagram in
     /// hexadecimal digits, and `None` stands for the empty one.
@@ -189,6 +195,23 @@ fn verify<'a>(alloc: Global) -> Result<Command<'a>, AllocError>
     Command::new(alloc, "verify")
         .about("Verify a program, and print which instruction is refused and why")
         .arg(file(alloc))
+}
+
+/// Returns the subcommand `explain`.
+fn explain<'a>(alloc: Global) -> Result<Command<'a>, AllocError>
+    ensures { IfOk result (HasShape explain_command) }
+{
+    Command::new(alloc, "explain")
+        .about(
+            "Print what the verifier knows at each instruction, or the path to the one that it refuses, and why",
+        )
+        .arg(file(alloc))?
+        .arg(option(
+            alloc,
+            "slot",
+            "N",
+            "Print each state from which the verifier made a step at this slot",
+        ))
 }
 
 /// Returns the subcommand `trace`.
@@ -480,6 +503,7 @@ fn with_reports<'a>(alloc: Global) -> Result<Command<'a>, AllocError>
 {
     with_texts(alloc)?
         .subcommand(verify(alloc)?)?
+        .subcommand(explain(alloc)?)?
         .subcommand(trace(alloc)?)
 }
 
@@ -571,6 +595,11 @@ pub fn subcommand_of<'a>(matches: &'a ArgMatches<'_>) -> Option<Subcommand<'a>>
         "verify" => {
             let file = matches.get_str("file")?;
             Some(Subcommand::Verify { file })
+        }
+        "explain" => {
+            let file = matches.get_str("file")?;
+            let slot = matches.get_str("slot");
+            Some(Subcommand::Explain { file, slot })
         }
         "trace" => {
             let file = matches.get_str("file")?;

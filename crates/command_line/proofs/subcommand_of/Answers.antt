@@ -34,10 +34,15 @@ returns-in_err-file-in-verify-clause-none c =
     rw c.from_residual-in_err-file-in-verify.ensures (any_met c.args.matches.now c.in_ok-name.name.now (found_of c.in_ok-name.matches.now) IsNoSubcommand c.in_ok-name.ensures.name c.in_ok-name.ensures.rows
     (lacks_file c.in_ok-name.name.now (rows_of (found_of c.in_ok-name.matches.now)) (inr (inl c.in-verify.is)) (read_as (found_of c.in_ok-name.matches.now) (codes "file") _ None c.get_str-in-verify.ensures c.in_err-file-in-verify.was)))
 
+pub returns-in_err-file-in-explain-clause-none : goal.returns-in_err-file-in-explain-clause-none
+returns-in_err-file-in-explain-clause-none c =
+    rw c.from_residual-in_err-file-in-explain.ensures (any_met c.args.matches.now c.in_ok-name.name.now (found_of c.in_ok-name.matches.now) IsNoSubcommand c.in_ok-name.ensures.name c.in_ok-name.ensures.rows
+    (lacks_file c.in_ok-name.name.now (rows_of (found_of c.in_ok-name.matches.now)) (inr (inr (inl c.in-explain.is))) (read_as (found_of c.in_ok-name.matches.now) (codes "file") _ None c.get_str-in-explain.ensures c.in_err-file-in-explain.was)))
+
 pub returns-in_err-file-in-trace-clause-none : goal.returns-in_err-file-in-trace-clause-none
 returns-in_err-file-in-trace-clause-none c =
     rw c.from_residual-in_err-file-in-trace.ensures (any_met c.args.matches.now c.in_ok-name.name.now (found_of c.in_ok-name.matches.now) IsNoSubcommand c.in_ok-name.ensures.name c.in_ok-name.ensures.rows
-    (lacks_file c.in_ok-name.name.now (rows_of (found_of c.in_ok-name.matches.now)) (inr (inr c.in-trace.is)) (read_as (found_of c.in_ok-name.matches.now) (codes "file") _ None c.get_str-in-trace.ensures c.in_err-file-in-trace.was)))
+    (lacks_file c.in_ok-name.name.now (rows_of (found_of c.in_ok-name.matches.now)) (inr (inr (inr c.in-trace.is))) (read_as (found_of c.in_ok-name.matches.now) (codes "file") _ None c.get_str-in-trace.ensures c.in_err-file-in-trace.was)))
 
 pub returns-in_ok-output-in-assemble-clause-found : goal.returns-in_ok-output-in-assemble-clause-found
 returns-in_ok-output-in-assemble-clause-found c =
@@ -64,6 +69,11 @@ pub returns-in_ok-file-in-verify-clause-found : goal.returns-in_ok-file-in-verif
 returns-in_ok-file-in-verify-clause-found c =
     one_met c.args.matches.now c.in_ok-name.name.now (found_of c.in_ok-name.matches.now) _ c.in_ok-name.ensures.name c.in_ok-name.ensures.rows
     (c.in-verify.is, read_as (found_of c.in_ok-name.matches.now) (codes "file") _ (Some c.in_ok-file-in-verify.file) c.get_str-in-verify.ensures c.in_ok-file-in-verify.was)
+
+pub returns-in_ok-file-in-explain-clause-found : goal.returns-in_ok-file-in-explain-clause-found
+returns-in_ok-file-in-explain-clause-found c =
+    one_met c.args.matches.now c.in_ok-name.name.now (found_of c.in_ok-name.matches.now) _ c.in_ok-name.ensures.name c.in_ok-name.ensures.rows
+    (c.in-explain.is, read_as (found_of c.in_ok-name.matches.now) (codes "file") _ (Some c.in_ok-file-in-explain.file) c.get_str-in-explain.ensures c.in_ok-file-in-explain.was, read (found_of c.in_ok-name.matches.now) (codes "slot") _ c.get_str-slot.ensures)
 
 pub returns-in_ok-file-in-trace-clause-found : goal.returns-in_ok-file-in-trace-clause-found
 returns-in_ok-file-in-trace-clause-found c =
