@@ -1,0 +1,4 @@
+-- Internal. The modules of this folder.
+pub mod Paths
+pub mod Trails
+pub mod Texts
