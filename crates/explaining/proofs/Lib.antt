@@ -1,2 +1,3 @@
 pub mod Trailing
 pub mod Ending
+pub mod Statuses

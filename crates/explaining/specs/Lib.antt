@@ -2,3 +2,4 @@
 pub mod Paths
 pub mod Trails
 pub mod Texts
+pub mod Explained

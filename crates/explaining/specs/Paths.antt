@@ -1,5 +1,5 @@
 -- Meaning. Paths of the states of a walk, and what a search has found of them.
-use Rattle.std.specs.Prelude.{◌≡◌, ℕ, ◌⊎◌, List, [], ◌∷◌, ◌++◌, Some, Result, Ok, Err}
+use Rattle.std.specs.Prelude.{◌≡◌, ℕ, pos, ◌⊎◌, List, [], ◌∷◌, ◌++◌, Some, Result, Ok, Err}
 use Rattle.insn.specs.declared.instruction.Insn.{Insn}
 use Rattle.insn.specs.declared.instruction.Insn.TheVariants.{JumpIf}
 use Rattle.semantics.specs.Flow.{branch_slot}
@@ -32,10 +32,10 @@ pub record IsSuccessor {D : Type 0} (ops : Operations D) (code : List Insn) (a b
   pub branch : Branch
   pub by : IsBranchTo ops code a b insn branch
 
--- a conditional jump
-abbrev pub IsConditional : Insn → Type 0
-IsConditional (JumpIf w c dst o distance) = Unit {0}
-IsConditional i = ⊥
+-- a conditional jump whose branches lead to two slots: its distance is not 0
+abbrev pub LeadsAway : Insn → Type 0
+LeadsAway (JumpIf w c dst o distance) = distance ≡ pos 0 → ⊥
+LeadsAway i = ⊥
 
 -- each state succeeds the one before it
 abbrev pub SucceedFrom : {D : Type 0} → Operations D → List Insn → Pending D → List (Pending D) → Type 0

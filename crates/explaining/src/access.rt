@@ -1,0 +1,193 @@
+//! The bytes that an instruction reads or writes, and why it may not, as text.
+
+ghost use Rattle.std.specs.Prelude.{◌<◌};
+ghost use Rattle.semantics.specs.declared.limits.TheConstants.{GROUPS};
+
+use crate::changes::{REGISTERS, stack_place};
+use crate::text::{Known, Signed, State};
+use absstate::{AbstractValue, Anchor, Marks};
+use insn::{Insn, Reg};
+use interval::Interval;
+use semantics::{
+    Argument, GROUP_BYTES, GROUPS, HEADROOM_FIRST, Helper, RecordForm, STACK_BYTES, Signature,
+    TAILROOM,
+};
+use std::alloc::AllocError;
+
+/// An access to bytes: `reads` or `writes`, the register whose value points to them, their displacement and their number.
+#[derive(Clone, Copy)]
+pub(crate) struct Access {
+    verb: &'static str,
+    base: Reg,
+    displacement: i16,
+    bytes: usize,
+}
+
+/// Returns the form of the record that a helper reads, if it reads one.
+fn record_read(arguments: &[Argument; 5]) -> Option<RecordForm> {
+    for argument in arguments {
+        if let Argument::RecordIn(form) = argument {
+            return Some(*form);
+        }
+    }
+    None
+}
+
+/// Returns the access by which a helper reads a record, to which its second argument points.
+fn helper_access(number: i32) -> Option<Access> {
+    let Signature { arguments, .. } = Helper::from_number(number)?.signature();
+    Some(Access {
+        verb: "reads",
+        base: Reg::R2,
+        displacement: 0,
+        bytes: record_read(&arguments)?.bytes(),
+    })
+}
+
+/// Returns the access of an instruction, if it makes one.
+pub(crate) fn access_of(insn: Insn) -> Option<Access> {
+    let (verb, base, displacement, bytes) = match insn {
+        Insn::Load {
+            size,
+            base,
+            offset,
+            ..
+        } => ("reads", base, offset, size.bytes()),
+        Insn::LoadSigned {
+            size,
+            base,
+            offset,
+            ..
+        } => ("reads", base, offset, size.unsigned().bytes()),
+        Insn::Store {
+            size,
+            base,
+            offset,
+            ..
+        } => ("writes", base, offset, size.bytes()),
+        Insn::Call { helper } => return helper_access(helper),
+        _ => return None,
+    };
+    Some(Access {
+        verb,
+        base,
+        displacement,
+        bytes,
+    })
+}
+
+impl Access {
+    /// Returns what is known of the register whose value points to the bytes.
+    fn pointer(self, state: &State) -> AbstractValue<Interval> {
+        state.registers[self.base.number() as usize]
+    }
+
+    /// Returns the place of the first byte, from where the pointer counts its offset.
+    fn first(self, state: &State) -> i64 {
+        let offset = match self.pointer(state) {
+            AbstractValue::Stack(offset) | AbstractValue::Data { offset, .. } => offset,
+            _ => 0,
+        };
+        i64::from(offset) + i64::from(self.displacement)
+    }
+
+    /// Returns the place after the last byte.
+    fn end(self, state: &State) -> i64 {
+        let bytes = i64::try_from(self.bytes).unwrap_or(0);
+        self.first(state).saturating_add(bytes)
+    }
+
+    /// Returns the index of the first byte among those of the stack.
+    fn index(self, state: &State) -> usize {
+        let index = self.first(state).saturating_add(STACK_BYTES as i64);
+        usize::try_from(index).unwrap_or(STACK_BYTES)
+    }
+
+    /// Appends where the bytes lie: `reads stack-8 to -4`.
+    pub(crate) fn push_span(self, note: &mut String, state: &State) -> Result<(), AllocError> {
+        let verb = self.verb;
+        let first = Signed(self.first(state));
+        let end = Signed(self.end(state));
+        match self.pointer(state) {
+            AbstractValue::Nothing | AbstractValue::Scalar(_) => write!(note, "{verb} bytes"),
+            AbstractValue::Ctx => write!(note, "{verb} context{first} to {end}"),
+            AbstractValue::Stack(_) => write!(note, "{verb} stack{first} to {end}"),
+            AbstractValue::Data {
+                anchor: Anchor::First,
+                ..
+            } => write!(note, "{verb} datagram{first} to {end}"),
+            AbstractValue::Data {
+                anchor: Anchor::Made { low, high, .. },
+                ..
+            } => write!(note, "{verb} datagram+({low}..{high}){first} to {end}"),
+            AbstractValue::End => write!(note, "{verb} end{first} to {end}"),
+        }
+    }
+
+    /// Appends that the register holds a number.
+    pub(crate) fn push_number(self, note: &mut String, state: &State) -> Result<(), AllocError> {
+        let base = self.base;
+        let known = Known(self.pointer(state));
+        write!(note, "{base} is {known}, which is no pointer")
+    }
+
+    /// Appends the bounds that an access to the datagram or the tailroom exceeds.
+    pub(crate) fn push_bounds(self, note: &mut String, state: &State) -> Result<(), AllocError> {
+        match self.pointer(state) {
+            AbstractValue::Data { anchor, .. } => {
+                let (low, proved) = match anchor {
+                    Anchor::First => (0, state.proved),
+                    Anchor::Made { low, proved, .. } => (low, i64::from(proved)),
+                };
+                let headroom = HEADROOM_FIRST - i64::from(low);
+                if self.first(state) < headroom {
+                    write!(note, ", the headroom begins at {headroom}")
+                } else {
+                    write!(note, ", {proved} bytes are proved")
+                }
+            }
+            _ => write!(note, ", the tailroom is +0 to +{TAILROOM}"),
+        }
+    }
+
+    /// Appends the first byte of the stack that is read and isn't set.
+    pub(crate) fn push_unset(self, note: &mut String, state: &State) -> Result<(), AllocError> {
+        let first = self.index(state);
+        let at = first_unset(&state.marks, first, first.saturating_add(self.bytes));
+        let place = stack_place(at);
+        write!(note, ", stack{place} is not set")
+    }
+
+    /// Appends the pointer of which the bytes that are read are a part.
+    pub(crate) fn push_kept(self, note: &mut String, state: &State) -> Result<(), AllocError> {
+        let first = self.index(state);
+        let group = first_pointer(state, first, first.saturating_add(self.bytes));
+        let place = stack_place(GROUP_BYTES * group);
+        let known = Known(state.registers[REGISTERS + group]);
+        write!(note, ", stack{place} holds {known}")
+    }
+}
+
+/// Returns the first byte in a range of the stack that isn't set, by its index; the range's end where all are.
+fn first_unset(marks: &Marks, first: usize, end: usize) -> usize {
+    for i in first..end {
+        if !marks.is_set(i) {
+            return i;
+        }
+    }
+    end
+}
+
+/// Returns the first group with bytes in a range of the stack that holds a pointer; 0 where none does.
+fn first_pointer(state: &State, first: usize, end: usize) -> usize
+    ensures { result < GROUPS }
+{
+    for group in 0..GROUPS {
+        let from = GROUP_BYTES * group;
+        let is_touched = from < end && first < from + GROUP_BYTES;
+        if is_touched && state.registers[REGISTERS + group] != AbstractValue::Nothing {
+            return group;
+        }
+    }
+    0
+}
