@@ -11,7 +11,7 @@ use Rattle.semantics.specs.Slots.{fetch}
 use Rattle.semantics.specs.declared.fetching.Branch.TheVariants.{NotTaken, Taken}
 use Rattle.absstate.specs.MemberSteps.{state_after}
 use Rattle.absstate.specs.declared.abstract_state.AbsState.{AbsState}
-use Rattle.verifier.specs.Units.{MakesStep, IsSkip, DoesUnit, RefusesUnit}
+use Rattle.verifier.specs.Units.{IsStepMade, IsSkip, DoesUnit, RefusesUnit}
 use Rattle.verifier.specs.Walk.{Advances, IsNext, IsLeft, IsStepRefusal, first_pending, waiting_states}
 use Rattle.verifier.specs.declared.refusal.Refusal.{Refusal}
 use Rattle.verifier.specs.declared.refusal.Refusal.TheVariants as refusal
@@ -50,8 +50,7 @@ module _ (code : List Insn) where
   branch_cut path more at most [] (w ∷ ws) within few off = absurd off
   branch_cut path more at most (d ∷ ds) [] within few off = absurd off
   branch_cut path more at most (d ∷ ds) (w ∷ ws) within few off =
-      let fewer : d ≤ at = omega (arith, off.0) in
-      (
+      let fewer : d ≤ at = omega (arith, off.0) in (
         off.0,
         subst (λ (xs : List (Pending Interval)). IsStatePath interval_ops code (xs ++ w ∷ [])) (sym (take_again d at path more fewer within)) off.1,
         branch_cut path more at d ds ws within fewer off.2,
@@ -152,7 +151,7 @@ news code here rest (Some p) pending adv = (
   adv.left ++ p ∷ [],
   ap (λ (xs : List (Pending Interval)). xs ++ p ∷ []) adv.new_is ∙ append_assoc rest adv.left (p ∷ []),
   all_and code here adv.left (p ∷ []) (left_succeed code here rest (Some p) pending adv (state_after adv.accepted Taken) adv.left refl adv.goes_on.1)
-    (next_succeeds code here rest (Some p) pending adv (state_after adv.accepted NotTaken) p refl adv.goes_on.0, tt),
+      (next_succeeds code here rest (Some p) pending adv (state_after adv.accepted NotTaken) p refl adv.goes_on.0, tt),
 )
 
 module _ (code : List Insn) (path before : List (Pending Interval)) (here : Pending Interval) (path_is : path ≡ before ++ here ∷ []) (is_path : IsStatePath interval_ops code path) where
@@ -200,7 +199,7 @@ went_on code old new before made t ds is unit depths =
     up : LeadsUp code unit.rest unit.here t
     up = is.leads unit.rest unit.here unit.old_is
 
-    does : IsSkip unit.rest new before made ⊎ MakesStep interval_ops code unit.here unit.rest new before made
+    does : IsSkip unit.rest new before made ⊎ IsStepMade interval_ops code unit.here unit.rest new before made
         → BranchOff code t.path.items (length t.path.items) (reverse (take (length new) t.depths.items ++ replicate (length new - length t.depths.items) (length t.path.items))) (reverse new)
     does (inl skip) =
         after_unit code t.path.items up.before unit.here up.path_is is.path t.depths.items unit.rest [] new (skip.0 ∙ sym (append-nil unit.rest)) tt up.branches

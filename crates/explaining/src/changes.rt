@@ -35,11 +35,7 @@ pub(crate) fn stack_place(index: usize) -> i64 {
 }
 
 /// Appends the registers of which other things are known.
-fn push_registers(
-    note: &mut String,
-    from: &State,
-    to: &State,
-) -> Result<(), AllocError> {
+fn push_registers(note: &mut String, from: &State, to: &State) -> Result<(), AllocError> {
     for i in 0..REGISTERS {
         if from.registers[i] != to.registers[i] {
             let known = Known(to.registers[i]);
@@ -51,11 +47,7 @@ fn push_registers(
 }
 
 /// Appends the groups of the stack that hold other pointers.
-fn push_groups(
-    note: &mut String,
-    from: &State,
-    to: &State,
-) -> Result<(), AllocError> {
+fn push_groups(note: &mut String, from: &State, to: &State) -> Result<(), AllocError> {
     for i in 0..GROUPS {
         if from.registers[REGISTERS + i] != to.registers[REGISTERS + i] {
             let known = Known(to.registers[REGISTERS + i]);
@@ -76,11 +68,7 @@ fn push_range(note: &mut String, first: usize, end: usize) -> Result<(), AllocEr
 }
 
 /// Appends the ranges of stack bytes that are set in the second state alone.
-fn push_marks(
-    note: &mut String,
-    from: &State,
-    to: &State,
-) -> Result<(), AllocError> {
+fn push_marks(note: &mut String, from: &State, to: &State) -> Result<(), AllocError> {
     let mut first = None;
     for i in 0..STACK_BYTES + 1 {
         let is_new = to.marks.is_set(i) && !from.marks.is_set(i);
@@ -98,11 +86,7 @@ fn push_marks(
 
 /// Appends how a state differs from one before it: registers, pointers in the stack, stack bytes that are set, and how many bytes
 /// of the datagram are proved.
-fn push_changes(
-    note: &mut String,
-    from: &State,
-    to: &State,
-) -> Result<(), AllocError> {
+fn push_changes(note: &mut String, from: &State, to: &State) -> Result<(), AllocError> {
     push_registers(note, from, to)?;
     push_groups(note, from, to)?;
     push_marks(note, from, to)?;

@@ -11,7 +11,7 @@ ghost use Rattle.explaining.specs.Explained.{IsExplained, IsExplainedCode};
 use crate::changes::state_note;
 use crate::error::ExplainError;
 use crate::printing::{
-    print_busiest, print_fault, print_firsts, print_line, print_refusal, print_steps,
+    is_reached, print_busiest, print_fault, print_firsts, print_line, print_refusal, print_steps,
 };
 use crate::searching::{Explanation, search};
 use insn::{DecodeError, Insn, decode};
@@ -109,12 +109,16 @@ fn print_states_by<W: Write, L: Ledger>(
 fn print_states<W: Write>(
     alloc: Global,
     program: &Program,
+    firsts: &[Pending<Interval>],
     slot: usize,
     out: &mut W,
 ) -> Result<(), ExplainError>
     requires few { slot_count program.now ≤ MAX_SLOTS }
 {
     match program.fetch(slot) {
+        Fetched::Begins(insn) if !is_reached(firsts, slot) => {
+            print_line(alloc, out, slot, insn, "never reached")
+        }
         Fetched::Begins(insn) => {
             print_states_by::<W, Brand>(alloc, program, (slot, insn), Blank::new(1), out)
         }
@@ -134,7 +138,7 @@ fn print_accepted<W: Write>(
 {
     match slot {
         None => print_firsts(alloc, program, firsts, out),
-        Some(slot) => print_states(alloc, program, slot, out),
+        Some(slot) => print_states(alloc, program, firsts, slot, out),
     }
 }
 

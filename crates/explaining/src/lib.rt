@@ -8,6 +8,8 @@ mod file;
 mod printing;
 mod refusing;
 mod searching;
+#[cfg(test)]
+mod tests;
 mod text;
 
 pub use error::ExplainError;

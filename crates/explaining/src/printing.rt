@@ -70,7 +70,10 @@ fn fault_note(
     reason: Reason,
 ) -> Result<String, AllocError> {
     let distance = i64::from(distance(insn).unwrap_or(0));
-    let goal = i64::try_from(slot).unwrap_or(0).saturating_add(distance).saturating_add(1);
+    let goal = i64::try_from(slot)
+        .unwrap_or(0)
+        .saturating_add(distance)
+        .saturating_add(1);
     let slots = slots_of(program);
     match reason {
         Reason::JumpBackward => format!(in alloc; "refused {reason}: leads back to slot {goal}"),
@@ -167,6 +170,11 @@ fn first_at(firsts: &[Pending<Interval>], slot: usize) -> Option<&Pending<Interv
     firsts.iter().find(|first| first.slot == slot)
 }
 
+/// Returns whether a step was made at a slot.
+pub(crate) fn is_reached(firsts: &[Pending<Interval>], slot: usize) -> bool {
+    first_at(firsts, slot).is_some()
+}
+
 /// Prints the instruction at a slot with the first state there.
 fn print_first<W: Write>(
     alloc: Global,
@@ -217,7 +225,8 @@ pub(crate) fn print_fault<W: Write>(
     let slots = bytes / 8;
     match refusal {
         DecodeError::Empty => line!(out; "refused {refusal}: the file has no bytes"),
-        DecodeError::NotEights => line!(out; "refused {refusal}: {bytes} bytes are no multiple of 8"),
+        DecodeError::NotEights =>
+            line!(out; "refused {refusal}: {bytes} bytes are no multiple of 8"),
         DecodeError::TooLong => line!(out; "refused {refusal}: {slots} slots are more than 4096"),
         DecodeError::Opcode(slot) => {
             let opcode = opcode_at(file, slot);
@@ -227,7 +236,8 @@ pub(crate) fn print_fault<W: Write>(
         DecodeError::UnusedField(_) => {
             line!(out; "refused {refusal}: a field that is not used is not zero, or one selects nothing")
         }
-        DecodeError::WideCut(_) => line!(out; "refused {refusal}: the second slot of lddw is missing"),
+        DecodeError::WideCut(_) =>
+            line!(out; "refused {refusal}: the second slot of lddw is missing"),
         DecodeError::Memory => Ok(()),
     }
 }

@@ -104,11 +104,7 @@ fn push_arithmetic(note: &mut String, state: &State, insn: Insn) -> Result<(), A
                 _ => NO_SUM,
             })
         }
-        Insn::Mov {
-            width,
-            operand,
-            ..
-        } => {
+        Insn::Mov { width, operand, .. } => {
             let known = Known(value_of(state, width, operand));
             write!(note, "mov{width} of {known}{NO_SUM}")
         }
@@ -152,7 +148,10 @@ fn push_comparison(note: &mut String, state: &State, insn: Insn) -> Result<(), A
     };
     let left = Known(value_in(state, dst));
     let right = Known(value_of(state, width, operand));
-    write!(note, "compares {left} and {right}, a pointer into the datagram is compared with the end only, on 64 bits by jgt, jge, jlt or jle")
+    write!(
+        note,
+        "compares {left} and {right}, a pointer into the datagram is compared with the end only, on 64 bits by jgt, jge, jlt or jle"
+    )
 }
 
 /// Appends the pointer that is stored, and where.
@@ -162,7 +161,10 @@ fn push_store(note: &mut String, state: &State, insn: Insn) -> Result<(), AllocE
     };
     let known = Known(value_of(state, Width::W64, operand));
     access.push_span(note, state)?;
-    write!(note, ", a pointer ({known}) is kept by stxdw only, at a multiple of 8 below r10")
+    write!(
+        note,
+        ", a pointer ({known}) is kept by stxdw only, at a multiple of 8 below r10"
+    )
 }
 
 /// Appends what is wrong with an access.

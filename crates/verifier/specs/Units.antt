@@ -14,7 +14,7 @@ use Rattle.verifier.specs.declared.walk.Path.TheVariants.{Continues, Ended}
 use Rattle.verifier.specs.declared.walk.Pending.{Pending}
 
 -- its step is made: of the states that it leads to, the one to follow next waits last
-pub record MakesStep {D : Type 0} (ops : Operations D) (code : List Insn) (here : Pending D) (rest waits : List (Pending D)) (before made : ℕ) : Type 0 where
+pub record IsStepMade {D : Type 0} (ops : Operations D) (code : List Insn) (here : Pending D) (rest waits : List (Pending D)) (before made : ℕ) : Type 0 where
   pub next : Option (Pending D)
   pub pending : List (Pending D)
   pub advances : Advances ops code here rest next pending
@@ -30,7 +30,7 @@ pub record DoesUnit {D : Type 0} (ops : Operations D) (code : List Insn) (old ne
   pub rest : List (Pending D)
   pub here : Pending D
   pub old_is : old ≡ rest ++ here ∷ []
-  pub does : IsSkip rest new before made ⊎ MakesStep ops code here rest new before made
+  pub does : IsSkip rest new before made ⊎ IsStepMade ops code here rest new before made
 
 -- a refusal: of the step of the last state that waits, or V17 at its slot
 pub record RefusesUnit {D : Type 0} (ops : Operations D) (code : List Insn) (old : List (Pending D)) (e : Refusal) : Type 0 where
