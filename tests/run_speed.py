@@ -1,4 +1,5 @@
 """Prints how long an instruction takes in `run`, beside two plain interpreters in C without tests: a switch, and a threaded one.
+Rules that were compiled from C stand beside the shipped ones.
 
     tests/run_speed.py
 
@@ -17,6 +18,7 @@ from program import TOP, build, run
 FOLDER = TOP / "crates" / "run_speed"
 PROGRAM = FOLDER / "out" / "run_speed"
 SOURCE = TOP / "tests" / "run_speed.c"
+COMPILED = TOP / "examples" / "c" / "compiled"
 ROUNDS = 11
 # about how many instructions a round runs
 STEPS = 20_000_000
@@ -66,7 +68,9 @@ KINDS = {
 
 
 def assembled(folder, text):
-    """Returns the bytes of a text, in hexadecimal digits."""
+    """Returns the bytes of a text, or of a file of a program, in hexadecimal digits."""
+    if isinstance(text, pathlib.Path):
+        return text.read_bytes().hex()
     source, target = folder / "text.s", folder / "program.bpf"
     source.write_text(text, encoding="utf-8")
     status, _, err = run(["assemble", source, target])
@@ -119,6 +123,9 @@ def programs():
         ("CLIENT over ChannelData", "client", client, CHANNEL_DATA),
         ("CLIENT over a Send indication", "client", client, SEND),
         ("PEER, to ChannelData", "peer", peer, PLAIN),
+        ("client.c over ChannelData", "client", COMPILED / "client.bpf", CHANNEL_DATA),
+        ("client.c over a Send indication", "client", COMPILED / "client.bpf", SEND),
+        ("peer.c, to ChannelData", "peer", COMPILED / "peer.bpf", PLAIN),
         ("40 instructions", "client", forty(), PLAIN),
         ("three instructions", "client", SHORTEST, PLAIN),
         *((kind, "client", text, PLAIN) for kind, text in KINDS.items()),
