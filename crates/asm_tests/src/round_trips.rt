@@ -1,7 +1,7 @@
-//! Programs that are written as text and assembled again, and texts that are cut or changed.
+//! A program that is written as text and assembled again.
 
 use crate::read_back;
-use asm::{AsmError, assemble};
+use asm::assemble;
 use disasm::disassemble;
 use insn::{decode, encode};
 use std::test::Fail;
@@ -22,44 +22,6 @@ const LONGEST: &str = "; Sends the datagram as ChannelData.
 refused:
     exit
 ";
-
-/// Whether the text gives a program that is decoded, and that its own text gives again, or is refused at a line.
-fn is_answered<R: AllocGlobal>(rt: &R, text: &str) -> Result<bool, Fail> {
-    match assemble(rt.alloc(), text) {
-        Ok(program) if program.is_empty() => Ok(true),
-        Ok(program) => {
-            let code = decode(rt.alloc(), &program)?;
-            let text = disassemble(rt.alloc(), &code)?;
-            let again = assemble(rt.alloc(), text.as_str())?;
-            Ok(again.as_slice() == program.as_slice())
-        }
-        Err(AsmError::TooLong | AsmError::Memory) => Ok(false),
-        Err(_) => Ok(true),
-    }
-}
-
-#[test]
-fn each_prefix_is_answered(rt: HostRuntime) -> Result<(), Fail> {
-    let bytes = LONGEST.as_bytes();
-    for end in 0..=bytes.len() {
-        let text = std::str::from_utf8(&bytes[..end])?;
-        assert!(rt; is_answered(&rt, text)?, "{text}");
-    }
-    Ok(())
-}
-
-#[test]
-fn each_changed_byte_is_answered(rt: HostRuntime) -> Result<(), Fail> {
-    for at in 0..LONGEST.len() {
-        for byte in 0..128u8 {
-            let mut changed = Vec::from_slice(rt.alloc(), LONGEST.as_bytes())?;
-            changed[at] = byte;
-            let text = std::str::from_utf8(&changed)?;
-            assert!(rt; is_answered(&rt, text)?, "{text}");
-        }
-    }
-    Ok(())
-}
 
 #[test]
 fn the_text_gives_the_same_program(rt: HostRuntime) -> Result<(), Fail> {
