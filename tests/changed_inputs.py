@@ -12,14 +12,14 @@ import sys
 import tempfile
 
 from memory import LIMIT
-from program import PROGRAM, TOP, build, finish, run
+from program import PROGRAM, TOP, build, explained, finish, run
 from run_agrees import assembled, text_of
 
 EXAMPLES = TOP / "examples"
 SECONDS = 1.0
 UNREAD = (3, "", "cannot read changed\n")
 # of each command, what it may answer: the status, and expressions for standard output and standard error
-VERIFIED = [(0, r"accepted \d+ instructions\n", ""), (1, r"refused [EV]\d+( argument \d)?( at \d+)?\n", "")]
+VERIFIED = [(0, r"accepted \d+ instructions\n", ""), (1, r"refused [EV]\d+( argument \d)?( at \d+)?\n", explained("changed"))]
 ASSEMBLED = [(0, r"wrote \d+ bytes\n", ""), (1, "", r"refused L\d( at line \d+)?\n"), UNREAD]
 ANSWERS = r"((-|c [0-9.:]+ [0-9a-f]+|p \d+ [0-9.:]+ [0-9a-f]+)\n)*"
 REPLAYED = [(0, ANSWERS, ""), (1, ANSWERS, r"refused line \d+\n")]

@@ -18,7 +18,7 @@ import tempfile
 
 import refusals
 from memory import over_additions
-from program import TOP, build, finish, run
+from program import TOP, build, explained, finish, run
 from rules import BINDING, CREATE_PERMISSION, NONCE, REFRESH
 from serve import (
     BAD, DISCARD, Client, Server, address_of, channel_data, code_of, comes, counters, passed, put, udp_socket, wanted)
@@ -268,6 +268,11 @@ def replaced_programs(clocks, folder):
             yield from steps_of(clocks, server, client, peer, paths, steps)
 
 
+def said_of(words, path):
+    """Returns what is printed of a file, of which the words before its name are given."""
+    return f"{words} {path}\n{explained(path) if words.startswith('refused') else ''}"
+
+
 def steps_of(clocks, server, client, peer, paths, steps):
     """Yields what happens otherwise than the steps say."""
     printed = collections.Counter()
@@ -275,13 +280,14 @@ def steps_of(clocks, server, client, peer, paths, steps):
         for side, data in changed.items():
             put(paths[side], data)
         clocks.pass_by(server, SECOND)
-        added = [f"{words} {paths[side]}\n" for side, words in said.items()]
+        added = [said_of(words, paths[side]) for side, words in said.items()]
         printed.update(added)
         client.send(b"\xff")
         if any(server.awaited(line, printed[line]) != printed[line] for line in added):
             yield f"{what}: {server.printed()!r}"
         yield from wanted(what, passed(server, client, peer, passing), passing)
-    yield from wanted("lines", sorted(server.printed().splitlines(True)), sorted(printed.elements()))
+    lines = "".join(printed.elements()).splitlines(True)
+    yield from wanted("lines", sorted(server.printed().splitlines(True)), sorted(lines))
 
 
 def refused_programs(clocks, folder):
@@ -300,7 +306,7 @@ def refused_programs(clocks, folder):
             client.send(b"\xff")
             server.awaited("\n", printed.count("\n") + 1)
             found = server.printed()
-            line = rf"refused {code}( [a-z0-9 ]+)? in {re.escape(str(path))}\n"
+            line = rf"refused {code}( [a-z0-9 ]+)? in {re.escape(str(path))}\n{re.escape(explained(path))}"
             if code == "E3":  # it isn't read
                 line = rf"cannot use {re.escape(str(path))}: more than 32768 bytes\n"
             if not re.fullmatch(line, found[len(printed):]):

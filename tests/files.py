@@ -8,7 +8,7 @@ import pathlib
 import sys
 import tempfile
 
-from program import PROGRAM, finish, run
+from program import PROGRAM, explained, finish, run
 
 # `mov r0, 2` and `exit`
 GOOD = bytes.fromhex("b700000002000000 9500000000000000")
@@ -21,18 +21,18 @@ LONGEST = 65507
 CASES = [
     (["verify", "good"], 0, ACCEPTED, ""),
     (["trace", "good"], 0, TRACED, ""),
-    (["verify", "stuck"], 1, "refused V5 at 0\n", ""),
+    (["verify", "stuck"], 1, "refused V5 at 0\n", explained("stuck")),
     (["trace", "stuck"], 1, "0 mov r0, r2\nstuck V5 at 0\n", ""),
     (["verify", "missing"], 3, "", "cannot read missing\n"),
     (["trace", "missing"], 3, "", "cannot read missing\n"),
     (["verify", "folder"], 3, "", "cannot read folder\n"),
     (["trace", "folder"], 3, "", "cannot read folder\n"),
     # no bytes, 12 bytes, 5,000 slots
-    (["verify", "empty"], 1, "refused E1\n", ""),
+    (["verify", "empty"], 1, "refused E1\n", explained("empty")),
     (["trace", "empty"], 1, "", "refused E1\n"),
-    (["verify", "cut"], 1, "refused E2\n", ""),
+    (["verify", "cut"], 1, "refused E2\n", explained("cut")),
     (["trace", "cut"], 1, "", "refused E2\n"),
-    (["verify", "long"], 1, "refused E3\n", ""),
+    (["verify", "long"], 1, "refused E3\n", explained("long")),
     (["trace", "long"], 1, "", "refused E3\n"),
     # an odd number of digits, and a character that is no digit
     (["trace", "good", "--data", "0"], 1, "", "refused data\n"),
@@ -48,7 +48,7 @@ CASES = [
 # the words, the file that is standard input, the status, standard output, standard error
 READ = [
     (["verify", "-"], "good", 0, ACCEPTED, ""),
-    (["verify", "-"], "empty", 1, "refused E1\n", ""),
+    (["verify", "-"], "empty", 1, "refused E1\n", explained("-")),
     (["verify", "-"], "folder", 3, "", "cannot read -\n"),
     (["trace", "-", "--data", "00"], "good", 0, TRACED, ""),
     (["disassemble", "-"], "good", 0, "mov r0, 2\nexit\n", ""),

@@ -12,7 +12,7 @@ import resource
 import sys
 import tempfile
 
-from program import PROGRAM, build, finish, run
+from program import PROGRAM, build, explained, finish, run
 
 # `ldxdw r2, [r1+0]`, `ldxb r5, [r2-1]`, `mov r0, 0`: a byte of which nothing is known
 BYTE = bytes.fromhex("7912000000000000 7125ffff00000000 b700000000000000")
@@ -75,7 +75,7 @@ def failures_of(path, numbers, moves, limit):
     """Yields what is wrong with the refusal of the program with a jump over each addition."""
     path.write_bytes(over_additions(numbers, moves))
     got = run(["verify", path], PROGRAM, preexec_fn=lambda: limit_memory(limit))
-    if got != (1, f"refused V17 at {slot_at_the_end(numbers, moves)}\n", ""):
+    if got != (1, f"refused V17 at {slot_at_the_end(numbers, moves)}\n", explained(path)):
         yield f"{len(numbers)} jumps: {got}"
 
 

@@ -30,6 +30,11 @@ def run(words, program=None, **options):
     return ran.returncode, ran.stdout, ran.stderr
 
 
+def explained(path):
+    """Returns the line that names the command which explains why the program in a file is refused."""
+    return f"relayd explain {path} shows why\n"
+
+
 def finish(failures, summary):
     """Prints the failures and a line that sums them up, and returns the exit status."""
     print("\n".join([*failures, summary]))

@@ -10,7 +10,7 @@ import re
 import sys
 import tempfile
 
-from program import TOP, finish, run
+from program import TOP, explained, finish, run
 
 ROW = re.compile(r"^\| ([A-Z]\d+) \|.*\|([^|]*)\|$", re.MULTILINE)
 # a line, or lines in parentheses, and how often they are repeated
@@ -63,9 +63,10 @@ def failures_of_programs(folder):
         ends = {"verify": run(["verify", file])}
         for side in ("--client", "--peer"):
             status, out, err = run(["replay", "--user", "u:p", side, file, os.devnull])
-            ends[side] = status, err, out
+            first, _, rest = err.partition("\n")
+            ends[side] = status, out + first.removesuffix(f" in {file}") + "\n", rest
         for name, (status, printed, rest) in ends.items():
-            if status != 1 or rest or not re.fullmatch(rf"refused {code}( [a-z0-9 ]+)?\n", printed):
+            if status != 1 or rest != explained(file) or not re.fullmatch(rf"refused {code}( [a-z0-9 ]+)?\n", printed):
                 yield f"{code} by {name}: {status} {printed}{rest}"
 
 

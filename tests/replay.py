@@ -9,7 +9,7 @@ import pathlib
 import sys
 import tempfile
 
-from program import TOP, finish, run
+from program import TOP, explained, finish, run
 
 sys.path.insert(0, str(TOP / "examples"))
 import events
@@ -32,7 +32,7 @@ BAD_PEER = ["--peer", "bad"]
 NO_CLIENT = ["--client", "missing"]
 NO_PEER = ["--peer", "missing"]
 UNREAD = "cannot read missing\n"
-REFUSED = "refused V5 at 0\n"
+REFUSED = f"refused V5 at 0 in bad\n{explained('bad')}"
 BINDING = f"c 1000 {'0' * 24} 198.51.100.2:4000 000100002112a442{'0' * 24}\n"
 BOUND = f"c 198.51.100.2:4000 0101000c2112a442{'0' * 24}0020000800012eb2e721c040\n"
 # a new nonce and an Allocate request without attributes, and the answer to this
@@ -94,7 +94,7 @@ FAULTS = [
     ([*USER, *LONG_NONCE, *NO_CLIENT, "events"], 1, "refused nonce\n"),
     ([*USER, *LONG_NONCE, "--first-port", "0", "events"], 1, "refused nonce\n"),
     ([*USER, *BAD_CLIENT, "--peer", "empty", "events"], 1, REFUSED),
-    ([*USER, "--client", "empty", *BAD_PEER, "events"], 1, "refused E1\n"),
+    ([*USER, "--client", "empty", *BAD_PEER, "events"], 1, f"refused E1 in empty\n{explained('empty')}"),
     ([*USER, *BAD_CLIENT, *NO_PEER, "events"], 1, REFUSED),
     ([*USER, *NO_CLIENT, *BAD_PEER, "events"], 3, UNREAD),
     ([*USER, *NO_CLIENT, "--slots", "0", "events"], 3, UNREAD),

@@ -25,7 +25,7 @@ import tempfile
 import time
 
 import program
-from program import PROGRAM, TOP, build, finish
+from program import PROGRAM, TOP, build, explained, finish
 from rules import (
     ALLOCATE, BINDING, CHANNEL_BIND, CHANNEL_NUMBER, CREATE_PERMISSION, DATA, DATA_INDICATION, ERROR_CODE, FAMILY, INTEGRITY,
     LIFETIME, NONCE, REALM, REFRESH, SEND, TRANSPORT, USERNAME, XOR_MAPPED_ADDRESS, XOR_PEER_ADDRESS,
@@ -359,8 +359,8 @@ def refused_lines():
             ([*port, "--client", missing], 2, needs),
             ([*port, "--users", missing, "--client", str(bad)], 3, f"cannot read {missing}\n"),
             ([*port, *USER, "--client", missing, "--peer", str(bad)], 3, f"cannot read {missing}\n"),
-            ([*port, *USER, "--client", str(bad), "--peer", missing], 1, "refused V5 at 0\n"),
-            ([*port, *USER, "--peer", str(bad), "--slots", "0"], 1, "refused V5 at 0\n"),
+            ([*port, *USER, "--client", str(bad), "--peer", missing], 1, f"refused V5 at 0 in {bad}\n{explained(bad)}"),
+            ([*port, *USER, "--peer", str(bad), "--slots", "0"], 1, f"refused V5 at 0 in {bad}\n{explained(bad)}"),
             ([*port, *USER, "--slots", "0"], 1, "refused slots\n"),
             ([*port, *USER, "--first-port", "65535", "--slots", "2"], 1, "refused slots\n"),
             ([*port, *USER, "--first-port", taken], 3, in_use(f"127.0.0.1:{taken}")),
@@ -750,7 +750,7 @@ def idle_files():
                 server.becomes("S")
                 for path in paths.values():
                     put(path, BAD)
-                lines = sorted(f"refused V5 at 0 in {path}\n" for path in paths.values())
+                lines = sorted(line for path in paths.values() for line in (f"refused V5 at 0 in {path}\n", explained(path)))
                 for line in lines:
                     server.awaited(line)
                 yield from wanted(f"an idle server with files of {given}", sorted(server.printed().splitlines(True)), lines)
@@ -808,7 +808,7 @@ def replacements(paths, good):
     client, and data of the peer, pass afterwards.
     """
     loaded = {side: f"loaded {path}\n" for side, path in paths.items()}
-    refused = {side: f"refused {{}} in {path}\n".format for side, path in paths.items()}
+    refused = {side: f"refused {{}} in {path}\n{explained(path)}".format for side, path in paths.items()}
     client, peer = good["client"], good["peer"]
     return [
         ("before", {}, [], (True, True)),
@@ -853,7 +853,8 @@ def replaced_programs():
             time.sleep(1.5 * PERIOD)
             passing = True, False
             yield from wanted("no files", passed(server, client, peer, passing), passing)
-            yield from wanted("lines", sorted(server.printed().splitlines(True)), sorted(printed.elements()))
+            lines = "".join(printed.elements()).splitlines(True)
+            yield from wanted("lines", sorted(server.printed().splitlines(True)), sorted(lines))
             yield from wanted("the allocation", code_of(client.signed(REFRESH, [])), 0)
 
 

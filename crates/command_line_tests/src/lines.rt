@@ -10,7 +10,7 @@ struct Good {
     subcommand: &'static str,
 }
 
-const GOOD: [Good; 27] = [
+const GOOD: [Good; 30] = [
     Good {
         words: &["relayd", "verify", "a.bpf"],
         subcommand: r#"Verify { file: "a.bpf" }"#,
@@ -42,6 +42,18 @@ const GOOD: [Good; 27] = [
     Good {
         words: &["relayd", "disassemble", "a.bpf", "--slots"],
         subcommand: r#"Disassemble { file: "a.bpf", slots: true }"#,
+    },
+    Good {
+        words: &["relayd", "explain", "a.bpf"],
+        subcommand: r#"Explain { file: "a.bpf", slot: None }"#,
+    },
+    Good {
+        words: &["relayd", "explain", "a.bpf", "--slot", "7"],
+        subcommand: r#"Explain { file: "a.bpf", slot: Some("7") }"#,
+    },
+    Good {
+        words: &["relayd", "explain", "--slot=", "a.bpf"],
+        subcommand: r#"Explain { file: "a.bpf", slot: Some("") }"#,
     },
     Good {
         words: &["relayd", "trace", "a.bpf"],
@@ -213,7 +225,7 @@ struct Refused {
     parts: &'static [&'static str],
 }
 
-const REFUSED: [Refused; 52] = [
+const REFUSED: [Refused; 54] = [
     // no word after the name: the help
     Refused {
         words: &[],
@@ -260,6 +272,16 @@ const REFUSED: [Refused; 52] = [
         words: &["relayd", "order", "a.bpf"],
         status: 2,
         parts: &["<OUT>", "--help"],
+    },
+    Refused {
+        words: &["relayd", "explain"],
+        status: 2,
+        parts: &["<FILE>", "--help"],
+    },
+    Refused {
+        words: &["relayd", "explain", "a.bpf", "--slots"],
+        status: 2,
+        parts: &["--slots", "--help"],
     },
     Refused {
         words: &["relayd", "disassemble"],

@@ -1,5 +1,5 @@
-//! The program: parses the command line, and reports on a program file, puts it in order, assembles a text, replays events or serves
-//! sockets.
+//! The program: parses the command line, and reports on a program file, explains it, puts it in order, assembles a text, replays
+//! events or serves sockets.
 #![tactic(auto)]
 
 mod ahead;
@@ -8,6 +8,7 @@ mod clock;
 mod counters;
 mod drops;
 mod error_lines;
+mod explaining;
 mod files;
 mod options;
 mod replacing;
@@ -16,6 +17,7 @@ mod server;
 mod sockets;
 mod udp;
 
+use crate::explaining::explain;
 use crate::replaying::replay;
 use crate::server::serve;
 use asm::{AsmError, assemble};
@@ -92,6 +94,19 @@ fn report_file<R: Files + Input + Print + AllocGlobal, E: Write>(
     }
 }
 
+/// Prints the report on whether the program in a file may be loaded and, where it is refused, which command explains why.
+fn verify_file<R: Files + Input + Print + AllocGlobal, E: Write>(
+    rt: &R,
+    err: &mut E,
+    path: &str,
+) -> u8 {
+    let status = report_file(rt, err, path, Ask::Verify);
+    if status == REFUSED {
+        let _ = writeln!(err, "relayd explain {path} shows why");
+    }
+    status
+}
+
 /// Prints that a file cannot be read or written, and returns the exit status.
 fn fail_at<E: Write>(err: &mut E, action: &str, path: &str) -> u8 {
     let _ = writeln!(err, "cannot {action} {path}");
@@ -145,13 +160,18 @@ fn refuse_order<E: Write>(err: &mut E, file: &[u8], error: FileError) -> u8 {
         return fail(err, ReportError::Memory);
     }
     let _ = writeln!(err, "refused {error}");
+    note_object_file(err, file);
+    REFUSED
+}
+
+/// Prints what to do with an object file, where a file is one.
+fn note_object_file<E: Write>(err: &mut E, file: &[u8]) {
     if file.starts_with(b"\x7fELF") {
         let _ = writeln!(
             err,
             "an object file: take its .text by llvm-objcopy -O binary --only-section=.text"
         );
     }
-    REFUSED
 }
 
 /// Puts the program in the file `input` in an order in which every jump leads forward, writes it to the file `output` and
@@ -182,7 +202,8 @@ fn run_subcommand<R: Files + Input + Print + Net + Clock + RandomSource + AllocG
     matches: &ArgMatches<'_>,
 ) -> u8 {
     match subcommand_of(matches) {
-        Some(Subcommand::Verify { file }) => report_file(rt, err, file, Ask::Verify),
+        Some(Subcommand::Verify { file }) => verify_file(rt, err, file),
+        Some(Subcommand::Explain { file, slot }) => explain(rt, err, file, slot),
         Some(Subcommand::Trace { file, data }) => {
             report_file(rt, err, file, Ask::Trace { hex: data })
         }

@@ -55,6 +55,12 @@ pub(crate) enum Fault<'a> {
     /// A file can't be read.
     #[error("cannot read {0}")]
     File(&'a str),
+    /// The program in a file is refused.
+    #[error("{error} in {path}\nrelayd explain {path} shows why")]
+    Program {
+        path: &'a str,
+        error: ProgramError,
+    },
     /// The relay can't be set up.
     #[error("{0}")]
     Setup(SetupError),
@@ -82,7 +88,7 @@ impl Fault<'_> {
     /// Returns the exit status.
     pub(crate) fn status(&self) -> u8 {
         match self {
-            Fault::Users(_) | Fault::Setup(_) | Fault::Line(_) => 1,
+            Fault::Users(_) | Fault::Program { .. } | Fault::Setup(_) | Fault::Line(_) => 1,
             Fault::RelayedAddress | Fault::RelayedAddress6 => 1,
             Fault::Value { .. } | Fault::Network { .. } | Fault::Filter(_) => 2,
             Fault::NoUsers | Fault::NoListen6 | Fault::NoRelayedAddress => 2,
@@ -258,13 +264,20 @@ fn program<'a>(
     }
 }
 
+/// Returns the fault of a side's program, by the name of its file, or of the shipped one.
+fn program_fault(error: ProgramError, path: &str) -> Fault<'_> {
+    match error {
+        ProgramError::File => Fault::File(path),
+        ProgramError::Memory => Fault::Memory,
+        error => Fault::Program { path, error },
+    }
+}
+
 /// Returns the fault of a relay that can't be set up.
 fn setup_fault<'a>(error: SetupError, options: &Options<'a>) -> Fault<'a> {
     match error {
-        SetupError::Client(ProgramError::File) => Fault::File(options.client.unwrap_or("CLIENT")),
-        SetupError::Peer(ProgramError::File) => Fault::File(options.peer.unwrap_or("PEER")),
-        SetupError::Client(ProgramError::Memory) => Fault::Memory,
-        SetupError::Peer(ProgramError::Memory) => Fault::Memory,
+        SetupError::Client(error) => program_fault(error, options.client.unwrap_or("CLIENT")),
+        SetupError::Peer(error) => program_fault(error, options.peer.unwrap_or("PEER")),
         SetupError::Memory => Fault::Memory,
         refusal => Fault::Setup(refusal),
     }

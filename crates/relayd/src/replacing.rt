@@ -1,7 +1,7 @@
 //! Programs that are replaced while a server runs. Each is verified in slices, so that datagrams are served meanwhile.
 
 use crate::files::{Unusable, read_regular};
-use crate::options::ProgramBytes;
+use crate::options::{Fault, ProgramBytes};
 use command_line::Options;
 use insn::MAX_SLOTS;
 use loader::{LoadError, LoadProgress, Loaded, Loading, Remains};
@@ -123,10 +123,16 @@ impl<'a> Side<'a> {
     /// again.
     fn refuse<E: Write>(&mut self, err: &mut E, error: LoadError, bytes: Vec<u8>) {
         let error = ProgramError::from(error);
+        let is_memory = error == ProgramError::Memory;
         if let Some(path) = self.path {
-            let _ = writeln!(err, "{error} in {path}");
+            let fault = Fault::Program { path, error };
+            let _ = if is_memory {
+                writeln!(err, "{error} in {path}")
+            } else {
+                writeln!(err, "{fault}")
+            };
         }
-        if error != ProgramError::Memory {
+        if !is_memory {
             self.refused = Some(bytes);
         }
     }
