@@ -1,5 +1,4 @@
 mod Events
-mod Fronts
 mod Numbers
 mod Splits
 mod WrittenBytes

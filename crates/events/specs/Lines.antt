@@ -1,6 +1,5 @@
 -- Meaning. Events and answers as lines of text: each has one line, here without its line feed.
-use Rattle.std.specs.Prelude.{◌≡◌, ℕ, ◌^◌, ◌<◌, ◌≤◌, true, List, [], ◌∷◌, ◌++◌, length, take, codes, decimal, Option, None, Some}
-use Rattle.std.specs.Io.KnownBytes.{Appends}
+use Rattle.std.specs.Prelude.{◌≡◌, ℕ, ◌^◌, ◌<◌, ◌≤◌, true, List, [], ◌∷◌, ◌++◌, length, codes, decimal, Option, None, Some}
 use Rattle.hex.specs.Hex.{encode_lower, IsBytes}
 use Rattle.attributes.specs.Addresses.{IsAddress}
 use Rattle.attributes.specs.AddressTexts.{address_text}
@@ -57,17 +56,3 @@ abbrev pub answer_line : Option Sending → List ℕ
 answer_line None = codes "-"
 answer_line (Some (ToPeer slot peer bytes)) = codes "p" ++ 0x20 ∷ (decimal slot ++ 0x20 ∷ (address_text peer ++ 0x20 ∷ bytes_text bytes))
 answer_line (Some (ToClient client bytes)) = codes "c" ++ 0x20 ∷ (address_text client ++ 0x20 ∷ bytes_text bytes)
-
--- what precedes the bytes of a line
-abbrev pub front_text : Sending → List ℕ
-front_text (ToPeer slot peer bytes) = codes "p" ++ 0x20 ∷ (decimal slot ++ 0x20 ∷ (address_text peer ++ 0x20 ∷ []))
-front_text (ToClient client bytes) = codes "c" ++ 0x20 ∷ (address_text client ++ 0x20 ∷ [])
-
--- the slot is a number of 64 bits, and the addresses have their widths
-abbrev pub IsSending : Sending → Type 0
-IsSending (ToPeer slot peer bytes) = (slot < 2 ^ 64) × IsAddress peer
-IsSending (ToClient client bytes) = IsAddress client
-
--- of some bytes a beginning was appended
-abbrev pub AppendsBeginning : Option (List ℕ) → Option (List ℕ) → List ℕ → Type 0
-AppendsBeginning held holds bytes = (count : ℕ) × Appends held holds (take count bytes)

@@ -365,7 +365,7 @@ glyph_is : (d : ℕ) → d < 16 → digit_glyph false d ≡ slice_index lower_di
 glyph_is d lt = glyph_at 16 d refl lt
 
 -- the digits that an address displays are those that are read
-digits_are : (ip : List ℕ) → IsBytes ip → flat_map hex_digits ip ≡ encode_lower ip
+pub digits_are : (ip : List ℕ) → IsBytes ip → flat_map hex_digits ip ≡ encode_lower ip
 unfolding encode_with
 digits_are [] fit = refl
 digits_are (b ∷ ip) fit =

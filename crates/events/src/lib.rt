@@ -3,6 +3,7 @@
 #![tactic(auto)]
 
 mod action;
+mod fronts;
 mod meta;
 mod parsing;
 mod writing;
@@ -10,4 +11,4 @@ mod writing;
 pub use action::Action;
 pub use meta::{Meta, Source};
 pub use parsing::{Parsed, parse};
-pub use writing::{fronts_have_room, write_answer};
+pub use writing::write_answer;

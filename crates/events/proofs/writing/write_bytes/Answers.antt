@@ -19,6 +19,7 @@ loop-chunk-preserved g c =
         Appends-trans _ _ _ done (encode_lower c.in-Some.chunk.now) written c.in_ok-write_digits.ensures.ok,
         append_assoc done _ _ ∙ ap (λ l. done ++ l) (sym (encode-append c.in-Some.chunk.now _) ∙ ap encode_lower (sym steps.1.0)) ∙ whole,
       ),
+      search rules,
     )
 
 pub returns-in_err-write_digits-clause-err : goal.returns-in_err-write_digits-clause-err
@@ -32,5 +33,5 @@ returns-in_err-write_digits-clause-err g c =
 pub returns-clause-ok : goal.returns-clause-ok
 returns-clause-ok g c =
     let (done, written, whole) = c.loop-chunk.invariant.3 in
-    subst (Appends (g.W.Write.contents c.args.writer.now) (g.W.Write.contents c.loop-chunk.writer))
+    subst (Appends c.args.output.now.contents c.loop-chunk.output.contents)
     (no_bytes _ done (encode_lower c.args.bytes.now) c.in-None.ensures.steps.1.0 whole ∙ sym (text_is c.args.bytes.now (search rules))) written
