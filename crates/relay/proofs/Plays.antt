@@ -5,7 +5,8 @@ use Rattle.machine.specs.Contents.{room_of, with_room}
 use Rattle.machine.specs.FrameLaws.{room_written}
 use Rattle.semantics.specs.declared.limits.TheConstants.{MAX_DATAGRAM}
 use Rattle.events.specs.Events.{Event, Datagram, Sending}
-use Rattle.events.specs.Lines.{answer_line, AppendsBeginning}
+use Rattle.streams.specs.Outputs.{AppendsBeginning}
+use Rattle.events.specs.Lines.{answer_line}
 use Rattle.events.specs.declared.meta.Meta.{Meta}
 use Rattle.relay.specs.Relays.{RelayContents, state_of}
 use Rattle.relay.specs.Replays.{system_of, after_line, answer_to, IsCut}

@@ -1,18 +1,7 @@
 -- Interface. What is read of a line.
-use Rattle.std.specs.Prelude.{◌≡◌, ℕ, ◌<◌, ◌⊎◌, List, ◌++◌, length, Option}
-use Rattle.std.specs.Io.{StopsAt}
+use Rattle.std.specs.Prelude.{◌≡◌, ℕ, ◌<◌, ◌⊎◌, List, ◌++◌, length}
 use Rattle.std.specs.Io.BufRead.{first_piece}
-use Rattle.std.specs.Io.KnownBytes.{Consumes, IsAtEnd}
 use Rattle.relay.specs.declared.reading.TheConstants.{MAX_LINE}
-
--- what a reader showed of a line was appended and dropped: at most to its line feed, and nothing only at the end
-pub record HasShown (read left : Option (List ℕ)) (old new : List ℕ) (count : ℕ) : Type 0 where
-  pub shown : List ℕ
-  pub appended : new ≡ old ++ shown
-  pub counted : length shown ≡ count
-  pub stops : StopsAt shown 10
-  pub consumed : Consumes read left shown
-  pub at_end : count ≡ 0 → IsAtEnd read
 
 -- a line that was read: the first one, without its line feed; or a beginning of it that is too long for an event's
 abbrev pub IsLine : List ℕ → List ℕ → Type 0

@@ -1,12 +1,15 @@
 -- Meaning. What a replay has read, done and written: the text of events, and the text of their answers.
-use Rattle.std.specs.Prelude.{◌≡◌, ◌≢◌, ℕ, ◌+◌, ◌⊎◌, List, [], ◌∷◌, ◌++◌, All, length, take, true, Option, None, Some, IfSome, is_some}
+use Rattle.std.specs.Prelude.{◌≡◌, ◌≢◌, ℕ, ◌+◌, ◌⊎◌, Bool, true, false, List, [], ◌∷◌, ◌++◌, All, length, take, Option, None, Some, IfSome, is_some, Result, Ok, Err}
 use Rattle.std.specs.Io.BufRead.{first_piece}
 use Rattle.std.specs.Io.KnownBytes.{Appends}
 use Rattle.control.specs.declared.config.Config.{Config}
 use Rattle.events.specs.Events.{Event, Sending}
-use Rattle.events.specs.Lines.{line_of, answer_line, IsEvent, AppendsBeginning}
+use Rattle.streams.specs.Outputs.{AppendsBeginning}
+use Rattle.events.specs.Lines.{line_of, answer_line, IsEvent}
 use Rattle.relay.specs.ByPrograms.{by_programs}
 use Rattle.relay.specs.Relays.{RelayContents, state_of}
+use Rattle.relay.specs.declared.replaying.ReplayError.{ReplayError}
+use Rattle.relay.specs.declared.replaying.ReplayError.TheVariants as error
 use Rattle.relay.specs.Systems.{SystemState, System, system_step, answers, state_after_events}
 
 -- ---- texts
@@ -104,3 +107,21 @@ pub record StopsWriting (read : Option (List ℕ)) (old new : RelayContents) (he
   pub text : IfSome read (λ text. (rest : List ℕ) × (text ++ 10 ∷ [] ≡ text_of_events (events ++ last ∷ []) ++ rest))
   pub count : ℕ
   pub written : Appends held holds (answers_of_events old events ++ take count (answer_text (system_of old) old.config (state_after_events (system_of old) old.config (state_of old) events) last))
+
+-- ---- failures
+
+-- whether an error says that the input has failed
+abbrev pub is_read_failure : {T : Type 0} → Result T ReplayError → Bool
+is_read_failure (Ok x) = false
+is_read_failure (Err (error.Line n)) = false
+is_read_failure (Err error.Read) = true
+is_read_failure (Err error.Write) = false
+is_read_failure (Err error.Memory) = false
+
+-- whether an error says that the output has failed
+abbrev pub is_write_failure : {T : Type 0} → Result T ReplayError → Bool
+is_write_failure (Ok x) = false
+is_write_failure (Err (error.Line n)) = false
+is_write_failure (Err error.Read) = false
+is_write_failure (Err error.Write) = true
+is_write_failure (Err error.Memory) = false

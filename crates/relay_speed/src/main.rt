@@ -14,6 +14,7 @@ use repeating::repeat;
 use std::alloc::{AllocError, Global};
 use std::rt::Env;
 use std::{env, io};
+use streams::Output;
 
 /// Returns the configuration of the relay.
 fn config(alloc: Global, slots: usize) -> Result<Config, AllocError> {
@@ -48,9 +49,9 @@ fn shipped(alloc: Global, slots: usize) -> Result<Relay> {
 fn play<R: Print + AllocGlobal>(rt: &R, slots: usize, events: &str, count: u64) -> Result<u64> {
     let (setup, line) = events.rsplit_once('\n').context("fewer than two events")?;
     let mut relay = shipped(rt.alloc(), slots)?;
-    let mut reader = setup.as_bytes();
-    let mut writer = io::writer(rt);
-    relay.replay(rt.alloc(), &mut reader, &mut writer)?;
+    let mut input = streams::Input::new(setup.as_bytes());
+    let mut output = Output::new(io::writer(rt));
+    relay.replay(rt.alloc(), &mut input, &mut output)?;
     repeat(rt.alloc(), &mut relay, slots, line.as_bytes(), count)
 }
 

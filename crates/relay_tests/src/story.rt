@@ -10,6 +10,7 @@ use relay::{Relay, ReplayError};
 use std::alloc::{AllocError, Global};
 use std::process::Abort;
 use std::test::Fail;
+use streams::{Input, Output};
 
 /// Each event with its answer.
 pub(crate) static STORY: [(&str, &str); 23] = [
@@ -150,10 +151,10 @@ pub(crate) fn shipped(alloc: Global) -> Result<Relay, Fail> {
 fn answer(alloc: Global, relay: &mut Relay, event: &str) -> Result<Vec<u8>, Fail> {
     let mut line = String::from_str(alloc, event)?;
     line.push_str("\n")?;
-    let mut reader = line.as_bytes();
-    let mut out = Vec::new(alloc);
-    relay.replay(alloc, &mut reader, &mut out)?;
-    Ok(out)
+    let mut input = Input::new(line.as_bytes());
+    let mut output = Output::new(Vec::new(alloc));
+    relay.replay(alloc, &mut input, &mut output)?;
+    Ok(output.into_inner())
 }
 
 /// Compares the answer to an event that is handed in by itself.
@@ -192,12 +193,14 @@ fn each_event_has_its_answer(rt: HostRuntime) -> Result<(), Fail> {
         answers.push_str("\n")?;
     }
     let mut relay = shipped(rt.alloc())?;
-    let mut reader = events.as_bytes();
-    let mut out = Vec::new(rt.alloc());
-    relay.replay(rt.alloc(), &mut reader, &mut out)?;
-    assert_eq!(rt; out.as_slice(), answers.as_bytes());
-    let mut reader = "c 1000\n".as_bytes();
-    let refused = relay.replay(rt.alloc(), &mut reader, &mut out);
+    let mut input = Input::new(events.as_bytes());
+    let mut output = Output::new(Vec::new(rt.alloc()));
+    relay.replay(rt.alloc(), &mut input, &mut output)?;
+    let written = output.into_inner();
+    assert_eq!(rt; written.as_slice(), answers.as_bytes());
+    let mut input = Input::new("c 1000\n".as_bytes());
+    let mut output = Output::new(Vec::new(rt.alloc()));
+    let refused = relay.replay(rt.alloc(), &mut input, &mut output);
     assert!(rt; refused == Err(ReplayError::Line(1)));
     Ok(())
 }

@@ -8,6 +8,7 @@ use events::{Action, write_answer};
 use semantics::MAX_DATAGRAM;
 use serving::{Link, LinkFault, Place};
 use std::alloc::{AllocError, Global};
+use streams::Output;
 
 /// What happens to a datagram.
 #[derive(Clone, Copy, Debug, PartialEq, Eq)]
@@ -130,7 +131,8 @@ impl Wire<'_> {
                 bytes,
             },
         };
-        write_answer(self.log, &action).map_err(|_| LinkFault)
+        let mut output = Output::new(&mut *self.log);
+        write_answer(&mut output, &action).map_err(|_| LinkFault)
     }
 }
 

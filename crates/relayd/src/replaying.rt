@@ -7,20 +7,22 @@ use setup::defaults;
 use std::fs;
 use std::io::{self, BufRead, BufReader, BufWriter, Write};
 use std::rt::Files;
+use streams::Output;
 
 /// Replays the events of a reader, prints the answers and flushes them.
 /// See docs/DECISIONS.md, "Answers before a fault".
 fn play<'a, R: Print + AllocGlobal, B: BufRead>(
     rt: &R,
     relay: &mut Relay,
-    reader: &mut B,
+    reader: B,
     path: &'a str,
 ) -> Result<(), Fault<'a>> {
-    let Ok(mut writer) = BufWriter::new(rt.alloc(), io::writer(rt)) else {
+    let Ok(writer) = BufWriter::new(rt.alloc(), io::writer(rt)) else {
         return Err(Fault::Memory);
     };
-    let played = relay.replay(rt.alloc(), reader, &mut writer);
-    if writer.flush().is_err() {
+    let mut output = Output::new(writer);
+    let played = relay.replay(rt.alloc(), &mut streams::Input::new(reader), &mut output);
+    if output.has_failed() || output.flush().is_err() {
         return Err(Fault::Output);
     }
     match played {
@@ -47,7 +49,7 @@ fn replay_events<'a, R: Files + Input + Print + AllocGlobal>(
     let mut relay = set_up(rt, options, nonce.unwrap_or(defaults::NONCE), relayed)?.relay;
     if events == "-" {
         return match BufReader::new(rt.alloc(), rt.reader()) {
-            Ok(mut reader) => play(rt, &mut relay, &mut reader, events),
+            Ok(reader) => play(rt, &mut relay, reader, events),
             Err(_) => Err(Fault::Memory),
         };
     }
@@ -56,7 +58,7 @@ fn replay_events<'a, R: Files + Input + Print + AllocGlobal>(
         Err(error) => return Err(unread(&error, events)),
     };
     match BufReader::new(rt.alloc(), file) {
-        Ok(mut reader) => play(rt, &mut relay, &mut reader, events),
+        Ok(reader) => play(rt, &mut relay, reader, events),
         Err(_) => Err(Fault::Memory),
     }
 }

@@ -11,6 +11,7 @@ use programs::{CLIENT, PEER};
 use relay::{Relay, ReplayError};
 use std::alloc::{AllocError, Global};
 use std::io::{self, BufRead, BufReader, Write};
+use streams::Output;
 
 /// Room for the line of any answer, in bytes.
 const LONGEST: usize = 131_200;
@@ -41,14 +42,11 @@ fn config(alloc: Global) -> Result<Config, AllocError> {
 /// Where memory is refused twice, and where the line is no event's.
 fn play(alloc: Global, relay: &mut Relay, line: &[u8], answer: &mut Vec<u8>) -> Result<()> {
     answer.clear();
-    let mut reader = line;
-    let first = relay.replay(alloc, &mut reader, answer);
-    if first != Err(ReplayError::Memory) {
-        first?;
-        return Ok(());
+    let mut output = Output::new(answer);
+    match relay.replay(alloc, &mut streams::Input::new(line), &mut output) {
+        Err(ReplayError::Memory) => relay.replay(alloc, &mut streams::Input::new(line), &mut output)?,
+        first => first?,
     }
-    let mut reader = line;
-    relay.replay(alloc, &mut reader, answer)?;
     Ok(())
 }
 

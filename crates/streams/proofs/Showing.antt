@@ -7,7 +7,7 @@ use Rattle.std.specs.Io.KnownBytes.{Keeps, Consumes, IsAtEnd}
 use Rattle.std.proofs.BufReadLemmas.{Consumes_shown}
 use Rattle.std.proofs.KnownBytes.{starts_with_rest}
 use Rattle.std.proofs.lemmas.List.{take_at}
-use Rattle.streams.specs.Inputs.{HasShown}
+use Rattle.streams.specs.Shown.{HasShown}
 
 shown_after : (kept read left : Option (List ℕ)) (old new : List ℕ) (n : ℕ) → Keeps kept read → HasShown read left old new n → HasShown kept left old new n
 shown_after None read left old new n keeps is = record { shown = is.shown; appended = is.appended; counted = is.counted; stops = is.stops; consumed = tt; at_end = λ _. tt }

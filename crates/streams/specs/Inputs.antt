@@ -1,7 +1,7 @@
--- Meaning. What is left of an input, whether it has failed, and what is read of a line.
-use Rattle.std.specs.Prelude.{◌≡◌, ℕ, Bool, List, ◌++◌, length, Option}
-use Rattle.std.specs.Io.{StopsAt}
-use Rattle.std.specs.Io.KnownBytes.{Consumes, IsAtEnd}
+-- Meaning. What is left of an input, and whether it has failed.
+use Rattle.std.specs.Prelude.{ℕ, Bool, true, false, List, Option, Result, Ok, Err}
+use Rattle.streams.specs.declared.input.InputError.{InputError}
+use Rattle.streams.specs.declared.input.InputError.TheVariants.{Failed, Memory}
 
 -- the bytes that its reader has left, where they are known; how many calls of the reader were made; and whether one has failed
 pub record InputState : Type 0 where
@@ -9,11 +9,8 @@ pub record InputState : Type 0 where
   pub calls : ℕ
   pub failed : Bool
 
--- what a reader showed of a line was appended and dropped: at most to its line feed, and nothing only at the end
-pub record HasShown (read left : Option (List ℕ)) (old new : List ℕ) (count : ℕ) : Type 0 where
-  pub shown : List ℕ
-  pub appended : new ≡ old ++ shown
-  pub counted : length shown ≡ count
-  pub stops : StopsAt shown 10
-  pub consumed : Consumes read left shown
-  pub at_end : count ≡ 0 → IsAtEnd read
+-- whether an error says that the input has failed
+abbrev pub is_failure : {T : Type 0} → Result T InputError → Bool
+is_failure (Ok x) = false
+is_failure (Err Failed) = true
+is_failure (Err Memory) = false

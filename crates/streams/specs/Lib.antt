@@ -1,3 +1,4 @@
 -- Internal. The modules of this folder.
 pub mod Inputs
 pub mod Outputs
+pub mod Shown

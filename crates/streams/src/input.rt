@@ -1,7 +1,7 @@
 //! An input: a reader, and whether it has failed.
 
 ghost use Rattle.std.specs.Prelude.{◌≡◌, ◌+◌, ◌^◌, ◌<◌, ◌≤◌, length, IfOk, OnOk};
-ghost use Rattle.streams.specs.Inputs.{HasShown};
+ghost use Rattle.streams.specs.Shown.{HasShown};
 
 use std::io::{BufRead, ErrorKind};
 use std::marker::Model;
@@ -73,8 +73,8 @@ impl<R: BufRead> Model for Input<R> {
 }
 
 impl<R: BufRead> Input<R> {
-    ghost use Rattle.std.specs.Prelude.{◌≡◌, ◌↔◌, false, true, Err, IfOk, OnOk};
-    ghost use Rattle.streams.specs.declared.input.InputError.TheVariants as errors;
+    ghost use Rattle.std.specs.Prelude.{◌≡◌, false, IfOk, OnOk};
+    ghost use Rattle.streams.specs.Inputs.{is_failure};
 
     /// Makes an input of a reader. It has not failed.
     pub fn new(reader: R) -> Input<R>
@@ -110,7 +110,7 @@ impl<R: BufRead> Input<R> {
         ensures short { length line.new.items ≤ length line.old.items + most }
         ensures more { OnOk result (self.old.calls < self.new.calls) }
         ensures few { OnOk result (self.new.calls < 2 ^ 64) }
-        ensures failed { (self.new.failed ≡ true) ↔ (result ≡ Err errors.Failed) }
+        ensures failed { self.new.failed ≡ is_failure result }
     {
         let shown = append_shown(&mut self.reader, &mut self.calls, line, most);
         self.has_failed = shown == Err(InputError::Failed);

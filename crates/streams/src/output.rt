@@ -4,6 +4,7 @@ ghost use Rattle.std.specs.Prelude.{OnOk, OnErr};
 ghost use Rattle.std.specs.Io.KnownBytes.{Appends, Keeps};
 ghost use Rattle.streams.specs.Outputs.{AppendsBeginning};
 
+use std::fmt::Display;
 use std::io::{ErrorKind, Write};
 use std::marker::Model;
 
@@ -74,7 +75,7 @@ impl<W: Write> Model for Output<W> {
 }
 
 impl<W: Write> Output<W> {
-    ghost use Rattle.std.specs.Prelude.{◌≡◌, false, is_err, OnOk, OnErr};
+    ghost use Rattle.std.specs.Prelude.{◌≡◌, false, is_err, IfSome, OnOk, OnErr};
 
     /// Makes an output of a writer. It has not failed.
     pub fn new(writer: W) -> Output<W>
@@ -105,6 +106,20 @@ impl<W: Write> Output<W> {
         ensures failed { self.new.failed ≡ is_err result }
     {
         let written = write_whole(&mut self.writer, bytes);
+        self.has_failed = written.is_err();
+        written
+    }
+
+    /// Writes a text: what `write!` and `writeln!` call.
+    ///
+    /// # Errors
+    /// The writer failed, or the text's own `fmt` did. Then the output has failed.
+    pub fn write_fmt<D: Display + Drop>(&mut self, text: D) -> Result<(), Failed>
+        requires { self.old.failed ≡ false }
+        ensures ok { OnOk result (IfSome (D.output text) (Appends self.old.contents self.new.contents)) }
+        ensures failed { self.new.failed ≡ is_err result }
+    {
+        let written = self.writer.write_fmt(text).map_err(|_| Failed);
         self.has_failed = written.is_err();
         written
     }
