@@ -17,5 +17,5 @@ pub use helpers::{Helpers, NoAllocation};
 pub use outcome::{Outcome, Stuck};
 pub use running::run;
 pub use semantics::{HEADROOM, MAX_DATAGRAM, TAILROOM};
-pub use sink::{KEPT, Kept, Lines, Silent, Sink};
+pub use sink::{KEPT, Kept, Silent, Sink};
 pub use tracing::trace;

@@ -5,9 +5,9 @@ ghost use Rattle.semantics.specs.declared.fetching.Visit.{Visit};
 use insn::Insn;
 use semantics::Visit;
 use std::alloc::{AllocError, Global};
-use std::io;
 use std::io::Write;
 use std::marker::Model;
+use streams::Output;
 
 /// Receives the steps of a trace, in order.
 pub trait Sink {
@@ -100,61 +100,20 @@ impl Sink for Kept {
     }
 }
 
-/// A sink that writes each step as a line: the slot and the instruction. It keeps the first fault of its writer, and
-/// writes nothing more after it.
-#[derive(Drop)]
-pub struct Lines<'a, W: Write> {
-    writer: &'a mut W,
-    fault: Option<io::Error>,
-}
+/// An output is a sink that writes each step as a line: the slot and the instruction. It writes nothing once it has failed.
+impl<W: Write> Sink for Output<W> {
+    ghost use Rattle.streams.specs.Outputs.{OutputState};
+    ghost use Rattle.machine.specs.Lines.{WritesLine};
 
-impl<'a, W: Write> Lines<'a, W> {
-    ghost use Rattle.std.specs.Prelude.{◌≡◌, Some, None, MatchResult};
+    ghost Log = { OutputState };
 
-    /// Returns a sink that writes to `writer`, without a fault.
-    pub fn new(writer: &'a mut W) -> Lines<'a, W>
-        ensures same_writer { result.writer.ghost_name ≡ writer.entry.ghost_name }
-        ensures writer { result.writer.now ≡ writer.old }
-        ensures fault { result.fault ≡ None }
-    {
-        Lines {
-            writer,
-            fault: None,
-        }
-    }
-
-    /// Ends the writing of lines.
-    ///
-    /// # Errors
-    /// The first fault that the writer had.
-    pub fn finish(self) -> io::Result<()>
-        ensures fault { MatchResult result (λ _. self.entry.fault ≡ None) (λ e. self.entry.fault ≡ Some e) }
-        ensures left { self.exit.0.now ≡ self.entry.writer.now }
-    {
-        let Lines { fault, .. } = self;
-        match fault {
-            None => Ok(()),
-            Some(fault) => Err(fault),
-        }
-    }
-}
-
-impl<W: Write> Sink for Lines<'_, W> {
-    ghost use Rattle.machine.specs.Lines.{WriterState, WritesLine};
-
-    ghost Log = { WriterState };
-
-    ghost log = { λ l. record {
-      writer = l.writer.ghost_name;
-      contents = W.contents l.writer.now;
-      fault = l.fault;
-    } };
+    ghost log = { λ o. o };
 
     ghost Logs = { WritesLine };
 
     fn step(&mut self, slot: usize, insn: &Insn) {
-        if self.fault.is_none() {
-            self.fault = writeln!(self.writer, "{slot} {insn}").err();
+        if !self.has_failed() {
+            let _ = writeln!(self, "{slot} {insn}");
         }
     }
 }

@@ -18,6 +18,7 @@ use machine::{Addr, Context, Frame, Helpers, MAX_DATAGRAM, Outcome, Side, run};
 use report::{Ask, report};
 use std::process::Abort;
 use std::test::Fail;
+use streams::Output;
 
 /// Assembles the text of a program to the bytes of its file.
 pub fn assembled<R: AllocGlobal>(rt: &R, text: &str) -> Result<Vec<u8>, Fail> {
@@ -43,10 +44,14 @@ pub struct Printed {
 
 /// Returns the report on a program file.
 pub fn reported<R: AllocGlobal>(rt: &R, ask: Ask<'_>, file: &[u8]) -> Printed {
-    let mut out = Vec::new(rt.alloc());
+    let mut out = Output::new(Vec::new(rt.alloc()));
     let mut err = Vec::new(rt.alloc());
     let status = report(rt.alloc(), ask, file, &mut out, &mut err);
-    Printed { status, out, err }
+    Printed {
+        status,
+        out: out.into_inner(),
+        err,
+    }
 }
 
 /// What a report should print to each stream, and its status.

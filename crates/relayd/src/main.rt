@@ -33,6 +33,7 @@ use std::process::ExitCode;
 use std::random::RandomSource;
 use std::rt::{Clock, Env, Files};
 use std::{env, fs};
+use streams::Output;
 
 /// The exit status where a file cannot be read or written.
 const FILE_FAULT: u8 = 3;
@@ -89,7 +90,7 @@ fn report_file<R: Files + Input + Print + AllocGlobal, E: Write>(
         Err(_) => return fail_at(err, "read", path),
     };
     match BufWriter::new(rt.alloc(), io::writer(rt)) {
-        Ok(mut out) => report(rt.alloc(), ask, &file, &mut out, err),
+        Ok(out) => report(rt.alloc(), ask, &file, &mut Output::new(out), err),
         Err(_) => fail(err, ReportError::Memory),
     }
 }

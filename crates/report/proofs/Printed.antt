@@ -1,7 +1,6 @@
 -- The status and the text of a printed trace, from how its run ended.
-use Rattle.std.proofs.Common.{◌≡◌, ℕ, true, false, List, Option, Result, Ok, Err, IfOk, IfErr, OnOk, MatchResult, Bor, arith, inl, inr, sym, ap, ◌∙◌, subst}
+use Rattle.std.proofs.Common.{◌≡◌, ℕ, List, Option, Result, Ok, Err, IfOk, IfErr, OnOk, MatchResult, Bor, arith, inl, inr, sym, ap, ◌∙◌, subst}
 use Rattle.std.specs.Io.KnownBytes.{Appends}
-use Rattle.std.specs.Result.{is_ok}
 use Rattle.insn.specs.Encoding.{Encodes}
 use Rattle.insn.specs.declared.instruction.Insn.{Insn}
 use Rattle.semantics.specs.Runs as runs
@@ -83,11 +82,3 @@ module _ (hex : Option (Bor (List ℕ))) (file : List ℕ) (code : List Insn) (d
   pub trace_sticks : (ended : Result Outcome Stuck) → IfErr ended (λ s. r.ending ≡ runs.Stuck s.reason s.slot) → IfErr ended (λ s. PrintsRefusal (Trace hex) file)
   trace_sticks (Ok o) stuck = tt
   trace_sticks (Err s) stuck = ends_so IsStuck (subst IsStuck (sym stuck) tt)
-
--- where a call succeeded, what holds of its success
-pub of_success : {A E : Type 0} (P : Type 0) (Q : E → Type 0) (result : Result A E) → MatchResult result (λ _. P) Q → is_ok result ≡ true → P
-of_success P Q (Ok x) h e = h
-of_success P Q (Err x) h e = absurd (no_true e)
-  where
-    no_true : false ≡ true → ⊥
-    no_true e = absurd cc

@@ -1,5 +1,5 @@
 -- Meaning. What the exit status says about the program file and the data.
-use Rattle.std.specs.Prelude.{◌≡◌, ◌⊎◌, ℕ, List, Option}
+use Rattle.std.specs.Prelude.{◌≡◌, ◌⊎◌, ℕ, Bool, true, false, List, Option, Result, Ok, Err}
 use Rattle.std.specs.Io.KnownBytes.{Appends, Keeps}
 use Rattle.insn.specs.Encoding.{Encodes}
 use Rattle.insn.specs.declared.instruction.Insn.{Insn}
@@ -24,6 +24,15 @@ status_of (error.Program e) = 1
 status_of (error.Text e) = 1
 status_of error.Output = 3
 status_of error.Memory = 4
+
+-- whether an error says that the output has failed
+abbrev pub is_output_failure : {T : Type 0} → Result T ReportError → Bool
+is_output_failure (Ok x) = false
+is_output_failure (Err error.Data) = false
+is_output_failure (Err (error.Program e)) = false
+is_output_failure (Err (error.Text e)) = false
+is_output_failure (Err error.Output) = true
+is_output_failure (Err error.Memory) = false
 
 -- the file encodes a safe program
 abbrev pub IsSafeFile : List ℕ → Type 0

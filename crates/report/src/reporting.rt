@@ -1,16 +1,16 @@
 //! Prints the reports of `verify`, `trace` and `disassemble` on a program file, and returns their exit statuses.
 
-ghost use Rattle.std.specs.Prelude.{◌≡◌, ◌⊎◌, ◌≤◌, ◌<◌, IfOk, IfErr, OnOk, MatchResult, string_bytes, true};
+ghost use Rattle.std.specs.Prelude.{◌≡◌, ◌==◌, ◌⊎◌, ◌≤◌, ◌<◌, IfOk, IfErr, OnOk, MatchResult, string_bytes, true, false};
 ghost use Rattle.std.specs.Io.KnownBytes.{Appends};
 ghost use Rattle.insn.specs.Encoding.{Encodes, slot_count};
 ghost use Rattle.insn.specs.declared.decoding.TheConstants.{MAX_SLOTS};
 ghost use Rattle.machine.specs.Contents.{datagram_of};
 ghost use Rattle.machine.specs.Contexts.{context_of};
 ghost use Rattle.report.specs.Traces.{digits_of, trace_context, EncodeDatagram, HasNoDatagram};
-ghost use Rattle.report.specs.declared.error.ReportError.TheVariants.{Data, Output};
+ghost use Rattle.report.specs.declared.error.ReportError.TheVariants as errors;
 ghost use Rattle.report.specs.declared.reporting.Ask.TheVariants.{Disassemble, Trace, Verify};
 ghost use Rattle.report.specs.Statuses.{IsNoProgram, IsPrinted, IsRefusal, IsUnwritten, IsReportWritten, MayFail, Succeeds};
-ghost use Rattle.report.specs.Statuses.{Writes, WritesIfRefused};
+ghost use Rattle.report.specs.Statuses.{is_output_failure, Writes, WritesIfRefused};
 ghost use Rattle.report.specs.Texts.{end_text, program_text};
 
 use crate::error::{ReportError, fail};
@@ -18,11 +18,10 @@ use crate::text::{Destination, Window};
 use disasm::{disassemble, disassemble_with_slots};
 use insn::{DecodeError, Insn, decode};
 use loader::{LoadError, load};
-use machine::{
-    Addr, Context, Frame, Lines, MAX_DATAGRAM, NoAllocation, Outcome, Side, Stuck, trace,
-};
+use machine::{Addr, Context, Frame, MAX_DATAGRAM, NoAllocation, Outcome, Side, Stuck, trace};
 use std::alloc::{AllocError, Global};
 use std::io::Write;
+use streams::Output;
 use verifier::Refusal;
 
 /// The report to print on a program file.
@@ -56,10 +55,16 @@ macro_rules! line {
 
 /// Prints whether the program may be loaded, and returns the status.
 /// See docs/DECISIONS.md, "One form of a count".
-fn report_verify<W: Write>(alloc: Global, file: &[u8], out: &mut W) -> Result<u8, ReportError>
+fn report_verify<W: Write>(
+    alloc: Global,
+    file: &[u8],
+    out: &mut Output<W>,
+) -> Result<u8, ReportError>
+    requires { out.old.failed ≡ false }
     ensures printed { IfOk result (IsPrinted Verify file.now) }
-    ensures written { IfOk result (IsReportWritten Verify file.now (W.contents out.old) (W.contents out.new)) }
-    ensures failed { IfErr result (MayFail Verify file.now) }
+    ensures written { IfOk result (IsReportWritten Verify file.now out.old.contents out.new.contents) }
+    ensures why { IfErr result (MayFail Verify file.now) }
+    ensures failed { out.new.failed ≡ is_output_failure result }
 {
     match load(alloc, file) {
         Ok(loaded) => {
@@ -81,7 +86,7 @@ fn fill(frame: &mut Frame, hex: Option<&str>) -> Result<(), ReportError>
     ensures started { OnOk result (frame.new.is_started ≡ true) }
     ensures context { OnOk result (context_of frame.new.context ≡ trace_context) }
     ensures datagram { OnOk result (EncodeDatagram (digits_of hex.entry) (datagram_of frame.new)) }
-    ensures refused { IfErr result (λ e. (e ≡ Data) × HasNoDatagram (digits_of hex.entry)) }
+    ensures refused { IfErr result (λ e. (e ≡ errors.Data) × HasNoDatagram (digits_of hex.entry)) }
 {
     let digits = hex.unwrap_or("").as_bytes();
     let n = digits.len() / 2;
@@ -99,10 +104,15 @@ fn fill(frame: &mut Frame, hex: Option<&str>) -> Result<(), ReportError>
 }
 
 /// Prints how a traced run ended, and returns the status.
-fn report_end<W: Write>(ended: Result<Outcome, Stuck>, out: &mut W) -> Result<u8, ReportError>
+fn report_end<W: Write>(
+    ended: Result<Outcome, Stuck>,
+    out: &mut Output<W>,
+) -> Result<u8, ReportError>
+    requires { out.old.failed ≡ false }
     ensures printed { IfOk result (λ status. MatchResult ended (λ o. status ≡ 0) (λ e. status ≡ 1)) }
-    ensures written { OnOk result (Appends (W.contents out.old) (W.contents out.new) (end_text ended)) }
-    ensures failed { IfErr result (λ e. e ≡ Output) }
+    ensures written { OnOk result (Appends out.old.contents out.new.contents (end_text ended)) }
+    ensures why { IfErr result (λ e. e ≡ errors.Output) }
+    ensures failed { out.new.failed ≡ is_output_failure result }
 {
     let outcome = match ended {
         Ok(outcome) => outcome,
@@ -122,6 +132,7 @@ fn report_end<W: Write>(ended: Result<Outcome, Stuck>, out: &mut W) -> Result<u8
 fn program(alloc: Global, file: &[u8]) -> Result<Vec<Insn>, ReportError>
     ensures found { IfOk result (λ code. Encodes code.items file.now) }
     ensures refused { IfErr result (IsNoProgram file.now) }
+    ensures going { is_output_failure result ≡ false }
 {
     match decode(alloc, file) {
         Ok(code) => Ok(code),
@@ -147,12 +158,14 @@ fn report_disassembly<W: Write>(
     alloc: Global,
     slots: bool,
     file: &[u8],
-    out: &mut W,
+    out: &mut Output<W>,
 ) -> Result<u8, ReportError>
+    requires { out.old.failed ≡ false }
     ensures printed { IfOk result (IsPrinted (Disassemble slots) file.now) }
-    ensures written { IfOk result (IsReportWritten (Disassemble slots) file.now (W.contents out.old) (W.contents out.new)) }
-    ensures unwritten { IfErr result (IsUnwritten (W.contents out.old) (W.contents out.new)) }
-    ensures failed { IfErr result (MayFail (Disassemble slots) file.now) }
+    ensures written { IfOk result (IsReportWritten (Disassemble slots) file.now out.old.contents out.new.contents) }
+    ensures unwritten { IfErr result (IsUnwritten out.old.contents out.new.contents) }
+    ensures why { IfErr result (MayFail (Disassemble slots) file.now) }
+    ensures failed { out.new.failed ≡ is_output_failure result }
 {
     let code = program(alloc, file)?;
     let text = text_of(alloc, &code, slots).map_err(|_| ReportError::Memory)?;
@@ -172,7 +185,8 @@ fn prepare(
     ensures context { OnOk result (context_of frame.new.context ≡ trace_context) }
     ensures datagram { OnOk result (EncodeDatagram (digits_of hex.entry) (datagram_of frame.new)) }
     ensures found { IfOk result (λ code. Encodes code.items file.now) }
-    ensures failed { IfErr result (MayFail (Trace hex.entry) file.now) }
+    ensures why { IfErr result (MayFail (Trace hex.entry) file.now) }
+    ensures going { is_output_failure result ≡ false }
 {
     fill(frame, hex)?;
     program(alloc, file)
@@ -183,27 +197,37 @@ fn report_trace<W: Write>(
     alloc: Global,
     hex: Option<&str>,
     file: &[u8],
-    out: &mut W,
+    out: &mut Output<W>,
 ) -> Result<u8, ReportError>
+    requires { out.old.failed ≡ false }
     ensures printed { IfOk result (IsPrinted (Trace hex.entry) file.now) }
-    ensures written { IfOk result (IsReportWritten (Trace hex.entry) file.now (W.contents out.old) (W.contents out.new)) }
-    ensures unwritten { IfErr result (IsUnwritten (W.contents out.old) (W.contents out.new)) }
-    ensures failed { IfErr result (MayFail (Trace hex.entry) file.now) }
+    ensures written { IfOk result (IsReportWritten (Trace hex.entry) file.now out.old.contents out.new.contents) }
+    ensures unwritten { IfErr result (IsUnwritten out.old.contents out.new.contents) }
+    ensures why { IfErr result (MayFail (Trace hex.entry) file.now) }
+    ensures failed { out.new.failed ≡ is_output_failure result }
 {
     let mut frame = Frame::new(alloc).map_err(|_| ReportError::Memory)?;
     let code = prepare(alloc, &mut frame, hex, file)?;
-    let mut lines = Lines::new(&mut *out);
-    let ended = trace(&code, &mut frame, &NoAllocation, &mut lines);
-    lines.finish().map_err(|_| ReportError::Output)?;
+    let ended = trace(&code, &mut frame, &NoAllocation, out);
+    if out.has_failed() {
+        return Err(ReportError::Output);
+    }
     report_end(ended, out)
 }
 
 /// Prints the report, flushes the output and returns the status.
-fn print<W: Write>(alloc: Global, ask: Ask<'_>, file: &[u8], out: &mut W) -> Result<u8, ReportError>
+fn print<W: Write>(
+    alloc: Global,
+    ask: Ask<'_>,
+    file: &[u8],
+    out: &mut Output<W>,
+) -> Result<u8, ReportError>
+    requires { out.old.failed ≡ false }
     ensures printed { IfOk result (IsPrinted ask.entry file.now) }
-    ensures written { IfOk result (IsReportWritten ask.entry file.now (W.contents out.old) (W.contents out.new)) }
-    ensures unwritten { IfErr result (IsUnwritten (W.contents out.old) (W.contents out.new)) }
-    ensures failed { IfErr result (MayFail ask.entry file.now) }
+    ensures written { IfOk result (IsReportWritten ask.entry file.now out.old.contents out.new.contents) }
+    ensures unwritten { IfErr result (IsUnwritten out.old.contents out.new.contents) }
+    ensures why { IfErr result (MayFail ask.entry file.now) }
+    ensures failed { out.new.failed ≡ is_output_failure result }
 {
     let status = match ask {
         Ask::Verify => report_verify(alloc, file, out)?,
@@ -220,7 +244,7 @@ fn print<W: Write>(alloc: Global, ask: Ask<'_>, file: &[u8], out: &mut W) -> Res
 /// - 0 if the program may be loaded, if its traced run exits, or if its text is printed.
 /// - 1 if the program is refused, if its traced run gets stuck, or if the digits or the file of a trace
 ///   or a disassembly are refused; the digits are tested first.
-/// - 3 if the output cannot be written. A trace or a text is only printed if neither the digits nor the
+/// - 3 if, and only if, the output fails. A trace or a text is only printed if neither the digits nor the
 ///   file are refused.
 /// - 4 if memory runs out.
 /// See docs/DECISIONS.md, "The output is flushed once".
@@ -228,16 +252,18 @@ pub fn report<W: Write, E: Write>(
     alloc: Global,
     ask: Ask<'_>,
     file: &[u8],
-    out: &mut W,
+    out: &mut Output<W>,
     err: &mut E,
 ) -> u8
+    requires { out.old.failed ≡ false }
     ensures range { (result ≡ 0) ⊎ ((result ≡ 1) ⊎ ((result ≡ 3) ⊎ (result ≡ 4))) }
     ensures success { result ≡ 0 → Succeeds ask.entry file.now }
-    ensures written { result ≡ 0 → Writes ask.entry file.now (W.contents out.old) (W.contents out.new) }
+    ensures written { result ≡ 0 → Writes ask.entry file.now out.old.contents out.new.contents }
     ensures refusal { result ≡ 1 → IsRefusal ask.entry file.now }
     ensures written_refusal { result ≡ 1
-        → WritesIfRefused ask.entry file.now (W.contents out.old) (W.contents out.new) }
-    ensures output { result ≡ 3 → MayFail ask.entry file.now Output }
+        → WritesIfRefused ask.entry file.now out.old.contents out.new.contents }
+    ensures output { result ≡ 3 → MayFail ask.entry file.now errors.Output }
+    ensures failed { out.new.failed ≡ (result == 3) }
 {
     match print(alloc, ask, file, out) {
         Ok(status) => status,

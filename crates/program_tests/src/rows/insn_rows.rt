@@ -3,9 +3,10 @@
 use super::decoded;
 use disasm::disassemble;
 use insn::{Insn, decode, encode, read_back};
-use machine::{Lines, Sink};
+use machine::Sink;
 use std::process::Abort;
 use std::test::Fail;
+use streams::Output;
 
 /// Encoded instructions, and their lines.
 #[derive(Clone, Copy)]
@@ -219,12 +220,11 @@ static SPELLED: [Spelled; 25] = [
 
 /// Compares the lines of a trace with those of the text, each after its slot.
 fn expect_traced<R: Abort + AllocGlobal>(rt: &R, code: &[Insn], text: &str) -> Result<(), Fail> {
-    let mut traced = Vec::new(rt.alloc());
-    let mut lines = Lines::new(&mut traced);
+    let mut output = Output::new(Vec::new(rt.alloc()));
     for insn in code {
-        lines.step(7, insn);
+        output.step(7, insn);
     }
-    lines.finish()?;
+    let traced = output.into_inner();
     let mut wanted = String::new(rt.alloc());
     for line in text.lines() {
         writeln!(wanted, "7 {line}")?;

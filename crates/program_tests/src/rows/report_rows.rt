@@ -2,12 +2,13 @@
 
 use super::{Expected, assembled, decoded, expect_printed, reported};
 use insn::Insn;
-use machine::{Lines, Sink};
+use machine::Sink;
 use report::{Ask, report};
 use std::alloc::Global;
 use std::io::{self, Write};
 use std::process::Abort;
 use std::test::Fail;
+use streams::Output;
 
 const EXITS_WITH_TWO: &str = "mov r0, 2\nexit";
 
@@ -256,13 +257,14 @@ impl Write for Holding {
 
 /// Returns what a report on a file has flushed to its output.
 fn flushed(alloc: Global, ask: Ask<'_>, file: &[u8]) -> Vec<u8> {
-    let mut out = Holding {
+    let mut out = Output::new(Holding {
         held: Vec::new(alloc),
         flushed: Vec::new(alloc),
-    };
+    });
     let mut err = Vec::new(alloc);
     report(alloc, ask, file, &mut out, &mut err);
-    out.flushed
+    let holding = out.into_inner();
+    holding.flushed
 }
 
 /// Reports on each row, and compares what is printed and flushed, and the status.
@@ -427,18 +429,19 @@ static ROOMS: [Room; 4] = [
 fn expect_failures<R: Abort + AllocGlobal>(rt: &R, ask: Ask<'_>, file: &[u8], rows: &[Room]) {
     for row in rows {
         let room = row.room;
-        let mut out = Failing { room, failures: 0 };
+        let mut out = Output::new(Failing { room, failures: 0 });
         let mut err = Vec::new(rt.alloc());
         let status = report(rt.alloc(), ask, file, &mut out, &mut err);
         assert_eq!(rt; err.as_slice(), row.err.as_bytes(), "{ask:?} {room}");
         assert_eq!(rt; status, row.status, "{ask:?} {room}");
-        assert_eq!(rt; out.failures, row.failures, "{ask:?} {room}");
+        let failures = out.into_inner().failures;
+        assert_eq!(rt; failures, row.failures, "{ask:?} {room}");
     }
 }
 
 /// Returns the status of a report where the line of an error cannot be printed.
 fn status_without_a_line<R: AllocGlobal>(rt: &R, ask: Ask<'_>, file: &[u8], room: usize) -> u8 {
-    let mut out = Failing { room, failures: 0 };
+    let mut out = Output::new(Failing { room, failures: 0 });
     let mut err = Failing {
         room: 0,
         failures: 0,
@@ -468,18 +471,17 @@ fn expect_failing_outputs<R: Abort + AllocGlobal>(rt: &R) -> Result<(), Fail> {
     Ok(())
 }
 
-/// Reports four steps to a sink of lines whose writer fails at the second line: it writes nothing more.
+/// Reports four steps to an output whose writer fails at the second line: it writes nothing more.
 fn expect_lines_to_stop<R: Abort>(rt: &R) {
-    let mut out = Failing {
+    let mut output = Output::new(Failing {
         room: 7,
         failures: 0,
-    };
-    let mut lines = Lines::new(&mut out);
+    });
     for slot in 0..4 {
-        lines.step(slot, &Insn::Exit);
+        output.step(slot, &Insn::Exit);
     }
-    assert!(rt; lines.finish().is_err());
-    assert_eq!(rt; out.failures, 1);
+    assert!(rt; output.has_failed());
+    assert_eq!(rt; output.into_inner().failures, 1);
 }
 
 #[test]

@@ -1,6 +1,5 @@
-use Rattle.std.proofs.Common.{rules, ◌≡◌, ◌∙◌, sym, None, Some, IfOk, IfErr, OnOk, ap, subst}
+use Rattle.std.proofs.Common.{rules, ◌≡◌, false, IfOk, IfErr, OnOk, ap}
 use Rattle.std.specs.Io.KnownBytes.{Appends}
-use Rattle.std.specs.Result.{is_ok}
 use Rattle.insn.specs.Encoding.{Encodes}
 use Rattle.semantics.specs.Machine.{Context}
 use Rattle.helpers.specs.Nothing.{empty_answer}
@@ -12,7 +11,7 @@ use Rattle.report.specs.Texts.{end_text}
 use Rattle.report.specs.Traces.{traced_run}
 use Rattle.report.specs.Statuses.{PrintsRefusal, Succeeds}
 use Rattle.report.specs.declared.reporting.Ask.TheVariants.{Trace}
-use Rattle.report.proofs.Printed.{ended_printed, trace_written, trace_exits, trace_sticks, of_success}
+use Rattle.report.proofs.Printed.{ended_printed, trace_written, trace_exits, trace_sticks}
 use Rattle.report.proofs.reporting.report_trace.Goals as goal
 
 pub returns-clause-printed : goal.returns-clause-printed
@@ -30,9 +29,9 @@ returns-clause-written g c =
     let code = c.deref.result.now in
     let run = run_of code c.prepare.new.frame empty_answer in
     let lines = lines_written _ run.path _ c.trace-ended.ensures.reported in
-    let clean : c.trace-ended.new.sink.fault ≡ None = of_success (c.trace-ended.new.sink.fault ≡ None) (λ e. c.trace-ended.new.sink.fault ≡ Some e) c.finish.result c.finish.ensures.fault (sym c.map_err-2.ensures.variant ∙ ap is_ok c.in_ok-map_err.was) in
-    let steps : Appends (g.W.Write.contents c.args.out.now) (g.W.Write.contents c.trace-ended.new.sink.writer.now) (step_lines run.path) = subst (λ w. Appends (g.W.Write.contents w) (g.W.Write.contents c.trace-ended.new.sink.writer.now) (step_lines run.path)) c.new-lines.ensures.writer (lines.written clean) in
+    let going : c.trace-ended.new.sink.failed ≡ false = search rules in
+    let steps : Appends c.args.out.now.contents c.trace-ended.new.sink.contents (step_lines run.path) = lines.written going in
     let encodes : Encodes code c.args.file.now = search rules in
     let same : run ≡ traced_run code (datagram_of c.prepare.new.frame) = ap (λ (q : Context). run_over (environment_around q empty_answer) code (datagram_of c.prepare.new.frame)) c.in_ok-code.ensures.context in
-    let ending : OnOk c.report_end.result (Appends (g.W.Write.contents c.trace-ended.new.sink.writer.now) (g.W.Write.contents c.report_end.new.out) (end_text c.trace-ended.result)) = search rules in
+    let ending : OnOk c.report_end.result (Appends c.trace-ended.new.sink.contents c.report_end.new.out.contents (end_text c.trace-ended.result)) = search rules in
     trace_written c.args.hex c.args.file.now code (datagram_of c.prepare.new.frame) run encodes c.in_ok-code.ensures.datagram same _ _ _ c.trace-ended.result c.report_end.result c.trace-ended.ensures.ok c.trace-ended.ensures.err steps ending c.report_end.ensures.printed
