@@ -7,15 +7,14 @@ refused, and datagrams that are discarded: 172 datagrams in a session come to th
 import os
 import pathlib
 import random
-import subprocess
 import sys
 import tempfile
 
-from program import TOP, build, finish
-from rules import (
+from lib.program import build, finish, preloadable
+from lib.rules import (
     ALLOCATE, BINDING, CREATE_PERMISSION, DATA, DATA_INDICATION, LIFETIME, REFRESH, SEND, TRANSPORT, XOR_PEER_ADDRESS,
     address_value, message, read)
-from serve import Client, Server, address_of, channel_data, code_of, exchange, udp_socket, wanted
+from lib.server import Client, Server, address_of, channel_data, code_of, exchange, udp_socket, wanted
 
 # the sessions, and the batches of ChannelData in each
 SESSIONS, BATCHES, BATCH = 100, 10, 8
@@ -65,9 +64,7 @@ def main():
     build()
     with tempfile.TemporaryDirectory() as folder_name:
         folder = pathlib.Path(folder_name)
-        library = folder / "refuse_malloc.so"
-        source = TOP / "tests" / "refuse_malloc.c"
-        subprocess.run(["gcc", "-O1", "-Wall", "-shared", "-fPIC", "-o", library, source, "-ldl"], check=True)
+        library = preloadable(folder, "refuse_malloc")
         failures = list(failures_of_sessions(library, folder / "count"))
     return finish(failures, f"allocations while serving {SESSIONS} sessions: {len(failures)} failures")
 

@@ -16,10 +16,10 @@ import sys
 import tempfile
 
 import relaying
-from private_peers import answered, octets, private_rows, with_peers
-from program import TOP, build, finish
+from lib.private_peers import answered, octets, private_rows, with_peers
+from lib.program import TOP, build, finish
 from relaying import IP6, SLOTS, USERS, compare, systematic, systematic6
-from rules import DATA, XOR_PEER_ADDRESS, Rules, read
+from lib.rules import DATA, XOR_PEER_ADDRESS, Rules, read
 
 FOLDER = TOP / "examples" / "c"
 COMPILED = FOLDER / "compiled"

@@ -12,7 +12,7 @@ import sys
 import tempfile
 
 from memory import LIMIT
-from program import PROGRAM, TOP, build, explained, finish, run
+from lib.program import PROGRAM, TOP, build, explained, finish, run
 from run_agrees import assembled, text_of
 
 EXAMPLES = TOP / "examples"

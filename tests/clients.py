@@ -17,9 +17,9 @@ import tempfile
 import threading
 import time
 
-from program import TOP, build, finish
-from rules import XOR_RELAYED_ADDRESS, address_in
-from serve import LOOPBACK, Client, Server, udp_socket, wanted
+from lib.program import TOP, build, finish
+from lib.rules import XOR_RELAYED_ADDRESS, address_in
+from lib.server import LOOPBACK, Client, Server, udp_socket, wanted
 
 HERE = TOP / "tests" / "clients"
 sys.path.append(str(HERE))

@@ -18,9 +18,9 @@ import tempfile
 
 import refusals
 from memory import over_additions
-from program import TOP, build, explained, finish, run
-from rules import BINDING, CREATE_PERMISSION, NONCE, REFRESH
-from serve import (
+from lib.program import assembled, build, explained, finish, preloadable, shipped
+from lib.rules import BINDING, CREATE_PERMISSION, NONCE, REFRESH
+from lib.server import (
     BAD, DISCARD, Client, Server, address_of, channel_data, code_of, comes, counters, passed, put, udp_socket, wanted)
 
 SECOND = 10**9
@@ -62,9 +62,7 @@ class Clocks:
     """The clocks of a server: they stand still until they are set."""
 
     def __init__(self, folder):
-        self.library, path = folder / "set_clocks.so", folder / "clocks"
-        command = ["gcc", "-O1", "-Wall", "-shared", "-fPIC", "-o", self.library, TOP / "tests" / "set_clocks.c"]
-        subprocess.run(command, check=True)
+        self.library, path = preloadable(folder, "set_clocks"), folder / "clocks"
         self.file = open(path, "wb")
         self.environment = {**os.environ, "LD_PRELOAD": str(self.library), "CLOCKS": str(path)}
         self.set(REAL, MONOTONIC)
@@ -251,14 +249,9 @@ def replacements(good, messages):
 
 def replaced_programs(clocks, folder):
     """Yields what happens otherwise than said where the files of programs are changed, each a second after the last."""
-    text, bytes_of = folder / "messages.s", folder / "messages"
-    text.write_text(MESSAGES, encoding="utf-8")
-    run(["assemble", text, bytes_of])
-    good = {side: folder / side for side in ("client", "peer")}
-    for side, path in good.items():
-        run(["assemble", TOP / "examples" / "relay" / f"{side}.s", path])
-    good = {side: path.read_bytes() for side, path in good.items()}
-    for number, (begun, steps) in enumerate(replacements(good, bytes_of.read_bytes())):
+    messages = assembled(folder, "messages", MESSAGES).read_bytes()
+    good = {side: shipped(folder, side).read_bytes() for side in ("client", "peer")}
+    for number, (begun, steps) in enumerate(replacements(good, messages)):
         paths = {side: folder / f"{side}{number}" for side in begun}
         for side, data in begun.items():
             put(paths[side], data)

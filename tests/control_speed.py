@@ -11,7 +11,7 @@ import subprocess
 import sys
 import time
 
-from program import TOP, run
+from lib.program import TOP, run
 
 FOLDER = TOP / "crates" / "control_speed"
 PROGRAM = FOLDER / "out" / "control_speed"

@@ -11,7 +11,7 @@ names. There are no more test functions, edits that must fail and parameters of 
 import re
 import sys
 
-from program import TOP, finish
+from lib.program import TOP, finish
 
 CRATES = TOP / "crates"
 KINDS = ("-- Meaning. ", "-- Interface. ", "-- Internal. ")

@@ -12,7 +12,7 @@ import subprocess
 import sys
 import tempfile
 
-from program import PROGRAM, TOP, build, finish
+from lib.program import PROGRAM, TOP, build, finish, preloadable
 
 EXAMPLES = TOP / "examples"
 EVENTS = (EXAMPLES / "session.events").read_bytes()
@@ -69,9 +69,7 @@ def main():
     """Runs every case, and returns the exit status."""
     build()
     with tempfile.TemporaryDirectory() as folder:
-        library = str(pathlib.Path(folder) / "fail_io.so")
-        source = TOP / "tests" / "fail_io.c"
-        subprocess.run(["gcc", "-O1", "-Wall", "-shared", "-fPIC", "-o", library, source, "-ldl"], check=True)
+        library = str(preloadable(pathlib.Path(folder), "fail_io"))
         end, answers, _ = ran(library)
         failures = [] if end == (0, b"") and answers else [f"whole reads and writes: {end}"]
         failures += failures_of_short(library, answers)

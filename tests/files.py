@@ -8,7 +8,7 @@ import pathlib
 import sys
 import tempfile
 
-from program import PROGRAM, explained, finish, run
+from lib.program import PROGRAM, explained, finish, run
 
 # `mov r0, 2` and `exit`
 GOOD = bytes.fromhex("b700000002000000 9500000000000000")

@@ -18,7 +18,7 @@ import threading
 import time
 from typing import NamedTuple
 
-from program import TOP
+from lib.program import TOP
 
 STEPS = ("proof", "tests", "base", "edits")
 TICKS = os.sysconf("SC_CLK_TCK")

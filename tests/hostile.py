@@ -15,9 +15,9 @@ import sys
 import tempfile
 import time
 
-from program import PROGRAM, build, finish
-from rules import ALLOCATE, BINDING, CHANNEL_BIND, CHANNEL_NUMBER, CREATE_PERMISSION, message
-from serve import (
+from lib.program import PROGRAM, build, finish
+from lib.rules import ALLOCATE, BINDING, CHANNEL_BIND, CHANNEL_NUMBER, CREATE_PERMISSION, message
+from lib.server import (
     CHANNEL, LOOPBACK, UDP, USER, Client, Server, address_of, channel_data, code_of, comes, counters, fault_line,
     free_ports, full_pipe, put, udp_socket, wanted)
 

@@ -6,7 +6,7 @@ those that the kernel expects.
 
 import sys
 
-from kernel import exit_failure, line_of_verify, opcodes, run_each, vectors_of
+from lib.kernel import exit_failure, line_of_verify, opcodes, run_each, vectors_of
 
 
 def failure_of(vector, program):

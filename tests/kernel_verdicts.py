@@ -8,8 +8,8 @@ the kernel and this profile differ, and no other one.
 import re
 import sys
 
-from kernel import exit_failure, line_of_verify, opcodes, run_each, vectors_of
-from program import TOP
+from lib.kernel import exit_failure, line_of_verify, opcodes, run_each, vectors_of
+from lib.program import TOP
 
 ROW = re.compile(r"^\| `(.+?)` \| (accepts|rejects) \| `?(accepted|[EV]\d+ at \d+)`? \|", re.MULTILINE)
 

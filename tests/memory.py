@@ -12,7 +12,7 @@ import resource
 import sys
 import tempfile
 
-from program import PROGRAM, build, explained, finish, run
+from lib.program import PROGRAM, build, explained, finish, run
 
 # `ldxdw r2, [r1+0]`, `ldxb r5, [r2-1]`, `mov r0, 0`: a byte of which nothing is known
 BYTE = bytes.fromhex("7912000000000000 7125ffff00000000 b700000000000000")

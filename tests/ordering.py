@@ -12,8 +12,8 @@ import sys
 import tempfile
 
 import relaying
-from private_peers import with_peers
-from program import TOP, build, finish, run
+from lib.private_peers import with_peers
+from lib.program import TOP, assembled, build, finish, run
 from relaying import IP6, compare, systematic, systematic6
 
 SEEDS = 20
@@ -88,16 +88,6 @@ def shuffled(path, source):
     rest = blocks[1:]
     source.shuffle(rest)
     return "\n".join(line for block in [blocks[0], *rest] for line in block)
-
-
-def assembled(folder, name, text):
-    """Assembles a text and returns the file."""
-    source, target = folder / f"{name}.s", folder / f"{name}.bpf"
-    source.write_text(text + "\n", encoding="utf-8")
-    status, _, err = run(["assemble", source, target])
-    if status:
-        sys.exit(f"{name}: {err}{text}")
-    return target
 
 
 def order(folder, path):

@@ -14,7 +14,7 @@ import subprocess
 import sys
 import tempfile
 
-from program import TOP, finish, run
+from lib.program import TOP, finish, run
 
 PAGES = [TOP / "README.md", *sorted((TOP / "docs").glob("*.md")), *sorted((TOP / "crates").glob("*/README.md"))]
 BLOCK = re.compile(r"^```(asm|console|sh)\n(.*?)^```$", re.MULTILINE | re.DOTALL)

@@ -10,7 +10,7 @@ import re
 import sys
 import tempfile
 
-from program import TOP, explained, finish, run
+from lib.program import TOP, explained, finish, run
 
 ROW = re.compile(r"^\| ([A-Z]\d+) \|.*\|([^|]*)\|$", re.MULTILINE)
 # a line, or lines in parentheses, and how often they are repeated

@@ -14,8 +14,8 @@ import subprocess
 import sys
 import tempfile
 
-from program import PROGRAM, TOP, build, finish, run
-from serve import free_ports
+from lib.program import PROGRAM, TOP, build, finish, preloadable, run
+from lib.server import free_ports
 
 EXAMPLES = TOP / "examples"
 FOURTH_BYTE = str(EXAMPLES / "fourth_byte.bpf")
@@ -191,10 +191,7 @@ def main():
     """Runs every case, and returns the exit status."""
     build()
     with tempfile.TemporaryDirectory() as folder:
-        library = str(pathlib.Path(folder) / "refuse_malloc.so")
-        source = TOP / "tests" / "refuse_malloc.c"
-        command = ["gcc", "-O1", "-Wall", "-shared", "-fPIC", "-o", library, source, "-ldl"]
-        subprocess.run(command, check=True)
+        library = str(preloadable(pathlib.Path(folder), "refuse_malloc"))
         checks = [failures_of(words, status, library) for words, status in CASES]
         checks += [failures_of_repeated(library), failures_of_calls(library)]
     failures = [failure for found, _ in checks for failure in found]

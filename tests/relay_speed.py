@@ -11,9 +11,9 @@ import subprocess
 import sys
 import time
 
-from program import PROGRAM as RELAYD
-from program import TOP, build
-from rules import (
+from lib.program import PROGRAM as RELAYD
+from lib.program import TOP, build
+from lib.rules import (
     ALLOCATE, CHANNEL_BIND, CHANNEL_NUMBER, CREATE_PERMISSION, LIFETIME, NONCE, REALM, TRANSPORT, USERNAME,
     XOR_PEER_ADDRESS, address_value, key_of, line_of, message)
 

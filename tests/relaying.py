@@ -16,8 +16,8 @@ import sys
 import tempfile
 from pathlib import Path
 
-from program import build, finish, run
-from rules import (
+from lib.program import assembled, build, finish, run
+from lib.rules import (
     ALLOCATE, BINDING, CHANNEL_BIND, CHANNEL_NUMBER, CREATE_PERMISSION, DATA, FAMILY, IPV4, LIFETIME, NONCE, REALM, REFRESH, SEND,
     TRANSPORT, USERNAME, XOR_PEER_ADDRESS, Rules, address_value, answer_line, event_of, family_of, key_of, line_of, message)
 
@@ -322,15 +322,6 @@ WRITES = """
 end:
     exit
 """
-
-
-def assembled(folder, name, text):
-    """Assembles a text, and returns the path of the program."""
-    (folder / f"{name}.s").write_text(text)
-    status, _, err = run(["assemble", folder / f"{name}.s", folder / f"{name}.bpf"])
-    if status != 0:
-        raise SystemExit(f"{name}: {err}")
-    return folder / f"{name}.bpf"
 
 
 def allocated():

@@ -9,11 +9,11 @@ import pathlib
 import sys
 import tempfile
 
-from program import TOP, explained, finish, run
+from lib.program import TOP, explained, finish, run
 
 sys.path.insert(0, str(TOP / "examples"))
 import events
-from rules import (
+from lib.rules import (
     DATA, ERROR_CODE, FAMILY, LIFETIME, NONCE, REALM, SEND, TRANSPORT, UNKNOWN_ATTRIBUTES, USERNAME, XOR_MAPPED_ADDRESS,
     XOR_PEER_ADDRESS, XOR_RELAYED_ADDRESS, address_value, key_of, message)
 

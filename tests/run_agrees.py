@@ -14,8 +14,8 @@ import subprocess
 import sys
 import tempfile
 
-from kernel import vectors_of
-from program import TOP, build, finish, run
+from lib.kernel import vectors_of
+from lib.program import TOP, build, finish, run
 from verdicts import rows
 
 FOLDER = TOP / "crates" / "run_agrees"

@@ -13,7 +13,7 @@ import sys
 import tempfile
 from typing import NamedTuple
 
-from program import TOP, build, run
+from lib.program import TOP, assembled, build
 
 FOLDER = TOP / "crates" / "run_speed"
 PROGRAM = FOLDER / "out" / "run_speed"
@@ -67,16 +67,10 @@ KINDS = {
 }
 
 
-def assembled(folder, text):
+def digits_of(folder, program):
     """Returns the bytes of a text, or of a file of a program, in hexadecimal digits."""
-    if isinstance(text, pathlib.Path):
-        return text.read_bytes().hex()
-    source, target = folder / "text.s", folder / "program.bpf"
-    source.write_text(text, encoding="utf-8")
-    status, _, err = run(["assemble", source, target])
-    if status:
-        sys.exit(f"{text}{err}")
-    return target.read_bytes().hex()
+    file = program if isinstance(program, pathlib.Path) else assembled(folder, "program", program)
+    return file.read_bytes().hex()
 
 
 def printed(words):
@@ -143,7 +137,7 @@ def main():
         for tool, flags in zip(tools, ([], ["-DTHREADED"])):
             subprocess.run(["gcc", "-O2", *flags, "-o", tool, SOURCE], check=True)
         for title, side, text, datagram in programs():
-            taken = measure(tools, side, assembled(folder, text), datagram)
+            taken = measure(tools, side, digits_of(folder, text), datagram)
             print(f"{title}: {taken.steps} steps, a start {taken.start:.1f} ns, a run {taken.run:.1f}, "
                   f"{taken.run / taken.steps:.2f} an instruction; in C {taken.switch:.1f} and threaded {taken.threaded:.1f}; "
                   f"ratios {taken.run / taken.switch:.2f} and {taken.run / taken.threaded:.2f}", flush=True)

@@ -8,13 +8,10 @@ Receives that fail or stop the server need gcc; what can't be tried is named in 
 
 import collections
 import contextlib
-import hashlib
-import hmac
 import itertools
 import os
 import pathlib
 import random
-import re
 import shutil
 import signal
 import socket
@@ -24,31 +21,21 @@ import sys
 import tempfile
 import time
 
-import program
-from program import PROGRAM, TOP, build, explained, finish
-from rules import (
-    ALLOCATE, BINDING, CHANNEL_BIND, CHANNEL_NUMBER, CREATE_PERMISSION, DATA, DATA_INDICATION, ERROR_CODE, FAMILY, INTEGRITY,
-    LIFETIME, NONCE, REALM, REFRESH, SEND, TRANSPORT, USERNAME, XOR_MAPPED_ADDRESS, XOR_PEER_ADDRESS,
-    XOR_RELAYED_ADDRESS, address_in, address_value, key_of, message, read)
+from lib.program import PROGRAM, TOP, assembled, build, explained, finish, preloadable, shipped
+from lib.rules import (
+    ALLOCATE, BINDING, CREATE_PERMISSION, DATA, DATA_INDICATION, FAMILY, LIFETIME, NONCE, REALM, REFRESH, SEND, XOR_MAPPED_ADDRESS,
+    XOR_PEER_ADDRESS, XOR_RELAYED_ADDRESS, address_in, address_value, message, read)
+from lib.server import (
+    BAD, DISCARD, LOOPBACK, LOOPBACK6, PERIOD, UDP, USER, Client, Server, address_of, channel_data, code_of, counters, exchange,
+    fault_line, free_ports, full_pipe, passed, put, round_trip, run, started, udp_socket, wanted, without_buffers)
 from worst_programs import known_programs
 
-LOOPBACK = bytes([127, 0, 0, 1])
-LOOPBACK6 = bytes(15) + b"\1"
-UDP = TRANSPORT, bytes([17, 0, 0, 0])
-USER = ["--user", "u:p"]
-KEY = key_of("u", "relay", "p")
-CHANNEL = 0x4000
-# `mov r0, 0` and `exit`: every datagram is discarded
-DISCARD = bytes.fromhex("b700000000000000 9500000000000000")
-# `exit`, which is refused since r0 is not set
-BAD = bytes.fromhex("9500000000000000")
 CLIENTS, DATAGRAMS, BATCH = 10, 200_000, 40
 # programs whose verification takes seconds, the round trips that are made meanwhile, and how long one may take, in seconds: a
 # server verifies for a quarter of a millisecond between two turns, and other processes take their time too
 SLOW = "sums in the last register", "marks with a chain", "64 pointers, 32 states, and 4,000 jumps"
 SLOWEST = "pointers on the stack"
 ROUND_TRIPS, MOST_TRIPS, LATE = 10_000, 1_000_000, 0.1
-PERIOD = 1.0  # seconds: how often a server looks at what is due
 # The receives that fail, counted from the start. With two slots the first three are one at each socket, where nothing
 # has come yet; the next is that of the first datagram, and the one after it would find nothing more.
 FAILED_RECEIVES = range(1, 6)
@@ -58,278 +45,12 @@ BATCH_OF_REQUESTS, FAILED_AHEAD = 10, (15, 19, 25)
 # A receive amid the first turn of a batch of requests: after the first three come two for each of the three requests that
 # make an allocation with a channel, and then those of the batch.
 STOPPED_RECEIVE = 3 + 2 * 3 + 32
-# Preloaded into a program, makes receive number FAIL_RECEIVE fail, and stops the program before receive number STOP_RECEIVE.
-# The file LOADED has a line for each receive, with the port of its socket and the socket's family, AF_INET or AF_INET6.
-RECEIVES = r"""
-#define _GNU_SOURCE
-#include <dlfcn.h>
-#include <errno.h>
-#include <fcntl.h>
-#include <netinet/in.h>
-#include <signal.h>
-#include <stdio.h>
-#include <stdlib.h>
-#include <sys/socket.h>
-#include <unistd.h>
-
-static int loaded;
-
-__attribute__((constructor)) static void begin(void) {
-  loaded = open(getenv("LOADED"), O_CREAT | O_APPEND | O_WRONLY, 0600);
-  if (loaded < 0)
-    _exit(99);
-}
-
-static void log_receive(int fd) {
-  struct sockaddr_in6 own;
-  socklen_t length = sizeof own;
-  if (getsockname(fd, (struct sockaddr *)&own, &length) == 0)
-    dprintf(loaded, "%d %d\n", ntohs(own.sin6_port), own.sin6_family);
-}
-
-static int is_chosen(const char *variable, unsigned long count) {
-  const char *number = getenv(variable);
-  return number && strtoul(number, NULL, 10) == count;
-}
-
-ssize_t recvfrom(int fd, void *bytes, size_t size, int flags, struct sockaddr *from, socklen_t *length) {
-  static ssize_t (*real)(int, void *, size_t, int, struct sockaddr *, socklen_t *);
-  static unsigned long count;
-  if (!real)
-    real = (ssize_t(*)(int, void *, size_t, int, struct sockaddr *, socklen_t *))dlsym(RTLD_NEXT, "recvfrom");
-  count++;
-  log_receive(fd);
-  if (is_chosen("FAIL_RECEIVE", count)) {
-    errno = ECONNREFUSED;
-    return -1;
-  }
-  if (is_chosen("STOP_RECEIVE", count))
-    raise(SIGSTOP);
-  return real(fd, bytes, size, flags, from, length);
-}
-"""
 # the Data indications whose transaction ids are looked at
 INDICATIONS = 40
 # the most slots, and those that are used when all are allocated
 MOST_SLOTS, USED_SLOTS = 256, (0, 69, 254, 255)
 # what can't be tried here, each with its reason
 PASSED_OVER = []
-
-
-def without_buffers(printed):
-    """What a server printed, without the line that says how small the system's limits make its buffers."""
-    return re.sub(r"\Abuffers of \d+ bytes, not .*\n", "", printed)
-
-
-def run(words, **options):
-    """Runs the program, and returns its status and what it printed, without the line of buffers."""
-    status, out, err = program.run(words, **options)
-    return status, out, err and without_buffers(err)
-
-
-def udp_socket(port=0, address="127.0.0.1"):
-    """A socket of loopback, of either family, whose receives give up after five seconds."""
-    bound = socket.socket(socket.AF_INET6 if ":" in address else socket.AF_INET, socket.SOCK_DGRAM)
-    bound.settimeout(5)
-    try:
-        bound.bind((address, port))
-    except OSError:
-        bound.close()
-        raise
-    return bound
-
-
-def address_of(bound):
-    """The address of a socket, as messages have it."""
-    return LOOPBACK if bound.family == socket.AF_INET else LOOPBACK6, bound.getsockname()[1]
-
-
-def free_ports(count, address="127.0.0.1"):
-    """The first of `count` ports that are free at an address, below the range that the system gives out."""
-    while True:
-        first = random.randrange(20_000, 32_000)
-        with contextlib.ExitStack() as stack, contextlib.suppress(OSError):
-            for port in range(first, first + count):
-                stack.enter_context(udp_socket(port, address))
-            return first
-
-
-class Server:
-    """A running server."""
-
-    def __init__(self, *words, slots=2, env=None):
-        for _ in range(10):
-            self.first_port = free_ports(slots)
-            self.errors = tempfile.TemporaryFile("w+")
-            ports = ["--port", "0", "--first-port", str(self.first_port), "--slots", str(slots)]
-            self.process = subprocess.Popen(
-                [PROGRAM, "serve", *ports, *USER, *words], env=env,
-                stdout=subprocess.PIPE, stderr=self.errors, text=True)
-            line = self.process.stdout.readline()
-            if line.startswith("listening 127.0.0.1:"):
-                self.port = int(line.rpartition(":")[2])
-                return
-            self.end()
-        raise RuntimeError("no server started")
-
-    def __enter__(self):
-        return self
-
-    def __exit__(self, *_):
-        self.end()
-
-    def end(self):
-        """Ends the server by a signal, and returns its status."""
-        self.process.send_signal(signal.SIGTERM)
-        self.process.stdout.close()
-        return self.process.wait(5)
-
-    @contextlib.contextmanager
-    def stopped(self, by_itself=False):
-        """Stops the server while it waits, so that it finds at once all that has come meanwhile; or lets it stop itself."""
-        if not by_itself:
-            self.becomes("S")
-            self.process.send_signal(signal.SIGSTOP)
-        self.becomes("T")
-        try:
-            yield
-        finally:
-            self.process.send_signal(signal.SIGCONT)
-
-    def becomes(self, state):
-        """Waits until the process is in a state: S where it sleeps, T where it is stopped."""
-        end = time.monotonic() + 5
-        while self.stat()[0] != state:
-            if time.monotonic() > end:
-                raise RuntimeError(f"a server is in the state {self.stat()[0]}, and not in {state}")
-            time.sleep(0.001)
-
-    def printed(self):
-        """What was printed to the standard error so far, without the line of buffers."""
-        return without_buffers(self.all_printed())
-
-    def all_printed(self):
-        """All that was printed to the standard error so far."""
-        return os.pread(self.errors.fileno(), 1 << 20, 0).decode()
-
-    def awaited(self, text, count=1):
-        """How often a text came to the standard error, once it came this often or a few periods are over."""
-        end = time.monotonic() + 5 * PERIOD
-        while self.printed().count(text) < count and time.monotonic() < end:
-            time.sleep(0.02)
-        return self.printed().count(text)
-
-    def stat(self):
-        """What the system knows of the process, from its state on."""
-        return pathlib.Path(f"/proc/{self.process.pid}/stat").read_text().rpartition(")")[2].split()
-
-    def ticks(self):
-        """The processor time so far, in clock ticks."""
-        fields = self.stat()
-        return int(fields[11]) + int(fields[12])
-
-    def memory(self):
-        """The memory in use, in kB, but for pages of files, which the system may take and give."""
-        status = pathlib.Path(f"/proc/{self.process.pid}/status").read_text()
-        return next(int(line.split()[1]) for line in status.splitlines() if line.startswith("RssAnon"))
-
-
-class Client:
-    """A client of a server."""
-
-    def __init__(self, server):
-        self.server, self.socket = ("127.0.0.1", server.port), udp_socket()
-        self.nonce = None
-
-    def __enter__(self):
-        return self
-
-    def __exit__(self, *_):
-        self.socket.close()
-
-    def send(self, data):
-        self.socket.sendto(data, self.server)
-
-    def receive(self):
-        return self.socket.recv(65_535)
-
-    def ask(self, kind, given, key=None, peer=None):
-        """Sends a request, with the address of a peer if there is one, and returns its response: of its transaction, and signed
-        where it grants a signed one."""
-        tx = random.randbytes(12)
-        peers = [] if peer is None else [(XOR_PEER_ADDRESS, address_value(peer, tx))]
-        self.send(message(kind, tx, peers + given, key))
-        answer = read(self.receive())
-        if answer is None or answer.tx != tx or answer.kind & 0x3EEF != kind:
-            raise ValueError(f"{kind:#06x} is not answered")
-        if key and answer.kind == kind | 0x100:
-            if answer.first(INTEGRITY) != hmac.new(key, answer.covered, hashlib.sha1).digest():
-                raise ValueError(f"{kind:#06x} is answered with a wrong code")
-        return answer
-
-    def signed(self, kind, given, peer=None):
-        """Sends a signed request, and returns its response."""
-        return self.ask(kind, [*given, (USERNAME, b"u"), (REALM, b"relay"), (NONCE, self.nonce)], KEY, peer)
-
-    def challenge(self):
-        """Asks for an allocation without credentials, keeps the nonce, and returns the response."""
-        answer = self.ask(ALLOCATE, [UDP])
-        self.nonce = answer.first(NONCE)
-        return answer
-
-    def allocate(self, *given):
-        """Allocates, and returns the response."""
-        self.challenge()
-        return self.signed(ALLOCATE, [UDP, *given])
-
-    def bind(self, peer):
-        """Binds the channel to a peer, and returns the response."""
-        return self.signed(CHANNEL_BIND, [(CHANNEL_NUMBER, struct.pack(">HH", CHANNEL, 0))], peer)
-
-    def send_to(self, peer, data):
-        """Sends data to a peer in a Send indication."""
-        tx = random.randbytes(12)
-        self.send(message(SEND, tx, [(XOR_PEER_ADDRESS, address_value(peer, tx)), (DATA, data)]))
-
-
-def channel_data(data):
-    return struct.pack(">HH", CHANNEL, len(data)) + data
-
-
-def code_of(answer):
-    """The error code of a response; 0 of a success."""
-    value = answer.first(ERROR_CODE)
-    return 0 if value is None else value[2] * 100 + value[3]
-
-
-def wanted(what, found, expected):
-    """Yields what was found in place of what was expected."""
-    if found != expected:
-        yield f"{what}: {found!r} in place of {expected!r}"
-
-
-def started(port, first, last, address="127.0.0.1", relayed=("127.0.0.1",)):
-    """The lines of a server that begins, with the ports of its clients and of its first and last slot."""
-    return f"listening {address}:{port}\n" + "".join(f"relaying {ip}:{first} to {last}\n" for ip in relayed)
-
-
-def fault_line(receive=0, send=0):
-    """The line of receives and sends that failed."""
-    return f"receive faults {receive} send faults {send}\n"
-
-
-def counters(from_clients=0, from_peers=0, to_peers=0, to_clients=0, granted=0, challenged=0, refused=0,
-             discarded=(0, 0, 0, 0), receive_faults=0, send_faults=0, denied=0):
-    """The line of counters.
-
-    What is discarded is ChannelData, messages and others of clients, and what comes from peers.
-    """
-    of_channels, messages, others, of_peers = discarded
-    return (f"received from clients {from_clients} peers {from_peers}, "
-            f"relayed to peers {to_peers} clients {to_clients}, "
-            f"granted {granted} challenged {challenged} refused {refused}, "
-            f"discarded channel data {of_channels} messages {messages} others {others} from peers {of_peers}, "
-            f"receive faults {receive_faults} send faults {send_faults}, denied {denied} dropped 0\n")
 
 
 # ---- command lines and sockets
@@ -454,17 +175,6 @@ def default_ports():
         with contextlib.suppress(OSError):  # someone else has it
             stack.enter_context(udp_socket(49152))
         yield from wanted("slot 0's port in use", run(words), cannot_bind)
-
-
-def full_pipe():
-    """The ends of a pipe that has no room: a write to it waits until something is read."""
-    read_end, write_end = os.pipe()
-    os.set_blocking(write_end, False)
-    with contextlib.suppress(BlockingIOError):
-        while True:
-            os.write(write_end, bytes(4096))
-    os.set_blocking(write_end, True)
-    return read_end, write_end
 
 
 def counted_rounds():
@@ -673,12 +383,12 @@ def faults():
 def preloading(what):
     """Yields the environment in which the program's receives can fail and can stop it, or None where that can't be had."""
     with tempfile.TemporaryDirectory() as name:
-        library, loaded = f"{name}/receives.so", pathlib.Path(name) / "loaded"
-        environment = {**os.environ, "LD_PRELOAD": library, "LOADED": str(loaded)}
+        folder = pathlib.Path(name)
+        library, loaded = folder / "receives.so", folder / "loaded"
+        environment = {**os.environ, "LD_PRELOAD": str(library), "LOADED": str(loaded)}
         why = "no gcc"
         if shutil.which("gcc"):
-            words = ["gcc", "-O1", "-Wall", "-shared", "-fPIC", "-o", library, "-x", "c", "-", "-ldl"]
-            subprocess.run(words, input=RECEIVES, text=True, check=True)
+            preloadable(folder, "receives")
             subprocess.run([PROGRAM, "--help"], env=environment, stdout=subprocess.DEVNULL, check=True)
             why = "a program that loads no library"
         if not loaded.exists():
@@ -774,33 +484,6 @@ def nonces():
         yield from wanted("a new nonce", code_of(answer), 0)
 
 
-def comes(receiver, data, expected):
-    """Whether a datagram comes to a socket: one that is expected is given more time."""
-    receiver.settimeout(5 if expected else 0.3)
-    try:
-        return receiver.recv(100) == data
-    except TimeoutError:
-        return False
-    finally:
-        receiver.settimeout(5)
-
-
-def passed(server, client, peer, expected):
-    """Whether ChannelData comes to the peer, and data of the peer to the client; which of them are expected is given."""
-    token = random.randbytes(8)
-    client.send(channel_data(token))
-    there = comes(peer, token, expected[0])
-    peer.sendto(token, ("127.0.0.1", server.first_port))
-    return there, comes(client.socket, channel_data(token), expected[1])
-
-
-def put(path, data):
-    """Writes a file whole: a new one takes its name."""
-    new = path.with_suffix(".new")
-    new.write_bytes(data)
-    new.rename(path)
-
-
 def replacements(paths, good):
     """The steps in which files are changed.
 
@@ -831,9 +514,7 @@ def replacements(paths, good):
 def replaced_programs():
     """Yields what happens otherwise than said where the files of programs are changed."""
     with tempfile.TemporaryDirectory() as name:
-        paths = {side: pathlib.Path(name) / side for side in ("client", "peer")}
-        for side, path in paths.items():
-            run(["assemble", TOP / "examples" / "relay" / f"{side}.s", path])
+        paths = {side: shipped(pathlib.Path(name), side) for side in ("client", "peer")}
         good = {side: path.read_bytes() for side, path in paths.items()}
         printed = collections.Counter()
         options = ["--client", str(paths["client"]), "--peer", str(paths["peer"])]
@@ -858,33 +539,17 @@ def replaced_programs():
             yield from wanted("the allocation", code_of(client.signed(REFRESH, [])), 0)
 
 
-def round_trip(client, peer, relayed, data):
-    """Sends data to the peer and back, and returns how long both took, or None where one is lost."""
-    start = time.perf_counter()
-    try:
-        client.send(channel_data(data))
-        there = peer.recv(100) == data
-        peer.sendto(data, relayed)
-        back = client.receive() == channel_data(data)
-    except TimeoutError:
-        return None
-    return time.perf_counter() - start if there and back else None
-
-
 def slow_programs():
     """Yields what is lost, or late, of datagrams that come while programs are verified that take long."""
     with tempfile.TemporaryDirectory() as name:
         folder = pathlib.Path(name)
-        path, text = folder / "client", folder / "text.s"
-        run(["assemble", TOP / "examples" / "relay" / "client.s", path])
+        path = shipped(folder, "client")
         with Server("--client", str(path)) as server, Client(server) as client, udp_socket() as peer:
             client.allocate()
             client.bind(address_of(peer))
             relayed = ("127.0.0.1", server.first_port)
             for title in SLOW:
-                text.write_text("\n".join(known_programs()[title]) + "\n", encoding="utf-8")
-                run(["assemble", text, folder / "slow"])
-                put(path, (folder / "slow").read_bytes())
+                put(path, assembled(folder, "slow", "\n".join(known_programs()[title])).read_bytes())
                 refusals = server.printed().count("refused V17")
                 trips = []
                 while len(trips) < ROUND_TRIPS or (len(trips) < MOST_TRIPS and server.printed().count("refused V17") == refusals):
@@ -902,12 +567,9 @@ def withdrawn_programs():
     it is verified: the new one runs."""
     with tempfile.TemporaryDirectory() as name:
         folder = pathlib.Path(name)
-        paths = {side: folder / side for side in ("client", "peer")}
-        for side, path in paths.items():
-            run(["assemble", TOP / "examples" / "relay" / f"{side}.s", path])
-        good, text, slow = paths["peer"].read_bytes(), folder / "text.s", folder / "slow"
-        text.write_text("\n".join(known_programs()[SLOWEST]) + "\n", encoding="utf-8")
-        run(["assemble", text, slow])
+        paths = {side: shipped(folder, side) for side in ("client", "peer")}
+        good = paths["peer"].read_bytes()
+        slow = assembled(folder, "slow", "\n".join(known_programs()[SLOWEST]))
         with Server("--client", str(paths["client"]), "--peer", str(paths["peer"])) as server:
             with server.stopped():
                 put(paths["client"], DISCARD)
@@ -973,20 +635,6 @@ def ahead():
 
 
 # ---- many datagrams
-
-def exchange(pairs, batch):
-    """Sends a batch to the peers and back, each datagram by the next client, and returns how many came.
-
-    A pair is a client, its peer and the relayed address, to which the peer answers.
-    """
-    sent = list(zip(batch, itertools.cycle(pairs)))
-    for data, (client, _, _) in sent:
-        client.send(channel_data(data))
-    came = sum(peer.recv(2000) == data for data, (_, peer, _) in sent)
-    for data, (_, peer, relayed) in sent:
-        peer.sendto(data, relayed)
-    return came + sum(client.receive() == channel_data(data) for data, (client, _, _) in sent)
-
 
 def many():
     """Yields what is lost of many datagrams of several clients, and what they leave in memory."""

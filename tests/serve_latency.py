@@ -11,8 +11,8 @@ import struct
 import sys
 import tempfile
 
-from program import TOP, build, finish
-from serve import Client, Server, address_of, put, round_trip, run, udp_socket
+from lib.program import assembled, build, finish, shipped
+from lib.server import Client, Server, address_of, put, round_trip, run, udp_socket
 from worst_programs import known_programs
 
 TRIPS = 10_000
@@ -38,15 +38,13 @@ def main():
     failures = []
     with tempfile.TemporaryDirectory() as name:
         folder = pathlib.Path(name)
-        path, text, slow = folder / "client", folder / "text.s", folder / "slow"
-        run(["assemble", TOP / "examples" / "relay" / "client.s", path])
+        path = shipped(folder, "client")
         with Server("--client", str(path)) as server, Client(server) as client, udp_socket() as peer:
             client.allocate()
             client.bind(address_of(peer))
             relayed = ("127.0.0.1", server.first_port)
             for title, lines in known_programs().items():
-                text.write_text("\n".join(lines) + "\n", encoding="utf-8")
-                run(["assemble", text, slow])
+                slow = assembled(folder, "slow", "\n".join(lines))
                 if run(["verify", slow])[0] == 0:
                     continue
                 before, lost_before = trips(count, client, peer, relayed)

@@ -21,9 +21,9 @@ import sys
 import tempfile
 import time
 
-from program import TOP, build
-from rules import REFRESH
-from serve import Client, Server, code_of, free_ports
+from lib.program import TOP, build
+from lib.rules import REFRESH
+from lib.server import Client, Server, code_of, free_ports
 
 SOURCE = TOP / "tests" / "serve_speed.c"
 ROUNDS = 5

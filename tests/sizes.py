@@ -7,7 +7,7 @@ import pathlib
 import sys
 import tempfile
 
-from program import finish, run
+from lib.program import finish, run
 
 # the slots of the greatest program
 SLOTS = 4096

@@ -21,9 +21,9 @@ import sys
 import tempfile
 import time
 
-from program import PROGRAM, TOP, build, run
-from rules import ALLOCATE, BINDING, DATA, REFRESH, SEND, USERNAME, XOR_PEER_ADDRESS, address_value, message
-from serve import KEY, LOOPBACK, UDP, USER, Client, address_of, channel_data, code_of, free_ports, put, udp_socket
+from lib.program import PROGRAM, TOP, assembled, build
+from lib.rules import ALLOCATE, BINDING, DATA, REFRESH, SEND, USERNAME, XOR_PEER_ADDRESS, address_value, message
+from lib.server import LOOPBACK, UDP, USER, Client, address_of, channel_data, code_of, free_ports, put, udp_socket
 
 SLOTS = 256
 MINUTES = 60
@@ -93,12 +93,8 @@ class Programs:
     def replace(self):
         self.count += 1
         for side, text in self.texts.items():
-            source, target = self.folder / f"{side}.s", self.folder / f"{side}.made"
-            source.write_text(PADDING.format(self.count % 7) + text, encoding="utf-8")
-            status, _, err = run(["assemble", source, target])
-            if status:
-                raise RuntimeError(err)
-            put(self.folder / f"{side}.bpf", target.read_bytes())
+            made = assembled(self.folder, f"{side}_made", PADDING.format(self.count % 7) + text)
+            put(self.folder / f"{side}.bpf", made.read_bytes())
 
     def options(self):
         return [word for side in self.texts for word in (f"--{side}", str(self.folder / f"{side}.bpf"))]

@@ -12,7 +12,7 @@ import sys
 import tempfile
 import time
 
-from program import PROGRAM, build, run
+from lib.program import PROGRAM, build, run
 
 ROUNDS = 7
 MOV = bytes.fromhex("b700000000000000")

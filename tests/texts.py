@@ -9,7 +9,7 @@ import pathlib
 import sys
 import tempfile
 
-from program import TOP, finish, run
+from lib.program import TOP, finish, run
 
 # a text, what `assemble` prints of it to standard error; the status is 1
 REFUSED = [

@@ -7,7 +7,7 @@ import pathlib
 import sys
 import tempfile
 
-from program import finish, run
+from lib.program import assembled, finish, run
 
 # `ldxw`: 0 or 1, and any number of 32 bits
 SIDE = "ldxw r2, [r1+44]"
@@ -114,13 +114,8 @@ def rows():
 
 def printed(folder, program, *command):
     """Returns what relayd prints of a program by a command."""
-    text, file = folder / "text.s", folder / "file.bpf"
-    text.write_text("".join(f"{line}\n" for line in program), encoding="utf-8")
-    status, out, err = run(["assemble", text, file])
-    if status:
-        return out + err
     name, *options = command
-    return run([name, file, *options])[1]
+    return run([name, assembled(folder, "file", "".join(f"{line}\n" for line in program)), *options])[1]
 
 
 def main():

@@ -13,7 +13,7 @@ import tempfile
 from concurrent.futures import ThreadPoolExecutor
 from pathlib import Path
 
-from program import TOP
+from lib.program import TOP
 
 CRATES = TOP / "crates"
 WALKED = TOP / "tests" / "walked_tables"

@@ -14,7 +14,7 @@ import subprocess
 import sys
 import tempfile
 
-from program import PROGRAM, build, finish, run
+from lib.program import PROGRAM, assembled, build, finish
 
 # bounds of a verification: processor time in seconds, and memory in MiB, of which the process itself takes a few
 MOST_SECONDS, MOST_MEMORY = 4, 150
@@ -135,11 +135,7 @@ def drawn(seed):
 
 def measure(folder, text):
     """Returns what the verification of a text prints, and its processor time and greatest memory."""
-    source, target = folder / "text.s", folder / "program.bpf"
-    source.write_text("\n".join(text) + "\n", encoding="utf-8")
-    status, _, err = run(["assemble", source, target])
-    if status:
-        sys.exit(err)
+    target = assembled(folder, "program", "\n".join(text) + "\n")
     code = ("import resource, subprocess, sys\n"
             "ran = subprocess.run(sys.argv[1:], capture_output=True, text=True)\n"
             "used = resource.getrusage(resource.RUSAGE_CHILDREN)\n"

@@ -3,8 +3,9 @@
 import functools
 import pathlib
 import subprocess
+import sys
 
-TOP = pathlib.Path(__file__).resolve().parent.parent
+TOP = pathlib.Path(__file__).resolve().parents[2]
 # the script that builds relayd where it is not there or too old, and starts it
 SCRIPT = TOP / "relayd"
 # the program itself, for a test that restricts the process
@@ -28,6 +29,28 @@ def run(words, program=None, **options):
     pipes = {"stdout": subprocess.PIPE, "stderr": subprocess.PIPE, **options}
     ran = subprocess.run([program, *words], text=True, check=False, **pipes)
     return ran.returncode, ran.stdout, ran.stderr
+
+
+def assembled(folder, name, text):
+    """Assembles a text to a file of this name in a folder, and returns its path. A text that is refused ends the test."""
+    source, target = folder / f"{name}.s", folder / f"{name}.bpf"
+    source.write_text(text, encoding="utf-8")
+    status, out, err = run(["assemble", source, target])
+    if status:
+        sys.exit(f"{name}: {out}{err}{text}")
+    return target
+
+
+def shipped(folder, side):
+    """Assembles the shipped program of a side to a file of a folder, and returns its path."""
+    return assembled(folder, side, (TOP / "examples" / "relay" / f"{side}.s").read_text(encoding="utf-8"))
+
+
+def preloadable(folder, name):
+    """Compiles preloaded/NAME.c to a library in a folder, which a program can be run with by LD_PRELOAD, and returns its path."""
+    source, library = TOP / "tests" / "preloaded" / f"{name}.c", folder / f"{name}.so"
+    subprocess.run(["gcc", "-O1", "-Wall", "-shared", "-fPIC", "-o", library, source, "-ldl"], check=True)
+    return library
 
 
 def explained(path):

@@ -1,7 +1,7 @@
 """Events among peers in private networks and outside of them, and the rules where nothing is sent to the first."""
 
 import relaying
-from rules import (
+from lib.rules import (
     ALLOCATE, CHANNEL_BIND, CHANNEL_NUMBER, CREATE_PERMISSION, DATA, SEND, TRANSPORT, XOR_PEER_ADDRESS, Rules, address_value,
     answer_line, event_of, line_of, message)
 

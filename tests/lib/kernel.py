@@ -4,7 +4,7 @@ import json
 import pathlib
 import tempfile
 
-from program import TOP, finish, run
+from lib.program import TOP, finish, run
 
 LDDW = 0x18
 

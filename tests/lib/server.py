@@ -1,0 +1,315 @@
+"""A server of the built relayd and its clients, over sockets of loopback."""
+
+import contextlib
+import hashlib
+import hmac
+import itertools
+import os
+import pathlib
+import random
+import re
+import signal
+import socket
+import struct
+import subprocess
+import tempfile
+import time
+
+from lib import program
+from lib.program import PROGRAM
+from lib.rules import (
+    ALLOCATE, CHANNEL_BIND, CHANNEL_NUMBER, DATA, ERROR_CODE, INTEGRITY, NONCE, REALM, SEND, TRANSPORT, USERNAME,
+    XOR_PEER_ADDRESS, address_value, key_of, message, read)
+
+LOOPBACK = bytes([127, 0, 0, 1])
+LOOPBACK6 = bytes(15) + b"\1"
+UDP = TRANSPORT, bytes([17, 0, 0, 0])
+USER = ["--user", "u:p"]
+KEY = key_of("u", "relay", "p")
+CHANNEL = 0x4000
+# `mov r0, 0` and `exit`: every datagram is discarded
+DISCARD = bytes.fromhex("b700000000000000 9500000000000000")
+# `exit`, which is refused since r0 is not set
+BAD = bytes.fromhex("9500000000000000")
+PERIOD = 1.0  # seconds: how often a server looks at what is due
+
+
+def without_buffers(printed):
+    """What a server printed, without the line that says how small the system's limits make its buffers."""
+    return re.sub(r"\Abuffers of \d+ bytes, not .*\n", "", printed)
+
+
+def run(words, **options):
+    """Runs the program, and returns its status and what it printed, without the line of buffers."""
+    status, out, err = program.run(words, **options)
+    return status, out, err and without_buffers(err)
+
+
+def udp_socket(port=0, address="127.0.0.1"):
+    """A socket of loopback, of either family, whose receives give up after five seconds."""
+    bound = socket.socket(socket.AF_INET6 if ":" in address else socket.AF_INET, socket.SOCK_DGRAM)
+    bound.settimeout(5)
+    try:
+        bound.bind((address, port))
+    except OSError:
+        bound.close()
+        raise
+    return bound
+
+
+def address_of(bound):
+    """The address of a socket, as messages have it."""
+    return LOOPBACK if bound.family == socket.AF_INET else LOOPBACK6, bound.getsockname()[1]
+
+
+def free_ports(count, address="127.0.0.1"):
+    """The first of `count` ports that are free at an address, below the range that the system gives out."""
+    while True:
+        first = random.randrange(20_000, 32_000)
+        with contextlib.ExitStack() as stack, contextlib.suppress(OSError):
+            for port in range(first, first + count):
+                stack.enter_context(udp_socket(port, address))
+            return first
+
+
+class Server:
+    """A running server."""
+
+    def __init__(self, *words, slots=2, env=None):
+        for _ in range(10):
+            self.first_port = free_ports(slots)
+            self.errors = tempfile.TemporaryFile("w+")
+            ports = ["--port", "0", "--first-port", str(self.first_port), "--slots", str(slots)]
+            self.process = subprocess.Popen(
+                [PROGRAM, "serve", *ports, *USER, *words], env=env,
+                stdout=subprocess.PIPE, stderr=self.errors, text=True)
+            line = self.process.stdout.readline()
+            if line.startswith("listening 127.0.0.1:"):
+                self.port = int(line.rpartition(":")[2])
+                return
+            self.end()
+        raise RuntimeError("no server started")
+
+    def __enter__(self):
+        return self
+
+    def __exit__(self, *_):
+        self.end()
+
+    def end(self):
+        """Ends the server by a signal, and returns its status."""
+        self.process.send_signal(signal.SIGTERM)
+        self.process.stdout.close()
+        return self.process.wait(5)
+
+    @contextlib.contextmanager
+    def stopped(self, by_itself=False):
+        """Stops the server while it waits, so that it finds at once all that has come meanwhile; or lets it stop itself."""
+        if not by_itself:
+            self.becomes("S")
+            self.process.send_signal(signal.SIGSTOP)
+        self.becomes("T")
+        try:
+            yield
+        finally:
+            self.process.send_signal(signal.SIGCONT)
+
+    def becomes(self, state):
+        """Waits until the process is in a state: S where it sleeps, T where it is stopped."""
+        end = time.monotonic() + 5
+        while self.stat()[0] != state:
+            if time.monotonic() > end:
+                raise RuntimeError(f"a server is in the state {self.stat()[0]}, and not in {state}")
+            time.sleep(0.001)
+
+    def printed(self):
+        """What was printed to the standard error so far, without the line of buffers."""
+        return without_buffers(self.all_printed())
+
+    def all_printed(self):
+        """All that was printed to the standard error so far."""
+        return os.pread(self.errors.fileno(), 1 << 20, 0).decode()
+
+    def awaited(self, text, count=1):
+        """How often a text came to the standard error, once it came this often or a few periods are over."""
+        end = time.monotonic() + 5 * PERIOD
+        while self.printed().count(text) < count and time.monotonic() < end:
+            time.sleep(0.02)
+        return self.printed().count(text)
+
+    def stat(self):
+        """What the system knows of the process, from its state on."""
+        return pathlib.Path(f"/proc/{self.process.pid}/stat").read_text().rpartition(")")[2].split()
+
+    def ticks(self):
+        """The processor time so far, in clock ticks."""
+        fields = self.stat()
+        return int(fields[11]) + int(fields[12])
+
+    def memory(self):
+        """The memory in use, in kB, but for pages of files, which the system may take and give."""
+        status = pathlib.Path(f"/proc/{self.process.pid}/status").read_text()
+        return next(int(line.split()[1]) for line in status.splitlines() if line.startswith("RssAnon"))
+
+
+class Client:
+    """A client of a server."""
+
+    def __init__(self, server):
+        self.server, self.socket = ("127.0.0.1", server.port), udp_socket()
+        self.nonce = None
+
+    def __enter__(self):
+        return self
+
+    def __exit__(self, *_):
+        self.socket.close()
+
+    def send(self, data):
+        self.socket.sendto(data, self.server)
+
+    def receive(self):
+        return self.socket.recv(65_535)
+
+    def ask(self, kind, given, key=None, peer=None):
+        """Sends a request, with the address of a peer if there is one, and returns its response: of its transaction, and signed
+        where it grants a signed one."""
+        tx = random.randbytes(12)
+        peers = [] if peer is None else [(XOR_PEER_ADDRESS, address_value(peer, tx))]
+        self.send(message(kind, tx, peers + given, key))
+        answer = read(self.receive())
+        if answer is None or answer.tx != tx or answer.kind & 0x3EEF != kind:
+            raise ValueError(f"{kind:#06x} is not answered")
+        if key and answer.kind == kind | 0x100:
+            if answer.first(INTEGRITY) != hmac.new(key, answer.covered, hashlib.sha1).digest():
+                raise ValueError(f"{kind:#06x} is answered with a wrong code")
+        return answer
+
+    def signed(self, kind, given, peer=None):
+        """Sends a signed request, and returns its response."""
+        return self.ask(kind, [*given, (USERNAME, b"u"), (REALM, b"relay"), (NONCE, self.nonce)], KEY, peer)
+
+    def challenge(self):
+        """Asks for an allocation without credentials, keeps the nonce, and returns the response."""
+        answer = self.ask(ALLOCATE, [UDP])
+        self.nonce = answer.first(NONCE)
+        return answer
+
+    def allocate(self, *given):
+        """Allocates, and returns the response."""
+        self.challenge()
+        return self.signed(ALLOCATE, [UDP, *given])
+
+    def bind(self, peer):
+        """Binds the channel to a peer, and returns the response."""
+        return self.signed(CHANNEL_BIND, [(CHANNEL_NUMBER, struct.pack(">HH", CHANNEL, 0))], peer)
+
+    def send_to(self, peer, data):
+        """Sends data to a peer in a Send indication."""
+        tx = random.randbytes(12)
+        self.send(message(SEND, tx, [(XOR_PEER_ADDRESS, address_value(peer, tx)), (DATA, data)]))
+
+
+def channel_data(data):
+    return struct.pack(">HH", CHANNEL, len(data)) + data
+
+
+def code_of(answer):
+    """The error code of a response; 0 of a success."""
+    value = answer.first(ERROR_CODE)
+    return 0 if value is None else value[2] * 100 + value[3]
+
+
+def wanted(what, found, expected):
+    """Yields what was found in place of what was expected."""
+    if found != expected:
+        yield f"{what}: {found!r} in place of {expected!r}"
+
+
+def started(port, first, last, address="127.0.0.1", relayed=("127.0.0.1",)):
+    """The lines of a server that begins, with the ports of its clients and of its first and last slot."""
+    return f"listening {address}:{port}\n" + "".join(f"relaying {ip}:{first} to {last}\n" for ip in relayed)
+
+
+def fault_line(receive=0, send=0):
+    """The line of receives and sends that failed."""
+    return f"receive faults {receive} send faults {send}\n"
+
+
+def counters(from_clients=0, from_peers=0, to_peers=0, to_clients=0, granted=0, challenged=0, refused=0,
+             discarded=(0, 0, 0, 0), receive_faults=0, send_faults=0, denied=0):
+    """The line of counters.
+
+    What is discarded is ChannelData, messages and others of clients, and what comes from peers.
+    """
+    of_channels, messages, others, of_peers = discarded
+    return (f"received from clients {from_clients} peers {from_peers}, "
+            f"relayed to peers {to_peers} clients {to_clients}, "
+            f"granted {granted} challenged {challenged} refused {refused}, "
+            f"discarded channel data {of_channels} messages {messages} others {others} from peers {of_peers}, "
+            f"receive faults {receive_faults} send faults {send_faults}, denied {denied} dropped 0\n")
+
+
+def full_pipe():
+    """The ends of a pipe that has no room: a write to it waits until something is read."""
+    read_end, write_end = os.pipe()
+    os.set_blocking(write_end, False)
+    with contextlib.suppress(BlockingIOError):
+        while True:
+            os.write(write_end, bytes(4096))
+    os.set_blocking(write_end, True)
+    return read_end, write_end
+
+
+def comes(receiver, data, expected):
+    """Whether a datagram comes to a socket: one that is expected is given more time."""
+    receiver.settimeout(5 if expected else 0.3)
+    try:
+        return receiver.recv(100) == data
+    except TimeoutError:
+        return False
+    finally:
+        receiver.settimeout(5)
+
+
+def passed(server, client, peer, expected):
+    """Whether ChannelData comes to the peer, and data of the peer to the client; which of them are expected is given."""
+    token = random.randbytes(8)
+    client.send(channel_data(token))
+    there = comes(peer, token, expected[0])
+    peer.sendto(token, ("127.0.0.1", server.first_port))
+    return there, comes(client.socket, channel_data(token), expected[1])
+
+
+def put(path, data):
+    """Writes a file whole: a new one takes its name."""
+    new = path.with_suffix(".new")
+    new.write_bytes(data)
+    new.rename(path)
+
+
+def round_trip(client, peer, relayed, data):
+    """Sends data to the peer and back, and returns how long both took, or None where one is lost."""
+    start = time.perf_counter()
+    try:
+        client.send(channel_data(data))
+        there = peer.recv(100) == data
+        peer.sendto(data, relayed)
+        back = client.receive() == channel_data(data)
+    except TimeoutError:
+        return None
+    return time.perf_counter() - start if there and back else None
+
+
+def exchange(pairs, batch):
+    """Sends a batch to the peers and back, each datagram by the next client, and returns how many came.
+
+    A pair is a client, its peer and the relayed address, to which the peer answers.
+    """
+    sent = list(zip(batch, itertools.cycle(pairs)))
+    for data, (client, _, _) in sent:
+        client.send(channel_data(data))
+    came = sum(peer.recv(2000) == data for data, (_, peer, _) in sent)
+    for data, (_, peer, relayed) in sent:
+        peer.sendto(data, relayed)
+    return came + sum(client.receive() == channel_data(data) for data, (client, _, _) in sent)
