@@ -1,5 +1,5 @@
 -- The status of an explanation, from that of the program that a file encodes, or from why it encodes none.
-use Rattle.std.proofs.Common.{◌≡◌, ℕ, List, Result, Ok, Err, IfOk, inl, inr, arith}
+use Rattle.std.proofs.Common.{◌≡◌, ℕ, List, Result, Ok, Err, IfOk, inr, arith}
 use Rattle.std.specs.Prelude.{◌⊎◌}
 use Rattle.insn.specs.Encoding.{Encodes}
 use Rattle.insn.specs.Refusal.{IsRefused}

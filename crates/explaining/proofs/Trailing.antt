@@ -1,5 +1,5 @@
 -- The path of a search, before and after a unit of work.
-use Rattle.std.proofs.Common.{◌≡◌, ℕ, suc, ◌+◌, ◌-◌, ◌≤◌, List, [], ◌∷◌, ◌++◌, length, take, Option, Some, None, Ok, inl, inr, refl, sym, ap, ◌∙◌, subst, arith}
+use Rattle.std.proofs.Common.{◌≡◌, ℕ, suc, ◌+◌, ◌-◌, ◌≤◌, List, [], ◌∷◌, ◌++◌, length, take, Option, Some, None, inl, inr, refl, sym, ap, ◌∙◌, subst, arith}
 use Rattle.std.specs.Prelude.{◌⊎◌, All, replicate, reverse, slice_get}
 use Rattle.std.proofs.Math.Seq.{take-length}
 use Rattle.std.proofs.lemmas.List.Elements.{All-push}
@@ -7,7 +7,6 @@ use Rattle.std.proofs.lemmas.List.{append-nil, append_assoc, length-append, leng
 use Rattle.insn.specs.declared.instruction.Insn.{Insn}
 use Rattle.interval.specs.Intervals.{interval_ops}
 use Rattle.interval.specs.declared.interval.Interval.{Interval}
-use Rattle.semantics.specs.Slots.{fetch}
 use Rattle.semantics.specs.declared.fetching.Branch.TheVariants.{NotTaken, Taken}
 use Rattle.absstate.specs.MemberSteps.{state_after}
 use Rattle.absstate.specs.declared.abstract_state.AbsState.{AbsState}

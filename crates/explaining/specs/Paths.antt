@@ -1,5 +1,5 @@
 -- Meaning. Paths of the states of a walk, and what a search has found of them.
-use Rattle.std.specs.Prelude.{◌≡◌, ℕ, pos, ◌⊎◌, List, [], ◌∷◌, ◌++◌, Some, Result, Ok, Err}
+use Rattle.std.specs.Prelude.{◌≡◌, pos, ◌⊎◌, List, [], ◌∷◌, ◌++◌, Some, Ok}
 use Rattle.insn.specs.declared.instruction.Insn.{Insn}
 use Rattle.insn.specs.declared.instruction.Insn.TheVariants.{JumpIf}
 use Rattle.semantics.specs.Flow.{branch_slot}

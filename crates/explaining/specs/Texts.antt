@@ -1,5 +1,5 @@
 -- Meaning. The texts of abstract values.
-use Rattle.std.specs.Prelude.{◌≡◌, ℕ, ◌==◌, ℤ, ◌-ℤ◌, List, ◌++◌, codes, decimal, if◌then◌else◌}
+use Rattle.std.specs.Prelude.{ℕ, ◌==◌, ℤ, ◌-ℤ◌, List, ◌++◌, codes, decimal, if◌then◌else◌}
 use Rattle.std.specs.Fmt.{signed_decimal}
 use Rattle.insn.specs.Spelling.{with_sign}
 use Rattle.interval.specs.declared.domain.Bounds.{Bounds}

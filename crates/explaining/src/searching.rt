@@ -84,8 +84,8 @@ impl Trail {
 
     /// Notes that `waiting` states wait: those that are new follow the last one of the path.
     fn wait(&mut self, waiting: usize) -> Result<(), AllocError>
-        ensures depths { OnOk result (self.new.depths.items
-            ≡ take waiting self.old.depths.items ++ replicate (waiting - length self.old.depths.items) (length self.old.path.items)) }
+        ensures depths { OnOk result (self.new.depths.items ≡ take waiting self.old.depths.items
+            ++ replicate (waiting - length self.old.depths.items) (length self.old.path.items)) }
         ensures path { self.new.path ≡ self.old.path }
         ensures firsts { self.new.firsts ≡ self.old.firsts }
     {

@@ -1,4 +1,4 @@
-use Rattle.std.proofs.Common.{◌≡◌, ℕ, ◌+◌, ◌-◌, List, ◌++◌, length, take, Result, Ok, Err, sym, ◌∙◌, subst, arith}
+use Rattle.std.proofs.Common.{◌≡◌, ℕ, ◌+◌, ◌-◌, List, ◌++◌, length, take, Result, Err, sym, ◌∙◌, subst, arith}
 use Rattle.std.specs.Prelude.{All, IfErr, replicate}
 use Rattle.insn.specs.declared.instruction.Insn.{Insn}
 use Rattle.interval.specs.IntervalLaws.{interval_precise}

@@ -5,7 +5,6 @@ use Rattle.insn.specs.declared.instruction.Insn.{Insn}
 use Rattle.verifier.specs.Refusing.{IsVerdictOver, CountsSteps}
 use Rattle.verifier.specs.Walks.{EndsWalk}
 use Rattle.verifier.proofs.Slicing.{start_verdict, start_walked, start_counted, counts_from, walked_from}
-use Rattle.verifier.proofs.slices.verify_in_slices.Given as given
 use Rattle.verifier.proofs.slices.verify_in_slices.Goals as goal
 
 pub returns-in_err-walk-clause-verdict : goal.returns-in_err-walk-clause-verdict

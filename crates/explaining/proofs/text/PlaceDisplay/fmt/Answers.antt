@@ -1,4 +1,4 @@
-use Rattle.std.proofs.Common.{◌≡◌, ℤ, rules, to_z, of_z, w32, w64}
+use Rattle.std.proofs.Common.{◌≡◌, rules, to_z, of_z, w32, w64}
 use Rattle.std.proofs.lemmas.List.{append_assoc}
 use Rattle.explaining.proofs.text.PlaceDisplay.fmt.Goals as goal
 

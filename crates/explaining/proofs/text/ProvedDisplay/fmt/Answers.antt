@@ -1,4 +1,4 @@
-use Rattle.std.proofs.Common.{◌≡◌, ◌-ℤ◌, ℤ, rules, to_z, of_z, w32, w64}
+use Rattle.std.proofs.Common.{◌≡◌, ◌-ℤ◌, rules, to_z, of_z, w64}
 use Rattle.std.proofs.lemmas.List.{append_assoc}
 use Rattle.explaining.proofs.text.ProvedDisplay.fmt.Goals as goal
 
