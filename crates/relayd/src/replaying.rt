@@ -11,7 +11,7 @@ use streams::Output;
 
 /// Replays the events of a reader, prints the answers and flushes them.
 /// See docs/DECISIONS.md, "Answers before a fault".
-fn play<'a, R: Print + AllocGlobal, B: BufRead>(
+fn play<'a, R: Print + AllocGlobal, B: BufRead + Drop>(
     rt: &R,
     relay: &mut Relay,
     reader: B,
