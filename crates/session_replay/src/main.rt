@@ -44,7 +44,11 @@ fn play(alloc: Global, relay: &mut Relay, line: &[u8], answer: &mut Vec<u8>) -> 
     answer.clear();
     let mut output = Output::new(answer);
     match relay.replay(alloc, &mut streams::Input::new(line), &mut output) {
-        Err(ReplayError::Memory) => relay.replay(alloc, &mut streams::Input::new(line), &mut output)?,
+        Err(ReplayError::Memory) => relay.replay(
+            alloc,
+            &mut streams::Input::new(line),
+            &mut output,
+        )?,
         first => first?,
     }
     Ok(())
