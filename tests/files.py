@@ -16,6 +16,7 @@ GOOD = bytes.fromhex("b700000002000000 9500000000000000")
 STUCK = bytes.fromhex("bf20000000000000 9500000000000000")
 ACCEPTED = "accepted 2 instructions\n"
 TRACED = "0 mov r0, 2\n1 exit\nexit 2\nwindow none\ndestination none\n"
+KNOWN = "0 mov r0, 2               ; r1 context\n1 exit                    ; r0 =2; r1 context\n"
 LONGEST = 65507
 # the words, the status, standard output, standard error
 CASES = [
@@ -27,6 +28,16 @@ CASES = [
     (["trace", "missing"], 3, "", "cannot read missing\n"),
     (["verify", "folder"], 3, "", "cannot read folder\n"),
     (["trace", "folder"], 3, "", "cannot read folder\n"),
+    (["explain", "good"], 0, KNOWN, ""),
+    (["explain", "good", "--slot", "1"], 0, KNOWN.splitlines(True)[1], ""),
+    (["explain", "good", "--slot", "2"], 0, "2 ; no instruction begins here\n", ""),
+    (["explain", "stuck"], 1, "0 mov r0, r2              ; refused V5: reads r2, which holds nothing\n", ""),
+    (["explain", "stuck", "--slot", "x"], 2, "", "error: invalid value 'x' for '--slot <N>'\n"),
+    (["explain", "missing"], 3, "", "cannot read missing\n"),
+    (["explain", "folder"], 3, "", "cannot read folder\n"),
+    (["explain", "empty"], 1, "refused E1: the file has no bytes\n", ""),
+    (["explain", "object"], 1, "refused E6 at 0: a field that is not used is not zero, or one selects nothing\n",
+     "an object file: take its .text by llvm-objcopy -O binary --only-section=.text\n"),
     # no bytes, 12 bytes, 5,000 slots
     (["verify", "empty"], 1, "refused E1\n", explained("empty")),
     (["trace", "empty"], 1, "", "refused E1\n"),
@@ -50,6 +61,7 @@ READ = [
     (["verify", "-"], "good", 0, ACCEPTED, ""),
     (["verify", "-"], "empty", 1, "refused E1\n", explained("-")),
     (["verify", "-"], "folder", 3, "", "cannot read -\n"),
+    (["explain", "-"], "good", 0, KNOWN, ""),
     (["trace", "-", "--data", "00"], "good", 0, TRACED, ""),
     (["disassemble", "-"], "good", 0, "mov r0, 2\nexit\n", ""),
     (["assemble", "-", "out"], "text", 0, "wrote 16 bytes\n", ""),
@@ -81,6 +93,8 @@ def write_files(folder):
     (folder / "empty").write_bytes(b"")
     (folder / "cut").write_bytes(GOOD[:12])
     (folder / "long").write_bytes(bytes(40_000))
+    # what every object file begins with
+    (folder / "object").write_bytes(b"\x7fELF" + bytes(60))
     (folder / "folder").mkdir()
     (folder / "text").write_text("mov r0, 2\nexit\n")
 
@@ -149,7 +163,7 @@ def with_full_output(folder, words):
 
 def failures_of_output(folder):
     """Yields the failing outputs that are not reported."""
-    for words in (["verify", "good"], ["trace", "good"], ["--help"]):
+    for words in (["verify", "good"], ["explain", "good"], ["trace", "good"], ["--help"]):
         for end in (with_closed_output, with_unread_output, with_full_output):
             got = end(folder, words)
             if got != (3, None, "cannot write output\n"):

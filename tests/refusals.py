@@ -1,6 +1,6 @@
 """Makes the smallest input for each code of docs/REFUSALS.md, and compares the code that relayd prints of it.
 
-A text that is refused is assembled, bytes and programs are verified, and begin a replay as the program of either side. No
+A text that is refused is assembled, bytes and programs are verified, explained, and begin a replay as the program of either side. No
 command reads messages: each of theirs has to be, with its code, in the rows of a test.
 """
 
@@ -13,6 +13,8 @@ import tempfile
 from lib.program import TOP, explained, finish, run
 
 ROW = re.compile(r"^\| ([A-Z]\d+) \|.*\|([^|]*)\|$", re.MULTILINE)
+# the same of a file or a program, with what explain says
+EXPLAINED = re.compile(r"^\| ([EV]\d+) \|.*\| ([^|]+) \|[^|]*\|$", re.MULTILINE)
 # a line, or lines in parentheses, and how often they are repeated
 LINES = re.compile(r"(?:`([^`]*)`|\(((?:`[^`]*` ?)+)\))(?: ×([\d,]+))?")
 TESTED = re.compile(r'code: "(\w+)",\s*hex: "([^"]*)"')
@@ -70,6 +72,20 @@ def failures_of_programs(folder):
                 yield f"{code} by {name}: {status} {printed}{rest}"
 
 
+def failures_of_explanations(folder):
+    """Yields the codes of which `explain` says something else than the page."""
+    file = folder / "program.bpf"
+    says = dict(EXPLAINED.findall((TOP / "docs" / "REFUSALS.md").read_text(encoding="utf-8")))
+    for code, data in refused_programs(folder):
+        file.write_bytes(data)
+        status, out, err = run(["explain", file])
+        found = re.search(rf"refused {code}( [a-z0-9 ]+)?: (.*)\n", out)
+        if (status, err) != (1, "") or found is None or found[2] != says.pop(code):
+            yield f"{code} explained: {status} {out}{err}"
+    if says:
+        yield f"not explained: {', '.join(says)}"
+
+
 def failures_of_rows(folder, rows):
     """Yields the codes of texts and of messages that are not met by their input."""
     tested = {code: bytes.fromhex(digits) for code, digits in TESTED.findall(TEST.read_text(encoding="utf-8"))}
@@ -91,7 +107,7 @@ def main():
     rows = rows_of_page()
     with tempfile.TemporaryDirectory() as name:
         folder = pathlib.Path(name)
-        failures = [*failures_of_rows(folder, rows), *failures_of_programs(folder)]
+        failures = [*failures_of_rows(folder, rows), *failures_of_programs(folder), *failures_of_explanations(folder)]
     if len(rows) != 46:
         failures.append(f"{len(rows)} codes")
     return finish(failures, f"refusals: {len(rows)} codes, {len(failures)} failures")
