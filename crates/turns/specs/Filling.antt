@@ -1,0 +1,50 @@
+-- Internal. What is stored of what was received ahead, and one receive of a filling.
+use Rattle.std.specs.Prelude.{◌≡◌, ℕ, ◌+◌, ◌≤◌, ◌⊎◌, Bool, true, false, List, [], ◌∷◌, ◌++◌, length, take, drop, map, Option}
+use Rattle.serving.specs.Calls.{Call, HasReported}
+use Rattle.serving.specs.declared.link.Place.{Place}
+use Rattle.turns.specs.Ahead.{Waiting, Datagram, Nothing, Fault, Receive, call_at, waiting_of, IsReceive, AreDatagrams}
+use Rattle.turns.specs.declared.ahead.Stored.{Stored}
+use Rattle.turns.specs.declared.ahead.Then.{Then}
+use Rattle.turns.specs.declared.ahead.Then.TheVariants as then
+use Rattle.turns.specs.declared.ahead.TheConstants.{TURNS}
+
+abbrev pub datagram_in : List ℕ → Stored → Waiting
+datagram_in bytes s = Datagram (take s.n (drop s.start bytes)) s.from
+
+abbrev pub ending_of : Then → List Waiting
+ending_of then.Receive = []
+ending_of then.Nothing = Nothing ∷ []
+ending_of then.Fault = Fault ∷ []
+
+abbrev pub waiting_in : List ℕ → List Stored → ℕ → Then → List Waiting
+waiting_in bytes datagrams count then = map (datagram_in bytes) (drop count datagrams) ++ ending_of then
+
+-- each datagram lies before an end
+abbrev pub AreWithin : ℕ → List Stored → Type 0
+AreWithin end [] = Unit {0}
+AreWithin end (s ∷ rest) = (s.start + s.n ≤ end) × AreWithin end rest
+
+pub record IsAhead (room capacity : ℕ) (datagrams : List Stored) (count end : ℕ) : Type 0 where
+  pub within : AreWithin end datagrams
+  pub inside : end ≤ room
+  pub handed : count ≤ length datagrams
+  pub few : TURNS ≤ capacity
+
+-- one receive was made, and what it gave waits after the others
+pub record HasReceived (place : Place) (before after : Option (List Call)) (old new : List Waiting) (came : Bool) : Type 0 where
+  pub receive : Receive
+  pub is_receive : IsReceive receive came
+  pub reported : HasReported before after (call_at place receive ∷ [])
+  pub waits : new ≡ old ++ waiting_of receive ∷ []
+
+-- or no receive was made
+abbrev pub HasReceivedOne : Place → Option (List Call) → Option (List Call) → List Waiting → List Waiting → Bool → Type 0
+HasReceivedOne place before after old new came =
+    ((after ≡ before) × (new ≡ old) × (came ≡ false)) ⊎ HasReceived place before after old new came
+
+-- what a filling has received so far, where nothing waited
+pub record HasFilledSoFar (place : Place) (before after : Option (List Call)) (new : List Waiting) : Type 0 where
+  pub datagrams : List Receive
+  pub each : AreDatagrams datagrams
+  pub reported : HasReported before after (map (call_at place) datagrams)
+  pub waits : new ≡ map waiting_of datagrams
