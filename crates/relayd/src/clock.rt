@@ -1,4 +1,4 @@
-//! The moments of datagrams, and what is due from time to time.
+//! The moments of datagrams.
 
 use libc::types::timespec;
 use std::rt::Clock;
@@ -49,30 +49,5 @@ impl Moments {
     pub(crate) fn now<R: Clock>(&self, rt: &R) -> u64 {
         let since = elapsed(rt).saturating_sub(self.elapsed);
         self.start.saturating_add(since).as_secs()
-    }
-}
-
-/// What is done from time to time. Its moments are those of [`elapsed`].
-#[derive(Clone, Copy)]
-pub(crate) struct Timer {
-    /// The time between two moments.
-    every: Duration,
-    next: Duration,
-}
-
-impl Timer {
-    /// Returns a timer that is due one period after `now`.
-    pub(crate) fn new(now: Duration, every: Duration) -> Timer {
-        let next = now.saturating_add(every);
-        Timer { every, next }
-    }
-
-    /// Returns whether the timer is due, and then sets it for one period after `now`.
-    pub(crate) fn is_due(&mut self, now: Duration) -> bool {
-        if now < self.next {
-            return false;
-        }
-        self.next = now.saturating_add(self.every);
-        true
     }
 }

@@ -1,8 +1,7 @@
 //! The command `serve`: relays the datagrams of UDP sockets.
 
-use crate::ahead::TURNS;
 use crate::arguments::{Arguments, filter_of, parse, rules_of};
-use crate::clock::{Moments, Timer, elapsed};
+use crate::clock::{Moments, elapsed};
 use crate::drops::Ports;
 use crate::error_lines::ErrorLines;
 use crate::options::{Fault, Relayed, octets6_of, port_of, set_up, slots_of};
@@ -22,6 +21,7 @@ use std::net::{Ipv4Addr, Ipv6Addr, Net};
 use std::random::RandomSource;
 use std::rt::{Clock, Files};
 use std::time::Duration;
+use turns::{Schedule, TURNS, Timer};
 
 /// How many events one wait reports. Further ones are reported by the next.
 const EVENTS: usize = 256;
@@ -56,24 +56,13 @@ struct Server<'a> {
     is_busy: bool,
 }
 
-/// Whether a place may have datagrams.
-#[derive(Clone, Copy)]
-enum Readiness {
-    /// It has none until a wait reports it.
-    Empty,
-    /// It may have more, and is served after the places that the next wait reports.
-    Ready,
-    /// It may have more, and was served since the last wait.
-    Served,
-}
-
 /// What a server waits with. Its memory is taken before the server listens.
 #[derive(Drop)]
 struct Waiting {
     poll: Poll,
     events: Events,
-    /// Whether each place may have datagrams, by its token.
-    places: Vec<Readiness>,
+    /// Which places are served in a round.
+    schedule: Schedule,
 }
 
 /// Returns the relayed IPv6 address: that of `--relay-ip6`, or else the one that sockets are bound to.
@@ -262,45 +251,23 @@ impl Server<'_> {
         count == TURNS
     }
 
-    /// Serves each place that a wait reports and that wasn't known to be ready. Returns whether one of them may have more.
-    fn drain_reported<R: Clock>(
-        &mut self,
-        rt: &R,
-        events: &Events,
-        places: &mut [Readiness],
-    ) -> bool {
-        let mut more = false;
+    /// Serves each place that a wait reports and that wasn't known to be ready.
+    fn drain_reported<R: Clock>(&mut self, rt: &R, events: &Events, schedule: &mut Schedule) {
         for event in events.iter() {
             let Token(token) = event.token();
-            if let Some(readiness) = places.get_mut(token)
-                && let Readiness::Empty = *readiness
-                && self.drain(rt, token)
-            {
-                *readiness = Readiness::Served;
-                more = true;
+            if schedule.report(token) {
+                let more = self.drain(rt, token);
+                schedule.served(token, more);
             }
         }
-        more
     }
 
-    /// Serves each place that was ready before the last wait; one that was served since is ready from now on. Returns whether
-    /// one is.
-    fn drain_ready<R: Clock>(&mut self, rt: &R, places: &mut [Readiness]) -> bool {
-        let mut more = false;
-        for (token, readiness) in places.iter_mut().enumerate() {
-            let has_more = match *readiness {
-                Readiness::Empty => continue,
-                Readiness::Ready => self.drain(rt, token),
-                Readiness::Served => true,
-            };
-            *readiness = if has_more {
-                Readiness::Ready
-            } else {
-                Readiness::Empty
-            };
-            more = more || has_more;
+    /// Serves each place that was ready before the last wait, in order.
+    fn drain_ready<R: Clock>(&mut self, rt: &R, schedule: &mut Schedule) {
+        while let Some(token) = schedule.next_ready() {
+            let more = self.drain(rt, token);
+            schedule.served(token, more);
         }
-        more
     }
 
     /// Serves until the process is stopped, and waits while no socket is ready.
@@ -311,9 +278,8 @@ impl Server<'_> {
         err: &mut E,
         mut waiting: Waiting,
     ) -> Result<(), Fault<'static>> {
-        let mut more = true;
         for _ in 0..u64::MAX {
-            let is_idle = !more && !self.sides.is_replacing();
+            let is_idle = !waiting.schedule.has_ready() && !self.sides.is_replacing();
             let wait = if is_idle {
                 self.longest_wait()
             } else {
@@ -321,8 +287,9 @@ impl Server<'_> {
             };
             waiting.wait(wait)?;
             self.tend(rt, err);
-            let more_reported = self.drain_reported(rt, &waiting.events, &mut waiting.places);
-            more = (more || more_reported) && self.drain_ready(rt, &mut waiting.places);
+            waiting.schedule.begin();
+            self.drain_reported(rt, &waiting.events, &mut waiting.schedule);
+            self.drain_ready(rt, &mut waiting.schedule);
         }
         Ok(())
     }
@@ -355,12 +322,11 @@ impl Waiting {
         let poll = Poll::new(rt).map_err(|_| Fault::Wait)?;
         sockets.register(&poll).map_err(|_| Fault::Wait)?;
         let events = Events::with_capacity(rt.alloc(), EVENTS).map_err(|_| Fault::Memory)?;
-        let count = sockets.count();
-        let places = vec![in rt.alloc(); Readiness::Ready; count].map_err(|_| Fault::Memory)?;
+        let schedule = Schedule::new(rt.alloc(), sockets.count()).map_err(|_| Fault::Memory)?;
         Ok(Waiting {
             poll,
             events,
-            places,
+            schedule,
         })
     }
 

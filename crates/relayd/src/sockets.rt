@@ -1,6 +1,6 @@
 //! The sockets of a server: one for clients, and one of each family for the peers of each slot.
 
-use crate::ahead::{Ahead, Received};
+use crate::ahead::receive;
 use crate::counters::Counters;
 use crate::drops::{Ports, dropped};
 use crate::udp::{SocketOptions, bind, buffer_of};
@@ -14,6 +14,7 @@ use std::io::{self, ErrorKind};
 use std::net::{IpAddr, Ipv4Addr, Ipv6Addr, Net, SocketAddr, SocketAddrV4, SocketAddrV6};
 use std::rt::Files;
 use thiserror::Error;
+use turns::{Ahead, Receipt};
 
 /// The addresses that the sockets of a server are bound to.
 #[derive(Clone, Copy)]
@@ -85,14 +86,14 @@ pub(crate) struct Places {
     /// The socket of IPv6 of each slot; empty without an IPv6 address.
     slots6: Vec<UdpSocket>,
     ports: Ports,
+    /// The family of the sockets at which the datagrams of slots are received.
+    family: Family,
 }
 
 /// The sockets of a server, what was received ahead at one of them, and what was counted.
 #[derive(Drop)]
 pub(crate) struct Sockets {
     places: Places,
-    /// The family of the sockets at which the datagrams of slots are received.
-    family: Family,
     ahead: Ahead,
     filter: PeerFilter,
     counters: Counters,
@@ -186,6 +187,7 @@ impl Places {
                 None => Vec::new(rt.alloc()),
             },
             ports: addresses.ports(port),
+            family: Family::Ipv4,
         })
     }
 
@@ -218,7 +220,6 @@ impl Sockets {
     ) -> Result<Sockets, AllocError> {
         Ok(Sockets {
             places,
-            family: Family::Ipv4,
             ahead: Ahead::new(alloc)?,
             filter,
             counters: Counters::new(),
@@ -268,11 +269,11 @@ impl Sockets {
         let slots = self.places.slots.len();
         let index = match token.checked_sub(slots) {
             Some(index) if index > 0 => {
-                self.family = Family::Ipv6;
+                self.places.family = Family::Ipv6;
                 index
             }
             _ => {
-                self.family = Family::Ipv4;
+                self.places.family = Family::Ipv4;
                 token
             }
         };
@@ -303,26 +304,31 @@ impl Sockets {
 
     /// Receives ahead at a place.
     pub(crate) fn receive_ahead(&mut self, place: Place) {
-        if let Ok(socket) = self.places.at(place, self.family) {
-            self.ahead.fill(socket);
-        }
+        self.ahead.fill(&mut self.places, place);
     }
 
-    /// Receives a datagram at a place, if one has come: the next one that was received ahead, while there are any.
-    #[inline(always)]
-    fn take(&mut self, place: Place, into: &mut [u8]) -> Result<Received, LinkFault> {
-        let socket = self.places.at(place, self.family)?;
-        self.ahead.receive(socket, into)
-    }
-
-    /// Sends a datagram from a place, unless it is to a peer that is denied. One that would have to wait, or isn't sent whole, is
-    /// a fault.
-    fn put(&self, place: Place, to: Addr, bytes: &[u8]) -> Result<(), Unsent> {
+    /// Sends a datagram from a place, unless it is to a peer that is denied.
+    fn put(&mut self, place: Place, to: Addr, bytes: &[u8]) -> Result<(), Unsent> {
         if let Place::Slot(_) = place
             && !self.filter.allows(&to)
         {
             return Err(Unsent::Denied);
         }
+        match self.places.send(place, to, bytes) {
+            Ok(()) => Ok(()),
+            Err(LinkFault) => Err(Unsent::Fault),
+        }
+    }
+}
+
+impl Link for Places {
+    #[inline(always)]
+    fn receive(&mut self, place: Place, into: &mut [u8]) -> Result<Receipt, LinkFault> {
+        receive(self.at(place, self.family)?, into)
+    }
+
+    /// Sends a datagram from a place. One that would have to wait, or isn't sent whole, is a fault.
+    fn send(&mut self, place: Place, to: Addr, bytes: &[u8]) -> Result<(), LinkFault> {
         let (family, to) = match to {
             Addr::V4 { ip, port } => {
                 let to = SocketAddrV4::new(Ipv4Addr::from(ip), port);
@@ -333,12 +339,9 @@ impl Sockets {
                 (Family::Ipv6, SocketAddr::V6(to))
             }
         };
-        let Ok(socket) = self.places.at(place, family) else {
-            return Err(Unsent::Fault);
-        };
-        match socket.send_to(bytes, to) {
+        match self.at(place, family)?.send_to(bytes, to) {
             Ok(n) if n == bytes.len() => Ok(()),
-            _ => Err(Unsent::Fault),
+            _ => Err(LinkFault),
         }
     }
 }
@@ -350,7 +353,7 @@ impl Link for Sockets {
         place: Place,
         into: &mut [u8],
     ) -> Result<Option<(usize, Addr)>, LinkFault> {
-        match self.take(place, into) {
+        match self.ahead.receive(&mut self.places, place, into) {
             Ok(Some((n, from))) => {
                 self.counters.received(place, into.get(..n).unwrap_or(&[]));
                 Ok(Some((n, from)))

@@ -1,14 +1,14 @@
 -- What a schedule stores, and what is known of its places.
-use Rattle.std.proofs.Common.{◌≡◌, ℕ, ◌+◌, ◌<◌, ◌≤◌, List, [], ◌∷◌, length, map, set, get_or, eqb, ltb, cond, Bool, true, false, not, refl, ap, sym, ◌∙◌, arith, get_or-set_same, get_or-set_other, zero, suc, ◌⊎◌, inl, inr, ◌||◌, ◌&&◌, zero-add, mul-one, replicate, ◌-◌, subst}
+use Rattle.std.proofs.Common.{◌≡◌, ℕ, ◌+◌, ◌<◌, ◌≤◌, List, [], ◌∷◌, length, map, set, get_or, eqb, ltb, cond, Bool, true, false, not, refl, ap, sym, ◌∙◌, arith, get_or-set_same, get_or-set_other, zero, suc, ◌⊎◌, inl, inr, ◌||◌, ◌&&◌, zero-add, add-zero, mul-one, replicate, ◌-◌, subst}
 use Rattle.std.proofs.lemmas.Bool.{cases_eq, cases_lt}
 use Rattle.std.proofs.lemmas.Bool.Decides.{nat_tests}
 use Rattle.std.proofs.lemmas.List.{map-set, set_past}
 use Rattle.std.proofs.Math.ListN.{get_or-map}
 use Rattle.std.proofs.lemmas.List.Folds.{sum_by-replicate}
-use Rattle.std.proofs.lemmas.List.Sums.{sum_by-set, sum_by-cons, fails_before_first, position_or_len_is}
+use Rattle.std.proofs.lemmas.List.Sums.{sum_by-set, sum_by-cons, fails_before_first, position_or_len_is, passes_at_first}
 use Rattle.std.specs.List.{position_or_len}
 use Rattle.turns.specs.Entries.{status_in, statuses_in, AreStamped, ArePassed, ready_count, IsSchedule, unstamped}
-use Rattle.turns.specs.Schedules.{status_at, is_due, no_place, put, begun, unserved, has_ready, ready_at_first}
+use Rattle.turns.specs.Schedules.{status_at, is_due, no_place, put, begun, due_count, unserved, has_ready, ready_at_first}
 use Rattle.turns.specs.declared.schedule.Entry.{Entry}
 use Rattle.turns.specs.declared.schedule.Status.{Status}
 
@@ -191,3 +191,24 @@ none_due_at_all r es ready next n places s view none count =
 
 pub length_places : (r : ℕ) (es : List Entry) (places : List Status) → statuses_in r es ≡ places → length places ≡ length es
 length_places r es places view = sym (ap length view) ∙ length_statuses r es
+
+-- ---- how many places are due
+
+-- a place that was served isn't
+due_put : (places : List Status) (t : ℕ) (b : Bool) → t < length places → due_count (put places t b) + cond (is_due (status_at places t)) 1 0 ≡ due_count places
+due_put places t b inside =
+    sum_by-set (λ s. cond (is_due s) 1 0) places t (record { is_ready = b; is_served = true }) no_place inside
+    ∙ ap (λ (x : Bool). due_count places + cond x 1 0) (served_not_due b) ∙ add-zero (due_count places)
+
+pub due_no_more : (places : List Status) (t : ℕ) (b : Bool) → due_count (put places t b) ≤ due_count places
+due_no_more places t b = elim (cases_lt t (length places)) [
+  | inl inside ↦ let e = due_put places t b inside in omega (arith, e)
+  | inr outside ↦ subst (λ (l : List Status). due_count l ≤ due_count places) (sym (set_past places t (record { is_ready = b; is_served = true }) outside)) (omega arith)
+]
+
+pub due_fewer : (places : List Status) (b : Bool) → position_or_len is_due places < length places → due_count (put places (position_or_len is_due places) b) < due_count places
+due_fewer places b inside =
+    let e =
+    ap (λ (x : Bool). due_count (put places (position_or_len is_due places) b) + cond x 1 0) (sym (passes_at_first is_due places no_place inside))
+    ∙ due_put places (position_or_len is_due places) b inside in
+    omega (arith, e)

@@ -1,6 +1,5 @@
 -- What waits, as it is stored.
-use Rattle.std.proofs.Common.{◌≡◌, ℕ, ◌+◌, ◌-◌, ◌<◌, ◌≤◌, List, [], ◌∷◌, ◌++◌, length, map, take, drop, get_or, leb, cond, zero, suc, Bool, true, false, Option, Some, None, Result, Ok, Err, inl, inr, ◌⊎◌, refl, ap, sym, subst, ◌∙◌, arith, append_assoc, le-leb, length-take-le, length-drop, drop-cons, drop_of_length-le}
-use Rattle.std.specs.Prelude.{◌≢◌, option_to_list}
+use Rattle.std.proofs.Common.{◌≡◌, ℕ, ◌+◌, ◌-◌, ◌<◌, ◌≤◌, List, [], ◌∷◌, ◌++◌, length, map, take, drop, get_or, leb, zero, suc, Bool, true, false, Option, Some, None, Result, Ok, inl, inr, refl, ap, sym, subst, ◌∙◌, arith, append_assoc, le-leb, length-take-le, length-drop, drop-cons, drop_of_length-le}
 use Rattle.std.proofs.lemmas.Bool.{cond-true, cond-false, lt-leb}
 use Rattle.std.proofs.lemmas.List.{append-nil, map-append, take-take, drop-append-le}
 use Rattle.std.proofs.lemmas.Slice.{between_is, between-put_mid}
@@ -11,8 +10,8 @@ use Rattle.semantics.specs.declared.limits.TheConstants.{MAX_DATAGRAM}
 use Rattle.serving.specs.Calls.{Call, Received, HasReported}
 use Rattle.serving.specs.declared.link.LinkFault.{LinkFault}
 use Rattle.serving.specs.declared.link.Place.{Place}
-use Rattle.turns.specs.Ahead.{Waiting, Datagram, Nothing, Fault, Receive, call_at, waiting_of, waiting_after, is_datagram, IsReceive, AreDatagrams, IsEnding, HasFilled, HasTaken, IsHandedOn}
-use Rattle.turns.specs.Filling.{datagram_in, ending_of, waiting_in, AreWithin, IsAhead, HasReceived, HasReceivedOne, HasFilledSoFar}
+use Rattle.turns.specs.Ahead.{Waiting, Datagram, Fault, Receive, call_at, waiting_of, waiting_after, is_datagram, IsReceive, AreDatagrams, HasFilled, HasTaken, IsHandedOn}
+use Rattle.turns.specs.Filling.{datagram_in, ending_of, waiting_in, AreWithin, HasReceived, HasReceivedOne, HasFilledSoFar}
 use Rattle.turns.specs.declared.ahead.Stored.{Stored}
 use Rattle.turns.specs.declared.ahead.Then.{Then}
 use Rattle.turns.specs.declared.ahead.Then.TheVariants as then

@@ -1,5 +1,5 @@
 -- Internal. What is stored of what was received ahead, and one receive of a filling.
-use Rattle.std.specs.Prelude.{◌≡◌, ℕ, ◌+◌, ◌≤◌, ◌⊎◌, Bool, true, false, List, [], ◌∷◌, ◌++◌, length, take, drop, map, Option}
+use Rattle.std.specs.Prelude.{◌≡◌, ℕ, ◌+◌, ◌≤◌, ◌⊎◌, Bool, false, List, [], ◌∷◌, ◌++◌, length, take, drop, map, Option}
 use Rattle.serving.specs.Calls.{Call, HasReported}
 use Rattle.serving.specs.declared.link.Place.{Place}
 use Rattle.turns.specs.Ahead.{Waiting, Datagram, Nothing, Fault, Receive, call_at, waiting_of, IsReceive, AreDatagrams}

@@ -1,6 +1,6 @@
 -- Meaning. Which places are served in a round, and what is known of them after each call of a schedule.
 use Rattle.std.specs.Prelude.{ℕ, Bool, true, false, not, ◌&&◌, List, map, slice_set, if◌then◌else◌}
-use Rattle.std.specs.List.{list_any, slice_index_or, position_or_len}
+use Rattle.std.specs.List.{list_any, slice_index_or, position_or_len, count_by}
 use Rattle.turns.specs.declared.schedule.Status.{Status}
 
 abbrev pub ready_at_first : Status
@@ -43,3 +43,7 @@ handed_out places = put places (position_or_len is_due places) true
 
 abbrev pub has_ready : List Status → Bool
 has_ready places = list_any (λ s. s.is_ready) places
+
+-- how many places are due
+abbrev pub due_count : List Status → ℕ
+due_count places = count_by is_due places

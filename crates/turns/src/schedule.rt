@@ -1,8 +1,8 @@
 //! Which places are served in a round of a server: those that a wait reports, and those that may have more.
 
-ghost use Rattle.std.specs.Prelude.{◌≡◌, IfOk, map, replicate, if◌then◌else◌};
+ghost use Rattle.std.specs.Prelude.{◌≡◌, ◌<◌, ◌≤◌, IfOk, OnSome, map, replicate, if◌then◌else◌};
 ghost use Rattle.std.specs.List.{position, position_or_len};
-ghost use Rattle.turns.specs.Schedules.{ready_at_first, begun, status_at, is_new, is_due, reported, handed_out, put, has_ready};
+ghost use Rattle.turns.specs.Schedules.{ready_at_first, begun, status_at, is_new, is_due, reported, handed_out, put, has_ready, due_count};
 ghost use Rattle.turns.specs.Entries.{unstamped};
 
 use std::alloc::{AllocError, Global};
@@ -164,7 +164,8 @@ impl Schedule {
 
     /// Notes that a place was served, and whether it may have more.
     pub fn served(&mut self, token: usize, more: bool)
-        ensures { self.new ≡ put self.old token more }
+        ensures after { self.new ≡ put self.old token more }
+        ensures no_more { due_count self.new ≤ due_count self.old }
     {
         self.put(token, more);
     }
@@ -191,6 +192,7 @@ impl Schedule {
     pub fn next_ready(&mut self) -> Option<usize>
         ensures place { result ≡ position is_due self.old }
         ensures after { self.new ≡ handed_out self.old }
+        ensures fewer { OnSome result (due_count self.new < due_count self.old) }
     {
         let token = self.find();
         self.next = token;

@@ -1,5 +1,4 @@
-use Rattle.std.proofs.Common.{◌≡◌, ◌-◌, ◌+◌, List, ℕ, [], ◌∷◌, length, take, drop, arith, ap, sym, subst, ◌∙◌}
-use Rattle.std.proofs.lemmas.Slice.{between-put_mid}
+use Rattle.std.proofs.Common.{◌-◌, ◌+◌, List, ℕ, [], ◌∷◌, arith, sym, subst}
 use Rattle.semantics.specs.declared.limits.TheConstants.{MAX_DATAGRAM}
 use Rattle.serving.specs.Calls.{Received, HasReported}
 use Rattle.turns.proofs.Waits.{read_back}

@@ -1,5 +1,5 @@
-use Rattle.std.proofs.Common.{◌≡◌, ◌<◌, ◌≤◌, ◌+◌, length, arith, ap, sym, ◌∙◌}
-use Rattle.turns.proofs.Waits.{fits_stored, first_waits, none_stored, taken_first, taken_none}
+use Rattle.std.proofs.Common.{arith}
+use Rattle.turns.proofs.Waits.{fits_stored}
 use Rattle.turns.proofs.ahead.Ahead.receive.Goals as goal
 
 pub overflow_add-end : goal.overflow_add-end

@@ -1,10 +1,9 @@
-use Rattle.std.proofs.Common.{◌≡◌, ◌<◌, ◌≤◌, ◌+◌, Ok, Some, None, Err, true, false, is_ok, length, take, drop, [], ◌∷◌, ◌++◌, inr, refl, arith, rules, ap, sym, subst, ◌∙◌}
-use Rattle.std.specs.Vec.{with_items}
+use Rattle.std.proofs.Common.{◌≡◌, ◌≤◌, ◌+◌, Ok, Some, None, Err, true, false, is_ok, length, take, drop, [], ◌∷◌, ◌++◌, inr, refl, arith, rules, ap, sym, subst, ◌∙◌}
 use Rattle.std.proofs.lemmas.Bool.{cond-true}
 use Rattle.std.proofs.lemmas.List.{with_items_is}
 use Rattle.semantics.specs.declared.limits.TheConstants.{MAX_DATAGRAM}
-use Rattle.turns.specs.Ahead.{Waiting, Datagram, Nothing, Fault}
-use Rattle.turns.specs.Filling.{waiting_in, datagram_in, IsAhead, AreWithin}
+use Rattle.turns.specs.Ahead.{Nothing, Fault}
+use Rattle.turns.specs.Filling.{waiting_in, datagram_in, AreWithin}
 use Rattle.turns.specs.declared.ahead.Stored.{Stored}
 use Rattle.turns.specs.declared.ahead.Then.TheVariants as then
 use Rattle.turns.proofs.Waits.{within_more, within_push, one_more, one_ends, received, datagram_waits, long_waits}
