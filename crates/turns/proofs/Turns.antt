@@ -1,7 +1,7 @@
 -- The turns of a place in a round.
 use Rattle.std.proofs.Common.{◌≡◌, ℕ, ◌+◌, ◌<◌, ◌≤◌, List, [], ◌∷◌, length, eqb, ltb, cond, Bool, true, false, not, ◌&&◌, ◌⊎◌, inl, inr, refl, ap, sym, subst, ◌∙◌, arith, get_or-set_same, get_or-set_other, Some, None}
-use Rattle.std.proofs.lemmas.Bool.{cases_eq, cases_lt, cases_Bool, cond_both, and_parts, and_cases, both_ways, not-true, not-false, not_from_false, eqb-true, eq-eqb, ltb-true, lt-ltb, and_from, cond-true}
-use Rattle.std.proofs.lemmas.List.{set_past, get_or_past, get_or-map}
+use Rattle.std.proofs.lemmas.Bool.{cases_eq, cases_lt, cases_Bool, cond_both, and_parts, and_cases, both_ways, not-true, not-false, not_from_false, eqb-true, eq-eqb, ltb-true, lt-ltb, and_from, cond-true, and_left, and_right, not_from_true, ne_eqb}
+use Rattle.std.proofs.lemmas.List.{set_past, get_or_past, get_or-map, length-map}
 use Rattle.std.proofs.lemmas.List.Sums.{passes_at_first, fails_before_first}
 use Rattle.std.specs.List.{position, position_or_len}
 use Rattle.turns.specs.Rounds.{Step, Report, Next, has_turn, after, after_all, turns_of, IsReportedIn, IsOver, IsFair}
@@ -181,10 +181,64 @@ at_least_once places (step ∷ steps) t unserved awaited over = elim (cases_Bool
       (still_awaited places step steps t unserved none awaited) over in omega (arith, rest))
 ]
 
+-- ---- any other place has none
+
+unready_not_due : (s : Status) → s.is_ready ≡ false → is_due s ≡ false
+unready_not_due s unready = and_left s.is_ready (not s.is_served) unready
+
+not_due_served : (s : Status) → s.is_served ≡ true → is_due s ≡ false
+not_due_served s served = and_right s.is_ready (not s.is_served) (not_from_true s.is_served served)
+
+next_is_due : (places : List Status) (more : Bool) (t : ℕ) → has_turn places (Next more) t ≡ true → is_due (status_at places t) ≡ true
+next_is_due places more t turn =
+    let (inside, same) = and_parts (ltb t (length places)) (eqb (position_or_len is_due places) t) turn in
+    let here : position_or_len is_due places ≡ t = eqb-true (position_or_len is_due places) t same in
+    let lt : position_or_len is_due places < length places = omega (arith, here, ltb-true t (length places) inside) in
+    subst (λ (k : ℕ). is_due (status_at places k) ≡ true) here (passes_at_first is_due places no_place lt)
+
+no_turn_unawaited : (places : List Status) (step : Step) (steps : List Step) (t : ℕ) → is_due (status_at places t) ≡ false → (IsReportedIn t (step ∷ steps) → ⊥) → has_turn places step t ≡ false
+no_turn_unawaited places (Report token more) steps t due none =
+    and_right (is_new (status_at places token)) (eqb token t) (ne_eqb token t (λ same. none (inl same)))
+no_turn_unawaited places (Next more) steps t due none = elim (cases_Bool (has_turn places (Next more) t)) [
+  | inl turn ↦ absurd (both_ways (is_due (status_at places t)) due (next_is_due places more t turn))
+  | inr without ↦ without
+]
+
+still_not_due : (places : List Status) (step : Step) (steps : List Step) (t : ℕ) → is_due (status_at places t) ≡ false → (IsReportedIn t (step ∷ steps) → ⊥)
+    → is_due (status_at (after places step) t) ≡ false
+still_not_due places (Report token more) steps t due none =
+    let other : t ≡ token → ⊥ = λ same. none (inl (sym same)) in
+    cond_both (is_new (status_at places token)) (put (reported places token) token more) (reported places token) (λ p. is_due (status_at p t) ≡ false)
+    (λ _. ap is_due (put_other (reported places token) token t more other ∙ reported_other places token t other) ∙ due)
+    (λ _. ap is_due (reported_other places token t other) ∙ due)
+still_not_due places (Next more) steps t due none = elim (cases_eq t (position_or_len is_due places)) [
+  | inl same ↦
+      not_due_served (status_at (after places (Next more)) t)
+      (subst (λ (k : ℕ). IsServed (after places (Next more)) k) (sym same) (put_at (handed_out places) (position_or_len is_due places) more))
+  | inr other ↦ ap is_due (put_other (handed_out places) (position_or_len is_due places) t more other ∙ put_other places (position_or_len is_due places) t true other) ∙ due
+]
+
+later_reports : (t : ℕ) (step : Step) (steps : List Step) → IsReportedIn t steps → IsReportedIn t (step ∷ steps)
+later_reports t (Report token more) steps rest = inr rest
+later_reports t (Next more) steps rest = rest
+
+no_turns : (places : List Status) (steps : List Step) (t : ℕ) → is_due (status_at places t) ≡ false → (IsReportedIn t steps → ⊥) → turns_of t places steps ≡ 0
+no_turns places [] t due none = refl
+no_turns places (step ∷ steps) t due none =
+    let without = no_turn_unawaited places step steps t due none in
+    let rest = no_turns (after places step) steps t (still_not_due places step steps t due none) (λ reported. none (later_reports t step steps reported)) in
+    ap (λ (b : Bool). cond b 1 0 + turns_of t (after places step) steps) without ∙ ap (λ (n : ℕ). 0 + n) rest
+
 -- ---- a round
 
 begun_at : (places : List Status) (t : ℕ) → t < length places → status_at (begun places) t ≡ unserved (status_at places t)
 begun_at places t inside = get_or-map unserved places t no_place no_place inside
+
+begun_not_due : (places : List Status) (t : ℕ) → (status_at places t).is_ready ≡ false → is_due (status_at (begun places) t) ≡ false
+begun_not_due places t unready = elim (cases_lt t (length places)) [
+  | inl inside ↦ ap is_due (begun_at places t inside) ∙ unready_not_due (unserved (status_at places t)) unready
+  | inr outside ↦ ap is_due (get_or_past (begun places) t no_place (let l = length-map places unserved in omega (arith, l, outside)))
+]
 
 awaited_at_first : (places : List Status) (steps : List Step) (t : ℕ) → t < length places → ((status_at places t).is_ready ≡ true) ⊎ IsReportedIn t steps → IsAwaited (begun places) steps t
 awaited_at_first places steps t inside (inl ready) = inl (ap is_due (begun_at places t inside) ∙ ap (λ (b : Bool). b && true) ready)
@@ -197,6 +251,7 @@ fair places = record {
       let least = at_least_once (begun places) steps t (ap (λ (s : Status). s.is_served) (begun_at places t inside)) (awaited_at_first places steps t inside awaited) over in
       let most = once (begun places) steps t in
       omega (arith, least, most);
+  others = λ steps t unready none. no_turns (begun places) steps t (begun_not_due places t unready) none;
   twice = λ rest steps t.
       let first = once places rest t in
       let second = once (begun (after_all places rest)) steps t in

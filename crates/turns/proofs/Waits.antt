@@ -1,5 +1,5 @@
 -- What waits, as it is stored.
-use Rattle.std.proofs.Common.{◌≡◌, ℕ, ◌+◌, ◌-◌, ◌<◌, ◌≤◌, List, [], ◌∷◌, ◌++◌, length, map, take, drop, get_or, leb, zero, suc, Bool, true, false, Option, Some, None, Result, Ok, inl, inr, refl, ap, sym, subst, ◌∙◌, arith, append_assoc, le-leb, length-take-le, length-drop, drop-cons, drop_of_length-le}
+use Rattle.std.proofs.Common.{◌≡◌, ℕ, ◌+◌, ◌-◌, ◌<◌, ◌≤◌, List, [], ◌∷◌, ◌++◌, length, map, take, drop, get_or, leb, zero, suc, Bool, true, false, Option, Some, None, Result, Ok, inl, inr, refl, ap, sym, subst, ◌∙◌, arith, append_assoc, le-leb, length-take-le, length-append, length-drop, drop-cons, drop_of_length-le}
 use Rattle.std.proofs.lemmas.Bool.{cond-true, cond-false, lt-leb}
 use Rattle.std.proofs.lemmas.List.{append-nil, map-append, take-take, drop-append-le}
 use Rattle.std.proofs.lemmas.Slice.{between_is, between-put_mid}
@@ -11,7 +11,7 @@ use Rattle.serving.specs.Calls.{Call, Received, HasReported}
 use Rattle.serving.specs.declared.link.LinkFault.{LinkFault}
 use Rattle.serving.specs.declared.link.Place.{Place}
 use Rattle.turns.specs.Ahead.{Waiting, Datagram, Fault, Receive, call_at, waiting_of, waiting_after, is_datagram, IsReceive, AreDatagrams, HasFilled, HasTaken, IsHandedOn}
-use Rattle.turns.specs.Filling.{datagram_in, ending_of, waiting_in, AreWithin, HasReceived, HasReceivedOne, HasFilledSoFar}
+use Rattle.turns.specs.Filling.{stored_datagram, ending_of, waiting_in, AreWithin, HasReceived, HasReceivedOne, HasFilledSoFar}
 use Rattle.turns.specs.declared.ahead.Stored.{Stored}
 use Rattle.turns.specs.declared.ahead.Then.{Then}
 use Rattle.turns.specs.declared.ahead.Then.TheVariants as then
@@ -42,14 +42,14 @@ within_drop end (suc i) (s ∷ ss) all = within_drop end i ss all.1
 -- ---- the first one that waits
 
 pub first_waits : (bytes : List ℕ) (ss : List Stored) (i : ℕ) (t : Then) (s : Stored) → i < length ss → s ≡ get_or ss i s
-    → waiting_in bytes ss i t ≡ datagram_in bytes s ∷ waiting_in bytes ss (i + 1) t
+    → waiting_in bytes ss i t ≡ stored_datagram bytes s ∷ waiting_in bytes ss (i + 1) t
 first_waits bytes ss i t s h is =
-    ap (λ (l : List Stored). map (datagram_in bytes) l ++ ending_of t) (drop-cons ss i s h)
-    ∙ ap (λ (x : Stored). datagram_in bytes x ∷ (map (datagram_in bytes) (drop (suc i) ss) ++ ending_of t)) (sym is)
-    ∙ ap (λ (k : ℕ). datagram_in bytes s ∷ (map (datagram_in bytes) (drop k ss) ++ ending_of t)) (sym (add-one i))
+    ap (λ (l : List Stored). map (stored_datagram bytes) l ++ ending_of t) (drop-cons ss i s h)
+    ∙ ap (λ (x : Stored). stored_datagram bytes x ∷ (map (stored_datagram bytes) (drop (suc i) ss) ++ ending_of t)) (sym is)
+    ∙ ap (λ (k : ℕ). stored_datagram bytes s ∷ (map (stored_datagram bytes) (drop k ss) ++ ending_of t)) (sym (add-one i))
 
 pub none_stored : (bytes : List ℕ) (ss : List Stored) (i : ℕ) (t : Then) → length ss ≤ i → waiting_in bytes ss i t ≡ ending_of t
-none_stored bytes ss i t h = ap (λ (l : List Stored). map (datagram_in bytes) l ++ ending_of t) (drop_of_length-le ss h)
+none_stored bytes ss i t h = ap (λ (l : List Stored). map (stored_datagram bytes) l ++ ending_of t) (drop_of_length-le ss h)
 
 pub some_stored : (bytes : List ℕ) (ss : List Stored) (i : ℕ) (t : Then) → i < length ss → waiting_in bytes ss i t ≡ [] → ⊥
 some_stored bytes [] i t h is = absurd (omega (arith, h))
@@ -67,29 +67,29 @@ same_part : (end : ℕ) (xs ys : List ℕ) (a n : ℕ) → take end ys ≡ take 
 same_part end xs ys a n same h =
     part_is ys a n ∙ ap (drop a) (sym (take-take (a + n) end ys h) ∙ ap (take (a + n)) same ∙ take-take (a + n) end xs h) ∙ sym (part_is xs a n)
 
-same_datagrams : (end : ℕ) (xs ys : List ℕ) (ss : List Stored) → take end ys ≡ take end xs → AreWithin end ss → map (datagram_in ys) ss ≡ map (datagram_in xs) ss
+same_datagrams : (end : ℕ) (xs ys : List ℕ) (ss : List Stored) → take end ys ≡ take end xs → AreWithin end ss → map (stored_datagram ys) ss ≡ map (stored_datagram xs) ss
 same_datagrams end xs ys [] same all = refl
 same_datagrams end xs ys (s ∷ ss) same all =
     λ i. Datagram (same_part end xs ys s.start s.n same all.0 i) s.from ∷ same_datagrams end xs ys ss same all.1 i
 
 -- what waited waits still
 same_waits : (end : ℕ) (xs ys : List ℕ) (ss : List Stored) (i : ℕ) → take end ys ≡ take end xs → AreWithin end ss
-    → map (datagram_in ys) (drop i ss) ≡ waiting_in xs ss i then.Receive
+    → map (stored_datagram ys) (drop i ss) ≡ waiting_in xs ss i then.Receive
 same_waits end xs ys ss i same all =
-    same_datagrams end xs ys (drop i ss) same (within_drop end i ss all) ∙ sym (append-nil (map (datagram_in xs) (drop i ss)))
+    same_datagrams end xs ys (drop i ss) same (within_drop end i ss all) ∙ sym (append-nil (map (stored_datagram xs) (drop i ss)))
 
 pub one_more : (end : ℕ) (xs ys : List ℕ) (ss : List Stored) (i : ℕ) (s : Stored) → take end ys ≡ take end xs → AreWithin end ss → i ≤ length ss
-    → waiting_in ys (ss ++ s ∷ []) i then.Receive ≡ waiting_in xs ss i then.Receive ++ datagram_in ys s ∷ []
+    → waiting_in ys (ss ++ s ∷ []) i then.Receive ≡ waiting_in xs ss i then.Receive ++ stored_datagram ys s ∷ []
 one_more end xs ys ss i s same all h =
-    append-nil (map (datagram_in ys) (drop i (ss ++ s ∷ [])))
-    ∙ ap (map (datagram_in ys)) (drop-append-le i ss (s ∷ []) h)
-    ∙ map-append (datagram_in ys) (drop i ss) (s ∷ [])
-    ∙ ap (λ (l : List Waiting). l ++ datagram_in ys s ∷ []) (same_waits end xs ys ss i same all)
+    append-nil (map (stored_datagram ys) (drop i (ss ++ s ∷ [])))
+    ∙ ap (map (stored_datagram ys)) (drop-append-le i ss (s ∷ []) h)
+    ∙ map-append (stored_datagram ys) (drop i ss) (s ∷ [])
+    ∙ ap (λ (l : List Waiting). l ++ stored_datagram ys s ∷ []) (same_waits end xs ys ss i same all)
 
 pub one_ends : (end : ℕ) (xs ys : List ℕ) (ss : List Stored) (i : ℕ) (t : Then) (w : Waiting) → take end ys ≡ take end xs → AreWithin end ss → ending_of t ≡ w ∷ []
     → waiting_in ys ss i t ≡ waiting_in xs ss i then.Receive ++ w ∷ []
 one_ends end xs ys ss i t w same all is =
-    ap (λ (l : List Waiting). map (datagram_in ys) (drop i ss) ++ l) is
+    ap (λ (l : List Waiting). map (stored_datagram ys) (drop i ss) ++ l) is
     ∙ ap (λ (l : List Waiting). l ++ w ∷ []) (same_waits end xs ys ss i same all)
 
 room_is : (ys : List ℕ) (end : ℕ) → end + MAX_DATAGRAM ≤ length ys → length (take MAX_DATAGRAM (drop end ys)) ≡ MAX_DATAGRAM
@@ -208,6 +208,13 @@ pub goes_on_after : (place : Place) (before between after : Option (List Call)) 
     → HasReceivedOne place between after waiting new true → HasFilledSoFar place before after new
 goes_on_after place before between after waiting new so_far (inl (calls, same, came)) = absurd (cc came)
 goes_on_after place before between after waiting new so_far (inr one) = goes_on place before between after waiting new true so_far one refl
+
+pub one_more_at_most : (place : Place) (before after : Option (List Call)) (old new : List Waiting) (came : Bool) → HasReceivedOne place before after old new came → length new ≤ length old + 1
+one_more_at_most place before after old new came (inl (calls, same, none)) = let l = ap length same in omega (arith, l)
+one_more_at_most place before after old new came (inr one) =
+    let l = ap length one.waits in
+    let a = length-append old (waiting_of one.receive ∷ []) in
+    omega (arith, l, a)
 
 -- ---- handing on
 

@@ -8,8 +8,8 @@ use Rattle.turns.specs.declared.ahead.Then.{Then}
 use Rattle.turns.specs.declared.ahead.Then.TheVariants as then
 use Rattle.turns.specs.declared.ahead.TheConstants.{TURNS}
 
-abbrev pub datagram_in : List ℕ → Stored → Waiting
-datagram_in bytes s = Datagram (take s.n (drop s.start bytes)) s.from
+abbrev pub stored_datagram : List ℕ → Stored → Waiting
+stored_datagram bytes s = Datagram (take s.n (drop s.start bytes)) s.from
 
 abbrev pub ending_of : Then → List Waiting
 ending_of then.Receive = []
@@ -17,7 +17,7 @@ ending_of then.Nothing = Nothing ∷ []
 ending_of then.Fault = Fault ∷ []
 
 abbrev pub waiting_in : List ℕ → List Stored → ℕ → Then → List Waiting
-waiting_in bytes datagrams count then = map (datagram_in bytes) (drop count datagrams) ++ ending_of then
+waiting_in bytes datagrams count then = map (stored_datagram bytes) (drop count datagrams) ++ ending_of then
 
 -- each datagram lies before an end
 abbrev pub AreWithin : ℕ → List Stored → Type 0

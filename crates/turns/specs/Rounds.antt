@@ -1,5 +1,5 @@
 -- Meaning. Rounds of a server, by the calls of its schedule.
-use Rattle.std.specs.Prelude.{◌≡◌, ℕ, ◌+◌, ◌<◌, ◌≤◌, nat_lt, ◌==◌, ◌⊎◌, Bool, true, ◌&&◌, List, [], ◌∷◌, length, None, if◌then◌else◌}
+use Rattle.std.specs.Prelude.{◌≡◌, ℕ, ◌+◌, ◌<◌, ◌≤◌, nat_lt, ◌==◌, ◌⊎◌, Bool, true, false, ◌&&◌, List, [], ◌∷◌, length, None, if◌then◌else◌}
 use Rattle.std.specs.List.{position, position_or_len}
 use Rattle.turns.specs.Schedules.{status_at, is_new, is_due, put, reported, handed_out, begun}
 use Rattle.turns.specs.declared.schedule.Status.{Status}
@@ -39,10 +39,11 @@ abbrev pub IsOver : List Status → Type 0
 IsOver places = position is_due places ≡ None
 
 -- Whatever is reported and asked for in a round, and in which order, no place has more than one turn. Once none is next, each
--- place that was ready before the round, or was reported in it, has had exactly one. From any moment of a round to any moment
--- of the next one, no place has more than two.
+-- place that was ready before the round, or was reported in it, has had exactly one; any other place has none. From any moment
+-- of a round to any moment of the next one, no place has more than two.
 pub record IsFair (places : List Status) : Type 0 where
   pub once : (steps : List Step) (t : ℕ) → turns_of t places steps ≤ 1
   pub served : (steps : List Step) (t : ℕ) → t < length places → IsOver (after_all (begun places) steps)
       → (((status_at places t).is_ready ≡ true) ⊎ IsReportedIn t steps) → turns_of t (begun places) steps ≡ 1
+  pub others : (steps : List Step) (t : ℕ) → (status_at places t).is_ready ≡ false → ¬ (IsReportedIn t steps) → turns_of t (begun places) steps ≡ 0
   pub twice : (rest steps : List Step) (t : ℕ) → turns_of t places rest + turns_of t (begun (after_all places rest)) steps ≤ 2

@@ -145,7 +145,8 @@ impl Ahead {
 
     /// Makes one more receive at a place, if another one is to be made and there is room. Returns whether a datagram came.
     fn receive_one<L: Link>(&mut self, link: &mut L, place: Place) -> bool
-        ensures { HasReceivedOne place (L.calls link.old) (L.calls link.new) self.old self.new result }
+        ensures one { HasReceivedOne place (L.calls link.old) (L.calls link.new) self.old self.new result }
+        ensures more { length self.new ≤ length self.old + 1 }
     {
         let Then::Receive = self.then else {
             return false;
@@ -174,7 +175,8 @@ impl Ahead {
     /// Receives at a place until nothing comes, a receive fails, or there is no room for another datagram. Where something waits
     /// already, no receive is made.
     pub fn fill<L: Link>(&mut self, link: &mut L, place: Place)
-        ensures { HasFilled place (L.calls link.old) (L.calls link.new) self.old self.new }
+        ensures filled { HasFilled place (L.calls link.old) (L.calls link.new) self.old self.new }
+        ensures few { self.old ≡ [] → length self.new ≤ TURNS }
     {
         if !self.is_empty() {
             return;

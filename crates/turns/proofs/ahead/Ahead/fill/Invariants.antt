@@ -1,6 +1,10 @@
--- What was received so far.
+-- What was received so far, at most one datagram a receive.
+use Rattle.std.proofs.Common.{◌≤◌, length}
 use Rattle.turns.specs.Filling.{HasFilledSoFar}
 use Rattle.turns.proofs.ahead.Ahead.fill.Given as goal
 
 abbrev pub invariant-loop : goal.invariant-loop
-invariant-loop g l = HasFilledSoFar l.place (g.L.Link.calls l.initial.link) (g.L.Link.calls l.link) l.self
+invariant-loop g l = record {
+  so_far : HasFilledSoFar l.place (g.L.Link.calls l.initial.link) (g.L.Link.calls l.link) l.self;
+  few : length l.self ≤ l.counter;
+}
