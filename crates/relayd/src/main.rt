@@ -8,7 +8,7 @@ mod clock;
 mod counters;
 mod drops;
 mod error_lines;
-mod explaining;
+mod explanations;
 mod files;
 mod options;
 mod replacing;
@@ -17,7 +17,7 @@ mod server;
 mod sockets;
 mod udp;
 
-use crate::explaining::explain;
+use crate::explanations::explain;
 use crate::replaying::replay;
 use crate::server::serve;
 use asm::{AsmError, assemble};
