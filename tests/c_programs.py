@@ -16,7 +16,7 @@ import sys
 import tempfile
 
 import relaying
-from lib.private_peers import answered, octets, private_rows, with_peers
+from private_peers import answered, octets, private_rows, with_peers
 from lib.program import TOP, build, finish
 from relaying import IP6, SLOTS, USERS, compare, systematic, systematic6
 from lib.rules import DATA, XOR_PEER_ADDRESS, Rules, read

@@ -12,7 +12,7 @@ import sys
 import tempfile
 
 import relaying
-from lib.private_peers import with_peers
+from private_peers import with_peers
 from lib.program import TOP, assembled, build, finish, run
 from relaying import IP6, compare, systematic, systematic6
 
