@@ -114,6 +114,13 @@ def refused_runs(words, library, lasting, **options):
         yield first, end
 
 
+def is_out_of_memory(words, end, normal):
+    """Whether a run says that memory ran out, and printed nothing else; `explain` prints its lines as it makes them."""
+    status, printed, said = end
+    begun = words[:1] == ["explain"] and normal[1].startswith(printed)
+    return (status, said) == (OUT_OF_MEMORY[0], OUT_OF_MEMORY[2]) and (begun or not printed)
+
+
 def failures_of(words, status, library):
     """Returns what is wrong with the runs on these words, and how many there were."""
     normal, _ = counted_run(words)
@@ -125,7 +132,7 @@ def failures_of(words, status, library):
         if OUT_OF_MEMORY not in ends.values():
             failures.append(f"{words}: never out of memory")
         for first, end in ends.items():
-            if end not in (normal, OUT_OF_MEMORY):
+            if end != normal and not is_out_of_memory(words, end, normal):
                 failures.append(f"{words}, refused at {first} (lasting: {lasting}): {end}")
     return failures, count
 
