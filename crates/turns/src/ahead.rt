@@ -176,7 +176,7 @@ impl Ahead {
     /// already, no receive is made.
     pub fn fill<L: Link>(&mut self, link: &mut L, place: Place)
         ensures filled { HasFilled place (L.calls link.old) (L.calls link.new) self.old self.new }
-        ensures few { self.old ≡ [] → length self.new ≤ TURNS }
+        ensures few { self.old ≡ [] → length self.new ≤ 64 }
     {
         if !self.is_empty() {
             return;
