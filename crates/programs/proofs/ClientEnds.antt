@@ -13,7 +13,7 @@ use Rattle.fallible.specs.Options.{◌>>=◌, guard}
 use Rattle.programs.proofs.PeerEnds.{test_number}
 use Rattle.programs.specs.PlainSends.{padded_length, IsAddressFirst, IsDataFirst}
 use Rattle.helpers.specs.Records.{address_record, wide_record}
-use Rattle.programs.specs.Rules.{channel_data}
+use Rattle.rules.specs.Rules.{channel_data}
 use Rattle.programs.specs.Runs.{datagram_in, window_in, destination_in}
 
 -- helper 1 answers with the record of an IPv4 peer, helper 6 with that of any

@@ -37,7 +37,7 @@ use Rattle.semantics.specs.declared.value.Value.TheVariants.{Nothing, Scalar, Ct
 use Rattle.programs.specs.Client.{client_program}
 use Rattle.fallible.specs.Options.{◌>>=◌, guard}
 use Rattle.programs.specs.PlainSends.{padded_length, IsSendHeader, IsAddressFirst, IsDataFirst}
-use Rattle.programs.specs.Rules.{channel_data}
+use Rattle.rules.specs.Rules.{channel_data}
 use Rattle.programs.proofs.ChannelMessages.{message_of, no_header, no_data, has_message, IsFound, found_narrow, found_wide, not_found, wide_back}
 use Rattle.programs.proofs.LoadedValues.{some_is, part_place, byte_in, half_in, half_small, record_is, IsHalf, half_at, IsWord, word_at, half_is_big, big_is_half, word_is_big, big_is_word, pieces_are, big_below, byte_from}
 use Rattle.programs.proofs.PeerRun.{is_allowed, not_allowed}

@@ -24,11 +24,11 @@ use Rattle.semantics.specs.Runs.{Exited, IsPossible, IsSafe}
 use Rattle.events.specs.Events.{ToPeer}
 use Rattle.events.specs.declared.meta.Source.TheVariants.{Client}
 use Rattle.programs.specs.Client.{client_program}
-use Rattle.programs.specs.FastPart.{begins_as_stun, begins_as_channel_data, is_plain_send}
+use Rattle.rules.specs.FastPart.{begins_as_stun, begins_as_channel_data, is_plain_send}
 use Rattle.fallible.specs.Options.{◌>>=◌}
 use Rattle.programs.specs.PlainSends.{padded_length, PassesTests}
 use Rattle.programs.specs.Relaying.{IsRelayStart, Relays, ServesClient}
-use Rattle.programs.specs.Rules.{client_slot, channel_data, send, send_from, to_peer}
+use Rattle.rules.specs.Rules.{client_slot, channel_data, send, send_from, to_peer}
 use Rattle.programs.proofs.PeerServes.{test_is}
 use Rattle.programs.specs.declared.verdict.TheConstants.{PASSES}
 use Rattle.programs.specs.Runs.{environment_for, run_for, window_in, destination_in}

@@ -8,7 +8,7 @@ use Rattle.semantics.specs.declared.helper.Helper.TheVariants.{ChannelTo, Permit
 use Rattle.semantics.specs.declared.helper.RecordForm.{RecordForm}
 use Rattle.semantics.specs.declared.helper.RecordForm.TheVariants.{Narrow, Wide}
 use Rattle.helpers.specs.Records.{address_record, wide_record}
-use Rattle.programs.specs.Rules.{peer_data}
+use Rattle.rules.specs.Rules.{peer_data}
 use Rattle.programs.specs.Runs.{window_in}
 
 -- 1 where it holds, and the number of a channel, and else 0

@@ -23,7 +23,7 @@ use Rattle.semantics.specs.Runs.{IsDatagram}
 use Rattle.semantics.specs.SwapLaws.{stored_again_8, stored_again_4, stored_half}
 use Rattle.fallible.specs.Options.{◌>>=◌, guard}
 use Rattle.programs.specs.Peer.{peer_program}
-use Rattle.programs.specs.Rules.{peer_data}
+use Rattle.rules.specs.Rules.{peer_data}
 use Rattle.programs.proofs.PeerEnds.{AnswersPeer, IsPeerEnd, window_sent, test_number, channel_number}
 use Rattle.semantics.specs.Calls.{widened}
 use Rattle.semantics.specs.declared.helper.RecordForm.TheVariants.{Narrow}

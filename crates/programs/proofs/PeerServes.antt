@@ -20,7 +20,7 @@ use Rattle.events.specs.declared.meta.Source.TheVariants.{Peer}
 use Rattle.fallible.specs.Options.{◌>>=◌}
 use Rattle.programs.specs.Peer.{peer_program}
 use Rattle.programs.specs.Relaying.{IsRelayStart, ServesPeer}
-use Rattle.programs.specs.Rules.{client_at}
+use Rattle.rules.specs.Rules.{client_at}
 use Rattle.programs.specs.Runs.{environment_for}
 use Rattle.programs.proofs.ChannelMessages.{wide_back}
 use Rattle.programs.proofs.LoadedValues.{port_back}

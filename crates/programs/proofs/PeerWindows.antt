@@ -23,7 +23,7 @@ use Rattle.semantics.specs.AccessLaws.{put_after_put}
 use Rattle.semantics.specs.Machine.{AreBytes, datagram_area}
 use Rattle.semantics.specs.StartLaws.{part_datagram, part_of_header, datagram_and_zeros}
 use Rattle.semantics.specs.SwapLaws.{swapped_half, stored_half, swapped_word, stored_word, xor_of_words}
-use Rattle.programs.specs.Rules.{data_indication}
+use Rattle.rules.specs.Rules.{data_indication}
 use Rattle.programs.proofs.LoadedValues.{byte_below}
 
 -- ---- ChannelData

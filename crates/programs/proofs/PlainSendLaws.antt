@@ -10,9 +10,9 @@ use Rattle.stun.specs.Messages.{Parts, PaddedAttribute, AreParts, IsPadded, part
 use Rattle.attributes.specs.declared.address.Addr.{Addr}
 use Rattle.semantics.specs.Access.{part}
 use Rattle.semantics.specs.Runs.{IsDatagram}
-use Rattle.programs.specs.FastPart.{is_short_address, is_content, are_address_and_content, is_plain_send}
+use Rattle.rules.specs.FastPart.{is_short_address, is_content, are_address_and_content, is_plain_send}
 use Rattle.programs.specs.PlainSends.{IsAddressFirst, IsDataFirst, PassesTests}
-use Rattle.programs.specs.Rules.{send}
+use Rattle.rules.specs.Rules.{send}
 use Rattle.programs.proofs.ClientEnds.{of_send}
 use Rattle.programs.proofs.SendGrammar.{long, parts_of, spelled, are_parts, other_parts_of, other_spelled, other_are_parts, address_first_back, data_first_back}
 

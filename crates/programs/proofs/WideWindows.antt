@@ -21,7 +21,7 @@ use Rattle.semantics.specs.Machine.{AreBytes, datagram_area}
 use Rattle.semantics.specs.StartLaws.{part_of_header, datagram_and_zeros}
 use Rattle.semantics.specs.SwapLaws.{stored_half}
 use Rattle.helpers.specs.Records.{wide_record}
-use Rattle.programs.specs.Rules.{data_indication}
+use Rattle.rules.specs.Rules.{data_indication}
 use Rattle.attributes.specs.NumberLaws.{bytes_back}
 use Rattle.programs.proofs.LoadedValues.{all_below}
 use Rattle.programs.proofs.PeerWindows.{then_put, padding_is_short}

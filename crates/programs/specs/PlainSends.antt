@@ -4,7 +4,7 @@ use Rattle.std.specs.Prelude.{◌≡◌, ◌⊎◌, ℕ, ◌+◌, ◌≤◌, Lis
 use Rattle.insn.specs.Endian.{big_number}
 use Rattle.stun.specs.Messages.{padding_count}
 use Rattle.stun.specs.Registry.{magic_cookie}
-use Rattle.programs.specs.Rules.{send_indication}
+use Rattle.rules.specs.Rules.{send_indication}
 
 -- n, filled up to a multiple of four
 abbrev pub padded_length : ℕ → ℕ

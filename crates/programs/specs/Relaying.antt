@@ -12,8 +12,8 @@ use Rattle.tables.specs.WellFormed.{AreWellFormed}
 use Rattle.events.specs.Events.{Sending}
 use Rattle.events.specs.declared.meta.Source.{Source}
 use Rattle.events.specs.declared.meta.Source.TheVariants.{Client, Peer}
-use Rattle.programs.specs.FastPart.{begins_as_stun, begins_as_channel_data, is_plain_send}
-use Rattle.programs.specs.Rules.{channel_data_from, send_from, peer_data_to}
+use Rattle.rules.specs.FastPart.{begins_as_stun, begins_as_channel_data, is_plain_send}
+use Rattle.rules.specs.Rules.{channel_data_from, send_from, peer_data_to}
 use Rattle.programs.specs.Runs.{run_for, datagram_in, sent_by}
 use Rattle.programs.specs.declared.verdict.TheConstants.{PASSES}
 

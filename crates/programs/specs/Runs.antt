@@ -19,7 +19,7 @@ use Rattle.events.specs.declared.meta.Source.{Source}
 use Rattle.events.specs.declared.meta.Source.TheVariants.{Client, Peer}
 use Rattle.fallible.specs.Options.{◌>>=◌}
 use Rattle.programs.specs.declared.verdict.TheConstants.{SENDS}
-use Rattle.programs.specs.Rules.{client_slot, client_at, to_peer}
+use Rattle.rules.specs.Rules.{client_slot, client_at, to_peer}
 
 -- ---- the start
 

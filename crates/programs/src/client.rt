@@ -8,7 +8,7 @@ ghost use Rattle.stun.specs.Datagrams.{message_in};
 ghost use Rattle.stun.specs.Messages.{Parts};
 ghost use Rattle.attributes.specs.declared.address.Addr.{Addr};
 ghost use Rattle.tables.specs.Rows.{Rows};
-ghost use Rattle.programs.specs.FastPart.{is_plain_send};
+ghost use Rattle.rules.specs.FastPart.{is_plain_send};
 ghost use Rattle.programs.specs.PlainSends.{PassesTests};
 ghost use Rattle.programs.specs.Relaying.{IsRelayStart, ServesClient};
 

@@ -14,11 +14,11 @@ use Rattle.events.specs.declared.meta.Source.TheVariants.{Client, Peer}
 use Rattle.programs.specs.Runs.{planned_sending, datagram_in, destination_in, window_in}
 use Rattle.programs.specs.declared.verdict.TheConstants.{PASSES, SENDS}
 use Rattle.relay.specs.ByPrograms.{by_programs, by_run, by_ending, by_verdict, is_there}
-use Rattle.relay.specs.ByRules.{from_client}
+use Rattle.rules.specs.ByRules.{from_client}
 use Rattle.relay.specs.Found.{HasRun, run_at, reply_of_passing, window_shown}
 use Rattle.relay.specs.Relays.{RelayContents, state_of, datagram_at}
 use Rattle.relay.specs.Steps.{HasStepped, outcome_of}
-use Rattle.relay.specs.Systems.{SystemReply, no_answer, reply_of_relaying, outcome_at, if_served, is_served, with_nonce}
+use Rattle.rules.specs.Systems.{SystemReply, no_answer, reply_of_relaying, outcome_at, if_served, is_served, with_nonce}
 use Rattle.relay.proofs.SameNonce.{from_client_same}
 
 module _ (old : RelayContents) (given : Meta) (n moment : ℕ) where

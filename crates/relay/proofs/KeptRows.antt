@@ -47,10 +47,10 @@ use Rattle.tables.specs.declared.allocation.Allocation.{Allocation}
 use Rattle.tables.specs.declared.channels.TheConstants.{FIRST_CHANNEL, LAST_CHANNEL}
 use Rattle.events.specs.declared.meta.Source.{Source}
 use Rattle.events.specs.declared.meta.Source.TheVariants.{Client, Peer}
-use Rattle.programs.specs.FastPart.{begins_as_stun}
-use Rattle.programs.specs.Rules.{send_indication, send_from, channel_data_from}
-use Rattle.relay.specs.ByRules.{by_rules, from_client, message, control, reply_to_request, check_of, request_of}
-use Rattle.relay.specs.Systems.{reply_of_relaying, address_of_source, is_served}
+use Rattle.rules.specs.FastPart.{begins_as_stun}
+use Rattle.rules.specs.Rules.{send_indication, send_from, channel_data_from}
+use Rattle.rules.specs.ByRules.{by_rules, from_client, message, control, reply_to_request, check_of, request_of}
+use Rattle.rules.specs.Systems.{reply_of_relaying, address_of_source, is_served}
 
 -- ---- the bytes of values
 

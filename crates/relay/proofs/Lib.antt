@@ -1,10 +1,8 @@
 mod Advances
-mod Controls
 mod FirstLines
 mod Frames
 mod KeptRows
 mod LineLengths
-mod PassedOn
 mod Played
 mod Plays
 mod ReadLines

@@ -11,7 +11,7 @@ use Rattle.events.specs.declared.meta.Meta.{Meta}
 use Rattle.relay.specs.Relays.{RelayContents, state_of}
 use Rattle.relay.specs.Replays.{system_of, after_line, answer_to, IsCut}
 use Rattle.relay.specs.Steps.{HasStepped, outcome_of}
-use Rattle.relay.specs.Systems.{SystemOutcome, system_step}
+use Rattle.rules.specs.Systems.{SystemOutcome, system_step}
 
 module _ (old : RelayContents) (room : List ℕ) (given : Meta) (n : ℕ) (read : Option Event)
     (had : length (room_of old.frame) ≡ MAX_DATAGRAM) (has : length room ≡ MAX_DATAGRAM) (is : Some (Datagram given (take n room)) ≡ read) where

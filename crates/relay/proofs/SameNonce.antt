@@ -19,10 +19,10 @@ use Rattle.control.specs.declared.request.TurnRequest.{TurnRequest}
 use Rattle.control.specs.declared.request.TurnRequest.TheVariants as turn
 use Rattle.tables.specs.Rows.{Rows, rows_at}
 use Rattle.events.specs.Events.{ToClient}
-use Rattle.programs.specs.FastPart.{begins_as_stun}
-use Rattle.programs.specs.Rules.{send_indication, send_from, channel_data_from}
-use Rattle.relay.specs.ByRules.{check_of, reply_with, reply_to_request, message, from_client, request_of}
-use Rattle.relay.specs.Systems.{SystemReply, reply_of_relaying, with_nonce}
+use Rattle.rules.specs.FastPart.{begins_as_stun}
+use Rattle.rules.specs.Rules.{send_indication, send_from, channel_data_from}
+use Rattle.rules.specs.ByRules.{check_of, reply_with, reply_to_request, message, from_client, request_of}
+use Rattle.rules.specs.Systems.{SystemReply, reply_of_relaying, with_nonce}
 
 module _ (c : Config) where
   abbrev d : Config

@@ -30,18 +30,18 @@ use Rattle.events.specs.Events.{Sending, ToClient}
 use Rattle.fallible.specs.Options.{◌>>=◌}
 use Rattle.events.specs.declared.meta.Source.{Source}
 use Rattle.events.specs.declared.meta.Source.TheVariants.{Client, Peer}
-use Rattle.programs.specs.FastPart.{begins_as_stun, begins_as_channel_data, is_plain_send, are_address_and_content}
+use Rattle.rules.specs.FastPart.{begins_as_stun, begins_as_channel_data, is_plain_send, are_address_and_content}
 use Rattle.programs.specs.Relaying.{IsRelayStart, Relays, PassesOn, ServesClient, ServesPeer}
-use Rattle.programs.specs.Rules.{send_indication, channel_data, channel_data_from, client_at, peer_data, to_peer}
+use Rattle.rules.specs.Rules.{send_indication, channel_data, channel_data_from, client_at, peer_data, to_peer}
 use Rattle.programs.specs.Runs.{run_for}
 use Rattle.programs.specs.declared.client.TheConstants.{CLIENT}
 use Rattle.programs.specs.declared.peer.TheConstants.{PEER}
 use Rattle.programs.specs.declared.verdict.TheConstants.{PASSES}
 use Rattle.relay.specs.ByPrograms.{Programs, by_programs, by_run, by_ending, is_there}
-use Rattle.relay.specs.ByRules.{by_rules, from_client}
+use Rattle.rules.specs.ByRules.{by_rules, from_client}
 use Rattle.relay.specs.Shipped.{AreShipped}
-use Rattle.relay.specs.Systems.{SystemReply, no_answer, reply_of_relaying, address_of_source, is_served, if_served}
-use Rattle.relay.proofs.Controls.{is_relayed, is_sent}
+use Rattle.rules.specs.Systems.{SystemReply, no_answer, reply_of_relaying, address_of_source, is_served, if_served}
+use Rattle.rules.specs.ClientLaws.{is_relayed, is_sent}
 
 module _ (config : Config) (now : ℕ) (tx : List ℕ) (rows : Rows) (datagram : List ℕ) (code : List Insn) where
   abbrev counting : Rows

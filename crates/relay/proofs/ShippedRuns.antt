@@ -14,9 +14,9 @@ use Rattle.events.specs.declared.meta.Meta.{Meta}
 use Rattle.events.specs.declared.meta.Source.{Source}
 use Rattle.events.specs.declared.meta.Source.TheVariants.{Client, Peer}
 use Rattle.relay.specs.ByPrograms.{Programs, by_programs}
-use Rattle.relay.specs.ByRules.{by_rules}
+use Rattle.rules.specs.ByRules.{by_rules}
 use Rattle.relay.specs.Shipped.{AreShipped, AnswerAlike}
-use Rattle.relay.specs.Systems.{SystemState, SystemOutcome, system_step, outcome_at, answers, state_after_events, no_answer, with_nonce, address_of_source, is_served}
+use Rattle.rules.specs.Systems.{SystemState, SystemOutcome, system_step, outcome_at, answers, state_after_events, no_answer, with_nonce, address_of_source, is_served}
 use Rattle.relay.proofs.KeptRows.{keeps, is_served-is}
 use Rattle.relay.proofs.ShippedRules.{ClientServes, PeerServes, same_reply}
 

@@ -9,8 +9,8 @@ use Rattle.events.specs.declared.meta.Source.{Source}
 use Rattle.events.specs.declared.meta.Source.TheVariants.{Client, Peer}
 use Rattle.programs.specs.Runs.{run_for, datagram_in, sent_by}
 use Rattle.programs.specs.declared.verdict.TheConstants.{PASSES}
-use Rattle.relay.specs.ByRules.{from_client}
-use Rattle.relay.specs.Systems.{SystemReply, no_answer, reply_of_relaying, System}
+use Rattle.rules.specs.ByRules.{from_client}
+use Rattle.rules.specs.Systems.{SystemReply, no_answer, reply_of_relaying, System}
 
 -- the programs of the two sides
 pub record Programs : Type 0 where

@@ -1,7 +1,5 @@
 -- Internal. What is to be sent for what was found.
-use Rattle.std.specs.Prelude.{◌≡◌, ℕ, List, [], ◌∷◌, take, length, ◌<◌, ◌≤◌, Option, None, Some, option_map}
-use Rattle.stun.specs.Datagrams.{message_in}
-use Rattle.stun.specs.Messages.{Parts}
+use Rattle.std.specs.Prelude.{◌≡◌, ℕ, List, Option, None, option_map}
 use Rattle.attributes.specs.declared.address.Addr.{Addr}
 use Rattle.machine.specs.Contents as machine
 use Rattle.machine.specs.Contents.{datagram_of, window_of}
@@ -12,18 +10,17 @@ use Rattle.helpers.specs.declared.lookup.Lookup.{Lookup}
 use Rattle.machine.specs.Contexts.{HelperAnswers}
 use Rattle.tables.specs.Rows.{Rows, rows_at}
 use Rattle.events.specs.Events.{Sending, ToPeer, ToClient}
-use Rattle.fallible.specs.Options.{◌>>=◌}
-use Rattle.programs.specs.Rules.{channel_data_from, client_at, send_from}
 use Rattle.programs.specs.Runs.{run_for, datagram_in, window_in}
 use Rattle.events.specs.declared.meta.Meta.{Meta}
 use Rattle.events.specs.declared.meta.Source.{Source}
 use Rattle.events.specs.declared.meta.Source.TheVariants.{Client, Peer}
-use Rattle.tables.specs.LookUps.{allocation_of}
+use Rattle.tables.specs.LookUps.{allocation_of, allocation_at}
 use Rattle.tables.specs.declared.allocation.Allocation.{Allocation}
 use Rattle.semantics.specs.Runs.{Run}
 use Rattle.relay.specs.ByPrograms.{program_for}
-use Rattle.relay.specs.ByRules.{from_client}
-use Rattle.relay.specs.Systems.{SystemReply}
+use Rattle.rules.specs.Answers.{sending_of_answer, LiesInRoom}
+use Rattle.rules.specs.ByRules.{from_client}
+use Rattle.rules.specs.Systems.{SystemReply}
 use Rattle.relay.specs.Relays.{RelayContents, datagram_at}
 use Rattle.relay.specs.declared.found.Found.{Found}
 use Rattle.relay.specs.declared.found.Found.TheVariants as found
@@ -50,44 +47,20 @@ run_at r given n = run_for (program_for r.programs given.from) given.tx given.fr
 abbrev pub reply_of_passing : RelayContents → Addr → SystemReply
 reply_of_passing r client = from_client r.config r.greatest client r.rows (datagram_of r.frame)
 
--- the reply to a client, if there is one
-abbrev pub reply_sent : Addr → List ℕ → Option Sending
-reply_sent client [] = None
-reply_sent client (b ∷ bytes) = Some (ToClient client (b ∷ bytes))
-
--- the Send indication of a datagram, if it is one
-abbrev pub send_in : Addr → Rows → Option Parts → Option Sending
-send_in client rows None = None
-send_in client rows (Some p) = send_from client rows p
-
--- the allocation of a client
+-- the allocation of the client that a datagram came from, or of the slot that it came to
 abbrev pub own_for : Source → Rows → Option Allocation
 own_for (Client client) rows = allocation_of client rows
-own_for (Peer slot peer) rows = None
-
--- a window, if there is one, from a slot to a peer, and to the client of the allocation at a slot
-abbrev pub window_to_peer : ℕ → Addr → Option (List ℕ) → Option Sending
-window_to_peer slot peer window = option_map (ToPeer slot peer) window
-
-abbrev pub window_to_client : ℕ → Rows → Option (List ℕ) → Option Sending
-window_to_client slot rows window = do
-  bytes ← window
-  client ← client_at slot rows
-  Some (ToClient client bytes)
+own_for (Peer slot peer) rows = allocation_at slot rows
 
 abbrev pub sending_of_found : RelayContents → Found → Option Sending
 sending_of_found r found.Nothing = None
-sending_of_found r (found.WindowToPeer slot peer) = window_to_peer slot peer (window_shown r.frame)
-sending_of_found r (found.WindowToClient slot) = window_to_client slot (rows_at r.greatest r.rows) (window_shown r.frame)
-sending_of_found r (found.ChannelData client) = channel_data_from client (rows_at r.greatest r.rows) (datagram_of r.frame)
-sending_of_found r (found.Send client) = send_in client (rows_at r.greatest r.rows) (message_in (datagram_of r.frame))
-sending_of_found r (found.Reply client count) = reply_sent client (take count r.reply)
+sending_of_found r (found.WindowToPeer slot peer) = option_map (ToPeer slot peer) (window_shown r.frame)
+sending_of_found r (found.WindowToClient client) = option_map (ToClient client) (window_shown r.frame)
+sending_of_found r (found.Answer client answer) = sending_of_answer client (datagram_of r.frame) r.reply answer
 
--- a reply lies in the room for replies, and has some bytes
+-- the room for replies has that of the rules
 abbrev pub HasRoomFor : Found → List ℕ → Type 0
 HasRoomFor found.Nothing reply = Unit {0}
 HasRoomFor (found.WindowToPeer slot peer) reply = Unit {0}
-HasRoomFor (found.WindowToClient slot) reply = Unit {0}
-HasRoomFor (found.ChannelData client) reply = Unit {0}
-HasRoomFor (found.Send client) reply = Unit {0}
-HasRoomFor (found.Reply client count) reply = (0 < count) × (count ≤ length reply)
+HasRoomFor (found.WindowToClient client) reply = Unit {0}
+HasRoomFor (found.Answer client answer) reply = LiesInRoom answer reply

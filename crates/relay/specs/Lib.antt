@@ -1,6 +1,5 @@
 -- Internal. The modules of this folder.
 pub mod ByPrograms
-pub mod ByRules
 pub mod Errors
 pub mod Found
 pub mod ReadLines
@@ -8,4 +7,3 @@ pub mod Relays
 pub mod Replays
 pub mod Shipped
 pub mod Steps
-pub mod Systems

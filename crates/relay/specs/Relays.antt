@@ -9,7 +9,7 @@ use Rattle.tables.specs.declared.moment.TheConstants.{LATEST}
 use Rattle.machine.specs.Contents as machine
 use Rattle.machine.specs.Contents.{room_of}
 use Rattle.relay.specs.ByPrograms.{Programs}
-use Rattle.relay.specs.Systems.{SystemState}
+use Rattle.rules.specs.Systems.{SystemState}
 use Rattle.control.specs.declared.reply.TheConstants.{REPLY_BYTES}
 
 -- the configuration with the current nonce, the programs, the rows, the greatest moment that was seen, the frame of runs,

@@ -10,7 +10,7 @@ use Rattle.relay.specs.ByPrograms.{by_programs}
 use Rattle.relay.specs.Relays.{RelayContents, state_of}
 use Rattle.relay.specs.declared.replaying.ReplayError.{ReplayError}
 use Rattle.relay.specs.declared.replaying.ReplayError.TheVariants as error
-use Rattle.relay.specs.Systems.{SystemState, System, system_step, answers, state_after_events}
+use Rattle.rules.specs.Systems.{SystemState, System, system_step, answers, state_after_events}
 
 -- ---- texts
 

@@ -6,7 +6,7 @@ use Rattle.loader.specs.Loads.{IsLoaded}
 use Rattle.programs.specs.declared.client.TheConstants.{CLIENT}
 use Rattle.programs.specs.declared.peer.TheConstants.{PEER}
 use Rattle.relay.specs.ByPrograms.{Programs}
-use Rattle.relay.specs.Systems.{SystemState, System, answers, state_after_events}
+use Rattle.rules.specs.Systems.{SystemState, System, answers, state_after_events}
 
 -- both programs are the shipped ones
 pub record AreShipped (programs : Programs) : Type 0 where

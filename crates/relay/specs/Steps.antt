@@ -6,9 +6,9 @@ use Rattle.machine.specs.Contents.{with_room}
 use Rattle.events.specs.Events.{Datagram}
 use Rattle.events.specs.declared.meta.Meta.{Meta}
 use Rattle.relay.specs.ByPrograms.{by_programs}
-use Rattle.relay.specs.ByRules.{by_rules}
+use Rattle.rules.specs.ByRules.{by_rules}
 use Rattle.relay.specs.Relays.{RelayContents, state_of, datagram_at}
-use Rattle.relay.specs.Systems.{SystemOutcome, system_step}
+use Rattle.rules.specs.Systems.{SystemOutcome, system_step}
 use Rattle.relay.specs.contracts.relay.Relay.{the_row}
 
 -- the outcome of a datagram by the relay's programs

@@ -1,13 +1,16 @@
 //! What a step finds, before it is lent.
 
-ghost use Rattle.std.specs.Prelude.{◌≡◌, ◌≤◌, ℕ, List, length, take};
+ghost use Rattle.std.specs.Prelude.{◌≡◌, ℕ, List, option_map, option_copied};
 ghost use Rattle.tables.specs.Rows.{rows_at};
+ghost use Rattle.events.specs.Actions.{sending_of};
+ghost use Rattle.events.specs.Events.{ToPeer, ToClient};
 ghost use Rattle.programs.specs.Runs.{planned_sending};
-ghost use Rattle.relay.specs.Found.{sending_of_found, own_for, reply_sent, window_shown, HasRoomFor};
+ghost use Rattle.relay.specs.Found.{sending_of_found, own_for, window_shown, HasRoomFor};
 ghost use Rattle.relay.specs.Relays.{RelayContents};
 
 use attributes::Addr;
-use events::Source;
+use events::{Action, Source};
+use rules::Answer;
 use tables::Allocation;
 
 /// What is to be sent, as a step finds it.
@@ -17,18 +20,14 @@ pub(crate) enum Found {
     Nothing,
     /// The window, from a slot to a peer.
     WindowToPeer { slot: usize, peer: Addr },
-    /// The window, to the client of the allocation at a slot.
-    WindowToClient { slot: usize },
-    /// The data of a client's ChannelData.
-    ChannelData(Addr),
-    /// The data of a client's Send indication.
-    Send(Addr),
-    /// The first `count` bytes of the room for replies, where `count` is not 0.
-    Reply { client: Addr, count: usize },
+    /// The window, to a client.
+    WindowToClient { client: Addr },
+    /// What the rules answer to a client's datagram.
+    Answer { client: Addr, answer: Answer },
 }
 
-/// Returns the finding of what verdict 2 sends, by the client's allocation, or by the slot that a peer's datagram
-/// came to. Nothing goes to an address that isn't of the allocation's family.
+/// Returns the finding of what verdict 2 sends, by the allocation of the client that a datagram came from, or of the slot that
+/// it came to. Nothing goes to an address that isn't of the allocation's family.
 /// See docs/DECISIONS.md, "One family".
 pub(crate) fn window_found(
     from: Source,
@@ -39,32 +38,37 @@ pub(crate) fn window_found(
         → sending_of_found r result ≡ planned_sending from (rows_at r.greatest r.rows) destination (window_shown r.frame) }
     ensures room { (reply : List ℕ) → HasRoomFor result reply }
 {
+    let Some(own) = own else {
+        return Found::Nothing;
+    };
     match from {
-        Source::Client(_) => {
-            let (Some(allocation), Some(peer)) = (own, destination) else {
-                return Found::Nothing;
-            };
-            if !peer.is_of_family(allocation.family) {
-                return Found::Nothing;
-            }
-            Found::WindowToPeer {
-                slot: allocation.slot,
+        Source::Client(_) => match destination {
+            Some(peer) if peer.is_of_family(own.family) => Found::WindowToPeer {
+                slot: own.slot,
                 peer,
-            }
-        }
-        Source::Peer { slot, .. } => Found::WindowToClient { slot },
+            },
+            _ => Found::Nothing,
+        },
+        Source::Peer { .. } => Found::WindowToClient { client: own.client },
     }
 }
 
-/// Returns the finding of a reply of `count` bytes, 0 where there is none.
-#[tactic(auto, using(crate::proofs::Controls::reply_is_sent))]
-pub(crate) fn reply_found(client: Addr, count: usize) -> Found
-    ensures sends { (r : RelayContents) → count ≤ length r.reply → sending_of_found r result ≡ reply_sent client (take count r.reply) }
-    ensures room { (reply : List ℕ) → count ≤ length reply → HasRoomFor result reply }
+/// Sends a window from a slot to a peer.
+pub(crate) fn window_to_peer(slot: usize, peer: Addr, window: Option<&[u8]>) -> Action<'_>
+    ensures { sending_of result ≡ option_map (ToPeer slot peer) (option_copied window.entry) }
 {
-    if count == 0 {
-        Found::Nothing
-    } else {
-        Found::Reply { client, count }
+    match window {
+        Some(bytes) => Action::ToPeer { slot, peer, bytes },
+        None => Action::Nothing,
+    }
+}
+
+/// Sends a window to a client.
+pub(crate) fn window_to_client(client: Addr, window: Option<&[u8]>) -> Action<'_>
+    ensures { sending_of result ≡ option_map (ToClient client) (option_copied window.entry) }
+{
+    match window {
+        Some(bytes) => Action::ToClient { client, bytes },
+        None => Action::Nothing,
     }
 }

@@ -1,4 +1,4 @@
-//! The relay: two loaded programs and the rules for requests, joined.
+//! The relay: two loaded programs and the rules, joined.
 #![tactic(auto)]
 
 mod error;
@@ -6,7 +6,6 @@ mod found;
 mod reading;
 mod relay;
 mod replaying;
-mod rules;
 mod running;
 mod shipped;
 

@@ -2,27 +2,24 @@
 
 ghost use Rattle.std.specs.Prelude.{◌≡◌, ◌&&◌};
 ghost use Rattle.tables.specs.Addresses.{is_ipv4};
-ghost use Rattle.relay.specs.Systems.{is_served};
+ghost use Rattle.rules.specs.Systems.{is_served};
 ghost use Rattle.relay.specs.ByPrograms.{is_there};
 
 use crate::error::RelayError;
-use crate::found::{Found, reply_found, window_found};
-use crate::rules::{begins_as_stun, channel_data, send, window_to_client, window_to_peer};
+use crate::found::{Found, window_found, window_to_client, window_to_peer};
 use crate::running::{context_for, own_for, program_for, run_over, slot_for};
 use arrayvec::ArrayString;
 use attributes::Addr;
-use control::{Config, Field, REPLY_BYTES, is_nonce, respond};
-use credentials::results_are_checked;
+use control::{Config, Field, REPLY_BYTES, is_nonce};
 use events::{Action, Meta, Source};
 use helpers::Lookup;
 use loader::Loaded;
 use machine::{Frame, Outcome};
 use programs::{PASSES, SENDS};
+use rules::{Answer, ClientDatagram, answer_client};
 use std::alloc::Global;
 use std::marker::Model;
-use stun::read;
-use stun::registry::{Class, MessageType, Method};
-use tables::{Tables, is_ipv4, moment_of};
+use tables::{Allocation, Tables, is_ipv4, moment_of};
 
 /// A relay: its configuration, the programs of both sides, and its tables.
 /// See docs/DECISIONS.md, "The greatest moment is the relay's".
@@ -60,12 +57,6 @@ impl Model for Relay {
     ghost invariant = { λ r. IsRelay r.config r.tables r.greatest r.reply.items };
 }
 
-/// The type of a Send indication.
-const SEND: MessageType = MessageType {
-    method: Method::Send,
-    class: Class::Indication,
-};
-
 /// Returns whether a source is served: a client over IPv4, or a peer whose slot is there.
 fn is_served(from: Source, tables: &Tables) -> bool
     ensures { result ≡ is_served from && is_there from tables.now }
@@ -88,11 +79,14 @@ impl Relay {
     ghost use Rattle.semantics.specs.declared.limits.TheConstants.{MAX_DATAGRAM};
     ghost use Rattle.events.specs.Actions.{sending_of};
     ghost use Rattle.relay.specs.Errors.{IsFault};
+    ghost use Rattle.tables.specs.LookUps.{allocation_of};
+    ghost use Rattle.machine.specs.Contents.{datagram_of};
+    ghost use Rattle.rules.specs.Answers.{sending_of_answer, LiesInRoom};
     ghost use Rattle.relay.specs.Found.{sending_of_found, run_at, reply_of_passing, HasRun, HasRoomFor};
     ghost use Rattle.relay.specs.Relays.{state_of, datagram_at};
     ghost use Rattle.relay.specs.Shipped.{AreShipped};
     ghost use Rattle.relay.specs.Steps.{outcome_of, ruled_outcome_of, after_step, lends_relay_room, HasStepped};
-    ghost use Rattle.relay.specs.Systems.{first};
+    ghost use Rattle.rules.specs.Systems.{first};
     ghost use Rattle.relay.specs.declared.error.RelayError.TheVariants.{BadConfig};
 
     /// Makes a relay of two loaded programs, with no allocation.
@@ -204,7 +198,7 @@ impl Relay {
     }
 
     /// Decides a datagram, the first `n` bytes of [`area`](Relay::area), and returns what is to be sent: the program of its
-    /// side runs over it, and what the client's program passes on is handled by the rules for requests. With the shipped
+    /// side runs over it, and what the client's program passes on is answered by the rules. With the shipped
     /// programs this is what the rules say.
     /// See docs/DECISIONS.md, "A system is a function".
     #[inline(always)]
@@ -229,19 +223,10 @@ impl Relay {
         match found {
             Found::Nothing => Action::Nothing,
             Found::WindowToPeer { slot, peer } => window_to_peer(slot, peer, self.frame.window()),
-            Found::WindowToClient { slot } => {
-                window_to_client(&self.tables, self.greatest, slot, self.frame.window())
+            Found::WindowToClient { client } => window_to_client(client, self.frame.window()),
+            Found::Answer { client, answer } => {
+                answer.action(client, self.frame.datagram(), &self.reply)
             }
-            Found::ChannelData(client) => {
-                channel_data(&self.tables, self.greatest, client, self.frame.datagram())
-            }
-            Found::Send(client) => {
-                send(&self.tables, self.greatest, client, self.frame.datagram())
-            }
-            Found::Reply { client, count } => Action::ToClient {
-                client,
-                bytes: &self.reply[..count],
-            },
         }
     }
 
@@ -262,7 +247,10 @@ impl Relay {
         let outcome = self.run(meta, n, slot);
         match outcome.verdict {
             PASSES => match meta.from {
-                Source::Client(client) => self.pass_on(client),
+                Source::Client(client) => Found::Answer {
+                    client,
+                    answer: self.pass_on(client, own),
+                },
                 Source::Peer { .. } => Found::Nothing,
             },
             SENDS => window_found(meta.from, own, outcome.destination),
@@ -289,30 +277,21 @@ impl Relay {
         )
     }
 
-    /// Handles a client's datagram that its program passed on, as it is in the frame.
-    /// See docs/DECISIONS.md, "Six arguments of `respond`".
+    /// Answers by the rules what a client's program passed on, as it is in the frame.
     // A request takes tens of kilobytes of stack, which a datagram that is relayed would else pay for at its entry.
     #[inline(never)]
-    fn pass_on(&mut self, client: Addr) -> Found
-        requires { is_ipv4 client ≡ true }
-        ensures found { sending_of_found self.new result ≡ (reply_of_passing self.old client).answer }
-        ensures room { HasRoomFor result self.new.reply }
+    fn pass_on(&mut self, client: Addr, own: Option<Allocation>) -> Answer
+        requires ipv4 { is_ipv4 client ≡ true }
+        requires own { own ≡ allocation_of client (rows_at self.old.greatest self.old.rows) }
+        ensures answer { sending_of_answer client (datagram_of self.new.frame) self.new.reply result
+            ≡ (reply_of_passing self.old client).answer }
+        ensures room { LiesInRoom result self.new.reply }
         ensures rest { self.new
             ≡ record self.old { rows = (reply_of_passing self.old client).rows; reply = self.new.reply } }
     {
-        let datagram = self.frame.datagram();
-        if !begins_as_stun(datagram) {
-            return Found::ChannelData(client);
-        }
-        let Ok(message) = read(datagram) else {
-            return Found::Nothing;
-        };
-        if message.kind() == SEND.kind() {
-            return Found::Send(client);
-        }
-        results_are_checked();
+        let bytes = self.frame.datagram();
+        let from = ClientDatagram { client, own, bytes };
         let (tables, out) = (&mut self.tables, &mut self.reply);
-        let count = respond(tables, &self.config, self.greatest, client, &message, out);
-        reply_found(client, count)
+        answer_client(tables, &self.config, self.greatest, &from, out)
     }
 }

@@ -33,7 +33,7 @@ impl Relay {
     ghost use Rattle.events.specs.Reading.{event_in};
     ghost use Rattle.relay.specs.Replays.{system_of, after_line, answer_to, is_read_failure, is_write_failure};
     ghost use Rattle.relay.specs.Replays.{IsCut, IsSameRelay, HasPlayedAll, StopsAtLine, StopsBefore, StopsWriting};
-    ghost use Rattle.relay.specs.ByRules.{by_rules};
+    ghost use Rattle.rules.specs.ByRules.{by_rules};
     ghost use Rattle.relay.specs.Relays.{state_of};
     ghost use Rattle.relay.specs.Shipped.{AreShipped, AnswerAlike};
     ghost use Rattle.events.specs.Events.{Event};

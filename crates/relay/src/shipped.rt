@@ -9,9 +9,9 @@ ghost use Rattle.semantics.specs.declared.limits.TheConstants.{MAX_DATAGRAM};
 ghost use Rattle.events.specs.Events.{Event};
 ghost use Rattle.events.specs.Lines.{IsEvent};
 ghost use Rattle.relay.specs.ByPrograms.{Programs, by_programs};
-ghost use Rattle.relay.specs.ByRules.{by_rules};
+ghost use Rattle.rules.specs.ByRules.{by_rules};
 ghost use Rattle.relay.specs.Shipped.{AreShipped, AnswerAlike};
-ghost use Rattle.relay.specs.Systems.{first, address_of_source};
+ghost use Rattle.rules.specs.Systems.{first, address_of_source};
 
 use crate::relay::Relay;
 use attributes::is_address;

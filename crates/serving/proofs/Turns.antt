@@ -8,13 +8,13 @@ use Rattle.events.specs.declared.meta.Source.{Source}
 use Rattle.machine.specs.Contents.{room_of, with_room}
 use Rattle.machine.specs.FrameLaws.{room_written}
 use Rattle.semantics.specs.declared.limits.TheConstants.{MAX_DATAGRAM}
-use Rattle.relay.specs.ByRules.{by_rules}
+use Rattle.rules.specs.ByRules.{by_rules}
 use Rattle.relay.specs.Relays.{RelayContents, state_of}
 use Rattle.relay.specs.Replays.{system_of}
 use Rattle.relay.specs.Shipped.{AreShipped}
 use Rattle.relay.specs.Steps as relay
 use Rattle.relay.specs.Steps.{HasStepped}
-use Rattle.relay.specs.Systems.{SystemOutcome, system_step}
+use Rattle.rules.specs.Systems.{SystemOutcome, system_step}
 use Rattle.serving.specs.Calls.{Call, Received, HasReported}
 use Rattle.serving.specs.Serving.{IsServed, HasSent, IsSent, send_of, result_of_send, outcome_of_bytes, ruled_outcome_of_bytes, source_at}
 use Rattle.serving.specs.declared.link.LinkFault.{LinkFault}

@@ -5,12 +5,12 @@ use Rattle.events.specs.Events.{Sending, ToPeer, ToClient, Datagram}
 use Rattle.events.specs.declared.meta.Meta.{Meta}
 use Rattle.events.specs.declared.meta.Source.{Source}
 use Rattle.events.specs.declared.meta.Source.TheVariants as source
-use Rattle.relay.specs.ByRules.{by_rules}
+use Rattle.rules.specs.ByRules.{by_rules}
 use Rattle.relay.specs.Relays.{RelayContents, state_of}
 use Rattle.relay.specs.Replays.{system_of}
 use Rattle.relay.specs.Shipped.{AreShipped}
 use Rattle.relay.specs.Steps.{HasStepped}
-use Rattle.relay.specs.Systems.{SystemOutcome, system_step}
+use Rattle.rules.specs.Systems.{SystemOutcome, system_step}
 use Rattle.semantics.specs.declared.limits.TheConstants.{MAX_DATAGRAM}
 use Rattle.serving.specs.Calls.{Call, Received, Sent, HasReported}
 use Rattle.serving.specs.declared.link.LinkFault.{LinkFault}

@@ -3,7 +3,7 @@
 ghost use Rattle.std.specs.Prelude.{◌≡◌, ◌<◌, ◌≤◌, length, IfOk, IfErr};
 ghost use Rattle.control.specs.Configs.{fault};
 ghost use Rattle.relay.specs.Relays.{state_of};
-ghost use Rattle.relay.specs.Systems.{first};
+ghost use Rattle.rules.specs.Systems.{first};
 ghost use Rattle.setup.specs.Setups.{IsConfigOf, IsSetupFault, IsProgram, IsProgramFault, MOST_NONCE};
 ghost use Rattle.setup.specs.declared.error.SetupError.TheVariants as errors;
 

@@ -1,7 +1,7 @@
 use Rattle.std.proofs.Common.{arith}
 use Rattle.control.specs.ConfigLaws.{within_limits}
 use Rattle.tables.specs.WellFormedLaws.{no_rows-well_formed}
-use Rattle.relay.specs.Systems.{first}
+use Rattle.rules.specs.Systems.{first}
 use Rattle.relay.proofs.ShippedRuns.{alike}
 use Rattle.relay.proofs.shipped.shipped_programs_are_the_rules.Goals as goal
 

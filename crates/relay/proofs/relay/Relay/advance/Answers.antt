@@ -1,15 +1,24 @@
 use Rattle.std.proofs.Common.{◌≡◌, rules, sym, ap, subst, ◌∙◌}
+use Rattle.tables.specs.LookUps.{allocation_of}
 use Rattle.tables.specs.Rows.{rows_at}
+use Rattle.events.specs.declared.meta.Source.{Source}
 use Rattle.programs.specs.Runs.{planned_sending}
 use Rattle.relay.specs.Found.{reply_of_passing, own_for, window_shown}
 use Rattle.relay.specs.Relays.{RelayContents}
 use Rattle.relay.specs.Steps.{HasStepped, outcome_of}
-use Rattle.relay.specs.Systems.{SystemReply, no_answer, reply_of_relaying}
+use Rattle.rules.specs.Systems.{SystemReply, no_answer, reply_of_relaying}
 use Rattle.relay.specs.contracts.relay.Relay.{the_view}
 use Rattle.relay.proofs.Advances.{reply_at, steps, stays, answers, passes_client, passes_peer, sends, discards}
 use Rattle.relay.proofs.relay.Relay.advance.Goals as goal
 
 -- ---- where the program of a client passes the datagram on
+
+pub pass_on-requires-clause-own : goal.pass_on-requires-clause-own
+pass_on-requires-clause-own c =
+    let kept = c.run-outcome.ensures.rest in
+    c.own_for-own.ensures
+    ∙ ap (λ (s : Source). own_for s (rows_at c.moment_of-self-inside.result c.self.inside.tables)) c.in-Client.is
+    ∙ (λ i. allocation_of c.in-Client.client (rows_at (sym kept i).greatest (sym kept i).rows))
 
 client_reply : (c : goal.After-pass_on) → reply_at (the_view c.self.inside) c.args.meta.now c.args.n c.moment_of-self-inside.result ≡ reply_of_passing c.run-outcome.new.self c.in-Client.client
 client_reply c =
@@ -32,21 +41,30 @@ returns-in-Client-clause-stepped c =
 
 pub returns-in-Client-clause-found : goal.returns-in-Client-clause-found
 returns-in-Client-clause-found c =
-    c.pass_on.ensures.found
+    c.pass_on.ensures.answer
     ∙ sym (ap (λ (r : SystemReply). r.answer) (client_reply c))
     ∙ answers (the_view c.self.inside) c.args.meta.now c.args.n c.moment_of-self-inside.result c.moment_of-self-inside.ensures
     ∙ (λ i. (outcome_of (c.self.view_is i) c.args.meta.now c.args.n).answer)
 
 -- ---- where it is a peer's
 
+not_passed : (c : goal.In-Peer) → reply_at (the_view c.self.inside) c.args.meta.now c.args.n c.moment_of-self-inside.result ≡ no_answer c.self.inside.tables
+not_passed c =
+    passes_peer (the_view c.self.inside) c.args.meta.now c.args.n c.moment_of-self-inside.result c.run-outcome.result c.run-outcome.new.self
+    (search rules) c.run-outcome.ensures.run c.in-Peer.slot c.in-Peer.addr c.in-Peer.is c.in-1.is
+
 pub returns-in-Peer-clause-stepped : goal.returns-in-Peer-clause-stepped
 returns-in-Peer-clause-stepped c =
-    let reply = passes_peer (the_view c.self.inside) c.args.meta.now c.args.n c.moment_of-self-inside.result c.run-outcome.result c.run-outcome.new.self
-    (search rules) c.run-outcome.ensures.run c.in-Peer.slot c.in-Peer.addr c.in-Peer.is c.in-1.is in
     let P : RelayContents → Type 0 = λ r. HasStepped r c.run-outcome.new.self (outcome_of r c.args.meta.now c.args.n) in
     subst P c.self.view_is
     (stays (the_view c.self.inside) c.args.meta.now c.args.n c.moment_of-self-inside.result c.run-outcome.new.self c.moment_of-self-inside.ensures
-    c.run-outcome.ensures.rest (ap (λ (r : SystemReply). r.rows) reply))
+    c.run-outcome.ensures.rest (ap (λ (r : SystemReply). r.rows) (not_passed c)))
+
+pub returns-in-Peer-clause-found : goal.returns-in-Peer-clause-found
+returns-in-Peer-clause-found c =
+    sym (ap (λ (r : SystemReply). r.answer) (not_passed c))
+    ∙ answers (the_view c.self.inside) c.args.meta.now c.args.n c.moment_of-self-inside.result c.moment_of-self-inside.ensures
+    ∙ (λ i. (outcome_of (c.self.view_is i) c.args.meta.now c.args.n).answer)
 
 -- ---- where the plan is sent
 

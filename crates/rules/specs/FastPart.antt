@@ -4,7 +4,7 @@ use Rattle.std.specs.Prelude.{ℕ, Bool, false, ◌&&◌, ◌||◌, ◌==◌, Li
 use Rattle.stun.specs.Messages.{PaddedAttribute, Parts}
 use Rattle.stun.specs.Ranges.{is_between}
 use Rattle.stun.specs.declared.registry.attribute.TheConstants.{XOR_PEER_ADDRESS, DATA}
-use Rattle.programs.specs.Rules.{send_indication}
+use Rattle.rules.specs.Rules.{send_indication}
 
 -- the first two bits are 00
 abbrev pub begins_as_stun : List ℕ → Bool

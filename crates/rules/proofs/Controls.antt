@@ -3,7 +3,6 @@ use Rattle.std.proofs.Common.{◌≡◌, ◌≢◌, ℕ, ◌<◌, ◌≤◌, len
 use Rattle.std.specs.Prelude.{◌==◌, Option, None, Some, Result, string_bytes}
 use Rattle.std.proofs.lemmas.Bool.{cases_Bool, cond-true, cond-false, both_ways}
 use Rattle.std.proofs.lemmas.Option.{same_Some}
-use Rattle.stun.specs.Datagrams.{message_in}
 use Rattle.stun.specs.Messages.{Parts}
 use Rattle.stun.specs.declared.registry.Class.TheVariants as class
 use Rattle.attributes.specs.declared.address.Addr.{Addr}
@@ -19,12 +18,10 @@ use Rattle.control.specs.declared.request.Request.{Request}
 use Rattle.control.specs.declared.request.Request.TheVariants as request
 use Rattle.control.specs.declared.request.TurnRequest.TheVariants as turn
 use Rattle.tables.specs.Rows.{Rows, rows_at}
-use Rattle.programs.specs.FastPart.{begins_as_stun}
-use Rattle.programs.specs.Rules.{send_indication, send_from, channel_data_from}
 use Rattle.events.specs.Events.{ToClient}
-use Rattle.relay.specs.ByRules.{requests, request_among, request_of, decision_and_key, reply_with, reply_to_request, control, message, from_client}
-use Rattle.relay.specs.Found.{reply_sent}
-use Rattle.relay.specs.Systems.{SystemReply, no_answer, reply_of_relaying}
+use Rattle.rules.specs.ByRules.{requests, request_among, request_of, decision_and_key, reply_with, reply_to_request, control}
+use Rattle.rules.specs.Answers.{reply_sent}
+use Rattle.rules.specs.Systems.{SystemReply, no_answer}
 
 -- ---- the request of a type
 
@@ -94,35 +91,9 @@ module _ (are_checked : AreChecked) (config : Config) (now : ℕ) (client : Addr
   pub control_is : is_ipv4 client ≡ true → Responds config now client p old new written → control config now client p old ≡ reply_of
   control_is ipv4 responds = by_request ipv4 responds (request_of p.kind) refl
 
--- ---- a datagram of a client
-
 -- a reply of some bytes is sent
 pub reply_is_sent : (client : Addr) (n : ℕ) (out : List ℕ) → n ≤ length out → n ≢ 0 → reply_sent client (take n out) ≡ Some (ToClient client (take n out))
 reply_is_sent client n out fits some = of (take n out) (omega (arith, length-take-le n out fits, some)) where
   of : (bytes : List ℕ) → 0 < length bytes → reply_sent client bytes ≡ Some (ToClient client bytes)
   of [] h = absurd (omega (arith, h))
   of (b ∷ bytes) h = refl
-
-module _ (config : Config) (now : ℕ) (client : Addr) (rows : Rows) (datagram : List ℕ) where
-  abbrev by_message : Option Parts → SystemReply
-  by_message m = message config now client rows m
-
-  -- ChannelData
-  pub is_relayed : begins_as_stun datagram ≡ false → from_client config now client rows datagram ≡ reply_of_relaying rows (channel_data_from client (rows_at now rows) datagram)
-  is_relayed other = cond-false (begins_as_stun datagram) (by_message (message_in datagram)) _ other
-
-  is_message : (m : Option Parts) → begins_as_stun datagram ≡ true → message_in datagram ≡ m → from_client config now client rows datagram ≡ by_message m
-  is_message m stun is = cond-true (begins_as_stun datagram) (by_message (message_in datagram)) _ stun ∙ ap by_message is
-
-  -- what is no message
-  pub is_silent : begins_as_stun datagram ≡ true → message_in datagram ≡ None → from_client config now client rows datagram ≡ no_answer rows
-  is_silent stun is = is_message None stun is
-
-  module _ (p : Parts) (stun : begins_as_stun datagram ≡ true) (is : message_in datagram ≡ Some p) where
-    -- a Send indication
-    pub is_sent : (p.kind == send_indication) ≡ true → from_client config now client rows datagram ≡ reply_of_relaying rows (send_from client (rows_at now rows) p)
-    is_sent same = is_message (Some p) stun is ∙ cond-true (p.kind == send_indication) (reply_of_relaying rows (send_from client (rows_at now rows) p)) (control config now client p rows) same
-
-    -- any other message
-    pub is_handled : (p.kind == send_indication) ≡ false → from_client config now client rows datagram ≡ control config now client p rows
-    is_handled other = is_message (Some p) stun is ∙ cond-false (p.kind == send_indication) (reply_of_relaying rows (send_from client (rows_at now rows) p)) (control config now client p rows) other

@@ -18,9 +18,9 @@ use Rattle.control.specs.declared.request.TurnRequest.TheVariants as turn
 use Rattle.tables.specs.Rows.{Rows, rows_at}
 use Rattle.events.specs.Events.{ToClient}
 use Rattle.events.specs.declared.meta.Source.TheVariants.{Client, Peer}
-use Rattle.programs.specs.FastPart.{begins_as_stun}
-use Rattle.programs.specs.Rules.{send_indication, channel_data_from, send_from, peer_data_to}
-use Rattle.relay.specs.Systems.{SystemReply, no_answer, reply_of_relaying, System}
+use Rattle.rules.specs.FastPart.{begins_as_stun}
+use Rattle.rules.specs.Rules.{send_indication, channel_data_from, send_from, peer_data_to}
+use Rattle.rules.specs.Systems.{SystemReply, no_answer, reply_of_relaying, System}
 
 -- ---- requests
 

@@ -1,0 +1,59 @@
+//! The datagrams of clients.
+
+ghost use Rattle.std.specs.Prelude.{◌≡◌, ◌≤◌, None, length, true};
+ghost use Rattle.control.specs.Configs.{fault};
+ghost use Rattle.tables.specs.Addresses.{is_ipv4};
+ghost use Rattle.tables.specs.LookUps.{allocation_of};
+ghost use Rattle.tables.specs.Rows.{rows_at};
+ghost use Rattle.rules.specs.Answers.{sending_of_answer, LiesInRoom};
+ghost use Rattle.rules.specs.ByRules.{from_client};
+
+use crate::answer::{Answer, ClientDatagram, reply_of};
+use crate::relaying::{begins_as_stun, channel_data, send};
+use control::{Config, REPLY_BYTES, respond};
+use credentials::results_are_checked;
+use stun::read;
+use stun::registry::{Class, MessageType, Method};
+use tables::Tables;
+
+/// The type of a Send indication.
+const SEND: MessageType = MessageType {
+    method: Method::Send,
+    class: Class::Indication,
+};
+
+/// Answers a datagram of a client over IPv4 at a moment, in seconds, by the rules: what begins as a STUN message is answered or
+/// relayed as one, and everything else is relayed if it is ChannelData. A request may change the tables, and its reply is
+/// written over the first bytes of `out`, which has at least [`REPLY_BYTES`](control::REPLY_BYTES) bytes. The configuration has
+/// no fault, the tables have its slots, and `from` names the allocation that the client has at that moment.
+pub fn answer_client(
+    tables: &mut Tables,
+    config: &Config,
+    moment: u64,
+    from: &ClientDatagram<'_>,
+    out: &mut [u8],
+) -> Answer
+    requires room { REPLY_BYTES ≤ length out.old }
+    requires config { fault config.now ≡ None }
+    requires slots { length tables.old.slots ≡ config.now.slots }
+    requires ipv4 { is_ipv4 from.now.client ≡ true }
+    requires own { from.now.own ≡ allocation_of from.now.client (rows_at moment tables.old) }
+    ensures answer { sending_of_answer from.now.client from.now.bytes.now out.new result
+        ≡ (from_client config.now moment from.now.client tables.old from.now.bytes.now).answer }
+    ensures rows { tables.new ≡ (from_client config.now moment from.now.client tables.old from.now.bytes.now).rows }
+    ensures room { LiesInRoom result out.new }
+    ensures slots { length tables.new.slots ≡ length tables.old.slots }
+{
+    if !begins_as_stun(from.bytes) {
+        return channel_data(tables, moment, from);
+    }
+    let Ok(message) = read(from.bytes) else {
+        return Answer::Nothing;
+    };
+    if message.kind() == SEND.kind() {
+        return send(tables, moment, from, &message);
+    }
+    results_are_checked();
+    let count = respond(tables, config, moment, from.client, &message, out);
+    reply_of(count)
+}

@@ -1,0 +1,10 @@
+//! The rules: what a datagram of a client is answered (RFC 8489, RFC 8656). Requests are answered, and ChannelData and Send
+//! indications relayed.
+#![tactic(auto)]
+
+mod answer;
+mod client;
+mod relaying;
+
+pub use answer::{Answer, ClientDatagram};
+pub use client::answer_client;

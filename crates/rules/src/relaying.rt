@@ -1,0 +1,87 @@
+//! Relaying by the rules: where the data of a client's datagram goes.
+
+ghost use Rattle.std.specs.Prelude.{◌≡◌, List, ℕ, Some};
+ghost use Rattle.stun.specs.Datagrams.{message_in};
+ghost use Rattle.tables.specs.LookUps.{allocation_of};
+ghost use Rattle.tables.specs.Rows.{rows_at};
+ghost use Rattle.rules.specs.Answers.{sending_of_answer, LiesInRoom};
+ghost use Rattle.rules.specs.FastPart.{begins_as_stun};
+ghost use Rattle.rules.specs.Rules.{channel_data_from, send_from};
+
+use crate::answer::{Answer, ClientDatagram};
+use attributes::read_xor_addr;
+use control::all_understood;
+use stun::registry::attribute::{DATA, XOR_PEER_ADDRESS};
+use stun::{Message, read_channel};
+use tables::{Tables, uncounted};
+
+/// Returns whether a datagram begins with the bits 00, as STUN messages do.
+pub(crate) fn begins_as_stun(datagram: &[u8]) -> bool
+    ensures { result ≡ begins_as_stun datagram.now }
+{
+    match datagram {
+        [] => false,
+        [first, ..] => *first < 0x40,
+    }
+}
+
+/// Relays ChannelData: its data goes to the peer that its number is bound to (RFC 8656, section 12.6).
+pub(crate) fn channel_data(tables: &Tables, moment: u64, from: &ClientDatagram<'_>) -> Answer
+    requires { from.now.own ≡ allocation_of from.now.client (rows_at moment tables.now) }
+    ensures sends { (reply : List ℕ) → sending_of_answer from.now.client from.now.bytes.now reply result
+        ≡ channel_data_from from.now.client (rows_at moment tables.now) from.now.bytes.now }
+    ensures room { (reply : List ℕ) → LiesInRoom result reply }
+{
+    let Some(own) = from.own else {
+        return Answer::Nothing;
+    };
+    let Some(message) = read_channel(from.bytes) else {
+        return Answer::Nothing;
+    };
+    let slot = own.slot;
+    let Some(peer) = uncounted::peer_of(tables, slot, message.number, moment) else {
+        return Answer::Nothing;
+    };
+    if !peer.is_of_family(own.family) {
+        return Answer::Nothing;
+    }
+    Answer::ChannelData { slot, peer }
+}
+
+/// Relays a Send indication: its data goes to its address, if that has a permission (RFC 8656, section 11.2).
+pub(crate) fn send(
+    tables: &Tables,
+    moment: u64,
+    from: &ClientDatagram<'_>,
+    message: &Message<'_>,
+) -> Answer
+    requires own { from.now.own ≡ allocation_of from.now.client (rows_at moment tables.now) }
+    requires message { message_in from.now.bytes.now ≡ Some message.now }
+    ensures sends { (reply : List ℕ) → sending_of_answer from.now.client from.now.bytes.now reply result
+        ≡ send_from from.now.client (rows_at moment tables.now) message.now }
+    ensures room { (reply : List ℕ) → LiesInRoom result reply }
+{
+    let Some(own) = from.own else {
+        return Answer::Nothing;
+    };
+    if !all_understood(message) {
+        return Answer::Nothing;
+    }
+    let Some(value) = message.value_of(XOR_PEER_ADDRESS) else {
+        return Answer::Nothing;
+    };
+    if message.value_of(DATA).is_none() {
+        return Answer::Nothing;
+    }
+    let Ok(peer) = read_xor_addr(value, &message.tx()) else {
+        return Answer::Nothing;
+    };
+    let slot = own.slot;
+    if !uncounted::permitted(tables, slot, peer, moment) {
+        return Answer::Nothing;
+    }
+    if !peer.is_of_family(own.family) {
+        return Answer::Nothing;
+    }
+    Answer::Send { slot, peer }
+}
