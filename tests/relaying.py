@@ -397,16 +397,8 @@ def cut_datagrams():
     return pairs
 
 
-def texts():
-    """The texts in examples/relay/ that are not those of the shipped programs."""
-    for side in ("client", "peer"):
-        source = (TOP / "crates" / "programs" / "src" / f"{side}.rt").read_text()
-        if f'"\\\n{(PROGRAMS / f"{side}.s").read_text()}"' not in source:
-            yield f"examples/relay/{side}.s is not the shipped text"
-
-
 def stored():
-    """The model against the stored session of Chromium, whose answers other hands wrote."""
+    """The model against the stored session of Chromium, whose answers another implementation wrote."""
     folder = TOP / "crates" / "session_replay"
     rules = Rules([("u", "p")])
     events = (folder / "stdin").read_text().splitlines()
@@ -422,7 +414,7 @@ def denied():
 
 def main():
     build()
-    failures = [*texts(), *stored()]
+    failures = [*stored()]
     pairs = seeded(8656, EVENTS)
     count = 0
     with tempfile.TemporaryDirectory() as name:

@@ -1,4 +1,4 @@
--- Interface. The instructions of the program of the peers' side.
+-- Interface. The instructions of the program of the peers' side. tests/shipped.py makes this file.
 use Rattle.std.specs.Prelude.{List, [], ◌∷◌, pos, negsuc}
 use Rattle.insn.specs.declared.condition.Condition.TheVariants.{Eq, Ne, Gt, Lt}
 use Rattle.insn.specs.declared.instruction.Insn.{Insn}

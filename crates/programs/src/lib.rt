@@ -2,9 +2,11 @@
 #![tactic(auto)]
 
 mod client;
+mod laws;
 mod peer;
 mod verdict;
 
-pub use client::{CLIENT, client_serves, client_tests_plain_sends, client_text};
-pub use peer::{PEER, peer_serves, peer_text};
+pub use client::CLIENT;
+pub use laws::{client_serves, client_tests_plain_sends, peer_serves};
+pub use peer::PEER;
 pub use verdict::{DISCARDS, PASSES, SENDS, verdicts};

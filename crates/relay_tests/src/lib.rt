@@ -1,4 +1,4 @@
-//! The tests of the relay, of the events that it reads, and of the shipped programs.
+//! The tests of the relay with the shipped programs, and of the events that it reads.
 #![tactic(auto)]
 
 #[cfg(test)]
@@ -7,6 +7,4 @@ mod links;
 mod sockets;
 #[cfg(test)]
 mod story;
-#[cfg(test)]
-mod texts;
 pub mod wire;

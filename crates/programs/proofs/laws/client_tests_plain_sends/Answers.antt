@@ -1,5 +1,5 @@
 use Rattle.programs.proofs.PlainSendLaws.{passes_tests, is_plain}
-use Rattle.programs.proofs.client.client_tests_plain_sends.Goals as goal
+use Rattle.programs.proofs.laws.client_tests_plain_sends.Goals as goal
 
 pub returns-clause-only : goal.returns-clause-only
 returns-clause-only c = passes_tests c.message_in_has_the_parts.ensures.found c.message_in_has_the_parts.ensures.every

@@ -3,7 +3,7 @@ use Rattle.insn.specs.Encoding.{Encodes}
 use Rattle.programs.specs.Peer.{peer_program}
 use Rattle.programs.specs.declared.peer.TheConstants.{PEER}
 use Rattle.programs.proofs.PeerServes.{ServesIfSafe, peer_program_serves}
-use Rattle.programs.proofs.peer.peer_serves.Goals as goal
+use Rattle.programs.proofs.laws.peer_serves.Goals as goal
 
 encoded : Encodes peer_program PEER.now
 encoded = record { fit = search arith; some = omega arith; few = omega arith; spelled = refl }

@@ -3,7 +3,7 @@ use Rattle.insn.specs.Encoding.{Encodes}
 use Rattle.programs.specs.Client.{client_program}
 use Rattle.programs.specs.declared.client.TheConstants.{CLIENT}
 use Rattle.programs.proofs.ClientServes.{ServesIfSafe, serves_client}
-use Rattle.programs.proofs.client.client_serves.Goals as goal
+use Rattle.programs.proofs.laws.client_serves.Goals as goal
 
 encoded : Encodes client_program CLIENT.now
 encoded = record { fit = search arith; some = omega arith; few = omega arith; spelled = refl }
