@@ -5,8 +5,8 @@ use Rattle.relay_tests.specs.declared.wire.Entry.{Entry}
 use Rattle.relay_tests.specs.declared.wire.Entry.TheVariants as entry
 
 abbrev pub call_of : Entry → Call
-call_of (entry.Received place buffer answer) = Received place buffer.items answer
-call_of (entry.Sent place to bytes answer) = Sent place to bytes.items answer
+call_of (entry.Received endpoint buffer answer) = Received endpoint buffer.items answer
+call_of (entry.Sent endpoint to bytes answer) = Sent endpoint to bytes.items answer
 
 -- those of a link that stores each; none where one had no room
 abbrev pub calls_stored : Bool → List Entry → Option (List Call)

@@ -5,7 +5,7 @@ use crate::wire::{Fate, Wire};
 use events::{Parsed, Source, parse};
 use relay::Relay;
 use semantics::MAX_DATAGRAM;
-use serving::{Place, ServeError, serve_once};
+use serving::{Endpoint, ServeError, serve_once};
 use std::alloc::Global;
 use std::process::Abort;
 use std::test::Fail;
@@ -39,13 +39,13 @@ fn serve(
     let Some(Parsed::Datagram { meta, n }) = parse(line.as_bytes(), SLOTS, &mut room) else {
         return Ok(Ok(false));
     };
-    let (place, from) = match meta.from {
-        Source::Client(client) => (Place::Client, client),
-        Source::Peer { slot, addr } => (Place::Slot(slot), addr),
+    let (endpoint, from) = match meta.from {
+        Source::Client(client) => (Endpoint::Client, client),
+        Source::Peer { slot, addr } => (Endpoint::Slot(slot), addr),
     };
     let mut wire = Wire::new(alloc, from, &room[..n], fate, log);
     let now = now.unwrap_or(meta.now);
-    let served = serve_once(relay, &mut wire, place, now, meta.tx);
+    let served = serve_once(relay, &mut wire, endpoint, now, meta.tx);
     if !wire.stores_all() {
         return Err(Fail::new("no room for a call"));
     }

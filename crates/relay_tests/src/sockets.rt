@@ -4,7 +4,7 @@ use crate::story::shipped;
 use attributes::{Addr, write_xor_addr};
 use credentials::{Key, sign};
 use relay::Relay;
-use serving::{Link, LinkFault, Place, serve_once};
+use serving::{Endpoint, Link, LinkFault, serve_once};
 use std::alloc::Global;
 use std::io;
 use std::net::{Ipv4Addr, Net, SocketAddr, UdpSocket};
@@ -72,11 +72,11 @@ fn address_of(address: SocketAddr) -> Result<Addr, LinkFault> {
 }
 
 impl Sockets {
-    /// Returns the socket of a place.
-    fn at(&self, place: Place) -> &UdpSocket {
-        match place {
-            Place::Client => &self.clients,
-            Place::Slot(_) => &self.slot,
+    /// Returns the socket of an endpoint.
+    fn at(&self, endpoint: Endpoint) -> &UdpSocket {
+        match endpoint {
+            Endpoint::Client => &self.clients,
+            Endpoint::Slot(_) => &self.slot,
         }
     }
 }
@@ -84,21 +84,21 @@ impl Sockets {
 impl Link for Sockets {
     fn receive(
         &mut self,
-        place: Place,
+        endpoint: Endpoint,
         into: &mut [u8],
     ) -> Result<Option<(usize, Addr)>, LinkFault> {
-        match self.at(place).recv_from(into) {
+        match self.at(endpoint).recv_from(into) {
             Ok((n, from)) => Ok(Some((n, address_of(from)?))),
             Err(_) => Err(LinkFault),
         }
     }
 
-    fn send(&mut self, place: Place, to: Addr, bytes: &[u8]) -> Result<(), LinkFault> {
+    fn send(&mut self, endpoint: Endpoint, to: Addr, bytes: &[u8]) -> Result<(), LinkFault> {
         let Addr::V4 { ip, port } = to else {
             return Err(LinkFault);
         };
         let to = SocketAddr::from((Ipv4Addr::from(ip), port));
-        match self.at(place).send_to(bytes, to) {
+        match self.at(endpoint).send_to(bytes, to) {
             Ok(n) if n == bytes.len() => Ok(()),
             _ => Err(LinkFault),
         }
@@ -162,9 +162,9 @@ fn start<R: Net>(rt: &R, alloc: Global) -> Result<Session, Fail> {
 }
 
 impl Session {
-    /// Serves the one datagram that has come at a place.
-    fn serve(&mut self, place: Place) -> Result<(), Fail> {
-        match serve_once(&mut self.relay, &mut self.sockets, place, 1000, TX)? {
+    /// Serves the one datagram that has come at an endpoint.
+    fn serve(&mut self, endpoint: Endpoint) -> Result<(), Fail> {
+        match serve_once(&mut self.relay, &mut self.sockets, endpoint, 1000, TX)? {
             true => Ok(()),
             false => Err(Fail::new("nothing came")),
         }
@@ -173,13 +173,13 @@ impl Session {
     /// Has the client send a datagram, which is served.
     fn client_sends(&mut self, datagram: &[u8]) -> Result<(), Fail> {
         self.ends.client.send(datagram)?;
-        self.serve(Place::Client)
+        self.serve(Endpoint::Client)
     }
 
     /// Has the peer send a datagram, which is served.
     fn peer_sends(&mut self, datagram: &[u8]) -> Result<(), Fail> {
         self.ends.peer.send(datagram)?;
-        self.serve(Place::Slot(0))
+        self.serve(Endpoint::Slot(0))
     }
 }
 

@@ -6,7 +6,7 @@ ghost use Rattle.std.specs.Prelude.{◌≡◌, IfOk};
 use attributes::Addr;
 use events::{Action, write_answer};
 use semantics::MAX_DATAGRAM;
-use serving::{Link, LinkFault, Place};
+use serving::{Endpoint, Link, LinkFault};
 use std::alloc::{AllocError, Global};
 use streams::Output;
 
@@ -32,13 +32,13 @@ pub enum Fate {
 pub enum Entry {
     /// A receive, with the bytes that the buffer has afterwards.
     Received {
-        place: Place,
+        endpoint: Endpoint,
         buffer: Vec<u8>,
         answer: Result<Option<(usize, Addr)>, LinkFault>,
     },
     /// A send.
     Sent {
-        place: Place,
+        endpoint: Endpoint,
         to: Addr,
         bytes: Vec<u8>,
         answer: Result<(), LinkFault>,
@@ -116,16 +116,16 @@ impl Wire<'_> {
     }
 
     /// Writes the line of what is sent, unless its send fails.
-    fn write(&mut self, place: Place, to: Addr, bytes: &[u8]) -> Result<(), LinkFault>
+    fn write(&mut self, endpoint: Endpoint, to: Addr, bytes: &[u8]) -> Result<(), LinkFault>
         ensures entries { self.new.entries ≡ self.old.entries }
         ensures is_full { self.new.is_full ≡ self.old.is_full }
     {
         if self.fate == Fate::SendFails {
             return Err(LinkFault);
         }
-        let action = match place {
-            Place::Client => Action::ToClient { client: to, bytes },
-            Place::Slot(slot) => Action::ToPeer {
+        let action = match endpoint {
+            Endpoint::Client => Action::ToClient { client: to, bytes },
+            Endpoint::Slot(slot) => Action::ToPeer {
                 slot,
                 peer: to,
                 bytes,
@@ -143,7 +143,7 @@ impl Link for Wire<'_> {
 
     fn receive(
         &mut self,
-        place: Place,
+        endpoint: Endpoint,
         into: &mut [u8],
     ) -> Result<Option<(usize, Addr)>, LinkFault> {
         let answer = self.take(into);
@@ -152,7 +152,7 @@ impl Link for Wire<'_> {
             return answer;
         };
         let entry = Entry::Received {
-            place,
+            endpoint,
             buffer,
             answer,
         };
@@ -160,14 +160,14 @@ impl Link for Wire<'_> {
         answer
     }
 
-    fn send(&mut self, place: Place, to: Addr, bytes: &[u8]) -> Result<(), LinkFault> {
-        let answer = self.write(place, to, bytes);
+    fn send(&mut self, endpoint: Endpoint, to: Addr, bytes: &[u8]) -> Result<(), LinkFault> {
+        let answer = self.write(endpoint, to, bytes);
         let Ok(bytes) = copied(self.alloc, bytes) else {
             self.is_full = true;
             return answer;
         };
         let entry = Entry::Sent {
-            place,
+            endpoint,
             to,
             bytes,
             answer,

@@ -1,10 +1,10 @@
 //! What a server has received, sent and discarded since its start.
 
-use serving::Place;
+use serving::Endpoint;
 use std::fmt;
 
-/// The index of the second byte of a message's type, and the bit in it that distinguishes an error response from a success response
-/// (RFC 8489, section 5).
+/// The index of the second byte of a message's type, and the bit in it that distinguishes an error response from a success
+/// response (RFC 8489, section 5).
 const TYPE: usize = 1;
 
 const ERROR: u8 = 0x10;
@@ -160,14 +160,14 @@ impl Counters {
         &mut self.discarded[self.last.index()]
     }
 
-    /// Counts a datagram that came at a place. It counts as discarded until something is sent.
-    pub(crate) fn received(&mut self, place: Place, datagram: &[u8]) {
-        match place {
-            Place::Client => {
+    /// Counts a datagram that came at an endpoint. It counts as discarded until something is sent.
+    pub(crate) fn received(&mut self, endpoint: Endpoint, datagram: &[u8]) {
+        match endpoint {
+            Endpoint::Client => {
                 self.last = kind_of(datagram);
                 count(&mut self.from_clients);
             }
-            Place::Slot(_) => {
+            Endpoint::Slot(_) => {
                 self.last = Kind::FromPeer;
                 count(&mut self.from_peers);
             }
@@ -186,15 +186,15 @@ impl Counters {
         *discarded = discarded.saturating_sub(1);
     }
 
-    /// Counts what was sent from a place for the last datagram that came. What goes back to clients is a response.
-    pub(crate) fn sent(&mut self, place: Place, bytes: &[u8]) {
+    /// Counts what was sent from an endpoint for the last datagram that came. What goes back to clients is a response.
+    pub(crate) fn sent(&mut self, endpoint: Endpoint, bytes: &[u8]) {
         self.keep();
-        let counter = match (place, self.last) {
-            (Place::Slot(_), _) => &mut self.to_peers,
-            (Place::Client, Kind::FromPeer) => &mut self.to_clients,
-            (Place::Client, _) if !is_error(bytes) => &mut self.granted,
-            (Place::Client, _) if is_challenge(bytes) => &mut self.challenged,
-            (Place::Client, _) => &mut self.refused,
+        let counter = match (endpoint, self.last) {
+            (Endpoint::Slot(_), _) => &mut self.to_peers,
+            (Endpoint::Client, Kind::FromPeer) => &mut self.to_clients,
+            (Endpoint::Client, _) if !is_error(bytes) => &mut self.granted,
+            (Endpoint::Client, _) if is_challenge(bytes) => &mut self.challenged,
+            (Endpoint::Client, _) => &mut self.refused,
         };
         count(counter);
     }

@@ -6,7 +6,7 @@ use crate::drops::Ports;
 use crate::error_lines::ErrorLines;
 use crate::options::{Fault, Relayed, octets6_of, port_of, set_up, slots_of};
 use crate::replacing::Sides;
-use crate::sockets::{Addresses, BindFault, Places, Sockets};
+use crate::sockets::{Addresses, BindFault, Endpoints, Sockets};
 use command_line::{Options, ServerOptions};
 use mio::{Events, Poll, Token};
 use peer_filter::Rule;
@@ -14,7 +14,7 @@ use rand::make_rng;
 use rand::rngs::StdRng;
 use rand_core::Rng;
 use relay::Relay;
-use serving::{Place, draw_nonce, serve_once};
+use serving::{Endpoint, draw_nonce, serve_once};
 use setup::defaults;
 use std::io::{self, Write};
 use std::net::{Ipv4Addr, Ipv6Addr, Net};
@@ -52,7 +52,7 @@ struct Server<'a> {
     /// When faults may be printed next.
     faults: Timer,
     stats: Option<Timer>,
-    /// Whether several datagrams had come at the place that was served last.
+    /// Whether several datagrams had come at the endpoint that was served last.
     is_busy: bool,
 }
 
@@ -61,7 +61,7 @@ struct Server<'a> {
 struct Waiting {
     poll: Poll,
     events: Events,
-    /// Which places are served in a round.
+    /// Which endpoints are served in a round.
     schedule: Schedule,
 }
 
@@ -115,7 +115,8 @@ impl Server<'_> {
         out.flush()
     }
 
-    /// Prints how large the buffers of sockets are, where the system gives less than was asked for. A failure to print is ignored.
+    /// Prints how large the buffers of sockets are, where the system gives less than was asked for. A failure to print is
+    /// ignored.
     fn report_buffer<E: Write>(&self, err: &mut E, wanted: i32) {
         if let Ok(bytes) = self.sockets.buffer()
             && bytes < wanted
@@ -181,22 +182,21 @@ impl Server<'_> {
         }
     }
 
-    /// Serves one datagram at a place, if one has come there, at a moment. Returns whether one has come, or a fault, which the
-    /// sockets have counted.
-    /// See docs/DECISIONS.md, "One function serves a datagram".
+    /// Serves one datagram at an endpoint, if one has come there, at a moment. Returns whether one has come, or a fault, which
+    /// the sockets have counted. See docs/DECISIONS.md, "One function serves a datagram".
     #[inline(always)]
-    fn turn(&mut self, place: Place, now: u64) -> bool {
+    fn turn(&mut self, endpoint: Endpoint, now: u64) -> bool {
         let mut tx = [0u8; 12];
         self.rng.fill_bytes(&mut tx);
-        serve_once(&mut self.relay, &mut self.sockets, place, now, tx).unwrap_or(true)
+        serve_once(&mut self.relay, &mut self.sockets, endpoint, now, tx).unwrap_or(true)
     }
 
     /// Tries one datagram at each socket: that of clients first, then those of the slots in order.
     fn round<R: Clock>(&mut self, rt: &R) {
         let now = self.moments.now(rt);
         for token in 0..self.sockets.count() {
-            let place = self.sockets.choose(token);
-            self.turn(place, now);
+            let endpoint = self.sockets.choose(token);
+            self.turn(endpoint, now);
         }
     }
 
@@ -220,12 +220,12 @@ impl Server<'_> {
         }
     }
 
-    /// Serves a place until nothing comes there, or for as many datagrams as it may have, all at one moment. Returns how many
+    /// Serves an endpoint until nothing comes there, or for as many datagrams as it may have, all at one moment. Returns how many
     /// came.
     #[inline(always)]
-    fn turns(&mut self, place: Place, now: u64) -> usize {
+    fn turns(&mut self, endpoint: Endpoint, now: u64) -> usize {
         for count in 0..TURNS {
-            if !self.turn(place, now) {
+            if !self.turn(endpoint, now) {
                 return count;
             }
         }
@@ -239,19 +239,19 @@ impl Server<'_> {
     #[inline(never)]
     fn drain<R: Clock>(&mut self, rt: &R, token: usize) -> bool {
         let now = self.moments.now(rt);
-        let place = self.sockets.choose(token);
+        let endpoint = self.sockets.choose(token);
         if self.is_busy {
-            self.sockets.receive_ahead(place);
+            self.sockets.receive_ahead(endpoint);
         }
-        let count = match place {
-            Place::Client => self.turns(Place::Client, now),
-            Place::Slot(slot) => self.turns(Place::Slot(slot), now),
+        let count = match endpoint {
+            Endpoint::Client => self.turns(Endpoint::Client, now),
+            Endpoint::Slot(slot) => self.turns(Endpoint::Slot(slot), now),
         };
         self.is_busy = count > 1;
         count == TURNS
     }
 
-    /// Serves each place that a wait reports and that wasn't known to be ready.
+    /// Serves each endpoint that a wait reports and that wasn't known to be ready.
     fn drain_reported<R: Clock>(&mut self, rt: &R, events: &Events, schedule: &mut Schedule) {
         for event in events.iter() {
             let Token(token) = event.token();
@@ -262,7 +262,7 @@ impl Server<'_> {
         }
     }
 
-    /// Serves each place that was ready before the last wait, in order.
+    /// Serves each endpoint that was ready before the last wait, in order.
     fn drain_ready<R: Clock>(&mut self, rt: &R, schedule: &mut Schedule) {
         while let Some(token) = schedule.next_ready() {
             let more = self.drain(rt, token);
@@ -317,7 +317,7 @@ impl Server<'_> {
 }
 
 impl Waiting {
-    /// Returns what the server of these sockets waits with. Each place is ready at first, since datagrams may have come.
+    /// Returns what the server of these sockets waits with. Each endpoint is ready at first, since datagrams may have come.
     fn new<R: Net + AllocGlobal>(rt: &R, sockets: &mut Sockets) -> Result<Waiting, Fault<'static>> {
         let poll = Poll::new(rt).map_err(|_| Fault::Wait)?;
         sockets.register(&poll).map_err(|_| Fault::Wait)?;
@@ -368,13 +368,13 @@ fn bind_sockets<R: Net + AllocGlobal>(
     relayed: [u8; 4],
     rules: &[Rule],
 ) -> Result<Sockets, Fault<'static>> {
-    let places = match Places::bind(rt, addresses) {
-        Ok(places) => places,
+    let endpoints = match Endpoints::bind(rt, addresses) {
+        Ok(endpoints) => endpoints,
         Err(BindFault::Address(address, reason)) => return Err(Fault::Bind(address, reason)),
         Err(BindFault::Memory) => return Err(Fault::Memory),
     };
-    let filter = filter_of(&addresses, places.client_port(), relayed, rules)?;
-    Sockets::new(rt.alloc(), places, filter).map_err(|_| Fault::Memory)
+    let filter = filter_of(&addresses, endpoints.client_port(), relayed, rules)?;
+    Sockets::new(rt.alloc(), endpoints, filter).map_err(|_| Fault::Memory)
 }
 
 /// Sets up a server: its relay, and then its sockets, all of which are bound.

@@ -8,7 +8,7 @@ use attributes::{Addr, Family};
 use mio::net::UdpSocket;
 use mio::{Interest, Poll, Registry, Token};
 use peer_filter::PeerFilter;
-use serving::{Link, LinkFault, Place};
+use serving::{Endpoint, Link, LinkFault};
 use std::alloc::{AllocError, Global};
 use std::io::{self, ErrorKind};
 use std::net::{IpAddr, Ipv4Addr, Ipv6Addr, Net, SocketAddr, SocketAddrV4, SocketAddrV6};
@@ -76,10 +76,10 @@ pub(crate) enum BindFault {
     Memory,
 }
 
-/// The sockets of each place. No call on them waits.
+/// The sockets of each endpoint. No call on them waits.
 /// See docs/DECISIONS.md, "Two sockets for each slot".
 #[derive(Drop)]
-pub(crate) struct Places {
+pub(crate) struct Endpoints {
     client: UdpSocket,
     /// The socket of IPv4 of each slot.
     slots: Vec<UdpSocket>,
@@ -93,7 +93,7 @@ pub(crate) struct Places {
 /// The sockets of a server, what was received ahead at one of them, and what was counted.
 #[derive(Drop)]
 pub(crate) struct Sockets {
-    places: Places,
+    endpoints: Endpoints,
     ahead: Ahead,
     filter: PeerFilter,
     counters: Counters,
@@ -162,7 +162,7 @@ fn register_all(registry: &Registry, sockets: &mut [UdpSocket], first: usize) ->
     Ok(())
 }
 
-impl Places {
+impl Endpoints {
     /// Binds the socket of clients, then those of IPv4 of the slots in order, and then those of IPv6.
     ///
     /// # Errors
@@ -170,7 +170,7 @@ impl Places {
     pub(crate) fn bind<R: Net + AllocGlobal>(
         rt: &R,
         addresses: Addresses,
-    ) -> Result<Places, BindFault> {
+    ) -> Result<Endpoints, BindFault> {
         let listen = IpAddr::V4(addresses.listen);
         let client = bind_one(rt, addresses.client(), addresses.options)?;
         let port = match client.local_addr() {
@@ -179,7 +179,7 @@ impl Places {
                 return Err(BindFault::Address(addresses.client(), BindReason::from(error)));
             }
         };
-        Ok(Places {
+        Ok(Endpoints {
             client,
             slots: bind_slots(rt, listen, addresses)?,
             slots6: match addresses.listen6 {
@@ -196,13 +196,13 @@ impl Places {
         self.ports.client
     }
 
-    /// Returns the socket of a family at a place. That of clients is of IPv4.
-    fn at(&self, place: Place, family: Family) -> Result<&UdpSocket, LinkFault> {
-        let socket = match (place, family) {
-            (Place::Client, Family::Ipv4) => Some(&self.client),
-            (Place::Client, Family::Ipv6) => None,
-            (Place::Slot(slot), Family::Ipv4) => self.slots.get(slot),
-            (Place::Slot(slot), Family::Ipv6) => self.slots6.get(slot),
+    /// Returns the socket of a family at an endpoint. That of clients is of IPv4.
+    fn at(&self, endpoint: Endpoint, family: Family) -> Result<&UdpSocket, LinkFault> {
+        let socket = match (endpoint, family) {
+            (Endpoint::Client, Family::Ipv4) => Some(&self.client),
+            (Endpoint::Client, Family::Ipv6) => None,
+            (Endpoint::Slot(slot), Family::Ipv4) => self.slots.get(slot),
+            (Endpoint::Slot(slot), Family::Ipv6) => self.slots6.get(slot),
         };
         socket.ok_or(LinkFault)
     }
@@ -215,11 +215,11 @@ impl Sockets {
     /// Where memory runs out.
     pub(crate) fn new(
         alloc: Global,
-        places: Places,
+        endpoints: Endpoints,
         filter: PeerFilter,
     ) -> Result<Sockets, AllocError> {
         Ok(Sockets {
-            places,
+            endpoints,
             ahead: Ahead::new(alloc)?,
             filter,
             counters: Counters::new(),
@@ -228,34 +228,34 @@ impl Sockets {
 
     /// Returns the ports.
     pub(crate) fn ports(&self) -> Ports {
-        self.places.ports
+        self.endpoints.ports
     }
 
     /// Returns the bytes that the smaller buffer of the clients' socket has.
     pub(crate) fn buffer(&self) -> io::Result<i32> {
-        buffer_of(&self.places.client)
+        buffer_of(&self.endpoints.client)
     }
 
     /// Returns the address of the clients' socket. Where port 0 was asked for, its port is the one that the system chose.
     pub(crate) fn address(&self) -> io::Result<SocketAddr> {
-        self.places.client.local_addr()
+        self.endpoints.client.local_addr()
     }
 
     /// Returns the number of sockets.
     pub(crate) fn count(&self) -> usize {
-        let Places { slots, slots6, .. } = &self.places;
+        let Endpoints { slots, slots6, .. } = &self.endpoints;
         slots.len().saturating_add(slots6.len()).saturating_add(1)
     }
 
     /// Has a poll report each socket under its token, when datagrams have come there: 0 is that of clients, those of IPv4 of the
     /// slots follow in order, and then those of IPv6.
     pub(crate) fn register(&mut self, poll: &Poll) -> io::Result<()> {
-        let Places {
+        let Endpoints {
             client,
             slots,
             slots6,
             ..
-        } = &mut self.places;
+        } = &mut self.endpoints;
         let registry = poll.registry();
         registry.register(client, Token(0), Interest::READABLE)?;
         let after = slots.len().saturating_add(1);
@@ -263,29 +263,29 @@ impl Sockets {
         register_all(registry, slots6.as_mut_slice(), after)
     }
 
-    /// Chooses a socket by its token, and returns its place. The datagrams of a slot are received at the socket that was chosen
-    /// last.
-    pub(crate) fn choose(&mut self, token: usize) -> Place {
-        let slots = self.places.slots.len();
+    /// Chooses a socket by its token, and returns its endpoint. The datagrams of a slot are received at the socket that was
+    /// chosen last.
+    pub(crate) fn choose(&mut self, token: usize) -> Endpoint {
+        let slots = self.endpoints.slots.len();
         let index = match token.checked_sub(slots) {
             Some(index) if index > 0 => {
-                self.places.family = Family::Ipv6;
+                self.endpoints.family = Family::Ipv6;
                 index
             }
             _ => {
-                self.places.family = Family::Ipv4;
+                self.endpoints.family = Family::Ipv4;
                 token
             }
         };
         match index.checked_sub(1) {
-            Some(slot) => Place::Slot(slot),
-            None => Place::Client,
+            Some(slot) => Endpoint::Slot(slot),
+            None => Endpoint::Client,
         }
     }
 
     /// Prints the line of counters. A failure to print is ignored.
     pub(crate) fn report<R: Files + AllocGlobal, E: io::Write>(&self, rt: &R, err: &mut E) {
-        let _ = match dropped(rt, &self.places.ports) {
+        let _ = match dropped(rt, &self.endpoints.ports) {
             Some(dropped) => writeln!(err, "{} dropped {dropped}", self.counters),
             None => writeln!(err, "{} dropped unknown", self.counters),
         };
@@ -302,33 +302,33 @@ impl Sockets {
         let _ = writeln!(err, "{faults}");
     }
 
-    /// Receives ahead at a place.
-    pub(crate) fn receive_ahead(&mut self, place: Place) {
-        self.ahead.fill(&mut self.places, place);
+    /// Receives ahead at an endpoint.
+    pub(crate) fn receive_ahead(&mut self, endpoint: Endpoint) {
+        self.ahead.fill(&mut self.endpoints, endpoint);
     }
 
-    /// Sends a datagram from a place, unless it is to a peer that is denied.
-    fn put(&mut self, place: Place, to: Addr, bytes: &[u8]) -> Result<(), Unsent> {
-        if let Place::Slot(_) = place
+    /// Sends a datagram from an endpoint, unless it is to a peer that is denied.
+    fn put(&mut self, endpoint: Endpoint, to: Addr, bytes: &[u8]) -> Result<(), Unsent> {
+        if let Endpoint::Slot(_) = endpoint
             && !self.filter.allows(&to)
         {
             return Err(Unsent::Denied);
         }
-        match self.places.send(place, to, bytes) {
+        match self.endpoints.send(endpoint, to, bytes) {
             Ok(()) => Ok(()),
             Err(LinkFault) => Err(Unsent::Fault),
         }
     }
 }
 
-impl Link for Places {
+impl Link for Endpoints {
     #[inline(always)]
-    fn receive(&mut self, place: Place, into: &mut [u8]) -> Result<Receipt, LinkFault> {
-        receive(self.at(place, self.family)?, into)
+    fn receive(&mut self, endpoint: Endpoint, into: &mut [u8]) -> Result<Receipt, LinkFault> {
+        receive(self.at(endpoint, self.family)?, into)
     }
 
-    /// Sends a datagram from a place. One that would have to wait, or isn't sent whole, is a fault.
-    fn send(&mut self, place: Place, to: Addr, bytes: &[u8]) -> Result<(), LinkFault> {
+    /// Sends a datagram from an endpoint. One that would have to wait, or isn't sent whole, is a fault.
+    fn send(&mut self, endpoint: Endpoint, to: Addr, bytes: &[u8]) -> Result<(), LinkFault> {
         let (family, to) = match to {
             Addr::V4 { ip, port } => {
                 let to = SocketAddrV4::new(Ipv4Addr::from(ip), port);
@@ -339,7 +339,7 @@ impl Link for Places {
                 (Family::Ipv6, SocketAddr::V6(to))
             }
         };
-        match self.at(place, family)?.send_to(bytes, to) {
+        match self.at(endpoint, family)?.send_to(bytes, to) {
             Ok(n) if n == bytes.len() => Ok(()),
             _ => Err(LinkFault),
         }
@@ -350,12 +350,13 @@ impl Link for Sockets {
     #[inline(always)]
     fn receive(
         &mut self,
-        place: Place,
+        endpoint: Endpoint,
         into: &mut [u8],
     ) -> Result<Option<(usize, Addr)>, LinkFault> {
-        match self.ahead.receive(&mut self.places, place, into) {
+        match self.ahead.receive(&mut self.endpoints, endpoint, into) {
             Ok(Some((n, from))) => {
-                self.counters.received(place, into.get(..n).unwrap_or(&[]));
+                self.counters
+                    .received(endpoint, into.get(..n).unwrap_or(&[]));
                 Ok(Some((n, from)))
             }
             Ok(None) => Ok(None),
@@ -367,10 +368,10 @@ impl Link for Sockets {
     }
 
     #[inline(always)]
-    fn send(&mut self, place: Place, to: Addr, bytes: &[u8]) -> Result<(), LinkFault> {
-        match self.put(place, to, bytes) {
+    fn send(&mut self, endpoint: Endpoint, to: Addr, bytes: &[u8]) -> Result<(), LinkFault> {
+        match self.put(endpoint, to, bytes) {
             Ok(()) => {
-                self.counters.sent(place, bytes);
+                self.counters.sent(endpoint, bytes);
                 return Ok(());
             }
             Err(Unsent::Denied) => self.counters.denied(),

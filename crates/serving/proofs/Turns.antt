@@ -18,7 +18,7 @@ use Rattle.rules.specs.Systems.{SystemOutcome, system_step}
 use Rattle.serving.specs.Calls.{Call, Received, HasReported}
 use Rattle.serving.specs.Serving.{IsServed, HasSent, IsSent, send_of, result_of_send, outcome_of_bytes, ruled_outcome_of_bytes, source_at}
 use Rattle.serving.specs.declared.link.LinkFault.{LinkFault}
-use Rattle.serving.specs.declared.link.Place.{Place}
+use Rattle.serving.specs.declared.link.Endpoint.{Endpoint}
 use Rattle.serving.specs.declared.serving.ServeError.{ServeError}
 
 -- first some calls, and then others
@@ -34,9 +34,9 @@ pub is_sent : (answer : Option Sending) (sending : Sending) (before after : Opti
 is_sent answer sending before after result is (called, reported, same) =
     subst (λ o. IsSent o before after result) (sym is) (record { sends = send_of sending called ∷ []; reported = reported; sent = (called, refl, same) })
 
-module _ (place : Place) (now : ℕ) (tx : List ℕ) (old : RelayContents) (buffer : List ℕ) (n : ℕ) (from : Addr)
+module _ (endpoint : Endpoint) (now : ℕ) (tx : List ℕ) (old : RelayContents) (buffer : List ℕ) (n : ℕ) (from : Addr)
     (short : n ≤ MAX_DATAGRAM) (had : length (room_of old.frame) ≡ MAX_DATAGRAM) (has : length buffer ≡ MAX_DATAGRAM)
-    (source : Source) (source_is : source ≡ source_at place from) where
+    (source : Source) (source_is : source ≡ source_at endpoint from) where
   -- the relay with what was received in its room
   abbrev pub with_buffer : RelayContents
   with_buffer = record old { frame = with_room old.frame buffer }
@@ -44,23 +44,23 @@ module _ (place : Place) (now : ℕ) (tx : List ℕ) (old : RelayContents) (buff
   abbrev pub given : Source → Meta
   given source = record { now = now; tx = tx; from = source }
 
-  outcome_is : relay.outcome_of with_buffer (given source) n ≡ outcome_of_bytes old (given (source_at place from)) (take n buffer)
+  outcome_is : relay.outcome_of with_buffer (given source) n ≡ outcome_of_bytes old (given (source_at endpoint from)) (take n buffer)
   outcome_is = λ i. system_step (system_of old) old.config (state_of old) (Datagram (given (source_is i)) (take n (room_written old.frame buffer had has i)))
 
-  ruled_is : relay.ruled_outcome_of with_buffer (given source) n ≡ ruled_outcome_of_bytes old (given (source_at place from)) (take n buffer)
+  ruled_is : relay.ruled_outcome_of with_buffer (given source) n ≡ ruled_outcome_of_bytes old (given (source_at endpoint from)) (take n buffer)
   ruled_is = λ i. system_step by_rules old.config (state_of old) (Datagram (given (source_is i)) (take n (room_written old.frame buffer had has i)))
 
   pub handles : (new : RelayContents) (answer : Option Sending) (before between after : Option (List Call)) (received : Result (Option (ℕ × Addr)) LinkFault) (result : Result Bool ServeError)
-      → received ≡ Ok (Some (n, from)) → HasReported before between (Received place buffer received ∷ [])
+      → received ≡ Ok (Some (n, from)) → HasReported before between (Received endpoint buffer received ∷ [])
       → HasStepped with_buffer new (relay.outcome_of with_buffer (given source) n) → answer ≡ (relay.outcome_of with_buffer (given source) n).answer → IsSent answer between after result
       → (AreShipped old.programs → relay.outcome_of with_buffer (given source) n ≡ relay.ruled_outcome_of with_buffer (given source) n)
-      → IsServed place now tx old new before after result
+      → IsServed endpoint now tx old new before after result
   handles new answer before between after received result is reported stepped answers sent rules = record {
     received = Ok (Some (n, from));
     buffer = buffer;
     room = has;
     sends = sent.sends;
-    reported = reported_more before between after (Received place buffer (Ok (Some (n, from))) ∷ []) sent.sends (subst (λ r. HasReported before between (Received place buffer r ∷ [])) is reported) sent.reported;
+    reported = reported_more before between after (Received endpoint buffer (Ok (Some (n, from))) ∷ []) sent.sends (subst (λ r. HasReported before between (Received endpoint buffer r ∷ [])) is reported) sent.reported;
     served = inl (
       short,
       record {

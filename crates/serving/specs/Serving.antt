@@ -14,22 +14,22 @@ use Rattle.rules.specs.Systems.{SystemOutcome, system_step}
 use Rattle.semantics.specs.declared.limits.TheConstants.{MAX_DATAGRAM}
 use Rattle.serving.specs.Calls.{Call, Received, Sent, HasReported}
 use Rattle.serving.specs.declared.link.LinkFault.{LinkFault}
-use Rattle.serving.specs.declared.link.Place.{Place}
-use Rattle.serving.specs.declared.link.Place.TheVariants as place
+use Rattle.serving.specs.declared.link.Endpoint.{Endpoint}
+use Rattle.serving.specs.declared.link.Endpoint.TheVariants as endpoint
 use Rattle.serving.specs.declared.serving.ServeError.{ServeError}
 use Rattle.serving.specs.declared.serving.ServeError.TheVariants as error
 
 -- what comes at the clients' socket is a client's, and what comes at a slot's is a peer's
-abbrev pub source_at : Place → Addr → Source
-source_at place.Client address = source.Client address
-source_at (place.Slot slot) address = source.Peer slot address
+abbrev pub source_at : Endpoint → Addr → Source
+source_at endpoint.Client address = source.Client address
+source_at (endpoint.Slot slot) address = source.Peer slot address
 
 -- ---- sending
 
 -- to a peer from the socket of its slot, and to a client from the clients'
 abbrev pub send_of : Sending → Result (Unit {0}) LinkFault → Call
-send_of (ToPeer slot peer bytes) answer = Sent (place.Slot slot) peer bytes answer
-send_of (ToClient client bytes) answer = Sent place.Client client bytes answer
+send_of (ToPeer slot peer bytes) answer = Sent (endpoint.Slot slot) peer bytes answer
+send_of (ToClient client bytes) answer = Sent endpoint.Client client bytes answer
 
 abbrev pub result_of_send : Result (Unit {0}) LinkFault → Result Bool ServeError
 result_of_send (Ok sent) = Ok true
@@ -71,18 +71,18 @@ pub record HasHandled (old new : RelayContents) (given : Meta) (bytes : List ℕ
   pub rules : AreShipped old.programs → outcome_of_bytes old given bytes ≡ ruled_outcome_of_bytes old given bytes
 
 -- a fault, nothing, or a datagram; one longer than a datagram may be is a fault
-abbrev pub HasServed : RelayContents → RelayContents → Place → ℕ → List ℕ → List ℕ → Result (Option (ℕ × Addr)) LinkFault → List Call → Result Bool ServeError → Type 0
-HasServed old new place now tx buffer (Err fault) sends result = IsUntouched old new sends × (result ≡ Err error.Receive)
-HasServed old new place now tx buffer (Ok None) sends result = IsUntouched old new sends × (result ≡ Ok false)
-HasServed old new place now tx buffer (Ok (Some (n, from))) sends result =
-    ((n ≤ MAX_DATAGRAM) × HasHandled old new (record { now = now; tx = tx; from = source_at place from }) (take n buffer) sends result)
+abbrev pub HasServed : RelayContents → RelayContents → Endpoint → ℕ → List ℕ → List ℕ → Result (Option (ℕ × Addr)) LinkFault → List Call → Result Bool ServeError → Type 0
+HasServed old new endpoint now tx buffer (Err fault) sends result = IsUntouched old new sends × (result ≡ Err error.Receive)
+HasServed old new endpoint now tx buffer (Ok None) sends result = IsUntouched old new sends × (result ≡ Ok false)
+HasServed old new endpoint now tx buffer (Ok (Some (n, from))) sends result =
+    ((n ≤ MAX_DATAGRAM) × HasHandled old new (record { now = now; tx = tx; from = source_at endpoint from }) (take n buffer) sends result)
     ⊎ ((MAX_DATAGRAM < n) × IsUntouched old new sends × (result ≡ Err error.Receive))
 
--- a turn at a place: one receive there, into the whole room of the relay, and what follows from its answer
-pub record IsServed (place : Place) (now : ℕ) (tx : List ℕ) (old new : RelayContents) (before after : Option (List Call)) (result : Result Bool ServeError) : Type 0 where
+-- a turn at an endpoint: one receive there, into the whole room of the relay, and what follows from its answer
+pub record IsServed (endpoint : Endpoint) (now : ℕ) (tx : List ℕ) (old new : RelayContents) (before after : Option (List Call)) (result : Result Bool ServeError) : Type 0 where
   pub received : Result (Option (ℕ × Addr)) LinkFault
   pub buffer : List ℕ
   pub room : length buffer ≡ MAX_DATAGRAM
   pub sends : List Call
-  pub reported : HasReported before after (Received place buffer received ∷ sends)
-  pub served : HasServed old new place now tx buffer received sends result
+  pub reported : HasReported before after (Received endpoint buffer received ∷ sends)
+  pub served : HasServed old new endpoint now tx buffer received sends result

@@ -5,6 +5,6 @@ mod link;
 mod nonce;
 mod serving;
 
-pub use link::{Link, LinkFault, Place};
+pub use link::{Endpoint, Link, LinkFault};
 pub use nonce::draw_nonce;
 pub use serving::{ServeError, serve_once};

@@ -6,7 +6,7 @@ ghost use Rattle.serving.specs.Serving.{IsServed, IsSent, result_of_send, source
 ghost use Rattle.serving.specs.Calls.{Sent, HasReported};
 ghost use Rattle.serving.specs.declared.link.LinkFault.{LinkFault};
 
-use crate::link::{Link, LinkFault, Place};
+use crate::link::{Endpoint, Link, LinkFault};
 use attributes::Addr;
 use events::{Action, Meta, Source};
 use relay::Relay;
@@ -24,13 +24,13 @@ pub enum ServeError {
     Send,
 }
 
-/// Returns the source of what comes from an address at a place.
-fn source_at(place: Place, address: Addr) -> Source
-    ensures { result ≡ source_at place address }
+/// Returns the source of what comes from an address at an endpoint.
+fn source_at(endpoint: Endpoint, address: Addr) -> Source
+    ensures { result ≡ source_at endpoint address }
 {
-    match place {
-        Place::Client => Source::Client(address),
-        Place::Slot(slot) => Source::Peer {
+    match endpoint {
+        Endpoint::Client => Source::Client(address),
+        Endpoint::Slot(slot) => Source::Peer {
             slot,
             addr: address,
         },
@@ -41,14 +41,15 @@ fn source_at(place: Place, address: Addr) -> Source
 #[inline(always)]
 fn send_from<L: Link>(
     link: &mut L,
-    place: Place,
+    endpoint: Endpoint,
     to: Addr,
     bytes: &[u8],
 ) -> Result<bool, ServeError>
     ensures { (answer : Result (Unit {0}) LinkFault)
-        × HasReported (L.calls link.old) (L.calls link.new) (Sent place to bytes.now answer ∷ []) × (result ≡ result_of_send answer) }
+        × HasReported (L.calls link.old) (L.calls link.new) (Sent endpoint to bytes.now answer ∷ [])
+        × (result ≡ result_of_send answer) }
 {
-    match link.send(place, to, bytes) {
+    match link.send(endpoint, to, bytes) {
         Ok(()) => Ok(true),
         Err(LinkFault) => Err(ServeError::Send),
     }
@@ -61,14 +62,13 @@ fn send<L: Link>(link: &mut L, action: &Action<'_>) -> Result<bool, ServeError>
 {
     match *action {
         Action::Nothing => Ok(true),
-        Action::ToPeer { slot, peer, bytes } => send_from(link, Place::Slot(slot), peer, bytes),
-        Action::ToClient { client, bytes } => send_from(link, Place::Client, client, bytes),
+        Action::ToPeer { slot, peer, bytes } => send_from(link, Endpoint::Slot(slot), peer, bytes),
+        Action::ToClient { client, bytes } => send_from(link, Endpoint::Client, client, bytes),
     }
 }
 
-/// Serves one datagram at a place, if one has come there: receives once, steps, and sends the answer, if there is one. Returns
-/// whether a datagram came.
-/// See docs/DECISIONS.md, "One function serves a datagram".
+/// Serves one datagram at an endpoint, if one has come there: receives once, steps, and sends the answer, if there is one.
+/// Returns whether a datagram came. See docs/DECISIONS.md, "One function serves a datagram".
 ///
 /// # Errors
 /// `Receive` where the receive fails or counts more than 65,507 bytes; then the relay is as before. `Send` where the send
@@ -77,13 +77,13 @@ fn send<L: Link>(link: &mut L, action: &Action<'_>) -> Result<bool, ServeError>
 pub fn serve_once<L: Link>(
     relay: &mut Relay,
     link: &mut L,
-    place: Place,
+    endpoint: Endpoint,
     now: u64,
     tx: [u8; 12],
 ) -> Result<bool, ServeError>
-    ensures { IsServed place now tx relay.old relay.new (L.calls link.old) (L.calls link.new) result }
+    ensures { IsServed endpoint now tx relay.old relay.new (L.calls link.old) (L.calls link.new) result }
 {
-    let (n, from) = match link.receive(place, relay.area()) {
+    let (n, from) = match link.receive(endpoint, relay.area()) {
         Ok(Some(found)) => found,
         Ok(None) => return Ok(false),
         Err(LinkFault) => return Err(ServeError::Receive),
@@ -91,6 +91,6 @@ pub fn serve_once<L: Link>(
     if n > MAX_DATAGRAM {
         return Err(ServeError::Receive);
     }
-    let from = source_at(place, from);
+    let from = source_at(endpoint, from);
     send(link, &relay.step(Meta { now, tx, from }, n))
 }

@@ -1,3 +1,3 @@
-pub mod Places
+pub mod Endpoints
 pub mod Turns
 pub mod Waits

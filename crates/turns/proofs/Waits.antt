@@ -9,7 +9,7 @@ use Rattle.attributes.specs.declared.address.Addr.{Addr}
 use Rattle.semantics.specs.declared.limits.TheConstants.{MAX_DATAGRAM}
 use Rattle.serving.specs.Calls.{Call, Received, HasReported}
 use Rattle.serving.specs.declared.link.LinkFault.{LinkFault}
-use Rattle.serving.specs.declared.link.Place.{Place}
+use Rattle.serving.specs.declared.link.Endpoint.{Endpoint}
 use Rattle.turns.specs.Ahead.{Waiting, Datagram, Fault, Receive, call_at, waiting_of, waiting_after, is_datagram, IsReceive, AreDatagrams, HasFilled, HasTaken, IsHandedOn}
 use Rattle.turns.specs.Filling.{stored_datagram, ending_of, waiting_in, AreWithin, HasReceived, HasReceivedOne, HasFilledSoFar}
 use Rattle.turns.specs.declared.ahead.Stored.{Stored}
@@ -96,20 +96,20 @@ room_is : (ys : List ℕ) (end : ℕ) → end + MAX_DATAGRAM ≤ length ys → l
 room_is ys end h = let l = length-drop end ys in length-take-le MAX_DATAGRAM (drop end ys) (omega (arith, l, h))
 
 -- a datagram that came lies where its receive has written it
-module _ (place : Place) (before after : Option (List Call)) (old : List Waiting) (xs ys : List ℕ) (ss : List Stored) (i end : ℕ)
+module _ (endpoint : Endpoint) (before after : Option (List Call)) (old : List Waiting) (xs ys : List ℕ) (ss : List Stored) (i end : ℕ)
     (view : waiting_in xs ss i then.Receive ≡ old) (same : take end ys ≡ take end xs) (within : AreWithin end ss) (handed : i ≤ length ss)
     (long : end + MAX_DATAGRAM ≤ length ys) (answer result : Result (Option (ℕ × Addr)) LinkFault)
-    (reported : HasReported before after (Received place (take MAX_DATAGRAM (drop end ys)) result ∷ [])) (is : result ≡ answer) where
+    (reported : HasReported before after (Received endpoint (take MAX_DATAGRAM (drop end ys)) result ∷ [])) (is : result ≡ answer) where
   made : Receive
   made = record { buffer = take MAX_DATAGRAM (drop end ys); answer = answer }
 
   pub received : (new : List Waiting) (came : Bool) (w : Waiting) → waiting_after (take MAX_DATAGRAM (drop end ys)) answer ≡ w → is_datagram w ≡ came
-      → new ≡ waiting_in xs ss i then.Receive ++ w ∷ [] → HasReceived place before after old new came
+      → new ≡ waiting_in xs ss i then.Receive ++ w ∷ [] → HasReceived endpoint before after old new came
   unfolding made
   received new came w waits gives now = record {
     receive = made;
     is_receive = record { room = room_is ys end long; gives = ap is_datagram waits ∙ gives };
-    reported = subst (λ r. HasReported before after (Received place (take MAX_DATAGRAM (drop end ys)) r ∷ [])) is reported;
+    reported = subst (λ r. HasReported before after (Received endpoint (take MAX_DATAGRAM (drop end ys)) r ∷ [])) is reported;
     waits = now ∙ ap (λ (l : List Waiting). l ++ w ∷ []) view ∙ ap (λ (x : Waiting). old ++ x ∷ []) (sym waits);
   }
 
@@ -139,19 +139,19 @@ datagrams_push [] r all is = (is, tt)
 datagrams_push (x ∷ rs) r all is = (all.0, datagrams_push rs r all.1 is)
 
 -- a further receive after some
-module _ (place : Place) (before between after : Option (List Call)) (waiting new : List Waiting) (came : Bool)
-    (so_far : HasFilledSoFar place before between waiting) (one : HasReceived place between after waiting new came) where
-  more_reported : HasReported before after (map (call_at place) (so_far.datagrams ++ one.receive ∷ []))
+module _ (endpoint : Endpoint) (before between after : Option (List Call)) (waiting new : List Waiting) (came : Bool)
+    (so_far : HasFilledSoFar endpoint before between waiting) (one : HasReceived endpoint between after waiting new came) where
+  more_reported : HasReported before after (map (call_at endpoint) (so_far.datagrams ++ one.receive ∷ []))
   more_reported =
-      subst (HasReported before after) (sym (map-append (call_at place) so_far.datagrams (one.receive ∷ [])))
-      (reported_more before between after (map (call_at place) so_far.datagrams) (call_at place one.receive ∷ []) so_far.reported one.reported)
+      subst (HasReported before after) (sym (map-append (call_at endpoint) so_far.datagrams (one.receive ∷ [])))
+      (reported_more before between after (map (call_at endpoint) so_far.datagrams) (call_at endpoint one.receive ∷ []) so_far.reported one.reported)
 
   more_waits : new ≡ map waiting_of (so_far.datagrams ++ one.receive ∷ [])
   more_waits =
       one.waits ∙ ap (λ (l : List Waiting). l ++ waiting_of one.receive ∷ []) so_far.waits
       ∙ sym (map-append waiting_of so_far.datagrams (one.receive ∷ []))
 
-  pub goes_on : came ≡ true → HasFilledSoFar place before after new
+  pub goes_on : came ≡ true → HasFilledSoFar endpoint before after new
   goes_on is = record {
     datagrams = so_far.datagrams ++ one.receive ∷ [];
     each = datagrams_push so_far.datagrams one.receive so_far.each (subst (λ (b : Bool). IsReceive one.receive b) is one.is_receive);
@@ -159,7 +159,7 @@ module _ (place : Place) (before between after : Option (List Call)) (waiting ne
     waits = more_waits;
   }
 
-  pub ends : (old : List Waiting) → old ≡ [] → came ≡ false → HasFilled place before after old new
+  pub ends : (old : List Waiting) → old ≡ [] → came ≡ false → HasFilled endpoint before after old new
   ends old none is = record {
     datagrams = so_far.datagrams;
     ending = Some one.receive;
@@ -170,21 +170,21 @@ module _ (place : Place) (before between after : Option (List Call)) (waiting ne
     unfilled = λ some. absurd (some none);
   }
 
-pub filled : (place : Place) (before after : Option (List Call)) (old new : List Waiting) → HasFilledSoFar place before after new → old ≡ [] → HasFilled place before after old new
-filled place before after old new so_far none = record {
+pub filled : (endpoint : Endpoint) (before after : Option (List Call)) (old new : List Waiting) → HasFilledSoFar endpoint before after new → old ≡ [] → HasFilled endpoint before after old new
+filled endpoint before after old new so_far none = record {
   datagrams = so_far.datagrams;
   ending = None;
   each = so_far.each;
   last = tt;
-  reported = subst (λ (l : List Receive). HasReported before after (map (call_at place) l)) (sym (append-nil so_far.datagrams)) so_far.reported;
+  reported = subst (λ (l : List Receive). HasReported before after (map (call_at endpoint) l)) (sym (append-nil so_far.datagrams)) so_far.reported;
   waits =
       so_far.waits ∙ ap (map waiting_of) (sym (append-nil so_far.datagrams))
       ∙ ap (λ (l : List Waiting). l ++ map waiting_of (so_far.datagrams ++ [])) (sym none);
   unfilled = λ some. absurd (some none);
 }
 
-pub unfilled : (place : Place) (calls : Option (List Call)) (old : List Waiting) → HasFilled place calls calls old old
-unfilled place calls old = record {
+pub unfilled : (endpoint : Endpoint) (calls : Option (List Call)) (old : List Waiting) → HasFilled endpoint calls calls old old
+unfilled endpoint calls old = record {
   datagrams = [];
   ending = None;
   each = tt;
@@ -194,39 +194,39 @@ unfilled place calls old = record {
   unfilled = λ some. refl;
 }
 
-pub nothing_yet : (place : Place) (calls : Option (List Call)) (new : List Waiting) → new ≡ [] → HasFilledSoFar place calls calls new
-nothing_yet place calls new none = record { datagrams = []; each = tt; reported = none_reported calls; waits = none }
+pub nothing_yet : (endpoint : Endpoint) (calls : Option (List Call)) (new : List Waiting) → new ≡ [] → HasFilledSoFar endpoint calls calls new
+nothing_yet endpoint calls new none = record { datagrams = []; each = tt; reported = none_reported calls; waits = none }
 
-pub stops : (place : Place) (before between after : Option (List Call)) (old waiting new : List Waiting) → HasFilledSoFar place before between waiting
-    → HasReceivedOne place between after waiting new false → old ≡ [] → HasFilled place before after old new
-stops place before between after old waiting new so_far (inl (calls, same, came)) none =
-    filled place before after old new
-    (subst (λ (c : Option (List Call)). HasFilledSoFar place before c new) (sym calls) (subst (λ (l : List Waiting). HasFilledSoFar place before between l) (sym same) so_far)) none
-stops place before between after old waiting new so_far (inr one) none = ends place before between after waiting new false so_far one old none refl
+pub stops : (endpoint : Endpoint) (before between after : Option (List Call)) (old waiting new : List Waiting) → HasFilledSoFar endpoint before between waiting
+    → HasReceivedOne endpoint between after waiting new false → old ≡ [] → HasFilled endpoint before after old new
+stops endpoint before between after old waiting new so_far (inl (calls, same, came)) none =
+    filled endpoint before after old new
+    (subst (λ (c : Option (List Call)). HasFilledSoFar endpoint before c new) (sym calls) (subst (λ (l : List Waiting). HasFilledSoFar endpoint before between l) (sym same) so_far)) none
+stops endpoint before between after old waiting new so_far (inr one) none = ends endpoint before between after waiting new false so_far one old none refl
 
-pub goes_on_after : (place : Place) (before between after : Option (List Call)) (waiting new : List Waiting) → HasFilledSoFar place before between waiting
-    → HasReceivedOne place between after waiting new true → HasFilledSoFar place before after new
-goes_on_after place before between after waiting new so_far (inl (calls, same, came)) = absurd (cc came)
-goes_on_after place before between after waiting new so_far (inr one) = goes_on place before between after waiting new true so_far one refl
+pub goes_on_after : (endpoint : Endpoint) (before between after : Option (List Call)) (waiting new : List Waiting) → HasFilledSoFar endpoint before between waiting
+    → HasReceivedOne endpoint between after waiting new true → HasFilledSoFar endpoint before after new
+goes_on_after endpoint before between after waiting new so_far (inl (calls, same, came)) = absurd (cc came)
+goes_on_after endpoint before between after waiting new so_far (inr one) = goes_on endpoint before between after waiting new true so_far one refl
 
-pub one_more_at_most : (place : Place) (before after : Option (List Call)) (old new : List Waiting) (came : Bool) → HasReceivedOne place before after old new came → length new ≤ length old + 1
-one_more_at_most place before after old new came (inl (calls, same, none)) = let l = ap length same in omega (arith, l)
-one_more_at_most place before after old new came (inr one) =
+pub one_more_at_most : (endpoint : Endpoint) (before after : Option (List Call)) (old new : List Waiting) (came : Bool) → HasReceivedOne endpoint before after old new came → length new ≤ length old + 1
+one_more_at_most endpoint before after old new came (inl (calls, same, none)) = let l = ap length same in omega (arith, l)
+one_more_at_most endpoint before after old new came (inr one) =
     let l = ap length one.waits in
     let a = length-append old (waiting_of one.receive ∷ []) in
     omega (arith, l, a)
 
 -- ---- handing on
 
-pub taken_first : (place : Place) (before after : Option (List Call)) (old new : List Waiting) (into now : List ℕ) (result : Result (Option (ℕ × Addr)) LinkFault) (w : Waiting) (rest : List Waiting)
-    → old ≡ w ∷ rest → new ≡ rest → after ≡ before → IsHandedOn w into now result → HasTaken place before after old new into now result
-taken_first place before after old new into now result w rest is same calls handed =
-    subst (λ (l : List Waiting). HasTaken place before after l new into now result) (sym is) (same, calls, handed)
+pub taken_first : (endpoint : Endpoint) (before after : Option (List Call)) (old new : List Waiting) (into now : List ℕ) (result : Result (Option (ℕ × Addr)) LinkFault) (w : Waiting) (rest : List Waiting)
+    → old ≡ w ∷ rest → new ≡ rest → after ≡ before → IsHandedOn w into now result → HasTaken endpoint before after old new into now result
+taken_first endpoint before after old new into now result w rest is same calls handed =
+    subst (λ (l : List Waiting). HasTaken endpoint before after l new into now result) (sym is) (same, calls, handed)
 
-pub taken_none : (place : Place) (before after : Option (List Call)) (old new : List Waiting) (into now : List ℕ) (result : Result (Option (ℕ × Addr)) LinkFault)
-    → old ≡ [] → new ≡ [] → HasReported before after (Received place now result ∷ []) → HasTaken place before after old new into now result
-taken_none place before after old new into now result is same reported =
-    subst (λ (l : List Waiting). HasTaken place before after l new into now result) (sym is) (same, reported)
+pub taken_none : (endpoint : Endpoint) (before after : Option (List Call)) (old new : List Waiting) (into now : List ℕ) (result : Result (Option (ℕ × Addr)) LinkFault)
+    → old ≡ [] → new ≡ [] → HasReported before after (Received endpoint now result ∷ []) → HasTaken endpoint before after old new into now result
+taken_none endpoint before after old new into now result is same reported =
+    subst (λ (l : List Waiting). HasTaken endpoint before after l new into now result) (sym is) (same, reported)
 
 -- ---- what was written is read back
 

@@ -4,7 +4,7 @@ use Rattle.attributes.specs.declared.address.Addr.{Addr}
 use Rattle.semantics.specs.declared.limits.TheConstants.{MAX_DATAGRAM}
 use Rattle.serving.specs.Calls.{Call, Received, HasReported}
 use Rattle.serving.specs.declared.link.LinkFault.{LinkFault}
-use Rattle.serving.specs.declared.link.Place.{Place}
+use Rattle.serving.specs.declared.link.Endpoint.{Endpoint}
 
 -- what waits: a datagram with its source, that nothing more had come, or that a receive failed
 pub data Waiting : Type 0 where
@@ -19,8 +19,8 @@ pub record Receive : Type 0 where
   pub buffer : List ℕ
   pub answer : Result (Option (ℕ × Addr)) LinkFault
 
-abbrev pub call_at : Place → Receive → Call
-call_at place r = Received place r.buffer r.answer
+abbrev pub call_at : Endpoint → Receive → Call
+call_at endpoint r = Received endpoint r.buffer r.answer
 
 -- a datagram is the first n bytes of the buffer; one that is longer than a datagram may be is a fault
 abbrev pub waiting_after : List ℕ → Result (Option (ℕ × Addr)) LinkFault → Waiting
@@ -49,14 +49,14 @@ abbrev pub IsEnding : Option Receive → Type 0
 IsEnding None = Unit {0}
 IsEnding (Some r) = IsReceive r false
 
--- Receives at a place, of which each but the last gave a datagram, and the last one maybe nothing or a fault. What they gave
+-- Receives at an endpoint, of which each but the last gave a datagram, and the last one maybe nothing or a fault. What they gave
 -- waits, in order. Where something waits already there is none.
-pub record HasFilled (place : Place) (before after : Option (List Call)) (old new : List Waiting) : Type 0 where
+pub record HasFilled (endpoint : Endpoint) (before after : Option (List Call)) (old new : List Waiting) : Type 0 where
   pub datagrams : List Receive
   pub ending : Option Receive
   pub each : AreDatagrams datagrams
   pub last : IsEnding ending
-  pub reported : HasReported before after (map (call_at place) (datagrams ++ option_to_list ending))
+  pub reported : HasReported before after (map (call_at endpoint) (datagrams ++ option_to_list ending))
   pub waits : new ≡ old ++ map waiting_of (datagrams ++ option_to_list ending)
   pub unfilled : old ≢ [] → datagrams ++ option_to_list ending ≡ []
 
@@ -73,6 +73,6 @@ IsHandedOn Fault into now result = (now ≡ into) × IsErr result
 
 -- The first of what waits is handed on, and no call of the link is made. Where nothing waits, one receive of the link is made, and
 -- its answer is the result.
-abbrev pub HasTaken : Place → Option (List Call) → Option (List Call) → List Waiting → List Waiting → List ℕ → List ℕ → Result (Option (ℕ × Addr)) LinkFault → Type 0
-HasTaken place before after [] new into now result = (new ≡ []) × HasReported before after (Received place now result ∷ [])
-HasTaken place before after (w ∷ rest) new into now result = (new ≡ rest) × (after ≡ before) × IsHandedOn w into now result
+abbrev pub HasTaken : Endpoint → Option (List Call) → Option (List Call) → List Waiting → List Waiting → List ℕ → List ℕ → Result (Option (ℕ × Addr)) LinkFault → Type 0
+HasTaken endpoint before after [] new into now result = (new ≡ []) × HasReported before after (Received endpoint now result ∷ [])
+HasTaken endpoint before after (w ∷ rest) new into now result = (new ≡ rest) × (after ≡ before) × IsHandedOn w into now result

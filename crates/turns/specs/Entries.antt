@@ -1,4 +1,4 @@
--- Internal. What a schedule stores of its places.
+-- Internal. What a schedule stores of its endpoints.
 use Rattle.std.specs.Prelude.{◌≡◌, ℕ, ◌≤◌, ◌<◌, eqb, List, [], ◌∷◌, map, false}
 use Rattle.std.specs.List.{count_by}
 use Rattle.turns.specs.Schedules.{status_at, is_due}
@@ -19,12 +19,12 @@ abbrev pub AreStamped : ℕ → List Entry → Type 0
 AreStamped round [] = Unit {0}
 AreStamped round (e ∷ es) = (e.round ≤ round) × AreStamped round es
 
--- no place before a token is due
+-- no endpoint before a token is due
 abbrev pub ArePassed : ℕ → List Status → Type 0
-ArePassed next places = (k : ℕ) → k < next → is_due (status_at places k) ≡ false
+ArePassed next endpoints = (k : ℕ) → k < next → is_due (status_at endpoints k) ≡ false
 
 abbrev pub ready_count : List Status → ℕ
-ready_count places = count_by (λ s. s.is_ready) places
+ready_count endpoints = count_by (λ s. s.is_ready) endpoints
 
 pub record IsSchedule (round : ℕ) (entries : List Entry) (ready next : ℕ) : Type 0 where
   pub stamps : AreStamped round entries

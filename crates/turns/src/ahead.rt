@@ -7,12 +7,12 @@ ghost use Rattle.turns.specs.Filling.{HasReceivedOne};
 
 use attributes::Addr;
 use semantics::MAX_DATAGRAM;
-use serving::{Link, LinkFault, Place};
+use serving::{Endpoint, Link, LinkFault};
 use std::alloc::{AllocError, Global};
 use std::marker::Model;
 use std::mem;
 
-/// How many datagrams are received ahead at most, and how many a place may have before the others get their turn.
+/// How many datagrams are received ahead at most, and how many an endpoint may have before the others get their turn.
 pub const TURNS: usize = 64;
 
 /// The room for what is received ahead: one datagram of the greatest length, and 64 of 2,048 bytes, which are longer than a frame
@@ -41,7 +41,7 @@ pub(crate) struct Stored {
     pub(crate) from: Addr,
 }
 
-/// What was received ahead at a place, in order, until it is handed on. The model is the list of what waits.
+/// What was received ahead at an endpoint, in order, until it is handed on. The model is the list of what waits.
 #[derive(Drop)]
 pub struct Ahead {
     /// The bytes of all datagrams, one after the other.
@@ -68,19 +68,19 @@ impl Model for Ahead {
     ghost invariant = { λ a. IsAhead (length a.bytes.items) (vec_capacity a.datagrams) a.datagrams.items a.count a.end };
 }
 
-/// Receives a datagram at a place, if one has come, and writes its bytes into room for the longest one, from a start on.
+/// Receives a datagram at an endpoint, if one has come, and writes its bytes into room for the longest one, from a start on.
 #[inline(always)]
 fn receive_at<L: Link>(
     link: &mut L,
-    place: Place,
+    endpoint: Endpoint,
     bytes: &mut [u8],
     start: usize,
 ) -> Result<Receipt, LinkFault>
     requires { start + MAX_DATAGRAM ≤ length bytes.old }
     ensures front { take start bytes.new ≡ take start bytes.old }
-    ensures reported { HasReported (L.calls link.old) (L.calls link.new) (Received place (take MAX_DATAGRAM (drop start bytes.new)) result ∷ []) }
+    ensures reported { HasReported (L.calls link.old) (L.calls link.new) (Received endpoint (take MAX_DATAGRAM (drop start bytes.new)) result ∷ []) }
 {
-    link.receive(place, &mut bytes[start..start + MAX_DATAGRAM])
+    link.receive(endpoint, &mut bytes[start..start + MAX_DATAGRAM])
 }
 
 /// Hands a datagram on: writes its bytes over the first of `into`.
@@ -143,9 +143,9 @@ impl Ahead {
         self.end = 0;
     }
 
-    /// Makes one more receive at a place, if another one is to be made and there is room. Returns whether a datagram came.
-    fn receive_one<L: Link>(&mut self, link: &mut L, place: Place) -> bool
-        ensures one { HasReceivedOne place (L.calls link.old) (L.calls link.new) self.old self.new result }
+    /// Makes one more receive at an endpoint, if another one is to be made and there is room. Returns whether a datagram came.
+    fn receive_one<L: Link>(&mut self, link: &mut L, endpoint: Endpoint) -> bool
+        ensures one { HasReceivedOne endpoint (L.calls link.old) (L.calls link.new) self.old self.new result }
         ensures more { length self.new ≤ length self.old + 1 }
     {
         let Then::Receive = self.then else {
@@ -155,7 +155,7 @@ impl Ahead {
         if self.datagrams.len() >= TURNS || self.bytes.len() - start < MAX_DATAGRAM {
             return false;
         }
-        match receive_at(link, place, self.bytes.as_mut_slice(), start) {
+        match receive_at(link, endpoint, self.bytes.as_mut_slice(), start) {
             Ok(Some((n, from))) if n <= MAX_DATAGRAM => {
                 let _ = self.datagrams.push(Stored { start, n, from });
                 self.end = start + n;
@@ -172,10 +172,10 @@ impl Ahead {
         }
     }
 
-    /// Receives at a place until nothing comes, a receive fails, or there is no room for another datagram. Where something waits
-    /// already, no receive is made.
-    pub fn fill<L: Link>(&mut self, link: &mut L, place: Place)
-        ensures filled { HasFilled place (L.calls link.old) (L.calls link.new) self.old self.new }
+    /// Receives at an endpoint until nothing comes, a receive fails, or there is no room for another datagram. Where something
+    /// waits already, no receive is made.
+    pub fn fill<L: Link>(&mut self, link: &mut L, endpoint: Endpoint)
+        ensures filled { HasFilled endpoint (L.calls link.old) (L.calls link.new) self.old self.new }
         ensures few { self.old ≡ [] → length self.new ≤ 64 }
     {
         if !self.is_empty() {
@@ -183,14 +183,14 @@ impl Ahead {
         }
         self.clear();
         for _ in 0..TURNS {
-            if !self.receive_one(link, place) {
+            if !self.receive_one(link, endpoint) {
                 return;
             }
         }
     }
 
-    /// Receives a datagram, if one has come: the first one that waits, or, where nothing waits, one of the link at a place. Its
-    /// bytes are written over the first of `into`.
+    /// Receives a datagram, if one has come: the first one that waits, or, where nothing waits, one of the link at an endpoint.
+    /// Its bytes are written over the first of `into`.
     ///
     /// # Errors
     /// Where a receive failed, or the datagram that waits is longer than `into`.
@@ -198,10 +198,10 @@ impl Ahead {
     pub fn receive<L: Link>(
         &mut self,
         link: &mut L,
-        place: Place,
+        endpoint: Endpoint,
         into: &mut [u8],
     ) -> Result<Receipt, LinkFault>
-        ensures { HasTaken place (L.calls link.old) (L.calls link.new) self.old self.new into.old into.new result }
+        ensures { HasTaken endpoint (L.calls link.old) (L.calls link.new) self.old self.new into.old into.new result }
     {
         if self.count < self.datagrams.len() {
             let Stored { start, n, from } = self.datagrams[self.count];
@@ -210,7 +210,7 @@ impl Ahead {
             return hand_on(&self.bytes[start..end], from, into);
         }
         match mem::replace(&mut self.then, Then::Receive) {
-            Then::Receive => link.receive(place, into),
+            Then::Receive => link.receive(endpoint, into),
             Then::Nothing => Ok(None),
             Then::Fault => Err(LinkFault),
         }

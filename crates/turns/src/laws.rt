@@ -4,8 +4,8 @@ ghost use Rattle.std.specs.Prelude.{List};
 ghost use Rattle.turns.specs.Rounds.{IsFair};
 ghost use Rattle.turns.specs.declared.schedule.Status.{Status};
 
-/// States that rounds are fair: in one round no place has more than one turn, and each place that is ready or reported has one;
-/// so no place has more than two from any moment of a round to any moment of the next.
+/// States that rounds are fair: in one round no endpoint has more than one turn, and each endpoint that is ready or reported
+/// has one; so no endpoint has more than two from any moment of a round to any moment of the next.
 pub fn rounds_are_fair()
-    ensures { (places : List Status) → IsFair places }
+    ensures { (endpoints : List Status) → IsFair endpoints }
 {}

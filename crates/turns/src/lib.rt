@@ -1,4 +1,4 @@
-//! What feeds a server: which place is served when, and what is done from time to time. No sockets and no clocks.
+//! What feeds a server: which endpoint is served when, and what is done from time to time. No sockets and no clocks.
 #![tactic(auto)]
 
 mod ahead;

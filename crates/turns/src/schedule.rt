@@ -1,4 +1,4 @@
-//! Which places are served in a round of a server: those that a wait reports, and those that may have more.
+//! Which endpoints are served in a round of a server: those that a wait reports, and those that may have more.
 
 ghost use Rattle.std.specs.Prelude.{◌≡◌, ◌<◌, ◌≤◌, IfOk, OnSome, map, replicate, if◌then◌else◌};
 ghost use Rattle.std.specs.List.{position, position_or_len};
@@ -11,7 +11,7 @@ use std::marker::Model;
 /// The round after which rounds are counted from 1 again.
 const LAST_ROUND: u64 = u64::MAX;
 
-/// What is known of a place in a round.
+/// What is known of an endpoint in a round.
 #[derive(Clone, Copy)]
 pub struct Status {
     /// Whether it may have more, as far as its last turn or a report says.
@@ -20,7 +20,7 @@ pub struct Status {
     pub is_served: bool,
 }
 
-/// What is stored of a place.
+/// What is stored of an endpoint.
 #[derive(Clone, Copy)]
 pub(crate) struct Entry {
     pub(crate) is_ready: bool,
@@ -28,7 +28,7 @@ pub(crate) struct Entry {
     pub(crate) round: u64,
 }
 
-/// The places of a server, by their tokens 0, 1, .., and which of them are served in a round: first those that a wait reports
+/// The endpoints of a server, by their tokens 0, 1, .., and which of them are served in a round: first those that a wait reports
 /// and that weren't known to be ready, as they are reported, and then those that were ready before, in order. The model is the
 /// list of what is known of them.
 #[derive(Drop)]
@@ -36,9 +36,9 @@ pub struct Schedule {
     entries: Vec<Entry>,
     /// The current round, counted from 1.
     round: u64,
-    /// The number of places that are ready.
+    /// The number of endpoints that are ready.
     ready: usize,
-    /// No place before this one is ready and not served.
+    /// No endpoint before this one is ready and not served.
     next: usize,
 }
 
@@ -55,7 +55,7 @@ impl Model for Schedule {
     ghost invariant = { λ s. IsSchedule s.round s.entries.items s.ready s.next };
 }
 
-/// Returns whether a place is ready and isn't served in the current round.
+/// Returns whether an endpoint is ready and isn't served in the current round.
 #[inline(always)]
 fn is_due(status: Status) -> bool
     ensures { result ≡ is_due status }
@@ -63,7 +63,7 @@ fn is_due(status: Status) -> bool
     status.is_ready && !status.is_served
 }
 
-/// Returns how many places one is, in the count of those that are ready.
+/// Returns how many endpoints one is, in the count of those that are ready.
 #[inline(always)]
 fn count_of(is_ready: bool) -> usize
     ensures { result ≡ (if is_ready then 1 else 0) }
@@ -81,7 +81,7 @@ fn unstamp(entries: &mut [Entry])
 }
 
 impl Schedule {
-    /// Returns the schedule of a number of places, each of which is ready at first, since datagrams may have come before the
+    /// Returns the schedule of a number of endpoints, each of which is ready at first, since datagrams may have come before the
     /// first wait.
     ///
     /// # Errors
@@ -102,7 +102,7 @@ impl Schedule {
         })
     }
 
-    /// Begins a round: no place is served in it yet.
+    /// Begins a round: no endpoint is served in it yet.
     pub fn begin(&mut self)
         ensures { self.new ≡ begun self.old }
     {
@@ -115,7 +115,7 @@ impl Schedule {
         self.round = 1;
     }
 
-    /// Returns what is known of a place; of a token that no place has, that it is served and not ready.
+    /// Returns what is known of an endpoint; of a token that no endpoint has, that it is served and not ready.
     #[inline(always)]
     fn status(&self, token: usize) -> Status
         ensures { result ≡ status_at self.now token }
@@ -133,7 +133,7 @@ impl Schedule {
         }
     }
 
-    /// Notes that a place, if one has the token, is served in this round, and whether it is ready.
+    /// Notes that an endpoint, if one has the token, is served in this round, and whether it is ready.
     #[inline(always)]
     fn put(&mut self, token: usize, is_ready: bool)
         ensures { self.new ≡ put self.old token is_ready }
@@ -147,9 +147,9 @@ impl Schedule {
         self.ready = self.ready - count_of(was_ready) + count_of(is_ready);
     }
 
-    /// Notes that a wait has reported a place. Returns whether it is to be served now: it was not ready, and is not served in
-    /// this round yet. One that was ready is served later in the round; one that is reported again after its turn is ready for the
-    /// next round.
+    /// Notes that a wait has reported an endpoint. Returns whether it is to be served now: it was not ready, and is not served in
+    /// this round yet. One that was ready is served later in the round; one that is reported again after its turn is ready for
+    /// the next round.
     pub fn report(&mut self, token: usize) -> bool
         ensures now { result ≡ is_new (status_at self.old token) }
         ensures after { self.new ≡ reported self.old token }
@@ -162,7 +162,7 @@ impl Schedule {
         !status.is_served
     }
 
-    /// Notes that a place was served, and whether it may have more.
+    /// Notes that an endpoint was served, and whether it may have more.
     pub fn served(&mut self, token: usize, more: bool)
         ensures after { self.new ≡ put self.old token more }
         ensures no_more { due_count self.new ≤ due_count self.old }
@@ -170,7 +170,7 @@ impl Schedule {
         self.put(token, more);
     }
 
-    /// Returns the first place that is ready and isn't served in this round, or the number of places where there is none.
+    /// Returns the first endpoint that is ready and isn't served in this round, or the number of endpoints where there is none.
     #[inline(always)]
     fn find(&self) -> usize
         ensures { result ≡ position_or_len is_due self.now }
@@ -187,10 +187,10 @@ impl Schedule {
         count
     }
 
-    /// Returns the first place that is ready and isn't served in this round, which is to be served now. From then on it counts as
-    /// served. `None` ends the round.
+    /// Returns the first endpoint that is ready and isn't served in this round, which is to be served now. From then on it
+    /// counts as served. `None` ends the round.
     pub fn next_ready(&mut self) -> Option<usize>
-        ensures place { result ≡ position is_due self.old }
+        ensures endpoint { result ≡ position is_due self.old }
         ensures after { self.new ≡ handed_out self.old }
         ensures fewer { OnSome result (due_count self.new < due_count self.old) }
     {
@@ -203,7 +203,7 @@ impl Schedule {
         Some(token)
     }
 
-    /// Returns whether a place is ready.
+    /// Returns whether an endpoint is ready.
     pub fn has_ready(&self) -> bool
         ensures { result ≡ has_ready self.now }
     {

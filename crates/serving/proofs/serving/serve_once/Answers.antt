@@ -11,7 +11,7 @@ returns g c =
     let had : length (room_of c.args.relay.now.frame) ≡ MAX_DATAGRAM = ap length (sym c.area.ensures.value) ∙ c.area.ensures.len in
     let has : length c.receive.new.into ≡ MAX_DATAGRAM = search rules in
     let is : c.receive.result ≡ Ok (Some (c.in-Ok-Some.found.0, c.in-Ok-Some.found.1)) = search rules in
-    handles c.args.place c.args.now c.args.tx c.args.relay.now c.receive.new.into c.in-Ok-Some.found.0 c.in-Ok-Some.found.1
+    handles c.args.endpoint c.args.now c.args.tx c.args.relay.now c.receive.new.into c.in-Ok-Some.found.0 c.in-Ok-Some.found.1
     (search rules) had has c.source_at-from.result c.source_at-from.ensures
     c.step.follows.lender-at-none (sending_of c.step.result) (g.L.Link.calls c.args.link.now) (g.L.Link.calls c.receive.new.self) (g.L.Link.calls c.send.new.link) c.receive.result c.send.result
     is c.receive.ensures c.step.follows.holds-at-none c.step.ensures.answer c.send.ensures c.step.ensures.rules

@@ -5,6 +5,6 @@ use Rattle.turns.proofs.ahead.Ahead.fill.Given as goal
 
 abbrev pub invariant-loop : goal.invariant-loop
 invariant-loop g l = record {
-  so_far : HasFilledSoFar l.place (g.L.Link.calls l.initial.link) (g.L.Link.calls l.link) l.self;
+  so_far : HasFilledSoFar l.endpoint (g.L.Link.calls l.initial.link) (g.L.Link.calls l.link) l.self;
   few : length l.self ≤ l.counter;
 }

@@ -35,7 +35,7 @@ returns-in-Ok-Some-clause-one g c =
     let ok : is_ok c.push.result ≡ true = c.push.ensures.succeeds (omega (arith, c.if-len-ge-TURNS.false, c.len.ensures, c.self.invariant.few)) in
     let pushed : c.push.new.self.items ≡ c.self.inside.datagrams.items ++ s ∷ [] = c.push.ensures.items ∙ cond-true (is_ok c.push.result) (c.self.inside.datagrams.items ++ s ∷ []) c.self.inside.datagrams.items ok in
     let answer : c.receive_at.result ≡ Ok (Some (c.in-Ok-Some.n, c.in-Ok-Some.from)) = search rules in
-    inr (received c.args.place (g.L.Link.calls c.args.link.now) (g.L.Link.calls c.receive_at.new.link) c.args.self.now c.self.inside.bytes.items c.receive_at.new.bytes c.self.inside.datagrams.items c.self.inside.count c.self.inside.end
+    inr (received c.args.endpoint (g.L.Link.calls c.args.link.now) (g.L.Link.calls c.receive_at.new.link) c.args.self.now c.self.inside.bytes.items c.receive_at.new.bytes c.self.inside.datagrams.items c.self.inside.count c.self.inside.end
     (ap (waiting_in c.self.inside.bytes.items c.self.inside.datagrams.items c.self.inside.count) (sym c.in-Receive.is) ∙ c.self.view_is) front c.self.invariant.within c.self.invariant.handed
     (omega (arith, same, c.if-len-start-lt-MAX_DATAGRAM.false, c.len-else-len-ge-TURNS.ensures, c.self.invariant.inside, c.self.inside.bytes.ok.0)) (Ok (Some (c.in-Ok-Some.n, c.in-Ok-Some.from))) c.receive_at.result c.receive_at.ensures.reported answer _ true
     (stored_datagram c.receive_at.new.bytes s) (datagram_waits c.receive_at.new.bytes c.self.inside.end c.in-Ok-Some.n c.in-Ok-Some.from c.if-n-le-MAX_DATAGRAM.true) refl
@@ -50,7 +50,7 @@ returns-in-Ok-None-clause-one g c =
     let is = with_items_is c.self.inside.bytes c.receive_at.new.bytes same in
     let front : take c.self.inside.end c.receive_at.new.bytes ≡ take c.self.inside.end c.self.inside.bytes.items = c.receive_at.ensures.front ∙ ap (take c.self.inside.end) c.as_mut_slice.ensures.value in
     let answer : c.receive_at.result ≡ Ok None = search rules in
-    inr (received c.args.place (g.L.Link.calls c.args.link.now) (g.L.Link.calls c.receive_at.new.link) c.args.self.now c.self.inside.bytes.items c.receive_at.new.bytes c.self.inside.datagrams.items c.self.inside.count c.self.inside.end
+    inr (received c.args.endpoint (g.L.Link.calls c.args.link.now) (g.L.Link.calls c.receive_at.new.link) c.args.self.now c.self.inside.bytes.items c.receive_at.new.bytes c.self.inside.datagrams.items c.self.inside.count c.self.inside.end
     (ap (waiting_in c.self.inside.bytes.items c.self.inside.datagrams.items c.self.inside.count) (sym c.in-Receive.is) ∙ c.self.view_is) front c.self.invariant.within c.self.invariant.handed
     (omega (arith, same, c.if-len-start-lt-MAX_DATAGRAM.false, c.len-else-len-ge-TURNS.ensures, c.self.invariant.inside, c.self.inside.bytes.ok.0)) (Ok None) c.receive_at.result c.receive_at.ensures.reported answer _ false Nothing refl refl
     (ap (λ b. waiting_in b c.self.inside.datagrams.items c.self.inside.count then.Nothing) is ∙ one_ends c.self.inside.end c.self.inside.bytes.items c.receive_at.new.bytes c.self.inside.datagrams.items c.self.inside.count then.Nothing Nothing front c.self.invariant.within refl))
@@ -66,23 +66,23 @@ returns-in_default-receive_at-clause-one g c =
     ∙ one_ends c.self.inside.end c.self.inside.bytes.items c.receive_at.new.bytes c.self.inside.datagrams.items c.self.inside.count then.Fault Fault front c.self.invariant.within refl in
     elim c.in_default-receive_at.branch [
       | in_default-receive_at-via-in-Ok-Some+else-n-le-MAX_DATAGRAM w ↦
-          inr (received c.args.place (g.L.Link.calls c.args.link.now) (g.L.Link.calls c.receive_at.new.link) c.args.self.now c.self.inside.bytes.items c.receive_at.new.bytes c.self.inside.datagrams.items c.self.inside.count c.self.inside.end
+          inr (received c.args.endpoint (g.L.Link.calls c.args.link.now) (g.L.Link.calls c.receive_at.new.link) c.args.self.now c.self.inside.bytes.items c.receive_at.new.bytes c.self.inside.datagrams.items c.self.inside.count c.self.inside.end
           (ap (waiting_in c.self.inside.bytes.items c.self.inside.datagrams.items c.self.inside.count) (sym c.in-Receive.is) ∙ c.self.view_is) front c.self.invariant.within c.self.invariant.handed long
           (Ok (Some (w.in-Ok-Some.n, w.in-Ok-Some.from))) c.receive_at.result c.receive_at.ensures.reported (w.in-Ok-Some.is ∙ ap Ok w.in-Ok-Some.field-0-is) _ false Fault (long_waits (take MAX_DATAGRAM (drop c.self.inside.end c.receive_at.new.bytes)) w.in-Ok-Some.n w.in-Ok-Some.from w.if-n-le-MAX_DATAGRAM.false) refl now)
       | in_default-receive_at-via-in_default w ↦
-          inr (received c.args.place (g.L.Link.calls c.args.link.now) (g.L.Link.calls c.receive_at.new.link) c.args.self.now c.self.inside.bytes.items c.receive_at.new.bytes c.self.inside.datagrams.items c.self.inside.count c.self.inside.end
+          inr (received c.args.endpoint (g.L.Link.calls c.args.link.now) (g.L.Link.calls c.receive_at.new.link) c.args.self.now c.self.inside.bytes.items c.receive_at.new.bytes c.self.inside.datagrams.items c.self.inside.count c.self.inside.end
           (ap (waiting_in c.self.inside.bytes.items c.self.inside.datagrams.items c.self.inside.count) (sym c.in-Receive.is) ∙ c.self.view_is) front c.self.invariant.within c.self.invariant.handed long
           (Err w.in_default-receive_at.field-0) c.receive_at.result c.receive_at.ensures.reported w.in_default-receive_at.is _ false Fault refl refl now)
     ]
 
 pub returns-in-Ok-Some-clause-more : goal.returns-in-Ok-Some-clause-more
 returns-in-Ok-Some-clause-more g c =
-    one_more_at_most c.args.place (g.L.Link.calls c.args.link.now) (g.L.Link.calls c.receive_at.new.link) c.args.self.now _ true (returns-in-Ok-Some-clause-one g c)
+    one_more_at_most c.args.endpoint (g.L.Link.calls c.args.link.now) (g.L.Link.calls c.receive_at.new.link) c.args.self.now _ true (returns-in-Ok-Some-clause-one g c)
 
 pub returns-in-Ok-None-clause-more : goal.returns-in-Ok-None-clause-more
 returns-in-Ok-None-clause-more g c =
-    one_more_at_most c.args.place (g.L.Link.calls c.args.link.now) (g.L.Link.calls c.receive_at.new.link) c.args.self.now _ false (returns-in-Ok-None-clause-one g c)
+    one_more_at_most c.args.endpoint (g.L.Link.calls c.args.link.now) (g.L.Link.calls c.receive_at.new.link) c.args.self.now _ false (returns-in-Ok-None-clause-one g c)
 
 pub returns-in_default-receive_at-clause-more : goal.returns-in_default-receive_at-clause-more
 returns-in_default-receive_at-clause-more g c =
-    one_more_at_most c.args.place (g.L.Link.calls c.args.link.now) (g.L.Link.calls c.receive_at.new.link) c.args.self.now _ false (returns-in_default-receive_at-clause-one g c)
+    one_more_at_most c.args.endpoint (g.L.Link.calls c.args.link.now) (g.L.Link.calls c.receive_at.new.link) c.args.self.now _ false (returns-in_default-receive_at-clause-one g c)

@@ -2,7 +2,7 @@ use Rattle.std.proofs.Common.{◌≡◌, map, length, ap, ◌∙◌, sym, subst}
 use Rattle.std.proofs.lemmas.List.{with_items_is, length-map}
 use Rattle.turns.specs.Entries.{statuses_in, unstamped, IsSchedule}
 use Rattle.turns.specs.Schedules.{begun}
-use Rattle.turns.proofs.Places.{schedule_begun, schedule_unstamped, begun_statuses, begun_unstamped}
+use Rattle.turns.proofs.Endpoints.{schedule_begun, schedule_unstamped, begun_statuses, begun_unstamped}
 use Rattle.turns.proofs.schedule.Schedule.begin.Goals as goal
 
 pub invariant_of-self : goal.invariant_of-self

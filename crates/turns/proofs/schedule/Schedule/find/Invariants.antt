@@ -1,4 +1,4 @@
--- No place before the current one is due.
+-- No endpoint before the current one is due.
 use Rattle.turns.specs.Entries.{ArePassed}
 use Rattle.turns.proofs.schedule.Schedule.find.Given as goal
 

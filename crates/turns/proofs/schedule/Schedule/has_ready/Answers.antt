@@ -1,7 +1,7 @@
 use Rattle.std.proofs.Common.{ltb, ap, ◌∙◌}
 use Rattle.turns.specs.Entries.{statuses_in}
 use Rattle.turns.specs.Schedules.{has_ready}
-use Rattle.turns.proofs.Places.{has_ready_by_count}
+use Rattle.turns.proofs.Endpoints.{has_ready_by_count}
 use Rattle.turns.proofs.schedule.Schedule.has_ready.Goals as goal
 
 pub returns : goal.returns

@@ -1,6 +1,6 @@
 use Rattle.std.proofs.Common.{ap, ◌∙◌}
 use Rattle.turns.specs.Entries.{statuses_in}
-use Rattle.turns.proofs.Places.{schedule_new, first_statuses}
+use Rattle.turns.proofs.Endpoints.{schedule_new, first_statuses}
 use Rattle.turns.proofs.schedule.Schedule.new.Goals as goal
 
 pub invariant_of-result : goal.invariant_of-result

@@ -1,7 +1,7 @@
 use Rattle.std.proofs.Common.{◌<◌, length, true, arith, ap, sym, subst, ◌∙◌}
 use Rattle.std.specs.List.{position_or_len}
 use Rattle.turns.specs.Schedules.{is_due, put, due_count}
-use Rattle.turns.proofs.Places.{schedule_at, due_fewer, length_places}
+use Rattle.turns.proofs.Endpoints.{schedule_at, due_fewer, length_endpoints}
 use Rattle.turns.proofs.schedule.Schedule.next_ready.Goals as goal
 
 pub invariant_of-self : goal.invariant_of-self
@@ -14,7 +14,7 @@ invariant_of-self-2 c =
 
 pub returns-clause-fewer : goal.returns-clause-fewer
 returns-clause-fewer c =
-    let same = length_places c.self.inside.round c.self.inside.entries.items c.args.self.now c.self.view_is in
+    let same = length_endpoints c.self.inside.round c.self.inside.entries.items c.args.self.now c.self.view_is in
     let inside : position_or_len is_due c.args.self.now < length c.args.self.now =
     omega (arith, same, c.if-token-len.false, c.find-token.ensures, c.len.ensures, c.self.inside.entries.ok.0) in
     let now = c.put.ensures ∙ ap (λ p. put p c.find-token.result true) c.self.view_is ∙ ap (λ t. put c.args.self.now t true) c.find-token.ensures in

@@ -1,6 +1,6 @@
 use Rattle.std.proofs.Common.{cond, ap, ◌∙◌, arith}
 use Rattle.turns.specs.Schedules.{put}
-use Rattle.turns.proofs.Places.{was_counted, schedule_put, statuses_put}
+use Rattle.turns.proofs.Endpoints.{was_counted, schedule_put, statuses_put}
 use Rattle.turns.proofs.schedule.Schedule.put.Goals as goal
 
 pub overflow_sub-self : goal.overflow_sub-self

@@ -1,6 +1,6 @@
 use Rattle.std.proofs.Common.{◌≤◌, sym, subst}
 use Rattle.turns.specs.Schedules.{due_count}
-use Rattle.turns.proofs.Places.{due_no_more}
+use Rattle.turns.proofs.Endpoints.{due_no_more}
 use Rattle.turns.proofs.schedule.Schedule.served.Goals as goal
 
 pub returns-clause-no_more : goal.returns-clause-no_more

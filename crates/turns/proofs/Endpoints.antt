@@ -1,4 +1,4 @@
--- What a schedule stores, and what is known of its places.
+-- What a schedule stores, and what is known of its endpoints.
 use Rattle.std.proofs.Common.{◌≡◌, ℕ, ◌+◌, ◌<◌, ◌≤◌, List, [], ◌∷◌, length, map, set, get_or, eqb, ltb, cond, Bool, true, false, not, refl, ap, sym, ◌∙◌, arith, get_or-set_same, get_or-set_other, zero, suc, ◌⊎◌, inl, inr, ◌||◌, ◌&&◌, zero-add, add-zero, mul-one, replicate, ◌-◌, subst}
 use Rattle.std.proofs.lemmas.Bool.{cases_eq, cases_lt}
 use Rattle.std.proofs.lemmas.Bool.Decides.{nat_tests}
@@ -8,7 +8,7 @@ use Rattle.std.proofs.lemmas.List.Folds.{sum_by-replicate}
 use Rattle.std.proofs.lemmas.List.Sums.{sum_by-set, sum_by-cons, fails_before_first, position_or_len_is, passes_at_first}
 use Rattle.std.specs.List.{position_or_len}
 use Rattle.turns.specs.Entries.{status_in, statuses_in, AreStamped, ArePassed, ready_count, IsSchedule, unstamped}
-use Rattle.turns.specs.Schedules.{status_at, is_due, no_place, put, begun, due_count, unserved, has_ready, ready_at_first}
+use Rattle.turns.specs.Schedules.{status_at, is_due, no_endpoint, put, begun, due_count, unserved, has_ready, ready_at_first}
 use Rattle.turns.specs.declared.schedule.Entry.{Entry}
 use Rattle.turns.specs.declared.schedule.Status.{Status}
 
@@ -34,11 +34,11 @@ pub stamped_first : (es : List Entry) → AreStamped 1 (map unstamped es)
 stamped_first [] = tt
 stamped_first (e ∷ es) = (omega arith, stamped_first es)
 
-pub count_begun : (places : List Status) → ready_count (begun places) ≡ ready_count places
+pub count_begun : (endpoints : List Status) → ready_count (begun endpoints) ≡ ready_count endpoints
 count_begun [] = refl
-count_begun (s ∷ places) =
-    sum_by-cons (λ x. cond x.is_ready 1 0) (unserved s) (begun places)
-    ∙ ap (λ (n : ℕ). cond s.is_ready 1 0 + n) (count_begun places) ∙ sym (sum_by-cons (λ x. cond x.is_ready 1 0) s places)
+count_begun (s ∷ endpoints) =
+    sum_by-cons (λ x. cond x.is_ready 1 0) (unserved s) (begun endpoints)
+    ∙ ap (λ (n : ℕ). cond s.is_ready 1 0 + n) (count_begun endpoints) ∙ sym (sum_by-cons (λ x. cond x.is_ready 1 0) s endpoints)
 
 -- ---- a write
 
@@ -55,41 +55,41 @@ statuses_put r es t b =
     map-set (status_in r) es t (record { is_ready = b; round = r })
     ∙ ap (λ (x : Bool). set (statuses_in r es) t (record { is_ready = b; is_served = x })) (eqb_same r)
 
-pub count_put : (places : List Status) (t : ℕ) (b : Bool) (d : Status) → t < length places
-    → ready_count (put places t b) + cond (get_or places t d).is_ready 1 0 ≡ ready_count places + cond b 1 0
-count_put places t b d h = sum_by-set (λ s. cond s.is_ready 1 0) places t (record { is_ready = b; is_served = true }) d h
+pub count_put : (endpoints : List Status) (t : ℕ) (b : Bool) (d : Status) → t < length endpoints
+    → ready_count (put endpoints t b) + cond (get_or endpoints t d).is_ready 1 0 ≡ ready_count endpoints + cond b 1 0
+count_put endpoints t b d h = sum_by-set (λ s. cond s.is_ready 1 0) endpoints t (record { is_ready = b; is_served = true }) d h
 
 served_not_due : (b : Bool) → is_due (record { is_ready = b; is_served = true }) ≡ false
 served_not_due true = refl
 served_not_due false = refl
 
-passed_put_at : (places : List Status) (t : ℕ) (b : Bool) (k : ℕ) → is_due (status_at places k) ≡ false → (k ≡ t) ⊎ (k ≡ t → ⊥) → (t < length places) ⊎ (length places ≤ t)
-    → is_due (status_at (put places t b) k) ≡ false
-passed_put_at places t b k not_due (inl same) (inl inside) =
-    ap (λ (j : ℕ). is_due (status_at (put places t b) j)) same
-    ∙ ap is_due (get_or-set_same places t (record { is_ready = b; is_served = true }) no_place inside) ∙ served_not_due b
-passed_put_at places t b k not_due same (inr outside) =
-    ap (λ (l : List Status). is_due (status_at l k)) (set_past places t (record { is_ready = b; is_served = true }) outside) ∙ not_due
-passed_put_at places t b k not_due (inr other) inside =
-    ap is_due (get_or-set_other places t k (record { is_ready = b; is_served = true }) no_place other) ∙ not_due
+passed_put_at : (endpoints : List Status) (t : ℕ) (b : Bool) (k : ℕ) → is_due (status_at endpoints k) ≡ false → (k ≡ t) ⊎ (k ≡ t → ⊥) → (t < length endpoints) ⊎ (length endpoints ≤ t)
+    → is_due (status_at (put endpoints t b) k) ≡ false
+passed_put_at endpoints t b k not_due (inl same) (inl inside) =
+    ap (λ (j : ℕ). is_due (status_at (put endpoints t b) j)) same
+    ∙ ap is_due (get_or-set_same endpoints t (record { is_ready = b; is_served = true }) no_endpoint inside) ∙ served_not_due b
+passed_put_at endpoints t b k not_due same (inr outside) =
+    ap (λ (l : List Status). is_due (status_at l k)) (set_past endpoints t (record { is_ready = b; is_served = true }) outside) ∙ not_due
+passed_put_at endpoints t b k not_due (inr other) inside =
+    ap is_due (get_or-set_other endpoints t k (record { is_ready = b; is_served = true }) no_endpoint other) ∙ not_due
 
-pub passed_put : (n : ℕ) (places : List Status) (t : ℕ) (b : Bool) → ArePassed n places → ArePassed n (put places t b)
-passed_put n places t b passed k h = passed_put_at places t b k (passed k h) (cases_eq k t) (cases_lt t (length places))
+pub passed_put : (n : ℕ) (endpoints : List Status) (t : ℕ) (b : Bool) → ArePassed n endpoints → ArePassed n (put endpoints t b)
+passed_put n endpoints t b passed k h = passed_put_at endpoints t b k (passed k h) (cases_eq k t) (cases_lt t (length endpoints))
 
-pub passed_first : (places : List Status) → ArePassed (position_or_len is_due places) places
-passed_first places k h = fails_before_first is_due places k no_place h
+pub passed_first : (endpoints : List Status) → ArePassed (position_or_len is_due endpoints) endpoints
+passed_first endpoints k h = fails_before_first is_due endpoints k no_endpoint h
 
--- ---- whether a place is ready
+-- ---- whether an endpoint is ready
 
 has_more : (b : Bool) (n : ℕ) → ltb 0 (cond b 1 0 + n) ≡ (b || ltb 0 n)
 has_more true n = grind (arith, nat_tests)
 has_more false n = ap (ltb 0) (zero-add n)
 
-pub has_ready_by_count : (places : List Status) → ltb 0 (ready_count places) ≡ has_ready places
+pub has_ready_by_count : (endpoints : List Status) → ltb 0 (ready_count endpoints) ≡ has_ready endpoints
 has_ready_by_count [] = refl
-has_ready_by_count (s ∷ places) =
-    ap (ltb 0) (sum_by-cons (λ x. cond x.is_ready 1 0) s places)
-    ∙ has_more s.is_ready (ready_count places) ∙ ap (λ (b : Bool). s.is_ready || b) (has_ready_by_count places)
+has_ready_by_count (s ∷ endpoints) =
+    ap (ltb 0) (sum_by-cons (λ x. cond x.is_ready 1 0) s endpoints)
+    ∙ has_more s.is_ready (ready_count endpoints) ∙ ap (λ (b : Bool). s.is_ready || b) (has_ready_by_count endpoints)
 
 one_more : (n : ℕ) → 1 + n ≡ suc n
 one_more n = omega arith
@@ -102,15 +102,15 @@ none_left : (b : Bool) (n : ℕ) → cond b 1 0 + n ≡ 0 → n ≡ 0
 none_left true n h = omega arith
 none_left false n h = omega arith
 
--- where no place is ready none is due
-pub none_ready : (places : List Status) → ready_count places ≡ 0 → position_or_len is_due places ≡ length places
+-- where no endpoint is ready none is due
+pub none_ready : (endpoints : List Status) → ready_count endpoints ≡ 0 → position_or_len is_due endpoints ≡ length endpoints
 none_ready [] h = refl
-none_ready (s ∷ places) h =
-    let c : cond s.is_ready 1 0 + ready_count places ≡ 0 = sym (sum_by-cons (λ x. cond x.is_ready 1 0) s places) ∙ h in
-    ap (λ (b : Bool). cond (not b) (1 + position_or_len is_due places) 0) (none_due s.is_ready s.is_served (ready_count places) c)
-    ∙ ap (λ (n : ℕ). 1 + n) (none_ready places (none_left s.is_ready (ready_count places) c)) ∙ one_more (length places)
+none_ready (s ∷ endpoints) h =
+    let c : cond s.is_ready 1 0 + ready_count endpoints ≡ 0 = sym (sum_by-cons (λ x. cond x.is_ready 1 0) s endpoints) ∙ h in
+    ap (λ (b : Bool). cond (not b) (1 + position_or_len is_due endpoints) 0) (none_due s.is_ready s.is_served (ready_count endpoints) c)
+    ∙ ap (λ (n : ℕ). 1 + n) (none_ready endpoints (none_left s.is_ready (ready_count endpoints) c)) ∙ one_more (length endpoints)
 
--- ---- the first places
+-- ---- the first endpoints
 
 pub first_statuses : (n : ℕ) → statuses_in 1 (replicate n (record { is_ready = true; round = 0 })) ≡ replicate n ready_at_first
 first_statuses zero = refl
@@ -129,7 +129,7 @@ length_statuses : (r : ℕ) (es : List Entry) → length (statuses_in r es) ≡ 
 length_statuses r [] = refl
 length_statuses r (e ∷ es) = ap suc (length_statuses r es)
 
--- the place that a write changes, in the count of those that are ready
+-- the endpoint that a write changes, in the count of those that are ready
 counts : (r : ℕ) (es : List Entry) (ready t : ℕ) (b : Bool) (d : Entry) → ready ≡ ready_count (statuses_in r es) → t < length es
     → ready_count (statuses_in r (set es t (record { is_ready = b; round = r }))) + cond (get_or es t d).is_ready 1 0 ≡ ready + cond b 1 0
 counts r es ready t b d count inside =
@@ -149,10 +149,10 @@ schedule_put r es ready next t was now b d s inside is_was is_now = record {
   passed = subst (λ (l : List Status). ArePassed next l) (sym (statuses_put r es t b)) (passed_put next (statuses_in r es) t b s.passed);
 }
 
--- the place that was looked for is the cursor of the next search
-pub schedule_at : (r : ℕ) (es : List Entry) (ready next token : ℕ) (places : List Status) → IsSchedule r es ready next → statuses_in r es ≡ places
-    → token ≡ position_or_len is_due places → IsSchedule r es ready token
-schedule_at r es ready next token places s view is = record {
+-- the endpoint that was looked for is the cursor of the next search
+pub schedule_at : (r : ℕ) (es : List Entry) (ready next token : ℕ) (endpoints : List Status) → IsSchedule r es ready next → statuses_in r es ≡ endpoints
+    → token ≡ position_or_len is_due endpoints → IsSchedule r es ready token
+schedule_at r es ready next token endpoints s view is = record {
   stamps = s.stamps;
   count = s.count;
   passed = subst (λ (t : ℕ). ArePassed t (statuses_in r es)) (ap (position_or_len is_due) view ∙ sym is) (passed_first (statuses_in r es));
@@ -179,36 +179,36 @@ schedule_new n es is = subst (λ (l : List Entry). IsSchedule 1 l n 0) (sym is) 
   passed = λ k h. absurd (omega (arith, h));
 })
 
--- ---- the place that is looked for
+-- ---- the endpoint that is looked for
 
-pub first_due : (places : List Status) (t : ℕ) → t ≤ length places → ArePassed t places → (t < length places → is_due (status_at places t) ≡ true) → t ≡ position_or_len is_due places
-first_due places t inside passed due = sym (position_or_len_is is_due places t no_place inside passed due)
+pub first_due : (endpoints : List Status) (t : ℕ) → t ≤ length endpoints → ArePassed t endpoints → (t < length endpoints → is_due (status_at endpoints t) ≡ true) → t ≡ position_or_len is_due endpoints
+first_due endpoints t inside passed due = sym (position_or_len_is is_due endpoints t no_endpoint inside passed due)
 
-pub none_due_at_all : (r : ℕ) (es : List Entry) (ready next n : ℕ) (places : List Status) → IsSchedule r es ready next → statuses_in r es ≡ places → ready ≡ 0 → n ≡ length es
-    → n ≡ position_or_len is_due places
-none_due_at_all r es ready next n places s view none count =
+pub none_due_at_all : (r : ℕ) (es : List Entry) (ready next n : ℕ) (endpoints : List Status) → IsSchedule r es ready next → statuses_in r es ≡ endpoints → ready ≡ 0 → n ≡ length es
+    → n ≡ position_or_len is_due endpoints
+none_due_at_all r es ready next n endpoints s view none count =
     count ∙ sym (length_statuses r es) ∙ sym (none_ready (statuses_in r es) (sym s.count ∙ none)) ∙ ap (position_or_len is_due) view
 
-pub length_places : (r : ℕ) (es : List Entry) (places : List Status) → statuses_in r es ≡ places → length places ≡ length es
-length_places r es places view = sym (ap length view) ∙ length_statuses r es
+pub length_endpoints : (r : ℕ) (es : List Entry) (endpoints : List Status) → statuses_in r es ≡ endpoints → length endpoints ≡ length es
+length_endpoints r es endpoints view = sym (ap length view) ∙ length_statuses r es
 
--- ---- how many places are due
+-- ---- how many endpoints are due
 
--- a place that was served isn't
-due_put : (places : List Status) (t : ℕ) (b : Bool) → t < length places → due_count (put places t b) + cond (is_due (status_at places t)) 1 0 ≡ due_count places
-due_put places t b inside =
-    sum_by-set (λ s. cond (is_due s) 1 0) places t (record { is_ready = b; is_served = true }) no_place inside
-    ∙ ap (λ (x : Bool). due_count places + cond x 1 0) (served_not_due b) ∙ add-zero (due_count places)
+-- an endpoint that was served isn't
+due_put : (endpoints : List Status) (t : ℕ) (b : Bool) → t < length endpoints → due_count (put endpoints t b) + cond (is_due (status_at endpoints t)) 1 0 ≡ due_count endpoints
+due_put endpoints t b inside =
+    sum_by-set (λ s. cond (is_due s) 1 0) endpoints t (record { is_ready = b; is_served = true }) no_endpoint inside
+    ∙ ap (λ (x : Bool). due_count endpoints + cond x 1 0) (served_not_due b) ∙ add-zero (due_count endpoints)
 
-pub due_no_more : (places : List Status) (t : ℕ) (b : Bool) → due_count (put places t b) ≤ due_count places
-due_no_more places t b = elim (cases_lt t (length places)) [
-  | inl inside ↦ let e = due_put places t b inside in omega (arith, e)
-  | inr outside ↦ subst (λ (l : List Status). due_count l ≤ due_count places) (sym (set_past places t (record { is_ready = b; is_served = true }) outside)) (omega arith)
+pub due_no_more : (endpoints : List Status) (t : ℕ) (b : Bool) → due_count (put endpoints t b) ≤ due_count endpoints
+due_no_more endpoints t b = elim (cases_lt t (length endpoints)) [
+  | inl inside ↦ let e = due_put endpoints t b inside in omega (arith, e)
+  | inr outside ↦ subst (λ (l : List Status). due_count l ≤ due_count endpoints) (sym (set_past endpoints t (record { is_ready = b; is_served = true }) outside)) (omega arith)
 ]
 
-pub due_fewer : (places : List Status) (b : Bool) → position_or_len is_due places < length places → due_count (put places (position_or_len is_due places) b) < due_count places
-due_fewer places b inside =
+pub due_fewer : (endpoints : List Status) (b : Bool) → position_or_len is_due endpoints < length endpoints → due_count (put endpoints (position_or_len is_due endpoints) b) < due_count endpoints
+due_fewer endpoints b inside =
     let e =
-    ap (λ (x : Bool). due_count (put places (position_or_len is_due places) b) + cond x 1 0) (sym (passes_at_first is_due places no_place inside))
-    ∙ due_put places (position_or_len is_due places) b inside in
+    ap (λ (x : Bool). due_count (put endpoints (position_or_len is_due endpoints) b) + cond x 1 0) (sym (passes_at_first is_due endpoints no_endpoint inside))
+    ∙ due_put endpoints (position_or_len is_due endpoints) b inside in
     omega (arith, e)
