@@ -12,11 +12,11 @@ use Rattle.semantics.specs.Runs.{IsDatagram, IsLawful}
 use Rattle.semantics.specs.declared.limits.TheConstants.{STACK_BYTES, HEADROOM, TAILROOM}
 use Rattle.semantics.specs.declared.plan.Plan.{Plan}
 use Rattle.flat.specs.Layout.{IsFlat, headroom_index, pointers}
-use Rattle.flat.specs.FlatSteps.{Given}
-use Rattle.flat.specs.Following.{given_in}
+use Rattle.flat.specs.FlatSteps.{FlatEnvironment}
+use Rattle.flat.specs.Following.{flat_environment_of}
 use Rattle.flat.specs.FlatRuns.{IsStart, IsRun}
 use Rattle.flat.specs.FlatLaws.{laid_out_is_flat, laid_out_after, rest_from_headroom}
-use Rattle.flat.specs.declared.running.Ended.{Ended}
+use Rattle.flat.specs.declared.flat_run.Exit as flat_run
 use Rattle.machine.specs.Contents.{Contents, datagram_of, frame_area_size}
 use Rattle.machine.specs.FrameFields.{HoldsDatagram}
 use Rattle.machine.specs.Contexts.{HelperAnswers, context_of}
@@ -48,15 +48,15 @@ module _ (answers : HelperAnswers) (lawful : IsLawful answers) (program : List I
   abbrev laid : List ℕ
   laid = overlay STACK_BYTES (pointers (length d) ++ drop 16 (context_bytes (context_of f.context) (length d))) flat
 
-  pub is_start : (g : Given) (written : List ℕ) → given_in w (length d) ≡ g → written ≡ laid → IsStart g w d written
+  pub is_start : (g : FlatEnvironment) (written : List ℕ) → flat_environment_of w (length d) ≡ g → written ≡ laid → IsStart g w d written
   is_start g written given e = record {
-    given = given;
+    environment = given;
     possible = record { context = is_context; helpers = lawful };
     is_datagram = is_datagram;
     memory = subst (λ (area : List ℕ). IsFlat (context_of f.context) (start d).memory area) (sym e) (laid_out_is_flat (context_of f.context) is_context flat d flat_long is_datagram.short held);
   }
 
-  module _ (written left : List ℕ) (e : written ≡ laid) (ended : Ended) (run : IsRun w program d written left ended) where
+  module _ (written left : List ℕ) (e : written ≡ laid) (exit : flat_run.Exit) (run : IsRun w program d written left exit) where
     after_is : drop headroom_index written ≡ f.area
     after_is = ap (drop headroom_index) e ∙ laid_out_after (context_of f.context) is_context flat d flat_long is_datagram.short held ∙ sym area_is
 
@@ -74,7 +74,7 @@ module _ (answers : HelperAnswers) (lawful : IsLawful answers) (program : List I
         let extent = run_extent w program (length d) (length program) (start d) (start_extent d) in
         sym run.memory.bytes ∙ ap (λ (k : ℕ). take k (drop headroom_index left)) ((λ i. HEADROOM + extent.length_is i + TAILROOM) ∙ count_is)
 
-    pub runs_flat : RunsFlat answers program f (record f { area = drop headroom_index left; is_started = false; window = ended.plan.window }) ended
+    pub runs_flat : RunsFlat answers program f (record f { area = drop headroom_index left; is_started = false; window = exit.plan.window }) exit
     runs_flat = record {
       is_datagram = is_datagram;
       length_is = size_is;
@@ -82,21 +82,21 @@ module _ (answers : HelperAnswers) (lawful : IsLawful answers) (program : List I
       ending = run.ending;
       steps = run.steps;
       plan_is = run.plan;
-      left = frame_left f (drop headroom_index left) ended.plan (safe_run_of program f answers) bytes_are rest_is run.plan;
+      left = frame_left f (drop headroom_index left) exit.plan (safe_run_of program f answers) bytes_are rest_is run.plan;
     }
 
     window_inside : (window : Option (ℕ × ℕ)) → IfSome window (IsWindow (length d)) → IfSome window (λ x. x.0 + x.1 ≤ frame_area_size)
     window_inside None h = tt
     window_inside (Some x) h = omega (arith, h.0, is_datagram.short)
 
-    pub holds_left : HoldsDatagram (drop headroom_index left) stack f.length false ended.plan.window
+    pub holds_left : HoldsDatagram (drop headroom_index left) stack f.length false exit.plan.window
     holds_left =
         let extent = run_extent w program (length d) (length program) (start d) (start_extent d) in
         record {
           long = omega (arith, run.memory.long, length-drop headroom_index left);
           short = holds.short;
           ready = λ e. absurd (no_true e);
-          inside = window_inside ended.plan.window (subst (λ (p : Plan). IfSome p.window (IsWindow (length d))) run.plan extent.plan.window);
+          inside = window_inside exit.plan.window (subst (λ (p : Plan). IfSome p.window (IsWindow (length d))) run.plan extent.plan.window);
         }
       where
         no_true : false ≡ true → ⊥

@@ -24,7 +24,7 @@ use Rattle.machine.specs.Contexts.{HelperAnswers, context_of}
 use Rattle.machine.specs.Execution.{IsRecordOf, IsWholeRun, RunsOver}
 use Rattle.machine.specs.Tracing.{environment_of, run_of, left_by, IsFrameRun, Shows}
 use Rattle.attributes.specs.declared.address.Addr.{Addr}
-use Rattle.machine.specs.declared.execution.Exited.{Exited}
+use Rattle.machine.specs.declared.execution.Exit.{Exit}
 use Rattle.machine.specs.declared.outcome.Stuck.{Stuck}
 
 -- zeros before the datagram, and then after it
@@ -82,7 +82,7 @@ frame_left f area plan r bytes following planned =
     λ i. record f { area = whole i; is_started = false; window = sym window i }
 
 -- a run in the memory of a started frame is the frame's run
-pub frame_run : {Log : Type 0} (Logs : Log → Visit → Log → Type 0) (program : List Insn) (answers : HelperAnswers) (f : Contents) (context : List ℕ) (stack empty stack' : StackMemory) (area : List ℕ) (plan : Plan) (old new : Log) (result : Result Exited Stuck)
+pub frame_run : {Log : Type 0} (Logs : Log → Visit → Log → Type 0) (program : List Insn) (answers : HelperAnswers) (f : Contents) (context : List ℕ) (stack empty stack' : StackMemory) (area : List ℕ) (plan : Plan) (old new : Log) (result : Result Exit Stuck)
     → HoldsDatagram f.area stack f.length true f.window → IsContext (context_of f.context) → context ≡ context_bytes (context_of f.context) f.length
     → empty ≡ empty_stack
     → IsWholeRun Logs program answers context (memory_with empty (take (67 + f.length) f.area) f.length) (memory_with stack' (take (67 + f.length) area) f.length) plan old new result
@@ -104,10 +104,10 @@ frame_run Logs program answers f context stack empty stack' area plan old new re
     }
 
 -- the outcome of a run that exits, with its plan
-pub exits_with : {Log : Type 0} (Logs : Log → Visit → Log → Type 0) (answers : HelperAnswers) (program : List Insn) (before after : Contents) (plan : Plan) (old new : Log) (exited : Exited) (destination : Option Addr)
-    → RunsOver Logs answers program before after plan old new (Ok exited) → destination ≡ option_map address_of plan.destination
-    → IsFrameRun Logs answers program before after old new (Ok (record { verdict = exited.verdict; steps = exited.steps; window = plan.window; destination = destination }))
-exits_with Logs answers program before after plan old new exited destination runs e = record {
+pub exits_with : {Log : Type 0} (Logs : Log → Visit → Log → Type 0) (answers : HelperAnswers) (program : List Insn) (before after : Contents) (plan : Plan) (old new : Log) (exit : Exit) (destination : Option Addr)
+    → RunsOver Logs answers program before after plan old new (Ok exit) → destination ≡ option_map address_of plan.destination
+    → IsFrameRun Logs answers program before after old new (Ok (record { verdict = exit.verdict; steps = exit.steps; window = plan.window; destination = destination }))
+exits_with Logs answers program before after plan old new exit destination runs e = record {
   ending = record {
     verdict = runs.ending.0;
     steps = runs.ending.1;
@@ -238,7 +238,7 @@ shows_left f after r long extent e =
     let window : option_map (window_of (left_by f r)) r.state.plan.window ≡ option_map (λ w. take w.1 (drop w.0 bytes)) r.state.plan.window = window_front size r.state.plan.window bytes rest extent.bytes extent.plan.window in
     subst (λ (g : Contents). Shows g size r) (sym e) (record { extent = extent; datagram = datagram; window = window })
 
-pub shows_run : {Log : Type 0} (Logs : Log → Visit → Log → Type 0) (answers : HelperAnswers) (program : List Insn) (before after : Contents) (plan : Plan) (old new : Log) (result : Result Exited Stuck)
+pub shows_run : {Log : Type 0} (Logs : Log → Visit → Log → Type 0) (answers : HelperAnswers) (program : List Insn) (before after : Contents) (plan : Plan) (old new : Log) (result : Result Exit Stuck)
     → length (datagram_of before) ≡ before.length → RunsOver Logs answers program before after plan old new result → Shows after (length (datagram_of before)) (run_of program before answers)
 shows_run Logs answers program before after plan old new result long runs =
     let extent = run_extent (environment_of before answers) program (length (datagram_of before)) (length program + 1) (start (datagram_of before)) (start_extent (datagram_of before)) in

@@ -13,13 +13,13 @@ use Rattle.semantics.specs.declared.effect.Effect.{Effect}
 use Rattle.semantics.specs.declared.effect.Effect.TheVariants as effects
 use Rattle.semantics.specs.declared.fetching.Visit.{Visit}
 use Rattle.semantics.specs.declared.fetching.Position.{Position}
-use Rattle.flat.specs.declared.running.Ended.{Ended}
+use Rattle.flat.specs.declared.flat_run.Exit as flat_run
 use Rattle.machine.specs.Contexts.{HelperAnswers, environment_around, context_of}
 use Rattle.machine.specs.Contents.{Contents, datagram_of}
 use Rattle.machine.specs.Tracing.{run_of, safe_run_of, left_by, Reports}
 use Rattle.machine.specs.declared.execution.StepResult.{StepResult}
 use Rattle.machine.specs.declared.execution.StepResult.TheVariants as code
-use Rattle.machine.specs.declared.execution.Exited.{Exited}
+use Rattle.machine.specs.declared.execution.Exit.{Exit}
 use Rattle.machine.specs.declared.outcome.Stuck.{Stuck}
 
 -- bytes that are the record of a context, where the datagram has a length
@@ -77,13 +77,13 @@ abbrev pub whole_run : Environment → List Insn → Memory → Run
 whole_run w program memory = run w program (length program + 1) (state_at 0 first_registers memory no_plan)
 
 -- the end of the code's run is that of the definitions' run
-abbrev pub EndsAs : Result Exited Stuck → Run → Type 0
-EndsAs (Ok exited) r = (r.ending ≡ runs.Exited exited.verdict) × (length r.path ≡ exited.steps)
+abbrev pub EndsAs : Result Exit Stuck → Run → Type 0
+EndsAs (Ok exit) r = (r.ending ≡ runs.Exited exit.verdict) × (length r.path ≡ exit.steps)
 EndsAs (Err stuck) r = r.ending ≡ runs.Stuck stuck.reason stuck.slot
 
 -- The run of a program over memory, with a context record of these bytes and helpers that give these answers: how it ends,
 -- the memory and the plan that it leaves, and the log of a sink before and after it.
-pub record IsWholeRun {Log : Type 0} (Logs : Log → Visit → Log → Type 0) (program : List Insn) (answers : HelperAnswers) (context : List ℕ) (memory left : Memory) (plan : Plan) (old new : Log) (result : Result Exited Stuck) : Type 0 where
+pub record IsWholeRun {Log : Type 0} (Logs : Log → Visit → Log → Type 0) (program : List Insn) (answers : HelperAnswers) (context : List ℕ) (memory left : Memory) (plan : Plan) (old new : Log) (result : Result Exit Stuck) : Type 0 where
   pub ending : (c : Context) → IsRecordOf context memory.length c → EndsAs result (whole_run (environment_around c answers) program memory)
   pub memory_is : (c : Context) → IsRecordOf context memory.length c → (whole_run (environment_around c answers) program memory).state.memory ≡ left
   pub plan_is : (c : Context) → IsRecordOf context memory.length c → (whole_run (environment_around c answers) program memory).state.plan ≡ plan
@@ -91,18 +91,18 @@ pub record IsWholeRun {Log : Type 0} (Logs : Log → Visit → Log → Type 0) (
 
 -- The run of a program over a started frame: how it ends, the plan and the frame that it leaves, and the log of a sink before
 -- and after it.
-pub record RunsOver {Log : Type 0} (Logs : Log → Visit → Log → Type 0) (answers : HelperAnswers) (program : List Insn) (before after : Contents) (plan : Plan) (old new : Log) (result : Result Exited Stuck) : Type 0 where
+pub record RunsOver {Log : Type 0} (Logs : Log → Visit → Log → Type 0) (answers : HelperAnswers) (program : List Insn) (before after : Contents) (plan : Plan) (old new : Log) (result : Result Exit Stuck) : Type 0 where
   pub ending : EndsAs result (run_of program before answers)
   pub plan_is : (run_of program before answers).state.plan ≡ plan
   pub left : after ≡ left_by before (run_of program before answers)
   pub logged : Reports Logs old (run_of program before answers).path new
 
 -- The flat run over a started frame: its end, with the plan, and the frame as the run leaves it.
-pub record RunsFlat (answers : HelperAnswers) (program : List Insn) (before after : Contents) (ended : Ended) : Type 0 where
+pub record RunsFlat (answers : HelperAnswers) (program : List Insn) (before after : Contents) (exit : flat_run.Exit) : Type 0 where
   pub is_datagram : IsDatagram (datagram_of before)
   pub length_is : length (datagram_of before) ≡ before.length
   pub is_context : IsContext (context_of before.context)
-  pub ending : (safe_run_of program before answers).ending ≡ runs.Exited ended.verdict
-  pub steps : length (safe_run_of program before answers).path ≡ ended.steps
-  pub plan_is : (safe_run_of program before answers).state.plan ≡ ended.plan
+  pub ending : (safe_run_of program before answers).ending ≡ runs.Exited exit.verdict
+  pub steps : length (safe_run_of program before answers).path ≡ exit.steps
+  pub plan_is : (safe_run_of program before answers).state.plan ≡ exit.plan
   pub left : after ≡ left_by before (safe_run_of program before answers)

@@ -6,7 +6,8 @@ ghost use Rattle.insn.specs.Encoding.{slot_count, slots_of};
 ghost use Rattle.insn.specs.declared.decoding.TheConstants.{MAX_SLOTS};
 ghost use Rattle.semantics.specs.Effects.{effect, StaysInside};
 ghost use Rattle.semantics.specs.Machine.{Context, first_registers, no_plan};
-ghost use Rattle.semantics.specs.Runs.{Goes, step_by_effect, registers_after_call, answered_at, plan_answer, with_window, with_destination};
+ghost use Rattle.semantics.specs.Runs.{Goes, step_by_effect, registers_after_call, answered_at, plan_answer};
+ghost use Rattle.semantics.specs.Runs.{with_window, with_destination};
 ghost use Rattle.semantics.specs.Slots.{fetch, IsAt};
 ghost use Rattle.semantics.specs.declared.fetching.Fetched.TheVariants.{Begins};
 ghost use Rattle.semantics.specs.declared.limits.TheConstants.{STACK_BYTES, HEADROOM, MAX_DATAGRAM, TAILROOM};
@@ -39,7 +40,7 @@ pub enum StepResult {
 
 /// The end of a run that exits: its verdict, and the number of its steps.
 #[derive(Clone, Copy, Debug, PartialEq, Eq)]
-pub struct Exited {
+pub struct Exit {
     pub verdict: u64,
     pub steps: usize,
 }
@@ -287,7 +288,7 @@ fn execute_from<H: Helpers, S: Sink>(
     bytes: &mut [u8],
     state: &mut TaggedState,
     sink: &mut S,
-) -> Result<Exited, Stuck>
+) -> Result<Exit, Stuck>
     requires few { slot_count given.now.code.now ≤ MAX_SLOTS }
     requires context { IsContextRecord given.now.context.now given.now.length }
     requires surrounded { count bytes.old ≡ HEADROOM + given.now.length + TAILROOM }
@@ -318,7 +319,7 @@ fn execute_from<H: Helpers, S: Sink>(
         steps += 1;
         match execute_step(given, stack, bytes, state, &insn) {
             StepResult::Goes(to) => state.at = to,
-            StepResult::Exits(verdict) => return Ok(Exited { verdict, steps }),
+            StepResult::Exits(verdict) => return Ok(Exit { verdict, steps }),
             StepResult::Sticks(reason) => return Err(Stuck { reason, slot }),
         }
     }
@@ -335,7 +336,7 @@ pub fn execute<H: Helpers, S: Sink>(
     bytes: &mut [u8],
     plan: &mut Plan,
     sink: &mut S,
-) -> Result<Exited, Stuck>
+) -> Result<Exit, Stuck>
     requires few { slot_count given.now.code.now ≤ MAX_SLOTS }
     requires context { IsContextRecord given.now.context.now given.now.length }
     requires surrounded { count bytes.old ≡ HEADROOM + given.now.length + TAILROOM }
@@ -351,7 +352,7 @@ pub fn execute<H: Helpers, S: Sink>(
         plan: *plan,
         at: Position { slot: 0, index: 0 },
     };
-    let ended = execute_from(given, stack, bytes, &mut state, sink);
+    let end = execute_from(given, stack, bytes, &mut state, sink);
     *plan = state.plan;
-    ended
+    end
 }

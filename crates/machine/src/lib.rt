@@ -6,16 +6,16 @@ mod context;
 mod execution;
 mod frame;
 mod outcome;
-mod running;
 mod sink;
 mod tracing;
+mod verified_run;
 
 pub use attributes::Addr;
 pub use context::{Context, Side};
 pub use frame::Frame;
 pub use helpers::{Helpers, NoAllocation};
 pub use outcome::{Outcome, Stuck};
-pub use running::run;
 pub use semantics::{HEADROOM, MAX_DATAGRAM, TAILROOM};
 pub use sink::{KEPT, Kept, Silent, Sink};
 pub use tracing::trace;
+pub use verified_run::run;

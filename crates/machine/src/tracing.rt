@@ -17,7 +17,7 @@ ghost use Rattle.machine.specs.Execution.{HasWindowInside, IsContextRecord, IsWh
 ghost use Rattle.machine.specs.Tracing.{run_of, IsOutcome, left_by, IsFrameRun, Reports, Shows};
 
 use crate::context::context_record;
-use crate::execution::{Environment, Exited, execute};
+use crate::execution::{Environment, Exit, execute};
 use crate::frame::{Frame, clear_stack};
 use crate::outcome::{Outcome, Stuck};
 use crate::sink::Sink;
@@ -43,7 +43,7 @@ fn execute_in<H: Helpers, S: Sink>(
     flat: &mut [u8],
     plan: &mut Plan,
     sink: &mut S,
-) -> Result<Exited, Stuck>
+) -> Result<Exit, Stuck>
     requires few { slot_count given.now.code.now ≤ MAX_SLOTS }
     requires context { IsContextRecord given.now.context.now given.now.length }
     requires room { headroom_index + (HEADROOM + TAILROOM + given.now.length) ≤ count flat.old }
@@ -74,7 +74,7 @@ fn run_frame<H: Helpers, S: Sink>(
     helpers: &H,
     plan: &mut Plan,
     sink: &mut S,
-) -> Result<Exited, Stuck>
+) -> Result<Exit, Stuck>
     requires few { slot_count code.now ≤ MAX_SLOTS }
     requires started { frame.old.is_started ≡ true }
     requires planless { plan.old ≡ no_plan }
@@ -94,9 +94,9 @@ fn run_frame<H: Helpers, S: Sink>(
         helpers,
         length,
     };
-    let ended = execute_in(&given, &mut frame.stack, &mut frame.flat, plan, sink);
+    let end = execute_in(&given, &mut frame.stack, &mut frame.flat, plan, sink);
     frame.window = plan.window;
-    ended
+    end
 }
 
 /// Returns the address of a record, if there is one.
@@ -128,7 +128,7 @@ pub(crate) fn execute_frame<H: Helpers, S: Sink>(
 {
     let mut plan = NO_PLAN;
     match run_frame(code, frame, helpers, &mut plan, sink) {
-        Ok(Exited { verdict, steps }) => Ok(Outcome {
+        Ok(Exit { verdict, steps }) => Ok(Outcome {
             verdict,
             steps,
             window: plan.window,

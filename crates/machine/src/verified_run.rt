@@ -12,7 +12,7 @@ use crate::frame::Frame;
 use crate::outcome::Outcome;
 use crate::tracing::destination_of;
 use attributes::Addr;
-use flat::{Ended, Given, Record, lay_out, run_flat};
+use flat::{Environment, Exit, Record, lay_out, run_flat};
 use helpers::{Helpers, address_record, wide_record};
 use verifier::Verified;
 
@@ -28,13 +28,13 @@ fn source_record(source: &Addr) -> Record
 }
 
 /// Runs a verified program over the area of a started frame, to its exit. Afterwards the frame is not started.
-fn run_area<H: Helpers>(program: &Verified, frame: &mut Frame, helpers: &H) -> Ended
+fn run_area<H: Helpers>(program: &Verified, frame: &mut Frame, helpers: &H) -> Exit
     requires { frame.old.is_started ≡ true }
     ensures { RunsFlat (H.answers helpers.now) program.now frame.old frame.new result }
 {
     let size = frame.datagram().len();
     let side = side_number(frame.context.side);
-    let given = Given {
+    let given = Environment {
         helpers,
         length: size,
         side: u64::from(side),
@@ -42,9 +42,9 @@ fn run_area<H: Helpers>(program: &Verified, frame: &mut Frame, helpers: &H) -> E
     let source = source_record(&frame.context.source);
     lay_out(&mut frame.flat, size, &source, &frame.context.tx, side);
     frame.is_started = false;
-    let ended = run_flat(program.translation(), &given, &mut frame.flat);
-    frame.window = ended.plan.window;
-    ended
+    let exit = run_flat(program.translation(), &given, &mut frame.flat);
+    frame.window = exit.plan.window;
+    exit
 }
 
 /// Runs a verified program over a started frame to its exit, within as many steps as the program has instructions.
@@ -60,13 +60,13 @@ pub fn run<H: Helpers>(program: &Verified, frame: &mut Frame, helpers: &H) -> Ou
     ensures shows { Shows frame.new (length (datagram_of frame.old))
         (safe_run_of program.now frame.old (H.answers helpers.now)) }
 {
-    let ended = run_area(program, frame, helpers);
+    let exit = run_area(program, frame, helpers);
     // the program is safe, and has at most 4,096 slots
     program.code();
     Outcome {
-        verdict: ended.verdict,
-        steps: ended.steps,
-        window: ended.plan.window,
-        destination: destination_of(ended.plan.destination),
+        verdict: exit.verdict,
+        steps: exit.steps,
+        window: exit.plan.window,
+        destination: destination_of(exit.plan.destination),
     }
 }

@@ -4,8 +4,8 @@ use Rattle.semantics.specs.Access.{overlay}
 use Rattle.semantics.specs.Machine.{Environment, context_bytes}
 use Rattle.semantics.specs.Runs.{IsDatagram, IsSafe}
 use Rattle.semantics.specs.declared.limits.TheConstants.{STACK_BYTES}
-use Rattle.flat.specs.FlatSteps.{given_of}
-use Rattle.flat.specs.Following.{given_in}
+use Rattle.flat.specs.FlatSteps.{flat_environment}
+use Rattle.flat.specs.Following.{flat_environment_of}
 use Rattle.flat.specs.FlatRuns.{IsRun}
 use Rattle.flat.specs.Forms.{narrow_bytes, wide_bytes}
 use Rattle.flat.specs.Layout.{context_fields, pointers}
@@ -18,10 +18,10 @@ use Rattle.machine.specs.Execution.{RunsFlat}
 use Rattle.machine.specs.Tracing.{environment_of}
 use Rattle.machine.proofs.Frames.{written}
 use Rattle.machine.proofs.FlatFrames.{is_start, runs_flat, holds_left}
-use Rattle.machine.proofs.running.run_area.Goals as goal
+use Rattle.machine.proofs.verified_run.run_area.Goals as goal
 
-pub run_flat-ended-requires-clause-start : goal.run_flat-ended-requires-clause-start
-run_flat-ended-requires-clause-start g c =
+pub run_flat-exit-requires-clause-start : goal.run_flat-exit-requires-clause-start
+run_flat-exit-requires-clause-start g c =
     let flat : List ℕ = c.frame.inside.flat.items in
     let f : Contents = record { area = drop 592 flat; length = c.frame.inside.length; is_started = c.frame.inside.is_started; context = c.frame.inside.context; window = c.frame.inside.window } in
     let d : List ℕ = datagram_of f in
@@ -38,7 +38,7 @@ run_flat-ended-requires-clause-start g c =
     ∙ (λ i. overlay STACK_BYTES (pointers (size i) ++ context_fields (size i) (source i) (wide i) f.context.tx (c.side_number-side.ensures i)) (c.deref_mut.ensures.value i))
     ∙ (λ i. overlay STACK_BYTES (pointers (length d) ++ sym (fields_of_context (context_of f.context) (length d)) i) flat) in
     let between : c.deref_mut-2.result.now ≡ c.lay_out.new.area = c.deref_mut-2.ensures.value ∙ written c.lay_out.new.area flat c.frame.inside.flat.len (c.lay_out.auto.area ∙ c.deref_mut.ensures.len) in
-    let given : given_in (environment_of f answers) (length d) ≡ given_of answers (length c.datagram-size.result.now) c.from.result = λ i. given_of answers (sym size i) (sym side i) in (
+    let given : flat_environment_of (environment_of f answers) (length d) ≡ flat_environment answers (length c.datagram-size.result.now) c.from.result = λ i. flat_environment answers (sym size i) (sym side i) in (
       environment_of f answers,
       d,
       is_start answers (g.H.Helpers.lawful c.args.helpers.now) c.args.program.now f flat refl c.frame.inside.stack holds c.frame.invariant.is_context is_datagram _ c.deref_mut-2.result.now given (between ∙ laid),
@@ -63,14 +63,14 @@ invariant_of-frame g c =
     ∙ (λ i. overlay STACK_BYTES (pointers (size i) ++ context_fields (size i) (source i) (wide i) f.context.tx (c.side_number-side.ensures i)) (c.deref_mut.ensures.value i))
     ∙ (λ i. overlay STACK_BYTES (pointers (length d) ++ sym (fields_of_context (context_of f.context) (length d)) i) flat) in
     let between : c.deref_mut-2.result.now ≡ c.lay_out.new.area = c.deref_mut-2.ensures.value ∙ written c.lay_out.new.area flat c.frame.inside.flat.len (c.lay_out.auto.area ∙ c.deref_mut.ensures.len) in
-    let given : given_in w (length d) ≡ given_of answers (length c.datagram-size.result.now) c.from.result = λ i. given_of answers (sym size i) (sym side i) in
-    let start = is_start answers (g.H.Helpers.lawful c.args.helpers.now) c.args.program.now f flat refl c.frame.inside.stack holds c.frame.invariant.is_context is_datagram (given_of answers (length c.datagram-size.result.now) c.from.result) c.deref_mut-2.result.now given (between ∙ laid) in
-    let run : IsRun w c.args.program.now d c.deref_mut-2.result.now c.run_flat-ended.new.area c.run_flat-ended.result =
-    subst (λ (code : List Insn). IsRun w code d c.deref_mut-2.result.now c.run_flat-ended.new.area c.run_flat-ended.result) c.translation.ensures.code (c.run_flat-ended.ensures w d start) in
-    let left = written c.run_flat-ended.new.area (take c.frame.inside.flat.len (c.lay_out.new.area ++ drop (length c.lay_out.new.area) flat)) c.frame.inside.flat.len (c.run_flat-ended.auto.area ∙ c.deref_mut-2.ensures.len) in
-    subst (λ (a : List ℕ). IsFrame a c.frame.inside.stack f.length false c.run_flat-ended.result.plan.window f.context) (sym left) (record {
+    let given : flat_environment_of w (length d) ≡ flat_environment answers (length c.datagram-size.result.now) c.from.result = λ i. flat_environment answers (sym size i) (sym side i) in
+    let start = is_start answers (g.H.Helpers.lawful c.args.helpers.now) c.args.program.now f flat refl c.frame.inside.stack holds c.frame.invariant.is_context is_datagram (flat_environment answers (length c.datagram-size.result.now) c.from.result) c.deref_mut-2.result.now given (between ∙ laid) in
+    let run : IsRun w c.args.program.now d c.deref_mut-2.result.now c.run_flat-exit.new.area c.run_flat-exit.result =
+    subst (λ (code : List Insn). IsRun w code d c.deref_mut-2.result.now c.run_flat-exit.new.area c.run_flat-exit.result) c.translation.ensures.code (c.run_flat-exit.ensures w d start) in
+    let left = written c.run_flat-exit.new.area (take c.frame.inside.flat.len (c.lay_out.new.area ++ drop (length c.lay_out.new.area) flat)) c.frame.inside.flat.len (c.run_flat-exit.auto.area ∙ c.deref_mut-2.ensures.len) in
+    subst (λ (a : List ℕ). IsFrame a c.frame.inside.stack f.length false c.run_flat-exit.result.plan.window f.context) (sym left) (record {
       long = run.memory.long;
-      holds = holds_left answers (g.H.Helpers.lawful c.args.helpers.now) c.args.program.now f flat refl c.frame.inside.stack holds c.frame.invariant.is_context is_datagram c.deref_mut-2.result.now c.run_flat-ended.new.area (between ∙ laid) c.run_flat-ended.result run;
+      holds = holds_left answers (g.H.Helpers.lawful c.args.helpers.now) c.args.program.now f flat refl c.frame.inside.stack holds c.frame.invariant.is_context is_datagram c.deref_mut-2.result.now c.run_flat-exit.new.area (between ∙ laid) c.run_flat-exit.result run;
       is_context = c.frame.invariant.is_context;
     })
 
@@ -93,15 +93,15 @@ returns g c =
     ∙ (λ i. overlay STACK_BYTES (pointers (size i) ++ context_fields (size i) (source i) (wide i) f.context.tx (c.side_number-side.ensures i)) (c.deref_mut.ensures.value i))
     ∙ (λ i. overlay STACK_BYTES (pointers (length d) ++ sym (fields_of_context (context_of f.context) (length d)) i) flat) in
     let between : c.deref_mut-2.result.now ≡ c.lay_out.new.area = c.deref_mut-2.ensures.value ∙ written c.lay_out.new.area flat c.frame.inside.flat.len (c.lay_out.auto.area ∙ c.deref_mut.ensures.len) in
-    let given : given_in w (length d) ≡ given_of answers (length c.datagram-size.result.now) c.from.result = λ i. given_of answers (sym size i) (sym side i) in
-    let start = is_start answers (g.H.Helpers.lawful c.args.helpers.now) c.args.program.now f flat refl c.frame.inside.stack holds c.frame.invariant.is_context is_datagram (given_of answers (length c.datagram-size.result.now) c.from.result) c.deref_mut-2.result.now given (between ∙ laid) in
-    let run : IsRun w c.args.program.now d c.deref_mut-2.result.now c.run_flat-ended.new.area c.run_flat-ended.result =
-    subst (λ (code : List Insn). IsRun w code d c.deref_mut-2.result.now c.run_flat-ended.new.area c.run_flat-ended.result) c.translation.ensures.code (c.run_flat-ended.ensures w d start) in
-    let left = written c.run_flat-ended.new.area (take c.frame.inside.flat.len (c.lay_out.new.area ++ drop (length c.lay_out.new.area) flat)) c.frame.inside.flat.len (c.run_flat-ended.auto.area ∙ c.deref_mut-2.ensures.len) in
-    let Runs : Contents → List ℕ → Type 0 = λ b a. RunsFlat answers c.args.program.now b (record { area = drop 592 a; length = f.length; is_started = false; context = f.context; window = c.run_flat-ended.result.plan.window }) c.run_flat-ended.result in
-    subst (λ (b : Contents). Runs b (take c.frame.inside.flat.len (c.run_flat-ended.new.area ++ drop (length c.run_flat-ended.new.area) (take c.frame.inside.flat.len (c.lay_out.new.area ++ drop (length c.lay_out.new.area) flat))))) c.frame.view_is
+    let given : flat_environment_of w (length d) ≡ flat_environment answers (length c.datagram-size.result.now) c.from.result = λ i. flat_environment answers (sym size i) (sym side i) in
+    let start = is_start answers (g.H.Helpers.lawful c.args.helpers.now) c.args.program.now f flat refl c.frame.inside.stack holds c.frame.invariant.is_context is_datagram (flat_environment answers (length c.datagram-size.result.now) c.from.result) c.deref_mut-2.result.now given (between ∙ laid) in
+    let run : IsRun w c.args.program.now d c.deref_mut-2.result.now c.run_flat-exit.new.area c.run_flat-exit.result =
+    subst (λ (code : List Insn). IsRun w code d c.deref_mut-2.result.now c.run_flat-exit.new.area c.run_flat-exit.result) c.translation.ensures.code (c.run_flat-exit.ensures w d start) in
+    let left = written c.run_flat-exit.new.area (take c.frame.inside.flat.len (c.lay_out.new.area ++ drop (length c.lay_out.new.area) flat)) c.frame.inside.flat.len (c.run_flat-exit.auto.area ∙ c.deref_mut-2.ensures.len) in
+    let Runs : Contents → List ℕ → Type 0 = λ b a. RunsFlat answers c.args.program.now b (record { area = drop 592 a; length = f.length; is_started = false; context = f.context; window = c.run_flat-exit.result.plan.window }) c.run_flat-exit.result in
+    subst (λ (b : Contents). Runs b (take c.frame.inside.flat.len (c.run_flat-exit.new.area ++ drop (length c.run_flat-exit.new.area) (take c.frame.inside.flat.len (c.lay_out.new.area ++ drop (length c.lay_out.new.area) flat))))) c.frame.view_is
     (subst (λ (a : List ℕ). Runs f a) (sym left)
-    (runs_flat answers (g.H.Helpers.lawful c.args.helpers.now) c.args.program.now f flat refl c.frame.inside.stack holds c.frame.invariant.is_context is_datagram c.deref_mut-2.result.now c.run_flat-ended.new.area (between ∙ laid) c.run_flat-ended.result run))
+    (runs_flat answers (g.H.Helpers.lawful c.args.helpers.now) c.args.program.now f flat refl c.frame.inside.stack holds c.frame.invariant.is_context is_datagram c.deref_mut-2.result.now c.run_flat-exit.new.area (between ∙ laid) c.run_flat-exit.result run))
 
-pub run_flat-ended-requires-clause-safe : goal.run_flat-ended-requires-clause-safe
-run_flat-ended-requires-clause-safe g c = subst IsSafe (sym c.translation.ensures.code) c.translation.ensures.safe
+pub run_flat-exit-requires-clause-safe : goal.run_flat-exit-requires-clause-safe
+run_flat-exit-requires-clause-safe g c = subst IsSafe (sym c.translation.ensures.code) c.translation.ensures.safe
