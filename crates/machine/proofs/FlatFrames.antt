@@ -58,7 +58,7 @@ module _ (answers : HelperAnswers) (lawful : IsLawful answers) (program : List I
 
   module _ (written left : List ℕ) (e : written ≡ laid) (exit : flat_run.Exit) (run : IsRun w program d written left exit) where
     after_is : drop headroom_index written ≡ f.area
-    after_is = ap (drop headroom_index) e ∙ laid_out_after (context_of f.context) is_context flat d flat_long is_datagram.short held ∙ sym area_is
+    after_is = ap (drop headroom_index) e ∙ laid_out_after (context_of f.context) is_context (length d) flat ∙ sym area_is
 
     count_is : HEADROOM + length d + TAILROOM ≡ HEADROOM + TAILROOM + f.length
     count_is = omega (arith, size_is)

@@ -1,10 +1,17 @@
 //! The context of a run, what a program may read about the current datagram, and its record.
 
-ghost use Rattle.std.specs.Prelude.{◌≡◌, ◌≤◌, ◌+◌, ◌++◌, length, take, drop};
-ghost use Rattle.semantics.specs.Machine.{context_bytes};
+ghost use Rattle.std.specs.Prelude.{◌≡◌, ◌≤◌, ◌<◌, ◌++◌, All, length, drop};
+ghost use Rattle.semantics.specs.Access.{overlay};
+ghost use Rattle.semantics.specs.Machine.{AreBytes, IsContext, context_bytes};
+ghost use Rattle.semantics.specs.declared.limits.TheConstants.{STACK_BYTES, MAX_DATAGRAM};
+ghost use Rattle.flat.specs.Forms.{narrow_bytes, wide_bytes};
+ghost use Rattle.flat.specs.Layout.{area_size, headroom_index, pointers};
+ghost use Rattle.helpers.specs.Records.{address_record, wide_record};
 ghost use Rattle.machine.specs.Contexts.{context_of, side_number};
 
-use attributes::Addr;
+use crate::frame::write_zeros;
+use attributes::{Addr, is_address};
+use flat::{Record, context_record, lay_out};
 use helpers::{address_record, wide_record};
 use semantics::CONTEXT_BYTES;
 
@@ -23,6 +30,26 @@ pub struct Context {
     pub tx: [u8; 12],
 }
 
+/// States that each item of a `[u8]` is below 256.
+fn all_fit(bytes: &[u8])
+    ensures { All (λ b. b < 256) bytes.now }
+{}
+
+/// States that an array of `N` bytes has `N` items, each below 256.
+fn are_bytes<const N: usize>(bytes: &[u8; N])
+    ensures { AreBytes N bytes.now }
+{
+    all_fit(bytes);
+}
+
+/// States that every context has the sizes of the definitions' context.
+pub(crate) fn is_context(context: &Context)
+    ensures { IsContext (context_of context.now) }
+{
+    is_address(&context.source);
+    are_bytes(&context.tx);
+}
+
 /// The numbers of the sides in the context record.
 const SIDE_NUMBERS: [u32; 2] = [0, 1];
 
@@ -38,23 +65,39 @@ pub(crate) fn side_number(side: Side) -> u32
     SIDE_NUMBERS[index]
 }
 
-/// Writes a part of a record over the bytes from an index on.
-fn write_part(bytes: &mut [u8], at: usize, part: &[u8])
-    requires { at + length part.now ≤ length bytes.old }
-    ensures { bytes.new ≡ take at bytes.old ++ part.now ++ drop (at + length part.now) bytes.old }
+/// Returns the address record of a source: that of IPv4, or a wide one.
+fn source_record(source: &Addr) -> Record
+    ensures narrow { narrow_bytes result ≡ address_record source.now }
+    ensures wide { wide_bytes result ≡ wide_record source.now }
 {
-    bytes[at..at + part.len()].copy_from_slice(part);
+    match source {
+        Addr::V4 { .. } => Record::Narrow(address_record(source)),
+        Addr::V6 { .. } => Record::Wide(wide_record(source)),
+    }
 }
 
-/// Returns the context record of a datagram of `length` bytes.
-pub(crate) fn context_record(context: &Context, length: usize) -> [u8; CONTEXT_BYTES]
-    ensures { result ≡ context_bytes (context_of context.now) length }
+/// Writes the context record of a datagram of `size` bytes to its place in an area.
+#[inline(always)]
+pub(crate) fn lay_out_context(area: &mut [u8], context: &Context, size: usize)
+    requires long { length area.old ≡ area_size }
+    requires short { size ≤ MAX_DATAGRAM }
+    ensures { area.new ≡ overlay STACK_BYTES (pointers size ++ drop 16 (context_bytes (context_of context.now) size)) area.old }
 {
-    let mut bytes = [0; CONTEXT_BYTES];
-    write_part(&mut bytes, 16, &(length as u64).to_le_bytes());
-    write_part(&mut bytes, 24, &address_record(&context.source));
-    write_part(&mut bytes, 32, &context.tx);
-    write_part(&mut bytes, 44, &side_number(context.side).to_le_bytes());
-    write_part(&mut bytes, 48, &wide_record(&context.source));
+    let source = source_record(&context.source);
+    lay_out(area, size, &source, &context.tx, side_number(context.side));
+}
+
+/// Writes the context record of a datagram of `size` bytes to its place in an area, and returns it as a trace reads it: with
+/// zeros in place of the pointers.
+pub(crate) fn traced_record(area: &mut [u8], context: &Context, size: usize) -> [u8; CONTEXT_BYTES]
+    requires long { length area.old ≡ area_size }
+    requires short { size ≤ MAX_DATAGRAM }
+    ensures record { result ≡ context_bytes (context_of context.now) size }
+    ensures after { drop headroom_index area.new ≡ drop headroom_index area.old }
+{
+    is_context(context);
+    lay_out_context(area, context, size);
+    let mut bytes = context_record(area);
+    write_zeros(&mut bytes, 0, 16);
     bytes
 }

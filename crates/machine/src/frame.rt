@@ -1,13 +1,12 @@
 //! The frame of a run.
 
 ghost use Rattle.std.specs.Prelude.{◌≡◌, ◌≤◌, ◌+◌, ◌++◌, None, length, take, drop, replicate, IfOk, All, ◌<◌};
-ghost use Rattle.semantics.specs.Machine.{AreBytes, IsContext, empty_stack, datagram_area};
+ghost use Rattle.semantics.specs.Machine.{empty_stack, datagram_area};
 ghost use Rattle.semantics.specs.declared.limits.TheConstants.{STACK_BYTES, HEADROOM, TAILROOM};
 ghost use Rattle.flat.specs.Layout.{headroom_index};
-ghost use Rattle.machine.specs.Contexts.{context_of};
 
-use crate::context::{Context, Side};
-use attributes::{Addr, is_address};
+use crate::context::{Context, Side, is_context};
+use attributes::Addr;
 use flat::{AREA_BYTES, HEADROOM_INDEX};
 use semantics::{GROUPS, HEADROOM, MAX_DATAGRAM, STACK_BYTES, StackMemory, TAILROOM, Value};
 use std::alloc::{AllocError, Global};
@@ -56,26 +55,6 @@ const NO_CONTEXT: Context = Context {
     tx: [0; 12],
 };
 
-/// States that each item of a `[u8]` is below 256.
-fn all_fit(bytes: &[u8])
-    ensures { All (λ b. b < 256) bytes.now }
-{}
-
-/// States that an array of `N` bytes has `N` items, each below 256.
-fn are_bytes<const N: usize>(bytes: &[u8; N])
-    ensures { AreBytes N bytes.now }
-{
-    all_fit(bytes);
-}
-
-/// States that every context has the sizes of the definitions' context.
-fn is_context(context: &Context)
-    ensures { IsContext (context_of context.now) }
-{
-    is_address(&context.source);
-    are_bytes(&context.tx);
-}
-
 fn zeros(alloc: Global, n: usize) -> Result<Vec<u8>, AllocError>
     ensures { IfOk result (λ v. v.items ≡ replicate n 0) }
 {
@@ -101,7 +80,7 @@ pub(crate) fn clear_stack(stack: &mut StackMemory)
 }
 
 /// Writes `n` zeros from an index on.
-fn write_zeros(bytes: &mut [u8], from: usize, n: usize)
+pub(crate) fn write_zeros(bytes: &mut [u8], from: usize, n: usize)
     requires { from + n ≤ length bytes.old }
     ensures { bytes.new ≡ take from bytes.old ++ replicate n 0 ++ drop (from + n) bytes.old }
 {

@@ -16,7 +16,7 @@ ghost use Rattle.machine.specs.Contexts.{context_of};
 ghost use Rattle.machine.specs.Execution.{HasWindowInside, IsContextRecord, IsWholeRun, RunsOver};
 ghost use Rattle.machine.specs.Tracing.{run_of, IsOutcome, left_by, IsFrameRun, Reports, Shows};
 
-use crate::context::context_record;
+use crate::context::traced_record;
 use crate::execution::{Environment, Exit, execute};
 use crate::frame::{Frame, clear_stack};
 use crate::outcome::{Outcome, Stuck};
@@ -85,7 +85,7 @@ fn run_frame<H: Helpers, S: Sink>(
         (S.log sink.old) (S.log sink.new) result }
 {
     let length = frame.datagram().len();
-    let context = context_record(&frame.context, length);
+    let context = traced_record(&mut frame.flat, &frame.context, length);
     frame.is_started = false;
     clear_stack(&mut frame.stack);
     let given = Environment {

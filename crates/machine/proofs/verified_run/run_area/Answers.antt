@@ -7,10 +7,7 @@ use Rattle.semantics.specs.declared.limits.TheConstants.{STACK_BYTES}
 use Rattle.flat.specs.FlatSteps.{flat_environment}
 use Rattle.flat.specs.Following.{flat_environment_of}
 use Rattle.flat.specs.FlatRuns.{IsRun}
-use Rattle.flat.specs.Forms.{narrow_bytes, wide_bytes}
-use Rattle.flat.specs.Layout.{context_fields, pointers}
-use Rattle.flat.specs.FlatLaws.{fields_of_context}
-use Rattle.helpers.specs.Records.{address_record, wide_record}
+use Rattle.flat.specs.Layout.{pointers}
 use Rattle.machine.specs.Contents.{Contents, datagram_of}
 use Rattle.machine.specs.FrameFields.{HoldsDatagram, IsFrame}
 use Rattle.machine.specs.Contexts.{HelperAnswers, context_of, side_number}
@@ -30,14 +27,10 @@ run_flat-exit-requires-clause-start g c =
     let holds : HoldsDatagram f.area c.frame.inside.stack f.length true f.window = subst (λ (b : Bool). HoldsDatagram f.area c.frame.inside.stack f.length b f.window) started c.frame.invariant.holds in
     let size : length c.datagram-size.result.now ≡ length d = ap length (c.datagram-size.ensures.bytes ∙ sym (ap datagram_of c.frame.view_is)) in
     let is_datagram : IsDatagram d = subst (λ (h : Contents). IsDatagram (datagram_of h)) (sym c.frame.view_is) c.datagram-size.ensures.short in
-    let side : c.from.result ≡ side_number f.context.side = c.from.ensures ∙ c.side_number-side.ensures in
-    let source : narrow_bytes c.source_record-source.result ≡ address_record f.context.source = c.source_record-source.ensures.narrow in
-    let wide : wide_bytes c.source_record-source.result ≡ wide_record f.context.source = c.source_record-source.ensures.wide in
-    let laid : c.lay_out.new.area ≡ overlay STACK_BYTES (pointers (length d) ++ drop 16 (context_bytes (context_of f.context) (length d))) flat =
-    c.lay_out.ensures
-    ∙ (λ i. overlay STACK_BYTES (pointers (size i) ++ context_fields (size i) (source i) (wide i) f.context.tx (c.side_number-side.ensures i)) (c.deref_mut.ensures.value i))
-    ∙ (λ i. overlay STACK_BYTES (pointers (length d) ++ sym (fields_of_context (context_of f.context) (length d)) i) flat) in
-    let between : c.deref_mut-2.result.now ≡ c.lay_out.new.area = c.deref_mut-2.ensures.value ∙ written c.lay_out.new.area flat c.frame.inside.flat.len (c.lay_out.auto.area ∙ c.deref_mut.ensures.len) in
+    let side : c.from.result ≡ side_number f.context.side = c.from.ensures ∙ c.side_number.ensures in
+    let laid : c.lay_out_context.new.area ≡ overlay STACK_BYTES (pointers (length d) ++ drop 16 (context_bytes (context_of f.context) (length d))) flat =
+    c.lay_out_context.ensures ∙ (λ i. overlay STACK_BYTES (pointers (size i) ++ drop 16 (context_bytes (context_of f.context) (size i))) (c.deref_mut.ensures.value i)) in
+    let between : c.deref_mut-2.result.now ≡ c.lay_out_context.new.area = c.deref_mut-2.ensures.value ∙ written c.lay_out_context.new.area flat c.frame.inside.flat.len (c.lay_out_context.auto.area ∙ c.deref_mut.ensures.len) in
     let given : flat_environment_of (environment_of f answers) (length d) ≡ flat_environment answers (length c.datagram-size.result.now) c.from.result = λ i. flat_environment answers (sym size i) (sym side i) in (
       environment_of f answers,
       d,
@@ -55,19 +48,15 @@ invariant_of-frame g c =
     let holds : HoldsDatagram f.area c.frame.inside.stack f.length true f.window = subst (λ (b : Bool). HoldsDatagram f.area c.frame.inside.stack f.length b f.window) started c.frame.invariant.holds in
     let size : length c.datagram-size.result.now ≡ length d = ap length (c.datagram-size.ensures.bytes ∙ sym (ap datagram_of c.frame.view_is)) in
     let is_datagram : IsDatagram d = subst (λ (h : Contents). IsDatagram (datagram_of h)) (sym c.frame.view_is) c.datagram-size.ensures.short in
-    let side : c.from.result ≡ side_number f.context.side = c.from.ensures ∙ c.side_number-side.ensures in
-    let source : narrow_bytes c.source_record-source.result ≡ address_record f.context.source = c.source_record-source.ensures.narrow in
-    let wide : wide_bytes c.source_record-source.result ≡ wide_record f.context.source = c.source_record-source.ensures.wide in
-    let laid : c.lay_out.new.area ≡ overlay STACK_BYTES (pointers (length d) ++ drop 16 (context_bytes (context_of f.context) (length d))) flat =
-    c.lay_out.ensures
-    ∙ (λ i. overlay STACK_BYTES (pointers (size i) ++ context_fields (size i) (source i) (wide i) f.context.tx (c.side_number-side.ensures i)) (c.deref_mut.ensures.value i))
-    ∙ (λ i. overlay STACK_BYTES (pointers (length d) ++ sym (fields_of_context (context_of f.context) (length d)) i) flat) in
-    let between : c.deref_mut-2.result.now ≡ c.lay_out.new.area = c.deref_mut-2.ensures.value ∙ written c.lay_out.new.area flat c.frame.inside.flat.len (c.lay_out.auto.area ∙ c.deref_mut.ensures.len) in
+    let side : c.from.result ≡ side_number f.context.side = c.from.ensures ∙ c.side_number.ensures in
+    let laid : c.lay_out_context.new.area ≡ overlay STACK_BYTES (pointers (length d) ++ drop 16 (context_bytes (context_of f.context) (length d))) flat =
+    c.lay_out_context.ensures ∙ (λ i. overlay STACK_BYTES (pointers (size i) ++ drop 16 (context_bytes (context_of f.context) (size i))) (c.deref_mut.ensures.value i)) in
+    let between : c.deref_mut-2.result.now ≡ c.lay_out_context.new.area = c.deref_mut-2.ensures.value ∙ written c.lay_out_context.new.area flat c.frame.inside.flat.len (c.lay_out_context.auto.area ∙ c.deref_mut.ensures.len) in
     let given : flat_environment_of w (length d) ≡ flat_environment answers (length c.datagram-size.result.now) c.from.result = λ i. flat_environment answers (sym size i) (sym side i) in
     let start = is_start answers (g.H.Helpers.lawful c.args.helpers.now) c.args.program.now f flat refl c.frame.inside.stack holds c.frame.invariant.is_context is_datagram (flat_environment answers (length c.datagram-size.result.now) c.from.result) c.deref_mut-2.result.now given (between ∙ laid) in
     let run : IsRun w c.args.program.now d c.deref_mut-2.result.now c.run_flat-exit.new.area c.run_flat-exit.result =
     subst (λ (code : List Insn). IsRun w code d c.deref_mut-2.result.now c.run_flat-exit.new.area c.run_flat-exit.result) c.translation.ensures.code (c.run_flat-exit.ensures w d start) in
-    let left = written c.run_flat-exit.new.area (take c.frame.inside.flat.len (c.lay_out.new.area ++ drop (length c.lay_out.new.area) flat)) c.frame.inside.flat.len (c.run_flat-exit.auto.area ∙ c.deref_mut-2.ensures.len) in
+    let left = written c.run_flat-exit.new.area (take c.frame.inside.flat.len (c.lay_out_context.new.area ++ drop (length c.lay_out_context.new.area) flat)) c.frame.inside.flat.len (c.run_flat-exit.auto.area ∙ c.deref_mut-2.ensures.len) in
     subst (λ (a : List ℕ). IsFrame a c.frame.inside.stack f.length false c.run_flat-exit.result.plan.window f.context) (sym left) (record {
       long = run.memory.long;
       holds = holds_left answers (g.H.Helpers.lawful c.args.helpers.now) c.args.program.now f flat refl c.frame.inside.stack holds c.frame.invariant.is_context is_datagram c.deref_mut-2.result.now c.run_flat-exit.new.area (between ∙ laid) c.run_flat-exit.result run;
@@ -85,21 +74,17 @@ returns g c =
     let holds : HoldsDatagram f.area c.frame.inside.stack f.length true f.window = subst (λ (b : Bool). HoldsDatagram f.area c.frame.inside.stack f.length b f.window) started c.frame.invariant.holds in
     let size : length c.datagram-size.result.now ≡ length d = ap length (c.datagram-size.ensures.bytes ∙ sym (ap datagram_of c.frame.view_is)) in
     let is_datagram : IsDatagram d = subst (λ (h : Contents). IsDatagram (datagram_of h)) (sym c.frame.view_is) c.datagram-size.ensures.short in
-    let side : c.from.result ≡ side_number f.context.side = c.from.ensures ∙ c.side_number-side.ensures in
-    let source : narrow_bytes c.source_record-source.result ≡ address_record f.context.source = c.source_record-source.ensures.narrow in
-    let wide : wide_bytes c.source_record-source.result ≡ wide_record f.context.source = c.source_record-source.ensures.wide in
-    let laid : c.lay_out.new.area ≡ overlay STACK_BYTES (pointers (length d) ++ drop 16 (context_bytes (context_of f.context) (length d))) flat =
-    c.lay_out.ensures
-    ∙ (λ i. overlay STACK_BYTES (pointers (size i) ++ context_fields (size i) (source i) (wide i) f.context.tx (c.side_number-side.ensures i)) (c.deref_mut.ensures.value i))
-    ∙ (λ i. overlay STACK_BYTES (pointers (length d) ++ sym (fields_of_context (context_of f.context) (length d)) i) flat) in
-    let between : c.deref_mut-2.result.now ≡ c.lay_out.new.area = c.deref_mut-2.ensures.value ∙ written c.lay_out.new.area flat c.frame.inside.flat.len (c.lay_out.auto.area ∙ c.deref_mut.ensures.len) in
+    let side : c.from.result ≡ side_number f.context.side = c.from.ensures ∙ c.side_number.ensures in
+    let laid : c.lay_out_context.new.area ≡ overlay STACK_BYTES (pointers (length d) ++ drop 16 (context_bytes (context_of f.context) (length d))) flat =
+    c.lay_out_context.ensures ∙ (λ i. overlay STACK_BYTES (pointers (size i) ++ drop 16 (context_bytes (context_of f.context) (size i))) (c.deref_mut.ensures.value i)) in
+    let between : c.deref_mut-2.result.now ≡ c.lay_out_context.new.area = c.deref_mut-2.ensures.value ∙ written c.lay_out_context.new.area flat c.frame.inside.flat.len (c.lay_out_context.auto.area ∙ c.deref_mut.ensures.len) in
     let given : flat_environment_of w (length d) ≡ flat_environment answers (length c.datagram-size.result.now) c.from.result = λ i. flat_environment answers (sym size i) (sym side i) in
     let start = is_start answers (g.H.Helpers.lawful c.args.helpers.now) c.args.program.now f flat refl c.frame.inside.stack holds c.frame.invariant.is_context is_datagram (flat_environment answers (length c.datagram-size.result.now) c.from.result) c.deref_mut-2.result.now given (between ∙ laid) in
     let run : IsRun w c.args.program.now d c.deref_mut-2.result.now c.run_flat-exit.new.area c.run_flat-exit.result =
     subst (λ (code : List Insn). IsRun w code d c.deref_mut-2.result.now c.run_flat-exit.new.area c.run_flat-exit.result) c.translation.ensures.code (c.run_flat-exit.ensures w d start) in
-    let left = written c.run_flat-exit.new.area (take c.frame.inside.flat.len (c.lay_out.new.area ++ drop (length c.lay_out.new.area) flat)) c.frame.inside.flat.len (c.run_flat-exit.auto.area ∙ c.deref_mut-2.ensures.len) in
+    let left = written c.run_flat-exit.new.area (take c.frame.inside.flat.len (c.lay_out_context.new.area ++ drop (length c.lay_out_context.new.area) flat)) c.frame.inside.flat.len (c.run_flat-exit.auto.area ∙ c.deref_mut-2.ensures.len) in
     let Runs : Contents → List ℕ → Type 0 = λ b a. RunsFlat answers c.args.program.now b (record { area = drop 592 a; length = f.length; is_started = false; context = f.context; window = c.run_flat-exit.result.plan.window }) c.run_flat-exit.result in
-    subst (λ (b : Contents). Runs b (take c.frame.inside.flat.len (c.run_flat-exit.new.area ++ drop (length c.run_flat-exit.new.area) (take c.frame.inside.flat.len (c.lay_out.new.area ++ drop (length c.lay_out.new.area) flat))))) c.frame.view_is
+    subst (λ (b : Contents). Runs b (take c.frame.inside.flat.len (c.run_flat-exit.new.area ++ drop (length c.run_flat-exit.new.area) (take c.frame.inside.flat.len (c.lay_out_context.new.area ++ drop (length c.lay_out_context.new.area) flat))))) c.frame.view_is
     (subst (λ (a : List ℕ). Runs f a) (sym left)
     (runs_flat answers (g.H.Helpers.lawful c.args.helpers.now) c.args.program.now f flat refl c.frame.inside.stack holds c.frame.invariant.is_context is_datagram c.deref_mut-2.result.now c.run_flat-exit.new.area (between ∙ laid) c.run_flat-exit.result run))
 
