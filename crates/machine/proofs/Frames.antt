@@ -7,7 +7,7 @@ use Rattle.std.proofs.lemmas.Slice.{drop-append-drop, between-put_mid, drop-put_
 use borrow.Rule.Slice.PartMut.{put_mid}
 use Rattle.std.proofs.Math.Seq.{take-append-add, take-add}
 use Rattle.insn.specs.declared.instruction.Insn.{Insn}
-use Rattle.semantics.specs.Machine.{IsContext, Memory, context_bytes, headroom, datagram_area, empty_stack, start}
+use Rattle.semantics.specs.Machine.{Memory, headroom, datagram_area, empty_stack, start}
 use Rattle.semantics.specs.declared.plan.Plan.{Plan}
 use Rattle.semantics.specs.Runs.{Run}
 use Rattle.semantics.specs.Calls.{IsWindow}
@@ -20,8 +20,8 @@ use Rattle.machine.specs.FrameLaws.{datagram_inside}
 use Rattle.semantics.specs.Views.{memory_with}
 use Rattle.semantics.specs.declared.fetching.Visit.{Visit}
 use Rattle.helpers.specs.Records.{address_of}
-use Rattle.machine.specs.Contexts.{HelperAnswers, context_of}
-use Rattle.machine.specs.Execution.{IsRecordOf, IsWholeRun, RunsOver}
+use Rattle.machine.specs.Contexts.{HelperAnswers}
+use Rattle.machine.specs.Execution.{IsWholeRun, RunsOver}
 use Rattle.machine.specs.Tracing.{environment_of, run_of, left_by, IsFrameRun, Shows}
 use Rattle.attributes.specs.declared.address.Addr.{Addr}
 use Rattle.machine.specs.declared.execution.Exit.{Exit}
@@ -82,25 +82,21 @@ frame_left f area plan r bytes following planned =
     λ i. record f { area = whole i; is_started = false; window = sym window i }
 
 -- a run in the memory of a started frame is the frame's run
-pub frame_run : {Log : Type 0} (Logs : Log → Visit → Log → Type 0) (program : List Insn) (answers : HelperAnswers) (f : Contents) (context : List ℕ) (stack empty stack' : StackMemory) (area : List ℕ) (plan : Plan) (old new : Log) (result : Result Exit Stuck)
-    → HoldsDatagram f.area stack f.length true f.window → IsContext (context_of f.context) → context ≡ context_bytes (context_of f.context) f.length
+pub frame_run : {Log : Type 0} (Logs : Log → Visit → Log → Type 0) (program : List Insn) (answers : HelperAnswers) (f : Contents) (stack empty stack' : StackMemory) (area : List ℕ) (plan : Plan) (old new : Log) (result : Result Exit Stuck)
+    → HoldsDatagram f.area stack f.length true f.window
     → empty ≡ empty_stack
-    → IsWholeRun Logs program answers context (memory_with empty (take (67 + f.length) f.area) f.length) (memory_with stack' (take (67 + f.length) area) f.length) plan old new result
+    → IsWholeRun Logs (environment_of f answers) program (memory_with empty (take (67 + f.length) f.area) f.length) (memory_with stack' (take (67 + f.length) area) f.length) plan old new result
     → drop (67 + f.length) area ≡ drop (67 + f.length) f.area
     → RunsOver Logs answers program f (record f { area = area; is_started = false; window = plan.window }) plan old new result
-frame_run Logs program answers f context stack empty stack' area plan old new result frame real spelled is_empty walked following =
+frame_run Logs program answers f stack empty stack' area plan old new result frame is_empty walked following =
     let left : Memory = memory_with stack' (take (67 + f.length) area) f.length in
-    let whole : IsWholeRun Logs program answers context (start (datagram_of f)).memory left plan old new result =
-    subst (λ (m : Memory). IsWholeRun Logs program answers context m left plan old new result) (memory_is f.area stack empty f.length f.window frame is_empty) walked in
-    let is : IsRecordOf context (length (datagram_of f)) (context_of f.context) = record {
-      is_context = real;
-      spelled = spelled ∙ ap (context_bytes (context_of f.context)) (sym (datagram_length f.area f.length frame.long frame.short));
-    } in
+    let whole : IsWholeRun Logs (environment_of f answers) program (start (datagram_of f)).memory left plan old new result =
+    subst (λ (m : Memory). IsWholeRun Logs (environment_of f answers) program m left plan old new result) (memory_is f.area stack empty f.length f.window frame is_empty) walked in
     record {
-      ending = whole.ending (context_of f.context) is;
-      plan_is = whole.plan_is (context_of f.context) is;
-      left = frame_left f area plan (run_of program f answers) (ap (λ (m : Memory). m.bytes) (whole.memory_is (context_of f.context) is)) following (whole.plan_is (context_of f.context) is);
-      logged = whole.logged (context_of f.context) is;
+      ending = whole.ending;
+      plan_is = whole.plan_is;
+      left = frame_left f area plan (run_of program f answers) (ap (λ (m : Memory). m.bytes) whole.memory_is) following whole.plan_is;
+      logged = whole.logged;
     }
 
 -- the outcome of a run that exits, with its plan

@@ -1,7 +1,7 @@
 -- Internal. A run from the first registers to its end, and the memory that it leaves.
 use Rattle.std.specs.Prelude.{◌≡◌, ℕ, ◌+◌, ◌<◌, List, length, IfSome, Result, Ok, Err}
 use Rattle.insn.specs.declared.instruction.Insn.{Insn}
-use Rattle.semantics.specs.Machine.{Context, IsContext, Memory, State, Environment, context_bytes, first_registers, no_plan}
+use Rattle.semantics.specs.Machine.{IsContext, Memory, State, Environment, first_registers, no_plan}
 use Rattle.semantics.specs.Calls.{IsWindow}
 use Rattle.semantics.specs.declared.plan.Plan.{Plan}
 use Rattle.semantics.specs.Slots.{IsAt}
@@ -14,21 +14,13 @@ use Rattle.semantics.specs.declared.effect.Effect.TheVariants as effects
 use Rattle.semantics.specs.declared.fetching.Visit.{Visit}
 use Rattle.semantics.specs.declared.fetching.Position.{Position}
 use Rattle.flat.specs.declared.flat_run.Exit as flat_run
-use Rattle.machine.specs.Contexts.{HelperAnswers, environment_around, context_of}
+use Rattle.machine.specs.Contexts.{HelperAnswers, context_of}
 use Rattle.machine.specs.Contents.{Contents, datagram_of}
 use Rattle.machine.specs.Tracing.{run_of, safe_run_of, left_by, Reports}
 use Rattle.machine.specs.declared.execution.StepResult.{StepResult}
 use Rattle.machine.specs.declared.execution.StepResult.TheVariants as code
 use Rattle.machine.specs.declared.execution.Exit.{Exit}
 use Rattle.machine.specs.declared.outcome.Stuck.{Stuck}
-
--- bytes that are the record of a context, where the datagram has a length
-pub record IsRecordOf (bytes : List ℕ) (length : ℕ) (c : Context) : Type 0 where
-  pub is_context : IsContext c
-  pub spelled : bytes ≡ context_bytes c length
-
-abbrev pub IsContextRecord : List ℕ → ℕ → Type 0
-IsContextRecord bytes length = (c : Context) × IsRecordOf bytes length c
 
 -- a state by its parts
 abbrev pub state_at : ℕ → List Value → Memory → Plan → State
@@ -44,11 +36,10 @@ result_of slot registers memory plan (code.Goes to) = Goes (state_at to.slot reg
 result_of slot registers memory plan (code.Exits verdict) = Exits verdict
 result_of slot registers memory plan (code.Sticks reason) = Sticks reason slot
 
--- The step of an instruction in one state, by the definitions, in any context with this record: its result, and the state
--- that it leaves.
-abbrev pub MakesStep : HelperAnswers → List ℕ → List Insn → Insn → State → State → StepResult → Type 0
-MakesStep answers context program i old new result = (c : Context) → IsRecordOf context old.memory.length c
-    → result_of old.slot new.registers new.memory new.plan result ≡ step_by_effect (environment_around c answers) program old i (effect c old.memory old.registers i)
+-- The step of an instruction in one state, by the definitions: its result, and the state that it leaves.
+abbrev pub MakesStep : Environment → List Insn → Insn → State → State → StepResult → Type 0
+MakesStep w program i old new result =
+    result_of old.slot new.registers new.memory new.plan result ≡ step_by_effect w program old i (effect w.context old.memory old.registers i)
 
 -- after every effect but a jump and an exit the run goes on to the next instruction
 abbrev pub GoesStraight : Effect → Type 0
@@ -81,13 +72,13 @@ abbrev pub EndsAs : Result Exit Stuck → Run → Type 0
 EndsAs (Ok exit) r = (r.ending ≡ runs.Exited exit.verdict) × (length r.path ≡ exit.steps)
 EndsAs (Err stuck) r = r.ending ≡ runs.Stuck stuck.reason stuck.slot
 
--- The run of a program over memory, with a context record of these bytes and helpers that give these answers: how it ends,
--- the memory and the plan that it leaves, and the log of a sink before and after it.
-pub record IsWholeRun {Log : Type 0} (Logs : Log → Visit → Log → Type 0) (program : List Insn) (answers : HelperAnswers) (context : List ℕ) (memory left : Memory) (plan : Plan) (old new : Log) (result : Result Exit Stuck) : Type 0 where
-  pub ending : (c : Context) → IsRecordOf context memory.length c → EndsAs result (whole_run (environment_around c answers) program memory)
-  pub memory_is : (c : Context) → IsRecordOf context memory.length c → (whole_run (environment_around c answers) program memory).state.memory ≡ left
-  pub plan_is : (c : Context) → IsRecordOf context memory.length c → (whole_run (environment_around c answers) program memory).state.plan ≡ plan
-  pub logged : (c : Context) → IsRecordOf context memory.length c → Reports Logs old (whole_run (environment_around c answers) program memory).path new
+-- The run of a program over memory: how it ends, the memory and the plan that it leaves, and the log of a sink before and after
+-- it.
+pub record IsWholeRun {Log : Type 0} (Logs : Log → Visit → Log → Type 0) (w : Environment) (program : List Insn) (memory left : Memory) (plan : Plan) (old new : Log) (result : Result Exit Stuck) : Type 0 where
+  pub ending : EndsAs result (whole_run w program memory)
+  pub memory_is : (whole_run w program memory).state.memory ≡ left
+  pub plan_is : (whole_run w program memory).state.plan ≡ plan
+  pub logged : Reports Logs old (whole_run w program memory).path new
 
 -- The run of a program over a started frame: how it ends, the plan and the frame that it leaves, and the log of a sink before
 -- and after it.

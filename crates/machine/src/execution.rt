@@ -13,18 +13,20 @@ ghost use Rattle.semantics.specs.declared.fetching.Fetched.TheVariants.{Begins};
 ghost use Rattle.semantics.specs.declared.limits.TheConstants.{STACK_BYTES, HEADROOM, MAX_DATAGRAM, TAILROOM};
 ghost use Rattle.semantics.specs.Calls.{record_bytes};
 ghost use Rattle.semantics.specs.Views.{memory_with};
-ghost use Rattle.machine.specs.Contexts.{environment_around};
+ghost use Rattle.machine.specs.Contexts.{context_of, environment_around};
 ghost use Rattle.machine.specs.Execution.{state_at, MakesStep, GoesAhead, GoesStraight, IfGoesTo, IfEnds};
-ghost use Rattle.machine.specs.Execution.{HasWindowInside, IsRecordOf, IsContextRecord, IsWholeRun};
+ghost use Rattle.machine.specs.Execution.{HasWindowInside, IsWholeRun};
 
+use crate::context::is_context;
+use crate::environment::Environment;
 use crate::outcome::Stuck;
 use crate::sink::Sink;
 use helpers::Helpers;
 use insn::Insn;
 use semantics::{
-    CONTEXT_BYTES, Effect, Fetched, Memory, Plan, Position, Question, RECORD_BYTES, Reason,
-    RecordForm, Registers, Room, StackMemory, Value, WIDE_RECORD_BYTES, effect_of, fetch, last,
-    put_bytes, put_pointer, store, target,
+    Effect, Fetched, Memory, Plan, Position, Question, RECORD_BYTES, Reason, RecordForm, Registers,
+    Room, StackMemory, Value, WIDE_RECORD_BYTES, effect_of, fetch, last, put_bytes, put_pointer,
+    store, target,
 };
 
 /// The result of one step.
@@ -55,15 +57,6 @@ fn first_registers() -> Registers
     registers
 }
 
-/// What a run is given and does not change: its code, the context record, the helpers, and the datagram's length.
-#[derive(Drop)]
-pub struct Environment<'a, H> {
-    pub code: &'a [Insn],
-    pub context: &'a [u8; CONTEXT_BYTES],
-    pub helpers: &'a H,
-    pub length: usize,
-}
-
 /// Returns the cells of a stack: 512.
 fn cells_of(stack: &StackMemory) -> &[Option<u8>]
     ensures { count stack.now.cells ≡ STACK_BYTES }
@@ -83,20 +76,19 @@ fn next_effect<H>(
     registers: &Registers,
     insn: &Insn,
 ) -> Result<Effect, Reason>
-    requires context { IsContextRecord given.now.context.now given.now.length }
     requires surrounded { count bytes.now ≡ HEADROOM + given.now.length + TAILROOM }
-    requires short { given.now.length ≤ MAX_DATAGRAM }
-    ensures effect { (c : Context) → IsRecordOf given.now.context.now given.now.length c
-        → result ≡ effect c (memory_with stack.now bytes.now given.now.length) registers.now insn.now }
+    ensures effect { result ≡ effect (context_of given.now.context.now)
+        (memory_with stack.now bytes.now given.now.length) registers.now insn.now }
     ensures inside { IfOk result (StaysInside (memory_with stack.now bytes.now given.now.length)) }
 {
+    is_context(given.context);
     let _cells = cells_of(stack);
     let memory = Memory {
         stack,
         bytes,
         length: given.length,
     };
-    effect_of(given.context, &memory, registers, insn)
+    effect_of(given.record, &memory, registers, insn)
 }
 
 /// Writes the answer of a call to `r0`. `r1` to `r5` hold nothing afterwards.
@@ -247,13 +239,11 @@ fn execute_step<H: Helpers>(
 ) -> StepResult
     requires here { state.old.at.index < count given.now.code.now }
     requires at { IsAt given.now.code.now state.old.at }
-    requires few { slot_count given.now.code.now ≤ MAX_SLOTS }
     requires insn { fetch given.now.code.now state.old.at.slot ≡ Begins insn.now }
-    requires context { IsContextRecord given.now.context.now given.now.length }
     requires surrounded { count bytes.old ≡ HEADROOM + given.now.length + TAILROOM }
-    requires short { given.now.length ≤ MAX_DATAGRAM }
     requires inside { HasWindowInside given.now.length state.old.plan }
-    ensures result { MakesStep (H.answers given.now.helpers.now) given.now.context.now given.now.code.now insn.now
+    ensures result { MakesStep (environment_around (context_of given.now.context.now) (H.answers given.now.helpers.now))
+        given.now.code.now insn.now
         (state_at state.old.at.slot state.old.registers (memory_with stack.old bytes.old given.now.length) state.old.plan)
         (state_at state.old.at.slot state.new.registers (memory_with stack.new bytes.new given.now.length) state.new.plan)
         result }
@@ -289,14 +279,12 @@ fn execute_from<H: Helpers, S: Sink>(
     state: &mut TaggedState,
     sink: &mut S,
 ) -> Result<Exit, Stuck>
-    requires few { slot_count given.now.code.now ≤ MAX_SLOTS }
-    requires context { IsContextRecord given.now.context.now given.now.length }
     requires surrounded { count bytes.old ≡ HEADROOM + given.now.length + TAILROOM }
-    requires short { given.now.length ≤ MAX_DATAGRAM }
     requires registers { state.old.registers ≡ first_registers }
     requires planless { state.old.plan ≡ no_plan }
     requires start { state.old.at ≡ record { slot = 0; index = 0 } }
-    ensures run { IsWholeRun S.Logs given.now.code.now (H.answers given.now.helpers.now) given.now.context.now
+    ensures run { IsWholeRun S.Logs
+        (environment_around (context_of given.now.context.now) (H.answers given.now.helpers.now)) given.now.code.now
         (memory_with stack.old bytes.old given.now.length) (memory_with stack.new bytes.new given.now.length)
         state.new.plan (S.log sink.old) (S.log sink.new) result }
     ensures inside { HasWindowInside given.now.length state.new.plan }
@@ -337,12 +325,10 @@ pub fn execute<H: Helpers, S: Sink>(
     plan: &mut Plan,
     sink: &mut S,
 ) -> Result<Exit, Stuck>
-    requires few { slot_count given.now.code.now ≤ MAX_SLOTS }
-    requires context { IsContextRecord given.now.context.now given.now.length }
     requires surrounded { count bytes.old ≡ HEADROOM + given.now.length + TAILROOM }
-    requires short { given.now.length ≤ MAX_DATAGRAM }
     requires planless { plan.old ≡ no_plan }
-    ensures run { IsWholeRun S.Logs given.now.code.now (H.answers given.now.helpers.now) given.now.context.now
+    ensures run { IsWholeRun S.Logs
+        (environment_around (context_of given.now.context.now) (H.answers given.now.helpers.now)) given.now.code.now
         (memory_with stack.old bytes.old given.now.length) (memory_with stack.new bytes.new given.now.length) plan.new
         (S.log sink.old) (S.log sink.new) result }
     ensures inside { HasWindowInside given.now.length plan.new }

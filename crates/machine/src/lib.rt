@@ -3,6 +3,7 @@
 #![tactic(auto)]
 
 mod context;
+mod environment;
 mod execution;
 mod frame;
 mod outcome;

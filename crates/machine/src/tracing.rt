@@ -8,16 +8,17 @@ ghost use Rattle.semantics.specs.Machine.{IsContext, no_plan};
 ghost use Rattle.semantics.specs.Runs as runs;
 ghost use Rattle.semantics.specs.Runs.{IsDatagram};
 ghost use Rattle.semantics.specs.Views.{memory_with};
-ghost use Rattle.semantics.specs.declared.limits.TheConstants.{HEADROOM, MAX_DATAGRAM, TAILROOM};
+ghost use Rattle.semantics.specs.declared.limits.TheConstants.{HEADROOM, TAILROOM};
 ghost use Rattle.flat.specs.Layout.{headroom_index};
 ghost use Rattle.machine.specs.Contents.{datagram_of};
 ghost use Rattle.helpers.specs.Records.{address_of};
-ghost use Rattle.machine.specs.Contexts.{context_of};
-ghost use Rattle.machine.specs.Execution.{HasWindowInside, IsContextRecord, IsWholeRun, RunsOver};
+ghost use Rattle.machine.specs.Contexts.{context_of, environment_around};
+ghost use Rattle.machine.specs.Execution.{HasWindowInside, IsWholeRun, RunsOver};
 ghost use Rattle.machine.specs.Tracing.{run_of, IsOutcome, left_by, IsFrameRun, Reports, Shows};
 
 use crate::context::traced_record;
-use crate::execution::{Environment, Exit, execute};
+use crate::environment::Environment;
+use crate::execution::{Exit, execute};
 use crate::frame::{Frame, clear_stack};
 use crate::outcome::{Outcome, Stuck};
 use crate::sink::Sink;
@@ -44,13 +45,11 @@ fn execute_in<H: Helpers, S: Sink>(
     plan: &mut Plan,
     sink: &mut S,
 ) -> Result<Exit, Stuck>
-    requires few { slot_count given.now.code.now ≤ MAX_SLOTS }
-    requires context { IsContextRecord given.now.context.now given.now.length }
     requires room { headroom_index + (HEADROOM + TAILROOM + given.now.length) ≤ count flat.old }
-    requires short { given.now.length ≤ MAX_DATAGRAM }
     requires planless { plan.old ≡ no_plan }
     ensures run { let size = HEADROOM + TAILROOM + given.now.length in
-        IsWholeRun S.Logs given.now.code.now (H.answers given.now.helpers.now) given.now.context.now
+        IsWholeRun S.Logs (environment_around (context_of given.now.context.now) (H.answers given.now.helpers.now))
+        given.now.code.now
         (memory_with stack.old (take size (drop headroom_index flat.old)) given.now.length)
         (memory_with stack.new (take size (drop headroom_index flat.new)) given.now.length)
         plan.new (S.log sink.old) (S.log sink.new) result }
@@ -85,12 +84,13 @@ fn run_frame<H: Helpers, S: Sink>(
         (S.log sink.old) (S.log sink.new) result }
 {
     let length = frame.datagram().len();
-    let context = traced_record(&mut frame.flat, &frame.context, length);
+    let record = traced_record(&mut frame.flat, &frame.context, length);
     frame.is_started = false;
     clear_stack(&mut frame.stack);
     let given = Environment {
         code,
-        context: &context,
+        context: &frame.context,
+        record: &record,
         helpers,
         length,
     };

@@ -1,6 +1,7 @@
 use Rattle.std.proofs.Common.{◌≡◌, ◌+◌, ◌-◌, ◌≤◌, ℕ, List, length, take, drop, sym, ap, ◌∙◌, subst, arith}
 use Rattle.std.proofs.lemmas.List.{length-drop, length-take-le}
 use Rattle.semantics.specs.Views.{memory_with}
+use Rattle.machine.specs.Contexts.{context_of, environment_around}
 use Rattle.machine.specs.Execution.{IsWholeRun}
 use Rattle.machine.proofs.Frames.{part_end, part_is_new, rest_is_old}
 use Rattle.machine.proofs.tracing.execute_in.Goals as goal
@@ -17,7 +18,7 @@ returns-clause-run g c =
     let flat : List ℕ = c.args.flat.now in
     let new : List ℕ = c.execute.new.bytes in
     let long : length new ≡ 67 + n = c.execute.auto.bytes ∙ part_length n flat c.requires.room in
-    let Walks : List ℕ → List ℕ → Type 0 = λ old left. IsWholeRun g.S.Sink.Logs c.args.given.now.code.now (g.H.Helpers.answers c.args.given.now.helpers.now) c.args.given.now.context.now (memory_with c.args.stack.now old n) (memory_with c.execute.new.stack left n) c.execute.new.plan (g.S.Sink.log c.args.sink.now) (g.S.Sink.log c.execute.new.sink) c.execute.result in
+    let Walks : List ℕ → List ℕ → Type 0 = λ old left. IsWholeRun g.S.Sink.Logs (environment_around (context_of c.args.given.now.context.now) (g.H.Helpers.answers c.args.given.now.helpers.now)) c.args.given.now.code.now (memory_with c.args.stack.now old n) (memory_with c.execute.new.stack left n) c.execute.new.plan (g.S.Sink.log c.args.sink.now) (g.S.Sink.log c.execute.new.sink) c.execute.result in
     subst (λ (left : List ℕ). Walks (take (67 + n) (drop 592 flat)) left) (sym (part_is_new n flat new c.requires.room long))
     (subst (λ (k : ℕ). Walks (take k (drop 592 flat)) new) (part_end n flat new c.requires.room long) c.execute.ensures.run)
 
