@@ -3,8 +3,7 @@ use Rattle.semantics.specs.declared.stack.StackMemory.{StackMemory}
 use Rattle.std.specs.Prelude.{◌≡◌, ℕ, ◌+◌, ◌≤◌, Bool, true, List, length, take, drop, Option, IfSome}
 use Rattle.semantics.specs.Machine.{IsContext, datagram_area}
 use Rattle.semantics.specs.declared.limits.TheConstants.{HEADROOM, MAX_DATAGRAM, TAILROOM}
-use Rattle.flat.specs.Layout as layout
-use Rattle.flat.specs.Layout.{headroom_index}
+use Rattle.flat.specs.declared.layout.TheConstants.{AREA_BYTES, HEADROOM_INDEX}
 use Rattle.machine.specs.Contents.{frame_area_size}
 use Rattle.machine.specs.Contexts.{context_of}
 use Rattle.machine.specs.declared.context.Context.{Context}
@@ -19,6 +18,6 @@ pub record HoldsDatagram (area : List ℕ) (stack : StackMemory) (count : ℕ) (
 
 -- a frame's memory, in an area that has it from headroom on, and a context of the definitions' sizes
 pub record IsFrame (flat : List ℕ) (stack : StackMemory) (count : ℕ) (is_started : Bool) (window : Option (ℕ × ℕ)) (context : Context) : Type 0 where
-  pub long : length flat ≡ layout.area_size
-  pub holds : HoldsDatagram (drop headroom_index flat) stack count is_started window
+  pub long : length flat ≡ AREA_BYTES
+  pub holds : HoldsDatagram (drop HEADROOM_INDEX flat) stack count is_started window
   pub is_context : IsContext (context_of context)

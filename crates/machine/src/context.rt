@@ -5,13 +5,14 @@ ghost use Rattle.semantics.specs.Access.{overlay};
 ghost use Rattle.semantics.specs.Machine.{AreBytes, IsContext, context_bytes};
 ghost use Rattle.semantics.specs.declared.limits.TheConstants.{STACK_BYTES, MAX_DATAGRAM};
 ghost use Rattle.flat.specs.Forms.{narrow_bytes, wide_bytes};
-ghost use Rattle.flat.specs.Layout.{area_size, headroom_index, pointers};
+ghost use Rattle.flat.specs.declared.layout.TheConstants.{AREA_BYTES, HEADROOM_INDEX, POINTERS_BYTES};
+ghost use Rattle.flat.specs.Layout.{pointers};
 ghost use Rattle.helpers.specs.Records.{address_record, wide_record};
 ghost use Rattle.machine.specs.Contexts.{context_of, side_number};
 
 use crate::frame::write_zeros;
 use attributes::{Addr, is_address};
-use flat::{Record, context_record, lay_out};
+use flat::{POINTERS_BYTES, Record, context_record, lay_out};
 use helpers::{address_record, wide_record};
 use semantics::CONTEXT_BYTES;
 
@@ -79,9 +80,9 @@ fn source_record(source: &Addr) -> Record
 /// Writes the context record of a datagram of `size` bytes to its place in an area.
 #[inline(always)]
 pub(crate) fn lay_out_context(area: &mut [u8], context: &Context, size: usize)
-    requires long { length area.old ≡ area_size }
+    requires long { length area.old ≡ AREA_BYTES }
     requires short { size ≤ MAX_DATAGRAM }
-    ensures { area.new ≡ overlay STACK_BYTES (pointers size ++ drop 16 (context_bytes (context_of context.now) size)) area.old }
+    ensures { area.new ≡ overlay STACK_BYTES (pointers size ++ drop POINTERS_BYTES (context_bytes (context_of context.now) size)) area.old }
 {
     let source = source_record(&context.source);
     lay_out(area, size, &source, &context.tx, side_number(context.side));
@@ -90,14 +91,14 @@ pub(crate) fn lay_out_context(area: &mut [u8], context: &Context, size: usize)
 /// Writes the context record of a datagram of `size` bytes to its place in an area, and returns it as a trace reads it: with
 /// zeros in place of the pointers.
 pub(crate) fn traced_record(area: &mut [u8], context: &Context, size: usize) -> [u8; CONTEXT_BYTES]
-    requires long { length area.old ≡ area_size }
+    requires long { length area.old ≡ AREA_BYTES }
     requires short { size ≤ MAX_DATAGRAM }
     ensures record { result ≡ context_bytes (context_of context.now) size }
-    ensures after { drop headroom_index area.new ≡ drop headroom_index area.old }
+    ensures after { drop HEADROOM_INDEX area.new ≡ drop HEADROOM_INDEX area.old }
 {
     is_context(context);
     lay_out_context(area, context, size);
     let mut bytes = context_record(area);
-    write_zeros(&mut bytes, 0, 16);
+    write_zeros(&mut bytes, 0, POINTERS_BYTES);
     bytes
 }

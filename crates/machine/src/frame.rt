@@ -3,7 +3,7 @@
 ghost use Rattle.std.specs.Prelude.{◌≡◌, ◌≤◌, ◌+◌, ◌++◌, None, length, take, drop, replicate, IfOk, All, ◌<◌};
 ghost use Rattle.semantics.specs.Machine.{empty_stack, datagram_area};
 ghost use Rattle.semantics.specs.declared.limits.TheConstants.{STACK_BYTES, HEADROOM, TAILROOM};
-ghost use Rattle.flat.specs.Layout.{headroom_index};
+ghost use Rattle.flat.specs.declared.layout.TheConstants.{HEADROOM_INDEX};
 
 use crate::context::{Context, Side, is_context};
 use attributes::Addr;
@@ -28,14 +28,14 @@ pub struct Frame {
 
 impl Model for Frame {
     ghost use Rattle.std.specs.Prelude.{drop};
-    ghost use Rattle.flat.specs.Layout.{headroom_index};
+    ghost use Rattle.flat.specs.declared.layout.TheConstants.{HEADROOM_INDEX};
     ghost use Rattle.machine.specs.Contents.{Contents};
     ghost use Rattle.machine.specs.FrameFields.{IsFrame};
 
     ghost Value = { Contents };
 
     ghost view = { λ f. record {
-      area = drop headroom_index f.flat.items;
+      area = drop HEADROOM_INDEX f.flat.items;
       length = f.length;
       is_started = f.is_started;
       context = f.context;
@@ -98,8 +98,8 @@ fn surround(bytes: &mut [u8], n: usize)
 
 /// Returns headroom, datagram and tailroom of an area.
 fn from_headroom(flat: &[u8]) -> &[u8]
-    requires { headroom_index ≤ length flat.now }
-    ensures { result.now ≡ drop headroom_index flat.now }
+    requires { HEADROOM_INDEX ≤ length flat.now }
+    ensures { result.now ≡ drop HEADROOM_INDEX flat.now }
 {
     let (_, bytes) = flat.split_at(HEADROOM_INDEX);
     bytes
@@ -107,9 +107,9 @@ fn from_headroom(flat: &[u8]) -> &[u8]
 
 /// Writes headroom and tailroom round a datagram of `n` bytes, in an area.
 fn surround_in(flat: &mut [u8], n: usize)
-    requires { headroom_index + (HEADROOM + TAILROOM + n) ≤ length flat.old }
-    ensures { drop headroom_index flat.new ≡ datagram_area (take n (drop HEADROOM (drop headroom_index flat.old)))
-        ++ drop (HEADROOM + TAILROOM + n) (drop headroom_index flat.old) }
+    requires { HEADROOM_INDEX + (HEADROOM + TAILROOM + n) ≤ length flat.old }
+    ensures { drop HEADROOM_INDEX flat.new ≡ datagram_area (take n (drop HEADROOM (drop HEADROOM_INDEX flat.old)))
+        ++ drop (HEADROOM + TAILROOM + n) (drop HEADROOM_INDEX flat.old) }
 {
     surround(&mut flat[HEADROOM_INDEX..], n);
 }

@@ -9,7 +9,7 @@ ghost use Rattle.semantics.specs.Runs as runs;
 ghost use Rattle.semantics.specs.Runs.{IsDatagram};
 ghost use Rattle.semantics.specs.Views.{memory_with};
 ghost use Rattle.semantics.specs.declared.limits.TheConstants.{HEADROOM, TAILROOM};
-ghost use Rattle.flat.specs.Layout.{headroom_index};
+ghost use Rattle.flat.specs.declared.layout.TheConstants.{HEADROOM_INDEX};
 ghost use Rattle.machine.specs.Contents.{datagram_of};
 ghost use Rattle.helpers.specs.Records.{address_of};
 ghost use Rattle.machine.specs.Contexts.{context_of, environment_around};
@@ -45,17 +45,17 @@ fn execute_in<H: Helpers, S: Sink>(
     plan: &mut Plan,
     sink: &mut S,
 ) -> Result<Exit, Stuck>
-    requires room { headroom_index + (HEADROOM + TAILROOM + given.now.length) ≤ count flat.old }
+    requires room { HEADROOM_INDEX + (HEADROOM + TAILROOM + given.now.length) ≤ count flat.old }
     requires planless { plan.old ≡ no_plan }
     ensures run { let size = HEADROOM + TAILROOM + given.now.length in
         IsWholeRun S.Logs (environment_around (context_of given.now.context.now) (H.answers given.now.helpers.now))
         given.now.code.now
-        (memory_with stack.old (take size (drop headroom_index flat.old)) given.now.length)
-        (memory_with stack.new (take size (drop headroom_index flat.new)) given.now.length)
+        (memory_with stack.old (take size (drop HEADROOM_INDEX flat.old)) given.now.length)
+        (memory_with stack.new (take size (drop HEADROOM_INDEX flat.new)) given.now.length)
         plan.new (S.log sink.old) (S.log sink.new) result }
     ensures inside { HasWindowInside given.now.length plan.new }
     ensures beyond { let size = HEADROOM + TAILROOM + given.now.length in
-        drop size (drop headroom_index flat.new) ≡ drop size (drop headroom_index flat.old) }
+        drop size (drop HEADROOM_INDEX flat.new) ≡ drop size (drop HEADROOM_INDEX flat.old) }
 {
     let end = HEADROOM_INDEX + HEADROOM + TAILROOM + given.length;
     let bytes = &mut flat[HEADROOM_INDEX..end];

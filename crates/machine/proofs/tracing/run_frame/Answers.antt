@@ -5,7 +5,7 @@ use Rattle.semantics.specs.Machine.{empty_stack}
 use Rattle.semantics.specs.declared.stack.StackMemory.{StackMemory}
 use Rattle.semantics.specs.Views.{memory_with}
 use Rattle.semantics.specs.declared.plan.Plan.{Plan}
-use Rattle.flat.specs.Layout.{area_size, headroom_index}
+use Rattle.flat.specs.declared.layout.TheConstants.{AREA_BYTES, HEADROOM_INDEX}
 use Rattle.machine.specs.Contents.{Contents, datagram_of, frame_area_size}
 use Rattle.machine.specs.FrameFields.{HoldsDatagram}
 use Rattle.machine.specs.Execution.{IsWholeRun, RunsOver}
@@ -21,7 +21,7 @@ pub execute_in-end-requires-clause-room : goal.execute_in-end-requires-clause-ro
 execute_in-end-requires-clause-room g c =
     let size : length c.datagram-length.result.now ≡ length (datagram_of c.args.frame.now) = ap length c.datagram-length.ensures.bytes in
     let laid = written c.traced_record-record.new.area c.frame.inside.flat.items c.frame.inside.flat.len (c.traced_record-record.auto.area ∙ c.deref_mut.ensures.len) in
-    let long : length c.deref_mut-2.result.now ≡ area_size = ap length (c.deref_mut-2.ensures.value ∙ laid) ∙ c.traced_record-record.auto.area ∙ ap length c.deref_mut.ensures.value ∙ c.frame.invariant.long in
+    let long : length c.deref_mut-2.result.now ≡ AREA_BYTES = ap length (c.deref_mut-2.ensures.value ∙ laid) ∙ c.traced_record-record.auto.area ∙ ap length c.deref_mut.ensures.value ∙ c.frame.invariant.long in
     omega (arith, long, size, c.datagram-length.ensures.short.short)
 
 pub invariant_of-frame : goal.invariant_of-frame
@@ -30,7 +30,7 @@ invariant_of-frame g c =
     let items : List ℕ = c.frame.inside.flat.items in
     let len : ℕ = c.frame.inside.flat.len in
     let laid = written c.traced_record-record.new.area items len (c.traced_record-record.auto.area ∙ c.deref_mut.ensures.len) in
-    let long : length c.deref_mut-2.result.now ≡ area_size = ap length (c.deref_mut-2.ensures.value ∙ laid) ∙ c.traced_record-record.auto.area ∙ ap length c.deref_mut.ensures.value ∙ c.frame.invariant.long in
+    let long : length c.deref_mut-2.result.now ≡ AREA_BYTES = ap length (c.deref_mut-2.ensures.value ∙ laid) ∙ c.traced_record-record.auto.area ∙ ap length c.deref_mut.ensures.value ∙ c.frame.invariant.long in
     let flat = written c.execute_in-end.new.flat (take len (c.traced_record-record.new.area ++ drop (length c.traced_record-record.new.area) items)) len (c.execute_in-end.auto.flat ∙ c.deref_mut-2.ensures.len) in
     is_unstarted items _ c.frame.inside.stack _ c.frame.inside.length c.frame.inside.is_started c.frame.inside.window c.execute_in-end.new.plan.window c.frame.inside.context
     (ap length flat ∙ c.execute_in-end.auto.flat ∙ long)
@@ -40,12 +40,12 @@ pub returns-clause-run : goal.returns-clause-run
 returns-clause-run g c =
     let flat : List ℕ = c.frame.inside.flat.items in
     let len : ℕ = c.frame.inside.flat.len in
-    let area : List ℕ = drop headroom_index flat in
+    let area : List ℕ = drop HEADROOM_INDEX flat in
     let stack : StackMemory = c.frame.inside.stack in
     let laid : List ℕ = c.traced_record-record.new.area in
     let laid_flat : List ℕ = take len (laid ++ drop (length laid) flat) in
     let left_flat : List ℕ = c.execute_in-end.new.flat in
-    let left : List ℕ = drop headroom_index left_flat in
+    let left : List ℕ = drop HEADROOM_INDEX left_flat in
     let plan : Plan = c.execute_in-end.new.plan in
     let size : ℕ = length c.datagram-length.result.now in
     let answers = g.H.Helpers.answers c.args.helpers.now in
@@ -53,9 +53,9 @@ returns-clause-run g c =
     let started : c.frame.inside.is_started ≡ true = ap (λ (f : Contents). f.is_started) c.frame.view_is ∙ c.requires.started in
     let holds : HoldsDatagram area stack frame.length true frame.window = subst (λ (b : Bool). HoldsDatagram area stack frame.length b frame.window) started c.frame.invariant.holds in
     let same : size ≡ frame.length = ap length (c.datagram-length.ensures.bytes ∙ sym (ap datagram_of c.frame.view_is)) ∙ datagram_length area frame.length holds.long holds.short in
-    let from_headroom : drop headroom_index c.deref_mut-2.result.now ≡ area =
-    ap (drop headroom_index) (c.deref_mut-2.ensures.value ∙ written laid flat len (c.traced_record-record.auto.area ∙ c.deref_mut.ensures.len))
-    ∙ c.traced_record-record.ensures.after ∙ ap (drop headroom_index) c.deref_mut.ensures.value in
+    let from_headroom : drop HEADROOM_INDEX c.deref_mut-2.result.now ≡ area =
+    ap (drop HEADROOM_INDEX) (c.deref_mut-2.ensures.value ∙ written laid flat len (c.traced_record-record.auto.area ∙ c.deref_mut.ensures.len))
+    ∙ c.traced_record-record.ensures.after ∙ ap (drop HEADROOM_INDEX) c.deref_mut.ensures.value in
     let Walks : StackMemory → List ℕ → ℕ → Type 0 = λ s a n. IsWholeRun g.S.Sink.Logs (environment_of frame answers) c.args.code.now (memory_with s (take (67 + n) a) n) (memory_with c.execute_in-end.new.stack (take (67 + n) left) n) plan (g.S.Sink.log c.args.sink.now) (g.S.Sink.log c.execute_in-end.new.sink) c.execute_in-end.result in
     let empty : c.clear_stack.new.stack ≡ empty_stack = c.clear_stack.ensures in
     let walked : Walks c.clear_stack.new.stack area frame.length =
@@ -64,7 +64,7 @@ returns-clause-run g c =
     let after : drop (67 + frame.length) left ≡ drop (67 + frame.length) area =
     ap (λ (n : ℕ). drop (67 + n) left) (sym same) ∙ c.execute_in-end.ensures.beyond ∙ ap (drop (67 + size)) from_headroom ∙ ap (λ (n : ℕ). drop (67 + n) area) same in
     let whole = written left_flat laid_flat len (c.execute_in-end.auto.flat ∙ c.deref_mut-2.ensures.len) in
-    let Runs : Contents → List ℕ → Type 0 = λ f a. RunsOver g.S.Sink.Logs answers c.args.code.now f (record frame { area = drop headroom_index a; is_started = false; window = plan.window }) plan (g.S.Sink.log c.args.sink.now) (g.S.Sink.log c.execute_in-end.new.sink) c.execute_in-end.result in
+    let Runs : Contents → List ℕ → Type 0 = λ f a. RunsOver g.S.Sink.Logs answers c.args.code.now f (record frame { area = drop HEADROOM_INDEX a; is_started = false; window = plan.window }) plan (g.S.Sink.log c.args.sink.now) (g.S.Sink.log c.execute_in-end.new.sink) c.execute_in-end.result in
     let runs : Runs frame (take len (left_flat ++ drop (length left_flat) laid_flat)) =
     subst (λ (a : List ℕ). Runs frame a) (sym whole) (frame_run g.S.Sink.Logs c.args.code.now answers frame stack c.clear_stack.new.stack c.execute_in-end.new.stack left plan _ _ _ holds empty walked after) in
     subst (λ (f : Contents). Runs f (take len (left_flat ++ drop (length left_flat) laid_flat))) c.frame.view_is runs
