@@ -32,23 +32,23 @@ pub struct Context {
 }
 
 /// States that each item of a `[u8]` is below 256.
-fn all_fit(bytes: &[u8])
+fn law_bytes(bytes: &[u8])
     ensures { All (λ b. b < 256) bytes.now }
 {}
 
 /// States that an array of `N` bytes has `N` items, each below 256.
-fn are_bytes<const N: usize>(bytes: &[u8; N])
+fn law_array<const N: usize>(bytes: &[u8; N])
     ensures { AreBytes N bytes.now }
 {
-    all_fit(bytes);
+    law_bytes(bytes);
 }
 
 /// States that every context has the sizes of the definitions' context.
-pub(crate) fn is_context(context: &Context)
+pub(crate) fn law_context(context: &Context)
     ensures { IsContext (context_of context.now) }
 {
     is_address(&context.source);
-    are_bytes(&context.tx);
+    law_array(&context.tx);
 }
 
 /// The numbers of the sides in the context record.
@@ -96,7 +96,7 @@ pub(crate) fn traced_record(area: &mut [u8], context: &Context, size: usize) -> 
     ensures record { result ≡ context_bytes (context_of context.now) size }
     ensures after { drop HEADROOM_INDEX area.new ≡ drop HEADROOM_INDEX area.old }
 {
-    is_context(context);
+    law_context(context);
     lay_out_context(area, context, size);
     let mut bytes = context_record(area);
     write_zeros(&mut bytes, 0, POINTERS_BYTES);

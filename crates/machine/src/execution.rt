@@ -17,7 +17,7 @@ ghost use Rattle.machine.specs.Contexts.{context_of, environment_around};
 ghost use Rattle.machine.specs.Execution.{state_at, MakesStep, GoesAhead, GoesStraight, IfGoesTo, IfEnds};
 ghost use Rattle.machine.specs.Execution.{HasWindowInside, IsWholeRun};
 
-use crate::context::is_context;
+use crate::context::law_context;
 use crate::environment::Environment;
 use crate::outcome::Stuck;
 use crate::sink::Sink;
@@ -57,11 +57,11 @@ fn first_registers() -> Registers
     registers
 }
 
-/// Returns the cells of a stack: 512.
-fn cells_of(stack: &StackMemory) -> &[Option<u8>]
+/// States that a stack has 512 cells.
+fn law_cells(stack: &StackMemory)
     ensures { count stack.now.cells ≡ STACK_BYTES }
 {
-    &stack.cells
+    let _cells: &[Option<u8>] = &stack.cells;
 }
 
 /// Returns the effect of an instruction on registers and memory. What it stores, and a window, lie inside memory.
@@ -81,8 +81,8 @@ fn next_effect<H>(
         (memory_with stack.now bytes.now given.now.length) registers.now insn.now }
     ensures inside { IfOk result (StaysInside (memory_with stack.now bytes.now given.now.length)) }
 {
-    is_context(given.context);
-    let _cells = cells_of(stack);
+    law_context(given.context);
+    law_cells(stack);
     let memory = Memory {
         stack,
         bytes,

@@ -5,7 +5,7 @@ ghost use Rattle.semantics.specs.Machine.{empty_stack, datagram_area};
 ghost use Rattle.semantics.specs.declared.limits.TheConstants.{STACK_BYTES, HEADROOM, TAILROOM};
 ghost use Rattle.flat.specs.declared.layout.TheConstants.{HEADROOM_INDEX};
 
-use crate::context::{Context, Side, is_context};
+use crate::context::{Context, Side, law_context};
 use attributes::Addr;
 use flat::{AREA_BYTES, HEADROOM_INDEX};
 use semantics::{GROUPS, HEADROOM, MAX_DATAGRAM, STACK_BYTES, StackMemory, TAILROOM, Value};
@@ -141,7 +141,7 @@ impl Frame {
     pub fn new(alloc: Global) -> Result<Frame, AllocError>
         ensures { IfOk result IsNew }
     {
-        is_context(&NO_CONTEXT);
+        law_context(&NO_CONTEXT);
         Ok(Frame {
             flat: zeros(alloc, AREA_BYTES)?,
             stack: empty_stack(),
@@ -210,7 +210,7 @@ impl Frame {
         requires { n ≤ MAX_DATAGRAM }
         ensures { IsStartedOver self.old self.new context.now n }
     {
-        is_context(context);
+        law_context(context);
         surround_in(&mut self.flat, n);
         self.length = n;
         // part by part: one load of the whole would wait for the narrower stores of the caller

@@ -1,6 +1,7 @@
 //! The runs of verified programs.
 
 ghost use Rattle.std.specs.Prelude.{◌≡◌, ◌≤◌, true, length};
+ghost use Rattle.semantics.specs.Runs.{IsSafe};
 ghost use Rattle.machine.specs.Contents.{datagram_of};
 ghost use Rattle.machine.specs.Execution.{RunsFlat};
 ghost use Rattle.machine.specs.Tracing.{run_of, safe_run_of, IsOutcome, left_by, Shows};
@@ -12,6 +13,13 @@ use crate::tracing::destination_of;
 use flat::{Environment, Exit, run_flat};
 use helpers::Helpers;
 use verifier::Verified;
+
+/// States that a verified program is safe.
+fn law_safe(program: &Verified)
+    ensures { IsSafe program.now }
+{
+    program.code();
+}
 
 /// Runs a verified program over the area of a started frame, to its exit. Afterwards the frame is not started.
 fn run_area<H: Helpers>(program: &Verified, frame: &mut Frame, helpers: &H) -> Exit
@@ -45,8 +53,7 @@ pub fn run<H: Helpers>(program: &Verified, frame: &mut Frame, helpers: &H) -> Ou
         (safe_run_of program.now frame.old (H.answers helpers.now)) }
 {
     let exit = run_area(program, frame, helpers);
-    // the program is safe, and has at most 4,096 slots
-    program.code();
+    law_safe(program);
     Outcome {
         verdict: exit.verdict,
         steps: exit.steps,

@@ -10,7 +10,7 @@ returns-clause-record c =
     let zeros : List ℕ = replicate 16 0 in
     c.write_zeros.ensures
     ∙ ap (λ (l : List ℕ). zeros ++ drop 16 l) (c.context_record-bytes.ensures ∙ ap (part 68 STACK_BYTES) c.lay_out_context.ensures)
-    ∙ laid_out_record (context_of c.args.context.now) c.is_context.ensures c.args.size c.args.area.now c.requires.long
+    ∙ laid_out_record (context_of c.args.context.now) c.law_context.ensures c.args.size c.args.area.now c.requires.long
 
 pub returns-clause-after : goal.returns-clause-after
-returns-clause-after c = ap (drop 592) c.lay_out_context.ensures ∙ laid_out_after (context_of c.args.context.now) c.is_context.ensures c.args.size c.args.area.now
+returns-clause-after c = ap (drop 592) c.lay_out_context.ensures ∙ laid_out_after (context_of c.args.context.now) c.law_context.ensures c.args.size c.args.area.now

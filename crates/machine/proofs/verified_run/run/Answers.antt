@@ -30,7 +30,7 @@ returns-clause-left g c = c.run_area-exit.ensures.left
 pub returns-clause-whole : goal.returns-clause-whole
 returns-clause-whole g c =
     let ran = c.run_area-exit.ensures in
-    no_step_past (environment_of c.args.frame.now (g.H.Helpers.answers c.args.helpers.now)) c.args.program.now (datagram_of c.args.frame.now) c.code.ensures.safe
+    no_step_past (environment_of c.args.frame.now (g.H.Helpers.answers c.args.helpers.now)) c.args.program.now (datagram_of c.args.frame.now) c.law_safe.ensures
     (record { context = ran.is_context; helpers = g.H.Helpers.lawful c.args.helpers.now }) ran.is_datagram
 
 pub returns-clause-shows : goal.returns-clause-shows

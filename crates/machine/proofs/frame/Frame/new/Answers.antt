@@ -12,7 +12,7 @@ invariant_of-result c = record {
     ready = λ e. absurd cc;
     inside = tt;
   };
-  is_context = c.is_context.ensures;
+  is_context = c.law_context.ensures;
 }
 
 pub returns : goal.returns

@@ -15,7 +15,7 @@ invariant_of-self c =
       long = ap length area ∙ c.surround_in.auto.flat ∙ long;
       holds = subst (λ (a : List ℕ). HoldsDatagram (drop 592 a) c.self.inside.stack c.args.n true None) (sym area)
           (is_frame (drop 592 old) (drop 592 c.surround_in.new.flat) c.self.inside.stack c.args.n area_long c.requires c.surround_in.ensures);
-      is_context = c.is_context.ensures;
+      is_context = c.law_context.ensures;
     }
 
 pub returns : goal.returns
