@@ -1,6 +1,5 @@
-use Rattle.std.proofs.Common.{◌≡◌, ℕ, List, ◌++◌, drop, sym, ap, ◌∙◌}
+use Rattle.std.proofs.Common.{ℕ, List, ◌++◌, sym, ◌∙◌}
 use Rattle.semantics.specs.Access.{overlay}
-use Rattle.semantics.specs.Machine.{context_bytes}
 use Rattle.semantics.specs.declared.limits.TheConstants.{STACK_BYTES}
 use Rattle.flat.specs.Layout.{context_fields, pointers}
 use Rattle.flat.specs.FlatLaws.{fields_of_context}
