@@ -5,7 +5,7 @@ nothing internal, and docs/DEFINITIONS.md names every file. No two files define 
 line of a page names in parentheses is in a file of definitions that it links. What a file of definitions names that
 docs/HEADLINE.md lists is listed there too, laws aside. Each file that a page links or names is there, unless it is
 one that a build makes (in a folder `out`), with as many lines as the page says, and so is each decision that the code
-names. There are no more test functions, edits that must fail and parameters of a function than CONTRIBUTING.md says.
+names. There are no more test functions and edits that must fail than CONTRIBUTING.md says.
 """
 
 import re
@@ -30,20 +30,15 @@ DEFINED = re.compile(r"^(?:(?:abbrev|unfoldable) )?pub (?:(?:abbrev|unfoldable|r
 LINKED = re.compile(r"\]\(([^)#:]*specs/[\w/]+\.antt)\)")
 GROUP = re.compile(r"\(((?:`[^\W\d][\w'-]*`(?:, |, and | and )?)+)\)")
 DECISION = re.compile(r'docs/DECISIONS\.md, "([^"]*)"')
-HEAD = re.compile(r"^ *(?:pub(?:\([^)]*\))? )?(?:const |unsafe )*fn (\w+)(?:<[^(]*>)?\(", re.MULTILINE)
-SELF = re.compile(r"(?:&(?:'\w+ )?)?(?:mut )?self")
 TEST = re.compile(r"^ *#\[test\]$", re.MULTILINE)
-# how many test functions there may be, how many edits that must fail, in all and of a crate, and how many parameters of
-# a function besides `self`; and the functions that may have more: see docs/DECISIONS.md, "Six arguments of `respond`"
+# how many test functions there may be, and how many edits that must fail, in all and of a crate
 MOST_TESTS = 60
 MOST_EDITS = 150
 MOST_EDITS_OF_CRATE = 8
-MOST_PARAMETERS = 5
-LONG = {"respond", "allocate", "allocate_anew"}
 
 
 def specs():
-    """Returns the files of definitions, but for the lists of modules."""
+    """Returns the files of definitions, except the lists of modules."""
     found = [path for path in CRATES.glob("*/specs/**/*.antt") if path.name != "Lib.antt"]
     return sorted(found)
 
@@ -233,36 +228,11 @@ def failures_of_edits():
         yield f"{total} edits that must fail, and {MOST_EDITS} at most are allowed"
 
 
-def parameters_of(text):
-    """Returns the parameters of a function but `self`, in a text that begins after the parenthesis before them."""
-    found, depth = [""], 0
-    for sign in text:
-        depth += (sign in "([{<") - (sign in ")]}>")
-        if depth < 0:
-            break
-        if sign == "," and depth == 0:
-            found.append("")
-        else:
-            found[-1] += sign
-    stripped = [parameter.strip() for parameter in found]
-    return [parameter for parameter in stripped if parameter and not SELF.fullmatch(parameter)]
-
-
-def failures_of_parameters():
-    """Yields the functions that have too many parameters."""
-    for path in sources():
-        text = path.read_text(encoding="utf-8")
-        for head in HEAD.finditer(text):
-            count = len(parameters_of(text[head.end():]))
-            if count > MOST_PARAMETERS and head[1] not in LONG:
-                yield f"{path.relative_to(TOP)}: {head[1]} has {count} parameters"
-
-
 def main():
     """Compares all, and returns the exit status."""
     cases = (failures_of_definitions, failures_of_meaning, failures_of_names, failures_of_named_definitions,
              failures_of_pages, failures_of_searches, failures_of_functions, failures_of_headline,
-             failures_of_decisions, failures_of_tests, failures_of_edits, failures_of_parameters)
+             failures_of_decisions, failures_of_tests, failures_of_edits)
     failures = [found for case in cases for found in case()]
     return finish(failures, f"definitions and pages: {len(specs())} files, {len(failures)} failures")
 
