@@ -11,19 +11,16 @@ names. There are no more test functions and edits that must fail than CONTRIBUTI
 import re
 import sys
 
+from lib.headline import BELIEVED, USED, is_law, named_by, words_of_tables
 from lib.program import TOP, finish
 
 CRATES = TOP / "crates"
 KINDS = ("-- Meaning. ", "-- Interface. ", "-- Internal. ")
 LINK = re.compile(r"\]\(([^)#:]*)(?:#([^)]*))?\)")
 NAMED = re.compile(r"`((?:crates|docs|tests|examples)/(?![\w./-]*\bout/)[\w./-]+)`")
-USED = re.compile(r"^use Rattle\.(\w+)\.specs\.([\w.]+?)(?:\.\{|$| as )", re.MULTILINE)
-BUILT_IN = re.compile(r"^use (?!Rattle\.)\w+\.([\w.]+?)(?:\.\{|$| as )", re.MULTILINE)
 LINES = re.compile(r"`([\w./]+\.(?:antt|rt))`(?:\]\([^)]*\))? \((\d+) lines\)")
-DECLARED = re.compile(r"^use Rattle\.(\w+)\.specs\.declared\.([\w.]+?)\.(?:The\w+|[A-Z]\w*)", re.MULTILINE)
 TABLE = re.compile(r"^\| Function \|.*\n\|[-| ]+\n((?:\|.*\n)+)", re.MULTILINE)
 FUNCTION = re.compile(r"`(?:\w+::)*([a-z]\w*[a-z0-9])(?:\(.*?\))?`")
-BELIEVED = re.compile(r"\(\.\./crates/([\w/]+/specs/[\w/]+\.antt)\)")
 SEARCH = re.compile(r"`git grep -lw (\w+) crates`")
 DEFINED = re.compile(r"^(?:(?:abbrev|unfoldable) )?pub (?:(?:abbrev|unfoldable|record|data) )?([^\W\d][\w'-]*) *[({:]",
                      re.MULTILINE)
@@ -31,6 +28,9 @@ LINKED = re.compile(r"\]\(([^)#:]*specs/[\w/]+\.antt)\)")
 GROUP = re.compile(r"\(((?:`[^\W\d][\w'-]*`(?:, |, and | and )?)+)\)")
 DECISION = re.compile(r'docs/DECISIONS\.md, "([^"]*)"')
 TEST = re.compile(r"^ *#\[test\]$", re.MULTILINE)
+# what docs/HEADLINE.md quotes, and the files that have it
+QUOTE = re.compile(r"^```rust\n(.*?)^```", re.MULTILINE | re.DOTALL)
+QUOTED = ("loader/src/loaded.rt", "machine/src/verified_run.rt", "relay/src/shipped.rt")
 # how many test functions there may be, and how many edits that must fail, in all and of a crate
 MOST_TESTS = 60
 MOST_EDITS = 150
@@ -72,11 +72,6 @@ def failures_of_meaning():
         internal = [file for file in used if file.exists() and file.read_text(encoding="utf-8").startswith(KINDS[2])]
         if text.startswith(KINDS[0]) and internal:
             yield f"{path.relative_to(CRATES)}: names {internal[0].relative_to(CRATES)}, which is internal"
-
-
-def is_law(path):
-    """Returns whether a file of definitions has laws."""
-    return any("Laws" in part for part in path.relative_to(CRATES).parts)
 
 
 def failures_of_names():
@@ -152,34 +147,9 @@ def failures_of_functions():
                     yield f"{page.relative_to(TOP)}: no function and no law {name}"
 
 
-def declared_in(crate, module):
-    """Returns the file of code that a module of declared types comes from."""
-    path = CRATES / crate / "src" / (module.replace(".", "/") + ".rt")
-    return path if path.exists() or "." not in module else declared_in(crate, module.rpartition(".")[0])
-
-
-def named_by(path):
-    """Yields what a file of definitions names, each as the page has to name it.
-
-    That is types that the code declares, files of the kit and of its logic, and files of definitions, whatever their first
-    line says. A law is proved, so nobody has to believe the files of laws.
-    """
-    text = path.read_text(encoding="utf-8") if path.exists() else ""
-    for module in BUILT_IN.findall(text):
-        yield f"`{module}`"
-    for crate, module in DECLARED.findall(text):
-        if (CRATES / crate).exists():
-            yield f"(../{declared_in(crate, module).relative_to(TOP)})"
-    for crate, module in USED.findall(text):
-        used = CRATES / crate / "specs" / (module.replace(".", "/") + ".antt")
-        if not (CRATES / crate).exists():
-            yield f"`{module.removeprefix('declared.')}`"
-        elif used.exists() and not is_law(used):
-            yield f"(../{used.relative_to(TOP)})"
-
-
 def failures_of_headline():
-    """Yields what docs/HEADLINE.md lacks among what must be believed, though a file that it lists names it.
+    """Yields what docs/HEADLINE.md lacks among what must be believed, though a file that it lists names it, or a clause of its
+    tables does.
 
     The files of the programs' part may name only what that part has. Those of the relay's part, which goes on from
     there, may name what either has. A file is in one of them.
@@ -194,6 +164,14 @@ def failures_of_headline():
                     yield f"docs/HEADLINE.md: {used}, which {name} names"
     for name in sorted(set(BELIEVED.findall(programs)) & set(BELIEVED.findall(relay))):
         yield f"docs/HEADLINE.md: {name} is in both parts"
+    code = "".join((CRATES / name).read_text(encoding="utf-8") for name in QUOTED)
+    for block in QUOTE.findall(text):
+        for line in block.splitlines():
+            if f"{line}\n" not in code:
+                yield f"docs/HEADLINE.md: no code has {line}"
+    for function, used in words_of_tables(text[:text.index("## What must be believed\n")]):
+        if used not in believed:
+            yield f"docs/HEADLINE.md: {used}, which a clause of {function} names"
 
 
 def failures_of_decisions():
