@@ -1,8 +1,8 @@
 """Runs TURN clients that others wrote, unchanged, through the built relayd's `serve` over loopback.
 
-Installs nothing: a client that isn't there is passed over, and the last line says so. docs/CLIENTS.md names the
-packages (docs/DECISIONS.md, "Clients are run where they are installed"). Where tshark may capture, what the clients and
-the server sent each other must have no malformed packet.
+Installs nothing: a client that isn't there is passed over, and the last line says how many ran. With `--require` it is a
+failure. docs/CLIENTS.md names the packages (docs/DECISIONS.md, "Clients are run where they are installed"). Where tshark may
+capture, what the clients and the server sent each other must have no malformed packet.
 """
 
 import contextlib
@@ -211,7 +211,7 @@ def tried(name, client, folder):
 
 
 def main():
-    """Runs every client that is there, and returns the exit status."""
+    """Runs every client that is there, and returns the exit status. With `--require` each has to be there."""
     build()
     failures, absent = [], []
     with tempfile.TemporaryDirectory() as folder:
@@ -222,7 +222,10 @@ def main():
                 else:
                     failures += [f"{name}, {part}: {failure}" for failure in found]
     passed_over = f"; passed over: {', '.join(dict.fromkeys(absent))}" if absent else ""
-    return finish(failures, f"clients: {len(CLIENTS)} clients, {len(failures)} failures{passed_over}")
+    ran_here = sum(name not in absent for name, _ in CLIENTS)
+    if "--require" in sys.argv[1:]:
+        failures += [f"{part}: not there" for part in dict.fromkeys(absent)]
+    return finish(failures, f"clients: {ran_here} of {len(CLIENTS)} ran, {len(failures)} failures{passed_over}")
 
 
 if __name__ == "__main__":

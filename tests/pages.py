@@ -2,8 +2,9 @@
 
 Each page has a folder of its own, in which examples/ is. A block `asm` is assembled to program.bpf. A block
 `console` has lines `$ relayd WORD..` or `$ ./relayd WORD..`, each with what that command prints, and lines
-`$ cat FILE.. > FILE`. A block `sh` has commands, of which those of relayd are run and have to succeed. The unit of systemd is read by
-`systemd-analyze`, where that is installed.
+`$ cat FILE.. > FILE`. A block `sh` has commands, of which those of relayd are run and have to succeed. So have those of a block
+`text`, whose files the reader would have made: an example stands for each that isn't there, and a server tests its configuration
+on an address of this machine, and ends (`--rounds 0`). The unit of systemd is read by `systemd-analyze`, where that is installed.
 """
 
 import pathlib
@@ -17,9 +18,12 @@ import tempfile
 from lib.program import TOP, finish, run
 
 PAGES = [TOP / "README.md", *sorted((TOP / "docs").glob("*.md")), *sorted((TOP / "crates").glob("*/README.md"))]
-BLOCK = re.compile(r"^```(asm|console|sh)\n(.*?)^```$", re.MULTILINE | re.DOTALL)
+BLOCK = re.compile(r"^```(asm|console|sh|text)\n(.*?)^```$", re.MULTILINE | re.DOTALL)
 PROMPT = re.compile(r"^\$ (?:\./)?relayd(.*)$", re.MULTILINE)
-JOIN = re.compile(r"^\$ cat (.*) > (\S+)\n", re.MULTILINE)
+JOIN = re.compile(r"^(?:\$ )?cat (.*) > (\S+)\n", re.MULTILINE)
+# the files that stand for those that a reader would have made, by the last part of the name
+STAND_INS = {".s": "relay/client.s", ".events": "session.events", "users": "users.txt"}
+OPTIONS = {"--port": "0", "--listen": "127.0.0.1"}
 
 
 def commands(block):
@@ -27,6 +31,40 @@ def commands(block):
     parts = PROMPT.split(block)
     for words, printed in zip(parts[1::2], parts[2::2]):
         yield shlex.split(words), printed.removeprefix("\n")
+
+
+def join(text, folder):
+    """Makes the files that a block joins of others, and returns the block without the commands that do."""
+    for sources, target in JOIN.findall(text):
+        (folder / target).write_text("".join((folder / source).read_text() for source in sources.split()))
+    return JOIN.sub("", text)
+
+
+def standing_in(word, folder):
+    """Returns a word of a command, or the name of an example where it names a file that a reader would have made."""
+    if (folder / word).exists():
+        return word
+    if word.endswith(".bpf"):
+        run(["assemble", "examples/relay/client.s", folder / word], cwd=folder)
+        return word
+    found = [f"examples/{example}" for end, example in STAND_INS.items() if word.endswith(end)]
+    return found[0] if found and not word.startswith("-") else word
+
+
+def runnable(words, folder):
+    """Returns the words of a command of a block `text` as they can be run here."""
+    found = [OPTIONS.get(before, standing_in(word, folder)) for before, word in zip(["", *words], words)]
+    return [*found, "--rounds", "0"] if words[0] == "serve" else found
+
+
+def failures_of_texts(text, folder):
+    """Yields the commands of relayd in a block `text` that fail."""
+    for command in re.split(r"\n| && | \| ", join(text, folder).replace("$ ", "").strip()):
+        if command.startswith("./relayd "):
+            words = runnable(shlex.split(command)[1:], folder)
+            status, out, err = run(words, cwd=folder)
+            if status:
+                yield f"{command}: {out}{err}"
 
 
 def failures_of_block(kind, text, folder):
@@ -37,12 +75,12 @@ def failures_of_block(kind, text, folder):
         if status:
             yield err
     elif kind == "console":
-        for sources, target in JOIN.findall(text):
-            (folder / target).write_text("".join((folder / source).read_text() for source in sources.split()))
-        for words, wanted in commands(JOIN.sub("", text)):
+        for words, wanted in commands(join(text, folder)):
             _, out, err = run(words, cwd=folder)
             if out + err != wanted:
                 yield f"{shlex.join(words)}: {out}{err}"
+    elif kind == "text":
+        yield from failures_of_texts(text, folder)
     else:
         for command in re.split(r"\n| && ", text.strip()):
             program, *words = shlex.split(command)

@@ -12,6 +12,7 @@ import itertools
 import os
 import pathlib
 import random
+import re
 import shutil
 import signal
 import socket
@@ -26,7 +27,7 @@ from lib.rules import (
     ALLOCATE, BINDING, CREATE_PERMISSION, DATA, DATA_INDICATION, FAMILY, LIFETIME, NONCE, REALM, REFRESH, SEND, XOR_MAPPED_ADDRESS,
     XOR_PEER_ADDRESS, XOR_RELAYED_ADDRESS, address_in, address_value, message, read)
 from lib.server import (
-    BAD, DISCARD, LOOPBACK, LOOPBACK6, PERIOD, UDP, USER, Client, Server, address_of, channel_data, code_of, counters, exchange,
+    BAD, DISCARD, LOOPBACK, LOOPBACK6, PERIOD, UDP, USER, Client, Server, address_of, channel_data, code_of, counters,
     fault_line, free_ports, full_pipe, passed, put, round_trip, run, started, udp_socket, wanted, without_buffers)
 from worst_programs import known_programs
 
@@ -49,6 +50,8 @@ STOPPED_RECEIVE = 3 + 2 * 3 + 32
 INDICATIONS = 40
 # the most slots, and those that are used when all are allocated
 MOST_SLOTS, USED_SLOTS = 256, (0, 69, 254, 255)
+# what a line of counters says of datagrams: those of clients and of peers that came, and those to peers and to clients that were sent
+RELAYED = re.compile(r"received from clients (\d+) peers (\d+), relayed to peers (\d+) clients (\d+)")
 # what can't be tried here, each with its reason
 PASSED_OVER = []
 
@@ -636,22 +639,45 @@ def ahead():
 
 # ---- many datagrams
 
+def offer(pairs, batch):
+    """Sends a batch to the peers and back, each datagram by the next client, and reads what comes.
+
+    A pair is a client, its peer and the relayed address. What a busy system drops is not waited for for long.
+    """
+    sent = list(zip(batch, itertools.cycle(pairs)))
+    for data, (client, _, _) in sent:
+        client.send(channel_data(data))
+    for _, (_, peer, _) in sent:
+        with contextlib.suppress(TimeoutError):
+            peer.recv(2000)
+    for data, (_, peer, relayed) in sent:
+        peer.sendto(data, relayed)
+    for _, (client, _, _) in sent:
+        with contextlib.suppress(TimeoutError):
+            client.receive()
+
+
 def many():
-    """Yields what is lost of many datagrams of several clients, and what they leave in memory."""
-    with Server(slots=CLIENTS) as server, contextlib.ExitStack() as stack:
+    """Yields what is lost between what the system delivers and what is sent, and what many datagrams leave in memory."""
+    with Server("--stats", "1", slots=CLIENTS) as server, contextlib.ExitStack() as stack:
         pairs = []
         for slot in range(CLIENTS):
             client, peer = stack.enter_context(Client(server)), stack.enter_context(udp_socket())
             client.allocate()
             client.bind(address_of(peer))
             pairs.append((client, peer, ("127.0.0.1", server.first_port + slot)))
-        came, memory = 0, None
+        memory = None
         for start in range(0, DATAGRAMS, BATCH):
-            batch = [struct.pack(">I", number) * 40 for number in range(start, start + BATCH)]
-            came += exchange(pairs, batch)
+            offer(pairs, [struct.pack(">I", number) * 40 for number in range(start, start + BATCH)])
             memory = memory or server.memory()
-        yield from wanted("datagrams there and back", came, 2 * DATAGRAMS)
         yield from wanted("kB of memory in use at the end", server.memory(), memory)
+        time.sleep(3 * PERIOD)  # the last line of counters has all that came
+        from_clients, from_peers, to_peers, to_clients = map(int, RELAYED.findall(server.printed())[-1])
+        # a client allocates in two requests, and binds a channel in one
+        yield from wanted("datagrams to peers", to_peers, from_clients - 3 * CLIENTS)
+        yield from wanted("datagrams to clients", to_clients, from_peers)
+        if to_peers < DATAGRAMS // 2:
+            yield f"the system delivered {to_peers} datagrams of {DATAGRAMS}"
 
 
 def main():
