@@ -2,7 +2,6 @@
 //! events or serves sockets.
 #![tactic(auto)]
 
-mod ahead;
 mod arguments;
 mod clock;
 mod counters;

@@ -46,6 +46,8 @@ struct Server<'a> {
     sockets: Sockets,
     sides: Sides<'a>,
     rng: StdRng,
+    /// The transaction id for the next datagram that comes.
+    tx: [u8; 12],
     moments: Moments,
     nonces: Timer,
     files: Timer,
@@ -183,12 +185,14 @@ impl Server<'_> {
     }
 
     /// Serves one datagram at an endpoint, if one has come there, at a moment. Returns whether one has come, or a fault, which
-    /// the sockets have counted. See docs/DECISIONS.md, "One function serves a datagram".
+    /// the sockets have counted. A transaction id is drawn where the one before may have been used. See docs/DECISIONS.md, "One function serves a datagram".
     #[inline(always)]
     fn turn(&mut self, endpoint: Endpoint, now: u64) -> bool {
-        let mut tx = [0u8; 12];
-        self.rng.fill_bytes(&mut tx);
-        serve_once(&mut self.relay, &mut self.sockets, endpoint, now, tx).unwrap_or(true)
+        if let Ok(false) = serve_once(&mut self.relay, &mut self.sockets, endpoint, now, self.tx) {
+            return false;
+        }
+        self.rng.fill_bytes(&mut self.tx);
+        true
     }
 
     /// Tries one datagram at each socket: that of clients first, then those of the slots in order.
@@ -396,7 +400,9 @@ fn start<'a, R: Files + Net + Clock + RandomSource + AllocGlobal>(
         options: arguments.socket,
     };
     let sockets = bind_sockets(rt, addresses, set.ip, rules)?;
-    let rng = make_rng(rt).map_err(|_| Fault::Random)?;
+    let mut rng = make_rng(rt).map_err(|_| Fault::Random)?;
+    let mut tx = [0; 12];
+    rng.fill_bytes(&mut tx);
     let now = elapsed(rt);
     let period = Duration::from_secs(PERIOD);
     let mut server = Server {
@@ -406,6 +412,7 @@ fn start<'a, R: Files + Net + Clock + RandomSource + AllocGlobal>(
         sockets,
         sides: Sides::new(options, set.programs),
         rng,
+        tx,
         moments: Moments::starting_now(rt),
         nonces: Timer::new(now, arguments.nonce_lifetime),
         files: Timer::new(now, period),

@@ -1,9 +1,8 @@
 //! The sockets of a server: one for clients, and one of each family for the peers of each slot.
 
-use crate::ahead::receive;
 use crate::counters::Counters;
 use crate::drops::{Ports, dropped};
-use crate::udp::{SocketOptions, bind, buffer_of};
+use crate::udp::{SocketOptions, bind, buffer_of, receive};
 use attributes::{Addr, Family};
 use mio::net::UdpSocket;
 use mio::{Interest, Poll, Registry, Token};

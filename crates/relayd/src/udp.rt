@@ -1,14 +1,17 @@
-//! UDP sockets with options that have to be set before they are bound, and with the sizes of their buffers.
+//! UDP sockets with options that have to be set before they are bound, with the sizes of their buffers, and what comes at them.
 
 ghost use Rattle.std.specs.Prelude.{◌↔◌, pos, ◌≤ℤ◌, IsOk};
 ghost use Rattle.libc.specs.Net.{Family};
 
+use attributes::Addr;
 use libc::net as c;
 use mio::net::UdpSocket;
 use os::FromRawFd;
-use std::io;
+use serving::LinkFault;
+use std::io::{self, ErrorKind};
 use std::net::{Net, SocketAddr, SocketAddrV4, SocketAddrV6};
 use std::os::fd::{AsRawFd, OwnedFd};
+use turns::Receipt;
 
 /// The lengths of C's `sockaddr_in` and `sockaddr_in6`.
 const LENGTH: u32 = 16;
@@ -127,4 +130,30 @@ pub(crate) fn buffer_of(socket: &UdpSocket) -> io::Result<i32> {
     let received = i32::from_ne_bytes([a, b, c, d]);
     let sent = i32::from_ne_bytes([e, f, g, h]);
     Ok(received.min(sent) / 2)
+}
+
+/// Returns the address of a socket.
+#[inline(always)]
+fn addr_of(address: SocketAddr) -> Addr {
+    let port = address.port();
+    match address {
+        SocketAddr::V4(address) => Addr::V4 {
+            ip: address.ip().octets(),
+            port,
+        },
+        SocketAddr::V6(address) => Addr::V6 {
+            ip: address.ip().octets(),
+            port,
+        },
+    }
+}
+
+/// Receives a datagram at a socket, if one has come.
+#[inline(always)]
+pub(crate) fn receive(socket: &UdpSocket, into: &mut [u8]) -> Result<Receipt, LinkFault> {
+    match socket.recv_from(into) {
+        Ok((n, from)) => Ok(Some((n, addr_of(from)))),
+        Err(error) if error.kind() == ErrorKind::WouldBlock => Ok(None),
+        Err(_) => Err(LinkFault),
+    }
 }
