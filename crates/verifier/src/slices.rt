@@ -186,6 +186,10 @@ impl<D: Domain> Walk<D> {
         let Ok(kept) = Kept::new(alloc, translation.program()) else {
             return Err(Refusal::Memory { slot: 0 });
         };
+        // a path makes one step at each instruction at most, so the states that wait are never copied to a larger room
+        let Ok(pending) = Vec::with_capacity(alloc, code.len()) else {
+            return Err(Refusal::Memory { slot: 0 });
+        };
         let first = Pending {
             slot: 0,
             state: AbsState::start(),
@@ -199,7 +203,7 @@ impl<D: Domain> Walk<D> {
             at: Frontier {
                 path: Path::Continues,
                 here,
-                pending: Vec::new(alloc),
+                pending,
                 kept,
                 made: 0,
             },

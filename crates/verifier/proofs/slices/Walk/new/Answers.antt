@@ -26,3 +26,6 @@ returns-in_default-new-clause-verdict g c = start_verdict g.D.Domain.ops g.D.Dom
 
 pub returns-in_default-new-2-clause-verdict : goal.returns-in_default-new-2-clause-verdict
 returns-in_default-new-2-clause-verdict g c = start_verdict g.D.Domain.ops g.D.Domain.Member c.args.code.now c.args.budget (refusal.Memory 0) (inr (refl, c.in_ok-check_layout.ensures.ok))
+
+pub returns-in_default-with_capacity-clause-verdict : goal.returns-in_default-with_capacity-clause-verdict
+returns-in_default-with_capacity-clause-verdict g c = start_verdict g.D.Domain.ops g.D.Domain.Member c.args.code.now c.args.budget (refusal.Memory 0) (inr (refl, c.in_ok-check_layout.ensures.ok))
