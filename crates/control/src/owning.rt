@@ -6,7 +6,6 @@ ghost use Rattle.control.specs.Control.{own_allocation, error_of};
 
 use attributes::Addr;
 use stun::registry::ErrorCode;
-use tables::uncounted::allocation_of;
 use tables::{Allocation, Refused, Tables};
 
 /// Returns the allocation of a client, which must be the user's.
@@ -22,7 +21,7 @@ pub(crate) fn own_allocation(
     ensures allocation { result ≡ own_allocation client user (rows_at now tables.now) }
     ensures inside { IfOk result (λ a. a.slot < length tables.now.slots) }
 {
-    let Some(allocation) = allocation_of(tables, client, now) else {
+    let Some(allocation) = tables.allocation_of(client, now) else {
         return Err(ErrorCode::AllocationMismatch);
     };
     if allocation.user != user {

@@ -5,7 +5,6 @@ use anyhow::{Result, ensure};
 use std::fmt;
 use std::rt::Clock;
 use std::time::{Duration, Instant};
-use tables::uncounted::{allocation_of, channel_of, peer_of, permitted};
 use tables::{FIRST_CHANNEL, Tables};
 
 /// A call of the tables. It displays as the function's name.
@@ -91,10 +90,10 @@ impl Call {
         let number = FIRST_CHANNEL + u16::from(key.index(LAST_PEER));
         let last = key.index(u8::MAX);
         match self {
-            Call::AllocationOf => allocation_of(tables, client(last), now).is_some(),
-            Call::Permitted => permitted(tables, SLOT, peer, now),
-            Call::PeerOf => peer_of(tables, SLOT, number, now).is_some(),
-            Call::ChannelOf => channel_of(tables, SLOT, peer, now).is_some(),
+            Call::AllocationOf => tables.allocation_of(client(last), now).is_some(),
+            Call::Permitted => tables.permitted(SLOT, peer, now),
+            Call::PeerOf => tables.peer_of(SLOT, number, now).is_some(),
+            Call::ChannelOf => tables.channel_of(SLOT, peer, now).is_some(),
             Call::Permit => tables.permit(now, SLOT, &[peer]).is_ok(),
             Call::Bind => tables.bind(now, SLOT, number, peer).is_ok(),
             Call::Refresh => tables.refresh(now, usize::from(last), LIFETIME).is_ok(),

@@ -10,7 +10,6 @@ use families::address;
 use std::alloc::{AllocError, Global};
 use std::fmt::Debug;
 use std::process::Abort;
-use tables::uncounted::{allocation_at, allocation_of, channel_of, peer_of, permitted};
 use tables::{Binding, Channel, FIRST_CHANNEL, LAST_CHANNEL, Refused, Tables, is_ipv4};
 
 /// The first client, which gets slot 0.
@@ -65,20 +64,20 @@ const NOTHING: Found = Found {
 };
 
 fn look_up(tables: &Tables, now: u64) -> Found {
-    let client = match allocation_of(tables, CLIENT, now) {
+    let client = match tables.allocation_of(CLIENT, now) {
         Some(allocation) => Some((allocation.slot, allocation.end)),
         None => None,
     };
-    let slot = match allocation_at(tables, 0, now) {
+    let slot = match tables.allocation_at(0, now) {
         Some(allocation) => Some((allocation.user, allocation.lifetime)),
         None => None,
     };
     Found {
         client,
         slot,
-        peer: peer_of(tables, 0, NUMBER, now),
-        channel: channel_of(tables, 0, peer(7, 5000), now),
-        is_permitted: permitted(tables, 0, peer(7, 9), now),
+        peer: tables.peer_of(0, NUMBER, now),
+        channel: tables.channel_of(0, peer(7, 5000), now),
+        is_permitted: tables.permitted(0, peer(7, 9), now),
     }
 }
 
@@ -188,13 +187,13 @@ fn check_step(rt: &impl Abort, tables: &mut Tables, index: usize, step: Step<'_>
         }
         Step::Find(now, found) => expect(rt, index, look_up(tables, now), found),
         Step::PeerOf(now, number, result) => {
-            expect(rt, index, peer_of(tables, 0, number, now), result);
+            expect(rt, index, tables.peer_of(0, number, now), result);
         }
         Step::ChannelOf(now, peer, result) => {
-            expect(rt, index, channel_of(tables, 0, peer, now), result);
+            expect(rt, index, tables.channel_of(0, peer, now), result);
         }
         Step::IsPermitted(now, ip, result) => {
-            expect(rt, index, permitted(tables, 0, ip, now), result);
+            expect(rt, index, tables.permitted(0, ip, now), result);
         }
         Step::Permissions(now, expected) => check_permissions(rt, tables, index, now, expected),
         Step::Channels(now, expected) => check_channels(rt, tables, index, now, expected),
@@ -525,7 +524,7 @@ fn slots_fill_capacity(rt: &impl Abort, alloc: Global) -> Result<(), AllocError>
         tables.allocate(1000, peer(2, 4256), 0, TX, Family::Ipv4, 600),
         Ok(200)
     );
-    let last = allocation_at(&tables, 255, 1599);
+    let last = tables.allocation_at(255, 1599);
     assert!(rt; last.is_some_and(|allocation| allocation.client == peer(2, 4255)));
     Ok(())
 }

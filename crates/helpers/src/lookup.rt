@@ -10,7 +10,7 @@ use crate::lookups::Helpers;
 use crate::record::{address_of, wide_record};
 use attributes::Addr;
 use semantics::{RecordForm, WIDE_RECORD_BYTES, is_valid};
-use tables::{Tables, uncounted};
+use tables::Tables;
 
 /// The helpers that look up in tables at a moment, in the slot of a client's allocation or of a relayed address. Without
 /// a slot they find nothing.
@@ -60,10 +60,7 @@ impl<'a> Lookup<'a> {
         let Ok(number) = u16::try_from(number) else {
             return NOTHING;
         };
-        match (
-            form,
-            uncounted::peer_of(self.tables, slot, number, self.moment),
-        ) {
+        match (form, self.tables.peer_of(slot, number, self.moment)) {
             (RecordForm::Narrow, Some(Addr::V6 { .. })) | (_, None) => NOTHING,
             (_, Some(peer)) => (1, wide_record(&peer)),
         }
@@ -81,7 +78,10 @@ impl<'a> Lookup<'a> {
         if !is_valid(form, address) {
             return NOTHING;
         }
-        match uncounted::channel_of(self.tables, slot, address_of(address), self.moment) {
+        match self
+            .tables
+            .channel_of(slot, address_of(address), self.moment)
+        {
             Some(number) => (u64::from(number), [0; WIDE_RECORD_BYTES]),
             None => NOTHING,
         }
@@ -97,7 +97,9 @@ impl<'a> Lookup<'a> {
         ensures { result ≡ permission_answer form slot (rows_at self.now.moment self.now.tables.now) address.now }
     {
         let holds = is_valid(form, address)
-            && uncounted::permitted(self.tables, slot, address_of(address), self.moment);
+            && self
+                .tables
+                .permitted(slot, address_of(address), self.moment);
         (u64::from(holds), [0; WIDE_RECORD_BYTES])
     }
 }

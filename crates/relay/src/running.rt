@@ -16,7 +16,7 @@ use events::{Meta, Source};
 use helpers::Lookup;
 use loader::Loaded;
 use machine::{Context, Frame, Outcome, Side, run};
-use tables::{Allocation, Tables, uncounted};
+use tables::{Allocation, Tables};
 use verifier::Verified;
 
 /// Returns the context of a datagram.
@@ -42,8 +42,8 @@ pub(crate) fn own_for(tables: &Tables, moment: u64, from: Source) -> Option<Allo
     ensures { result ≡ own_for from (rows_at moment tables.now) }
 {
     match from {
-        Source::Client(client) => uncounted::allocation_of(tables, client, moment),
-        Source::Peer { slot, .. } => uncounted::allocation_at(tables, slot, moment),
+        Source::Client(client) => tables.allocation_of(client, moment),
+        Source::Peer { slot, .. } => tables.allocation_at(slot, moment),
     }
 }
 

@@ -10,7 +10,6 @@ use std::alloc::Global;
 use std::process::Abort;
 use std::test::Fail;
 use tables::Tables;
-use tables::uncounted::allocation_at;
 
 /// The slots of the relay.
 const SLOTS: usize = 2;
@@ -85,8 +84,8 @@ fn answers_without(alloc: Global, index: usize) -> Result<Vec<u8>, Fail> {
 
 /// Checks that two tables have the same rows at a slot.
 fn check_slot(rt: &impl Abort, tables: &Tables, others: &Tables, slot: usize, event: &str) {
-    let found = allocation_at(tables, slot, FIRST);
-    assert_eq!(rt; found, allocation_at(others, slot, FIRST), "{event}");
+    let found = tables.allocation_at(slot, FIRST);
+    assert_eq!(rt; found, others.allocation_at(slot, FIRST), "{event}");
     let (found, wanted) = (
         tables.permissions(slot, FIRST),
         others.permissions(slot, FIRST),
@@ -200,7 +199,10 @@ fn check_again(
         check_answer(rt, alloc, other, event)?;
         check_rows(rt, relay, other, event.0);
     }
-    let end = allocation_at(relay.tables(), 0, FIRST).map(|allocation| allocation.end);
+    let end = relay
+        .tables()
+        .allocation_at(0, FIRST)
+        .map(|allocation| allocation.end);
     assert_eq!(rt; end, Some(END));
     Ok(())
 }

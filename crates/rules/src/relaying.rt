@@ -13,7 +13,7 @@ use attributes::read_xor_addr;
 use control::all_understood;
 use stun::registry::attribute::{DATA, XOR_PEER_ADDRESS};
 use stun::{Message, read_channel};
-use tables::{Tables, uncounted};
+use tables::Tables;
 
 /// Returns whether a datagram begins with the bits 00, as STUN messages do.
 pub(crate) fn begins_as_stun(datagram: &[u8]) -> bool
@@ -39,7 +39,7 @@ pub(crate) fn channel_data(tables: &Tables, moment: u64, from: &ClientDatagram<'
         return Answer::Nothing;
     };
     let slot = own.slot;
-    let Some(peer) = uncounted::peer_of(tables, slot, message.number, moment) else {
+    let Some(peer) = tables.peer_of(slot, message.number, moment) else {
         return Answer::Nothing;
     };
     if !peer.is_of_family(own.family) {
@@ -77,7 +77,7 @@ pub(crate) fn send(
         return Answer::Nothing;
     };
     let slot = own.slot;
-    if !uncounted::permitted(tables, slot, peer, moment) {
+    if !tables.permitted(slot, peer, moment) {
         return Answer::Nothing;
     }
     if !peer.is_of_family(own.family) {

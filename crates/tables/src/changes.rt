@@ -39,7 +39,7 @@ impl Tables {
         ensures slots { length self.new.slots ≡ length self.old.slots }
     {
         let moment = self.moment_at(now);
-        if self.has_client(&client, moment) {
+        if self.allocation_of(client, now).is_some() {
             return Err(Refused::Mismatch);
         }
         let slot = self.first_free(moment).ok_or(Refused::Capacity)?;

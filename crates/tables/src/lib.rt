@@ -7,6 +7,7 @@ mod allocation;
 mod changes;
 mod channels;
 mod clients;
+pub mod counted;
 mod held;
 mod in_place;
 mod limits;
@@ -17,7 +18,6 @@ mod permissions;
 mod refusal;
 mod search;
 mod storage;
-pub mod uncounted;
 
 pub use address::is_ipv4;
 pub use allocation::Allocation;

@@ -1,108 +1,126 @@
-//! Look-ups, by binary search. None of them changes the tables. `steps` counts one for each key that is compared.
+//! Look-ups, by binary search. None of them changes the tables. Each is the function of [`counted`] of the same name, over a
+//! counter that no contract names.
 
 use crate::allocation::Allocation;
+use crate::counted;
 use crate::storage::Tables;
 use attributes::Addr;
-use std::sync::ledger::Ledger;
+use std::marker::Brand;
+use std::sync::ledger::{Blank, Ledger};
 use steps::Steps;
 
 impl Tables {
-    ghost use Rattle.std.specs.Prelude.{◌≡◌, ◌+◌, ◌≤◌, ◌<◌, IfSome, length};
-    ghost use Rattle.std.specs.Option.{option_copied};
+    ghost use Rattle.std.specs.Prelude.{◌≡◌, ◌<◌, IfSome, length};
     ghost use Rattle.tables.specs.Channels.{IsChannelNumber};
     ghost use Rattle.tables.specs.Rows.{rows_at};
     ghost use Rattle.tables.specs.LookUps.{allocation_of, allocation_at, peer_of, channel_of, has_permission};
 
-    /// Returns the allocation of a client at a moment. At most 9 of the clients' addresses are compared.
-    pub fn allocation_of<L: Ledger>(
+    /// Returns the allocation of a client at a moment.
+    pub fn allocation_of(&self, client: Addr, now: u64) -> Option<Allocation>
+        ensures allocation { result ≡ allocation_of client (rows_at now self.now) }
+        ensures inside { IfSome result (λ a. a.slot < length self.now.slots) }
+    {
+        self.allocation_of_by::<Brand>(client, now, Blank::new(1))
+    }
+
+    /// Returns the allocation at a slot at a moment. A slot that isn't there has none.
+    pub fn allocation_at(&self, slot: usize, now: u64) -> Option<Allocation>
+        ensures { result ≡ allocation_at slot (rows_at now self.now) }
+    {
+        self.allocation_at_by::<Brand>(slot, now, Blank::new(1))
+    }
+
+    /// Returns the peer that a channel of a slot is bound to at a moment.
+    pub fn peer_of(&self, slot: usize, number: u16, now: u64) -> Option<Addr>
+        ensures { result ≡ peer_of slot number (rows_at now self.now) }
+    {
+        self.peer_of_by::<Brand>(slot, number, now, Blank::new(1))
+    }
+
+    /// Returns the channel of a slot that is bound to a peer at a moment: a number from [`FIRST_CHANNEL`] to [`LAST_CHANNEL`].
+    ///
+    /// [`FIRST_CHANNEL`]: crate::FIRST_CHANNEL
+    /// [`LAST_CHANNEL`]: crate::LAST_CHANNEL
+    pub fn channel_of(&self, slot: usize, peer: Addr, now: u64) -> Option<u16>
+        ensures number { result ≡ channel_of slot peer (rows_at now self.now) }
+        ensures range { IfSome result IsChannelNumber }
+    {
+        self.channel_of_by::<Brand>(slot, peer, now, Blank::new(1))
+    }
+
+    /// Returns whether an IP address has a permission at a slot at a moment. The port is not looked at.
+    pub fn permitted(&self, slot: usize, ip: Addr, now: u64) -> bool
+        ensures { result ≡ has_permission slot ip (rows_at now self.now) }
+    {
+        self.permitted_by::<Brand>(slot, ip, now, Blank::new(1))
+    }
+
+    /// As [`Tables::allocation_of`], over a counter that is named by `blank`.
+    fn allocation_of_by<L: Ledger>(
         &self,
         client: Addr,
         now: u64,
-        steps: &mut Steps<L>,
-    ) -> Option<&Allocation>
-        ensures allocation { option_copied result ≡ allocation_of client (rows_at now self.now) }
-        ensures inside { IfSome result (λ a. a.now.slot < length self.now.slots) }
-        ensures keys { steps.new ≤ steps.old + 9 }
+        blank: Blank,
+    ) -> Option<Allocation>
+        requires name { blank.name ≡ L.name }
+        requires parts { blank.parts ≡ L.parts }
+        requires some { 0 < L.parts }
+        ensures allocation { result ≡ allocation_of client (rows_at now self.now) }
+        ensures inside { IfSome result (λ a. a.slot < length self.now.slots) }
     {
-        let held = self.held_by(&client, self.moment_at(now), steps)?;
-        Some(&held.allocation)
+        counted::allocation_of(self, client, now, &mut Steps::<L>::new(blank)).copied()
     }
 
-    /// Returns the allocation at a slot at a moment. A slot that isn't there has none. No key is compared.
-    pub fn allocation_at<L: Ledger>(
-        &self,
-        slot: usize,
-        now: u64,
-        steps: &mut Steps<L>,
-    ) -> Option<&Allocation>
-        ensures allocation { option_copied result ≡ allocation_at slot (rows_at now self.now) }
-        ensures keys { steps.new ≡ steps.old }
+    /// As [`Tables::allocation_at`], over a counter that is named by `blank`.
+    fn allocation_at_by<L: Ledger>(&self, slot: usize, now: u64, blank: Blank) -> Option<Allocation>
+        requires name { blank.name ≡ L.name }
+        requires parts { blank.parts ≡ L.parts }
+        requires some { 0 < L.parts }
+        ensures { result ≡ allocation_at slot (rows_at now self.now) }
     {
-        let held = self.held(slot, self.moment_at(now))?;
-        Some(&held.allocation)
+        counted::allocation_at(self, slot, now, &mut Steps::<L>::new(blank)).copied()
     }
 
-    /// Returns the peer that a channel of a slot is bound to at a moment. At most 7 of the slot's channels are compared.
-    pub fn peer_of<L: Ledger>(
+    /// As [`Tables::peer_of`], over a counter that is named by `blank`.
+    fn peer_of_by<L: Ledger>(
         &self,
         slot: usize,
         number: u16,
         now: u64,
-        steps: &mut Steps<L>,
+        blank: Blank,
     ) -> Option<Addr>
-        ensures peer { result ≡ peer_of slot number (rows_at now self.now) }
-        ensures keys { steps.new ≤ steps.old + 7 }
+        requires name { blank.name ≡ L.name }
+        requires parts { blank.parts ≡ L.parts }
+        requires some { 0 < L.parts }
+        ensures { result ≡ peer_of slot number (rows_at now self.now) }
     {
-        let moment = self.moment_at(now);
-        let held = self.held(slot, moment)?;
-        let binding = held.channels.binding_of(number, steps)?;
-        if moment < binding.end {
-            Some(binding.peer)
-        } else {
-            None
-        }
+        counted::peer_of(self, slot, number, now, &mut Steps::<L>::new(blank))
     }
 
-    /// Returns the channel of a slot that is bound to a peer at a moment: a number from [`FIRST_CHANNEL`] to [`LAST_CHANNEL`].
-    /// At most 7 of the slot's peers are compared.
-    ///
-    /// [`FIRST_CHANNEL`]: crate::FIRST_CHANNEL
-    /// [`LAST_CHANNEL`]: crate::LAST_CHANNEL
-    pub fn channel_of<L: Ledger>(
+    /// As [`Tables::channel_of`], over a counter that is named by `blank`.
+    fn channel_of_by<L: Ledger>(
         &self,
         slot: usize,
         peer: Addr,
         now: u64,
-        steps: &mut Steps<L>,
+        blank: Blank,
     ) -> Option<u16>
+        requires name { blank.name ≡ L.name }
+        requires parts { blank.parts ≡ L.parts }
+        requires some { 0 < L.parts }
         ensures number { result ≡ channel_of slot peer (rows_at now self.now) }
         ensures range { IfSome result IsChannelNumber }
-        ensures keys { steps.new ≤ steps.old + 7 }
     {
-        let moment = self.moment_at(now);
-        let held = self.held(slot, moment)?;
-        held.channels.number_at(&peer, moment, steps)
+        counted::channel_of(self, slot, peer, now, &mut Steps::<L>::new(blank))
     }
 
-    /// Returns whether an IP address has a permission at a slot at a moment. The port is not looked at. At most 7 of the slot's
-    /// addresses are compared.
-    pub fn permitted<L: Ledger>(
-        &self,
-        slot: usize,
-        ip: Addr,
-        now: u64,
-        steps: &mut Steps<L>,
-    ) -> bool
-        ensures permitted { result ≡ has_permission slot ip (rows_at now self.now) }
-        ensures keys { steps.new ≤ steps.old + 7 }
+    /// As [`Tables::permitted`], over a counter that is named by `blank`.
+    fn permitted_by<L: Ledger>(&self, slot: usize, ip: Addr, now: u64, blank: Blank) -> bool
+        requires name { blank.name ≡ L.name }
+        requires parts { blank.parts ≡ L.parts }
+        requires some { 0 < L.parts }
+        ensures { result ≡ has_permission slot ip (rows_at now self.now) }
     {
-        let moment = self.moment_at(now);
-        let Some(held) = self.held(slot, moment) else {
-            return false;
-        };
-        match held.permissions.end_of(&ip, steps) {
-            Some(end) => moment < end,
-            None => false,
-        }
+        counted::permitted(self, slot, ip, now, &mut Steps::<L>::new(blank))
     }
 }

@@ -142,26 +142,6 @@ impl Tables {
         }
     }
 
-    /// As [`Tables::has_client`], over a counter that is named by `blank`.
-    fn has_client_by<L: Ledger>(&self, client: &Addr, moment: u64, blank: Blank) -> bool
-        requires later { self.now.moment ≤ moment }
-        requires name { blank.name ≡ L.name }
-        requires parts { blank.parts ≡ L.parts }
-        requires some { 0 < L.parts }
-        ensures { result ≡ is_some (held_by client.now (counting_rows moment self.now)) }
-    {
-        let mut steps = Steps::<L>::new(blank);
-        self.held_by(client, moment, &mut steps).is_some()
-    }
-
-    /// Returns whether a client has an allocation that counts at a moment.
-    pub(crate) fn has_client(&self, client: &Addr, moment: u64) -> bool
-        requires later { self.now.moment ≤ moment }
-        ensures { result ≡ is_some (held_by client.now (counting_rows moment self.now)) }
-    {
-        self.has_client_by::<Brand>(client, moment, Blank::new(1))
-    }
-
     /// Returns the lowest slot that holds nothing at a moment.
     pub(crate) fn first_free(&self, moment: u64) -> Option<usize>
         requires later { self.now.moment ≤ moment }

@@ -4,7 +4,6 @@ use super::{CLIENT, NUMBER, OTHER_CLIENT, Step, TX, check_steps, peer};
 use attributes::{Addr, Family};
 use std::alloc::{AllocError, Global};
 use std::process::Abort;
-use tables::uncounted::{allocation_at, channel_of, peer_of, permitted};
 use tables::{Refused, Tables, is_ipv4};
 
 /// Returns the address 192.0.2.`last` or 2001:db8::`last` at a port.
@@ -188,14 +187,14 @@ fn a_number_is_bound_at_each_allocation(rt: &impl Abort, alloc: Global) -> Resul
         assert_eq!(rt; tables.bind(1000, slot, NUMBER, peer), Ok(()));
     }
     for (slot, other_slot, client, family, peer) in rows {
-        let allocation = allocation_at(&tables, slot, 1000);
+        let allocation = tables.allocation_at(slot, 1000);
         assert!(rt; allocation.is_some_and(|a| a.client == client && a.family == family));
-        assert_eq!(rt; peer_of(&tables, slot, NUMBER, 1000), Some(peer));
-        assert_eq!(rt; channel_of(&tables, slot, peer, 1000), Some(NUMBER));
-        assert!(rt; permitted(&tables, slot, peer, 1000));
+        assert_eq!(rt; tables.peer_of(slot, NUMBER, 1000), Some(peer));
+        assert_eq!(rt; tables.channel_of(slot, peer, 1000), Some(NUMBER));
+        assert!(rt; tables.permitted(slot, peer, 1000));
         // the other allocation knows nothing of the peer
-        assert_eq!(rt; channel_of(&tables, other_slot, peer, 1000), None);
-        assert!(rt; !permitted(&tables, other_slot, peer, 1000));
+        assert_eq!(rt; tables.channel_of(other_slot, peer, 1000), None);
+        assert!(rt; !tables.permitted(other_slot, peer, 1000));
     }
     Ok(())
 }

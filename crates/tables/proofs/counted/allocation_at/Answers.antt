@@ -1,5 +1,5 @@
 use Rattle.std.proofs.Common.{rules}
-use Rattle.tables.proofs.storage.Tables.allocation_at.Goals as goal
+use Rattle.tables.proofs.counted.allocation_at.Goals as goal
 
 pub held-requires : goal.held-requires
 held-requires g c = search rules

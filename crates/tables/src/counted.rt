@@ -1,0 +1,101 @@
+//! The look-ups of [`Tables`], each with a count of the keys that it compares: `steps` rises by one for each of them.
+
+ghost use Rattle.std.specs.Prelude.{◌≡◌, ◌+◌, ◌≤◌, ◌<◌, IfSome, length};
+ghost use Rattle.std.specs.Option.{option_copied};
+ghost use Rattle.tables.specs.Channels.{IsChannelNumber};
+ghost use Rattle.tables.specs.Rows.{rows_at};
+ghost use Rattle.tables.specs.LookUps.{allocation_of, allocation_at, peer_of, channel_of, has_permission};
+
+use crate::allocation::Allocation;
+use crate::storage::Tables;
+use attributes::Addr;
+use std::sync::ledger::Ledger;
+use steps::Steps;
+
+/// As [`Tables::allocation_of`]. At most 9 of the clients' addresses are compared.
+pub fn allocation_of<'a, L: Ledger>(
+    tables: &'a Tables,
+    client: Addr,
+    now: u64,
+    steps: &mut Steps<L>,
+) -> Option<&'a Allocation>
+    ensures allocation { option_copied result ≡ allocation_of client (rows_at now tables.now) }
+    ensures inside { IfSome result (λ a. a.now.slot < length tables.now.slots) }
+    ensures keys { steps.new ≤ steps.old + 9 }
+{
+    let held = tables.held_by(&client, tables.moment_at(now), steps)?;
+    Some(&held.allocation)
+}
+
+/// As [`Tables::allocation_at`]. No key is compared.
+pub fn allocation_at<'a, L: Ledger>(
+    tables: &'a Tables,
+    slot: usize,
+    now: u64,
+    steps: &mut Steps<L>,
+) -> Option<&'a Allocation>
+    ensures allocation { option_copied result ≡ allocation_at slot (rows_at now tables.now) }
+    ensures keys { steps.new ≡ steps.old }
+{
+    let held = tables.held(slot, tables.moment_at(now))?;
+    Some(&held.allocation)
+}
+
+/// As [`Tables::peer_of`]. At most 7 of the slot's channels are compared.
+pub fn peer_of<L: Ledger>(
+    tables: &Tables,
+    slot: usize,
+    number: u16,
+    now: u64,
+    steps: &mut Steps<L>,
+) -> Option<Addr>
+    ensures peer { result ≡ peer_of slot number (rows_at now tables.now) }
+    ensures keys { steps.new ≤ steps.old + 7 }
+{
+    let moment = tables.moment_at(now);
+    let held = tables.held(slot, moment)?;
+    let binding = held.channels.binding_of(number, steps)?;
+    if moment < binding.end {
+        Some(binding.peer)
+    } else {
+        None
+    }
+}
+
+/// As [`Tables::channel_of`]. At most 7 of the slot's peers are compared.
+pub fn channel_of<L: Ledger>(
+    tables: &Tables,
+    slot: usize,
+    peer: Addr,
+    now: u64,
+    steps: &mut Steps<L>,
+) -> Option<u16>
+    ensures number { result ≡ channel_of slot peer (rows_at now tables.now) }
+    ensures range { IfSome result IsChannelNumber }
+    ensures keys { steps.new ≤ steps.old + 7 }
+{
+    let moment = tables.moment_at(now);
+    let held = tables.held(slot, moment)?;
+    held.channels.number_at(&peer, moment, steps)
+}
+
+/// As [`Tables::permitted`]. At most 7 of the slot's addresses are compared.
+pub fn permitted<L: Ledger>(
+    tables: &Tables,
+    slot: usize,
+    ip: Addr,
+    now: u64,
+    steps: &mut Steps<L>,
+) -> bool
+    ensures permitted { result ≡ has_permission slot ip (rows_at now tables.now) }
+    ensures keys { steps.new ≤ steps.old + 7 }
+{
+    let moment = tables.moment_at(now);
+    let Some(held) = tables.held(slot, moment) else {
+        return false;
+    };
+    match held.permissions.end_of(&ip, steps) {
+        Some(end) => moment < end,
+        None => false,
+    }
+}
