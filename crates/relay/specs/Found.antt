@@ -6,7 +6,7 @@ use Rattle.machine.specs.Contents.{datagram_of, window_of}
 use Rattle.machine.specs.Tracing.{IsOutcome}
 use Rattle.machine.specs.declared.outcome.Outcome.{Outcome}
 use Rattle.helpers.specs.LookUps.{look_up_answer}
-use Rattle.helpers.specs.declared.lookup.Lookup.{Lookup}
+use Rattle.helpers.specs.declared.tables_lookup.Lookup.{Lookup}
 use Rattle.machine.specs.Contexts.{HelperAnswers}
 use Rattle.tables.specs.Rows.{Rows, rows_at}
 use Rattle.events.specs.Events.{Sending, ToPeer, ToClient}

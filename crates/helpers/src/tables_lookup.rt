@@ -6,7 +6,7 @@ ghost use Rattle.tables.specs.Rows.{rows_at};
 ghost use Rattle.helpers.specs.LawfulLaws.{IsLawful-prop};
 ghost use Rattle.helpers.specs.LookUps.{look_up_answer};
 
-use crate::lookups::Helpers;
+use crate::answers::Helpers;
 use crate::record::{address_of, wide_record};
 use attributes::Addr;
 use semantics::{RecordForm, WIDE_RECORD_BYTES, is_valid};

@@ -2,7 +2,7 @@
 use Rattle.tables.specs.Rows.{rows_at}
 use Rattle.tables.specs.WellFormedLaws.{rows_at-well_formed}
 use Rattle.helpers.specs.LawfulLaws.{look_up_is_lawful}
-use Rattle.helpers.proofs.lookup.Lookup.new.Goals as goal
+use Rattle.helpers.proofs.tables_lookup.Lookup.new.Goals as goal
 
 pub invariant_of-result : goal.invariant_of-result
 invariant_of-result c = record {

@@ -5,7 +5,7 @@ use Rattle.tables.specs.Rows.{Rows, rows_at}
 use Rattle.tables.specs.WellFormed.{AreWellFormed}
 use Rattle.tables.specs.WellFormedLaws.{peer_of-number, rows_at-well_formed}
 use Rattle.helpers.specs.LookUps.{peer_answer}
-use Rattle.helpers.proofs.lookup.Lookup.channel_peer.Goals as goal
+use Rattle.helpers.proofs.tables_lookup.Lookup.channel_peer.Goals as goal
 
 no_peer : (slot number : ℕ) (rows : Rows) → AreWellFormed rows → (number < 2 ^ 16 → ⊥) → None ≡ peer_of slot number rows
 no_peer slot number rows are large = elim (peer_of slot number rows) as (λ o. peer_of slot number rows ≡ o → None ≡ o) [
