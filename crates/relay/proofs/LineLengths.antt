@@ -16,7 +16,7 @@ use Rattle.events.specs.Events.{Event, Datagram, Nonce}
 use Rattle.events.specs.Lines.{line_of, datagram_text, source_text, bytes_text, side_text, IsEvent, IsSource}
 use Rattle.events.specs.declared.meta.Source.{Source}
 use Rattle.events.specs.declared.meta.Source.TheVariants.{Client, Peer}
-use Rattle.relay.specs.declared.reading.TheConstants.{MAX_LINE}
+use Rattle.relay.specs.declared.lines.TheConstants.{MAX_LINE}
 
 number_short : (n : ℕ) → n < 2 ^ 64 → length (decimal n) ≤ 20
 number_short n small = length-decimal-le 20 n (omega arith) (omega (arith, small)) small

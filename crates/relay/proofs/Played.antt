@@ -15,7 +15,7 @@ use Rattle.relay.specs.ReadLines.{IsLine}
 use Rattle.relay.specs.Relays.{RelayContents, state_of}
 use Rattle.relay.specs.Replays.{text_of_events, IsText, answer_text, answers_text, after_line, answer_to, system_of, IsSameRelay, HasPlayed, HasPlayedAll, answers_of_events, IsCut, StopsAtLine, StopsBefore, StopsWriting}
 use Rattle.rules.specs.Systems.{SystemState, System, SystemOutcome, system_step, state_after_events}
-use Rattle.relay.specs.declared.reading.TheConstants.{MAX_LINE}
+use Rattle.relay.specs.declared.lines.TheConstants.{MAX_LINE}
 use Rattle.relay.specs.declared.replaying.ReplayError.{ReplayError}
 use Rattle.relay.specs.declared.replaying.ReplayError.TheVariants as error
 use Rattle.relay.proofs.FirstLines.{taken}

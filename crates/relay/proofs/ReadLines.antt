@@ -11,7 +11,7 @@ use Rattle.std.proofs.lemmas.Option.{slice_get-get_or, slice_get_within, same_So
 use Rattle.std.proofs.lemmas.List.Elements.{All-nil, All-append}
 use Rattle.streams.specs.Shown.{HasShown}
 use Rattle.relay.specs.ReadLines.{IsLine}
-use Rattle.relay.specs.declared.reading.TheConstants.{MAX_LINE}
+use Rattle.relay.specs.declared.lines.TheConstants.{MAX_LINE}
 use Rattle.relay.proofs.FirstLines.{line_in, piece_ended, piece_last}
 
 abbrev pub IsOpen : List ℕ → Type 0

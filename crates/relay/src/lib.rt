@@ -3,7 +3,7 @@
 
 mod error;
 mod found;
-mod reading;
+mod lines;
 mod relay;
 mod replaying;
 mod running;

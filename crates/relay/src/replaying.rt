@@ -4,7 +4,7 @@ ghost use Rattle.std.specs.Prelude.{◌≡◌, ◌<◌, ◌^◌, ◌⊎◌, ℕ,
 ghost use Rattle.std.specs.Io.KnownBytes.{Appends};
 ghost use Rattle.relay.specs.declared.replaying.ReplayError.TheVariants as errors;
 
-use crate::reading::next_line;
+use crate::lines::next_line;
 use crate::relay::Relay;
 use events::{Action, Parsed, parse, write_answer};
 use std::alloc::Global;

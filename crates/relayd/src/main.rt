@@ -11,13 +11,13 @@ mod explanations;
 mod files;
 mod options;
 mod replacing;
-mod replaying;
+mod replay_command;
 mod server;
 mod sockets;
 mod udp;
 
 use crate::explanations::explain;
-use crate::replaying::replay;
+use crate::replay_command::replay;
 use crate::server::serve;
 use asm::{AsmError, assemble};
 use clap::ArgMatches;

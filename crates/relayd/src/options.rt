@@ -230,7 +230,7 @@ pub(crate) struct Relayed {
 
 /// A relay that can begin, its relayed IPv4 address, and the bytes of its programs' files.
 #[derive(Drop)]
-pub(crate) struct SetUp {
+pub(crate) struct Prepared {
     pub(crate) relay: Relay,
     pub(crate) ip: [u8; 4],
     pub(crate) programs: ProgramBytes,
@@ -290,7 +290,7 @@ pub(crate) fn set_up<'a, R: Files + AllocGlobal>(
     options: &Options<'a>,
     nonce: &'a str,
     relayed: Relayed,
-) -> Result<SetUp, Fault<'a>> {
+) -> Result<Prepared, Fault<'a>> {
     let slots = slots_of(options)?;
     let ip = ip_of(options, relayed.ip)?;
     let first_port = port_of(options)?;
@@ -314,7 +314,7 @@ pub(crate) fn set_up<'a, R: Files + AllocGlobal>(
         peer: program(options.peer, &programs.peer, PEER),
     };
     match relay_of(rt.alloc(), setup) {
-        Ok(relay) => Ok(SetUp {
+        Ok(relay) => Ok(Prepared {
             relay,
             ip,
             programs,

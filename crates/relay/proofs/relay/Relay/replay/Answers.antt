@@ -3,7 +3,7 @@ use Rattle.std.specs.Prelude.{IfSome}
 use Rattle.std.specs.Io.BufRead.{DropsThrough}
 use Rattle.events.specs.Reading.{event_in}
 use Rattle.relay.specs.ReadLines.{IsLine}
-use Rattle.relay.specs.declared.reading.TheConstants.{MAX_LINE}
+use Rattle.relay.specs.declared.lines.TheConstants.{MAX_LINE}
 use Rattle.relay.proofs.Played.{starts, ends, goes_on, stops_at, stops_in, stops_before, none_value, for_err}
 use Rattle.relay.proofs.relay.Relay.replay.Goals as goal
 

@@ -3,7 +3,7 @@ use Rattle.std.specs.Prelude.{Some, IfSome, slice_get}
 use Rattle.std.proofs.lemmas.List.{nil_from_length}
 use Rattle.relay.specs.ReadLines.{IsLine}
 use Rattle.relay.proofs.ReadLines.{ends, goes_on, drops, ends_input, at_end, too_long}
-use Rattle.relay.proofs.reading.next_line.Goals as goal
+use Rattle.relay.proofs.lines.next_line.Goals as goal
 
 pub returns-then-eq-clause-line : goal.returns-then-eq-clause-line
 returns-then-eq-clause-line g c = λ _.

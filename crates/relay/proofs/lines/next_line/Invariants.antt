@@ -1,8 +1,8 @@
 -- What was read of the line has no line feed.
 use Rattle.std.proofs.Common.{◌≡◌, ◌≤◌, ◌-◌, length, false}
-use Rattle.relay.specs.declared.reading.TheConstants.{MAX_LINE}
+use Rattle.relay.specs.declared.lines.TheConstants.{MAX_LINE}
 use Rattle.relay.proofs.ReadLines.{IsUnread}
-use Rattle.relay.proofs.reading.next_line.Given as goal
+use Rattle.relay.proofs.lines.next_line.Given as goal
 
 abbrev pub invariant-pieces : goal.invariant-pieces
 invariant-pieces g l =

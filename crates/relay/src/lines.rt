@@ -5,7 +5,7 @@ ghost use Rattle.std.specs.Io.BufRead.{DropsThrough};
 ghost use Rattle.std.specs.Io.KnownBytes.{IsAtEnd};
 ghost use Rattle.relay.specs.ReadLines.{IsLine};
 ghost use Rattle.relay.specs.Replays.{is_read_failure};
-ghost use Rattle.relay.specs.declared.reading.TheConstants.{MAX_LINE};
+ghost use Rattle.relay.specs.declared.lines.TheConstants.{MAX_LINE};
 ghost use Rattle.relay.specs.declared.replaying.ReplayError.TheVariants as errors;
 
 use crate::replaying::ReplayError;
