@@ -5,7 +5,6 @@ mod allocate;
 mod binding;
 mod channel_bind;
 mod config;
-mod config_clone;
 mod create_permission;
 mod lifetime;
 mod numbers;
