@@ -82,7 +82,8 @@ fn source_record(source: &Addr) -> Record
 pub(crate) fn lay_out_context(area: &mut [u8], context: &Context, size: usize)
     requires long { length area.old ≡ AREA_BYTES }
     requires short { size ≤ MAX_DATAGRAM }
-    ensures { area.new ≡ overlay STACK_BYTES (pointers size ++ drop POINTERS_BYTES (context_bytes (context_of context.now) size)) area.old }
+    ensures { area.new ≡ overlay STACK_BYTES (pointers size
+        ++ drop POINTERS_BYTES (context_bytes (context_of context.now) size)) area.old }
 {
     let source = source_record(&context.source);
     lay_out(area, size, &source, &context.tx, side_number(context.side));
