@@ -11,7 +11,7 @@ use Rattle.semantics.specs.Machine.{IsContext, Environment, context_bytes, start
 use Rattle.semantics.specs.Runs.{IsDatagram, IsLawful}
 use Rattle.semantics.specs.declared.limits.TheConstants.{STACK_BYTES, HEADROOM, TAILROOM}
 use Rattle.semantics.specs.declared.plan.Plan.{Plan}
-use Rattle.flat.specs.declared.layout.TheConstants.{HEADROOM_INDEX}
+use Rattle.flat.specs.declared.layout.TheConstants.{HEADROOM_INDEX, AREA_BYTES}
 use Rattle.flat.specs.Layout.{IsFlat, pointers}
 use Rattle.flat.specs.FlatSteps.{FlatEnvironment}
 use Rattle.flat.specs.Following.{flat_environment_of}
@@ -36,7 +36,7 @@ module _ (answers : HelperAnswers) (lawful : IsLawful answers) (program : List I
   size_is : length d ≡ f.length
   size_is = datagram_length f.area f.length holds.long holds.short
 
-  flat_long : length flat ≡ 66166
+  flat_long : length flat ≡ AREA_BYTES
   flat_long = omega (arith, holds.long, ap length area_is, length-drop HEADROOM_INDEX flat)
 
   -- headroom, datagram and tailroom in the area

@@ -2,6 +2,7 @@ use Rattle.std.proofs.Common.{List, ℕ, ◌++◌, drop, replicate, ap, ◌∙�
 use Rattle.semantics.specs.Access.{part}
 use Rattle.semantics.specs.declared.limits.TheConstants.{STACK_BYTES}
 use Rattle.flat.specs.FlatLaws.{laid_out_after, laid_out_record}
+use Rattle.flat.specs.declared.layout.TheConstants.{HEADROOM_INDEX}
 use Rattle.machine.specs.Contexts.{context_of}
 use Rattle.machine.proofs.context.traced_record.Goals as goal
 
@@ -13,4 +14,4 @@ returns-clause-record c =
     ∙ laid_out_record (context_of c.args.context.now) c.law_context.ensures c.args.size c.args.area.now c.requires.long
 
 pub returns-clause-after : goal.returns-clause-after
-returns-clause-after c = ap (drop 592) c.lay_out_context.ensures ∙ laid_out_after (context_of c.args.context.now) c.law_context.ensures c.args.size c.args.area.now
+returns-clause-after c = ap (drop HEADROOM_INDEX) c.lay_out_context.ensures ∙ laid_out_after (context_of c.args.context.now) c.law_context.ensures c.args.size c.args.area.now

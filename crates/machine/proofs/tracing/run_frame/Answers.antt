@@ -6,6 +6,7 @@ use Rattle.semantics.specs.declared.stack.StackMemory.{StackMemory}
 use Rattle.semantics.specs.Views.{memory_with}
 use Rattle.semantics.specs.declared.plan.Plan.{Plan}
 use Rattle.flat.specs.declared.layout.TheConstants.{AREA_BYTES, HEADROOM_INDEX}
+use Rattle.semantics.specs.declared.limits.TheConstants.{HEADROOM, MAX_DATAGRAM, TAILROOM}
 use Rattle.machine.specs.Contents.{Contents, datagram_of, frame_area_size}
 use Rattle.machine.specs.FrameFields.{HoldsDatagram}
 use Rattle.machine.specs.Execution.{IsWholeRun, RunsOver}
@@ -13,7 +14,7 @@ use Rattle.machine.specs.Tracing.{environment_of}
 use Rattle.machine.proofs.Frames.{written, datagram_length, frame_run, is_unstarted}
 use Rattle.machine.proofs.tracing.run_frame.Goals as goal
 
-in_area : (window : Option (ℕ × ℕ)) (n : ℕ) → n ≤ 65507 → IfSome window (IsWindow n) → IfSome window (λ w. w.0 + w.1 ≤ frame_area_size)
+in_area : (window : Option (ℕ × ℕ)) (n : ℕ) → n ≤ MAX_DATAGRAM → IfSome window (IsWindow n) → IfSome window (λ w. w.0 + w.1 ≤ frame_area_size)
 in_area None n short h = tt
 in_area (Some w) n short h = omega (arith, h.0, short)
 
@@ -56,13 +57,13 @@ returns-clause-run g c =
     let from_headroom : drop HEADROOM_INDEX c.deref_mut-2.result.now ≡ area =
     ap (drop HEADROOM_INDEX) (c.deref_mut-2.ensures.value ∙ written laid flat len (c.traced_record-record.auto.area ∙ c.deref_mut.ensures.len))
     ∙ c.traced_record-record.ensures.after ∙ ap (drop HEADROOM_INDEX) c.deref_mut.ensures.value in
-    let Walks : StackMemory → List ℕ → ℕ → Type 0 = λ s a n. IsWholeRun g.S.Sink.Logs (environment_of frame answers) c.args.code.now (memory_with s (take (67 + n) a) n) (memory_with c.execute_in-end.new.stack (take (67 + n) left) n) plan (g.S.Sink.log c.args.sink.now) (g.S.Sink.log c.execute_in-end.new.sink) c.execute_in-end.result in
+    let Walks : StackMemory → List ℕ → ℕ → Type 0 = λ s a n. IsWholeRun g.S.Sink.Logs (environment_of frame answers) c.args.code.now (memory_with s (take (HEADROOM + TAILROOM + n) a) n) (memory_with c.execute_in-end.new.stack (take (HEADROOM + TAILROOM + n) left) n) plan (g.S.Sink.log c.args.sink.now) (g.S.Sink.log c.execute_in-end.new.sink) c.execute_in-end.result in
     let empty : c.clear_stack.new.stack ≡ empty_stack = c.clear_stack.ensures in
     let walked : Walks c.clear_stack.new.stack area frame.length =
     subst (λ (n : ℕ). Walks c.clear_stack.new.stack area n) same
     (subst (λ (a : List ℕ). Walks c.clear_stack.new.stack a size) from_headroom c.execute_in-end.ensures.run) in
-    let after : drop (67 + frame.length) left ≡ drop (67 + frame.length) area =
-    ap (λ (n : ℕ). drop (67 + n) left) (sym same) ∙ c.execute_in-end.ensures.beyond ∙ ap (drop (67 + size)) from_headroom ∙ ap (λ (n : ℕ). drop (67 + n) area) same in
+    let after : drop (HEADROOM + TAILROOM + frame.length) left ≡ drop (HEADROOM + TAILROOM + frame.length) area =
+    ap (λ (n : ℕ). drop (HEADROOM + TAILROOM + n) left) (sym same) ∙ c.execute_in-end.ensures.beyond ∙ ap (drop (HEADROOM + TAILROOM + size)) from_headroom ∙ ap (λ (n : ℕ). drop (HEADROOM + TAILROOM + n) area) same in
     let whole = written left_flat laid_flat len (c.execute_in-end.auto.flat ∙ c.deref_mut-2.ensures.len) in
     let Runs : Contents → List ℕ → Type 0 = λ f a. RunsOver g.S.Sink.Logs answers c.args.code.now f (record frame { area = drop HEADROOM_INDEX a; is_started = false; window = plan.window }) plan (g.S.Sink.log c.args.sink.now) (g.S.Sink.log c.execute_in-end.new.sink) c.execute_in-end.result in
     let runs : Runs frame (take len (left_flat ++ drop (length left_flat) laid_flat)) =

@@ -8,6 +8,7 @@ use Rattle.flat.specs.FlatSteps.{flat_environment}
 use Rattle.flat.specs.Following.{flat_environment_of}
 use Rattle.flat.specs.FlatRuns.{IsRun}
 use Rattle.flat.specs.Layout.{pointers}
+use Rattle.flat.specs.declared.layout.TheConstants.{HEADROOM_INDEX}
 use Rattle.machine.specs.Contents.{Contents, datagram_of}
 use Rattle.machine.specs.FrameFields.{HoldsDatagram, IsFrame}
 use Rattle.machine.specs.Contexts.{HelperAnswers, context_of, side_number}
@@ -20,7 +21,7 @@ use Rattle.machine.proofs.verified_run.run_area.Goals as goal
 pub run_flat-exit-requires-clause-start : goal.run_flat-exit-requires-clause-start
 run_flat-exit-requires-clause-start g c =
     let flat : List ℕ = c.frame.inside.flat.items in
-    let f : Contents = record { area = drop 592 flat; length = c.frame.inside.length; is_started = c.frame.inside.is_started; context = c.frame.inside.context; window = c.frame.inside.window } in
+    let f : Contents = record { area = drop HEADROOM_INDEX flat; length = c.frame.inside.length; is_started = c.frame.inside.is_started; context = c.frame.inside.context; window = c.frame.inside.window } in
     let d : List ℕ = datagram_of f in
     let answers : HelperAnswers = g.H.Helpers.answers c.args.helpers.now in
     let started : c.frame.inside.is_started ≡ true = ap (λ (h : Contents). h.is_started) c.frame.view_is ∙ c.requires in
@@ -40,7 +41,7 @@ run_flat-exit-requires-clause-start g c =
 pub invariant_of-frame : goal.invariant_of-frame
 invariant_of-frame g c =
     let flat : List ℕ = c.frame.inside.flat.items in
-    let f : Contents = record { area = drop 592 flat; length = c.frame.inside.length; is_started = c.frame.inside.is_started; context = c.frame.inside.context; window = c.frame.inside.window } in
+    let f : Contents = record { area = drop HEADROOM_INDEX flat; length = c.frame.inside.length; is_started = c.frame.inside.is_started; context = c.frame.inside.context; window = c.frame.inside.window } in
     let d : List ℕ = datagram_of f in
     let answers : HelperAnswers = g.H.Helpers.answers c.args.helpers.now in
     let w : Environment = environment_of f answers in
@@ -66,7 +67,7 @@ invariant_of-frame g c =
 pub returns : goal.returns
 returns g c =
     let flat : List ℕ = c.frame.inside.flat.items in
-    let f : Contents = record { area = drop 592 flat; length = c.frame.inside.length; is_started = c.frame.inside.is_started; context = c.frame.inside.context; window = c.frame.inside.window } in
+    let f : Contents = record { area = drop HEADROOM_INDEX flat; length = c.frame.inside.length; is_started = c.frame.inside.is_started; context = c.frame.inside.context; window = c.frame.inside.window } in
     let d : List ℕ = datagram_of f in
     let answers : HelperAnswers = g.H.Helpers.answers c.args.helpers.now in
     let w : Environment = environment_of f answers in
@@ -83,7 +84,7 @@ returns g c =
     let run : IsRun w c.args.program.now d c.deref_mut-2.result.now c.run_flat-exit.new.area c.run_flat-exit.result =
     subst (λ (code : List Insn). IsRun w code d c.deref_mut-2.result.now c.run_flat-exit.new.area c.run_flat-exit.result) c.translation.ensures.code (c.run_flat-exit.ensures w d start) in
     let left = written c.run_flat-exit.new.area (take c.frame.inside.flat.len (c.lay_out_context.new.area ++ drop (length c.lay_out_context.new.area) flat)) c.frame.inside.flat.len (c.run_flat-exit.auto.area ∙ c.deref_mut-2.ensures.len) in
-    let Runs : Contents → List ℕ → Type 0 = λ b a. RunsFlat answers c.args.program.now b (record { area = drop 592 a; length = f.length; is_started = false; context = f.context; window = c.run_flat-exit.result.plan.window }) c.run_flat-exit.result in
+    let Runs : Contents → List ℕ → Type 0 = λ b a. RunsFlat answers c.args.program.now b (record { area = drop HEADROOM_INDEX a; length = f.length; is_started = false; context = f.context; window = c.run_flat-exit.result.plan.window }) c.run_flat-exit.result in
     subst (λ (b : Contents). Runs b (take c.frame.inside.flat.len (c.run_flat-exit.new.area ++ drop (length c.run_flat-exit.new.area) (take c.frame.inside.flat.len (c.lay_out_context.new.area ++ drop (length c.lay_out_context.new.area) flat))))) c.frame.view_is
     (subst (λ (a : List ℕ). Runs f a) (sym left)
     (runs_flat answers (g.H.Helpers.lawful c.args.helpers.now) c.args.program.now f flat refl c.frame.inside.stack holds c.frame.invariant.is_context is_datagram c.deref_mut-2.result.now c.run_flat-exit.new.area (between ∙ laid) c.run_flat-exit.result run))
