@@ -11,7 +11,7 @@ use Rattle.semantics.specs.Machine.{IsContext, Environment, context_bytes, start
 use Rattle.semantics.specs.Runs.{IsDatagram, IsLawful}
 use Rattle.semantics.specs.declared.limits.TheConstants.{STACK_BYTES, HEADROOM, TAILROOM}
 use Rattle.semantics.specs.declared.plan.Plan.{Plan}
-use Rattle.flat.specs.declared.layout.TheConstants.{HEADROOM_INDEX, AREA_BYTES}
+use Rattle.flat.specs.declared.layout.TheConstants.{HEADROOM_INDEX, AREA_BYTES, POINTERS_BYTES}
 use Rattle.flat.specs.Layout.{IsFlat, pointers}
 use Rattle.flat.specs.FlatSteps.{FlatEnvironment}
 use Rattle.flat.specs.Following.{flat_environment_of}
@@ -47,7 +47,7 @@ module _ (answers : HelperAnswers) (lawful : IsLawful answers) (program : List I
 
   -- an area with the context record in its place, as the code writes it
   abbrev laid : List ℕ
-  laid = overlay STACK_BYTES (pointers (length d) ++ drop 16 (context_bytes (context_of f.context) (length d))) flat
+  laid = overlay STACK_BYTES (pointers (length d) ++ drop POINTERS_BYTES (context_bytes (context_of f.context) (length d))) flat
 
   pub is_start : (g : FlatEnvironment) (written : List ℕ) → flat_environment_of w (length d) ≡ g → written ≡ laid → IsStart g w d written
   is_start g written given e = record {

@@ -8,7 +8,7 @@ use Rattle.flat.specs.FlatSteps.{flat_environment}
 use Rattle.flat.specs.Following.{flat_environment_of}
 use Rattle.flat.specs.FlatRuns.{IsRun}
 use Rattle.flat.specs.Layout.{pointers}
-use Rattle.flat.specs.declared.layout.TheConstants.{HEADROOM_INDEX}
+use Rattle.flat.specs.declared.layout.TheConstants.{HEADROOM_INDEX, POINTERS_BYTES}
 use Rattle.machine.specs.Contents.{Contents, datagram_of}
 use Rattle.machine.specs.FrameFields.{HoldsDatagram, IsFrame}
 use Rattle.machine.specs.Contexts.{HelperAnswers, context_of, side_number}
@@ -29,8 +29,8 @@ run_flat-exit-requires-clause-start g c =
     let size : length c.datagram-size.result.now ≡ length d = ap length (c.datagram-size.ensures.bytes ∙ sym (ap datagram_of c.frame.view_is)) in
     let is_datagram : IsDatagram d = subst (λ (h : Contents). IsDatagram (datagram_of h)) (sym c.frame.view_is) c.datagram-size.ensures.short in
     let side : c.from.result ≡ side_number f.context.side = c.from.ensures ∙ c.side_number.ensures in
-    let laid : c.lay_out_context.new.area ≡ overlay STACK_BYTES (pointers (length d) ++ drop 16 (context_bytes (context_of f.context) (length d))) flat =
-    c.lay_out_context.ensures ∙ (λ i. overlay STACK_BYTES (pointers (size i) ++ drop 16 (context_bytes (context_of f.context) (size i))) (c.deref_mut.ensures.value i)) in
+    let laid : c.lay_out_context.new.area ≡ overlay STACK_BYTES (pointers (length d) ++ drop POINTERS_BYTES (context_bytes (context_of f.context) (length d))) flat =
+    c.lay_out_context.ensures ∙ (λ i. overlay STACK_BYTES (pointers (size i) ++ drop POINTERS_BYTES (context_bytes (context_of f.context) (size i))) (c.deref_mut.ensures.value i)) in
     let between : c.deref_mut-2.result.now ≡ c.lay_out_context.new.area = c.deref_mut-2.ensures.value ∙ written c.lay_out_context.new.area flat c.frame.inside.flat.len (c.lay_out_context.auto.area ∙ c.deref_mut.ensures.len) in
     let given : flat_environment_of (environment_of f answers) (length d) ≡ flat_environment answers (length c.datagram-size.result.now) c.from.result = λ i. flat_environment answers (sym size i) (sym side i) in (
       environment_of f answers,
@@ -50,8 +50,8 @@ invariant_of-frame g c =
     let size : length c.datagram-size.result.now ≡ length d = ap length (c.datagram-size.ensures.bytes ∙ sym (ap datagram_of c.frame.view_is)) in
     let is_datagram : IsDatagram d = subst (λ (h : Contents). IsDatagram (datagram_of h)) (sym c.frame.view_is) c.datagram-size.ensures.short in
     let side : c.from.result ≡ side_number f.context.side = c.from.ensures ∙ c.side_number.ensures in
-    let laid : c.lay_out_context.new.area ≡ overlay STACK_BYTES (pointers (length d) ++ drop 16 (context_bytes (context_of f.context) (length d))) flat =
-    c.lay_out_context.ensures ∙ (λ i. overlay STACK_BYTES (pointers (size i) ++ drop 16 (context_bytes (context_of f.context) (size i))) (c.deref_mut.ensures.value i)) in
+    let laid : c.lay_out_context.new.area ≡ overlay STACK_BYTES (pointers (length d) ++ drop POINTERS_BYTES (context_bytes (context_of f.context) (length d))) flat =
+    c.lay_out_context.ensures ∙ (λ i. overlay STACK_BYTES (pointers (size i) ++ drop POINTERS_BYTES (context_bytes (context_of f.context) (size i))) (c.deref_mut.ensures.value i)) in
     let between : c.deref_mut-2.result.now ≡ c.lay_out_context.new.area = c.deref_mut-2.ensures.value ∙ written c.lay_out_context.new.area flat c.frame.inside.flat.len (c.lay_out_context.auto.area ∙ c.deref_mut.ensures.len) in
     let given : flat_environment_of w (length d) ≡ flat_environment answers (length c.datagram-size.result.now) c.from.result = λ i. flat_environment answers (sym size i) (sym side i) in
     let start = is_start answers (g.H.Helpers.lawful c.args.helpers.now) c.args.program.now f flat refl c.frame.inside.stack holds c.frame.invariant.is_context is_datagram (flat_environment answers (length c.datagram-size.result.now) c.from.result) c.deref_mut-2.result.now given (between ∙ laid) in
@@ -76,8 +76,8 @@ returns g c =
     let size : length c.datagram-size.result.now ≡ length d = ap length (c.datagram-size.ensures.bytes ∙ sym (ap datagram_of c.frame.view_is)) in
     let is_datagram : IsDatagram d = subst (λ (h : Contents). IsDatagram (datagram_of h)) (sym c.frame.view_is) c.datagram-size.ensures.short in
     let side : c.from.result ≡ side_number f.context.side = c.from.ensures ∙ c.side_number.ensures in
-    let laid : c.lay_out_context.new.area ≡ overlay STACK_BYTES (pointers (length d) ++ drop 16 (context_bytes (context_of f.context) (length d))) flat =
-    c.lay_out_context.ensures ∙ (λ i. overlay STACK_BYTES (pointers (size i) ++ drop 16 (context_bytes (context_of f.context) (size i))) (c.deref_mut.ensures.value i)) in
+    let laid : c.lay_out_context.new.area ≡ overlay STACK_BYTES (pointers (length d) ++ drop POINTERS_BYTES (context_bytes (context_of f.context) (length d))) flat =
+    c.lay_out_context.ensures ∙ (λ i. overlay STACK_BYTES (pointers (size i) ++ drop POINTERS_BYTES (context_bytes (context_of f.context) (size i))) (c.deref_mut.ensures.value i)) in
     let between : c.deref_mut-2.result.now ≡ c.lay_out_context.new.area = c.deref_mut-2.ensures.value ∙ written c.lay_out_context.new.area flat c.frame.inside.flat.len (c.lay_out_context.auto.area ∙ c.deref_mut.ensures.len) in
     let given : flat_environment_of w (length d) ≡ flat_environment answers (length c.datagram-size.result.now) c.from.result = λ i. flat_environment answers (sym size i) (sym side i) in
     let start = is_start answers (g.H.Helpers.lawful c.args.helpers.now) c.args.program.now f flat refl c.frame.inside.stack holds c.frame.invariant.is_context is_datagram (flat_environment answers (length c.datagram-size.result.now) c.from.result) c.deref_mut-2.result.now given (between ∙ laid) in
