@@ -14,13 +14,18 @@ use Rattle.semantics.specs.declared.effect.Effect.TheVariants as effects
 use Rattle.semantics.specs.declared.fetching.Visit.{Visit}
 use Rattle.semantics.specs.declared.fetching.Position.{Position}
 use Rattle.flat.specs.declared.flat_run.Exit as flat_run
-use Rattle.machine.specs.Contexts.{HelperAnswers, context_of}
+use Rattle.machine.specs.Contexts.{HelperAnswers, environment_around, context_of}
 use Rattle.machine.specs.Contents.{Contents, datagram_of}
 use Rattle.machine.specs.Tracing.{run_of, safe_run_of, left_by, Reports}
+use Rattle.machine.specs.declared.environment.Environment as traced
 use Rattle.machine.specs.declared.execution.StepResult.{StepResult}
 use Rattle.machine.specs.declared.execution.StepResult.TheVariants as code
 use Rattle.machine.specs.declared.execution.Exit.{Exit}
 use Rattle.machine.specs.declared.outcome.Stuck.{Stuck}
+
+-- the environment of the definitions' run, of what a trace is given
+abbrev pub traced_environment : {H : Type 0} → (H → HelperAnswers) → traced.Environment H → Environment
+traced_environment answers given = environment_around (context_of given.context.now) (answers given.helpers.now)
 
 -- a state by its parts
 abbrev pub state_at : ℕ → List Value → Memory → Plan → State

@@ -15,7 +15,7 @@ ghost use Rattle.semantics.specs.Calls.{record_bytes};
 ghost use Rattle.semantics.specs.Views.{memory_with};
 ghost use Rattle.machine.specs.Contexts.{context_of, environment_around};
 ghost use Rattle.machine.specs.Execution.{state_at, MakesStep, GoesAhead, GoesStraight, IfGoesTo, IfEnds};
-ghost use Rattle.machine.specs.Execution.{HasWindowInside, IsWholeRun};
+ghost use Rattle.machine.specs.Execution.{HasWindowInside, IsWholeRun, traced_environment};
 
 use crate::context::law_context;
 use crate::environment::Environment;
@@ -242,8 +242,7 @@ fn execute_step<H: Helpers>(
     requires insn { fetch given.now.code.now state.old.at.slot ≡ Begins insn.now }
     requires surrounded { count bytes.old ≡ HEADROOM + given.now.length + TAILROOM }
     requires inside { HasWindowInside given.now.length state.old.plan }
-    ensures result { MakesStep (environment_around (context_of given.now.context.now) (H.answers given.now.helpers.now))
-        given.now.code.now insn.now
+    ensures result { MakesStep (traced_environment H.answers given.now) given.now.code.now insn.now
         (state_at state.old.at.slot state.old.registers (memory_with stack.old bytes.old given.now.length) state.old.plan)
         (state_at state.old.at.slot state.new.registers (memory_with stack.new bytes.new given.now.length) state.new.plan)
         result }
@@ -283,8 +282,7 @@ fn execute_from<H: Helpers, S: Sink>(
     requires registers { state.old.registers ≡ first_registers }
     requires planless { state.old.plan ≡ no_plan }
     requires start { state.old.at ≡ record { slot = 0; index = 0 } }
-    ensures run { IsWholeRun S.Logs
-        (environment_around (context_of given.now.context.now) (H.answers given.now.helpers.now)) given.now.code.now
+    ensures run { IsWholeRun S.Logs (traced_environment H.answers given.now) given.now.code.now
         (memory_with stack.old bytes.old given.now.length) (memory_with stack.new bytes.new given.now.length)
         state.new.plan (S.log sink.old) (S.log sink.new) result }
     ensures inside { HasWindowInside given.now.length state.new.plan }
@@ -327,8 +325,7 @@ pub fn execute<H: Helpers, S: Sink>(
 ) -> Result<Exit, Stuck>
     requires surrounded { count bytes.old ≡ HEADROOM + given.now.length + TAILROOM }
     requires planless { plan.old ≡ no_plan }
-    ensures run { IsWholeRun S.Logs
-        (environment_around (context_of given.now.context.now) (H.answers given.now.helpers.now)) given.now.code.now
+    ensures run { IsWholeRun S.Logs (traced_environment H.answers given.now) given.now.code.now
         (memory_with stack.old bytes.old given.now.length) (memory_with stack.new bytes.new given.now.length) plan.new
         (S.log sink.old) (S.log sink.new) result }
     ensures inside { HasWindowInside given.now.length plan.new }

@@ -12,8 +12,8 @@ ghost use Rattle.semantics.specs.declared.limits.TheConstants.{HEADROOM, TAILROO
 ghost use Rattle.flat.specs.declared.layout.TheConstants.{HEADROOM_INDEX};
 ghost use Rattle.machine.specs.Contents.{datagram_of};
 ghost use Rattle.helpers.specs.Records.{address_of};
-ghost use Rattle.machine.specs.Contexts.{context_of, environment_around};
-ghost use Rattle.machine.specs.Execution.{HasWindowInside, IsWholeRun, RunsOver};
+ghost use Rattle.machine.specs.Contexts.{context_of};
+ghost use Rattle.machine.specs.Execution.{HasWindowInside, IsWholeRun, RunsOver, traced_environment};
 ghost use Rattle.machine.specs.Tracing.{run_of, IsOutcome, left_by, IsFrameRun, Reports, Shows};
 
 use crate::context::traced_record;
@@ -48,8 +48,7 @@ fn execute_in<H: Helpers, S: Sink>(
     requires room { HEADROOM_INDEX + (HEADROOM + TAILROOM + given.now.length) ≤ count flat.old }
     requires planless { plan.old ≡ no_plan }
     ensures run { let size = HEADROOM + TAILROOM + given.now.length in
-        IsWholeRun S.Logs (environment_around (context_of given.now.context.now) (H.answers given.now.helpers.now))
-        given.now.code.now
+        IsWholeRun S.Logs (traced_environment H.answers given.now) given.now.code.now
         (memory_with stack.old (take size (drop HEADROOM_INDEX flat.old)) given.now.length)
         (memory_with stack.new (take size (drop HEADROOM_INDEX flat.new)) given.now.length)
         plan.new (S.log sink.old) (S.log sink.new) result }

@@ -4,7 +4,7 @@ use Rattle.semantics.specs.Access.{overlay}
 use Rattle.semantics.specs.Machine.{Environment, context_bytes}
 use Rattle.semantics.specs.Runs.{IsDatagram, IsSafe}
 use Rattle.semantics.specs.declared.limits.TheConstants.{STACK_BYTES}
-use Rattle.flat.specs.FlatSteps.{flat_environment}
+use Rattle.flat.specs.FlatSteps.{FlatEnvironment}
 use Rattle.flat.specs.Following.{flat_environment_of}
 use Rattle.flat.specs.FlatRuns.{IsRun}
 use Rattle.flat.specs.Layout.{pointers}
@@ -32,7 +32,8 @@ run_flat-exit-requires-clause-start g c =
     let laid : c.lay_out_context.new.area ≡ overlay STACK_BYTES (pointers (length d) ++ drop POINTERS_BYTES (context_bytes (context_of f.context) (length d))) flat =
     c.lay_out_context.ensures ∙ (λ i. overlay STACK_BYTES (pointers (size i) ++ drop POINTERS_BYTES (context_bytes (context_of f.context) (size i))) (c.deref_mut.ensures.value i)) in
     let between : c.deref_mut-2.result.now ≡ c.lay_out_context.new.area = c.deref_mut-2.ensures.value ∙ written c.lay_out_context.new.area flat c.frame.inside.flat.len (c.lay_out_context.auto.area ∙ c.deref_mut.ensures.len) in
-    let given : flat_environment_of (environment_of f answers) (length d) ≡ flat_environment answers (length c.datagram-size.result.now) c.from.result = λ i. flat_environment answers (sym size i) (sym side i) in (
+    let flat_environment : FlatEnvironment = record { answer = answers; size = length c.datagram-size.result.now; side = c.from.result } in
+    let given : flat_environment_of (environment_of f answers) (length d) ≡ flat_environment = λ i. record { answer = answers; size = sym size i; side = sym side i } in (
       environment_of f answers,
       d,
       is_start answers (g.H.Helpers.lawful c.args.helpers.now) c.args.program.now f flat refl c.frame.inside.stack holds c.frame.invariant.is_context is_datagram _ c.deref_mut-2.result.now given (between ∙ laid),
@@ -53,8 +54,9 @@ invariant_of-frame g c =
     let laid : c.lay_out_context.new.area ≡ overlay STACK_BYTES (pointers (length d) ++ drop POINTERS_BYTES (context_bytes (context_of f.context) (length d))) flat =
     c.lay_out_context.ensures ∙ (λ i. overlay STACK_BYTES (pointers (size i) ++ drop POINTERS_BYTES (context_bytes (context_of f.context) (size i))) (c.deref_mut.ensures.value i)) in
     let between : c.deref_mut-2.result.now ≡ c.lay_out_context.new.area = c.deref_mut-2.ensures.value ∙ written c.lay_out_context.new.area flat c.frame.inside.flat.len (c.lay_out_context.auto.area ∙ c.deref_mut.ensures.len) in
-    let given : flat_environment_of w (length d) ≡ flat_environment answers (length c.datagram-size.result.now) c.from.result = λ i. flat_environment answers (sym size i) (sym side i) in
-    let start = is_start answers (g.H.Helpers.lawful c.args.helpers.now) c.args.program.now f flat refl c.frame.inside.stack holds c.frame.invariant.is_context is_datagram (flat_environment answers (length c.datagram-size.result.now) c.from.result) c.deref_mut-2.result.now given (between ∙ laid) in
+    let flat_environment : FlatEnvironment = record { answer = answers; size = length c.datagram-size.result.now; side = c.from.result } in
+    let given : flat_environment_of w (length d) ≡ flat_environment = λ i. record { answer = answers; size = sym size i; side = sym side i } in
+    let start = is_start answers (g.H.Helpers.lawful c.args.helpers.now) c.args.program.now f flat refl c.frame.inside.stack holds c.frame.invariant.is_context is_datagram flat_environment c.deref_mut-2.result.now given (between ∙ laid) in
     let run : IsRun w c.args.program.now d c.deref_mut-2.result.now c.run_flat-exit.new.area c.run_flat-exit.result =
     subst (λ (code : List Insn). IsRun w code d c.deref_mut-2.result.now c.run_flat-exit.new.area c.run_flat-exit.result) c.translation.ensures.code (c.run_flat-exit.ensures w d start) in
     let left = written c.run_flat-exit.new.area (take c.frame.inside.flat.len (c.lay_out_context.new.area ++ drop (length c.lay_out_context.new.area) flat)) c.frame.inside.flat.len (c.run_flat-exit.auto.area ∙ c.deref_mut-2.ensures.len) in
@@ -79,8 +81,9 @@ returns g c =
     let laid : c.lay_out_context.new.area ≡ overlay STACK_BYTES (pointers (length d) ++ drop POINTERS_BYTES (context_bytes (context_of f.context) (length d))) flat =
     c.lay_out_context.ensures ∙ (λ i. overlay STACK_BYTES (pointers (size i) ++ drop POINTERS_BYTES (context_bytes (context_of f.context) (size i))) (c.deref_mut.ensures.value i)) in
     let between : c.deref_mut-2.result.now ≡ c.lay_out_context.new.area = c.deref_mut-2.ensures.value ∙ written c.lay_out_context.new.area flat c.frame.inside.flat.len (c.lay_out_context.auto.area ∙ c.deref_mut.ensures.len) in
-    let given : flat_environment_of w (length d) ≡ flat_environment answers (length c.datagram-size.result.now) c.from.result = λ i. flat_environment answers (sym size i) (sym side i) in
-    let start = is_start answers (g.H.Helpers.lawful c.args.helpers.now) c.args.program.now f flat refl c.frame.inside.stack holds c.frame.invariant.is_context is_datagram (flat_environment answers (length c.datagram-size.result.now) c.from.result) c.deref_mut-2.result.now given (between ∙ laid) in
+    let flat_environment : FlatEnvironment = record { answer = answers; size = length c.datagram-size.result.now; side = c.from.result } in
+    let given : flat_environment_of w (length d) ≡ flat_environment = λ i. record { answer = answers; size = sym size i; side = sym side i } in
+    let start = is_start answers (g.H.Helpers.lawful c.args.helpers.now) c.args.program.now f flat refl c.frame.inside.stack holds c.frame.invariant.is_context is_datagram flat_environment c.deref_mut-2.result.now given (between ∙ laid) in
     let run : IsRun w c.args.program.now d c.deref_mut-2.result.now c.run_flat-exit.new.area c.run_flat-exit.result =
     subst (λ (code : List Insn). IsRun w code d c.deref_mut-2.result.now c.run_flat-exit.new.area c.run_flat-exit.result) c.translation.ensures.code (c.run_flat-exit.ensures w d start) in
     let left = written c.run_flat-exit.new.area (take c.frame.inside.flat.len (c.lay_out_context.new.area ++ drop (length c.lay_out_context.new.area) flat)) c.frame.inside.flat.len (c.run_flat-exit.auto.area ∙ c.deref_mut-2.ensures.len) in
