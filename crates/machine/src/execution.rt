@@ -5,7 +5,7 @@ ghost use Rattle.std.specs.Prelude.{length as count};
 ghost use Rattle.insn.specs.Encoding.{slot_count, slots_of};
 ghost use Rattle.insn.specs.declared.decoding.TheConstants.{MAX_SLOTS};
 ghost use Rattle.semantics.specs.Effects.{effect, StaysInside};
-ghost use Rattle.semantics.specs.Machine.{Context, first_registers, no_plan};
+ghost use Rattle.semantics.specs.Machine.{first_registers, no_plan};
 ghost use Rattle.semantics.specs.Runs.{Goes, step_by_effect, registers_after_call, answered_at, plan_answer};
 ghost use Rattle.semantics.specs.Runs.{with_window, with_destination};
 ghost use Rattle.semantics.specs.Slots.{fetch, IsAt};
@@ -13,7 +13,7 @@ ghost use Rattle.semantics.specs.declared.fetching.Fetched.TheVariants.{Begins};
 ghost use Rattle.semantics.specs.declared.limits.TheConstants.{STACK_BYTES, HEADROOM, MAX_DATAGRAM, TAILROOM};
 ghost use Rattle.semantics.specs.Calls.{record_bytes};
 ghost use Rattle.semantics.specs.Views.{memory_with};
-ghost use Rattle.machine.specs.Contexts.{context_of, environment_around};
+ghost use Rattle.machine.specs.Contexts.{context_of};
 ghost use Rattle.machine.specs.Execution.{state_at, MakesStep, GoesAhead, GoesStraight, IfGoesTo, IfEnds};
 ghost use Rattle.machine.specs.Execution.{HasWindowInside, IsWholeRun, traced_environment};
 
@@ -201,10 +201,10 @@ fn apply<H: Helpers>(
     requires straight { GoesStraight effect }
     requires inside { StaysInside (memory_with stack.old bytes.old given.now.length) effect }
     requires planned { HasWindowInside given.now.length state.old.plan }
-    ensures applied { (c : Context) (program : List Insn) (slot : ℕ) (i : Insn)
+    ensures applied { (program : List Insn) (slot : ℕ) (i : Insn)
         → Goes (state_at (slot + slots_of i) state.new.registers (memory_with stack.new bytes.new given.now.length)
         state.new.plan)
-        ≡ step_by_effect (environment_around c (H.answers given.now.helpers.now)) program
+        ≡ step_by_effect (traced_environment H.answers given.now) program
         (state_at slot state.old.registers (memory_with stack.old bytes.old given.now.length) state.old.plan) i
         (Ok effect) }
     ensures inside { HasWindowInside given.now.length state.new.plan }
