@@ -7,7 +7,7 @@ use setup::defaults;
 use std::fs;
 use std::io::{self, BufRead, BufReader, BufWriter, Write};
 use std::rt::Files;
-use streams::{Input, Output};
+use streams::Output;
 
 /// Replays the events of a reader, prints the answers and flushes them.
 /// See docs/DECISIONS.md, "Answers before a fault".
@@ -21,7 +21,7 @@ fn play<'a, R: Print + AllocGlobal, B: BufRead + Drop>(
         return Err(Fault::Memory);
     };
     let mut output = Output::new(writer);
-    let played = relay.replay(rt.alloc(), &mut Input::new(reader), &mut output);
+    let played = relay.replay(rt.alloc(), &mut streams::Input::new(reader), &mut output);
     if output.has_failed() || output.flush().is_err() {
         return Err(Fault::Output);
     }

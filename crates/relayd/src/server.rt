@@ -400,7 +400,7 @@ fn start<'a, R: Files + Net + Clock + RandomSource + AllocGlobal>(
         options: arguments.socket,
     };
     let sockets = bind_sockets(rt, addresses, set.ip, rules)?;
-    let mut rng = make_rng(rt).map_err(|_| Fault::Random)?;
+    let mut rng: StdRng = make_rng(rt).map_err(|_| Fault::Random)?;
     let mut tx = [0; 12];
     rng.fill_bytes(&mut tx);
     let now = elapsed(rt);
