@@ -9,4 +9,4 @@ pub mod Slots
 pub mod ClientRows
 pub mod Found
 pub mod HeldRows
-pub mod InPlace
+pub mod SlotChanges

@@ -1,18 +1,25 @@
--- Internal. What is stored: slots, the clients that have one in ascending order of their addresses, and what a slot holds
--- after a change in place.
-use Rattle.std.specs.Prelude.{◌≡◌, ◌≢◌, ℕ, ◌+◌, List, slice_get, Option, None, Some, All, AllPairs, nat_lt, if◌then◌else◌}
+-- Internal. What is stored: slots, the clients that have one in ascending order of their addresses, and the changes of what a
+-- slot holds.
+use Rattle.std.specs.Prelude.{◌≡◌, ◌≢◌, ℕ, ◌+◌, List, slice_get, Option, None, Some, Result, Ok, Err, All, AllPairs, nat_lt, nat_le, if◌then◌else◌}
 use Rattle.std.specs.Option.{option_map, option_flatten}
-use Rattle.std.specs.FinMap.{insert}
+use Rattle.std.specs.FinMap.{insert, len}
+use Rattle.std.specs.List.{list_all}
 use Rattle.std.specs.declared.cmp.Ordering.TheVariants.{Less}
-use Rattle.attributes.specs.Addresses.{ip_of}
+use Rattle.fallible.specs.Fallible.{◌>>=◌, check}
+use Rattle.attributes.specs.Addresses.{ip_of, is_of_family}
 use Rattle.attributes.specs.declared.address.Addr.{Addr}
 use Rattle.attributes.specs.AddressOrder.{order_by_parts}
+use Rattle.tables.specs.Channels.{may_bind}
 use Rattle.tables.specs.Permissions.{with_all}
+use Rattle.tables.specs.Rows.{held_at}
 use Rattle.tables.specs.WellFormed.{AreWellFormed}
-use Rattle.tables.specs.declared.channels.TheConstants.{CHANNEL_LIFETIME}
+use Rattle.tables.specs.declared.channels.TheConstants.{CHANNEL_LIFETIME, MAX_CHANNELS}
 use Rattle.tables.specs.declared.clients.Client.{Client}
 use Rattle.tables.specs.declared.held.Held.{Held}
-use Rattle.tables.specs.declared.permissions.TheConstants.{PERMISSION_LIFETIME}
+use Rattle.tables.specs.declared.permissions.TheConstants.{PERMISSION_LIFETIME, MAX_PERMISSIONS}
+use Rattle.tables.specs.declared.refusal.Refused.{Refused}
+use Rattle.tables.specs.declared.refusal.Refused.TheVariants as refusal
+use Rattle.tables.specs.declared.refusal.Refused.TheVariants.{Capacity, Conflict}
 
 abbrev pub stored_at : List (Option Held) → ℕ → Option Held
 stored_at slots slot = option_flatten (slice_get slots slot)
@@ -35,7 +42,7 @@ abbrev pub left_at : ℕ → Option Held → Option Held
 left_at t None = None
 left_at t (Some held) = if nat_lt t held.allocation.end then Some held else None
 
--- ---- what a slot holds, changed in place
+-- ---- what a slot holds, changed
 
 -- with a new end of the allocation
 abbrev pub with_end : ℕ → Held → Held
@@ -51,3 +58,24 @@ with_binding t number peer held = record held {
   channels = insert held.channels number (record { peer = peer; end = t + CHANNEL_LIFETIME });
   permissions = insert held.permissions (ip_of peer) (t + PERMISSION_LIFETIME);
 }
+
+-- ---- the changes of what a slot holds
+
+abbrev pub permit_held : ℕ → List Addr → Held → Result Held Refused
+permit_held t ips held = do
+  _ ← check (list_all (is_of_family held.allocation.family) ips) refusal.Family
+  _ ← check (nat_le (len (with_all held.permissions ips (t + PERMISSION_LIFETIME))) MAX_PERMISSIONS) Capacity
+  Ok (with_permissions (t + PERMISSION_LIFETIME) ips held)
+
+abbrev pub bind_held : ℕ → ℕ → Addr → Held → Result Held Refused
+bind_held t number peer held = do
+  _ ← check (is_of_family held.allocation.family peer) refusal.Family
+  _ ← check (may_bind held.channels number peer) Conflict
+  _ ← check (nat_le (len (insert held.channels number (record { peer = peer; end = t + CHANNEL_LIFETIME }))) MAX_CHANNELS) Capacity
+  _ ← check (nat_le (len (insert held.permissions (ip_of peer) (t + PERMISSION_LIFETIME))) MAX_PERMISSIONS) Capacity
+  Ok (with_binding t number peer held)
+
+-- after a change that is made, what counts is what it makes; a refused one leaves what is stored
+abbrev pub LeavesHeld : Result Held Refused → ℕ → Held → Result (Unit {0}) Refused → Held → Type 0
+LeavesHeld (Ok made) t old result new = (result ≡ Ok tt) × (held_at t new ≡ held_at t made)
+LeavesHeld (Err refused) t old result new = (result ≡ Err refused) × (new ≡ old)

@@ -1,22 +1,20 @@
 //! Changes. A refused one changes nothing. Clients have addresses of IPv4 alone.
 
-use crate::address::are_of;
 use crate::allocation::Allocation;
-use crate::channels::{Binding, CHANNEL_LIFETIME, Channels};
+use crate::channels::Channels;
 use crate::held::Held;
-use crate::permissions::{PERMISSION_LIFETIME, Permissions};
+use crate::permissions::Permissions;
 use crate::refusal::Refused;
 use crate::storage::Tables;
 use attributes::{Addr, Family, is_address};
 
 impl Tables {
-    ghost use Rattle.std.specs.Prelude.{◌≡◌, ◌≤◌, ◌<◌, IfOk, IsTrue, List, length};
+    ghost use Rattle.std.specs.Prelude.{◌≡◌, ◌≤◌, ◌<◌, IfOk, IsTrue, length};
     ghost use Rattle.tables.specs.Addresses.{is_ipv4};
     ghost use Rattle.tables.specs.Channels.{IsChannelNumber};
     ghost use Rattle.tables.specs.Moments.{moment_of};
-    ghost use Rattle.tables.specs.Rows.{counting_rows, rows_at};
+    ghost use Rattle.tables.specs.Rows.{rows_at};
     ghost use Rattle.tables.specs.Changes.{Follows, allocation_change, refresh_change, permit_change, bind_change};
-    ghost use Rattle.tables.specs.declared.moment.TheConstants.{LATEST};
 
     /// Makes an allocation at the lowest free slot, with no permissions and no channels, and returns the slot. Its end is
     /// the lifetime, in seconds, after the moment (RFC 8656, section 7).
@@ -76,11 +74,18 @@ impl Tables {
         ensures slots { length self.new.slots ≡ length self.old.slots }
     {
         let moment = self.moment_at(now);
-        if self.refresh_in_place(slot, moment, lifetime) {
-            Ok(())
-        } else {
-            Err(Refused::NoAllocation)
+        if slot >= self.slots.len() {
+            return Err(Refused::NoAllocation);
         }
+        let Some(held) = &mut self.slots[slot] else {
+            return Err(Refused::NoAllocation);
+        };
+        if held.allocation.end <= moment {
+            return Err(Refused::NoAllocation);
+        }
+        held.refresh(moment + u64::from(lifetime));
+        self.moment = moment;
+        Ok(())
     }
 
     /// Permits IP addresses at a slot for [`PERMISSION_LIFETIME`], or renews their permissions (RFC 8656, section 9): all of
@@ -97,33 +102,17 @@ impl Tables {
         ensures slots { length self.new.slots ≡ length self.old.slots }
     {
         let moment = self.moment_at(now);
-        if self.permit_in_place(slot, moment, ips) {
-            return Ok(());
+        if slot >= self.slots.len() {
+            return Err(Refused::NoAllocation);
         }
-        self.permit_swept(slot, moment, ips)
-    }
-
-    /// As [`Tables::permit`], at a moment that counts, with a copy of what the slot holds from which all that has ended is
-    /// dropped.
-    fn permit_swept(&mut self, slot: usize, moment: u64, ips: &[Addr]) -> Result<(), Refused>
-        requires later { self.old.moment ≤ moment }
-        requires latest { moment ≤ LATEST }
-        ensures follows { Follows (permit_change slot ips.now (counting_rows moment self.old)) self.old result self.new }
-        ensures moment { (self.old.moment ≤ self.new.moment) × (self.new.moment ≤ moment) }
-        ensures slots { length self.new.slots ≡ length self.old.slots }
-    {
-        let held = self.held(slot, moment).ok_or(Refused::NoAllocation)?;
-        if !are_of(held.allocation.family, ips) {
-            return Err(Refused::Family);
-        }
-        let mut permissions = held.permissions.at(moment);
-        permissions.put_all(ips, moment + PERMISSION_LIFETIME)?;
-        let held = Held {
-            allocation: held.allocation,
-            permissions,
-            channels: held.channels.at(moment),
+        let Some(held) = &mut self.slots[slot] else {
+            return Err(Refused::NoAllocation);
         };
-        self.hold(slot, moment, held);
+        if held.allocation.end <= moment {
+            return Err(Refused::NoAllocation);
+        }
+        held.permit(ips, moment)?;
+        self.moment = moment;
         Ok(())
     }
 
@@ -144,47 +133,17 @@ impl Tables {
         ensures slots { length self.new.slots ≡ length self.old.slots }
     {
         let moment = self.moment_at(now);
-        if self.bind_in_place(slot, moment, number, peer) {
-            return Ok(());
+        if slot >= self.slots.len() {
+            return Err(Refused::NoAllocation);
         }
-        self.bind_swept(slot, moment, number, peer)
-    }
-
-    /// As [`Tables::bind`], at a moment that counts, with a copy of what the slot holds from which all that has ended is
-    /// dropped.
-    fn bind_swept(
-        &mut self,
-        slot: usize,
-        moment: u64,
-        number: u16,
-        peer: Addr,
-    ) -> Result<(), Refused>
-        requires later { self.old.moment ≤ moment }
-        requires latest { moment ≤ LATEST }
-        requires range { IsChannelNumber number }
-        ensures follows { Follows (bind_change slot number peer (counting_rows moment self.old)) self.old result self.new }
-        ensures moment { (self.old.moment ≤ self.new.moment) × (self.new.moment ≤ moment) }
-        ensures slots { length self.new.slots ≡ length self.old.slots }
-    {
-        let held = self.held(slot, moment).ok_or(Refused::NoAllocation)?;
-        is_address(&peer);
-        if !peer.is_of_family(held.allocation.family) {
-            return Err(Refused::Family);
-        }
-        let mut channels = held.channels.at(moment);
-        if !channels.may_bind(number, &peer) {
-            return Err(Refused::Conflict);
-        }
-        let end = moment + CHANNEL_LIFETIME;
-        channels.put(number, Binding { peer, end })?;
-        let mut permissions = held.permissions.at(moment);
-        permissions.put(peer, moment + PERMISSION_LIFETIME)?;
-        let held = Held {
-            allocation: held.allocation,
-            permissions,
-            channels,
+        let Some(held) = &mut self.slots[slot] else {
+            return Err(Refused::NoAllocation);
         };
-        self.hold(slot, moment, held);
+        if held.allocation.end <= moment {
+            return Err(Refused::NoAllocation);
+        }
+        held.bind(number, peer, moment)?;
+        self.moment = moment;
         Ok(())
     }
 }

@@ -2,10 +2,12 @@
 
 ghost use Rattle.std.specs.Prelude.{◌≡◌};
 
+use crate::address::are_of;
 use crate::allocation::Allocation;
 use crate::channels::{Binding, CHANNEL_LIFETIME, Channels};
 use crate::permissions::{PERMISSION_LIFETIME, Permissions};
-use attributes::Addr;
+use crate::refusal::Refused;
+use attributes::{Addr, is_address};
 
 /// An allocation with its permissions and channels, which end with it.
 #[derive(Drop)]
@@ -16,11 +18,13 @@ pub(crate) struct Held {
 }
 
 impl Held {
-    ghost use Rattle.std.specs.Prelude.{◌≡◌, ◌≤◌, ℕ, IsTrue};
-    ghost use Rattle.std.specs.Bool.{OnTrue, OnFalse};
+    ghost use Rattle.std.specs.Prelude.{◌≡◌, ◌≤◌, ℕ, IsTrue, IfErr, OnErr, OnOk, Err};
     ghost use Rattle.std.specs.FinMap.{len};
+    ghost use Rattle.attributes.specs.Addresses.{IsAddress, is_of_family};
     ghost use Rattle.tables.specs.Channels.{IsChannelNumber, channels_at, may_bind};
-    ghost use Rattle.tables.specs.Stored.{with_end, with_permissions, with_binding};
+    ghost use Rattle.tables.specs.RowLaws.{held_counting};
+    ghost use Rattle.tables.specs.Stored.{LeavesHeld, permit_held, bind_held, with_end, with_binding};
+    ghost use Rattle.tables.specs.WellFormed.{IsHeldAt};
     ghost use Rattle.tables.specs.declared.channels.TheConstants.{MAX_CHANNELS};
     ghost use Rattle.tables.specs.declared.moment.TheConstants.{LATEST};
     ghost use Rattle.tables.specs.declared.permissions.TheConstants.{MAX_PERMISSIONS};
@@ -32,40 +36,107 @@ impl Held {
         self.allocation.end = end;
     }
 
-    /// Permits IP addresses until an end, if there is room for all of them beside the stored permissions, and returns whether
-    /// there is. Else nothing is changed.
-    pub(crate) fn permit(&mut self, ips: &[Addr], end: u64) -> bool
-        ensures made { OnTrue result (self.new ≡ with_permissions end ips.now self.old) }
-        ensures few { OnTrue result (len self.new.permissions ≤ MAX_PERMISSIONS) }
-        ensures unchanged { OnFalse result (self.new ≡ self.old) }
+    /// Returns a copy from which the permissions and channels that have ended at a moment are dropped.
+    fn at(&self, moment: u64) -> Held
+        ensures { result ≡ held_counting moment self.now }
     {
-        if !self.permissions.have_room(ips) {
-            return false;
+        Held {
+            allocation: self.allocation,
+            permissions: self.permissions.at(moment),
+            channels: self.channels.at(moment),
         }
-        self.permissions.put_each(ips, end);
-        true
     }
 
-    /// Binds a channel number to a peer at a moment, and permits the peer's IP address, if no other stored channel has one of
-    /// the two and there is room beside what is stored, and returns whether that is so. Else nothing is changed.
-    pub(crate) fn bind(&mut self, number: u16, peer: Addr, moment: u64) -> bool
+    /// Permits IP addresses from a moment on, all of them or none. Permissions that have ended are dropped if they are in the
+    /// way.
+    ///
+    /// # Errors
+    /// `Family` where an address is not of the allocation's; `Capacity` where there would be more than 64 permissions. Nothing
+    /// is changed then.
+    pub(crate) fn permit(&mut self, ips: &[Addr], moment: u64) -> Result<(), Refused>
+        requires latest { moment ≤ LATEST }
+        ensures follows { LeavesHeld (permit_held moment ips.now (held_counting moment self.old)) moment self.old result self.new }
+        ensures held_at { (slot : ℕ) → IsHeldAt slot self.old → IsHeldAt slot self.new }
+        ensures same { self.new.allocation ≡ self.old.allocation }
+    {
+        if !are_of(self.allocation.family, ips) {
+            return Err(Refused::Family);
+        }
+        let end = moment + PERMISSION_LIFETIME;
+        if self.permissions.have_room(ips) {
+            self.permissions.put_each(ips, end);
+            return Ok(());
+        }
+        let mut permissions = self.permissions.at(moment);
+        permissions.put_all(ips, end)?;
+        self.permissions = permissions;
+        Ok(())
+    }
+
+    /// Binds a channel number to a peer from a moment on, and permits the peer's IP address. Permissions and channels that have
+    /// ended are dropped if they are in the way.
+    ///
+    /// # Errors
+    /// `Family` where the peer is not of the allocation's; `Conflict` where the number is bound to another peer, or the peer to
+    /// another number; `Capacity` where there would be more than 64 channels or permissions. Nothing is changed then.
+    pub(crate) fn bind(&mut self, number: u16, peer: Addr, moment: u64) -> Result<(), Refused>
         requires range { IsChannelNumber number }
         requires latest { moment ≤ LATEST }
-        ensures made { OnTrue result (self.new ≡ with_binding moment number peer self.old) }
-        ensures few { OnTrue result ((len self.new.permissions ≤ MAX_PERMISSIONS) × (len self.new.channels ≤ MAX_CHANNELS)) }
-        ensures free { OnTrue result ((t : ℕ) → IsTrue (may_bind (channels_at t self.old.channels) number peer)) }
-        ensures unchanged { OnFalse result (self.new ≡ self.old) }
+        ensures follows { LeavesHeld (bind_held moment number peer (held_counting moment self.old)) moment self.old result self.new }
+        ensures held_at { (slot : ℕ) → IsHeldAt slot self.old → IsHeldAt slot self.new }
+        ensures same { self.new.allocation ≡ self.old.allocation }
     {
-        if !self.channels.may_bind(number, &peer) || !self.permissions.have_room(&[peer]) {
-            return false;
+        if self.put(number, peer, moment).is_ok() {
+            return Ok(());
+        }
+        self.put_swept(number, peer, moment)
+    }
+
+    /// As [`Held::bind`], with a copy from which what has ended is dropped. It is a function of its own, so that a change in place
+    /// makes no room for the copy.
+    fn put_swept(&mut self, number: u16, peer: Addr, moment: u64) -> Result<(), Refused>
+        requires range { IsChannelNumber number }
+        requires latest { moment ≤ LATEST }
+        ensures follows { LeavesHeld (bind_held moment number peer (held_counting moment self.old)) moment self.old result self.new }
+        ensures held_at { (slot : ℕ) → IsHeldAt slot self.old → IsHeldAt slot self.new }
+        ensures same { self.new.allocation ≡ self.old.allocation }
+    {
+        let mut left = self.at(moment);
+        left.put(number, peer, moment)?;
+        *self = left;
+        Ok(())
+    }
+
+    /// Binds a channel number to a peer, and permits the peer's IP address, beside all that there is, also what has ended.
+    ///
+    /// # Errors
+    /// Those of [`Held::bind`]. Nothing is changed then.
+    fn put(&mut self, number: u16, peer: Addr, moment: u64) -> Result<(), Refused>
+        requires range { IsChannelNumber number }
+        requires latest { moment ≤ LATEST }
+        ensures made { OnOk result (self.new ≡ with_binding moment number peer self.old) }
+        ensures of { OnOk result (IsTrue (is_of_family self.old.allocation.family peer)) }
+        ensures free { OnOk result ((t : ℕ) → IsTrue (may_bind (channels_at t self.old.channels) number peer)) }
+        ensures few { OnOk result ((len self.new.permissions ≤ MAX_PERMISSIONS) × (len self.new.channels ≤ MAX_CHANNELS)) }
+        ensures address { IsAddress peer }
+        ensures refused { IfErr result (λ e. bind_held moment number peer self.old ≡ Err e) }
+        ensures unchanged { OnErr result (self.new ≡ self.old) }
+    {
+        is_address(&peer);
+        if !peer.is_of_family(self.allocation.family) {
+            return Err(Refused::Family);
+        }
+        if !self.channels.may_bind(number, &peer) {
+            return Err(Refused::Conflict);
+        }
+        if !self.permissions.has_room_for(&peer) {
+            return Err(Refused::Capacity);
         }
         self.channels.stay_free(number, &peer);
         let end = moment + CHANNEL_LIFETIME;
-        if self.channels.put(number, Binding { peer, end }).is_err() {
-            return false;
-        }
+        self.channels.put(number, Binding { peer, end })?;
         self.permissions
             .put_each(&[peer], moment + PERMISSION_LIFETIME);
-        true
+        Ok(())
     }
 }

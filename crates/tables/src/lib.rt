@@ -9,7 +9,6 @@ mod channels;
 mod clients;
 pub mod counted;
 mod held;
-mod in_place;
 mod limits;
 mod listing;
 mod look_ups;

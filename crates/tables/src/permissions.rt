@@ -71,7 +71,7 @@ impl Model for Permissions {
 }
 
 impl Permissions {
-    ghost use Rattle.std.specs.Prelude.{◌≡◌, ℕ, ◌+◌, ◌<◌, ◌≤◌, OnOk, OnErr, IfErr};
+    ghost use Rattle.std.specs.Prelude.{◌≡◌, ℕ, ◌+◌, ◌<◌, ◌≤◌, OnOk, OnErr, IfErr, nat_le};
     ghost use Rattle.std.specs.Bool.{OnTrue};
     ghost use Rattle.std.specs.FinMap.{empty, get, insert, len};
     ghost use Rattle.attributes.specs.Addresses.{ip_of};
@@ -135,6 +135,16 @@ impl Permissions {
             }
         }
         count <= MAX_PERMISSIONS
+    }
+
+    /// Returns whether there is room for the permission of an IP address.
+    pub(crate) fn has_room_for(&self, ip: &Addr) -> bool
+        ensures { (end : ℕ) → result ≡ nat_le (len (insert self.now (ip_of ip.now) end)) MAX_PERMISSIONS }
+    {
+        match place_of(self.rows.as_slice(), ip) {
+            Ok(_) => true,
+            Err(_) => self.rows.len() < MAX_PERMISSIONS,
+        }
     }
 
     /// Adds a permission, or gives it a new end where there is one.

@@ -155,21 +155,6 @@ impl Tables {
         None
     }
 
-    /// Puts into a slot what it holds from a moment on, the greatest so far. Its client stays.
-    pub(crate) fn hold(&mut self, slot: usize, moment: u64, held: Held)
-        requires inside { slot < length self.old.slots }
-        requires held_at { IsHeldAt slot held }
-        requires later { self.old.moment ≤ moment }
-        requires latest { moment ≤ LATEST }
-        requires client { client_in (held_in (counting_rows moment self.old) slot) ≡ Some held.allocation.client }
-        ensures held { self.new ≡ with_held (counting_rows moment self.old) slot held }
-        ensures moment { self.new.moment ≡ moment }
-        ensures slots { length self.new.slots ≡ length self.old.slots }
-    {
-        self.moment = moment;
-        self.slots[slot] = Some(held);
-    }
-
     /// Puts into a free slot what it holds for a new client from a moment on, the greatest so far.
     pub(crate) fn admit(&mut self, slot: usize, moment: u64, held: Held)
         requires inside { slot < length self.old.slots }
