@@ -1,4 +1,4 @@
--- Meaning. The answers of the helpers that look up, from the rows that count.
+-- Meaning. The answers of the helpers that look up, from the live rows.
 use Rattle.std.specs.Prelude.{ℕ, Bool, ◌==◌, ◌&&◌, Option, Some, None, if◌then◌else◌}
 use Rattle.semantics.specs.Calls.{is_valid, no_address}
 use Rattle.semantics.specs.Machine.{AddressRecord}

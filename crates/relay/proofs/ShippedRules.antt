@@ -44,11 +44,11 @@ use Rattle.rules.specs.Systems.{SystemReply, no_answer, reply_of_relaying, addre
 use Rattle.rules.specs.ClientLaws.{is_relayed, is_sent}
 
 module _ (config : Config) (now : ℕ) (tx : List ℕ) (rows : Rows) (datagram : List ℕ) (code : List Insn) where
-  abbrev counting : Rows
-  counting = rows_at now rows
+  abbrev live : Rows
+  live = rows_at now rows
 
   abbrev run_from : Source → Run
-  run_from from = run_for code tx from counting datagram
+  run_from from = run_for code tx from live datagram
 
   -- what the run of the code gives
   abbrev pub given : Source → SystemReply
@@ -61,14 +61,14 @@ module _ (config : Config) (now : ℕ) (tx : List ℕ) (rows : Rows) (datagram :
   ]
 
   -- what is relayed by the program alone
-  gives_relayed : (from : Source) (sends : Option Sending) → Relays code tx from counting datagram sends → given from ≡ reply_of_relaying rows sends
+  gives_relayed : (from : Source) (sends : Option Sending) → Relays code tx from live datagram sends → given from ≡ reply_of_relaying rows sends
   gives_relayed from sends is =
       ap (λ (e : Ending). by_ending config now from rows (length datagram) (run_from from) e) is.exits
       ∙ cond-false (is.verdict == PASSES) _ _ (differs is.verdict is.alone)
       ∙ ap (reply_of_relaying rows) is.sent
 
   -- what is passed on as it came goes by the rules
-  gives_passed : (client : Addr) → PassesOn code tx (Client client) counting datagram → given (Client client) ≡ from_client config now client rows datagram
+  gives_passed : (client : Addr) → PassesOn code tx (Client client) live datagram → given (Client client) ≡ from_client config now client rows datagram
   gives_passed client is =
       ap (λ (e : Ending). by_ending config now (Client client) rows (length datagram) (run_from (Client client)) e) is.exits
       ∙ ap (λ (d : List ℕ). from_client config now client rows d) is.unchanged
@@ -91,15 +91,15 @@ module _ (config : Config) (now : ℕ) (tx : List ℕ) (rows : Rows) (datagram :
       no_message _ (nat_le 4 (length d)) (is_between 0x4000 0x7fff (number_at 2 0 d)) _
       (beside b c (number_at 2 0 d) (omega arith) (All-head (λ x. x < 256) c rest (All-tail (λ x. x < 256) b (c ∷ rest) fit)) other)
 
-  not_relayed : (client : Addr) → channel_in datagram ≡ None → channel_data_from client counting datagram ≡ None
-  not_relayed client none = of (allocation_of client counting) where
-    of : (own : Option Allocation) → (own >>= λ at. channel_data (λ number. peer_of at.slot number counting) datagram >>= λ pair. to_peer at pair) ≡ None
+  not_relayed : (client : Addr) → channel_in datagram ≡ None → channel_data_from client live datagram ≡ None
+  not_relayed client none = of (allocation_of client live) where
+    of : (own : Option Allocation) → (own >>= λ at. channel_data (λ number. peer_of at.slot number live) datagram >>= λ pair. to_peer at pair) ≡ None
     of None = refl
-    of (Some at) = ap (λ (m : Option ChannelMessage). (m >>= λ m. peer_of at.slot m.number counting >>= λ to. Some (to, m.bytes)) >>= λ pair. to_peer at pair) none
+    of (Some at) = ap (λ (m : Option ChannelMessage). (m >>= λ m. peer_of at.slot m.number live >>= λ to. Some (to, m.bytes)) >>= λ pair. to_peer at pair) none
 
   -- ---- a client's datagram
 
-  client_gives : (client : Addr) → IsDatagram datagram → ServesClient code tx client counting datagram → given (Client client) ≡ from_client config now client rows datagram
+  client_gives : (client : Addr) → IsDatagram datagram → ServesClient code tx client live datagram → given (Client client) ≡ from_client config now client rows datagram
   client_gives client is serves = elim (cases_Bool (begins_as_stun datagram)) [
     | inl stun ↦ by_message stun (message_in datagram) refl
     | inr other ↦ elim (cases_Bool (begins_as_channel_data datagram)) [
@@ -125,19 +125,19 @@ module _ (config : Config) (now : ℕ) (tx : List ℕ) (rows : Rows) (datagram :
   beyond a b other = grind (arith, nat_tests)
 
   -- a slot that isn't there has no client
-  no_client : (slot : ℕ) → nat_lt slot (length rows.slots) ≡ false → client_at slot counting ≡ None
+  no_client : (slot : ℕ) → nat_lt slot (length rows.slots) ≡ false → client_at slot live ≡ None
   no_client slot past =
       let t = moment_of rows.moment now in
-      let few : length counting.slots ≤ slot = omega (arith, length-map rows.slots (option_and_then (held_at t)), beyond slot (length rows.slots) past) in
-      ap (λ (o : Option (Option Held)). option_map (λ a. a.client) (option_map (λ held. held.allocation) (option_flatten o))) (slice_get_past counting.slots slot few)
+      let few : length live.slots ≤ slot = omega (arith, length-map rows.slots (option_and_then (held_at t)), beyond slot (length rows.slots) past) in
+      ap (λ (o : Option (Option Held)). option_map (λ a. a.client) (option_map (λ held. held.allocation) (option_flatten o))) (slice_get_past live.slots slot few)
 
-  peer_gives : (slot : ℕ) (peer : Addr) → ServesPeer code tx slot peer counting datagram
+  peer_gives : (slot : ℕ) (peer : Addr) → ServesPeer code tx slot peer live datagram
       → (if is_there (Peer slot peer) rows then given (Peer slot peer) else no_answer rows) ≡ by_rules config now tx (Peer slot peer) rows datagram
   peer_gives slot peer serves = elim (cases_Bool (is_there (Peer slot peer) rows)) [
     | inl there ↦ cond-true (is_there (Peer slot peer) rows) (given (Peer slot peer)) (no_answer rows) there ∙ gives_relayed (Peer slot peer) _ serves
     | inr past ↦
         cond-false (is_there (Peer slot peer) rows) (given (Peer slot peer)) (no_answer rows) past
-        ∙ ap (λ (client : Option Addr). reply_of_relaying rows (client >>= λ c. option_map (ToClient c) (peer_data (has_permission slot peer counting) (channel_of slot peer counting) peer tx datagram))) (sym (no_client slot past))
+        ∙ ap (λ (client : Option Addr). reply_of_relaying rows (client >>= λ c. option_map (ToClient c) (peer_data (has_permission slot peer live) (channel_of slot peer live) peer tx datagram))) (sym (no_client slot past))
   ]
 
 -- ---- both sides

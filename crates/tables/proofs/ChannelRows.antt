@@ -19,7 +19,7 @@ use Rattle.tables.specs.MapLaws.{entry_found}
 use Rattle.tables.specs.RowLists.{channels_of, AreChannels}
 use Rattle.tables.specs.Retained.{value_if}
 use Rattle.tables.specs.RetainedLaws.{get-kept_of, kept_from}
-use Rattle.tables.specs.RowLaws.{binding_counts}
+use Rattle.tables.specs.RowLaws.{is_live_binding}
 use Rattle.tables.specs.Search.{AreAscending, IsFoundAt, IsMissingAt, IsPlace, with_row, has_room}
 use Rattle.tables.specs.SortedRows.{AreSortedByNumber, AreSortedByPeer, AreChannelLists}
 use Rattle.tables.specs.declared.channels.Binding.{Binding}
@@ -85,7 +85,7 @@ filtered_are t rows are =
     }
 
 pub filtered : (t : ℕ) (rows : List Channel) → AreChannels rows → channels_of (filter (λ row. nat_lt t row.binding.end) rows) ≡ channels_at t (channels_of rows)
-filtered t rows are = from_entries-filter nat_cmp_total nat_cmp-IsAntisymmetric entry_of (binding_counts t) (λ row. nat_lt t row.binding.end) (λ x. refl) rows are.distinct
+filtered t rows are = from_entries-filter nat_cmp_total nat_cmp-IsAntisymmetric entry_of (is_live_binding t) (λ row. nat_lt t row.binding.end) (λ x. refl) rows are.distinct
 
 pub filtered_lists : (t : ℕ) (rows others : List Channel) → AreChannelLists rows others
     → AreChannelLists (filter (λ row. nat_lt t row.binding.end) rows) (filter (λ row. nat_lt t row.binding.end) others)
@@ -149,9 +149,9 @@ module _ (rows : List Channel) where
   pub number_to-found : (peer : Addr) (i : ℕ) (d : Channel) → AreChannels rows → IsFoundAt (by_peer peer) rows i → number_to peer (channels_of rows) ≡ Some (get_or rows i d).number
   number_to-found peer i d are at = number_to-row are peer i d at.inside (is_to-found peer rows i d at)
 
-  -- what counts at a moment is bound at all
-  stored : (t number : ℕ) (binding : Binding) → get (channels_at t (channels_of rows)) number ≡ Some binding → (get (channels_of rows) number ≡ Some binding) × (binding_counts t (Some binding) ≡ true)
-  stored t number binding at = kept_from (binding_counts t) _ binding (sym (get-kept_of nat_cmp_total (binding_counts t) (channels_of rows) number) ∙ at)
+  -- what is live at a moment is bound at all
+  stored : (t number : ℕ) (binding : Binding) → get (channels_at t (channels_of rows)) number ≡ Some binding → (get (channels_of rows) number ≡ Some binding) × (is_live_binding t (Some binding) ≡ true)
+  stored t number binding at = kept_from (is_live_binding t) _ binding (sym (get-kept_of nat_cmp_total (is_live_binding t) (channels_of rows) number) ∙ at)
 
   pub number_at-none : (t : ℕ) (peer : Addr) → All (λ row. is_to peer row ≡ false) rows → number_to peer (channels_at t (channels_of rows)) ≡ None
   number_at-none t peer none =
@@ -163,7 +163,7 @@ module _ (rows : List Channel) where
         let to : is_to peer (get_or rows i d) ≡ true = is_to-found peer rows i d at in
         let row = get_or rows i d in
         let left : get (channels_at t (channels_of rows)) row.number ≡ Some row.binding =
-        get-kept_of nat_cmp_total (binding_counts t) (channels_of rows) row.number ∙ ap (value_if (binding_counts t)) (at_row are i d at.inside)
+        get-kept_of nat_cmp_total (is_live_binding t) (channels_of rows) row.number ∙ ap (value_if (is_live_binding t)) (at_row are i d at.inside)
         ∙ cond-true (nat_lt t row.binding.end) (Some row.binding) None (lt-ltb t row.binding.end counts) in
         key_where-Some nat_cmp_total nat_cmp-IsAntisymmetric (bound_to peer) (channels_at t (channels_of rows)) row.number row.binding
         (λ k l v w at_k at_l. once are peer k l v w (stored t k v at_k).0 (stored t l w at_l).0) left to
@@ -192,7 +192,7 @@ free_later rows are number peer t free =
     let parts = and_parts _ _ free in
     let left = channels_at t (channels_of rows) in
     and_from _ _
-    (ap (is_none_or (bound_to peer)) (get-kept_of nat_cmp_total (binding_counts t) (channels_of rows) number) ∙ none_or_kept (bound_to peer) (binding_counts t) (get (channels_of rows) number) parts.0)
+    (ap (is_none_or (bound_to peer)) (get-kept_of nat_cmp_total (is_live_binding t) (channels_of rows) number) ∙ none_or_kept (bound_to peer) (is_live_binding t) (get (channels_of rows) number) parts.0)
     (elim (find (λ e. bound_to peer e.1) (entries left)) as (λ r. find (λ e. bound_to peer e.1) (entries left) ≡ r → is_none_or (nat_eq number) (option_map (λ e. e.0) r) ≡ true) [
       | None ↦ λ _. refl
       | Some e ↦ λ s.

@@ -15,7 +15,7 @@ use Rattle.attributes.specs.declared.address.Addr.TheVariants.{V4}
 use Rattle.attributes.specs.AddressOrder.{address_parts, order_by_parts, is_same_address}
 use Rattle.attributes.specs.AddressOrderLaws.{parts_order-total, parts_order-antisymmetric, order_by_parts-total}
 use Rattle.tables.specs.LookUps.{is_of}
-use Rattle.tables.specs.RowLaws.{held_at-counts, held_at-ended}
+use Rattle.tables.specs.RowLaws.{held_at-live, held_at-ended}
 use Rattle.tables.specs.Rows.{held_at, slots_at}
 use Rattle.tables.specs.Search.{AreAscending, IsFoundAt, IsMissingAt, IsPlace, with_row}
 use Rattle.tables.specs.Stored.{stored_at, client_in, left_at, AreClients}
@@ -47,7 +47,7 @@ searchable_by_client client slots clients are = searchable parts_order-total key
 of_none : (t : ℕ) (client : Addr) (o : Option Held) → ((held : Held) → o ≡ Some held → is_same_address client held.allocation.client ≡ false) → is_of client (option_and_then (held_at t) o) ≡ false
 of_none t client None h = refl
 of_none t client (Some held) h = elim (cases_Bool (nat_lt t held.allocation.end)) [
-  | inl c ↦ ap (is_of client) (held_at-counts t held c) ∙ h held refl
+  | inl c ↦ ap (is_of client) (held_at-live t held c) ∙ h held refl
   | inr e ↦ ap (is_of client) (held_at-ended t held e)
 ]
 
@@ -62,7 +62,7 @@ found_first : (t : ℕ) (client : Addr) (held : Held) (slots : List (Option Held
     → ((k : ℕ) (other : Held) → stored_at slots k ≡ Some other → is_same_address client other.allocation.client ≡ false)
     → option_flatten (find (is_of client) (held_at t held ∷ slots_at t slots)) ≡ held_at t held
 found_first t client held slots same others = elim (cases_Bool (nat_lt t held.allocation.end)) [
-  | inl c ↦ ap option_flatten (cond-true (is_of client (held_at t held)) (Some (held_at t held)) (find (is_of client) (slots_at t slots)) (ap (is_of client) (held_at-counts t held c) ∙ same))
+  | inl c ↦ ap option_flatten (cond-true (is_of client (held_at t held)) (Some (held_at t held)) (find (is_of client) (slots_at t slots)) (ap (is_of client) (held_at-live t held c) ∙ same))
   | inr e ↦ ap option_flatten (cond-false (is_of client (held_at t held)) (Some (held_at t held)) (find (is_of client) (slots_at t slots)) (ap (is_of client) (held_at-ended t held e)) ∙ none_in t client slots others)
       ∙ sym (held_at-ended t held e)
 ]
@@ -142,7 +142,7 @@ left_again t (Some held) = elim (cases_Bool (nat_lt t held.allocation.end)) [
   | inr e ↦ ap (option_and_then (held_at t)) (cond-false (nat_lt t held.allocation.end) (Some held) None e) ∙ sym (held_at-ended t held e)
 ]
 
--- the rows that count are those that counted
+-- the live rows are those that counted
 pub slots_at-swept : (t : ℕ) (slots : List (Option Held)) → slots_at t (map (left_at t) slots) ≡ slots_at t slots
 slots_at-swept t [] = refl
 slots_at-swept t (o ∷ slots) = λ i. left_again t o i ∷ slots_at-swept t slots i
@@ -150,7 +150,7 @@ slots_at-swept t (o ∷ slots) = λ i. left_again t o i ∷ slots_at-swept t slo
 left_none : (t : ℕ) (o : Option Held) → option_and_then (held_at t) o ≡ None → left_at t o ≡ None
 left_none t None is = refl
 left_none t (Some held) is = elim (cases_Bool (nat_lt t held.allocation.end)) [
-  | inl c ↦ absurd (none-some _ (sym is ∙ held_at-counts t held c))
+  | inl c ↦ absurd (none-some _ (sym is ∙ held_at-live t held c))
   | inr e ↦ cond-false (nat_lt t held.allocation.end) (Some held) None e
 ]
 
@@ -214,7 +214,7 @@ module _ (t : ℕ) (slots : List (Option Held)) (clients : List Client) (are : A
         | None ↦ λ is. none-some row.address (sym (ap client_in is) ∙ there)
         | Some held ↦ λ is.
             let counts = (left_some t (stored_at slots row.slot) held (sym (stored_at-swept t slots row.slot) ∙ is)).1 in
-            none-some _ (sym none ∙ ap (λ s. option_flatten (find (is_of client) s)) (sym (slots_at-swept t slots)) ∙ found ∙ ap (option_and_then (held_at t)) is ∙ held_at-counts t held counts)
+            none-some _ (sym none ∙ ap (λ s. option_flatten (find (is_of client) s)) (sym (slots_at-swept t slots)) ∙ found ∙ ap (option_and_then (held_at t)) is ∙ held_at-live t held counts)
       ] refl
 
 -- ---- slots that are filled
@@ -324,7 +324,7 @@ module _ (slots : List (Option Held)) (clients : List Client) (are : AreClients 
 pub client_of_counted : (t : ℕ) (o : Option Held) (a : Addr) → client_in (option_and_then (held_at t) o) ≡ Some a → client_in o ≡ Some a
 client_of_counted t None a is = is
 client_of_counted t (Some held) a is = elim (cases_Bool (nat_lt t held.allocation.end)) [
-  | inl c ↦ sym (ap client_in (held_at-counts t held c)) ∙ is
+  | inl c ↦ sym (ap client_in (held_at-live t held c)) ∙ is
   | inr e ↦ absurd (none-some a (sym (ap client_in (held_at-ended t held e)) ∙ is))
 ]
 

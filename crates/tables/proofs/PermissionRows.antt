@@ -10,7 +10,7 @@ use Rattle.std.proofs.lemmas.List.Edits.{length-insert}
 use Rattle.attributes.specs.Addresses.{ip_of}
 use Rattle.attributes.specs.declared.address.Addr.{Addr}
 use Rattle.attributes.specs.declared.address.Addr.TheVariants.{V4}
-use Rattle.tables.specs.Moments.{counts_at}
+use Rattle.tables.specs.Moments.{is_live_at}
 use Rattle.tables.specs.Permissions.{PermissionMap, permissions_at, with_all}
 use Rattle.tables.specs.RowLists.{permissions_of, ArePermissions}
 use Rattle.tables.specs.declared.permissions.Permission.{Permission}
@@ -56,7 +56,7 @@ pub filtered_are : (t : ℕ) (rows : List Permission) → AreSortedPermissions r
 filtered_are t rows sorted = Ascending-filter ip_order-total ip_in (λ row. nat_lt t row.end) rows sorted
 
 pub filtered : (t : ℕ) (rows : List Permission) → AreSortedPermissions rows → permissions_of (filter (λ row. nat_lt t row.end) rows) ≡ permissions_at t (permissions_of rows)
-filtered t rows are = from_entries-filter ip_total ip_antisymmetric entry_of (counts_at t) (λ row. nat_lt t row.end) (λ x. refl) rows (are_permissions rows are).distinct
+filtered t rows are = from_entries-filter ip_total ip_antisymmetric entry_of (is_live_at t) (λ row. nat_lt t row.end) (λ x. refl) rows (are_permissions rows are).distinct
 
 pub len-filtered : (t most : ℕ) (rows : List Permission) → AreSortedPermissions rows → length rows ≤ most → len (permissions_of (filter (λ row. nat_lt t row.end) rows)) ≤ most
 len-filtered t most rows are few =

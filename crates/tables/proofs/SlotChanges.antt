@@ -16,12 +16,12 @@ use Rattle.tables.specs.Changes.{Change, Follows, with_held, refresh_change, per
 use Rattle.tables.specs.Channels.{ChannelMap, IsChannelNumber, channels_at, may_bind}
 use Rattle.tables.specs.LookUps.{held_in}
 use Rattle.tables.specs.MapLaws.{len-within}
-use Rattle.tables.specs.Moments.{counts_at}
+use Rattle.tables.specs.Moments.{is_live_at}
 use Rattle.tables.specs.Permissions.{PermissionMap, permissions_at, with_all}
 use Rattle.tables.specs.Retained.{value_if, kept_of}
 use Rattle.tables.specs.RetainedLaws.{get-kept_of, kept_again, kept_from}
-use Rattle.tables.specs.RowLaws.{binding_counts, held_counting, held_at-counts, held_at-ended, permissions_again, channels_again}
-use Rattle.tables.specs.Rows.{Rows, held_at, counting_rows}
+use Rattle.tables.specs.RowLaws.{is_live_binding, live_held, held_at-live, held_at-ended, permissions_again, channels_again}
+use Rattle.tables.specs.Rows.{Rows, held_at, live_rows}
 use Rattle.tables.specs.Stored.{AreStored, LeavesHeld, stored_at, client_in, with_end, with_permissions, with_binding, permit_held, bind_held}
 use Rattle.tables.specs.WellFormed.{IsHeldAt}
 use Rattle.tables.specs.WellFormedLaws.{set-well_formed, refreshed-held_at, bound-held_at}
@@ -68,30 +68,30 @@ module _ {K X : Type 0} {R : K → K → Ordering} (o : IsTotalOrder R) where
         ∙ ap (value_if test) (sym (get-insert o (kept_of test m) k x q))
         ∙ sym (get-kept_of o test (insert (kept_of test m) k x) q))
 
--- ---- permissions and channels that count
+-- ---- permissions and channels that are live
 
 pub permissions_at-with_all : (t : ℕ) (p : PermissionMap) (ips : List Addr) (end : ℕ) → permissions_at t (with_all p ips end) ≡ permissions_at t (with_all (permissions_at t p) ips end)
 permissions_at-with_all t p [] end = sym (permissions_again t t p (omega arith))
 permissions_at-with_all t p (ip ∷ ips) end =
     permissions_at-with_all t (insert p (ip_of ip) end) ips end
-    ∙ ap (λ (m : PermissionMap). permissions_at t (with_all m ips end)) (kept_of-insert ip_total (counts_at t) ip_antisymmetric p (ip_of ip) end)
+    ∙ ap (λ (m : PermissionMap). permissions_at t (with_all m ips end)) (kept_of-insert ip_total (is_live_at t) ip_antisymmetric p (ip_of ip) end)
     ∙ sym (permissions_at-with_all t (insert (permissions_at t p) (ip_of ip) end) ips end)
 
 with_all_within : (m n : PermissionMap) (ips : List Addr) (end : ℕ) → Within ip_total m n → Within ip_total (with_all m ips end) (with_all n ips end)
 with_all_within m n [] end each = each
 with_all_within m n (ip ∷ ips) end each = with_all_within (insert m (ip_of ip) end) (insert n (ip_of ip) end) ips end (insert_within ip_total m n (ip_of ip) end each)
 
-pub few_counting : (t : ℕ) (p : PermissionMap) (ips : List Addr) (end most : ℕ) → len (with_all p ips end) ≤ most → len (with_all (permissions_at t p) ips end) ≤ most
-few_counting t p ips end most few =
-    omega (arith, few, len-within ip_total (with_all (permissions_at t p) ips end) (with_all p ips end) (with_all_within (permissions_at t p) p ips end (kept_within ip_total (counts_at t) p)))
+pub few_live : (t : ℕ) (p : PermissionMap) (ips : List Addr) (end most : ℕ) → len (with_all p ips end) ≤ most → len (with_all (permissions_at t p) ips end) ≤ most
+few_live t p ips end most few =
+    omega (arith, few, len-within ip_total (with_all (permissions_at t p) ips end) (with_all p ips end) (with_all_within (permissions_at t p) p ips end (kept_within ip_total (is_live_at t) p)))
 
-pub few_channels_counting : (t : ℕ) (c : ChannelMap) (number : ℕ) (binding : Binding) (most : ℕ) → len (insert c number binding) ≤ most → len (insert (channels_at t c) number binding) ≤ most
-few_channels_counting t c number binding most few =
+pub few_channels_live : (t : ℕ) (c : ChannelMap) (number : ℕ) (binding : Binding) (most : ℕ) → len (insert c number binding) ≤ most → len (insert (channels_at t c) number binding) ≤ most
+few_channels_live t c number binding most few =
     omega (
       arith,
       few,
       len-within nat_cmp_total (insert (channels_at t c) number binding) (insert c number binding)
-          (insert_within nat_cmp_total (channels_at t c) c number binding (kept_within nat_cmp_total (binding_counts t) c)),
+          (insert_within nat_cmp_total (channels_at t c) c number binding (kept_within nat_cmp_total (is_live_binding t) c)),
     )
 
 -- ---- what is left of a slot
@@ -106,16 +106,16 @@ module _ (t : ℕ) (held : Held) where
   same_channels : channels_at t held.channels ≡ channels_at t (channels_at t held.channels)
   same_channels = sym (channels_again t t held.channels (omega arith))
 
-  pub left-end : (end : ℕ) → held_at t (with_end end held) ≡ held_at t (with_end end (held_counting t held))
+  pub left-end : (end : ℕ) → held_at t (with_end end held) ≡ held_at t (with_end end (live_held t held))
   left-end end = same_left t (record held.allocation { end = end }) _ _ _ _ same_permissions same_channels
 
-  pub left-permissions : (end : ℕ) (ips : List Addr) → held_at t (with_permissions end ips held) ≡ held_at t (with_permissions end ips (held_counting t held))
+  pub left-permissions : (end : ℕ) (ips : List Addr) → held_at t (with_permissions end ips held) ≡ held_at t (with_permissions end ips (live_held t held))
   left-permissions end ips = same_left t held.allocation _ _ _ _ (permissions_at-with_all t held.permissions ips end) same_channels
 
-  pub left-binding : (number : ℕ) (peer : Addr) → held_at t (with_binding t number peer held) ≡ held_at t (with_binding t number peer (held_counting t held))
+  pub left-binding : (number : ℕ) (peer : Addr) → held_at t (with_binding t number peer held) ≡ held_at t (with_binding t number peer (live_held t held))
   left-binding number peer = same_left t held.allocation _ _ _ _
-      (kept_of-insert ip_total (counts_at t) ip_antisymmetric held.permissions (ip_of peer) (t + PERMISSION_LIFETIME))
-      (kept_of-insert nat_cmp_total (binding_counts t) nat_cmp-IsAntisymmetric held.channels number (record { peer = peer; end = t + CHANNEL_LIFETIME }))
+      (kept_of-insert ip_total (is_live_at t) ip_antisymmetric held.permissions (ip_of peer) (t + PERMISSION_LIFETIME))
+      (kept_of-insert nat_cmp_total (is_live_binding t) nat_cmp-IsAntisymmetric held.channels number (record { peer = peer; end = t + CHANNEL_LIFETIME }))
 
 -- ---- the changes of what a slot holds
 
@@ -159,35 +159,35 @@ bind-full t number peer held of free no_room =
     ∙ full (nat_le channels MAX_CHANNELS) (Err Capacity) refl
 
 module _ (t : ℕ) (held : Held) where
-  -- with these permissions, which are those of the change as far as they count
+  -- with these permissions, which are those of the change as far as they are live
   pub permit-leaves : (ips : List Addr) (permissions : PermissionMap) → list_all (is_of_family held.allocation.family) ips ≡ true
       → len (with_all (permissions_at t held.permissions) ips (t + PERMISSION_LIFETIME)) ≤ MAX_PERMISSIONS
       → permissions_at t permissions ≡ permissions_at t (with_all (permissions_at t held.permissions) ips (t + PERMISSION_LIFETIME))
-      → LeavesHeld (permit_held t ips (held_counting t held)) t held (Ok tt) (held_of held.allocation permissions held.channels)
+      → LeavesHeld (permit_held t ips (live_held t held)) t held (Ok tt) (held_of held.allocation permissions held.channels)
   permit-leaves ips permissions of few same =
-      leaves _ t held _ (with_permissions (t + PERMISSION_LIFETIME) ips (held_counting t held)) (permit-is t ips (held_counting t held) of few) (same_left t held.allocation permissions _ held.channels _ same (same_channels t held))
+      leaves _ t held _ (with_permissions (t + PERMISSION_LIFETIME) ips (live_held t held)) (permit-is t ips (live_held t held) of few) (same_left t held.allocation permissions _ held.channels _ same (same_channels t held))
 
   pub bind-leaves : (number : ℕ) (peer : Addr) (new : Held) → is_of_family held.allocation.family peer ≡ true → IsTrue (may_bind (channels_at t held.channels) number peer)
       → len (insert (channels_at t held.channels) number (record { peer = peer; end = t + CHANNEL_LIFETIME })) ≤ MAX_CHANNELS
       → len (insert (permissions_at t held.permissions) (ip_of peer) (t + PERMISSION_LIFETIME)) ≤ MAX_PERMISSIONS
-      → held_at t new ≡ held_at t (with_binding t number peer (held_counting t held))
-      → LeavesHeld (bind_held t number peer (held_counting t held)) t held (Ok tt) new
+      → held_at t new ≡ held_at t (with_binding t number peer (live_held t held))
+      → LeavesHeld (bind_held t number peer (live_held t held)) t held (Ok tt) new
   bind-leaves number peer new of free few_channels few_permissions same =
-      leaves _ t held new (with_binding t number peer (held_counting t held)) (bind-is t number peer (held_counting t held) of free few_channels few_permissions) same
+      leaves _ t held new (with_binding t number peer (live_held t held)) (bind-is t number peer (live_held t held) of free few_channels few_permissions) same
 
   -- beside what is stored
   pub bind-beside : (number : ℕ) (peer : Addr) (new : Held) → new ≡ with_binding t number peer held → is_of_family held.allocation.family peer ≡ true
       → IsTrue (may_bind (channels_at t held.channels) number peer) → len new.permissions ≤ MAX_PERMISSIONS → len new.channels ≤ MAX_CHANNELS
-      → LeavesHeld (bind_held t number peer (held_counting t held)) t held (Ok tt) new
+      → LeavesHeld (bind_held t number peer (live_held t held)) t held (Ok tt) new
   bind-beside number peer new made of free few_permissions few_channels =
       bind-leaves number peer new of free
-      (few_channels_counting t held.channels number (record { peer = peer; end = t + CHANNEL_LIFETIME }) MAX_CHANNELS (subst (λ (h : Held). len h.channels ≤ MAX_CHANNELS) made few_channels))
-      (few_counting t held.permissions (peer ∷ []) (t + PERMISSION_LIFETIME) MAX_PERMISSIONS (subst (λ (h : Held). len h.permissions ≤ MAX_PERMISSIONS) made few_permissions))
+      (few_channels_live t held.channels number (record { peer = peer; end = t + CHANNEL_LIFETIME }) MAX_CHANNELS (subst (λ (h : Held). len h.channels ≤ MAX_CHANNELS) made few_channels))
+      (few_live t held.permissions (peer ∷ []) (t + PERMISSION_LIFETIME) MAX_PERMISSIONS (subst (λ (h : Held). len h.permissions ≤ MAX_PERMISSIONS) made few_permissions))
       (ap (held_at t) made ∙ left-binding t held number peer)
 
-  bind-of-left : (number : ℕ) (peer : Addr) (new : Held) → new ≡ with_binding t number peer (held_counting t held) → is_of_family held.allocation.family peer ≡ true
+  bind-of-left : (number : ℕ) (peer : Addr) (new : Held) → new ≡ with_binding t number peer (live_held t held) → is_of_family held.allocation.family peer ≡ true
       → IsTrue (may_bind (channels_at t (channels_at t held.channels)) number peer) → len new.permissions ≤ MAX_PERMISSIONS → len new.channels ≤ MAX_CHANNELS
-      → LeavesHeld (bind_held t number peer (held_counting t held)) t held (Ok tt) new
+      → LeavesHeld (bind_held t number peer (live_held t held)) t held (Ok tt) new
   bind-of-left number peer new made of free few_permissions few_channels =
       bind-leaves number peer new of (subst (λ (c : ChannelMap). IsTrue (may_bind c number peer)) (channels_again t t held.channels (omega arith)) free)
       (subst (λ (h : Held). len h.channels ≤ MAX_CHANNELS) made few_channels)
@@ -195,12 +195,12 @@ module _ (t : ℕ) (held : Held) where
       (ap (held_at t) made)
 
   -- in a copy of what is left
-  pub bind-left : (number : ℕ) (peer : Addr) (left new : Held) → left ≡ held_counting t held → new ≡ with_binding t number peer left → is_of_family left.allocation.family peer ≡ true
+  pub bind-left : (number : ℕ) (peer : Addr) (left new : Held) → left ≡ live_held t held → new ≡ with_binding t number peer left → is_of_family left.allocation.family peer ≡ true
       → IsTrue (may_bind (channels_at t left.channels) number peer) → len new.permissions ≤ MAX_PERMISSIONS → len new.channels ≤ MAX_CHANNELS
-      → LeavesHeld (bind_held t number peer (held_counting t held)) t held (Ok tt) new
+      → LeavesHeld (bind_held t number peer (live_held t held)) t held (Ok tt) new
   bind-left number peer left new is =
       subst (λ (left : Held). new ≡ with_binding t number peer left → is_of_family left.allocation.family peer ≡ true → IsTrue (may_bind (channels_at t left.channels) number peer)
-      → len new.permissions ≤ MAX_PERMISSIONS → len new.channels ≤ MAX_CHANNELS → LeavesHeld (bind_held t number peer (held_counting t held)) t held (Ok tt) new)
+      → len new.permissions ≤ MAX_PERMISSIONS → len new.channels ≤ MAX_CHANNELS → LeavesHeld (bind_held t number peer (live_held t held)) t held (Ok tt) new)
       (sym is) (bind-of-left number peer new)
 
 -- what is bound stays at its slot
@@ -253,22 +253,22 @@ stored_read slots slot o is within at same = ap option_flatten (slice_get_read s
 module _ (last : ℕ) (slots : List (Option Held)) (now : Rows) (shows : ShowsStored last slots now) (t : ℕ) (later : now.moment ≤ t) (slot : ℕ) (within : slot < length slots)
     (o : Option Held) (at : o ≡ get_or slots slot o) where
   -- where it is written back, nothing changes
-  unchanged : (same : Option Held) → same ≡ o → counting_rows last (record { moment = last; slots = set slots slot same }) ≡ now
-  unchanged same is = ap (λ (o : Option Held). counting_rows last (record { moment = last; slots = set slots slot o })) (is ∙ at) ∙ ap (λ (s : List (Option Held)). counting_rows last (record { moment = last; slots = s })) (set-get_or slots slot o) ∙ shows
+  unchanged : (same : Option Held) → same ≡ o → live_rows last (record { moment = last; slots = set slots slot same }) ≡ now
+  unchanged same is = ap (λ (o : Option Held). live_rows last (record { moment = last; slots = set slots slot o })) (is ∙ at) ∙ ap (λ (s : List (Option Held)). live_rows last (record { moment = last; slots = s })) (set-get_or slots slot o) ∙ shows
 
   none-refused : (same : Option Held) (f : Held → Change (Unit {0})) → same ≡ o → option_and_then (held_at t) o ≡ None
-      → Follows (ok_or (held_in (counting_rows t now) slot) NoAllocation >>= f) now (Err NoAllocation) (counting_rows last (record { moment = last; slots = set slots slot same }))
+      → Follows (ok_or (held_in (live_rows t now) slot) NoAllocation >>= f) now (Err NoAllocation) (live_rows last (record { moment = last; slots = set slots slot same }))
   none-refused same f is none =
-      let nothing : held_in (counting_rows t now) slot ≡ None = held_in-stored last slots now shows t later slot ∙ ap (option_and_then (held_at t)) (stored_read slots slot o o within at refl) ∙ none in
-      subst (λ (h : Option Held). Follows (ok_or h NoAllocation >>= f) now (Err NoAllocation) (counting_rows last (record { moment = last; slots = set slots slot same }))) (sym nothing)
+      let nothing : held_in (live_rows t now) slot ≡ None = held_in-stored last slots now shows t later slot ∙ ap (option_and_then (held_at t)) (stored_read slots slot o o within at refl) ∙ none in
+      subst (λ (h : Option Held). Follows (ok_or h NoAllocation >>= f) now (Err NoAllocation) (live_rows last (record { moment = last; slots = set slots slot same }))) (sym nothing)
       (refl, unchanged same is)
 
   pub empty-refused : (f : Held → Change (Unit {0})) → o ≡ None
-      → Follows (ok_or (held_in (counting_rows t now) slot) NoAllocation >>= f) now (Err NoAllocation) (counting_rows last (record { moment = last; slots = set slots slot o }))
+      → Follows (ok_or (held_in (live_rows t now) slot) NoAllocation >>= f) now (Err NoAllocation) (live_rows last (record { moment = last; slots = set slots slot o }))
   empty-refused f is = none-refused o f refl (ap (option_and_then (held_at t)) is)
 
   pub ended-refused : (held : Held) (f : Held → Change (Unit {0})) → o ≡ Some held → held.allocation.end ≤ t
-      → Follows (ok_or (held_in (counting_rows t now) slot) NoAllocation >>= f) now (Err NoAllocation) (counting_rows last (record { moment = last; slots = set slots slot (Some held) }))
+      → Follows (ok_or (held_in (live_rows t now) slot) NoAllocation >>= f) now (Err NoAllocation) (live_rows last (record { moment = last; slots = set slots slot (Some held) }))
   ended-refused held f is ended =
       none-refused (Some held) f (sym is) (ap (option_and_then (held_at t)) is ∙ held_at-ended t held (le-ltb t held.allocation.end ended))
 
@@ -276,52 +276,52 @@ module _ (last : ℕ) (slots : List (Option Held)) (now : Rows) (shows : ShowsSt
     is : stored_at slots slot ≡ Some held
     is = stored_read slots slot o (Some held) within at same
 
-    held_rows : held_in (counting_rows t now) slot ≡ Some (held_counting t held)
-    held_rows = held_in-stored last slots now shows t later slot ∙ ap (option_and_then (held_at t)) is ∙ held_at-counts t held (lt-ltb t held.allocation.end counts)
+    held_rows : held_in (live_rows t now) slot ≡ Some (live_held t held)
+    held_rows = held_in-stored last slots now shows t later slot ∙ ap (option_and_then (held_at t)) is ∙ held_at-live t held (lt-ltb t held.allocation.end counts)
 
-    made : (new wanted : Held) → held_at t new ≡ held_at t wanted → counting_rows t (record { moment = t; slots = set slots slot (Some new) }) ≡ with_held (counting_rows t now) slot wanted
+    made : (new wanted : Held) → held_at t new ≡ held_at t wanted → live_rows t (record { moment = t; slots = set slots slot (Some new) }) ≡ with_held (live_rows t now) slot wanted
     made new wanted left =
-        with_held-stored last slots now shows t later slot new ∙ ap (λ (o : Option Held). record (counting_rows t now) { slots = set (counting_rows t now).slots slot o }) left
+        with_held-stored last slots now shows t later slot new ∙ ap (λ (o : Option Held). record (live_rows t now) { slots = set (live_rows t now).slots slot o }) left
 
     pub refresh-follows : (lifetime : ℕ) (new : Held) → new ≡ with_end (t + lifetime) held
-        → Follows (refresh_change slot lifetime (counting_rows t now)) now (Ok tt) (counting_rows t (record { moment = t; slots = set slots slot (Some new) }))
+        → Follows (refresh_change slot lifetime (live_rows t now)) now (Ok tt) (live_rows t (record { moment = t; slots = set slots slot (Some new) }))
     refresh-follows lifetime new same =
-        subst (λ (c : Change (Unit {0})). Follows c now (Ok tt) (counting_rows t (record { moment = t; slots = set slots slot (Some new) }))) (sym (changed slot (counting_rows t now) (held_counting t held) _ held_rows))
+        subst (λ (c : Change (Unit {0})). Follows c now (Ok tt) (live_rows t (record { moment = t; slots = set slots slot (Some new) }))) (sym (changed slot (live_rows t now) (live_held t held) _ held_rows))
         (refl, made new _ (ap (held_at t) same ∙ left-end t held (t + lifetime)))
 
-    followed : (change : Change (Unit {0})) (inner : Result Held Refused) (new : Held) → change ≡ (inner >>= put-back slot (counting_rows t now)) → LeavesHeld inner t held (Ok tt) new
-        → Follows change now (Ok tt) (counting_rows t (record { moment = t; slots = set slots slot (Some new) }))
-    followed change (Ok wanted) new made_is left = subst (λ (c : Change (Unit {0})). Follows c now (Ok tt) (counting_rows t (record { moment = t; slots = set slots slot (Some new) }))) (sym made_is) (refl, made new wanted left.1)
+    followed : (change : Change (Unit {0})) (inner : Result Held Refused) (new : Held) → change ≡ (inner >>= put-back slot (live_rows t now)) → LeavesHeld inner t held (Ok tt) new
+        → Follows change now (Ok tt) (live_rows t (record { moment = t; slots = set slots slot (Some new) }))
+    followed change (Ok wanted) new made_is left = subst (λ (c : Change (Unit {0})). Follows c now (Ok tt) (live_rows t (record { moment = t; slots = set slots slot (Some new) }))) (sym made_is) (refl, made new wanted left.1)
     followed change (Err refused) new made_is left = absurd (ok-err refl left.0)
 
-    pub permit-follows : (ips : List Addr) (new : Held) → LeavesHeld (permit_held t ips (held_counting t held)) t held (Ok tt) new
-        → Follows (permit_change slot ips (counting_rows t now)) now (Ok tt) (counting_rows t (record { moment = t; slots = set slots slot (Some new) }))
-    permit-follows ips new = followed _ _ new (permit-changes slot (counting_rows t now) ips (held_counting t held) held_rows)
+    pub permit-follows : (ips : List Addr) (new : Held) → LeavesHeld (permit_held t ips (live_held t held)) t held (Ok tt) new
+        → Follows (permit_change slot ips (live_rows t now)) now (Ok tt) (live_rows t (record { moment = t; slots = set slots slot (Some new) }))
+    permit-follows ips new = followed _ _ new (permit-changes slot (live_rows t now) ips (live_held t held) held_rows)
 
-    pub bind-follows : (number : ℕ) (peer : Addr) (new : Held) → LeavesHeld (bind_held t number peer (held_counting t held)) t held (Ok tt) new
-        → Follows (bind_change slot number peer (counting_rows t now)) now (Ok tt) (counting_rows t (record { moment = t; slots = set slots slot (Some new) }))
-    bind-follows number peer new = followed _ _ new (bind-changes slot (counting_rows t now) number peer (held_counting t held) held_rows)
+    pub bind-follows : (number : ℕ) (peer : Addr) (new : Held) → LeavesHeld (bind_held t number peer (live_held t held)) t held (Ok tt) new
+        → Follows (bind_change slot number peer (live_rows t now)) now (Ok tt) (live_rows t (record { moment = t; slots = set slots slot (Some new) }))
+    bind-follows number peer new = followed _ _ new (bind-changes slot (live_rows t now) number peer (live_held t held) held_rows)
 
     -- where the change of what the slot holds is refused, so is that of the rows
-    refused : (change : Change (Unit {0})) (inner : Result Held Refused) (why : Refused) (new : Held) → change ≡ (inner >>= put-back slot (counting_rows t now)) → LeavesHeld inner t held (Err why) new
-        → Follows change now (Err why) (counting_rows last (record { moment = last; slots = set slots slot (Some new) }))
+    refused : (change : Change (Unit {0})) (inner : Result Held Refused) (why : Refused) (new : Held) → change ≡ (inner >>= put-back slot (live_rows t now)) → LeavesHeld inner t held (Err why) new
+        → Follows change now (Err why) (live_rows last (record { moment = last; slots = set slots slot (Some new) }))
     refused change (Ok wanted) why new refused_is left = absurd (ok-err left.0 refl)
     refused change (Err other) why new refused_is left =
-        subst (λ (c : Change (Unit {0})). Follows c now (Err why) (counting_rows last (record { moment = last; slots = set slots slot (Some new) }))) (sym refused_is)
+        subst (λ (c : Change (Unit {0})). Follows c now (Err why) (live_rows last (record { moment = last; slots = set slots slot (Some new) }))) (sym refused_is)
         (left.0, unchanged (Some new) (ap Some left.1 ∙ sym same))
 
-    pub permit-refused : (ips : List Addr) (why : Refused) (new : Held) → LeavesHeld (permit_held t ips (held_counting t held)) t held (Err why) new
-        → Follows (permit_change slot ips (counting_rows t now)) now (Err why) (counting_rows last (record { moment = last; slots = set slots slot (Some new) }))
-    permit-refused ips why new = refused _ _ why new (permit-changes slot (counting_rows t now) ips (held_counting t held) held_rows)
+    pub permit-refused : (ips : List Addr) (why : Refused) (new : Held) → LeavesHeld (permit_held t ips (live_held t held)) t held (Err why) new
+        → Follows (permit_change slot ips (live_rows t now)) now (Err why) (live_rows last (record { moment = last; slots = set slots slot (Some new) }))
+    permit-refused ips why new = refused _ _ why new (permit-changes slot (live_rows t now) ips (live_held t held) held_rows)
 
-    pub bind-refused : (number : ℕ) (peer : Addr) (why : Refused) (new : Held) → LeavesHeld (bind_held t number peer (held_counting t held)) t held (Err why) new
-        → Follows (bind_change slot number peer (counting_rows t now)) now (Err why) (counting_rows last (record { moment = last; slots = set slots slot (Some new) }))
-    bind-refused number peer why new = refused _ _ why new (bind-changes slot (counting_rows t now) number peer (held_counting t held) held_rows)
+    pub bind-refused : (number : ℕ) (peer : Addr) (why : Refused) (new : Held) → LeavesHeld (bind_held t number peer (live_held t held)) t held (Err why) new
+        → Follows (bind_change slot number peer (live_rows t now)) now (Err why) (live_rows last (record { moment = last; slots = set slots slot (Some new) }))
+    bind-refused number peer why new = refused _ _ why new (bind-changes slot (live_rows t now) number peer (live_held t held) held_rows)
 
 -- ---- the moment of a change
 
-pub at_moment : (change : Rows → Change (Unit {0})) (now new : Rows) (result : Result (Unit {0}) Refused) (t u : ℕ) → t ≡ u → Follows (change (counting_rows t now)) now result new → Follows (change (counting_rows u now)) now result new
-at_moment change now new result t u moment = subst (λ m. Follows (change (counting_rows m now)) now result new) moment
+pub at_moment : (change : Rows → Change (Unit {0})) (now new : Rows) (result : Result (Unit {0}) Refused) (t u : ℕ) → t ≡ u → Follows (change (live_rows t now)) now result new → Follows (change (live_rows u now)) now result new
+at_moment change now new result t u moment = subst (λ m. Follows (change (live_rows m now)) now result new) moment
 
 -- ---- what is stored stays well formed
 

@@ -1,4 +1,4 @@
--- The slots as they are stored, and the rows that count.
+-- The slots as they are stored, and the live rows.
 use Rattle.std.proofs.Common.{◌≡◌, ℕ, zero, suc, ◌<◌, ◌≤◌, true, false, cond, List, ◌∷◌, length, get_or, set, find, replicate, slice_get, nat_lt, Option, Some, None, is_some, is_none, IfSome, option_and_then, option_copied, sym, refl, ap, ◌∙◌, Bor, arith}
 use Rattle.std.specs.List.{position_or_len}
 use Rattle.std.specs.Option.{option_flatten}
@@ -8,35 +8,35 @@ use Rattle.std.proofs.lemmas.List.Quantifiers.{position-Some}
 use Rattle.std.proofs.lemmas.List.Sums.{position_or_len_is}
 use Rattle.std.proofs.lemmas.Option.{slice_get-get_or, slice_get_read}
 use Rattle.attributes.specs.declared.address.Addr.{Addr}
-use Rattle.tables.specs.Rows.{Rows, held_at, slots_at, counting_rows}
+use Rattle.tables.specs.Rows.{Rows, held_at, slots_at, live_rows}
 use Rattle.tables.specs.LookUps.{held_in, held_by, is_of}
 use Rattle.tables.specs.Changes.{with_held, first_free}
-use Rattle.tables.specs.RowLaws.{counting_again, held_in-counting, held_at-counts}
+use Rattle.tables.specs.RowLaws.{live_again, held_in-live, held_at-live}
 use Rattle.tables.specs.declared.held.Held.{Held}
 
 -- `now` is the rows of what is stored
 abbrev pub ShowsStored : ℕ → List (Option Held) → Rows → Type 0
-ShowsStored moment slots now = counting_rows moment (record { moment = moment; slots = slots }) ≡ now
+ShowsStored moment slots now = live_rows moment (record { moment = moment; slots = slots }) ≡ now
 
 module _ (last : ℕ) (slots : List (Option Held)) (now : Rows) (shows : ShowsStored last slots now) (t : ℕ) (later : now.moment ≤ t) where
-  pub counting-stored : counting_rows t now ≡ record { moment = t; slots = slots_at t slots }
-  counting-stored =
+  pub live-stored : live_rows t now ≡ record { moment = t; slots = slots_at t slots }
+  live-stored =
       let since : last ≤ t = omega (arith, ap (λ (r : Rows). r.moment) shows, later) in
-      ap (counting_rows t) (sym shows) ∙ counting_again last t (record { moment = last; slots = slots }) since
+      ap (live_rows t) (sym shows) ∙ live_again last t (record { moment = last; slots = slots }) since
 
-  pub held_in-stored : (slot : ℕ) → held_in (counting_rows t now) slot ≡ option_and_then (held_at t) (option_flatten (slice_get slots slot))
-  held_in-stored slot = ap (λ (r : Rows). held_in r slot) counting-stored ∙ held_in-counting t slot (record { moment = t; slots = slots })
+  pub held_in-stored : (slot : ℕ) → held_in (live_rows t now) slot ≡ option_and_then (held_at t) (option_flatten (slice_get slots slot))
+  held_in-stored slot = ap (λ (r : Rows). held_in r slot) live-stored ∙ held_in-live t slot (record { moment = t; slots = slots })
 
-  pub with_held-stored : (slot : ℕ) (held : Held) → counting_rows t (record { moment = t; slots = set slots slot (Some held) }) ≡ with_held (counting_rows t now) slot held
+  pub with_held-stored : (slot : ℕ) (held : Held) → live_rows t (record { moment = t; slots = set slots slot (Some held) }) ≡ with_held (live_rows t now) slot held
   with_held-stored slot held =
       (λ i. record { moment = t; slots = map-set (option_and_then (held_at t)) slots slot (Some held) i })
-      ∙ ap (λ (r : Rows). with_held r slot held) (sym counting-stored)
+      ∙ ap (λ (r : Rows). with_held r slot held) (sym live-stored)
 
-  pub held_by-stored : (client : Addr) → held_by client (counting_rows t now) ≡ option_flatten (find (is_of client) (slots_at t slots))
-  held_by-stored client = ap (held_by client) counting-stored
+  pub held_by-stored : (client : Addr) → held_by client (live_rows t now) ≡ option_flatten (find (is_of client) (slots_at t slots))
+  held_by-stored client = ap (held_by client) live-stored
 
-  pub length-stored : length (counting_rows t now).slots ≡ length slots
-  length-stored = ap (λ (r : Rows). length r.slots) counting-stored ∙ length-map slots (option_and_then (held_at t))
+  pub length-stored : length (live_rows t now).slots ≡ length slots
+  length-stored = ap (λ (r : Rows). length r.slots) live-stored ∙ length-map slots (option_and_then (held_at t))
 
 -- ---- a slot
 
@@ -81,7 +81,7 @@ held_none t (Some held) o e h = absurd (both_ways true h refl)
 
 pub held_some : (t : ℕ) (r : Option (Bor Held)) (o : Option Held) → option_and_then (held_at t) (option_copied r) ≡ o → IfSome r (λ held. t < held.now.allocation.end) → is_some r ≡ true → is_none o ≡ false
 held_some t None o e counts h = absurd (both_ways false refl h)
-held_some t (Some held) o e counts h = ap is_none (sym e) ∙ ap is_none (held_at-counts t held.now (lt-ltb t held.now.allocation.end counts))
+held_some t (Some held) o e counts h = ap is_none (sym e) ∙ ap is_none (held_at-live t held.now (lt-ltb t held.now.allocation.end counts))
 
 -- ---- no rows
 

@@ -1,4 +1,4 @@
--- Meaning. Changes of the rows that count at the moment of the change, or the first refusal that applies.
+-- Meaning. Changes of the live rows at the moment of the change, or the first refusal that applies.
 use Rattle.std.specs.Prelude.{◌≡◌, ℕ, ◌+◌, List, Option, Result, Ok, Err, ok_or, slice_set, position, nat_le, is_none}
 use Rattle.std.specs.FinMap.{insert, empty, len}
 use Rattle.fallible.specs.Fallible.{◌>>=◌, check}
@@ -27,7 +27,7 @@ abbrev pub Follows : {A : Type 0} → Change A → Rows → Result A Refused →
 Follows (Ok made) old result new = (result ≡ Ok made.0) × (new ≡ made.1)
 Follows (Err refused) old result new = (result ≡ Err refused) × (new ≡ old)
 
--- the rows where a slot holds this, as far as that counts
+-- the rows where a slot holds this, as far as that is live
 abbrev pub with_held : Rows → ℕ → Held → Rows
 with_held rows slot held = record rows { slots = slice_set rows.slots slot (held_at rows.moment held) }
 

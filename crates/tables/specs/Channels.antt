@@ -5,7 +5,7 @@ use Rattle.std.specs.Ordering.{nat_cmp}
 use Rattle.std.specs.FinMap.{FinMap, get, entries, retain_keys}
 use Rattle.attributes.specs.AddressOrder.{is_same_address}
 use Rattle.attributes.specs.declared.address.Addr.{Addr}
-use Rattle.tables.specs.Moments.{counts_at}
+use Rattle.tables.specs.Moments.{is_live_at}
 use Rattle.tables.specs.declared.channels.Binding.{Binding}
 use Rattle.tables.specs.declared.channels.TheConstants.{FIRST_CHANNEL, LAST_CHANNEL}
 
@@ -20,9 +20,9 @@ ChannelMap = FinMap nat_cmp Binding
 abbrev pub end_of : ChannelMap → ℕ → Option ℕ
 end_of channels number = option_map (λ b. b.end) (get channels number)
 
--- those that count at a moment
+-- those that are live at a moment
 abbrev pub channels_at : ℕ → ChannelMap → ChannelMap
-channels_at t channels = retain_keys channels (λ number. counts_at t (end_of channels number))
+channels_at t channels = retain_keys channels (λ number. is_live_at t (end_of channels number))
 
 -- the number that is bound to a peer
 abbrev pub number_to : Addr → ChannelMap → Option ℕ

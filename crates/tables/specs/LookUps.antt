@@ -1,4 +1,4 @@
--- Meaning. Look-ups in the rows that count.
+-- Meaning. Look-ups in the live rows.
 use Rattle.std.specs.Prelude.{ℕ, Bool, false, Option, None, Some, slice_get, is_some, find}
 use Rattle.std.specs.Option.{option_map, option_and_then, option_flatten}
 use Rattle.std.specs.FinMap.{empty, get}

@@ -2,7 +2,7 @@
 use Rattle.std.specs.Prelude.{◌≡◌, ℕ, ◌≤◌}
 use Rattle.std.proofs.Common.{ap, arith}
 use Rattle.tables.specs.Moments.{moment_of}
-use Rattle.tables.specs.Rows.{Rows, rows_at, counting_rows}
+use Rattle.tables.specs.Rows.{Rows, rows_at, live_rows}
 use Rattle.tables.specs.declared.moment.TheConstants.{LATEST}
 
 -- a moment between the greatest and the latest is itself
@@ -22,6 +22,6 @@ moment_of-again greatest t = omega arith
 pub moment_of-greater : (m greatest t : ℕ) → m ≤ greatest → greatest ≤ LATEST → moment_of m (moment_of greatest t) ≡ moment_of greatest t
 moment_of-greater m greatest t more latest = omega arith
 
--- the rows at such a moment are those that count then
-pub rows_at-greater : (rows : Rows) (greatest t : ℕ) → rows.moment ≤ greatest → greatest ≤ LATEST → rows_at (moment_of greatest t) rows ≡ counting_rows (moment_of greatest t) rows
-rows_at-greater rows greatest t more latest = ap (λ m. counting_rows m rows) (moment_of-greater rows.moment greatest t more latest)
+-- the rows at such a moment are those that are live then
+pub rows_at-greater : (rows : Rows) (greatest t : ℕ) → rows.moment ≤ greatest → greatest ≤ LATEST → rows_at (moment_of greatest t) rows ≡ live_rows (moment_of greatest t) rows
+rows_at-greater rows greatest t more latest = ap (λ m. live_rows m rows) (moment_of-greater rows.moment greatest t more latest)

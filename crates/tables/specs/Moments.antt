@@ -7,7 +7,7 @@ use Rattle.tables.specs.declared.moment.TheConstants.{LATEST}
 abbrev pub moment_of : ℕ → ℕ → ℕ
 moment_of greatest t = max greatest (min t LATEST)
 
--- whether what has this end, if there is one, counts at a moment
-abbrev pub counts_at : ℕ → Option ℕ → Bool
-counts_at t None = false
-counts_at t (Some end) = nat_lt t end
+-- whether what has this end, if there is one, is live at a moment
+abbrev pub is_live_at : ℕ → Option ℕ → Bool
+is_live_at t None = false
+is_live_at t (Some end) = nat_lt t end

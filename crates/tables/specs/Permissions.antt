@@ -4,15 +4,15 @@ use Rattle.std.specs.FinMap.{FinMap, get, insert, retain_keys}
 use Rattle.attributes.specs.Addresses.{ip_of}
 use Rattle.attributes.specs.AddressOrder.{ip_cmp}
 use Rattle.attributes.specs.declared.address.Addr.{Addr}
-use Rattle.tables.specs.Moments.{counts_at}
+use Rattle.tables.specs.Moments.{is_live_at}
 
 -- the end of the permission of each IP address that has one
 abbrev pub PermissionMap : Type 0
 PermissionMap = FinMap ip_cmp ℕ
 
--- those that count at a moment
+-- those that are live at a moment
 abbrev pub permissions_at : ℕ → PermissionMap → PermissionMap
-permissions_at t permissions = retain_keys permissions (λ ip. counts_at t (get permissions ip))
+permissions_at t permissions = retain_keys permissions (λ ip. is_live_at t (get permissions ip))
 
 -- with permissions for all of these IP addresses
 abbrev pub with_all : PermissionMap → List Addr → ℕ → PermissionMap

@@ -1,4 +1,4 @@
--- Meaning. The rows of the tables, and which of them count at a moment (RFC 8656, sections 6, 9 and 12). A slot holds
+-- Meaning. The rows of the tables, and which of them are live at a moment (RFC 8656, sections 6, 9 and 12). A slot holds
 -- nothing, or an allocation with its permissions and channels, which so end with it.
 use Rattle.std.specs.Prelude.{ℕ, List, map, replicate, Option, None, Some, if◌then◌else◌, nat_lt}
 use Rattle.std.specs.Option.{option_and_then}
@@ -12,7 +12,7 @@ pub record Rows : Type 0 where
   pub moment : ℕ
   pub slots : List (Option Held)
 
--- ---- the rows that count
+-- ---- the live rows
 
 -- where the allocation has ended, its rows have too
 abbrev pub held_at : ℕ → Held → Option Held
@@ -24,13 +24,13 @@ held_at t held =
 abbrev pub slots_at : ℕ → List (Option Held) → List (Option Held)
 slots_at t slots = map (option_and_then (held_at t)) slots
 
--- the rows that count at a moment, which is then the greatest
-abbrev pub counting_rows : ℕ → Rows → Rows
-counting_rows t rows = record { moment = t; slots = slots_at t rows.slots }
+-- the live rows at a moment, which is then the greatest
+abbrev pub live_rows : ℕ → Rows → Rows
+live_rows t rows = record { moment = t; slots = slots_at t rows.slots }
 
 -- the rows at a moment that is handed in
 abbrev pub rows_at : ℕ → Rows → Rows
-rows_at t rows = counting_rows (moment_of rows.moment t) rows
+rows_at t rows = live_rows (moment_of rows.moment t) rows
 
 -- `count` empty slots, before the first change
 abbrev pub no_rows : ℕ → Rows

@@ -75,7 +75,7 @@ bind_held t number peer held = do
   _ ← check (nat_le (len (insert held.permissions (ip_of peer) (t + PERMISSION_LIFETIME))) MAX_PERMISSIONS) Capacity
   Ok (with_binding t number peer held)
 
--- after a change that is made, what counts is what it makes; a refused one leaves what is stored
+-- after a change that is made, what is live is what it makes; a refused one leaves what is stored
 abbrev pub LeavesHeld : Result Held Refused → ℕ → Held → Result (Unit {0}) Refused → Held → Type 0
 LeavesHeld (Ok made) t old result new = (result ≡ Ok tt) × (held_at t new ≡ held_at t made)
 LeavesHeld (Err refused) t old result new = (result ≡ Err refused) × (new ≡ old)

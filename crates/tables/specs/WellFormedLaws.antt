@@ -22,11 +22,11 @@ use Rattle.tables.specs.Channels.{ChannelMap, IsChannelNumber, may_bind, number_
 use Rattle.tables.specs.LookUps.{held_in, is_of, allocation_of, allocation_at, peer_of, channel_of}
 use Rattle.tables.specs.MapLaws.{entry_found}
 use Rattle.tables.specs.MomentLaws.{moment_of-latest}
-use Rattle.tables.specs.Moments.{moment_of, counts_at}
+use Rattle.tables.specs.Moments.{moment_of, is_live_at}
 use Rattle.tables.specs.Permissions.{PermissionMap, with_all}
 use Rattle.tables.specs.RetainedLaws.{get-kept_of, kept_from, len-kept_of}
-use Rattle.tables.specs.RowLaws.{binding_counts, held_counting, held_at-counts, held_at-ended, held_in-counting}
-use Rattle.tables.specs.Rows.{Rows, held_at, counting_rows, rows_at, no_rows}
+use Rattle.tables.specs.RowLaws.{is_live_binding, live_held, held_at-live, held_at-ended, held_in-live}
+use Rattle.tables.specs.Rows.{Rows, held_at, live_rows, rows_at, no_rows}
 use Rattle.tables.specs.WellFormed.{IsChannel, IsHeldAt, AreWellFormed}
 use Rattle.tables.specs.declared.allocation.Allocation.{Allocation}
 use Rattle.tables.specs.declared.channels.Binding.{Binding}
@@ -47,21 +47,21 @@ of_ipv4 (V6 ip port) is ipv4 = absurd cc
 
 -- ---- what a slot holds
 
--- what counts at a moment
-pub counted-held_at : (t slot : ℕ) (held : Held) → IsHeldAt slot held → IsHeldAt slot (held_counting t held)
-counted-held_at t slot held is = record {
+-- what is live at a moment
+pub live-held_at : (t slot : ℕ) (held : Held) → IsHeldAt slot held → IsHeldAt slot (live_held t held)
+live-held_at t slot held is = record {
   at_slot = is.at_slot;
   client = is.client;
   channels = λ number binding there. is.channels number binding
-      (kept_from (binding_counts t) (get held.channels number) binding (sym (get-kept_of nat_cmp_total (binding_counts t) held.channels number) ∙ there)).0;
-  few_permissions = omega (arith, is.few_permissions, len-kept_of ip_total (counts_at t) held.permissions);
-  few_channels = omega (arith, is.few_channels, len-kept_of nat_cmp_total (binding_counts t) held.channels);
+      (kept_from (is_live_binding t) (get held.channels number) binding (sym (get-kept_of nat_cmp_total (is_live_binding t) held.channels number) ∙ there)).0;
+  few_permissions = omega (arith, is.few_permissions, len-kept_of ip_total (is_live_at t) held.permissions);
+  few_channels = omega (arith, is.few_channels, len-kept_of nat_cmp_total (is_live_binding t) held.channels);
 }
 
 -- what is left of it, if anything is
 pub left-held_at : (t slot : ℕ) (held left : Held) → IsHeldAt slot held → held_at t held ≡ Some left → IsHeldAt slot left
 left-held_at t slot held left is there = elim (cases_Bool (nat_lt t held.allocation.end)) [
-  | inl counts ↦ subst (IsHeldAt slot) (same_Some _ _ (sym (held_at-counts t held counts) ∙ there)) (counted-held_at t slot held is)
+  | inl counts ↦ subst (IsHeldAt slot) (same_Some _ _ (sym (held_at-live t held counts) ∙ there)) (live-held_at t slot held is)
   | inr ended ↦ absurd (none-some left (sym (held_at-ended t held ended) ∙ there))
 ]
 
@@ -123,15 +123,15 @@ counted_from : (t slot : ℕ) (o : Option Held) (left : Held) → option_and_the
 counted_from t slot None left there each = absurd (none-some left there)
 counted_from t slot (Some held) left there each = left-held_at t slot held left (each held refl) there
 
-pub counting-well_formed : (t : ℕ) (rows : Rows) → t ≤ LATEST → AreWellFormed rows → AreWellFormed (counting_rows t rows)
-counting-well_formed t rows latest are = record {
+pub live-well_formed : (t : ℕ) (rows : Rows) → t ≤ LATEST → AreWellFormed rows → AreWellFormed (live_rows t rows)
+live-well_formed t rows latest are = record {
   latest = latest;
   few = omega (arith, are.few, length-map rows.slots (option_and_then (held_at t)));
-  held = λ slot left there. counted_from t slot (held_in rows slot) left (sym (held_in-counting t slot rows) ∙ there) (are.held slot);
+  held = λ slot left there. counted_from t slot (held_in rows slot) left (sym (held_in-live t slot rows) ∙ there) (are.held slot);
 }
 
 pub rows_at-well_formed : (t : ℕ) (rows : Rows) → AreWellFormed rows → AreWellFormed (rows_at t rows)
-rows_at-well_formed t rows are = counting-well_formed (moment_of rows.moment t) rows (moment_of-latest rows.moment t are.latest) are
+rows_at-well_formed t rows are = live-well_formed (moment_of rows.moment t) rows (moment_of-latest rows.moment t are.latest) are
 
 pub get-set_same : (slots : List (Option Held)) (i : ℕ) (o : Option Held) → i < length slots → option_flatten (slice_get (slice_set slots i o) i) ≡ o
 get-set_same [] i o l = absurd (omega arith)

@@ -18,6 +18,6 @@ pub struct Allocation {
     pub tx: [u8; 12],
     /// The lifetime that this request was given, in seconds.
     pub lifetime: u32,
-    /// The first moment at which it doesn't count any more, in seconds.
+    /// The first moment at which it isn't live any more, in seconds.
     pub end: u64,
 }

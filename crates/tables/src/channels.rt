@@ -31,7 +31,7 @@ pub const LAST_CHANNEL: u16 = 0x4fff;
 pub struct Binding {
     /// The peer's address and port.
     pub peer: Addr,
-    /// The first moment at which it doesn't count any more, in seconds.
+    /// The first moment at which it isn't live any more, in seconds.
     pub end: u64,
 }
 
@@ -104,8 +104,8 @@ impl Model for Channels {
     ghost invariant = { λ c. AreChannelLists c.rows.items c.by_peer.items };
 }
 
-/// Returns the channels that count at a moment.
-fn counting_channels(channels: &[Channel], moment: u64) -> ArrayVec<Channel, MAX_CHANNELS>
+/// Returns the channels that are live at a moment.
+fn live_channels(channels: &[Channel], moment: u64) -> ArrayVec<Channel, MAX_CHANNELS>
     requires { length channels.now ≤ MAX_CHANNELS }
     ensures { result.items ≡ filter (λ row. nat_lt moment row.binding.end) channels.now }
 {
@@ -180,7 +180,7 @@ impl Channels {
         }
     }
 
-    /// Returns the number that is bound to a peer by a channel that counts at a moment, if there is one.
+    /// Returns the number that is bound to a peer by a channel that is live at a moment, if there is one.
     pub(crate) fn number_at<L: Ledger>(
         &self,
         peer: &Addr,
@@ -212,13 +212,13 @@ impl Channels {
         self.rows
     }
 
-    /// Returns the channels that count at a moment.
+    /// Returns the channels that are live at a moment.
     pub(crate) fn at(&self, moment: u64) -> Channels
         ensures { result ≡ channels_at moment self.now }
     {
         Channels {
-            rows: counting_channels(self.rows.as_slice(), moment),
-            by_peer: counting_channels(self.by_peer.as_slice(), moment),
+            rows: live_channels(self.rows.as_slice(), moment),
+            by_peer: live_channels(self.by_peer.as_slice(), moment),
         }
     }
 
@@ -233,7 +233,7 @@ impl Channels {
         is_own && self.number_to(peer).is_none_or(|bound| number == bound)
     }
 
-    /// States that a number and a peer that may be bound may also be bound among the channels that count at a moment.
+    /// States that a number and a peer that may be bound may also be bound among the channels that are live at a moment.
     pub(crate) fn stay_free(&self, number: u16, peer: &Addr)
         requires { IsTrue (may_bind self.now number peer.now) }
         ensures { (t : ℕ) → IsTrue (may_bind (channels_at t self.now) number peer.now) }

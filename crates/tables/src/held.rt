@@ -22,7 +22,7 @@ impl Held {
     ghost use Rattle.std.specs.FinMap.{len};
     ghost use Rattle.attributes.specs.Addresses.{IsAddress, is_of_family};
     ghost use Rattle.tables.specs.Channels.{IsChannelNumber, channels_at, may_bind};
-    ghost use Rattle.tables.specs.RowLaws.{held_counting};
+    ghost use Rattle.tables.specs.RowLaws.{live_held};
     ghost use Rattle.tables.specs.Stored.{LeavesHeld, permit_held, bind_held, with_end, with_binding};
     ghost use Rattle.tables.specs.WellFormed.{IsHeldAt};
     ghost use Rattle.tables.specs.declared.channels.TheConstants.{MAX_CHANNELS};
@@ -38,7 +38,7 @@ impl Held {
 
     /// Returns a copy from which the permissions and channels that have ended at a moment are dropped.
     fn at(&self, moment: u64) -> Held
-        ensures { result ≡ held_counting moment self.now }
+        ensures { result ≡ live_held moment self.now }
     {
         Held {
             allocation: self.allocation,
@@ -55,7 +55,7 @@ impl Held {
     /// is changed then.
     pub(crate) fn permit(&mut self, ips: &[Addr], moment: u64) -> Result<(), Refused>
         requires latest { moment ≤ LATEST }
-        ensures follows { LeavesHeld (permit_held moment ips.now (held_counting moment self.old)) moment self.old result self.new }
+        ensures follows { LeavesHeld (permit_held moment ips.now (live_held moment self.old)) moment self.old result self.new }
         ensures held_at { (slot : ℕ) → IsHeldAt slot self.old → IsHeldAt slot self.new }
         ensures same { self.new.allocation ≡ self.old.allocation }
     {
@@ -82,7 +82,7 @@ impl Held {
     pub(crate) fn bind(&mut self, number: u16, peer: Addr, moment: u64) -> Result<(), Refused>
         requires range { IsChannelNumber number }
         requires latest { moment ≤ LATEST }
-        ensures follows { LeavesHeld (bind_held moment number peer (held_counting moment self.old)) moment self.old result self.new }
+        ensures follows { LeavesHeld (bind_held moment number peer (live_held moment self.old)) moment self.old result self.new }
         ensures held_at { (slot : ℕ) → IsHeldAt slot self.old → IsHeldAt slot self.new }
         ensures same { self.new.allocation ≡ self.old.allocation }
     {
@@ -92,12 +92,12 @@ impl Held {
         self.put_swept(number, peer, moment)
     }
 
-    /// As [`Held::bind`], with a copy from which what has ended is dropped. It is a function of its own, so that a change in place
-    /// makes no room for the copy.
+    /// As [`Held::bind`], with a copy from which what has ended is dropped. It is a function of its own, so that a change in
+    /// place makes no room for the copy.
     fn put_swept(&mut self, number: u16, peer: Addr, moment: u64) -> Result<(), Refused>
         requires range { IsChannelNumber number }
         requires latest { moment ≤ LATEST }
-        ensures follows { LeavesHeld (bind_held moment number peer (held_counting moment self.old)) moment self.old result self.new }
+        ensures follows { LeavesHeld (bind_held moment number peer (live_held moment self.old)) moment self.old result self.new }
         ensures held_at { (slot : ℕ) → IsHeldAt slot self.old → IsHeldAt slot self.new }
         ensures same { self.new.allocation ≡ self.old.allocation }
     {

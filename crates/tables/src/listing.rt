@@ -11,7 +11,7 @@ impl Tables {
     ghost use Rattle.tables.specs.LookUps.{permissions_at_slot, channels_at_slot};
     ghost use Rattle.tables.specs.RowLists.{permissions_of, channels_of, ArePermissions, AreChannels};
 
-    /// Returns the permissions at a slot that count at a moment, in the order of their IP addresses. A slot without an
+    /// Returns the permissions at a slot that are live at a moment, in the order of their IP addresses. A slot without an
     /// allocation has none.
     pub fn permissions(&self, slot: usize, now: u64) -> ArrayVec<Permission, MAX_PERMISSIONS>
         ensures permissions { permissions_of result.items ≡ permissions_at_slot slot (rows_at now self.now) }
@@ -24,7 +24,7 @@ impl Tables {
         held.permissions.at(moment).into_rows()
     }
 
-    /// Returns the channels at a slot that count at a moment, in the order of their numbers. A slot without an allocation has
+    /// Returns the channels at a slot that are live at a moment, in the order of their numbers. A slot without an allocation has
     /// none.
     pub fn channels(&self, slot: usize, now: u64) -> ArrayVec<Channel, MAX_CHANNELS>
         ensures channels { channels_of result.items ≡ channels_at_slot slot (rows_at now self.now) }

@@ -20,7 +20,7 @@ pub const MAX_PERMISSIONS: usize = 64;
 pub struct Permission {
     /// The address, whose port is not looked at.
     pub ip: Addr,
-    /// The first moment at which it doesn't count any more, in seconds.
+    /// The first moment at which it isn't live any more, in seconds.
     pub end: u64,
 }
 
@@ -109,7 +109,7 @@ impl Permissions {
         self.rows
     }
 
-    /// Returns the permissions that count at a moment.
+    /// Returns the permissions that are live at a moment.
     pub(crate) fn at(&self, moment: u64) -> Permissions
         ensures left { result ≡ permissions_at moment self.now }
         ensures few { len result ≤ MAX_PERMISSIONS }

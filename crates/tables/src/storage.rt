@@ -16,10 +16,10 @@ use steps::Steps;
 /// The greatest number of slots, each of which has one allocation or none.
 pub const MAX_ALLOCATIONS: usize = 256;
 
-/// The tables: for each slot an allocation with its permissions and channels, or nothing. A row counts at a moment as long
-/// as the moment is smaller than its end, and its allocation counts. All memory is allocated by [`Tables::new`].
+/// The tables: for each slot an allocation with its permissions and channels, or nothing. A row is live at a moment as long
+/// as the moment is smaller than its end, and its allocation is live. All memory is allocated by [`Tables::new`].
 ///
-/// The model is the rows that count at the greatest moment of the changes made. What is stored may have ended.
+/// The model is the live rows at the greatest moment of the changes made. What is stored may have ended.
 /// See docs/DECISIONS.md, "The model of the tables".
 #[derive(Drop)]
 pub struct Tables {
@@ -48,7 +48,7 @@ impl Tables {
     ghost use Rattle.std.specs.Prelude.{◌≡◌, ◌+◌, ◌≤◌, ◌<◌, IfOk, IfSome, None, Some, is_some, length, option_and_then};
     ghost use Rattle.std.specs.Option.{option_copied};
     ghost use Rattle.tables.specs.Moments.{moment_of};
-    ghost use Rattle.tables.specs.Rows.{no_rows, counting_rows, held_at};
+    ghost use Rattle.tables.specs.Rows.{no_rows, live_rows, held_at};
     ghost use Rattle.tables.specs.LookUps.{held_in, held_by};
     ghost use Rattle.tables.specs.Changes.{first_free, with_held};
     ghost use Rattle.tables.specs.WellFormed.{IsHeldAt, AreWellFormed};
@@ -99,11 +99,11 @@ impl Tables {
         moment_of(self.moment, now)
     }
 
-    /// Returns what a slot holds, if its allocation counts at a moment. Of the permissions and channels some may have ended.
+    /// Returns what a slot holds, if its allocation is live at a moment. Of the permissions and channels some may have ended.
     pub(crate) fn held(&self, slot: usize, moment: u64) -> Option<&Held>
         requires later { self.now.moment ≤ moment }
         ensures held { option_and_then (held_at moment) (option_copied result)
-            ≡ held_in (counting_rows moment self.now) slot }
+            ≡ held_in (live_rows moment self.now) slot }
         ensures counts { IfSome result (λ held. moment < held.now.allocation.end) }
         ensures held_at { IfSome result (λ held. IsHeldAt slot held.now) }
         ensures inside { IfSome result (λ _. slot < length self.now.slots) }
@@ -121,7 +121,7 @@ impl Tables {
         }
     }
 
-    /// Returns what a client's slot holds, if its allocation counts at a moment.
+    /// Returns what a client's slot holds, if its allocation is live at a moment.
     pub(crate) fn held_by<L: Ledger>(
         &self,
         client: &Addr,
@@ -130,7 +130,7 @@ impl Tables {
     ) -> Option<&Held>
         requires later { self.now.moment ≤ moment }
         ensures held { option_and_then (held_at moment) (option_copied result)
-            ≡ held_by client.now (counting_rows moment self.now) }
+            ≡ held_by client.now (live_rows moment self.now) }
         ensures counts { IfSome result (λ held. moment < held.now.allocation.end) }
         ensures placed { IfSome result (λ held. held.now.allocation.slot < length self.now.slots) }
         ensures keys { steps.new ≤ steps.old + 9 }
@@ -145,7 +145,7 @@ impl Tables {
     /// Returns the lowest slot that holds nothing at a moment.
     pub(crate) fn first_free(&self, moment: u64) -> Option<usize>
         requires later { self.now.moment ≤ moment }
-        ensures { result ≡ first_free (counting_rows moment self.now) }
+        ensures { result ≡ first_free (live_rows moment self.now) }
     {
         for slot in 0..self.slots.len() {
             if self.held(slot, moment).is_none() {
@@ -161,9 +161,9 @@ impl Tables {
         requires held_at { IsHeldAt slot held }
         requires later { self.old.moment ≤ moment }
         requires latest { moment ≤ LATEST }
-        requires free { held_in (counting_rows moment self.old) slot ≡ None }
-        requires new_client { held_by held.allocation.client (counting_rows moment self.old) ≡ None }
-        ensures held { self.new ≡ with_held (counting_rows moment self.old) slot held }
+        requires free { held_in (live_rows moment self.old) slot ≡ None }
+        requires new_client { held_by held.allocation.client (live_rows moment self.old) ≡ None }
+        ensures held { self.new ≡ with_held (live_rows moment self.old) slot held }
         ensures moment { self.new.moment ≡ moment }
         ensures slots { length self.new.slots ≡ length self.old.slots }
     {

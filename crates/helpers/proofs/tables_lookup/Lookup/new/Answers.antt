@@ -1,4 +1,4 @@
--- What is looked up in the rows that count, which are well formed, is lawful.
+-- What is looked up in the live rows, which are well formed, is lawful.
 use Rattle.tables.specs.Rows.{rows_at}
 use Rattle.tables.specs.WellFormedLaws.{rows_at-well_formed}
 use Rattle.helpers.specs.LawfulLaws.{look_up_is_lawful}

@@ -1,7 +1,7 @@
 use Rattle.std.proofs.Common.{sym, ◌∙◌, subst}
 use Rattle.tables.proofs.HeldRows.{on_made, on_refused, moved}
 use Rattle.tables.proofs.SlotChanges.{bind-beside, bound-at}
-use Rattle.tables.specs.RowLaws.{held_counting}
+use Rattle.tables.specs.RowLaws.{live_held}
 use Rattle.tables.specs.Stored.{LeavesHeld, bind_held}
 use Rattle.tables.specs.WellFormed.{IsHeldAt}
 use Rattle.tables.proofs.held.Held.bind.Goals as goal
@@ -22,7 +22,7 @@ returns-then-is_ok-clause-held_at c = λ slot is.
 pub returns-clause-follows : goal.returns-clause-follows
 returns-clause-follows c =
     let unchanged = on_refused c.put.result (sym c.is_ok.ensures.value ∙ c.if-is_ok.false) c.put.ensures.unchanged in
-    subst (λ held. LeavesHeld (bind_held c.args.moment c.args.number c.args.peer (held_counting c.args.moment held)) c.args.moment held c.put_swept.result c.put_swept.new.self) unchanged c.put_swept.ensures.follows
+    subst (λ held. LeavesHeld (bind_held c.args.moment c.args.number c.args.peer (live_held c.args.moment held)) c.args.moment held c.put_swept.result c.put_swept.new.self) unchanged c.put_swept.ensures.follows
 
 pub returns-clause-held_at : goal.returns-clause-held_at
 returns-clause-held_at c = λ slot is.

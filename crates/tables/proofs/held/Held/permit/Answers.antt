@@ -3,7 +3,7 @@ use Rattle.std.specs.FinMap.{len}
 use Rattle.std.proofs.lemmas.Bool.{OnTrue_at}
 use Rattle.tables.specs.Permissions.{permissions_at, with_all}
 use Rattle.tables.specs.declared.permissions.TheConstants.{PERMISSION_LIFETIME, MAX_PERMISSIONS}
-use Rattle.tables.proofs.SlotChanges.{few_counting, permissions_at-with_all, permit-leaves}
+use Rattle.tables.proofs.SlotChanges.{few_live, permissions_at-with_all, permit-leaves}
 use Rattle.tables.proofs.held.Held.permit.Goals as goal
 
 pub returns-then-have_room-clause-follows : goal.returns-then-have_room-clause-follows
@@ -13,7 +13,7 @@ returns-then-have_room-clause-follows c =
     let ips = c.args.ips.now in
     let end = t + PERMISSION_LIFETIME in
     permit-leaves t held ips c.put_each.new.self (sym c.are_of.ensures ∙ c.if-not-are_of.false)
-    (few_counting t held.permissions ips end MAX_PERMISSIONS (OnTrue_at c.if-have_room.true c.have_room.ensures end))
+    (few_live t held.permissions ips end MAX_PERMISSIONS (OnTrue_at c.if-have_room.true c.have_room.ensures end))
     (ap (permissions_at t) c.put_each.ensures ∙ permissions_at-with_all t held.permissions ips end)
 
 pub returns-clause-follows : goal.returns-clause-follows

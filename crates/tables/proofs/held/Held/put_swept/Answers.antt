@@ -1,7 +1,7 @@
 use Rattle.tables.proofs.HeldRows.{moved}
 use Rattle.tables.proofs.SlotChanges.{bind-left, bound-at}
 use Rattle.tables.specs.WellFormed.{IsHeldAt}
-use Rattle.tables.specs.WellFormedLaws.{counted-held_at}
+use Rattle.tables.specs.WellFormedLaws.{live-held_at}
 use Rattle.tables.proofs.held.Held.put_swept.Goals as goal
 
 pub returns-clause-follows : goal.returns-clause-follows
@@ -13,4 +13,4 @@ pub returns-clause-held_at : goal.returns-clause-held_at
 returns-clause-held_at c = λ slot is.
     let put = c.in_ok-put.ensures {u = tt} in
     bound-at slot c.args.moment c.args.number c.args.peer c.at-left.result c.put.new.self put.made c.requires.range put.address put.few.0 put.few.1
-    (moved (IsHeldAt slot) c.at-left.ensures (counted-held_at c.args.moment slot c.args.self.now is))
+    (moved (IsHeldAt slot) c.at-left.ensures (live-held_at c.args.moment slot c.args.self.now is))

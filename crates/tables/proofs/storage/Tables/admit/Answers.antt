@@ -10,7 +10,7 @@ use Rattle.tables.specs.WellFormedLaws.{set-well_formed}
 use Rattle.tables.specs.declared.clients.Client.{Client}
 use Rattle.tables.proofs.ClientRows.{by_client, searchable_by_client, swept_are, kept_shown, few-admitted, are-admitted, slots_at-admitted, swept-well_formed}
 use Rattle.tables.proofs.Searches.{place_inside, place_room}
-use Rattle.tables.proofs.Slots.{counting-stored, held_in-stored, held_by-stored}
+use Rattle.tables.proofs.Slots.{live-stored, held_in-stored, held_by-stored}
 use Rattle.tables.proofs.storage.Tables.admit.Goals as goal
 
 pub place_of-place-requires : goal.place_of-place-requires
@@ -75,4 +75,4 @@ returns-clause-held c =
     let free = sym (held_in-stored c.self.inside.moment slots c.args.self.now c.self.view_is t c.requires.later slot) ∙ c.requires.free in
     let shown = ap (λ s. slots_at t (set s slot (Some c.args.held))) c.sweep.ensures ∙ slots_at-admitted t slots clients c.self.invariant.listed slot c.args.held within free in
     (λ i. record { moment = t; slots = shown i })
-    ∙ ap (λ (r : Rows). with_held r slot c.args.held) (sym (counting-stored c.self.inside.moment slots c.args.self.now c.self.view_is t c.requires.later))
+    ∙ ap (λ (r : Rows). with_held r slot c.args.held) (sym (live-stored c.self.inside.moment slots c.args.self.now c.self.view_is t c.requires.later))

@@ -1,5 +1,5 @@
 use Rattle.std.proofs.Common.{◌<◌, ◌≤◌, length, not, ap, ◌∙◌, sym, arith, below_more}
-use Rattle.tables.specs.Rows.{counting_rows}
+use Rattle.tables.specs.Rows.{live_rows}
 use Rattle.tables.specs.LookUps.{held_in}
 use Rattle.tables.proofs.Slots.{length-stored, free_at, free_none, held_none, held_some}
 use Rattle.tables.proofs.storage.Tables.first_free.Goals as goal
@@ -8,7 +8,7 @@ pub returns-then-is_none : goal.returns-then-is_none
 returns-then-is_none c =
     let t = c.args.moment in
     let slot = c.loop-slot.slot in
-    let rows = counting_rows t c.args.self.now in
+    let rows = live_rows t c.args.self.now in
     let long = length-stored c.self.inside.moment c.self.inside.slots.items c.args.self.now c.self.view_is t c.requires.later in
     let within : slot < length rows.slots = omega (arith, long, c.loop-slot-test.true, c.len-slot-end.ensures, c.self.inside.slots.ok.0) in
     let none = held_none t c.held.result (held_in rows slot) c.held.ensures.held (c.is_none.ensures ∙ ap not c.if-is_none.true) in
@@ -18,12 +18,12 @@ pub loop-slot-preserved : goal.loop-slot-preserved
 loop-slot-preserved c =
     let t = c.args.moment in
     let slot = c.loop-slot.slot in
-    below_more _ slot c.loop-slot.invariant (held_some t c.held.result (held_in (counting_rows t c.args.self.now) slot) c.held.ensures.held c.held.ensures.counts (c.is_none.ensures ∙ ap not c.if-is_none.false))
+    below_more _ slot c.loop-slot.invariant (held_some t c.held.result (held_in (live_rows t c.args.self.now) slot) c.held.ensures.held c.held.ensures.counts (c.is_none.ensures ∙ ap not c.if-is_none.false))
 
 pub returns : goal.returns
 returns c =
     let t = c.args.moment in
-    let rows = counting_rows t c.args.self.now in
+    let rows = live_rows t c.args.self.now in
     let long = length-stored c.self.inside.moment c.self.inside.slots.items c.args.self.now c.self.view_is t c.requires.later in
     let all : length rows.slots ≤ c.loop-slot.slot = omega (arith, long, c.loop-slot-test.false, c.len-slot-end.ensures, c.self.inside.slots.ok.0) in
     sym (free_none rows c.loop-slot.slot all c.loop-slot.invariant)

@@ -2,7 +2,7 @@ use Rattle.std.proofs.Common.{nat_lt, length, take, ap, arith}
 use Rattle.std.proofs.lemmas.Grind.{common_steps}
 use Rattle.std.proofs.lemmas.List.{length-take}
 use Rattle.tables.proofs.Lists.{length-filter-le}
-use Rattle.tables.proofs.channels.counting_channels.Goals as goal
+use Rattle.tables.proofs.channels.live_channels.Goals as goal
 
 pub push-requires : goal.push-requires
 push-requires c =
