@@ -1,4 +1,4 @@
-//! What a slot holds, and its changes in place.
+//! What a slot holds, and its changes.
 
 ghost use Rattle.std.specs.Prelude.{◌≡◌};
 
@@ -51,8 +51,8 @@ impl Held {
     /// way.
     ///
     /// # Errors
-    /// `Family` where an address is not of the allocation's; `Capacity` where there would be more than 64 permissions. Nothing
-    /// is changed then.
+    /// `Family` where an address is not of the allocation's family; `Capacity` where there would be more than 64 permissions.
+    /// Nothing is changed then.
     pub(crate) fn permit(&mut self, ips: &[Addr], moment: u64) -> Result<(), Refused>
         requires latest { moment ≤ LATEST }
         ensures follows { LeavesHeld (permit_held moment ips.now (live_held moment self.old)) moment self.old result self.new }
@@ -77,8 +77,8 @@ impl Held {
     /// ended are dropped if they are in the way.
     ///
     /// # Errors
-    /// `Family` where the peer is not of the allocation's; `Conflict` where the number is bound to another peer, or the peer to
-    /// another number; `Capacity` where there would be more than 64 channels or permissions. Nothing is changed then.
+    /// `Family` where the peer is not of the allocation's family; `Conflict` where the number is bound to another peer, or the
+    /// peer to another number; `Capacity` where there would be more than 64 channels or permissions. Nothing is changed then.
     pub(crate) fn bind(&mut self, number: u16, peer: Addr, moment: u64) -> Result<(), Refused>
         requires range { IsChannelNumber number }
         requires latest { moment ≤ LATEST }
