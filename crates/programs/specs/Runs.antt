@@ -32,7 +32,7 @@ abbrev pub slot_for : Source → Rows → Option ℕ
 slot_for (Client client) rows = client_slot client rows
 slot_for (Peer slot peer) rows = Some slot
 
--- with look-ups in the rows that count
+-- with look-ups in the live rows
 abbrev pub environment_for : List ℕ → Source → Rows → Environment
 environment_for tx from rows = environment_around (context_of (context_for tx from)) (look_up_answer (slot_for from rows) rows)
 

@@ -1,5 +1,5 @@
 -- Meaning. The rules of relaying (RFC 8656, sections 11 and 12): what is sent for a datagram, over look-ups, and over the
--- rows that count.
+-- live rows.
 use Rattle.std.specs.Prelude.{ℕ, List, Bool, length, nat_le, Option, Some, None, option_map}
 use Rattle.stun.specs.Channels.{channel_bytes}
 use Rattle.stun.specs.Datagrams.{channel_in}
@@ -59,7 +59,7 @@ peer_data permits number peer tx content = do
   _ ← guard (nat_le (length (message_to_client number peer tx content)) MAX_DATAGRAM)
   Some (message_to_client number peer tx content)
 
--- ---- over the rows that count
+-- ---- over the live rows
 
 -- the slot of a client's allocation
 abbrev pub client_slot : Addr → Rows → Option ℕ

@@ -72,7 +72,7 @@ is_to-missing peer rows i none = same-missing (λ (row : Channel). row.binding.p
 pub len-channels : (rows : List Channel) → AreChannels rows → len (channels_of rows) ≡ length rows
 len-channels rows are = len-from_entries nat_cmp_total nat_cmp-IsAntisymmetric entry_of rows are.distinct
 
--- ---- those that count
+-- ---- the live ones
 
 pub filtered_are : (t : ℕ) (rows : List Channel) → AreChannels rows → AreChannels (filter (λ row. nat_lt t row.binding.end) rows)
 filtered_are t rows are =
@@ -179,7 +179,7 @@ module _ (rows : List Channel) where
         let one : binding ≡ row.binding = same_Some binding row.binding (sym s.0 ∙ ap (get (channels_of rows)) same ∙ at_row are i d at.inside) in
         both_ways (nat_lt t row.binding.end) (le-ltb t row.binding.end ended) (ap (λ (b : Binding). nat_lt t b.end) (sym one) ∙ s.1)))
 
--- ---- what is free among all is free among those that count
+-- ---- what is free among all is free among the live ones
 
 none_or_kept : {X : Type 0} (f : X → Bool) (test : Option X → Bool) (v : Option X) → is_none_or f v ≡ true → is_none_or f (value_if test v) ≡ true
 none_or_kept f test v h = elim (cases_Bool (test v)) [

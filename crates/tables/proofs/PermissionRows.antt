@@ -50,7 +50,7 @@ searchable_by ip rows sorted = searchable ip_order-total ip_in rows ip sorted
 pub len-permissions : (rows : List Permission) → AreSortedPermissions rows → len (permissions_of rows) ≡ length rows
 len-permissions rows sorted = len-from_entries ip_total ip_antisymmetric entry_of rows (are_permissions rows sorted).distinct
 
--- ---- those that count
+-- ---- the live ones
 
 pub filtered_are : (t : ℕ) (rows : List Permission) → AreSortedPermissions rows → AreSortedPermissions (filter (λ row. nat_lt t row.end) rows)
 filtered_are t rows sorted = Ascending-filter ip_order-total ip_in (λ row. nat_lt t row.end) rows sorted
