@@ -2,7 +2,7 @@
 
     tests/shipped.py [--write]
 
-The text of a program, crates/programs/texts/client.s or peer.s, is its one source. `relayd assemble` makes its bytes, which
+The text of a program, examples/relay/client.s or peer.s, is its one source. `relayd assemble` makes its bytes, which
 this writes to the constant of crates/programs/src/client.rt or peer.rt, an instruction a line; and from the lines of the text
 it makes the list of instructions that proofs compute with, crates/programs/specs/Client.antt or Peer.antt.
 """
@@ -20,13 +20,13 @@ PROGRAMS = TOP / "crates" / "programs"
 TITLES = {"client": "client's side", "peer": "peers' side"}
 DOCS = {
     "client": """\
-/// The bytes of the program of the client's side, an instruction a line, made of [its text](../texts/client.s). It relays
+/// The bytes of the program of the client's side, an instruction a line, made of examples/relay/client.s. It relays
 /// ChannelData and Send indications of an IPv4 address and data, passes on whatever else begins as a STUN message does,
 /// and sends nothing for any other datagram. [`client_serves`](crate::client_serves) states what it promises.
 /// See docs/DECISIONS.md, "A plain Send indication".
 """,
     "peer": """\
-/// The bytes of the program of the peers' side, an instruction a line, made of [its text](../texts/peer.s). It relays
+/// The bytes of the program of the peers' side, an instruction a line, made of examples/relay/peer.s. It relays
 /// datagrams of peers that have a permission: as ChannelData where a channel is bound to the peer, and else as Data
 /// indications. [`peer_serves`](crate::peer_serves) states what it promises.
 """,
@@ -140,7 +140,7 @@ def made_of_texts():
     """Yields the path of each file that is made of a text, and what it has to contain."""
     with tempfile.TemporaryDirectory() as name:
         for side in ("client", "peer"):
-            text = (PROGRAMS / "texts" / f"{side}.s").read_text(encoding="utf-8")
+            text = (TOP / "examples" / "relay" / f"{side}.s").read_text(encoding="utf-8")
             lines, labels = lines_of(text)
             encoded = assembled(pathlib.Path(name), side, text).read_bytes()
             yield PROGRAMS / "src" / f"{side}.rt", constant(side, lines, encoded)

@@ -1,6 +1,6 @@
 //! The program of the client's side. tests/shipped.py makes this file.
 
-/// The bytes of the program of the client's side, an instruction a line, made of [its text](../texts/client.s). It relays
+/// The bytes of the program of the client's side, an instruction a line, made of examples/relay/client.s. It relays
 /// ChannelData and Send indications of an IPv4 address and data, passes on whatever else begins as a STUN message does,
 /// and sends nothing for any other datagram. [`client_serves`](crate::client_serves) states what it promises.
 /// See docs/DECISIONS.md, "A plain Send indication".

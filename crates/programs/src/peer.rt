@@ -1,6 +1,6 @@
 //! The program of the peers' side. tests/shipped.py makes this file.
 
-/// The bytes of the program of the peers' side, an instruction a line, made of [its text](../texts/peer.s). It relays
+/// The bytes of the program of the peers' side, an instruction a line, made of examples/relay/peer.s. It relays
 /// datagrams of peers that have a permission: as ChannelData where a channel is bound to the peer, and else as Data
 /// indications. [`peer_serves`](crate::peer_serves) states what it promises.
 pub const PEER: &[u8] = &[
