@@ -666,6 +666,7 @@ def many():
             client.allocate()
             client.bind(address_of(peer))
             pairs.append((client, peer, ("127.0.0.1", server.first_port + slot)))
+        server.awaited("received from clients")  # printing a line of counters takes memory once
         memory = None
         for start in range(0, DATAGRAMS, BATCH):
             offer(pairs, [struct.pack(">I", number) * 40 for number in range(start, start + BATCH)])
