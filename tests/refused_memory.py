@@ -73,8 +73,9 @@ jeq r2, 7, +1
 mov r0, 1
 exit
 """
-# a state is left pending at each jump, and one is kept at each slot that a jump leads to; before the first step it is slot 0
-SLOTS = [0, 3, 5, 7, 9]
+# before the first step, where room for pending states is taken too, it is slot 0; then a state is kept at each slot that a jump
+# leads to
+SLOTS = [0, 5, 7, 9]
 # each call of memory_refusals with its answer, and its refusals of memory in the order in which they first come
 CALLS = {
     "decode": ("10 instructions", ["E8"]),
