@@ -1,7 +1,7 @@
 """Runs the built relayd's `replay` over sessions, options, faults and outputs.
 
 The session of examples/ is written anew from its description, and its answers are those that the description says. The
-session of Chromium has stored answers of other hands. Each further case gives the words, the status and the whole text
+session of Chromium has stored answers of another implementation. Each further case gives the words, the status and the whole text
 that relayd has to print to each stream.
 """
 

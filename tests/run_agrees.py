@@ -73,7 +73,7 @@ def texts_of_rows():
 
 
 def programs(folder, shipped):
-    """Returns the bytes of each program that is compared as it is, but for those of the rows."""
+    """Returns the bytes of each program that is compared as it is, except those of the rows."""
     texts = ["".join(f"{line}\n" for line in program) for program, _ in rows()]
     texts += [text_of(names) for names in OTHERS]
     found = [assembled(folder, text) for text in texts] + shipped

@@ -5,7 +5,7 @@
 A round trip is ChannelData from a client through the server to a peer, which sends it back, and on to the client. In each of
 5 rounds, or of ROUNDS, all are measured in turn, for some hundredths of a second at a time, since a machine that does other
 work is faster at one time than at another. The figures are the medians of the rounds: round trips a second, processor time, and
-what relayd had in parts of the others. Where there are four processors or more, the client, the servers and the peer have
+what relayd had relative to the others. Where there are four processors or more, the client, the servers and the peer have
 one each, so that the system moves none of them in between. No time is asserted. coturn is left out where `turnserver` isn't
 there. Needs gcc.
 """

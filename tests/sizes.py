@@ -1,6 +1,6 @@
 """Programs at the limits of the profile, with ample memory: what each command of the built relayd prints of them.
 
-The greatest program has 4,096 slots. None of these may be refused for want of memory.
+The greatest program has 4,096 slots. None of these may be refused because memory runs out.
 """
 
 import pathlib

@@ -147,7 +147,7 @@ class Server:
         return int(fields[11]) + int(fields[12])
 
     def memory(self):
-        """The memory in use, in kB, but for pages of files, which the system may take and give."""
+        """The memory in use, in kB, except pages of files, which the system may take and give."""
         status = pathlib.Path(f"/proc/{self.process.pid}/status").read_text()
         return next(int(line.split()[1]) for line in status.splitlines() if line.startswith("RssAnon"))
 
