@@ -1,5 +1,5 @@
 -- Internal. What is to be sent for what was found.
-use Rattle.std.specs.Prelude.{◌≡◌, ℕ, List, Option, None, option_map}
+use Rattle.std.specs.Prelude.{◌≡◌, ℕ, List, Option, None, Some, option_map}
 use Rattle.attributes.specs.declared.address.Addr.{Addr}
 use Rattle.machine.specs.Contents as machine
 use Rattle.machine.specs.Contents.{datagram_of, window_of}
@@ -14,12 +14,14 @@ use Rattle.programs.specs.Runs.{run_for, datagram_in, window_in}
 use Rattle.events.specs.declared.meta.Meta.{Meta}
 use Rattle.events.specs.declared.meta.Source.{Source}
 use Rattle.events.specs.declared.meta.Source.TheVariants.{Client, Peer}
-use Rattle.tables.specs.LookUps.{allocation_of, allocation_at}
+use Rattle.tables.specs.LookUps.{allocation_of}
 use Rattle.tables.specs.declared.allocation.Allocation.{Allocation}
 use Rattle.semantics.specs.Runs.{Run}
 use Rattle.relay.specs.ByPrograms.{program_for}
 use Rattle.rules.specs.Answers.{sending_of_answer, LiesInRoom}
 use Rattle.rules.specs.ByRules.{from_client}
+use Rattle.rules.specs.Rules.{client_at}
+use Rattle.fallible.specs.Options.{◌>>=◌}
 use Rattle.rules.specs.Systems.{SystemReply}
 use Rattle.relay.specs.Relays.{RelayContents, datagram_at}
 use Rattle.relay.specs.declared.found.Found.{Found}
@@ -47,20 +49,29 @@ run_at r given n = run_for (program_for r.programs given.from) given.tx given.fr
 abbrev pub reply_of_passing : RelayContents → Addr → SystemReply
 reply_of_passing r client = from_client r.config r.greatest client r.rows (datagram_of r.frame)
 
--- the allocation of the client that a datagram came from, or of the slot that it came to
+-- the allocation of a client
 abbrev pub own_for : Source → Rows → Option Allocation
 own_for (Client client) rows = allocation_of client rows
-own_for (Peer slot peer) rows = allocation_at slot rows
+own_for (Peer slot peer) rows = None
 
-abbrev pub sending_of_found : RelayContents → Found → Option Sending
-sending_of_found r found.Nothing = None
-sending_of_found r (found.WindowToPeer slot peer) = option_map (ToPeer slot peer) (window_shown r.frame)
-sending_of_found r (found.WindowToClient client) = option_map (ToClient client) (window_shown r.frame)
-sending_of_found r (found.Answer client answer) = sending_of_answer client (datagram_of r.frame) r.reply answer
+-- a window, if there is one, to the client of the allocation at a slot
+abbrev pub window_to_client : ℕ → Rows → Option (List ℕ) → Option Sending
+window_to_client slot rows window = do
+  bytes ← window
+  client ← client_at slot rows
+  Some (ToClient client bytes)
+
+-- for a datagram of a source
+abbrev pub sending_of_found : RelayContents → Source → Found → Option Sending
+sending_of_found r from found.Nothing = None
+sending_of_found r from (found.WindowToPeer slot peer) = option_map (ToPeer slot peer) (window_shown r.frame)
+sending_of_found r from (found.WindowToClient slot) = window_to_client slot (rows_at r.greatest r.rows) (window_shown r.frame)
+sending_of_found r (Client client) (found.Answer answer) = sending_of_answer client (datagram_of r.frame) r.reply answer
+sending_of_found r (Peer slot peer) (found.Answer answer) = None
 
 -- the room for replies has that of the rules
 abbrev pub HasRoomFor : Found → List ℕ → Type 0
 HasRoomFor found.Nothing reply = Unit {0}
 HasRoomFor (found.WindowToPeer slot peer) reply = Unit {0}
-HasRoomFor (found.WindowToClient client) reply = Unit {0}
-HasRoomFor (found.Answer client answer) reply = LiesInRoom answer reply
+HasRoomFor (found.WindowToClient slot) reply = Unit {0}
+HasRoomFor (found.Answer answer) reply = LiesInRoom answer reply

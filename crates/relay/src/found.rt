@@ -3,15 +3,15 @@
 ghost use Rattle.std.specs.Prelude.{◌≡◌, ℕ, List, option_map, option_copied};
 ghost use Rattle.tables.specs.Rows.{rows_at};
 ghost use Rattle.events.specs.Actions.{sending_of};
-ghost use Rattle.events.specs.Events.{ToPeer, ToClient};
+ghost use Rattle.events.specs.Events.{ToPeer};
 ghost use Rattle.programs.specs.Runs.{planned_sending};
-ghost use Rattle.relay.specs.Found.{sending_of_found, own_for, window_shown, HasRoomFor};
+ghost use Rattle.relay.specs.Found.{sending_of_found, own_for, window_shown, window_to_client, HasRoomFor};
 ghost use Rattle.relay.specs.Relays.{RelayContents};
 
 use attributes::Addr;
 use events::{Action, Source};
 use rules::Answer;
-use tables::Allocation;
+use tables::{Allocation, Tables};
 
 /// What is to be sent, as a step finds it.
 #[derive(Clone, Copy)]
@@ -20,14 +20,14 @@ pub(crate) enum Found {
     Nothing,
     /// The window, from a slot to a peer.
     WindowToPeer { slot: usize, peer: Addr },
-    /// The window, to a client.
-    WindowToClient { client: Addr },
+    /// The window, to the client of the allocation at a slot.
+    WindowToClient { slot: usize },
     /// What the rules answer to a client's datagram.
-    Answer { client: Addr, answer: Answer },
+    Answer(Answer),
 }
 
-/// Returns the finding of what verdict 2 sends, by the allocation of the client that a datagram came from, or of the slot that
-/// it came to. Nothing goes to an address that isn't of the allocation's family.
+/// Returns the finding of what verdict 2 sends, by the client's allocation, or by the slot that a peer's datagram
+/// came to. Nothing goes to an address that isn't of the allocation's family.
 /// See docs/DECISIONS.md, "One family".
 pub(crate) fn window_found(
     from: Source,
@@ -35,21 +35,23 @@ pub(crate) fn window_found(
     destination: Option<Addr>,
 ) -> Found
     ensures sends { (r : RelayContents) → own ≡ own_for from (rows_at r.greatest r.rows)
-        → sending_of_found r result ≡ planned_sending from (rows_at r.greatest r.rows) destination (window_shown r.frame) }
+        → sending_of_found r from result ≡ planned_sending from (rows_at r.greatest r.rows) destination (window_shown r.frame) }
     ensures room { (reply : List ℕ) → HasRoomFor result reply }
 {
-    let Some(own) = own else {
-        return Found::Nothing;
-    };
     match from {
-        Source::Client(_) => match destination {
-            Some(peer) if peer.is_of_family(own.family) => Found::WindowToPeer {
-                slot: own.slot,
+        Source::Client(_) => {
+            let (Some(allocation), Some(peer)) = (own, destination) else {
+                return Found::Nothing;
+            };
+            if !peer.is_of_family(allocation.family) {
+                return Found::Nothing;
+            }
+            Found::WindowToPeer {
+                slot: allocation.slot,
                 peer,
-            },
-            _ => Found::Nothing,
-        },
-        Source::Peer { .. } => Found::WindowToClient { client: own.client },
+            }
+        }
+        Source::Peer { slot, .. } => Found::WindowToClient { slot },
     }
 }
 
@@ -63,12 +65,23 @@ pub(crate) fn window_to_peer(slot: usize, peer: Addr, window: Option<&[u8]>) -> 
     }
 }
 
-/// Sends a window to a client.
-pub(crate) fn window_to_client(client: Addr, window: Option<&[u8]>) -> Action<'_>
-    ensures { sending_of result ≡ option_map (ToClient client) (option_copied window.entry) }
+/// Sends a window to the client of the allocation at a slot.
+pub(crate) fn window_to_client<'a>(
+    tables: &Tables,
+    moment: u64,
+    slot: usize,
+    window: Option<&'a [u8]>,
+) -> Action<'a>
+    ensures { sending_of result ≡ window_to_client slot (rows_at moment tables.now) (option_copied window.entry) }
 {
-    match window {
-        Some(bytes) => Action::ToClient { client, bytes },
+    let Some(bytes) = window else {
+        return Action::Nothing;
+    };
+    match tables.allocation_at(slot, moment) {
+        Some(allocation) => Action::ToClient {
+            client: allocation.client,
+            bytes,
+        },
         None => Action::Nothing,
     }
 }

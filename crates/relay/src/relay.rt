@@ -16,10 +16,10 @@ use helpers::Lookup;
 use loader::Loaded;
 use machine::{Frame, Outcome};
 use programs::{PASSES, SENDS};
-use rules::{Answer, ClientDatagram, answer_client};
+use rules::{Answer, answer_client};
 use std::alloc::Global;
 use std::marker::Model;
-use tables::{Allocation, Tables, is_ipv4, moment_of};
+use tables::{Tables, is_ipv4, moment_of};
 
 /// A relay: its configuration, the programs of both sides, and its tables.
 /// See docs/DECISIONS.md, "The greatest moment is the relay's".
@@ -79,7 +79,6 @@ impl Relay {
     ghost use Rattle.semantics.specs.declared.limits.TheConstants.{MAX_DATAGRAM};
     ghost use Rattle.events.specs.Actions.{sending_of};
     ghost use Rattle.relay.specs.Errors.{IsFault};
-    ghost use Rattle.tables.specs.LookUps.{allocation_of};
     ghost use Rattle.machine.specs.Contents.{datagram_of};
     ghost use Rattle.rules.specs.Answers.{sending_of_answer, LiesInRoom};
     ghost use Rattle.relay.specs.Found.{sending_of_found, run_at, reply_of_passing, HasRun, HasRoomFor};
@@ -211,22 +210,27 @@ impl Relay {
         self.steps_by_rules(&meta, n);
         let found = self.advance(&meta, n);
         let relay = &*self;
-        relay.lend(found)
+        relay.lend(meta.from, found)
     }
 
-    /// Lends the bytes of what was found.
+    /// Lends the bytes of what was found for a datagram of a source.
     #[inline(always)]
-    fn lend(&self, found: Found) -> Action<'_>
+    fn lend(&self, from: Source, found: Found) -> Action<'_>
         requires { HasRoomFor found self.now.reply }
-        ensures { sending_of result ≡ sending_of_found self.now found }
+        ensures { sending_of result ≡ sending_of_found self.now from found }
     {
         match found {
             Found::Nothing => Action::Nothing,
             Found::WindowToPeer { slot, peer } => window_to_peer(slot, peer, self.frame.window()),
-            Found::WindowToClient { client } => window_to_client(client, self.frame.window()),
-            Found::Answer { client, answer } => {
-                answer.action(client, self.frame.datagram(), &self.reply)
+            Found::WindowToClient { slot } => {
+                window_to_client(&self.tables, self.greatest, slot, self.frame.window())
             }
+            Found::Answer(answer) => match from {
+                Source::Client(client) => {
+                    answer.action(client, self.frame.datagram(), &self.reply)
+                }
+                Source::Peer { .. } => Action::Nothing,
+            },
         }
     }
 
@@ -235,7 +239,7 @@ impl Relay {
     fn advance(&mut self, meta: &Meta, n: usize) -> Found
         requires { n ≤ MAX_DATAGRAM }
         ensures stepped { HasStepped self.old self.new (outcome_of self.old meta.entry.now n) }
-        ensures found { sending_of_found self.new result ≡ (outcome_of self.old meta.entry.now n).answer }
+        ensures found { sending_of_found self.new meta.entry.now.from result ≡ (outcome_of self.old meta.entry.now n).answer }
         ensures room { HasRoomFor result self.new.reply }
     {
         self.greatest = moment_of(self.greatest, meta.now);
@@ -247,10 +251,7 @@ impl Relay {
         let outcome = self.run(meta, n, slot);
         match outcome.verdict {
             PASSES => match meta.from {
-                Source::Client(client) => Found::Answer {
-                    client,
-                    answer: self.pass_on(client, own),
-                },
+                Source::Client(client) => Found::Answer(self.pass_on(client)),
                 Source::Peer { .. } => Found::Nothing,
             },
             SENDS => window_found(meta.from, own, outcome.destination),
@@ -280,18 +281,16 @@ impl Relay {
     /// Answers by the rules what a client's program passed on, as it is in the frame.
     // A request takes tens of kilobytes of stack, which a datagram that is relayed would else pay for at its entry.
     #[inline(never)]
-    fn pass_on(&mut self, client: Addr, own: Option<Allocation>) -> Answer
-        requires ipv4 { is_ipv4 client ≡ true }
-        requires own { own ≡ allocation_of client (rows_at self.old.greatest self.old.rows) }
+    fn pass_on(&mut self, client: Addr) -> Answer
+        requires { is_ipv4 client ≡ true }
         ensures answer { sending_of_answer client (datagram_of self.new.frame) self.new.reply result
             ≡ (reply_of_passing self.old client).answer }
         ensures room { LiesInRoom result self.new.reply }
         ensures rest { self.new
             ≡ record self.old { rows = (reply_of_passing self.old client).rows; reply = self.new.reply } }
     {
-        let bytes = self.frame.datagram();
-        let from = ClientDatagram { client, own, bytes };
+        let datagram = self.frame.datagram();
         let (tables, out) = (&mut self.tables, &mut self.reply);
-        answer_client(tables, &self.config, self.greatest, &from, out)
+        answer_client(tables, &self.config, self.greatest, client, datagram, out)
     }
 }

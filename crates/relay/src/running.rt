@@ -37,17 +37,17 @@ pub(crate) fn context_for(tx: [u8; 12], from: Source) -> Context
     }
 }
 
-/// Returns the allocation of the client that a datagram came from, or of the slot that it came to.
+/// Returns the allocation of a client.
 pub(crate) fn own_for(tables: &Tables, moment: u64, from: Source) -> Option<Allocation>
     ensures { result ≡ own_for from (rows_at moment tables.now) }
 {
     match from {
         Source::Client(client) => tables.allocation_of(client, moment),
-        Source::Peer { slot, .. } => tables.allocation_at(slot, moment),
+        Source::Peer { .. } => None,
     }
 }
 
-/// Returns the slot in which helpers look up, by the allocation of [`own_for`].
+/// Returns the slot in which helpers look up, where a client has this allocation.
 pub(crate) fn slot_for(from: Source, own: Option<Allocation>) -> Option<usize>
     ensures { (rows : Rows) → own ≡ own_for from rows → result ≡ slot_for from rows }
 {

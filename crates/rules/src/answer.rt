@@ -10,15 +10,6 @@ use attributes::Addr;
 use events::Action;
 use stun::registry::attribute::DATA;
 use stun::{read, read_channel};
-use tables::Allocation;
-
-/// A datagram of a client, and the allocation that the client has when it comes.
-#[derive(Clone, Copy, Debug)]
-pub struct ClientDatagram<'a> {
-    pub client: Addr,
-    pub own: Option<Allocation>,
-    pub bytes: &'a [u8],
-}
 
 /// What a datagram of a client is answered.
 #[derive(Clone, Copy, Debug, PartialEq, Eq)]

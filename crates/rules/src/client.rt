@@ -3,13 +3,12 @@
 ghost use Rattle.std.specs.Prelude.{◌≡◌, ◌≤◌, None, length, true};
 ghost use Rattle.control.specs.Configs.{fault};
 ghost use Rattle.tables.specs.Addresses.{is_ipv4};
-ghost use Rattle.tables.specs.LookUps.{allocation_of};
-ghost use Rattle.tables.specs.Rows.{rows_at};
 ghost use Rattle.rules.specs.Answers.{sending_of_answer, LiesInRoom};
 ghost use Rattle.rules.specs.ByRules.{from_client};
 
-use crate::answer::{Answer, ClientDatagram, reply_of};
+use crate::answer::{Answer, reply_of};
 use crate::relaying::{begins_as_stun, channel_data, send};
+use attributes::Addr;
 use control::{Config, REPLY_BYTES, respond};
 use credentials::results_are_checked;
 use stun::read;
@@ -22,38 +21,38 @@ const SEND: MessageType = MessageType {
     class: Class::Indication,
 };
 
-/// Answers a datagram of a client over IPv4 at a moment, in seconds, by the rules: what begins as a STUN message is answered or
-/// relayed as one, and everything else is relayed if it is ChannelData. A request may change the tables, and its reply is
-/// written over the first bytes of `out`, which has at least [`REPLY_BYTES`](control::REPLY_BYTES) bytes. The configuration has
-/// no fault, the tables have its slots, and `from` names the allocation that the client has at that moment.
+/// Answers a datagram of a client over IPv4 at a moment, in seconds, by the rules: what begins as a STUN message does is
+/// answered or relayed as one, and everything else is relayed if it is ChannelData. A request may change the tables, and its
+/// reply is written over the first bytes of `out`, which has at least [`REPLY_BYTES`](control::REPLY_BYTES) bytes. The
+/// configuration has no fault, and the tables have its slots.
 pub fn answer_client(
     tables: &mut Tables,
     config: &Config,
     moment: u64,
-    from: &ClientDatagram<'_>,
+    client: Addr,
+    datagram: &[u8],
     out: &mut [u8],
 ) -> Answer
     requires room { REPLY_BYTES ≤ length out.old }
     requires config { fault config.now ≡ None }
     requires slots { length tables.old.slots ≡ config.now.slots }
-    requires ipv4 { is_ipv4 from.now.client ≡ true }
-    requires own { from.now.own ≡ allocation_of from.now.client (rows_at moment tables.old) }
-    ensures answer { sending_of_answer from.now.client from.now.bytes.now out.new result
-        ≡ (from_client config.now moment from.now.client tables.old from.now.bytes.now).answer }
-    ensures rows { tables.new ≡ (from_client config.now moment from.now.client tables.old from.now.bytes.now).rows }
+    requires ipv4 { is_ipv4 client ≡ true }
+    ensures answer { sending_of_answer client datagram.now out.new result
+        ≡ (from_client config.now moment client tables.old datagram.now).answer }
+    ensures rows { tables.new ≡ (from_client config.now moment client tables.old datagram.now).rows }
     ensures room { LiesInRoom result out.new }
     ensures slots { length tables.new.slots ≡ length tables.old.slots }
 {
-    if !begins_as_stun(from.bytes) {
-        return channel_data(tables, moment, from);
+    if !begins_as_stun(datagram) {
+        return channel_data(tables, moment, client, datagram);
     }
-    let Ok(message) = read(from.bytes) else {
+    let Ok(message) = read(datagram) else {
         return Answer::Nothing;
     };
     if message.kind() == SEND.kind() {
-        return send(tables, moment, from, &message);
+        return send(tables, moment, client, &message);
     }
     results_are_checked();
-    let count = respond(tables, config, moment, from.client, &message, out);
+    let count = respond(tables, config, moment, client, &message, out);
     reply_of(count)
 }

@@ -6,5 +6,5 @@ mod answer;
 mod client;
 mod relaying;
 
-pub use answer::{Answer, ClientDatagram};
+pub use answer::Answer;
 pub use client::answer_client;

@@ -2,14 +2,13 @@
 
 ghost use Rattle.std.specs.Prelude.{◌≡◌, List, ℕ, Some};
 ghost use Rattle.stun.specs.Datagrams.{message_in};
-ghost use Rattle.tables.specs.LookUps.{allocation_of};
 ghost use Rattle.tables.specs.Rows.{rows_at};
 ghost use Rattle.rules.specs.Answers.{sending_of_answer, LiesInRoom};
 ghost use Rattle.rules.specs.FastPart.{begins_as_stun};
 ghost use Rattle.rules.specs.Rules.{channel_data_from, send_from};
 
-use crate::answer::{Answer, ClientDatagram};
-use attributes::read_xor_addr;
+use crate::answer::Answer;
+use attributes::{Addr, read_xor_addr};
 use control::all_understood;
 use stun::registry::attribute::{DATA, XOR_PEER_ADDRESS};
 use stun::{Message, read_channel};
@@ -26,16 +25,15 @@ pub(crate) fn begins_as_stun(datagram: &[u8]) -> bool
 }
 
 /// Relays ChannelData: its data goes to the peer that its number is bound to (RFC 8656, section 12.6).
-pub(crate) fn channel_data(tables: &Tables, moment: u64, from: &ClientDatagram<'_>) -> Answer
-    requires { from.now.own ≡ allocation_of from.now.client (rows_at moment tables.now) }
-    ensures sends { (reply : List ℕ) → sending_of_answer from.now.client from.now.bytes.now reply result
-        ≡ channel_data_from from.now.client (rows_at moment tables.now) from.now.bytes.now }
+pub(crate) fn channel_data(tables: &Tables, moment: u64, client: Addr, datagram: &[u8]) -> Answer
+    ensures sends { (reply : List ℕ) → sending_of_answer client datagram.now reply result
+        ≡ channel_data_from client (rows_at moment tables.now) datagram.now }
     ensures room { (reply : List ℕ) → LiesInRoom result reply }
 {
-    let Some(own) = from.own else {
+    let Some(own) = tables.allocation_of(client, moment) else {
         return Answer::Nothing;
     };
-    let Some(message) = read_channel(from.bytes) else {
+    let Some(message) = read_channel(datagram) else {
         return Answer::Nothing;
     };
     let slot = own.slot;
@@ -49,19 +47,12 @@ pub(crate) fn channel_data(tables: &Tables, moment: u64, from: &ClientDatagram<'
 }
 
 /// Relays a Send indication: its data goes to its address, if that has a permission (RFC 8656, section 11.2).
-pub(crate) fn send(
-    tables: &Tables,
-    moment: u64,
-    from: &ClientDatagram<'_>,
-    message: &Message<'_>,
-) -> Answer
-    requires own { from.now.own ≡ allocation_of from.now.client (rows_at moment tables.now) }
-    requires message { message_in from.now.bytes.now ≡ Some message.now }
-    ensures sends { (reply : List ℕ) → sending_of_answer from.now.client from.now.bytes.now reply result
-        ≡ send_from from.now.client (rows_at moment tables.now) message.now }
+pub(crate) fn send(tables: &Tables, moment: u64, client: Addr, message: &Message<'_>) -> Answer
+    ensures sends { (datagram reply : List ℕ) → message_in datagram ≡ Some message.now
+        → sending_of_answer client datagram reply result ≡ send_from client (rows_at moment tables.now) message.now }
     ensures room { (reply : List ℕ) → LiesInRoom result reply }
 {
-    let Some(own) = from.own else {
+    let Some(own) = tables.allocation_of(client, moment) else {
         return Answer::Nothing;
     };
     if !all_understood(message) {

@@ -10,25 +10,25 @@ use Rattle.rules.specs.Systems.{SystemReply}
 use Rattle.rules.proofs.Controls.{control_is}
 use Rattle.rules.proofs.client.answer_client.Goals as goal
 
-stun : (c : goal.After-reply_of) → begins_as_stun c.args.from.now.bytes.now ≡ true
+stun : (c : goal.After-reply_of) → begins_as_stun c.args.datagram.now ≡ true
 stun c = search rules
 
-is_message : (c : goal.After-reply_of) → message_in c.args.from.now.bytes.now ≡ Some c.in-Ok.message
+is_message : (c : goal.After-reply_of) → message_in c.args.datagram.now ≡ Some c.in-Ok.message
 is_message c = search rules
 
 other : (c : goal.After-reply_of) → (c.in-Ok.message.kind == send_indication) ≡ false
 other c = search rules
 
 -- what the rules answer is the reply, and the rows are those of the tables
-handled : (c : goal.After-reply_of) → from_client c.args.config.now c.args.moment c.args.from.now.client c.args.tables.now c.args.from.now.bytes.now
-    ≡ record { answer = reply_sent c.args.from.now.client (take c.respond-count.result c.respond-count.new.out); rows = c.respond-count.new.tables }
+handled : (c : goal.After-reply_of) → from_client c.args.config.now c.args.moment c.args.client c.args.tables.now c.args.datagram.now
+    ≡ record { answer = reply_sent c.args.client (take c.respond-count.result c.respond-count.new.out); rows = c.respond-count.new.tables }
 handled c =
-    is_handled c.args.config.now c.args.moment c.args.from.now.client c.args.tables.now c.args.from.now.bytes.now c.in-Ok.message (stun c) (is_message c) (other c)
+    is_handled c.args.config.now c.args.moment c.args.client c.args.tables.now c.args.datagram.now c.in-Ok.message (stun c) (is_message c) (other c)
     ∙ control_is c.results_are_checked.ensures _ _ _ _ _ _ _ c.requires.ipv4 c.respond-count.ensures.responds
 
 pub returns-clause-answer : goal.returns-clause-answer
 returns-clause-answer c =
-    c.reply_of.ensures.sends c.args.from.now.client c.args.from.now.bytes.now c.respond-count.new.out c.respond-count.ensures.inside
+    c.reply_of.ensures.sends c.args.client c.args.datagram.now c.respond-count.new.out c.respond-count.ensures.inside
     ∙ sym (ap (λ (r : SystemReply). r.answer) (handled c))
 
 pub returns-clause-rows : goal.returns-clause-rows

@@ -1,24 +1,17 @@
 use Rattle.std.proofs.Common.{◌≡◌, rules, sym, ap, subst, ◌∙◌}
-use Rattle.tables.specs.LookUps.{allocation_of}
 use Rattle.tables.specs.Rows.{rows_at}
 use Rattle.events.specs.declared.meta.Source.{Source}
 use Rattle.programs.specs.Runs.{planned_sending}
-use Rattle.relay.specs.Found.{reply_of_passing, own_for, window_shown}
+use Rattle.relay.specs.Found.{reply_of_passing, own_for, sending_of_found, window_shown}
 use Rattle.relay.specs.Relays.{RelayContents}
 use Rattle.relay.specs.Steps.{HasStepped, outcome_of}
 use Rattle.rules.specs.Systems.{SystemReply, no_answer, reply_of_relaying}
 use Rattle.relay.specs.contracts.relay.Relay.{the_view}
+use Rattle.relay.specs.declared.found.Found.TheVariants as found
 use Rattle.relay.proofs.Advances.{reply_at, steps, stays, answers, passes_client, passes_peer, sends, discards}
 use Rattle.relay.proofs.relay.Relay.advance.Goals as goal
 
 -- ---- where the program of a client passes the datagram on
-
-pub pass_on-requires-clause-own : goal.pass_on-requires-clause-own
-pass_on-requires-clause-own c =
-    let kept = c.run-outcome.ensures.rest in
-    c.own_for-own.ensures
-    ∙ ap (λ (s : Source). own_for s (rows_at c.moment_of-self-inside.result c.self.inside.tables)) c.in-Client.is
-    ∙ (λ i. allocation_of c.in-Client.client (rows_at (sym kept i).greatest (sym kept i).rows))
 
 client_reply : (c : goal.After-pass_on) → reply_at (the_view c.self.inside) c.args.meta.now c.args.n c.moment_of-self-inside.result ≡ reply_of_passing c.run-outcome.new.self c.in-Client.client
 client_reply c =
@@ -41,7 +34,8 @@ returns-in-Client-clause-stepped c =
 
 pub returns-in-Client-clause-found : goal.returns-in-Client-clause-found
 returns-in-Client-clause-found c =
-    c.pass_on.ensures.answer
+    ap (λ (s : Source). sending_of_found c.pass_on.new.self s (found.Answer c.pass_on.result)) c.in-Client.is
+    ∙ c.pass_on.ensures.answer
     ∙ sym (ap (λ (r : SystemReply). r.answer) (client_reply c))
     ∙ answers (the_view c.self.inside) c.args.meta.now c.args.n c.moment_of-self-inside.result c.moment_of-self-inside.ensures
     ∙ (λ i. (outcome_of (c.self.view_is i) c.args.meta.now c.args.n).answer)

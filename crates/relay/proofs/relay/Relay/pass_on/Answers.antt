@@ -1,19 +1,14 @@
 use Rattle.std.proofs.Common.{◌≡◌, length, rules, sym, ◌∙◌}
 use Rattle.std.proofs.lemmas.List.{with_items_is}
-use Rattle.tables.specs.LookUps.{allocation_of}
-use Rattle.tables.specs.Rows.{rows_at}
 use Rattle.rules.specs.Answers.{sending_of_answer}
 use Rattle.rules.specs.ByRules.{from_client}
 use Rattle.relay.specs.Found.{reply_of_passing}
 use Rattle.relay.proofs.relay.Relay.pass_on.Goals as goal
 
-pub answer_client-requires-clause-own : goal.answer_client-requires-clause-own
-answer_client-requires-clause-own c = c.requires.own ∙ (λ i. allocation_of c.args.client (rows_at (sym c.self.view_is i).greatest (sym c.self.view_is i).rows))
-
 pub returns-clause-answer : goal.returns-clause-answer
 returns-clause-answer c =
     let same_length : length c.answer_client.new.out ≡ c.self.inside.reply.len = search rules in
-    (λ i. sending_of_answer c.args.client (sym c.datagram-bytes.ensures.bytes i) (with_items_is c.self.inside.reply c.answer_client.new.out same_length i) c.answer_client.result)
+    (λ i. sending_of_answer c.args.client (sym c.datagram-datagram.ensures.bytes i) (with_items_is c.self.inside.reply c.answer_client.new.out same_length i) c.answer_client.result)
     ∙ c.answer_client.ensures.answer
-    ∙ (λ i. (from_client c.self.inside.config c.self.inside.greatest c.args.client c.self.inside.tables (c.datagram-bytes.ensures.bytes i)).answer)
+    ∙ (λ i. (from_client c.self.inside.config c.self.inside.greatest c.args.client c.self.inside.tables (c.datagram-datagram.ensures.bytes i)).answer)
     ∙ (λ i. (reply_of_passing (c.self.view_is i) c.args.client).answer)
