@@ -76,8 +76,8 @@ class PublicToInternal(Rules):
             return (*answer[:2], (INTERNAL, answer[2][1]), *answer[3:])
         return answer
 
-    def from_peer(self, tx, slot, peer, data):
-        return super().from_peer(tx, slot, (PUBLIC, peer[1]) if peer[0] == INTERNAL else peer, data)
+    def from_peer(self, transaction_id, slot, peer, data):
+        return super().from_peer(transaction_id, slot, (PUBLIC, peer[1]) if peer[0] == INTERNAL else peer, data)
 
 
 def rows():

@@ -66,7 +66,7 @@ def exchanged(server, words):
     with Client(server) as client:
         answer = client.allocate()
         value = answer.first(XOR_RELAYED_ADDRESS)
-        relayed = value and address_in(value, answer.tx)
+        relayed = value and address_in(value, answer.transaction_id)
         yield from wanted("the next allocation", relayed, (LOOPBACK, server.first_port))
 
 

@@ -39,7 +39,7 @@ MOST_EDITS_OF_CRATE = 8
 
 def specs():
     """Returns the files of definitions, except the lists of modules."""
-    found = [path for path in CRATES.glob("*/specs/**/*.antt") if path.name != "Lib.antt"]
+    found = [path for path in CRATES.glob("*/specs/**/*.antt") if path.name not in ("Lib.antt", "laws.antt")]
     return sorted(found)
 
 

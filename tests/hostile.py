@@ -36,6 +36,8 @@ PEERS = RULES[0][1]
 NEVER = ["0.0.0.0", "0.1.2.3", "169.254.169.254", "224.0.0.1", "239.255.255.255", "240.0.0.1", "255.255.255.255"]
 # `mov r0, 1` and `exit`: all is passed on to the rules
 PASS = bytes.fromhex("b700000001000000 9500000000000000")
+# the options of files that are read again, each with good bytes, how many it may have, and what is reported of one that isn't there
+ODD_FILES = [("client", PASS, 32_768, ""), ("peer", PASS, 32_768, ""), ("users", b"ann:a\n", 1 << 20, "not readable")]
 # a burst, and the length of each of its datagrams: more than the system's usual buffers hold
 BURST, LENGTH = 1_000, 1_200
 # the sessions of two processes that serve one port, each with two channels
@@ -185,14 +187,15 @@ def faults_in(server):
 
 
 def odd_files():
-    """Yields what a server does otherwise than report once, and go on, where a program's file becomes something else."""
+    """Yields what a server does otherwise than report once, and go on, where the file of a program or of users becomes something
+    else."""
     with tempfile.TemporaryDirectory() as name:
-        for side in ("client", "peer"):
-            path = pathlib.Path(name) / side
-            put(path, PASS)
-            with Server(f"--{side}", str(path)) as server, Client(server) as client:
+        for option, good, most, missing in ODD_FILES:
+            path = pathlib.Path(name) / option
+            put(path, good)
+            with Server(f"--{option}", str(path)) as server, Client(server) as client:
                 printed = ""
-                for what, line in made_into(path):
+                for what, line in made_into(path, good, most, missing):
                     printed += f"cannot use {path}: {line}\n" if line else ""
                     if line:
                         server.awaited("\n", printed.count("\n"))
@@ -203,8 +206,8 @@ def odd_files():
             path.unlink(missing_ok=True)
 
 
-def made_into(path):
-    """Makes the file of a path into something else, again and again, and yields what it is and what is reported of it."""
+def made_into(path, good, most, missing):
+    """Makes a file, which had good bytes, into something else, again and again, and yields what it is and what is reported."""
     path.unlink()
     os.mkfifo(path)
     yield "a pipe", "not a regular file"
@@ -214,11 +217,11 @@ def made_into(path):
     path.rmdir()
     with open(path, "wb") as file:
         file.truncate(300_000_000)
-    yield "300 MB", "more than 32768 bytes"
+    yield "300 MB", f"more than {most} bytes"
     path.unlink()
-    yield "nothing", ""
-    put(path, PASS)
-    yield "the program that runs", ""
+    yield "nothing", missing
+    put(path, good)
+    yield "what it was", ""
     path.unlink()
     path.symlink_to("/dev/zero")
     yield "a device", "not a regular file"

@@ -1,7 +1,7 @@
 """Runs the built relayd in little memory.
 
 A program with more paths than can be followed is refused by V17 after 100,000 steps. On the way at most
-one branch of each of its jumps is pending, and a state is kept only at the goals of jumps: where few paths
+one branch of each of its jumps is pending, and a state is kept only at the targets of jumps: where few paths
 lead there, a few megabytes are enough. Where every second step keeps a state, the memory is bounded by the
 budget. A verifier that kept more would reach the limit, and print `out of memory`. A long text of blanks,
 comments and empty lines is assembled in the memory that holds the text.

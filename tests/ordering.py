@@ -69,10 +69,10 @@ def shuffled(path, source):
     code = listing(path)
     slots = [*code, max(code) + 1]
     after = dict(zip(slots, slots[1:]))
-    goals = {goal for slot, text in code.items() for goal in successors(slot, text, after[slot]) if goal != after[slot]}
+    targets = {target for slot, text in code.items() for target in successors(slot, text, after[slot]) if target != after[slot]}
     blocks, block = [], []
     for slot, text in code.items():
-        if slot in goals and block:
+        if slot in targets and block:
             blocks.append([*block, f"ja at{slot}"])
             block = []
         if not block:

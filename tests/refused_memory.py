@@ -5,7 +5,8 @@ error, nothing on standard output, and the status 4. Allocations are counted fro
 preloaded library on, so all those of `main` are counted. And `session_replay`, which makes a refused call once more: it has to
 print the right answers wherever memory is refused in the middle of a replay. And `memory_refusals`, which makes a call
 twice: the one that is refused memory has to name that as its own refusal, with the slot in V19, and the other one to
-give the right answer. It needs gcc.
+give the right answer. And a server that replaces its users, which is refused memory once while it does: it tries again. It
+needs gcc.
 """
 
 import os
@@ -15,7 +16,8 @@ import sys
 import tempfile
 
 from lib.program import PROGRAM, TOP, build, finish, preloadable, run
-from lib.server import free_ports
+from lib.rules import REFRESH
+from lib.server import Client, Server, code_of, free_ports, put
 
 EXAMPLES = TOP / "examples"
 FOURTH_BYTE = str(EXAMPLES / "fourth_byte.bpf")
@@ -198,6 +200,43 @@ def failures_of_calls(library):
     return failures, runs
 
 
+def replaced_users(path, environment):
+    """Returns what a server prints until it has replaced its users, and the error code of a Refresh of one of them."""
+    put(path, b"ann:a\n")
+    with Server("--users", str(path), env={**os.environ, **environment}) as server, Client(server) as client:
+        put(path, b"ann:a\nbob:b\n")
+        client.allocate()
+        server.awaited("users replaced")
+        return server.printed(), code_of(client.signed(REFRESH, []))
+
+
+def allocations_before(path, library, count):
+    """Returns how many allocations a server with a file of users makes before it listens."""
+    put(path, b"ann:a\n")
+    count.write_bytes(bytes(8))
+    environment = {**os.environ, "LD_PRELOAD": library, "REFUSE_FIRST": str(EVER), "COUNT_FILE": str(count)}
+    with Server("--users", str(path), env=environment):
+        return int.from_bytes(count.read_bytes(), "little")
+
+
+def failures_of_replaced_users(library, folder):
+    """Returns what is wrong with the servers that are refused one allocation while they replace their users, and how many
+    there were. A refusal leaves an x on the standard error.
+    """
+    path, failures = folder / "users", []
+    before = allocations_before(path, library, folder / "count")
+    replaced = "users replaced, 3 users\n"
+    refused = [f"xout of memory in {path}\n{replaced}", f"xcannot use {path}: not readable\n{replaced}"]
+    for number in range(1, EVER):
+        refusal = str(before + number)
+        environment = {"LD_PRELOAD": library, "REFUSE_FIRST": refusal, "REFUSE_LAST": refusal, "REFUSE_REPORT": "2"}
+        found = replaced_users(path, environment)
+        if found == (replaced, 0):
+            return failures + ([] if number > 5 else [f"only {number - 1} allocations where users are replaced"]), number
+        if found not in [(line, 0) for line in refused]:
+            failures.append(f"users, refused at {number}: {found}")
+
+
 def main():
     """Runs every case, and returns the exit status."""
     build()
@@ -205,6 +244,7 @@ def main():
         library = str(preloadable(pathlib.Path(folder), "refuse_malloc"))
         checks = [failures_of(words, status, library) for words, status in CASES]
         checks += [failures_of_repeated(library), failures_of_calls(library)]
+        checks.append(failures_of_replaced_users(library, pathlib.Path(folder)))
     failures = [failure for found, _ in checks for failure in found]
     runs = sum(count for _, count in checks)
     return finish(failures, f"refused memory: {runs} runs, {len(failures)} failures")

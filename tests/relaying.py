@@ -65,15 +65,15 @@ class Generator:
         if self.chance(0.001):
             self.now += 700
         now = self.now - 500 if self.chance(0.02) else self.now
-        tx = self.bytes(12)
+        transaction_id = self.bytes(12)
         if self.chance(0.35):
             size = 65_490 + self.random.randrange(18) if self.chance(0.004) else self.random.randrange(40)
-            return "p", now, tx, self.random.randrange(SLOTS), self.pick(self.peers), self.bytes(size)
-        return "c", now, tx, self.pick(self.clients), self.spoiled(self.datagram())
+            return "p", now, transaction_id, self.random.randrange(SLOTS), self.pick(self.peers), self.bytes(size)
+        return "c", now, transaction_id, self.pick(self.clients), self.spoiled(self.datagram())
 
-    def peer(self, tx):
+    def peer(self, transaction_id):
         """An attribute with the address of a peer, in a message with a transaction id."""
-        return XOR_PEER_ADDRESS, address_value(self.pick(self.peers), tx)
+        return XOR_PEER_ADDRESS, address_value(self.pick(self.peers), transaction_id)
 
     def spoiled(self, data):
         """Some datagrams are cut, padded or changed."""
@@ -95,23 +95,23 @@ class Generator:
         return struct.pack(">HH", self.pick([*CHANNELS, *CHANNELS, 0x5000, 0x7FFF]), len(data)) + data + bytes(-len(data) % 4)
 
     def send(self):
-        tx = self.bytes(12)
-        given = [self.peer(tx), (DATA, self.bytes(self.random.randrange(40)))]
+        transaction_id = self.bytes(12)
+        given = [self.peer(transaction_id), (DATA, self.bytes(self.random.randrange(40)))]
         if self.chance(0.3):
             given.reverse()
         if self.chance(0.2):
             other = self.pick([
-                (0x8022, b"name"), (0x8001, b""), (0x001A, b""), self.peer(tx),
+                (0x8022, b"name"), (0x8001, b""), (0x001A, b""), self.peer(transaction_id),
                 (XOR_PEER_ADDRESS, IPV6_VALUE), (XOR_PEER_ADDRESS, b"\0\2" + bytes(6)), (DATA, b"more")])
             given.insert(self.random.randrange(3), other)
         if self.chance(0.05):
             given.pop(self.random.randrange(len(given)))
-        return message(SEND, tx, given)
+        return message(SEND, transaction_id, given)
 
     def request(self):
         kind = self.pick([BINDING, ALLOCATE, ALLOCATE, REFRESH, CREATE_PERMISSION, CREATE_PERMISSION, CHANNEL_BIND, CHANNEL_BIND])
-        tx = self.bytes(12)
-        given = self.arguments(kind, tx)
+        transaction_id = self.bytes(12)
+        given = self.arguments(kind, transaction_id)
         if self.chance(0.05):
             given.insert(self.random.randrange(len(given) + 1), self.pick([(0x8022, b"name"), (0x001A, b""), (0x7F00, b"x")]))
         name, password = USERS[0] if self.chance(0.9) else self.pick([USERS[1], ("carol", "secret"), ("alice", "wrong")])
@@ -120,21 +120,21 @@ class Generator:
         if self.chance(0.03):
             credentials.pop(self.random.randrange(3))
         if self.chance(0.05):
-            return message(kind, tx, given)
-        return message(kind, tx, given + credentials, key_of(name, "relay", password))
+            return message(kind, transaction_id, given)
+        return message(kind, transaction_id, given + credentials, key_of(name, "relay", password))
 
-    def arguments(self, kind, tx):
+    def arguments(self, kind, transaction_id):
         lifetime = [(LIFETIME, struct.pack(">I", self.pick([0, 1, 599, 601, 3600, 4000, 2 ** 32 - 1])))]
         family = [(FAMILY, bytes([self.pick(self.families), 0, 0, 0]))]
         maybe = [a for options in ([lifetime, family] if kind in (ALLOCATE, REFRESH) else []) if self.chance(0.3) for a in options]
         if kind == ALLOCATE:
             return [(TRANSPORT, bytes([self.pick([17] * 9 + [6]), 0, 0, 0]))] + maybe
         if kind == CREATE_PERMISSION:
-            peers = [self.peer(tx) for _ in range(self.random.randrange(1, 4))]
+            peers = [self.peer(transaction_id) for _ in range(self.random.randrange(1, 4))]
             return peers + ([(XOR_PEER_ADDRESS, IPV6_VALUE)] if self.chance(0.05) else [])
         if kind == CHANNEL_BIND:
             number = self.pick([*CHANNELS, *CHANNELS, 0x3FFF, 0x5000])
-            return [(CHANNEL_NUMBER, struct.pack(">HH", number, 0)), self.peer(tx)]
+            return [(CHANNEL_NUMBER, struct.pack(">HH", number, 0)), self.peer(transaction_id)]
         return maybe
 
 
@@ -210,8 +210,8 @@ def systematic6():
     events += [("c", 1000, bytes(12), CLIENT6, data) for data in from_client]
     sizes = [*range(5), 65_455, 65_456, 65_457, 65_503, 65_504, 65_507]
     sources = (peer, other_port, no_permission, peer4)
-    tx = bytes(range(0xF0, 0xFC))
-    events += [("p", 1000, tx, slot, source, bytes(n)) for n in sizes for source in sources for slot in (0, 1)]
+    transaction_id = bytes(range(0xF0, 0xFC))
+    events += [("p", 1000, transaction_id, slot, source, bytes(n)) for n in sizes for source in sources for slot in (0, 1)]
     rules = Rules(USERS, slots=SLOTS, ip6=IP6)
     return [(line_of(event), answer_line(rules.answer(event))) for event in events]
 
@@ -230,15 +230,15 @@ class Discarding(Rules):
         super().__init__(USERS, slots=SLOTS)
         self.discards = discards
 
-    def from_peer(self, tx, slot, peer, data):
-        return None if self.discards(peer, data) else super().from_peer(tx, slot, peer, data)
+    def from_peer(self, transaction_id, slot, peer, data):
+        return None if self.discards(peer, data) else super().from_peer(transaction_id, slot, peer, data)
 
 
 class OverIpv4(Rules):
     """The rules, with the programs that were shipped before there were IPv6 allocations: what they relay has an IPv4 peer."""
 
-    def from_peer(self, tx, slot, peer, data):
-        return super().from_peer(tx, slot, peer, data) if family_of(peer[0]) == IPV4 else None
+    def from_peer(self, transaction_id, slot, peer, data):
+        return super().from_peer(transaction_id, slot, peer, data) if family_of(peer[0]) == IPV4 else None
 
     def channel_data(self, client, data):
         answer = super().channel_data(client, data)

@@ -25,9 +25,9 @@ import time
 from lib.program import PROGRAM, TOP, assembled, build, explained, finish, preloadable, shipped
 from lib.rules import (
     ALLOCATE, BINDING, CREATE_PERMISSION, DATA, DATA_INDICATION, FAMILY, LIFETIME, NONCE, REALM, REFRESH, SEND, XOR_MAPPED_ADDRESS,
-    XOR_PEER_ADDRESS, XOR_RELAYED_ADDRESS, address_in, address_value, message, read)
+    XOR_PEER_ADDRESS, XOR_RELAYED_ADDRESS, address_in, address_value, key_of, message, read)
 from lib.server import (
-    BAD, DISCARD, LOOPBACK, LOOPBACK6, PERIOD, UDP, USER, Client, Server, address_of, channel_data, code_of, counters,
+    BAD, DISCARD, LOOPBACK, LOOPBACK6, PERIOD, UDP, USER, Client, Server, address_of, channel_data, code_of, comes, counters,
     fault_line, free_ports, full_pipe, passed, put, round_trip, run, started, udp_socket, wanted, without_buffers)
 from worst_programs import known_programs
 
@@ -48,6 +48,18 @@ BATCH_OF_REQUESTS, FAILED_AHEAD = 10, (15, 19, 25)
 STOPPED_RECEIVE = 3 + 2 * 3 + 32
 # the Data indications whose transaction ids are looked at
 INDICATIONS = 40
+# whether data of a client, and data of its peer, pass
+BOTH, NEITHER = (True, True), (False, False)
+# lists that are refused where a user u comes before them, each with its reason; of each the user dan has another password
+REFUSED_USERS = [
+    (b"dan:e\n\n# bob is next\nbob\n", "line 4 has no colon"),
+    (b"dan:e\nbob:b\ndan:d\n", "refused users"),
+    (b"dan:e\nu:p\n", "refused users"),
+    (b"dan:e\nbob:\n", "refused users"),
+    (b"dan:e\n" + b"".join(b"%d:b\n" % number for number in range(63)), "refused users"),
+    (b"dan:e\nbob:\xff\n", "not UTF-8"),
+    (b"dan:e\n" + b"#" * (1 << 20), "more than 1048576 bytes"),
+]
 # the most slots, and those that are used when all are allocated
 MOST_SLOTS, USED_SLOTS = 256, (0, 69, 254, 255)
 # what a line of counters says of datagrams: those of clients and of peers that came, and those to peers and to clients that were sent
@@ -98,8 +110,9 @@ def refused_lines():
             ([*port, "--deny", "10.0.0.0"], 2, network("10.0.0.0", "--deny <NETWORK>", "not ADDRESS/BITS")),
             ([*port, "--allow", "x", "--deny", "10.0.0.0/33"], 2,
              network("10.0.0.0/33", "--deny <NETWORK>", "more bits than the address has")),
-            ([*port, "--allow", "fd00::1/8", "--slots", "x"], 2,
+            ([*port, "--allow", "fd00::1/8", "--listen", "0.0.0.0"], 2,
              network("fd00::1/8", "--allow <NETWORK>", "a bit after the prefix is set")),
+            ([*port, "--allow", "fd00::1/8", "--slots", "x"], 2, value("x", "--slots <N>")),
             ([*port, *many], 2, "error: more than 64 rules of '--deny <NETWORK>' and '--allow <NETWORK>'\n"),
             ([*port, *USER, "--listen", "0.0.0.0", "--slots", "0"], 2,
              "error: '--relay-ip <A>' is required with '--listen 0.0.0.0'\n"),
@@ -248,11 +261,15 @@ def session():
     with Server("--stats", "1") as server, Client(server) as client, udp_socket() as peer:
         own, other, relayed = address_of(client.socket), address_of(peer), (LOOPBACK, server.first_port)
         answer = client.ask(BINDING, [])
-        yield from wanted("Binding", address_in(answer.first(XOR_MAPPED_ADDRESS), answer.tx), own)
+        yield from wanted("Binding", address_in(answer.first(XOR_MAPPED_ADDRESS), answer.transaction_id), own)
         answer = client.challenge()
         yield from wanted("a challenge", (code_of(answer), answer.first(REALM), len(client.nonce)), (401, b"relay", 16))
+        for name, password in (("nobody", "p"), ("u", "wrong")):
+            with Client(server, name, password) as stranger:
+                stranger.nonce = client.nonce
+                yield from wanted(f"{name} with {password}", code_of(stranger.signed(ALLOCATE, [UDP])), 401)
         answer = client.allocate()
-        found = [address_in(answer.first(kind), answer.tx) for kind in (XOR_RELAYED_ADDRESS, XOR_MAPPED_ADDRESS)]
+        found = [address_in(answer.first(kind), answer.transaction_id) for kind in (XOR_RELAYED_ADDRESS, XOR_MAPPED_ADDRESS)]
         yield from wanted("Allocate", (code_of(answer), found), (0, [relayed, own]))
         given = [(XOR_PEER_ADDRESS, address_value(other))]
         yield from wanted("CreatePermission", code_of(client.signed(CREATE_PERMISSION, given)), 0)
@@ -260,7 +277,7 @@ def session():
         yield from wanted("Send", peer.recvfrom(100), (b"hello", ("127.0.0.1", server.first_port)))
         peer.sendto(b"back", ("127.0.0.1", server.first_port))
         data = read(client.receive())
-        found = data.kind, data.first(DATA), address_in(data.first(XOR_PEER_ADDRESS), data.tx)
+        found = data.kind, data.first(DATA), address_in(data.first(XOR_PEER_ADDRESS), data.transaction_id)
         yield from wanted("Data", found, (DATA_INDICATION, b"back", other))
         yield from wanted("ChannelBind", code_of(client.bind(other)), 0)
         client.send(channel_data(b"over"))
@@ -278,8 +295,8 @@ def session():
             client.send(b"no message")
         for _ in range(4):
             peer.sendto(b"no permission", ("127.0.0.1", server.first_port))
-        last = counters(from_clients=16, from_peers=6, to_peers=2, to_clients=2, granted=5, challenged=2, refused=1,
-                        discarded=(1, 2, 3, 4))
+        last = counters(from_clients=18, from_peers=6, to_peers=2, to_clients=2, granted=5, challenged=2, unauthenticated=2,
+                        refused=1, discarded=(1, 2, 3, 4))
         if not server.awaited(last):
             yield f"other counters: {server.printed()!r} in place of {last!r}"
         lines = server.printed().splitlines()
@@ -300,7 +317,7 @@ def session6():
         client.challenge()
         yield from wanted("another family", code_of(client.signed(ALLOCATE, [UDP, (FAMILY, bytes([3, 0, 0, 0]))])), 440)
         answer = client.allocate(FAMILY6)
-        found = [address_in(answer.first(kind), answer.tx) for kind in (XOR_RELAYED_ADDRESS, XOR_MAPPED_ADDRESS)]
+        found = [address_in(answer.first(kind), answer.transaction_id) for kind in (XOR_RELAYED_ADDRESS, XOR_MAPPED_ADDRESS)]
         yield from wanted("Allocate", (code_of(answer), found), (0, [(LOOPBACK6, server.first_port), address_of(client.socket)]))
         yield from wanted("a permission of the other family", code_of(client.signed(CREATE_PERMISSION, [], other4)), 443)
         yield from wanted("CreatePermission", code_of(client.signed(CREATE_PERMISSION, [], other)), 0)
@@ -308,7 +325,7 @@ def session6():
         yield from wanted("Send", peer.recvfrom(100)[:2], (b"hello", (*relayed, 0, 0)))
         peer.sendto(b"back", relayed)
         data = read(client.receive())
-        found = data.kind, data.first(DATA), address_in(data.first(XOR_PEER_ADDRESS), data.tx)
+        found = data.kind, data.first(DATA), address_in(data.first(XOR_PEER_ADDRESS), data.transaction_id)
         yield from wanted("Data", found, (DATA_INDICATION, b"back", other))
         yield from wanted("ChannelBind", code_of(client.bind(other)), 0)
         client.send(channel_data(b"over"))
@@ -344,7 +361,7 @@ def transactions():
         yield from wanted("CreatePermission", code_of(client.signed(CREATE_PERMISSION, [], address_of(peer))), 0)
         for _ in range(INDICATIONS):
             peer.sendto(b"back", ("127.0.0.1", server.first_port))
-            found.append(read(client.receive()).tx)
+            found.append(read(client.receive()).transaction_id)
     yield from wanted("ids that differ", len(set(found)), INDICATIONS)
     yield from wanted("bytes that are always the same", [i for i, of in enumerate(zip(*found)) if len(set(of)) == 1], [])
 
@@ -354,7 +371,7 @@ def many_slots():
     with Server(slots=MOST_SLOTS) as server, contextlib.ExitStack() as stack:
         clients = [stack.enter_context(Client(server)) for _ in range(MOST_SLOTS + 1)]
         answers = [client.allocate() for client in clients]
-        found = [address_in(answer.first(XOR_RELAYED_ADDRESS), answer.tx) for answer in answers[:-1]]
+        found = [address_in(answer.first(XOR_RELAYED_ADDRESS), answer.transaction_id) for answer in answers[:-1]]
         yield from wanted("relayed addresses", found, [(LOOPBACK, server.first_port + slot) for slot in range(MOST_SLOTS)])
         yield from wanted("one client more", code_of(answers[-1]), 508)
         for slot in USED_SLOTS:
@@ -370,7 +387,7 @@ def faults():
     """Yields what a server does otherwise than go on after a send that fails, and count it."""
     with Server("--stats", "1", "--relay-ip", "203.0.113.9") as server, Client(server) as client:
         answer = client.allocate()
-        found = address_in(answer.first(XOR_RELAYED_ADDRESS), answer.tx)
+        found = address_in(answer.first(XOR_RELAYED_ADDRESS), answer.transaction_id)
         yield from wanted("--relay-ip", found, (bytes([203, 0, 113, 9]), server.first_port))
         # a socket of loopback can't send to this address
         given = [(XOR_PEER_ADDRESS, address_value((bytes([192, 0, 2, 1]), 5000)))]
@@ -583,6 +600,90 @@ def withdrawn_programs():
             yield from wanted("loaded", server.awaited(f"loaded {paths['client']}\n"), 1)
 
 
+def put_users(server, path, users, printed, line):
+    """Replaces the file of users, and yields what is printed then otherwise than one more line."""
+    put(path, users)
+    printed.append(line)
+    server.awaited(line, printed.count(line))
+    yield from wanted(f"lines after {users[:60]!r}", server.printed(), "".join(printed))
+
+
+def users_come(server, path, clients, peer, printed):
+    """Yields what is not as it should be where a user is added, and the others have other places in the list."""
+    ann, bob, dan = clients
+    for client in (ann, bob):
+        yield from wanted("an allocation", code_of(client.allocate()), 0)
+        yield from wanted("a channel", code_of(client.bind(address_of(peer))), 0)
+    yield from wanted("an allocation of nobody", code_of(dan.allocate()), 401)
+    line = "users replaced, 4 users\n"
+    yield from put_users(server, path, b"# in another order\n\ndan:d\nbob:b\nann:a\n", printed, line)
+    for slot, client in enumerate((ann, bob)):
+        what = f"in another order, slot {slot}"
+        yield from wanted(f"{what}, its channel", passed(server, client, peer, BOTH, slot), BOTH)
+        client.send_to(address_of(peer), b"by a permission")
+        yield from wanted(f"{what}, its permission", comes(peer, b"by a permission", True), True)
+        yield from wanted(f"{what}, a Refresh", code_of(client.signed(REFRESH, [])), 0)
+        yield from wanted(f"{what}, its channel again", code_of(client.bind(address_of(peer))), 0)
+    yield from wanted("an allocation of the new user", code_of(dan.allocate()), 0)
+
+
+def users_go(server, path, clients, peer, printed):
+    """Yields what is not as it should be where a user is removed, and comes back, and where one has another password."""
+    ann, bob, dan = clients
+    line = "users replaced, 3 users\n"
+    yield from put_users(server, path, b"dan:d\nbob:b\n", printed, line)
+    found = passed(server, ann, peer, NEITHER), code_of(ann.signed(REFRESH, []))
+    yield from wanted("a user that is gone", found, (NEITHER, 401))
+    found = passed(server, bob, peer, BOTH, slot=1), code_of(bob.signed(REFRESH, []))
+    yield from wanted("a user that is still there", found, (BOTH, 0))
+    yield from put_users(server, path, b"dan:d\nbob:new\n", printed, line)
+    found = passed(server, bob, peer, NEITHER, slot=1), code_of(bob.signed(REFRESH, []))
+    yield from wanted("a user whose password is another", found, (NEITHER, 401))
+    bob.key = key_of("bob", "relay", "new")
+    yield from wanted("the new password", code_of(bob.signed(REFRESH, [])), 437)
+    yield from put_users(server, path, b"dan:d\nbob:new\nann:a\n", printed, "users replaced, 4 users\n")
+    found = passed(server, ann, peer, NEITHER), code_of(ann.signed(REFRESH, []))
+    yield from wanted("a user that is back", found, (NEITHER, 437))
+    answer = ann.allocate()
+    relayed = address_in(answer.first(XOR_RELAYED_ADDRESS), answer.transaction_id)
+    yield from wanted("its new allocation", relayed, (LOOPBACK, server.first_port))
+    yield from wanted("the channel of its former one", passed(server, ann, peer, NEITHER), NEITHER)
+    yield from wanted("a user who was always there", code_of(dan.signed(REFRESH, [])), 0)
+
+
+def refused_users(server, path, clients, _peer, printed):
+    """Yields what isn't reported once, and what changes all the same, where a list is refused or the file can't be read."""
+    dan, good = clients[2], path.read_bytes()
+    for users, reason in REFUSED_USERS:
+        yield from put_users(server, path, users, printed, f"cannot use {path}: {reason}\n")
+        yield from wanted(f"a Refresh after {reason}", code_of(dan.signed(REFRESH, [])), 0)
+        time.sleep(1.2 * PERIOD)
+    path.unlink()
+    printed.append(f"cannot use {path}: not readable\n")
+    server.awaited(printed[-1])
+    time.sleep(1.2 * PERIOD)
+    put(path, good)
+    time.sleep(1.2 * PERIOD)
+    yield from wanted("lines after the list that is set", server.printed(), "".join(printed))
+    users, reason = REFUSED_USERS[0]
+    yield from put_users(server, path, users, printed, f"cannot use {path}: {reason}\n")
+    yield from wanted("a Refresh at the end", code_of(dan.signed(REFRESH, [])), 0)
+
+
+def users_that_come_and_go():
+    """Yields what happens otherwise than said where the file of users is replaced: whose allocations go on, and whose end. No
+    datagram makes the server look."""
+    with tempfile.TemporaryDirectory() as name, contextlib.ExitStack() as stack:
+        path = pathlib.Path(name) / "users"
+        put(path, b"ann:a\nbob:b\n")
+        server = stack.enter_context(Server("--users", str(path), slots=4))
+        clients = [stack.enter_context(Client(server, *user)) for user in (("ann", "a"), ("bob", "b"), ("dan", "d"))]
+        peer = stack.enter_context(udp_socket())
+        printed = []
+        for part in (users_come, users_go, refused_users):
+            yield from part(server, path, clients, peer, printed)
+
+
 def requests_before(server, amid, address="127.0.0.1"):
     """How many of 200 requests are answered before a datagram of a peer, which came after all of them; or amid them, while
     the server had stopped itself."""
@@ -686,7 +787,7 @@ def main():
     build()
     parts = [refused_lines, rounds, addresses, addresses6, default_ports, default_slots, counted_rounds, receives_of_rounds,
              session, session6, no_family6, transactions, many_slots, faults, failed_receives, idle, idle_files, nonces,
-             replaced_programs, slow_programs, withdrawn_programs, turns, ahead, many]
+             replaced_programs, slow_programs, withdrawn_programs, users_that_come_and_go, turns, ahead, many]
     failures = []
     for part in parts:
         try:

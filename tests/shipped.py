@@ -22,13 +22,13 @@ DOCS = {
     "client": """\
 /// The bytes of the program of the client's side, an instruction a line, made of examples/relay/client.s. It relays
 /// ChannelData and Send indications of an IPv4 address and data, passes on whatever else begins as a STUN message does,
-/// and sends nothing for any other datagram. [`client_serves`](crate::client_serves) states what it promises.
+/// and sends nothing for any other datagram. [`law_client_serves`](crate::law_client_serves) states what it promises.
 /// See docs/DECISIONS.md, "A plain Send indication".
 """,
     "peer": """\
 /// The bytes of the program of the peers' side, an instruction a line, made of examples/relay/peer.s. It relays
 /// datagrams of peers that have a permission: as ChannelData where a channel is bound to the peer, and else as Data
-/// indications. [`peer_serves`](crate::peer_serves) states what it promises.
+/// indications. [`law_peer_serves`](crate::law_peer_serves) states what it promises.
 """,
 }
 

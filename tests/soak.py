@@ -46,8 +46,8 @@ def flood_kinds(port, first_port):
         "allocations without credentials": lambda: (message(ALLOCATE, random.randbytes(12), [UDP]), port),
         "wrong credentials": lambda: (message(REFRESH, random.randbytes(12), [(USERNAME, b"u")], random.randbytes(16)), port),
         "channels that aren't bound": lambda: (struct.pack(">HH", random.randrange(0x4000, 0x5000), 4) + b"data", port),
-        "sends without a permission": lambda: (message(SEND, tx := random.randbytes(12), [
-            (XOR_PEER_ADDRESS, address_value((LOOPBACK, 9), tx)), (DATA, b"data")]), port),
+        "sends without a permission": lambda: (message(SEND, transaction_id := random.randbytes(12), [
+            (XOR_PEER_ADDRESS, address_value((LOOPBACK, 9), transaction_id)), (DATA, b"data")]), port),
         "peers without a permission": lambda: (b"from a peer", first_port + random.randrange(SLOTS)),
         "the longest datagrams": lambda: (bytes(65_507), port),
     }

@@ -46,7 +46,7 @@ def storing(number):
 
 
 def meeting(fork, forks):
-    """Returns a program of which no state covers another one where 2^forks paths meet, at each of the last jumps' goals.
+    """Returns a program of which no state covers another one where 2^forks paths meet, at each of the last jumps' targets.
 
     Each state there is compared with all that were kept before it, which is the most that a program can ask for.
     """

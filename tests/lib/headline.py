@@ -24,7 +24,7 @@ INSIDE = ("interval", "absstate", "verifier", "operations", "flat")
 
 def is_law(path):
     """Returns whether a file of definitions has laws."""
-    return any("Laws" in part for part in path.relative_to(CRATES).parts)
+    return "laws" in path.relative_to(CRATES).parts
 
 
 def declared_in(crate, module):

@@ -37,16 +37,16 @@ def family_of(ip):
     return IPV4 if len(ip) == 4 else IPV6
 
 
-def address_value(address, tx=bytes(12)):
+def address_value(address, transaction_id=bytes(12)):
     """The value of an XOR address: IP address of 4 or 16 bytes, and port."""
     ip, port = address
-    mask = struct.pack(">I", COOKIE) + tx
+    mask = struct.pack(">I", COOKIE) + transaction_id
     return bytes([0, family_of(ip)]) + xor(struct.pack(">H", port), mask) + xor(ip, mask)
 
 
-def address_in(value, tx):
+def address_in(value, transaction_id):
     """The address of a value: IP address of 4 or 16 bytes, and port. None where it is malformed."""
-    mask = struct.pack(">I", COOKIE) + tx
+    mask = struct.pack(">I", COOKIE) + transaction_id
     for size, family in ((4, IPV4), (16, IPV6)):
         if len(value) == size + 4 and value[1] == family:
             return xor(value[4:], mask), struct.unpack(">H", xor(value[2:4], mask))[0]
@@ -57,13 +57,13 @@ def attribute(kind, value):
     return struct.pack(">HH", kind, len(value)) + value + bytes(-len(value) % 4)
 
 
-def message(kind, tx, attributes, key=None):
+def message(kind, transaction_id, attributes, key=None):
     """The bytes of a message, signed under the key if there is one."""
     body = b"".join(attribute(k, v) for k, v in attributes)
     if key is not None:
-        covered = struct.pack(">HHI", kind, len(body) + 24, COOKIE) + tx + body
+        covered = struct.pack(">HHI", kind, len(body) + 24, COOKIE) + transaction_id + body
         body += attribute(INTEGRITY, hmac.new(key, covered, hashlib.sha1).digest())
-    return struct.pack(">HHI", kind, len(body), COOKIE) + tx + body
+    return struct.pack(">HHI", kind, len(body), COOKIE) + transaction_id + body
 
 
 def key_of(name, realm, password):
@@ -77,7 +77,7 @@ class Message:
         kind, length, cookie = struct.unpack(">HHI", data[:8])
         if kind >= 0x4000 or cookie != COOKIE or length % 4 != 0 or length + 20 != len(data):
             raise ValueError
-        self.kind, self.tx, self.attributes, self.covered = kind, data[8:20], [], None
+        self.kind, self.transaction_id, self.attributes, self.covered = kind, data[8:20], [], None
         at, signed = 20, False
         while at < len(data):
             if at + 4 > len(data):
@@ -115,8 +115,8 @@ def read(data):
 
 
 class Allocation:
-    def __init__(self, slot, client, user, tx, family, lifetime, end):
-        self.slot, self.client, self.user, self.tx, self.lifetime, self.end = slot, client, user, tx, lifetime, end
+    def __init__(self, slot, client, user, transaction_id, family, lifetime, end):
+        self.slot, self.client, self.user, self.transaction_id, self.lifetime, self.end = slot, client, user, transaction_id, lifetime, end
         self.family = family
         self.permissions, self.channels = {}, {}
 
@@ -150,13 +150,13 @@ class Rules:
         if event[0] == "n":
             self.nonce = event[1]
             return None
-        side, now, tx = event[:3]
+        side, now, transaction_id = event[:3]
         self.now = max(self.now, min(now, LATEST))
         if side == "p":
-            return self.from_peer(tx, *event[3:])
+            return self.from_peer(transaction_id, *event[3:])
         return self.from_client(*event[3:])
 
-    def from_peer(self, tx, slot, peer, data):
+    def from_peer(self, transaction_id, slot, peer, data):
         a = self.at(slot)
         if a is None or peer[0] not in a.permissions:
             return None
@@ -165,10 +165,10 @@ class Rules:
                 out = struct.pack(">HH", number, len(data)) + data
                 break
         else:
-            given = [(XOR_PEER_ADDRESS, address_value(peer, tx)), (DATA, data)]
+            given = [(XOR_PEER_ADDRESS, address_value(peer, transaction_id)), (DATA, data)]
             if 20 + sum(len(attribute(*a)) for a in given) > LONGEST:
                 return None
-            out = message(DATA_INDICATION, tx, given)
+            out = message(DATA_INDICATION, transaction_id, given)
         return ("c", a.client, out) if len(out) <= LONGEST else None
 
     def from_client(self, client, data):
@@ -196,7 +196,7 @@ class Rules:
         a, value, data = self.of(client), m.first(XOR_PEER_ADDRESS), m.first(DATA)
         if a is None or m.unknown() or value is None or data is None:
             return None
-        peer = address_in(value, m.tx)
+        peer = address_in(value, m.transaction_id)
         if peer is None or peer[0] not in a.permissions:
             return None
         return ("p", a.slot, peer, data)
@@ -216,10 +216,10 @@ class Rules:
             if m.unknown():
                 raise Refused(420)
             if m.kind == BINDING:
-                given = [(XOR_MAPPED_ADDRESS, address_value(client, m.tx))]
+                given = [(XOR_MAPPED_ADDRESS, address_value(client, m.transaction_id))]
             else:
                 given = serve[m.kind](client, user, m)
-            return ("c", client, message(m.kind | 0x100, m.tx, given, key))
+            return ("c", client, message(m.kind | 0x100, m.transaction_id, given, key))
         except Refused as refused:
             code = refused.code
             given = [(ERROR_CODE, bytes([0, 0, code // 100, code % 100]) + PHRASES[code].encode())]
@@ -227,7 +227,7 @@ class Rules:
                 given += [(REALM, self.realm.encode()), (NONCE, self.nonce)]
             if code == 420:
                 given += [(UNKNOWN_ATTRIBUTES, b"".join(struct.pack(">H", k) for k in m.unknown()))]
-            return ("c", client, message(m.kind | 0x110, m.tx, given, key))
+            return ("c", client, message(m.kind | 0x110, m.transaction_id, given, key))
 
     def check(self, m):
         """The user of a request, by index, and the key."""
@@ -273,7 +273,7 @@ class Rules:
     def allocate(self, client, user, m):
         a = self.of(client)
         if a is not None:
-            if a.tx != m.tx or a.user != user:
+            if a.transaction_id != m.transaction_id or a.user != user:
                 raise Refused(437)
         else:
             if self.number(m, TRANSPORT, 1, must=True) != 17:
@@ -285,11 +285,11 @@ class Rules:
             free = [s for s in range(len(self.slots)) if self.at(s) is None]
             if not free:
                 raise Refused(508)
-            a = Allocation(free[0], client, user, m.tx, family, lifetime, self.now + lifetime)
+            a = Allocation(free[0], client, user, m.transaction_id, family, lifetime, self.now + lifetime)
             self.slots[a.slot] = a
         relayed = self.ips[a.family], self.first_port + a.slot
-        return [(XOR_RELAYED_ADDRESS, address_value(relayed, m.tx)), (LIFETIME, struct.pack(">I", a.lifetime)),
-                (XOR_MAPPED_ADDRESS, address_value(client, m.tx))]
+        return [(XOR_RELAYED_ADDRESS, address_value(relayed, m.transaction_id)), (LIFETIME, struct.pack(">I", a.lifetime)),
+                (XOR_MAPPED_ADDRESS, address_value(client, m.transaction_id))]
 
     def refresh(self, client, user, m):
         a = self.own(client, user)
@@ -302,7 +302,7 @@ class Rules:
 
     def create_permission(self, client, user, m):
         a = self.own(client, user)
-        peers = [address_in(v, m.tx) for v in m.values(XOR_PEER_ADDRESS)]
+        peers = [address_in(v, m.transaction_id) for v in m.values(XOR_PEER_ADDRESS)]
         if not peers or None in peers:
             raise Refused(400)
         if any(family_of(ip) != a.family for ip, _ in peers):
@@ -317,7 +317,7 @@ class Rules:
         a = self.own(client, user)
         number = self.number(m, CHANNEL_NUMBER, 2, must=True)
         value = m.first(XOR_PEER_ADDRESS)
-        peer = None if value is None else address_in(value, m.tx)
+        peer = None if value is None else address_in(value, m.transaction_id)
         if peer is None or not 0x4000 <= number <= 0x4FFF:
             raise Refused(400)
         if family_of(peer[0]) != a.family:
@@ -352,21 +352,21 @@ def line_of(event):
     if event[0] == "n":
         return "n " + event[1].decode()
     if event[0] == "c":
-        _, now, tx, client, data = event
-        return f"c {now} {tx.hex()} {address_text(client)} {hex_text(data)}"
-    _, now, tx, slot, peer, data = event
-    return f"p {now} {tx.hex()} {slot} {address_text(peer)} {hex_text(data)}"
+        _, now, transaction_id, client, data = event
+        return f"c {now} {transaction_id.hex()} {address_text(client)} {hex_text(data)}"
+    _, now, transaction_id, slot, peer, data = event
+    return f"p {now} {transaction_id.hex()} {slot} {address_text(peer)} {hex_text(data)}"
 
 
 def event_of(line):
     side, *rest = line.split(" ")
     if side == "n":
         return "n", rest[0].encode()
-    now, tx, *source, data = rest
+    now, transaction_id, *source, data = rest
     data = b"" if data == "-" else bytes.fromhex(data)
     if side == "c":
-        return "c", int(now), bytes.fromhex(tx), address_of(source[0]), data
-    return "p", int(now), bytes.fromhex(tx), int(source[0]), address_of(source[1]), data
+        return "c", int(now), bytes.fromhex(transaction_id), address_of(source[0]), data
+    return "p", int(now), bytes.fromhex(transaction_id), int(source[0]), address_of(source[1]), data
 
 
 def answer_line(answer):

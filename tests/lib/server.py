@@ -25,7 +25,6 @@ LOOPBACK = bytes([127, 0, 0, 1])
 LOOPBACK6 = bytes(15) + b"\1"
 UDP = TRANSPORT, bytes([17, 0, 0, 0])
 USER = ["--user", "u:p"]
-KEY = key_of("u", "relay", "p")
 CHANNEL = 0x4000
 # `mov r0, 0` and `exit`: every datagram is discarded
 DISCARD = bytes.fromhex("b700000000000000 9500000000000000")
@@ -153,10 +152,11 @@ class Server:
 
 
 class Client:
-    """A client of a server."""
+    """A client of a server, with the name and the password of a user."""
 
-    def __init__(self, server):
+    def __init__(self, server, name="u", password="p"):
         self.server, self.socket = ("127.0.0.1", server.port), udp_socket()
+        self.name, self.key = name.encode(), key_of(name, "relay", password)
         self.nonce = None
 
     def __enter__(self):
@@ -174,11 +174,11 @@ class Client:
     def ask(self, kind, given, key=None, peer=None):
         """Sends a request, with the address of a peer if there is one, and returns its response: of its transaction, and signed
         where it grants a signed one."""
-        tx = random.randbytes(12)
-        peers = [] if peer is None else [(XOR_PEER_ADDRESS, address_value(peer, tx))]
-        self.send(message(kind, tx, peers + given, key))
+        transaction_id = random.randbytes(12)
+        peers = [] if peer is None else [(XOR_PEER_ADDRESS, address_value(peer, transaction_id))]
+        self.send(message(kind, transaction_id, peers + given, key))
         answer = read(self.receive())
-        if answer is None or answer.tx != tx or answer.kind & 0x3EEF != kind:
+        if answer is None or answer.transaction_id != transaction_id or answer.kind & 0x3EEF != kind:
             raise ValueError(f"{kind:#06x} is not answered")
         if key and answer.kind == kind | 0x100:
             if answer.first(INTEGRITY) != hmac.new(key, answer.covered, hashlib.sha1).digest():
@@ -187,7 +187,7 @@ class Client:
 
     def signed(self, kind, given, peer=None):
         """Sends a signed request, and returns its response."""
-        return self.ask(kind, [*given, (USERNAME, b"u"), (REALM, b"relay"), (NONCE, self.nonce)], KEY, peer)
+        return self.ask(kind, [*given, (USERNAME, self.name), (REALM, b"relay"), (NONCE, self.nonce)], self.key, peer)
 
     def challenge(self):
         """Asks for an allocation without credentials, keeps the nonce, and returns the response."""
@@ -206,8 +206,8 @@ class Client:
 
     def send_to(self, peer, data):
         """Sends data to a peer in a Send indication."""
-        tx = random.randbytes(12)
-        self.send(message(SEND, tx, [(XOR_PEER_ADDRESS, address_value(peer, tx)), (DATA, data)]))
+        transaction_id = random.randbytes(12)
+        self.send(message(SEND, transaction_id, [(XOR_PEER_ADDRESS, address_value(peer, transaction_id)), (DATA, data)]))
 
 
 def channel_data(data):
@@ -236,8 +236,8 @@ def fault_line(receive=0, send=0):
     return f"receive faults {receive} send faults {send}\n"
 
 
-def counters(from_clients=0, from_peers=0, to_peers=0, to_clients=0, granted=0, challenged=0, refused=0,
-             discarded=(0, 0, 0, 0), receive_faults=0, send_faults=0, denied=0):
+def counters(from_clients=0, from_peers=0, to_peers=0, to_clients=0, granted=0, challenged=0, unauthenticated=0,
+             refused=0, discarded=(0, 0, 0, 0), receive_faults=0, send_faults=0, denied=0):
     """The line of counters.
 
     What is discarded is ChannelData, messages and others of clients, and what comes from peers.
@@ -245,7 +245,7 @@ def counters(from_clients=0, from_peers=0, to_peers=0, to_clients=0, granted=0, 
     of_channels, messages, others, of_peers = discarded
     return (f"received from clients {from_clients} peers {from_peers}, "
             f"relayed to peers {to_peers} clients {to_clients}, "
-            f"granted {granted} challenged {challenged} refused {refused}, "
+            f"granted {granted} challenged {challenged} unauthenticated {unauthenticated} refused {refused}, "
             f"discarded channel data {of_channels} messages {messages} others {others} from peers {of_peers}, "
             f"receive faults {receive_faults} send faults {send_faults}, denied {denied} dropped 0\n")
 
@@ -272,12 +272,12 @@ def comes(receiver, data, expected):
         receiver.settimeout(5)
 
 
-def passed(server, client, peer, expected):
-    """Whether ChannelData comes to the peer, and data of the peer to the client; which of them are expected is given."""
+def passed(server, client, peer, expected, slot=0):
+    """Whether ChannelData comes to the peer, and data of the peer to a slot to the client; which of them are expected is given."""
     token = random.randbytes(8)
     client.send(channel_data(token))
     there = comes(peer, token, expected[0])
-    peer.sendto(token, ("127.0.0.1", server.first_port))
+    peer.sendto(token, ("127.0.0.1", server.first_port + slot))
     return there, comes(client.socket, channel_data(token), expected[1])
 
 

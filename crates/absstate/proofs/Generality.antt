@@ -12,8 +12,8 @@ use Rattle.absstate.specs.AbstractStates.{abstract_at, low_of, high_of, proved_o
 use Rattle.absstate.specs.AbstractSteps.{with_operands}
 use Rattle.absstate.specs.Covers.{same_int, covers_places, proves_less, covers_marks}
 use Rattle.absstate.specs.Generality.{CoversWider, NarrowsBoth}
-use Rattle.absstate.specs.StepLaws.Bounds.{le_is_true}
-use Rattle.absstate.specs.StepLaws.MemoryValues.{both_true}
+use Rattle.absstate.specs.laws.Step.Bounds.{le_is_true}
+use Rattle.absstate.specs.laws.Step.MemoryValues.{both_true}
 use Rattle.absstate.specs.declared.abstract_state.AbstractValue.TheVariants.{Nothing, Scalar}
 use Rattle.absstate.specs.declared.abstract_state.AbsState.{AbsState}
 

@@ -36,7 +36,7 @@ fn number_argument<D: Copy>(state: &AbsState<D>, reg: Reg) -> Result<(), Reason>
 
 /// Returns the index, among the stack cells, of the `n` bytes that a pointer points to, or `None` where they don't lie in
 /// the stack.
-#[tactic(auto, using(semantics::specs::AccessLaws::index_short))]
+#[tactic(auto, using(semantics::specs::laws::Access::index_short))]
 fn stack_index<D: Copy>(pointer: AbstractValue<D>, n: usize) -> Option<usize>
     requires { n ≤ STACK_BYTES }
     ensures index { result ≡ abstract_stack_index n pointer }

@@ -1,5 +1,5 @@
 -- What the reader reads of a line is what the line says.
-use Rattle.asm.specs.GrammarLaws.{read_line_means, means_read_line}
+use Rattle.asm.specs.laws.Grammar.{read_line_means, means_read_line}
 use Rattle.asm.proofs.Meanings.{ReaderLaws}
 
 pub laws : ReaderLaws

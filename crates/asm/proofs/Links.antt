@@ -17,8 +17,8 @@ use Rattle.asm.specs.Parsing.{said_in, IsUnfit, UnderstandsLine}
 use Rattle.asm.specs.Scanning.{Holds, IsTableOf, IsHalted, IsLinked, slots_up_to_limit, following_lines, TextBegins, Fails}
 use Rattle.asm.specs.declared.statement.Line.{Line}
 use Rattle.asm.specs.declared.statement.Line.TheVariants as line
-use Rattle.asm.specs.declared.refusal.Fault.{Fault}
-use Rattle.asm.specs.declared.refusal.Fault.TheVariants as fault
+use Rattle.asm.specs.declared.refusal.LineError.{LineError}
+use Rattle.asm.specs.declared.refusal.LineError.TheVariants as fault
 use Rattle.asm.specs.declared.refusal.AsmError.{AsmError}
 use Rattle.asm.specs.declared.refusal.AsmError.TheVariants as error
 use Rattle.asm.specs.declared.table.Table.{Table}
@@ -171,7 +171,7 @@ no_fault lines table n slot left text code m e k is first =
   where
     by : (after : List (Option Statement)) → AllZip (λ line t. line_statement line ≡ Some t) (first.line ∷ first.rest) after
         → AllByRecursion IsInRange after
-        → (f : Fault) → UnderstandsLine (line_statement first.line) (Err f) → ⊥
+        → (f : LineError) → UnderstandsLine (line_statement first.line) (Err f) → ⊥
     by [] ahead fit f fails = ahead
     by (t ∷ after) ahead fit fault.Syntax fails = let both : Some t ≡ None = sym ahead.0 ∙ fails in cc
     by (t ∷ after) ahead fit fault.Range fails = let unfit : IsUnfit (Some t) = subst IsUnfit ahead.0 fails in

@@ -11,8 +11,8 @@ use Rattle.asm.specs.Reading.{line_statement}
 use Rattle.asm.specs.Parsing.{UnderstandsLine}
 use Rattle.asm.specs.Faults.{fault_at}
 use Rattle.asm.specs.Scanning.{AreUnderstood, Holds, IsNewLabel, Adds, IsScanned, IsHalted, following_lines, TextBegins, Fails, Halts, IsUnread, IsTooLarge}
-use Rattle.asm.specs.declared.refusal.Fault.{Fault}
-use Rattle.asm.specs.declared.refusal.Fault.TheVariants as fault
+use Rattle.asm.specs.declared.refusal.LineError.{LineError}
+use Rattle.asm.specs.declared.refusal.LineError.TheVariants as fault
 use Rattle.asm.specs.declared.refusal.AsmError.{AsmError}
 use Rattle.asm.specs.declared.refusal.AsmError.TheVariants as error
 use Rattle.asm.specs.declared.table.Table.{Table}
@@ -124,7 +124,7 @@ halted_at_fault lines n left text table e scanned is fails = rw fails.named (by 
       fault = fault;
     }
 
-    by : (f : Fault) → UnderstandsLine (line_statement fails.line) (Err f) → IsHalted lines (fault_at f (n + 1))
+    by : (f : LineError) → UnderstandsLine (line_statement fails.line) (Err f) → IsHalted lines (fault_at f (n + 1))
     by fault.Syntax none = halted IsUnread none
     by fault.Range unfit = halted IsTooLarge unfit
 

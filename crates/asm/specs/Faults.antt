@@ -2,9 +2,9 @@
 use Rattle.std.specs.Prelude.{ℕ}
 use Rattle.asm.specs.declared.refusal.AsmError.{AsmError}
 use Rattle.asm.specs.declared.refusal.AsmError.TheVariants as error
-use Rattle.asm.specs.declared.refusal.Fault.{Fault}
-use Rattle.asm.specs.declared.refusal.Fault.TheVariants as fault
+use Rattle.asm.specs.declared.refusal.LineError.{LineError}
+use Rattle.asm.specs.declared.refusal.LineError.TheVariants as fault
 
-abbrev pub fault_at : Fault → ℕ → AsmError
+abbrev pub fault_at : LineError → ℕ → AsmError
 fault_at fault.Syntax n = error.Syntax n
 fault_at fault.Range n = error.Range n

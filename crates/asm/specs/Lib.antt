@@ -7,5 +7,4 @@ pub mod Programs
 pub mod Reading
 pub mod Parsing
 pub mod Scanning
-pub mod GrammarLaws
-pub mod ListingLaws
+pub mod laws

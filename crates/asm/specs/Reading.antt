@@ -1,5 +1,5 @@
 -- Internal. The reader of a line as functions on its tokens, which the parser's methods mirror. The laws of
--- GrammarLaws.antt say that it reads the grammar.
+-- laws/Grammar.antt say that it reads the grammar.
 use Rattle.std.specs.Prelude.{ℕ, ◌-◌, ◌==◌, nat_le, Bool, false, ◌&&◌, ℤ, pos, neg_ℤ, List, [], ◌∷◌, ◌++◌, length, codes, bytes_eq, find, drop, take, Option, Some, None, option_map, if◌then◌else◌}
 use Rattle.std.specs.List.{list_all}
 use Rattle.std.specs.Str.Parse.{digits_value}
@@ -270,21 +270,21 @@ sign_extension e ts = do
   done ← end src.rest
   Some (Instruction (insn.SignExtend e dst.value src.value) None)
 
-abbrev pub only_goal : List Token → Option Target
-only_goal ts = do
+abbrev pub only_target : List Token → Option Target
+only_target ts = do
   t ← jump_target ts
   done ← end t.rest
   Some t.value
 
 abbrev pub jump : (ℤ → Insn) → List Token → Option Statement
-jump make ts = option_map (λ t. Instruction (make t.distance) t.label) (only_goal ts)
+jump make ts = option_map (λ t. Instruction (make t.distance) t.label) (only_target ts)
 
 abbrev pub jump_if : Width → Condition → List Token → Option Statement
 jump_if width c ts = do
   dst ← dst_comma ts
   o ← operand_in dst.rest
   rest ← sign (codes ",") o.rest
-  t ← only_goal rest
+  t ← only_target rest
   Some (Instruction (insn.JumpIf width c dst.value o.value t.distance) t.label)
 
 -- a register and an address

@@ -13,7 +13,7 @@ use Rattle.asm.specs.Programs.{IsInRange, labels, IsNameAmong, AreDistinct, slot
 use Rattle.asm.specs.Reading.{line_statement}
 use Rattle.asm.specs.Parsing.{IsUnfit, UnderstandsLine}
 use Rattle.asm.specs.Faults.{fault_at}
-use Rattle.asm.specs.declared.refusal.Fault.{Fault}
+use Rattle.asm.specs.declared.refusal.LineError.{LineError}
 use Rattle.asm.specs.declared.refusal.AsmError.{AsmError}
 use Rattle.asm.specs.declared.refusal.AsmError.TheVariants as error
 use Rattle.asm.specs.declared.table.Table.{Table}
@@ -40,7 +40,7 @@ pub record Fails (text : List ℕ) (n : ℕ) (e : AsmError) : Type 0 where
   pub line : List ℕ
   pub rest : List (List ℕ)
   pub split : lines_of text ≡ line ∷ rest
-  pub fault : Fault
+  pub fault : LineError
   pub named : e ≡ fault_at fault n
   pub fails : UnderstandsLine (line_statement line) (Err fault)
 

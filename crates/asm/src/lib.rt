@@ -15,6 +15,6 @@ mod statement;
 mod table;
 
 pub use program::{
-    assemble, listings_name_their_program, refusals_are_unique, texts_name_one_program,
+    assemble, law_listings_name_their_program, law_refusals_are_unique, law_texts_name_one_program,
 };
 pub use refusal::AsmError;

@@ -8,11 +8,11 @@ ghost use Rattle.asm.specs.Radices.{radix_of, is_numeral};
 ghost use Rattle.asm.specs.Lines.{begins_name, is_in_names, is_in_words, is_blank};
 ghost use Rattle.asm.specs.Reading as reading;
 ghost use Rattle.asm.specs.Reading.{register_named, is_name, number_of_token};
-ghost use Rattle.asm.specs.Parsing.{tokens_ahead, numeral_value, integer_value, parsed_operand, parsed_address, goal_value, Reads, Passes, StartsUnblank};
+ghost use Rattle.asm.specs.Parsing.{tokens_ahead, numeral_value, integer_value, parsed_operand, parsed_address, target_value, Reads, Passes, StartsUnblank};
 
 use crate::number::{Integer, Number};
 use crate::radix::Radix;
-use crate::refusal::Fault;
+use crate::refusal::LineError;
 use insn::Reg;
 
 /// The greatest number of characters in a name.
@@ -136,7 +136,7 @@ pub(crate) enum Written<'a> {
 
 /// Where a jump goes, as it is written.
 #[derive(Clone, Copy)]
-pub(crate) enum Goal<'a> {
+pub(crate) enum WrittenTarget<'a> {
     Label(&'a [u8]),
     Distance(Integer<'a>),
 }
@@ -190,61 +190,61 @@ impl<'a> Parser<'a> {
     }
 
     /// Reads one sign.
-    pub(crate) fn sign(&mut self, sign: &[u8]) -> Result<(), Fault>
+    pub(crate) fn sign(&mut self, sign: &[u8]) -> Result<(), LineError>
         ensures { Passes (reading.sign sign.now) tokens_ahead self.old result self.new }
     {
         match self.next() {
             Some(token) if token == sign => Ok(()),
-            _ => Err(Fault::Syntax),
+            _ => Err(LineError::Syntax),
         }
     }
 
     /// Reads the end of the line.
-    pub(crate) fn end(&mut self) -> Result<(), Fault>
+    pub(crate) fn end(&mut self) -> Result<(), LineError>
         ensures { Passes reading.end (λ p. tt) self.old result self.new }
     {
         match self.next() {
             None => Ok(()),
-            Some(_) => Err(Fault::Syntax),
+            Some(_) => Err(LineError::Syntax),
         }
     }
 
     /// Reads a register.
-    pub(crate) fn register(&mut self) -> Result<Reg, Fault>
+    pub(crate) fn register(&mut self) -> Result<Reg, LineError>
         ensures { Reads reading.register_in (λ r. r) self.old result self.new }
     {
-        let word = self.next().ok_or(Fault::Syntax)?;
-        register_named(word).ok_or(Fault::Syntax)
+        let word = self.next().ok_or(LineError::Syntax)?;
+        register_named(word).ok_or(LineError::Syntax)
     }
 
     /// Reads a name.
-    fn name(&mut self) -> Result<&'a [u8], Fault>
+    fn name(&mut self) -> Result<&'a [u8], LineError>
         ensures { Reads reading.name (λ name. name.now) self.old result self.new }
     {
-        let word = self.next().ok_or(Fault::Syntax)?;
+        let word = self.next().ok_or(LineError::Syntax)?;
         if is_name(word) {
             Ok(word)
         } else {
-            Err(Fault::Syntax)
+            Err(LineError::Syntax)
         }
     }
 
     /// Reads a number without a sign.
-    pub(crate) fn number(&mut self) -> Result<Number<'a>, Fault>
+    pub(crate) fn number(&mut self) -> Result<Number<'a>, LineError>
         ensures { Reads reading.number numeral_value self.old result self.new }
     {
-        let word = self.next().ok_or(Fault::Syntax)?;
-        numbered(word).ok_or(Fault::Syntax)
+        let word = self.next().ok_or(LineError::Syntax)?;
+        numbered(word).ok_or(LineError::Syntax)
     }
 
     /// Reads a number after `+` or `-`.
-    fn signed_number(&mut self) -> Result<Integer<'a>, Fault>
+    fn signed_number(&mut self) -> Result<Integer<'a>, LineError>
         ensures { Reads reading.signed_number integer_value self.old result self.new }
     {
         let is_negative = match self.next() {
             Some(b"+") => false,
             Some(b"-") => true,
-            _ => return Err(Fault::Syntax),
+            _ => return Err(LineError::Syntax),
         };
         let magnitude = self.number()?;
         Ok(Integer {
@@ -254,7 +254,7 @@ impl<'a> Parser<'a> {
     }
 
     /// Reads a number, which may have a `-` before it.
-    pub(crate) fn integer(&mut self) -> Result<Integer<'a>, Fault>
+    pub(crate) fn integer(&mut self) -> Result<Integer<'a>, LineError>
         ensures { Reads reading.integer integer_value self.old result self.new }
     {
         let mut after = *self;
@@ -270,7 +270,7 @@ impl<'a> Parser<'a> {
     }
 
     /// Reads a register or a number.
-    pub(crate) fn operand(&mut self) -> Result<Written<'a>, Fault>
+    pub(crate) fn operand(&mut self) -> Result<Written<'a>, LineError>
         ensures { Reads reading.operand_in parsed_operand self.old result self.new }
     {
         let mut after = *self;
@@ -282,19 +282,19 @@ impl<'a> Parser<'a> {
     }
 
     /// Reads where a jump goes: a name, or a distance with its sign.
-    pub(crate) fn goal(&mut self) -> Result<Goal<'a>, Fault>
-        ensures { Reads reading.jump_target goal_value self.old result self.new }
+    pub(crate) fn target(&mut self) -> Result<WrittenTarget<'a>, LineError>
+        ensures { Reads reading.jump_target target_value self.old result self.new }
     {
         let mut after = *self;
         if let Ok(name) = after.name() {
             *self = after;
-            return Ok(Goal::Label(name));
+            return Ok(WrittenTarget::Label(name));
         }
-        Ok(Goal::Distance(self.signed_number()?))
+        Ok(WrittenTarget::Distance(self.signed_number()?))
     }
 
     /// Reads an address in brackets.
-    pub(crate) fn address(&mut self) -> Result<Address<'a>, Fault>
+    pub(crate) fn address(&mut self) -> Result<Address<'a>, LineError>
         ensures { Reads reading.address parsed_address self.old result self.new }
     {
         self.sign(b"[")?;

@@ -161,16 +161,16 @@ pub fn assemble(alloc: Global, text: &str) -> Result<Vec<u8>, AsmError>
 }
 
 /// States that a text names at most one program.
-pub fn texts_name_one_program()
+pub fn law_texts_name_one_program()
     ensures { (text : List ℕ) (code other : List Insn) → Names text code → Names text other → code ≡ other }
 {}
 
 /// States that a text has at most one refusal.
-pub fn refusals_are_unique()
+pub fn law_refusals_are_unique()
     ensures { (text : List ℕ) (d e : AsmError) → IsRefusedText text d → IsRefusedText text e → d ≡ e }
 {}
 
 /// States that the text of a program names it.
-pub fn listings_name_their_program()
+pub fn law_listings_name_their_program()
     ensures { (code : List Insn) → AllFit code → Names (listing code) code }
 {}

@@ -61,21 +61,21 @@ impl<T: Drop> From<AllocFailed<T>> for AsmError {
 
 /// The fault of a line by itself.
 #[derive(Clone, Copy)]
-pub(crate) enum Fault {
+pub(crate) enum LineError {
     /// The line is not in the grammar.
     Syntax,
     /// A number does not fit its field.
     Range,
 }
 
-impl Fault {
+impl LineError {
     /// Returns the refusal of a text whose line of this number has the fault.
     pub(crate) fn at(self, line: usize) -> AsmError
         ensures { result ≡ fault_at self line }
     {
         match self {
-            Fault::Syntax => AsmError::Syntax(line),
-            Fault::Range => AsmError::Range(line),
+            LineError::Syntax => AsmError::Syntax(line),
+            LineError::Range => AsmError::Range(line),
         }
     }
 }

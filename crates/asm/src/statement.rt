@@ -6,11 +6,11 @@ ghost use Rattle.insn.specs.Encoding.{OperandFits};
 ghost use Rattle.insn.specs.declared.instruction.Insn.TheVariants.{Alu, Mov, Load, LoadSigned};
 ghost use Rattle.asm.specs.Reading as reading;
 ghost use Rattle.asm.specs.Reading.{line_statement};
-ghost use Rattle.asm.specs.Parsing.{tokens_ahead, parsed_operand, goal_value, link_value, Converts, Reads, ReadsAll, Understands, UnderstandsLine};
+ghost use Rattle.asm.specs.Parsing.{tokens_ahead, parsed_operand, target_value, link_value, Converts, Reads, ReadsAll, Understands, UnderstandsLine};
 
 use crate::mnemonic::Mnemonic;
-use crate::parser::{Goal, Parser, Written, is_name};
-use crate::refusal::Fault;
+use crate::parser::{Parser, Written, WrittenTarget, is_name};
+use crate::refusal::LineError;
 use insn::{AluOp, Condition, Extension, Insn, Operand, Reg, SignedSize, Size, Width};
 
 /// What a line says.
@@ -29,7 +29,7 @@ impl<'a> Written<'a> {
     ///
     /// # Errors
     /// `Range` where a number takes more than 32 bits.
-    fn operand(self) -> Result<Operand, Fault>
+    fn operand(self) -> Result<Operand, LineError>
         ensures { Converts (λ o. o) OperandFits (parsed_operand self.entry) result }
     {
         match self {
@@ -39,17 +39,17 @@ impl<'a> Written<'a> {
     }
 }
 
-impl<'a> Goal<'a> {
+impl<'a> WrittenTarget<'a> {
     /// Returns the distance in 16 bits, or 0 and the label.
     ///
     /// # Errors
     /// `Range` where the distance takes more.
-    fn short(self) -> Result<(i16, Option<&'a [u8]>), Fault>
-        ensures { Converts link_value (λ t. FitsSigned w16 t.distance) (goal_value self.entry) result }
+    fn short(self) -> Result<(i16, Option<&'a [u8]>), LineError>
+        ensures { Converts link_value (λ t. FitsSigned w16 t.distance) (target_value self.entry) result }
     {
         match self {
-            Goal::Label(name) => Ok((0, Some(name))),
-            Goal::Distance(n) => Ok((n.offset()?, None)),
+            WrittenTarget::Label(name) => Ok((0, Some(name))),
+            WrittenTarget::Distance(n) => Ok((n.offset()?, None)),
         }
     }
 
@@ -57,12 +57,12 @@ impl<'a> Goal<'a> {
     ///
     /// # Errors
     /// `Range` where the distance takes more.
-    fn long(self) -> Result<(i32, Option<&'a [u8]>), Fault>
-        ensures { Converts link_value (λ t. FitsSigned w32 t.distance) (goal_value self.entry) result }
+    fn long(self) -> Result<(i32, Option<&'a [u8]>), LineError>
+        ensures { Converts link_value (λ t. FitsSigned w32 t.distance) (target_value self.entry) result }
     {
         match self {
-            Goal::Label(name) => Ok((0, Some(name))),
-            Goal::Distance(n) => Ok((n.imm()?, None)),
+            WrittenTarget::Label(name) => Ok((0, Some(name))),
+            WrittenTarget::Distance(n) => Ok((n.imm()?, None)),
         }
     }
 }
@@ -70,7 +70,7 @@ impl<'a> Goal<'a> {
 /// The arguments of instructions. Each method reads to the end of the line before it looks at the size of a number.
 impl<'a> Parser<'a> {
     /// Reads a register and the comma after it.
-    fn dst(&mut self) -> Result<Reg, Fault>
+    fn dst(&mut self) -> Result<Reg, LineError>
         ensures { Reads reading.dst_comma (λ r. r) self.old result self.new }
     {
         let dst = self.register()?;
@@ -78,7 +78,7 @@ impl<'a> Parser<'a> {
         Ok(dst)
     }
 
-    fn alu(mut self, width: Width, op: AluOp) -> Result<Line<'a>, Fault>
+    fn alu(mut self, width: Width, op: AluOp) -> Result<Line<'a>, LineError>
         ensures { Understands (reading.two (Alu width op) (tokens_ahead self.entry)) result }
     {
         let dst = self.dst()?;
@@ -96,7 +96,7 @@ impl<'a> Parser<'a> {
         ))
     }
 
-    fn mov(mut self, width: Width) -> Result<Line<'a>, Fault>
+    fn mov(mut self, width: Width) -> Result<Line<'a>, LineError>
         ensures { Understands (reading.two (Mov width) (tokens_ahead self.entry)) result }
     {
         let dst = self.dst()?;
@@ -114,7 +114,7 @@ impl<'a> Parser<'a> {
     }
 
     /// Reads the one register of an instruction.
-    fn only_register(mut self) -> Result<Reg, Fault>
+    fn only_register(mut self) -> Result<Reg, LineError>
         ensures { ReadsAll reading.only_register (λ r. r) (tokens_ahead self.entry) result }
     {
         let dst = self.register()?;
@@ -122,7 +122,7 @@ impl<'a> Parser<'a> {
         Ok(dst)
     }
 
-    fn sign_extension(mut self, extension: Extension) -> Result<Line<'a>, Fault>
+    fn sign_extension(mut self, extension: Extension) -> Result<Line<'a>, LineError>
         ensures { Understands (reading.sign_extension extension (tokens_ahead self.entry)) result }
     {
         let dst = self.dst()?;
@@ -138,24 +138,24 @@ impl<'a> Parser<'a> {
         ))
     }
 
-    /// Reads the goal of a jump, up to the end of the line.
-    fn only_goal(mut self) -> Result<Goal<'a>, Fault>
-        ensures { ReadsAll reading.only_goal goal_value (tokens_ahead self.entry) result }
+    /// Reads the target of a jump, up to the end of the line.
+    fn only_target(mut self) -> Result<WrittenTarget<'a>, LineError>
+        ensures { ReadsAll reading.only_target target_value (tokens_ahead self.entry) result }
     {
-        let goal = self.goal()?;
+        let target = self.target()?;
         self.end()?;
-        Ok(goal)
+        Ok(target)
     }
 
-    fn jump_if(mut self, width: Width, condition: Condition) -> Result<Line<'a>, Fault>
+    fn jump_if(mut self, width: Width, condition: Condition) -> Result<Line<'a>, LineError>
         ensures { Understands (reading.jump_if width condition (tokens_ahead self.entry)) result }
     {
         let dst = self.dst()?;
         let operand = self.operand()?;
         self.sign(b",")?;
-        let goal = self.only_goal()?;
+        let target = self.only_target()?;
         let operand = operand.operand()?;
-        let (offset, label) = goal.short()?;
+        let (offset, label) = target.short()?;
         Ok(Line::Insn(
             Insn::JumpIf {
                 width,
@@ -168,7 +168,7 @@ impl<'a> Parser<'a> {
         ))
     }
 
-    fn load(mut self, size: Size) -> Result<Line<'a>, Fault>
+    fn load(mut self, size: Size) -> Result<Line<'a>, LineError>
         ensures { Understands (reading.load_statement (Load size) (tokens_ahead self.entry)) result }
     {
         let dst = self.dst()?;
@@ -187,7 +187,7 @@ impl<'a> Parser<'a> {
         ))
     }
 
-    fn load_signed(mut self, size: SignedSize) -> Result<Line<'a>, Fault>
+    fn load_signed(mut self, size: SignedSize) -> Result<Line<'a>, LineError>
         ensures { Understands (reading.load_statement (LoadSigned size) (tokens_ahead self.entry)) result }
     {
         let dst = self.dst()?;
@@ -206,7 +206,7 @@ impl<'a> Parser<'a> {
         ))
     }
 
-    fn store_imm(mut self, size: Size) -> Result<Line<'a>, Fault>
+    fn store_imm(mut self, size: Size) -> Result<Line<'a>, LineError>
         ensures { Understands (reading.store_imm size (tokens_ahead self.entry)) result }
     {
         let address = self.address()?;
@@ -227,7 +227,7 @@ impl<'a> Parser<'a> {
         ))
     }
 
-    fn store_register(mut self, size: Size) -> Result<Line<'a>, Fault>
+    fn store_register(mut self, size: Size) -> Result<Line<'a>, LineError>
         ensures { Understands (reading.store_register size (tokens_ahead self.entry)) result }
     {
         let address = self.address()?;
@@ -247,7 +247,7 @@ impl<'a> Parser<'a> {
         ))
     }
 
-    fn load_number(mut self) -> Result<Line<'a>, Fault>
+    fn load_number(mut self) -> Result<Line<'a>, LineError>
         ensures { Understands (reading.load_number (tokens_ahead self.entry)) result }
     {
         let dst = self.dst()?;
@@ -257,7 +257,7 @@ impl<'a> Parser<'a> {
         Ok(Line::Insn(Insn::LoadImm { dst, value }, None))
     }
 
-    fn call(mut self) -> Result<Line<'a>, Fault>
+    fn call(mut self) -> Result<Line<'a>, LineError>
         ensures { Understands (reading.call (tokens_ahead self.entry)) result }
     {
         let number = self.integer()?;
@@ -267,7 +267,7 @@ impl<'a> Parser<'a> {
     }
 
     /// Reads the arguments of a mnemonic.
-    fn instruction(mut self, mnemonic: Mnemonic) -> Result<Line<'a>, Fault>
+    fn instruction(mut self, mnemonic: Mnemonic) -> Result<Line<'a>, LineError>
         ensures { Understands (reading.instruction mnemonic (tokens_ahead self.entry)) result }
     {
         match mnemonic {
@@ -283,11 +283,11 @@ impl<'a> Parser<'a> {
                 Ok(Line::Insn(Insn::Swap { op, size, dst }, None))
             }
             Mnemonic::Jump => {
-                let (offset, label) = self.only_goal()?.short()?;
+                let (offset, label) = self.only_target()?.short()?;
                 Ok(Line::Insn(Insn::Jump { offset }, label))
             }
             Mnemonic::LongJump => {
-                let (offset, label) = self.only_goal()?.long()?;
+                let (offset, label) = self.only_target()?.long()?;
                 Ok(Line::Insn(Insn::LongJump { offset }, label))
             }
             Mnemonic::JumpIf(width, condition) => self.jump_if(width, condition),
@@ -305,19 +305,19 @@ impl<'a> Parser<'a> {
     }
 
     /// Reads an instruction after its first word.
-    fn statement(self, word: &[u8]) -> Result<Line<'a>, Fault>
+    fn statement(self, word: &[u8]) -> Result<Line<'a>, LineError>
         ensures { Understands (reading.statement word.now (tokens_ahead self.entry)) result }
     {
-        let mnemonic = Mnemonic::named(word).ok_or(Fault::Syntax)?;
+        let mnemonic = Mnemonic::named(word).ok_or(LineError::Syntax)?;
         self.instruction(mnemonic)
     }
 
     /// Reads a label after its name and the colon.
-    fn label(mut self, name: &'a [u8]) -> Result<Line<'a>, Fault>
+    fn label(mut self, name: &'a [u8]) -> Result<Line<'a>, LineError>
         ensures { Understands (reading.label name.now (tokens_ahead self.entry)) result }
     {
         if !is_name(name) {
-            return Err(Fault::Syntax);
+            return Err(LineError::Syntax);
         }
         self.end()?;
         Ok(Line::Label(name))
@@ -328,7 +328,7 @@ impl<'a> Parser<'a> {
 ///
 /// # Errors
 /// `Syntax` where the line is not in the grammar, `Range` where it is and a number of it does not fit its field.
-pub(crate) fn parse(line: &[u8]) -> Result<Line<'_>, Fault>
+pub(crate) fn parse(line: &[u8]) -> Result<Line<'_>, LineError>
     ensures { UnderstandsLine (line_statement line.now) result }
 {
     let mut parser = Parser::new(line);

@@ -22,7 +22,7 @@ mod texts;
 ///
 /// # Errors
 /// Where memory runs out.
-#[tactic(auto, using(asm::specs::ListingLaws::listing_names))]
+#[tactic(auto, using(asm::specs::laws::Listing::listing_names))]
 pub fn read_back(alloc: Global, code: &[Insn]) -> Result<Vec<u8>, AsmError>
     requires fit { AllFit code.now }
     requires few { slot_count code.now ≤ MAX_SLOTS }

@@ -4,7 +4,7 @@ use Rattle.std.proofs.lemmas.List.{take-append-drop, append-nil}
 use Rattle.stun.specs.Endian.{big_number, big_bytes}
 use Rattle.stun.specs.Numbers.{big_number-reads_back, big_from-lt, length-bytes_high_first}
 use Rattle.attributes.specs.Values.{IsNumberValue}
-use Rattle.attributes.specs.NumberLaws.{bytes_back, all_fit}
+use Rattle.attributes.specs.laws.Number.{bytes_back, all_fit}
 
 pub number_read : (n : ℕ) (value : List ℕ) → length value ≡ 4 → n ≤ 4 → ((i : ℕ) → Fits w8 (get_or value i 0)) → IsNumberValue n (big_number n value) value
 number_read n value four few fit = record {

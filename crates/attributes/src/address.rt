@@ -10,7 +10,7 @@ ghost use Rattle.attributes.specs.Addresses.{HasWidth, IsAddress, IsAddressValue
 ghost use Rattle.attributes.specs.declared.address.Addr as addr;
 ghost use Rattle.attributes.specs.declared.refusal.ValueKind.TheVariants as kinds;
 
-use crate::refusal::{BadValue, ValueKind};
+use crate::refusal::{ValueError, ValueKind};
 use byteorder::{BigEndian, ByteOrder};
 use stun::registry::{MAGIC_COOKIE, family};
 use stun::{Builder, NoRoom};
@@ -92,13 +92,13 @@ const COOKIE_HALF: u16 = (MAGIC_COOKIE >> 16) as u16;
 
 /// Returns the number that an IPv6 address is xored with: the cookie, followed by the transaction id.
 #[tactic(auto, unfolding(crate::specs::Addresses::ipv6_mask))]
-fn ipv6_mask(tx: &[u8; 12]) -> u128
-    ensures { result ≡ ipv6_mask tx.now }
+fn ipv6_mask(transaction_id: &[u8; 12]) -> u128
+    ensures { result ≡ ipv6_mask transaction_id.now }
 {
     let mut bytes = [0; 16];
     BigEndian::write_u32(&mut bytes, MAGIC_COOKIE);
     let (_, id) = bytes.split_at_mut(4);
-    id.copy_from_slice(tx);
+    id.copy_from_slice(transaction_id);
     BigEndian::read_u128(&bytes)
 }
 
@@ -123,13 +123,13 @@ fn ipv4_in(value: &[u8]) -> [u8; 4]
 }
 
 /// Returns the IPv6 address in a value.
-fn ipv6_in(value: &[u8], tx: &[u8; 12]) -> [u8; 16]
+fn ipv6_in(value: &[u8], transaction_id: &[u8; 12]) -> [u8; 16]
     requires { 20 ≤ length value.now }
-    ensures spelled { xor_bytes 16 result (ipv6_mask tx.now) ≡ take 16 (drop 4 value.now) }
-    ensures ip { result ≡ xor_bytes 16 (drop 4 value.now) (ipv6_mask tx.now) }
+    ensures spelled { xor_bytes 16 result (ipv6_mask transaction_id.now) ≡ take 16 (drop 4 value.now) }
+    ensures ip { result ≡ xor_bytes 16 (drop 4 value.now) (ipv6_mask transaction_id.now) }
 {
     let (_, rest) = value.split_at(4);
-    (BigEndian::read_u128(rest) ^ ipv6_mask(tx)).to_be_bytes()
+    (BigEndian::read_u128(rest) ^ ipv6_mask(transaction_id)).to_be_bytes()
 }
 
 /// Reads the value of an attribute with an XOR address, under the transaction id of its message
@@ -137,23 +137,23 @@ fn ipv6_in(value: &[u8], tx: &[u8; 12]) -> [u8; 16]
 ///
 /// # Errors
 /// Returns A1 for a value that has neither 8 bytes and the family of IPv4 nor 20 bytes and that of IPv6.
-pub fn read_xor_addr(value: &[u8], tx: &[u8; 12]) -> Result<Addr, BadValue>
-    ensures reads { result_ok result ≡ address_in tx.now value.now }
-    ensures found { IfOk result (λ a. IsAddressValue a tx.now value.now) }
+pub fn read_xor_addr(value: &[u8], transaction_id: &[u8; 12]) -> Result<Addr, ValueError>
+    ensures reads { result_ok result ≡ address_in transaction_id.now value.now }
+    ensures found { IfOk result (λ a. IsAddressValue a transaction_id.now value.now) }
     ensures kind { IfErr result (λ e. e.0 ≡ kinds.Address) }
-    ensures refused { IfErr result (λ e. (a : addr.Addr) → IsAddressValue a tx.now value.now → ⊥) }
+    ensures refused { IfErr result (λ e. (a : addr.Addr) → IsAddressValue a transaction_id.now value.now → ⊥) }
 {
     if value.len() == IPV4_BYTES && value[1] == family::IPV4 {
         let (ip, port) = (ipv4_in(value), port_in(value));
-        has_width(&ip, port);
+        law_has_width(&ip, port);
         return Ok(Addr::V4 { ip, port });
     }
     if value.len() == IPV6_BYTES && value[1] == family::IPV6 {
-        let (ip, port) = (ipv6_in(value, tx), port_in(value));
-        has_width(&ip, port);
+        let (ip, port) = (ipv6_in(value, transaction_id), port_in(value));
+        law_has_width(&ip, port);
         return Ok(Addr::V6 { ip, port });
     }
-    Err(BadValue(ValueKind::Address))
+    Err(ValueError(ValueKind::Address))
 }
 
 /// Writes what precedes an address: a zero, the family and the port.
@@ -179,14 +179,14 @@ fn ipv4_value(ip: &[u8; 4], port: u16) -> [u8; IPV4_BYTES]
 }
 
 /// Returns the value of an IPv6 address.
-fn ipv6_value(ip: &[u8; 16], port: u16, tx: &[u8; 12]) -> [u8; IPV6_BYTES]
+fn ipv6_value(ip: &[u8; 16], port: u16, transaction_id: &[u8; 12]) -> [u8; IPV6_BYTES]
     ensures { result
-        ≡ 0 ∷ IPV6 ∷ big_bytes 2 (bit_xor port cookie_half) ++ xor_bytes 16 ip.now (ipv6_mask tx.now) }
+        ≡ 0 ∷ IPV6 ∷ big_bytes 2 (bit_xor port cookie_half) ++ xor_bytes 16 ip.now (ipv6_mask transaction_id.now) }
 {
     let mut value = [0; IPV6_BYTES];
     let (front, rest) = value.split_at_mut(FRONT);
     write_front(front, family::IPV6, port);
-    BigEndian::write_u128(rest, BigEndian::read_u128(ip) ^ ipv6_mask(tx));
+    BigEndian::write_u128(rest, BigEndian::read_u128(ip) ^ ipv6_mask(transaction_id));
     value
 }
 
@@ -205,7 +205,7 @@ pub fn write_xor_addr(builder: &mut Builder<'_>, kind: u16, address: &Addr) -> R
     match address {
         Addr::V4 { ip, port } => builder.attr(kind, &ipv4_value(ip, *port)),
         Addr::V6 { ip, port } => {
-            let value = ipv6_value(ip, *port, &builder.tx());
+            let value = ipv6_value(ip, *port, &builder.transaction_id());
             builder.attr(kind, &value)
         }
     }
@@ -222,52 +222,56 @@ pub fn push_xor_addr(builder: &mut Builder<'_>, kind: u16, address: &Addr)
     match address {
         Addr::V4 { ip, port } => builder.push(kind, &ipv4_value(ip, *port).as_slice()),
         Addr::V6 { ip, port } => {
-            let value = ipv6_value(ip, *port, &builder.tx());
+            let value = ipv6_value(ip, *port, &builder.transaction_id());
             builder.push(kind, &value.as_slice());
         }
     }
 }
 
 /// States that the value of an address has at most 20 bytes.
-pub fn values_are_short()
-    ensures { (a : addr.Addr) (tx : List ℕ) → length (address_value a tx) ≤ 20 }
+pub fn law_values_are_short()
+    ensures { (a : addr.Addr) (transaction_id : List ℕ) → length (address_value a transaction_id) ≤ 20 }
 {}
 
 /// States that every item of a slice of bytes is below 256.
-fn are_bytes(bytes: &[u8])
+fn law_are_bytes(bytes: &[u8])
     ensures { (i : ℕ) → slice_index bytes.now i < 256 }
 {}
 
 /// States that an address of `N` bytes and its port have their widths.
-fn has_width<const N: usize>(ip: &[u8; N], port: u16)
+fn law_has_width<const N: usize>(ip: &[u8; N], port: u16)
     ensures { HasWidth N ip.now port }
 {
-    are_bytes(ip);
+    law_are_bytes(ip);
 }
 
 /// States that an address has the bytes of its family, and a port of 16 bits.
-pub fn is_address(address: &Addr)
+pub fn law_is_address(address: &Addr)
     ensures { IsAddress address.now }
 {
     match address {
-        Addr::V4 { ip, port } => has_width(ip, *port),
-        Addr::V6 { ip, port } => has_width(ip, *port),
+        Addr::V4 { ip, port } => law_has_width(ip, *port),
+        Addr::V6 { ip, port } => law_has_width(ip, *port),
     }
 }
 
 /// Reads an address back from its value, which may have any first byte: this always succeeds.
-pub fn read_back(address: &Addr, tx: &[u8; 12], value: &[u8]) -> Result<Addr, BadValue>
-    requires { IsAddressValue address.now tx.now value.now }
+pub fn read_back(
+    address: &Addr,
+    transaction_id: &[u8; 12],
+    value: &[u8],
+) -> Result<Addr, ValueError>
+    requires { IsAddressValue address.now transaction_id.now value.now }
     ensures { IsOkAnd result (λ a. a ≡ address.now) }
 {
-    let address = read_xor_addr(value, tx)?;
+    let address = read_xor_addr(value, transaction_id)?;
     Ok(address)
 }
 
 /// States that a value has at most one address under a transaction id.
-pub fn addresses_are_unique(tx: &[u8; 12])
+pub fn law_addresses_are_unique(transaction_id: &[u8; 12])
     ensures { (a b : addr.Addr) (value : List ℕ)
-        → IsAddressValue a tx.now value → IsAddressValue b tx.now value → a ≡ b }
+        → IsAddressValue a transaction_id.now value → IsAddressValue b transaction_id.now value → a ≡ b }
 {
-    are_bytes(tx);
+    law_are_bytes(transaction_id);
 }

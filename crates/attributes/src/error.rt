@@ -7,7 +7,7 @@ ghost use Rattle.attributes.specs.Errors.{error_value, unknown_value};
 
 use byteorder::{BigEndian, ByteOrder};
 use stun::registry::attribute::{ERROR_CODE, UNKNOWN_ATTRIBUTES};
-use stun::registry::{ErrorCode, phrases_are_short};
+use stun::registry::{ErrorCode, law_phrases_are_short};
 use stun::{AttributeValue, Builder, NoRoom};
 
 /// The length of what precedes the phrase: two zeros, and the code in two bytes.
@@ -73,7 +73,7 @@ pub fn push_error(builder: &mut Builder<'_>, error: ErrorCode)
     ensures most { used_of builder.new ≤ used_of builder.old + 40 }
     ensures same_buffer { SameBuffer builder.old builder.new }
 {
-    phrases_are_short();
+    law_phrases_are_short();
     builder.push(ERROR_CODE, &ErrorValue(error));
 }
 

@@ -9,12 +9,12 @@ mod refusal;
 mod text;
 
 pub use address::{
-    Addr, Family, addresses_are_unique, is_address, push_xor_addr, read_back, read_xor_addr,
-    values_are_short, write_xor_addr,
+    Addr, Family, law_addresses_are_unique, law_is_address, law_values_are_short, push_xor_addr,
+    read_back, read_xor_addr, write_xor_addr,
 };
 pub use error::{push_error, push_unknown, write_error, write_unknown};
 pub use number::{
-    channel_number, lifetime, lifetimes_are_read_back, numbers_are_unique, requested_family,
-    requested_transport,
+    channel_number, law_lifetimes_are_read_back, law_numbers_are_unique, lifetime,
+    requested_family, requested_transport,
 };
-pub use refusal::{BadValue, ValueKind};
+pub use refusal::{ValueError, ValueKind};

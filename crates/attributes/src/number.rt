@@ -6,7 +6,7 @@ ghost use Rattle.std.specs.Result.{result_ok};
 ghost use Rattle.attributes.specs.Values.{IsNumberValue, number_of_value};
 ghost use Rattle.attributes.specs.declared.refusal.ValueKind.TheVariants as kinds;
 
-use crate::refusal::{BadValue, ValueKind};
+use crate::refusal::{ValueError, ValueKind};
 use byteorder::{BigEndian, ByteOrder};
 
 /// The length of each of these values, in bytes.
@@ -17,7 +17,7 @@ const LENGTH: usize = 4;
 /// # Errors
 /// Returns A1 for a value of another length.
 #[tactic(auto, using(crate::proofs::Numbers::number_read))]
-pub fn lifetime(value: &[u8]) -> Result<u32, BadValue>
+pub fn lifetime(value: &[u8]) -> Result<u32, ValueError>
     ensures reads { result_ok result ≡ number_of_value 4 value.now }
     ensures found { IfOk result (λ n. IsNumberValue 4 n value.now) }
     ensures refused { IfErr result (λ e. (n : ℕ) → IsNumberValue 4 n value.now → ⊥) }
@@ -26,7 +26,7 @@ pub fn lifetime(value: &[u8]) -> Result<u32, BadValue>
     if value.len() == LENGTH {
         Ok(BigEndian::read_u32(value))
     } else {
-        Err(BadValue(ValueKind::Lifetime))
+        Err(ValueError(ValueKind::Lifetime))
     }
 }
 
@@ -36,7 +36,7 @@ pub fn lifetime(value: &[u8]) -> Result<u32, BadValue>
 /// # Errors
 /// Returns A1 for a value of another length.
 #[tactic(auto, using(crate::proofs::Numbers::number_read))]
-pub fn channel_number(value: &[u8]) -> Result<u16, BadValue>
+pub fn channel_number(value: &[u8]) -> Result<u16, ValueError>
     ensures reads { result_ok result ≡ number_of_value 2 value.now }
     ensures found { IfOk result (λ n. IsNumberValue 2 n value.now) }
     ensures refused { IfErr result (λ e. (n : ℕ) → IsNumberValue 2 n value.now → ⊥) }
@@ -45,7 +45,7 @@ pub fn channel_number(value: &[u8]) -> Result<u16, BadValue>
     if value.len() == LENGTH {
         Ok(BigEndian::read_u16(value))
     } else {
-        Err(BadValue(ValueKind::ChannelNumber))
+        Err(ValueError(ValueKind::ChannelNumber))
     }
 }
 
@@ -54,7 +54,7 @@ pub fn channel_number(value: &[u8]) -> Result<u16, BadValue>
 /// # Errors
 /// Returns A1, with the kind of the value, for a value of another length.
 #[tactic(auto, using(crate::proofs::Numbers::first_read))]
-fn first_byte(value: &[u8], kind: ValueKind) -> Result<u8, BadValue>
+fn first_byte(value: &[u8], kind: ValueKind) -> Result<u8, ValueError>
     ensures reads { result_ok result ≡ number_of_value 1 value.now }
     ensures found { IfOk result (λ n. IsNumberValue 1 n value.now) }
     ensures refused { IfErr result (λ e. (n : ℕ) → IsNumberValue 1 n value.now → ⊥) }
@@ -63,7 +63,7 @@ fn first_byte(value: &[u8], kind: ValueKind) -> Result<u8, BadValue>
     if value.len() == LENGTH {
         Ok(value[0])
     } else {
-        Err(BadValue(kind))
+        Err(ValueError(kind))
     }
 }
 
@@ -72,7 +72,7 @@ fn first_byte(value: &[u8], kind: ValueKind) -> Result<u8, BadValue>
 ///
 /// # Errors
 /// Returns A1 for a value of another length.
-pub fn requested_transport(value: &[u8]) -> Result<u8, BadValue>
+pub fn requested_transport(value: &[u8]) -> Result<u8, ValueError>
     ensures reads { result_ok result ≡ number_of_value 1 value.now }
     ensures found { IfOk result (λ n. IsNumberValue 1 n value.now) }
     ensures refused { IfErr result (λ e. (n : ℕ) → IsNumberValue 1 n value.now → ⊥) }
@@ -86,7 +86,7 @@ pub fn requested_transport(value: &[u8]) -> Result<u8, BadValue>
 ///
 /// # Errors
 /// Returns A1 for a value of another length.
-pub fn requested_family(value: &[u8]) -> Result<u8, BadValue>
+pub fn requested_family(value: &[u8]) -> Result<u8, ValueError>
     ensures reads { result_ok result ≡ number_of_value 1 value.now }
     ensures found { IfOk result (λ n. IsNumberValue 1 n value.now) }
     ensures refused { IfErr result (λ e. (n : ℕ) → IsNumberValue 1 n value.now → ⊥) }
@@ -96,11 +96,11 @@ pub fn requested_family(value: &[u8]) -> Result<u8, BadValue>
 }
 
 /// States that a value has at most one number of a width.
-pub fn numbers_are_unique()
+pub fn law_numbers_are_unique()
     ensures { (n a b : ℕ) (value : List ℕ) → IsNumberValue n a value → IsNumberValue n b value → a ≡ b }
 {}
 
 /// States that the four bytes of a number, high byte first, are the value of LIFETIME with that number.
-pub fn lifetimes_are_read_back()
+pub fn law_lifetimes_are_read_back()
     ensures { (n : ℕ) → n < 2 ^ 32 → IsNumberValue 4 n (big_bytes 4 n) }
 {}

@@ -6,7 +6,7 @@ ghost use Rattle.std.specs.Ordering.{as_partial_cmp, nat_cmp, ordering_then};
 ghost use Rattle.stun.specs.Endian.{big_number};
 ghost use Rattle.attributes.specs.Addresses.{ip_of};
 ghost use Rattle.attributes.specs.AddressOrder.{address_order, family_of, ip_cmp, ip_order};
-ghost use Rattle.attributes.specs.AddressOrderLaws.{address_order-ties, address_order-total};
+ghost use Rattle.attributes.specs.laws.AddressOrder.{address_order-ties, address_order-total};
 
 use crate::address::Addr;
 use std::cmp::Ordering;

@@ -16,4 +16,4 @@ pub enum ValueKind {
 /// A1: a value has the wrong length for its kind, or is an address whose family is neither IPv4 nor IPv6.
 #[derive(Clone, Copy, Debug, PartialEq, Eq, Error)]
 #[error("A1")]
-pub struct BadValue(pub ValueKind);
+pub struct ValueError(pub ValueKind);

@@ -1,4 +1,6 @@
 pub mod Lines
 pub mod Operands
-mod Subcommands
+pub mod Subcommands
 pub mod Added
+pub mod FirstFaults
+pub mod Octets

@@ -1,6 +1,6 @@
 -- What clap's definitions make of the lines that are spelled out.
 use Rattle.std.proofs.Common.{◌≡◌, ◌∙◌, ap, ◌++◌, arith, ℕ, Bool, true, false, List, [], ◌∷◌, Option, Some, None, refl, codes, inl, inr, sym, subst, IsSomeAnd, IfOk, Result, Ok, Err, Bor}
-use Rattle.std.specs.Prelude.{option_map}
+use Rattle.std.specs.Prelude.{◌^◌, option_map, unwrap_or}
 use Rattle.std.proofs.lemmas.Option.{none-some, same_Some}
 use Rattle.clap.specs.Kinds.{Kinds}
 use Rattle.clap.specs.Words.{FailsBy, HasKind, App, HasMatchesOf, Text, Row, fault_of, first_of, is_simple_and_free, kind_of, one_of, subcommand_rows_of}
@@ -12,7 +12,8 @@ use Rattle.clap.proofs.OnLiterals.{clap_on_literals}
 use Rattle.command_line.proofs.Operands.{HasTexts, IsOptions, IsServing, all_held, all_options, all_serve, all_words, every_held, every_options, every_texts, every_words, last_operand, last_rows, options_rows, port_held, port_serves, port_words, replay_faults, replay_rows, replay_shape, serve_faults, serve_rows, serve_shape, user_held, user_options, user_texts}
 use Rattle.command_line.specs.Commands.{faults_of, relayd_command, subcommand_in}
 use Rattle.command_line.specs.Lines.{GivenOptions, IsOperand, IsLineOf, IsParsedAs, IsReplayLine, IsServeLine, IsExplainLine, IsSlotsLine, IsTraceLine, options_before, every_option, every_server_option, only_port, only_user, only_users_file}
-use Rattle.command_line.specs.Subcommands.{IsFlag, IsSubcommand, ServerTexts, Texts, flag_of, server_texts_in, server_texts_of, text_of, texts_in, texts_of, argument_value}
+use Rattle.command_line.specs.Subcommands.{HaveServerValues, HaveValues, IsFlag, IsSubcommand, ServerTexts, Texts, flag_of, server_texts_in, texts_in, argument_value}
+use Rattle.command_line.specs.Values.{HasValue, IsDecimal}
 use Rattle.command_line.specs.declared.Options.{Options}
 use Rattle.command_line.specs.declared.ServerOptions.{ServerOptions}
 use Rattle.command_line.specs.declared.Subcommand.{Subcommand}
@@ -267,10 +268,13 @@ order_made words input output r = record {
   subcommand = files_collected (subcommand_in words) (codes "order") input.now output.now r.name_is r.input_is r.output_is;
 }
 
-explain_made : (words : List Text) (file : Bor Text) (slot : Option (Bor Text)) → Reads words (codes "explain") (codes "slot") file.now (option_map (λ s. s.now) slot) → Makes words (Explain file slot)
-explain_made words file slot r = record {
+explain_made : (words : List Text) (file : Bor Text) (text : Option Text) (slot : Option ℕ) → HasValue (IsDecimal (2 ^ 64)) text slot
+    → Reads words (codes "explain") (codes "slot") file.now text → Makes words (Explain file slot)
+explain_made words file text slot spells r = record {
   good = r.good;
-  subcommand = collected (subcommand_in words) (codes "explain") (codes "slot") file.now (option_map (λ s. s.now) slot) r.name_is r.file_is r.value_is;
+  subcommand = weaker (subcommand_in words) (Has (codes "explain") (codes "slot") file.now text) (λ p. IsSubcommand p (Explain file slot))
+      (λ p h. (h.0, h.1, subst (λ o. HasValue (IsDecimal (2 ^ 64)) o slot) (sym h.2) spells))
+      (collected (subcommand_in words) (codes "explain") (codes "slot") file.now text r.name_is r.file_is r.value_is);
 }
 
 trace_made : (words : List Text) (file : Bor Text) (hex : Option (Bor Text)) → Reads words (codes "trace") (codes "data") file.now (option_map (λ s. s.now) hex) → Makes words (Trace file hex)
@@ -279,20 +283,28 @@ trace_made words file hex r = record {
   subcommand = collected (subcommand_in words) (codes "trace") (codes "data") file.now (option_map (λ s. s.now) hex) r.name_is r.file_is r.value_is;
 }
 
-replay_made : (words : List Text) (events : Bor Text) (nonce : Option (Bor Text)) (options : Options)
-    → ReadsEvents words events.now (text_of nonce) (texts_of options) → Makes words (Replay events nonce options)
-replay_made words events nonce options r = record {
+replay_made : (words : List Text) (events nonce : Bor Text) (options : Options) (given : Option Text) (texts : Texts)
+    → nonce.now ≡ unwrap_or given (codes "n1") → HaveValues texts options → ReadsEvents words events.now given texts → Makes words (Replay events nonce options)
+replay_made words events nonce options given texts is values r = record {
   good = r.good;
-  subcommand = events_collected (subcommand_in words) events.now (text_of nonce) (texts_of options) r.name_is r.events_is r.nonce_is r.texts_is;
+  subcommand = weaker (subcommand_in words) (HasEvents events.now given texts) (λ p. IsSubcommand p (Replay events nonce options))
+      (λ p h. (h.0, h.1, is ∙ ap (λ o. unwrap_or o (codes "n1")) (sym h.2), subst (λ t. HaveValues t options) (sym h.3) values))
+      (events_collected (subcommand_in words) events.now given texts r.name_is r.events_is r.nonce_is r.texts_is);
 }
 
-serve_made : (words : List Text) (server : ServerOptions) (options : Options) (value : Text) → IsFlag (Some value) server.reuse_port
-    → ReadsServer words (server_texts_of server) value (texts_of options) → Makes words (Serve server options)
-serve_made words server options value says r = record {
+serve_made : (words : List Text) (server : ServerOptions) (options : Options) (own : ServerTexts) (texts : Texts) (value : Text)
+    → HaveServerValues own server → HaveValues texts options → IsFlag (Some value) server.reuse_port
+    → ReadsServer words own value texts → Makes words (Serve server options)
+serve_made words server options own texts value own_values values says r = record {
   good = r.good;
-  subcommand = weaker (subcommand_in words) (HasServer (server_texts_of server) value (texts_of options)) (λ p. IsSubcommand p (Serve server options))
-      (λ p h. (h.0, h.1, subst (λ o. IsFlag o server.reuse_port) (sym h.2) says, h.3))
-      (server_collected words (server_texts_of server) value (texts_of options) (subcommand_in words) refl r);
+  subcommand = weaker (subcommand_in words) (HasServer own value texts) (λ p. IsSubcommand p (Serve server options))
+      (λ p h. (
+        h.0,
+        subst (λ t. HaveServerValues t server) (sym h.1) own_values,
+        subst (λ o. IsFlag o server.reuse_port) (sym h.2) says,
+        subst (λ t. HaveValues t options) (sym h.3) values,
+      ))
+      (server_collected words own value texts (subcommand_in words) refl r);
 }
 
 with_events : (events : Text) (nonce : Option Text) (texts : Texts) (words : List Text) → IsOperand events → IsReplayLine events nonce texts words
@@ -314,9 +326,9 @@ with_data file hex words o (name, inr (inl l)) = subst (λ w. Reads w (codes "tr
 with_data file hex words o (name, inr (inr (inl l))) = subst (λ w. Reads w (codes "trace") (codes "data") file.now (Some hex.now)) (sym l) (joined_last name file.now hex.now o)
 with_data file hex words o (name, inr (inr (inr l))) = subst (λ w. Reads w (codes "trace") (codes "data") file.now (Some hex.now)) (sym l) (joined_first name file.now hex.now o)
 
-with_slot : (file slot : Bor Text) (words : List Text) → IsOperand file.now → IsExplainLine file.now slot.now words → Reads words (codes "explain") (codes "slot") file.now (Some slot.now)
-with_slot file slot words o (name, inl l) = subst (λ w. Reads w (codes "explain") (codes "slot") file.now (Some slot.now)) (sym l.1) (slot_last name file.now slot.now o l.0)
-with_slot file slot words o (name, inr l) = subst (λ w. Reads w (codes "explain") (codes "slot") file.now (Some slot.now)) (sym l) (slot_first name file.now slot.now o)
+with_slot : (file : Bor Text) (slot : Text) (words : List Text) → IsOperand file.now → IsExplainLine file.now slot words → Reads words (codes "explain") (codes "slot") file.now (Some slot)
+with_slot file slot words o (name, inl l) = subst (λ w. Reads w (codes "explain") (codes "slot") file.now (Some slot)) (sym l.1) (slot_last name file.now slot o l.0)
+with_slot file slot words o (name, inr l) = subst (λ w. Reads w (codes "explain") (codes "slot") file.now (Some slot)) (sym l) (slot_first name file.now slot o)
 
 with_slots : (file : Text) (words : List Text) → IsOperand file → IsSlotsLine file words
     → ReadsFlag words file (codes "true")
@@ -343,18 +355,18 @@ says_true = record {
   missing = λ e. absurd (none-some (codes "true") (sym e));
 }
 
-with_server : (server : ServerOptions) (options : Options) (words : List Text) → IsServeLine (server_texts_of server) server.reuse_port (texts_of options) words
-    → Makes words (Serve server options)
-with_server server options words (name, inl (port, (file, (s, (r, (t, w)))))) =
-    serve_made words server options (codes "false") (subst (IsFlag (Some (codes "false"))) (sym r) says_false)
-    (subst (λ w. ReadsServer w (server_texts_of server) (codes "false") (texts_of options)) (sym w)
-    (subst (λ t. ReadsServer (name ∷ codes "serve" ∷ port_words port file) (server_texts_of server) (codes "false") t) (sym t)
+with_server : (server : ServerOptions) (options : Options) (own : ServerTexts) (texts : Texts) (words : List Text)
+    → HaveServerValues own server → HaveValues texts options → IsServeLine own server.reuse_port texts words → Makes words (Serve server options)
+with_server server options own texts words sv v (name, inl (port, (file, (s, (r, (t, w)))))) =
+    serve_made words server options own texts (codes "false") sv v (subst (IsFlag (Some (codes "false"))) (sym r) says_false)
+    (subst (λ w. ReadsServer w own (codes "false") texts) (sym w)
+    (subst (λ t. ReadsServer (name ∷ codes "serve" ∷ port_words port file) own (codes "false") t) (sym t)
     (subst (λ s. ReadsServer (name ∷ codes "serve" ∷ port_words port file) s (codes "false") (only_users_file file)) (sym s)
     (serve_made_of name (port_words port file) (only_port port) (codes "false") (only_users_file file) (port_held port file) (port_serves port file)))))
-with_server server options words (name, inr (given, (g, (s, (r, (t, w)))))) =
-    serve_made words server options (codes "true") (subst (IsFlag (Some (codes "true"))) (sym r) says_true)
-    (subst (λ w. ReadsServer w (server_texts_of server) (codes "true") (texts_of options)) (sym w)
-    (subst (λ t. ReadsServer (name ∷ codes "serve" ∷ all_words given g) (server_texts_of server) (codes "true") t) (sym t)
+with_server server options own texts words sv v (name, inr (given, (g, (s, (r, (t, w)))))) =
+    serve_made words server options own texts (codes "true") sv v (subst (IsFlag (Some (codes "true"))) (sym r) says_true)
+    (subst (λ w. ReadsServer w own (codes "true") texts) (sym w)
+    (subst (λ t. ReadsServer (name ∷ codes "serve" ∷ all_words given g) own (codes "true") t) (sym t)
     (subst (λ s. ReadsServer (name ∷ codes "serve" ∷ all_words given g) s (codes "true") (every_option g)) (sym s)
     (serve_made_of name (all_words given g) (every_server_option given) (codes "true") (every_option g) (all_held given g) (all_serve given g)))))
 
@@ -368,12 +380,13 @@ made (Disassemble file false) words (o, (name, l)) =
 made (Disassemble file true) words (o, l) =
     disassemble_made words file (codes "true") true says_true (with_slots file.now words o l)
 made (Explain file None) words (o, (name, l)) =
-    explain_made words file None (subst (λ w. Reads w (codes "explain") (codes "slot") file.now None) (sym l) (explain_read name file.now o))
-made (Explain file (Some slot)) words (o, l) = explain_made words file (Some slot) (with_slot file slot words o l)
+    explain_made words file None None tt (subst (λ w. Reads w (codes "explain") (codes "slot") file.now None) (sym l) (explain_read name file.now o))
+made (Explain file (Some slot)) words (o, (text, (spells, l))) = explain_made words file (Some text) (Some slot) spells (with_slot file text words o l)
 made (Trace file None) words (o, (name, l)) = trace_made words file None (subst (λ w. Reads w (codes "trace") (codes "data") file.now None) (sym l) (trace_read name file.now o))
 made (Trace file (Some hex)) words (o, l) = trace_made words file (Some hex) (with_data file hex words o l)
-made (Replay events nonce options) words (o, l) = replay_made words events nonce options (with_events events.now (text_of nonce) (texts_of options) words o l)
-made (Serve server options) words l = with_server server options words l
+made (Replay events nonce options) words (o, (given, (texts, (is, (values, l))))) =
+    replay_made words events nonce options given texts is values (with_events events.now given texts words o l)
+made (Serve server options) words (own, (texts, (sv, (v, l)))) = with_server server options own texts words sv v l
 
 no_kind : (kinds : Kinds) (e : Error) → kinds ≡ [] → HasKind kinds e → kind_of e ≡ OutOfMemory
 no_kind kinds e none h = elim (subst (λ ks. HasKind ks e) none h) [ inl memory ↦ memory | inr among ↦ absurd among ]

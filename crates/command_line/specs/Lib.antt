@@ -1,4 +1,6 @@
 -- Internal. The modules of this folder.
 pub mod Commands
 pub mod Lines
+pub mod Relayed
 pub mod Subcommands
+pub mod Values

@@ -1,10 +1,11 @@
 -- Meaning. Good command lines, spelled out word by word.
-use Rattle.std.specs.Prelude.{◌≡◌, ◌⊎◌, ◌==◌, Bool, true, false, List, [], ◌∷◌, ◌++◌, Option, Some, None, codes, Result, MatchResult, IsSomeAnd}
+use Rattle.std.specs.Prelude.{◌≡◌, ◌⊎◌, ◌^◌, ◌==◌, unwrap_or, Bool, true, false, List, [], ◌∷◌, ◌++◌, Option, Some, None, codes, Result, MatchResult, IsSomeAnd}
 use Rattle.clap.specs.Words.{Text, kind_of, subcommand_rows_of}
 use Rattle.clap.specs.declared.error.Error.{Error}
 use Rattle.clap.specs.declared.error.kind.ErrorKind.TheVariants.{OutOfMemory}
 use Rattle.clap.specs.declared.parser.matches.ArgMatches.{ArgMatches}
-use Rattle.command_line.specs.Subcommands.{IsSubcommand, ServerTexts, Texts, server_texts_of, text_of, texts_of}
+use Rattle.command_line.specs.Subcommands.{HaveServerValues, HaveValues, IsSubcommand, ServerTexts, Texts}
+use Rattle.command_line.specs.Values.{IsDecimal}
 use Rattle.command_line.specs.declared.Subcommand.{Subcommand}
 use Rattle.command_line.specs.declared.Subcommand.TheVariants.{Verify, Explain, Trace, Assemble, Order, Disassemble, Replay, Serve}
 
@@ -161,11 +162,12 @@ IsServeLine server reuse_port texts words = (name : Text) × (
     ⊎ ((s : GivenServer) × ((g : GivenOptions) × ((server ≡ every_server_option s) × ((reuse_port ≡ true) × ((texts ≡ every_option g)
     × (words ≡ name ∷ codes "serve" ∷ server_before s (options_before g []))))))))
 
--- the words are one of the usual lines of the subcommand, in which the files are operands
+-- the words are one of the usual lines of the subcommand, in which the files are operands, and the texts of options spell its values
 abbrev pub IsLineOf : Subcommand → List Text → Type 0
 IsLineOf (Verify file) words = IsOperand file.now × ((name : Text) × (words ≡ name ∷ codes "verify" ∷ file.now ∷ []))
 IsLineOf (Explain file None) words = IsOperand file.now × ((name : Text) × (words ≡ name ∷ codes "explain" ∷ file.now ∷ []))
-IsLineOf (Explain file (Some slot)) words = IsOperand file.now × IsExplainLine file.now slot.now words
+IsLineOf (Explain file (Some slot)) words = IsOperand file.now
+    × ((text : Text) × (IsDecimal (2 ^ 64) text slot × IsExplainLine file.now text words))
 IsLineOf (Trace file None) words = IsOperand file.now × ((name : Text) × (words ≡ name ∷ codes "trace" ∷ file.now ∷ []))
 IsLineOf (Trace file (Some hex)) words = IsOperand file.now × IsTraceLine file.now hex.now words
 IsLineOf (Assemble input output) words = (IsOperand input.now × IsOperand output.now)
@@ -175,8 +177,11 @@ IsLineOf (Order input output) words = (IsOperand input.now × IsOperand output.n
 IsLineOf (Disassemble file false) words = IsOperand file.now
     × ((name : Text) × (words ≡ name ∷ codes "disassemble" ∷ file.now ∷ []))
 IsLineOf (Disassemble file true) words = IsOperand file.now × IsSlotsLine file.now words
-IsLineOf (Replay events nonce options) words = IsOperand events.now × IsReplayLine events.now (text_of nonce) (texts_of options) words
-IsLineOf (Serve server options) words = IsServeLine (server_texts_of server) server.reuse_port (texts_of options) words
+IsLineOf (Replay events nonce options) words = IsOperand events.now
+    × ((given : Option Text) × ((texts : Texts) × ((nonce.now ≡ unwrap_or given (codes "n1"))
+    × (HaveValues texts options × IsReplayLine events.now given texts words))))
+IsLineOf (Serve server options) words = (own : ServerTexts) × ((texts : Texts)
+    × (HaveServerValues own server × (HaveValues texts options × IsServeLine own server.reuse_port texts words)))
 
 -- the matches are those of this subcommand, or memory ran out
 abbrev pub IsParsedAs : Subcommand → Result ArgMatches Error → Type 0

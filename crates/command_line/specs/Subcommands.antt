@@ -1,10 +1,14 @@
 -- Meaning. The subcommands of relayd, by their names and the values of their arguments.
-use Rattle.std.specs.Prelude.{◌≡◌, ◌⊎◌, Bool, true, false, List, Option, Some, None, map, option_map, codes}
+use Rattle.std.specs.Prelude.{◌≡◌, ◌⊎◌, ◌^◌, pos, Bool, true, false, List, [], ◌∷◌, Option, Some, None, map, option_map, unwrap_or, codes}
 use Rattle.std.specs.Borrow.{Bor}
+use Rattle.std.specs.Net.Grammar.{IsIpv4Text, IsIpv6Text}
+use Rattle.std.specs.declared.net.ipv4_addr.Ipv4Addr.{Ipv4Addr}
 use Rattle.clap.specs.Words.{Text, Row, all_of, first_of, one_of}
+use Rattle.command_line.specs.Values.{AreOctets6, HasValue, HasValueOr, IsBuffer, IsDecimal, IsRefusedValue, IsFirst, IsSeconds}
 use Rattle.command_line.specs.declared.Options.{Options}
 use Rattle.command_line.specs.declared.ServerOptions.{ServerOptions}
 use Rattle.command_line.specs.declared.Subcommand.{Subcommand}
+use Rattle.command_line.specs.declared.values.ValueError.{ValueError}
 use Rattle.command_line.specs.declared.Subcommand.TheVariants.{Verify, Explain, Trace, Assemble, Order, Disassemble, Replay, Serve}
 
 -- the value of an argument of the subcommand
@@ -53,18 +57,25 @@ text_of = option_map (λ s. s.now)
 abbrev pub list_of : Option (Bor (List (Bor Text))) → Option (List Text)
 list_of = option_map (λ s. map (λ v. v.now) s.now)
 
-abbrev pub texts_of : Options → Texts
-texts_of o = record {
-  realm = text_of o.realm;
-  users = list_of o.users;
-  users_file = text_of o.users_file;
-  slots = text_of o.slots;
-  relay_ip = text_of o.relay_ip;
-  relay_ip6 = text_of o.relay_ip6;
-  first_port = text_of o.first_port;
-  client = text_of o.client;
-  peer = text_of o.peer;
-}
+-- the options have the values that these texts spell, and else their defaults
+pub record HaveValues (texts : Texts) (o : Options) : Type 0 where
+  pub realm : o.realm.now ≡ unwrap_or texts.realm (codes "relay")
+  pub users : texts.users ≡ list_of o.users
+  pub users_file : texts.users_file ≡ text_of o.users_file
+  pub slots : HasValueOr 16 (IsDecimal (2 ^ 64)) texts.slots o.slots
+  pub relay_ip : HasValue IsIpv4Text texts.relay_ip o.relay_ip
+  pub relay_ip6 : HasValue AreOctets6 texts.relay_ip6 o.relay_ip6
+  pub first_port : HasValueOr 49152 (IsDecimal (2 ^ 16)) texts.first_port o.first_port
+  pub client : texts.client ≡ text_of o.client
+  pub peer : texts.peer ≡ text_of o.peer
+
+-- the first of the texts that spells no value of its option
+abbrev pub IsFirstFault : Texts → ValueError → Type 0
+IsFirstFault texts =
+    IsFirst (codes "--relay-ip6 <HEX>") AreOctets6 texts.relay_ip6
+    (IsFirst (codes "--slots <N>") (IsDecimal (2 ^ 64)) texts.slots
+    (IsFirst (codes "--relay-ip <A>") IsIpv4Text texts.relay_ip
+    (IsRefusedValue (codes "--first-port <P>") (IsDecimal (2 ^ 16)) texts.first_port)))
 
 -- the texts of the options of a server alone
 pub record ServerTexts : Type 0 where
@@ -91,24 +102,39 @@ server_texts_in rows = record {
   stats = first_of (codes "stats") rows;
 }
 
-abbrev pub server_texts_of : ServerOptions → ServerTexts
-server_texts_of s = record {
-  port = Some (s.port).now;
-  rounds = text_of s.rounds;
-  listen = text_of s.listen;
-  listen6 = text_of s.listen6;
-  buffer = text_of s.buffer;
-  deny = list_of s.deny;
-  allow = list_of s.allow;
-  nonce_lifetime = text_of s.nonce_lifetime;
-  stats = text_of s.stats;
-}
+-- 127.0.0.1
+abbrev pub localhost : Ipv4Addr
+localhost = record { octets = 127 ∷ 0 ∷ 0 ∷ 1 ∷ [] }
+
+-- the options of a server have the values that these texts spell, and else their defaults
+pub record HaveServerValues (texts : ServerTexts) (s : ServerOptions) : Type 0 where
+  pub port : HasValue (IsDecimal (2 ^ 16)) texts.port (Some s.port)
+  pub rounds : HasValue (IsDecimal (2 ^ 64)) texts.rounds s.rounds
+  pub listen : HasValueOr localhost IsIpv4Text texts.listen s.listen
+  pub listen6 : HasValue IsIpv6Text texts.listen6 s.listen6
+  pub buffer : HasValueOr (pos 4194304) IsBuffer texts.buffer s.buffer
+  pub deny : texts.deny ≡ list_of s.deny
+  pub allow : texts.allow ≡ list_of s.allow
+  pub nonce_lifetime : HasValueOr 3600 IsSeconds texts.nonce_lifetime s.nonce_lifetime
+  pub stats : HasValue IsSeconds texts.stats s.stats
+
+-- the first of the texts that spells no value of its option, those of a server before those that set up a relay
+abbrev pub IsFirstServerFault : ServerTexts → Texts → ValueError → Type 0
+IsFirstServerFault server texts =
+    IsFirst (codes "--port <P>") (IsDecimal (2 ^ 16)) server.port
+    (IsFirst (codes "--rounds <N>") (IsDecimal (2 ^ 64)) server.rounds
+    (IsFirst (codes "--listen <A>") IsIpv4Text server.listen
+    (IsFirst (codes "--listen6 <A>") IsIpv6Text server.listen6
+    (IsFirst (codes "--buffer <BYTES>") IsBuffer server.buffer
+    (IsFirst (codes "--nonce-lifetime <S>") IsSeconds server.nonce_lifetime
+    (IsFirst (codes "--stats <S>") IsSeconds server.stats
+    (IsFirstFault texts)))))))
 
 -- a name and the values of arguments are those of a subcommand
 abbrev pub IsSubcommand : Text × List Row → Subcommand → Type 0
 IsSubcommand p (Verify file) = (p.0 ≡ codes "verify") × (argument_value p (codes "file") ≡ Some file.now)
 IsSubcommand p (Explain file slot) = (p.0 ≡ codes "explain") × (argument_value p (codes "file") ≡ Some file.now)
-    × (argument_value p (codes "slot") ≡ text_of slot)
+    × HasValue (IsDecimal (2 ^ 64)) (argument_value p (codes "slot")) slot
 IsSubcommand p (Trace file hex) = (p.0 ≡ codes "trace") × (argument_value p (codes "file") ≡ Some file.now)
     × (argument_value p (codes "data") ≡ option_map (λ s. s.now) hex)
 IsSubcommand p (Assemble input output) = (p.0 ≡ codes "assemble") × (argument_value p (codes "in") ≡ Some input.now)
@@ -118,10 +144,10 @@ IsSubcommand p (Order input output) = (p.0 ≡ codes "order") × (argument_value
 IsSubcommand p (Disassemble file slots) = (p.0 ≡ codes "disassemble") × (argument_value p (codes "file") ≡ Some file.now)
     × IsFlag (flag_of p (codes "slots")) slots
 IsSubcommand p (Replay events nonce options) = (p.0 ≡ codes "replay") × (argument_value p (codes "events") ≡ Some events.now)
-    × (argument_value p (codes "nonce") ≡ text_of nonce) × (texts_in p.1 ≡ texts_of options)
+    × (nonce.now ≡ unwrap_or (argument_value p (codes "nonce")) (codes "n1")) × HaveValues (texts_in p.1) options
 IsSubcommand p (Serve server options) = (p.0 ≡ codes "serve")
-    × (server_texts_in p.1 ≡ server_texts_of server) × IsFlag (flag_of p (codes "reuse-port")) server.reuse_port
-    × (texts_in p.1 ≡ texts_of options)
+    × HaveServerValues (server_texts_in p.1) server × IsFlag (flag_of p (codes "reuse-port")) server.reuse_port
+    × HaveValues (texts_in p.1) options
 
 -- the subcommand is one that takes FILE
 abbrev pub TakesFile : Text → Type 0
@@ -137,3 +163,15 @@ pub record IsNoSubcommand (p : Text × List Row) : Type 0 where
   pub files : TakesFiles p.0 → (argument_value p (codes "in") ≡ None) ⊎ (argument_value p (codes "out") ≡ None)
   pub events : p.0 ≡ codes "replay" → argument_value p (codes "events") ≡ None
   pub port : p.0 ≡ codes "serve" → argument_value p (codes "port") ≡ None
+
+-- a text is the first that spells no value of its option, by the name of the subcommand
+abbrev pub IsValueFault : Text × List Row → ValueError → Type 0
+IsValueFault p e =
+    ((p.0 ≡ codes "explain") × IsRefusedValue (codes "--slot <N>") (IsDecimal (2 ^ 64)) (argument_value p (codes "slot")) e)
+    ⊎ (((p.0 ≡ codes "replay") × IsFirstFault (texts_in p.1) e)
+    ⊎ ((p.0 ≡ codes "serve") × IsFirstServerFault (server_texts_in p.1) (texts_in p.1) e))
+
+-- what is read of a name and the values of arguments: a subcommand, or that they are those of none
+abbrev pub IsReadAs : Text × List Row → Option Subcommand → Type 0
+IsReadAs p (Some s) = IsSubcommand p s
+IsReadAs p None = IsNoSubcommand p

@@ -1,16 +1,24 @@
 //! Parses the command line of relayd.
 #![tactic(auto)]
 
-ghost use Rattle.std.specs.Prelude.{◌≡◌, None, true, false, codes, map, IfOk, IfSome, IfNone, IsSomeAnd};
-ghost use Rattle.clap.specs.Words.{FailsBy, first_of, found_of, has_subcommand, rows_of, rule_of, subcommand_rows_of};
+pub mod defaults;
+mod matches;
+mod relayed;
+mod values;
+
+ghost use Rattle.std.specs.Prelude.{◌≡◌, true, false, map, IfOk};
+ghost use Rattle.clap.specs.Words.{FailsBy, has_subcommand, rule_of, subcommand_rows_of};
 ghost use Rattle.command_line.specs.Commands.{HasAdded, HasShape, assemble_command, bare_command, disassemble_command, events_argument, explain_command, faults_of, file_argument, flag, input_argument, option, order_command, output_argument, port_option, program_command, relayd_command, repeated_option, replay_command, serve_command, subcommand_in, text_command, trace_command, verify_command, with_addresses, with_filter, with_options, with_programs, with_sockets, with_times, with_users};
 ghost use Rattle.command_line.specs.Lines.{IsLineOf, IsParsedAs};
-ghost use Rattle.command_line.specs.Subcommands.{IsSubcommand, IsNoSubcommand, texts_in, texts_of};
 ghost use Rattle.command_line.specs.declared.Subcommand.{Subcommand};
 
 use clap::{Arg, ArgAction, ArgMatches, Command, Error};
+pub use matches::subcommand_of;
+pub use relayed::{RelayedError, relayed_ip, relayed_ip6};
 use std::alloc::{AllocError, Global};
 use std::convert::AsStr;
+use std::net::{Ipv4Addr, Ipv6Addr};
+pub use values::ValueError;
 
 /// The version that `--version` prints.
 const VERSION: &str = "0.1.0";
@@ -22,52 +30,52 @@ const ABOUT: &str =
 The exit status is 0 for success, 1 for a refusal or a run that is stuck, 2 for a wrong command line,
 3 for a file, an output or a socket that can't be used, and 4 where memory runs out.";
 
-/// The options that set up a relay, as they are written; `None` is an option that is not given.
+/// The options that set up a relay. Those that have a default have it where they are not given, and the others are `None`.
 #[derive(Clone, Copy, Debug)]
 pub struct Options<'a> {
-    /// The realm.
-    pub realm: Option<&'a str>,
+    /// The realm; `relay` by default.
+    pub realm: &'a str,
     /// The users, each as `NAME:PASSWORD`, in the order in which they are given.
     pub users: Option<&'a [&'a str]>,
     /// The file that has further users.
     pub users_file: Option<&'a str>,
-    /// The number of slots.
-    pub slots: Option<&'a str>,
+    /// The number of slots; 16 by default.
+    pub slots: usize,
     /// The relayed IPv4 address.
-    pub relay_ip: Option<&'a str>,
+    pub relay_ip: Option<Ipv4Addr>,
     /// The relayed IPv6 address.
-    pub relay_ip6: Option<&'a str>,
-    /// The relayed port of the first slot.
-    pub first_port: Option<&'a str>,
+    pub relay_ip6: Option<[u8; 16]>,
+    /// The relayed port of the first slot; 49152 by default.
+    pub first_port: u16,
     /// The file of the program for clients' datagrams.
     pub client: Option<&'a str>,
     /// The file of the program for peers' datagrams.
     pub peer: Option<&'a str>,
 }
 
-/// The options of a server alone, as they are written; `None` is an option that is not given.
+/// The options of a server alone. Those that have a default have it where they are not given, and the others are `None`.
 #[derive(Clone, Copy, Debug)]
 pub struct ServerOptions<'a> {
     /// The UDP port for clients.
-    pub port: &'a str,
-    /// How many rounds are made before the end.
-    pub rounds: Option<&'a str>,
-    /// The IPv4 address that the sockets are bound to.
-    pub listen: Option<&'a str>,
+    pub port: u16,
+    /// How many rounds are made before the end; `None` is to serve until the process is stopped.
+    pub rounds: Option<u64>,
+    /// The IPv4 address that the sockets are bound to; 127.0.0.1 by default.
+    pub listen: Ipv4Addr,
     /// The IPv6 address that further sockets of the slots are bound to.
-    pub listen6: Option<&'a str>,
-    /// The size of each socket's buffers.
-    pub buffer: Option<&'a str>,
+    pub listen6: Option<Ipv6Addr>,
+    /// The bytes of each socket's buffers, 1 to 2^30 - 1; 4194304 by default.
+    pub buffer: i32,
     /// Whether other processes may serve the same port.
     pub reuse_port: bool,
     /// The networks that nothing is sent to, in the order in which they are given.
     pub deny: Option<&'a [&'a str]>,
     /// The networks that are sent to, in the order in which they are given.
     pub allow: Option<&'a [&'a str]>,
-    /// The seconds after which a new nonce is drawn.
-    pub nonce_lifetime: Option<&'a str>,
-    /// The seconds between two lines of counters.
-    pub stats: Option<&'a str>,
+    /// The seconds after which a new nonce is drawn, at least 1; 3600 by default.
+    pub nonce_lifetime: u64,
+    /// The seconds between two lines of counters, at least 1; `None` is to print none.
+    pub stats: Option<u64>,
 }
 
 /// A subcommand of relayd, with the values of its arguments.
@@ -81,7 +89,7 @@ pub enum Subcommand<'a> {
     /// printed, and `None` stands for all.
     Explain {
         file: &'a str,
-        slot: Option<&'a str>,
+        slot: Option<usize>,
     },
     /// Run the program in a file over a datagram and print each step. `data` is the datagram in
     /// hexadecimal digits, and `None` stands for the empty one.
@@ -104,10 +112,11 @@ pub enum Subcommand<'a> {
         file: &'a str,
         slots: bool,
     },
-    /// Replay the events in a file through a relay, and print each answer. The file `-` is standard input.
+    /// Replay the events in a file through a relay, and print each answer. The file `-` is standard input. The nonce is
+    /// `n1` by default.
     Replay {
         events: &'a str,
-        nonce: Option<&'a str>,
+        nonce: &'a str,
         options: Options<'a>,
     },
     /// Serve clients and peers over UDP sockets.
@@ -529,94 +538,4 @@ pub fn line<'a, S: AsStr>(alloc: Global, words: &'a [S]) -> Result<ArgMatches<'a
     ensures usual { (s : Subcommand) → IsLineOf s (map S.text words.entry.now) → IsParsedAs s result }
 {
     relayd(alloc)?.try_get_matches_from(words)
-}
-
-/// Returns the options of a relay among the matches of a subcommand.
-fn options_of<'a>(matches: &'a ArgMatches<'_>) -> Options<'a>
-    ensures { texts_of result ≡ texts_in (rows_of (found_of matches.now)) }
-{
-    Options {
-        realm: matches.get_str("realm"),
-        users: matches.get_strs("user"),
-        users_file: matches.get_str("users"),
-        slots: matches.get_str("slots"),
-        relay_ip: matches.get_str("relay-ip"),
-        relay_ip6: matches.get_str("relay-ip6"),
-        first_port: matches.get_str("first-port"),
-        client: matches.get_str("client"),
-        peer: matches.get_str("peer"),
-    }
-}
-
-/// Returns the subcommand `serve` of its matches, or `None` where the port is missing.
-fn serve_of<'a>(matches: &'a ArgMatches<'_>) -> Option<Subcommand<'a>>
-    ensures found { IfSome result (IsSubcommand (codes "serve", rows_of (found_of matches.now))) }
-    ensures none { IfNone result (first_of (codes "port") (rows_of (found_of matches.now)) ≡ None) }
-{
-    let server = ServerOptions {
-        port: matches.get_str("port")?,
-        rounds: matches.get_str("rounds"),
-        listen: matches.get_str("listen"),
-        listen6: matches.get_str("listen6"),
-        buffer: matches.get_str("buffer"),
-        reuse_port: matches.get_flag("reuse-port"),
-        deny: matches.get_strs("deny"),
-        allow: matches.get_strs("allow"),
-        nonce_lifetime: matches.get_str("nonce-lifetime"),
-        stats: matches.get_str("stats"),
-    };
-    let options = options_of(matches);
-    Some(Subcommand::Serve { server, options })
-}
-
-/// Returns the subcommand of a parsed command line, or `None` where the matches are not those of a
-/// subcommand of relayd.
-pub fn subcommand_of<'a>(matches: &'a ArgMatches<'_>) -> Option<Subcommand<'a>>
-    ensures found { IfSome result (λ s. IsSomeAnd (subcommand_rows_of matches.now) (λ p. IsSubcommand p s)) }
-    ensures none { IfNone result (IfSome (subcommand_rows_of matches.now) IsNoSubcommand) }
-{
-    let (name, matches) = matches.subcommand()?;
-    match name {
-        "assemble" => {
-            let input = matches.get_str("in")?;
-            let output = matches.get_str("out")?;
-            Some(Subcommand::Assemble { input, output })
-        }
-        "order" => {
-            let input = matches.get_str("in")?;
-            let output = matches.get_str("out")?;
-            Some(Subcommand::Order { input, output })
-        }
-        "disassemble" => {
-            let file = matches.get_str("file")?;
-            let slots = matches.get_flag("slots");
-            Some(Subcommand::Disassemble { file, slots })
-        }
-        "verify" => {
-            let file = matches.get_str("file")?;
-            Some(Subcommand::Verify { file })
-        }
-        "explain" => {
-            let file = matches.get_str("file")?;
-            let slot = matches.get_str("slot");
-            Some(Subcommand::Explain { file, slot })
-        }
-        "trace" => {
-            let file = matches.get_str("file")?;
-            let data = matches.get_str("data");
-            Some(Subcommand::Trace { file, data })
-        }
-        "replay" => {
-            let events = matches.get_str("events")?;
-            let nonce = matches.get_str("nonce");
-            let options = options_of(matches);
-            Some(Subcommand::Replay {
-                events,
-                nonce,
-                options,
-            })
-        }
-        "serve" => serve_of(matches),
-        _ => None,
-    }
 }

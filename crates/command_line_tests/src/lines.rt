@@ -49,11 +49,11 @@ const GOOD: [Good; 30] = [
     },
     Good {
         words: &["relayd", "explain", "a.bpf", "--slot", "7"],
-        subcommand: r#"Explain { file: "a.bpf", slot: Some("7") }"#,
+        subcommand: r#"Explain { file: "a.bpf", slot: Some(7) }"#,
     },
     Good {
-        words: &["relayd", "explain", "--slot=", "a.bpf"],
-        subcommand: r#"Explain { file: "a.bpf", slot: Some("") }"#,
+        words: &["relayd", "explain", "--slot=+08", "a.bpf"],
+        subcommand: r#"Explain { file: "a.bpf", slot: Some(8) }"#,
     },
     Good {
         words: &["relayd", "trace", "a.bpf"],
@@ -112,12 +112,12 @@ const GOOD: [Good; 30] = [
     // standard input, without an option
     Good {
         words: &["relayd", "replay", "-"],
-        subcommand: r#"Replay { events: "-", nonce: None, options: Options { realm: None, users: None, users_file: None, slots: None, relay_ip: None, relay_ip6: None, first_port: None, client: None, peer: None } }"#,
+        subcommand: r#"Replay { events: "-", nonce: "n1", options: Options { realm: "relay", users: None, users_file: None, slots: 16, relay_ip: None, relay_ip6: None, first_port: 49152, client: None, peer: None } }"#,
     },
     // users in the order in which they are given, and no value is parted at a comma
     Good {
         words: &["relayd", "replay", "--user", "v:q,r", "a", "--user=u:p"],
-        subcommand: r#"Replay { events: "a", nonce: None, options: Options { realm: None, users: Some(["v:q,r", "u:p"]), users_file: None, slots: None, relay_ip: None, relay_ip6: None, first_port: None, client: None, peer: None } }"#,
+        subcommand: r#"Replay { events: "a", nonce: "n1", options: Options { realm: "relay", users: Some(["v:q,r", "u:p"]), users_file: None, slots: 16, relay_ip: None, relay_ip6: None, first_port: 49152, client: None, peer: None } }"#,
     },
     // every option
     Good {
@@ -133,9 +133,9 @@ const GOOD: [Good; 30] = [
             "--first-port",
             "1",
             "--relay-ip",
-            "i",
+            "203.0.113.1",
             "--relay-ip6",
-            "j",
+            "20010db80000000000000000000000aB",
             "--slots",
             "2",
             "--users",
@@ -146,12 +146,12 @@ const GOOD: [Good; 30] = [
             "r",
             "a",
         ],
-        subcommand: r#"Replay { events: "a", nonce: Some("n"), options: Options { realm: Some("r"), users: Some(["u"]), users_file: Some("f"), slots: Some("2"), relay_ip: Some("i"), relay_ip6: Some("j"), first_port: Some("1"), client: Some("c"), peer: Some("p") } }"#,
+        subcommand: r#"Replay { events: "a", nonce: "n", options: Options { realm: "r", users: Some(["u"]), users_file: Some("f"), slots: 2, relay_ip: Some(203.0.113.1), relay_ip6: Some([32, 1, 13, 184, 0, 0, 0, 0, 0, 0, 0, 0, 0, 0, 0, 171]), first_port: 1, client: Some("c"), peer: Some("p") } }"#,
     },
     // a server with its port alone, and with every option
     Good {
         words: &["relayd", "serve", "--port", "3478"],
-        subcommand: r#"Serve { server: ServerOptions { port: "3478", rounds: None, listen: None, listen6: None, buffer: None, reuse_port: false, deny: None, allow: None, nonce_lifetime: None, stats: None }, options: Options { realm: None, users: None, users_file: None, slots: None, relay_ip: None, relay_ip6: None, first_port: None, client: None, peer: None } }"#,
+        subcommand: r#"Serve { server: ServerOptions { port: 3478, rounds: None, listen: 127.0.0.1, listen6: None, buffer: 4194304, reuse_port: false, deny: None, allow: None, nonce_lifetime: 3600, stats: None }, options: Options { realm: "relay", users: None, users_file: None, slots: 16, relay_ip: None, relay_ip6: None, first_port: 49152, client: None, peer: None } }"#,
     },
     Good {
         words: &[
@@ -163,9 +163,9 @@ const GOOD: [Good; 30] = [
             "--first-port",
             "1",
             "--relay-ip",
-            "i",
+            "203.0.113.1",
             "--relay-ip6",
-            "j",
+            "20010db80000000000000000000000aB",
             "--slots=2",
             "--users",
             "f",
@@ -178,8 +178,8 @@ const GOOD: [Good; 30] = [
             "5",
             "--nonce-lifetime",
             "60",
-            "--listen=l",
-            "--listen6=m",
+            "--listen=192.0.2.10",
+            "--listen6=2001:db8::10",
             "--deny=d",
             "--allow",
             "f",
@@ -187,13 +187,13 @@ const GOOD: [Good; 30] = [
             "--deny",
             "e",
             "--buffer",
-            "b",
+            "1073741823",
             "--rounds",
-            "n",
+            "0",
             "--port",
             "3478",
         ],
-        subcommand: r#"Serve { server: ServerOptions { port: "3478", rounds: Some("n"), listen: Some("l"), listen6: Some("m"), buffer: Some("b"), reuse_port: true, deny: Some(["d", "e"]), allow: Some(["f"]), nonce_lifetime: Some("60"), stats: Some("5") }, options: Options { realm: Some("r"), users: Some(["u", "v"]), users_file: Some("f"), slots: Some("2"), relay_ip: Some("i"), relay_ip6: Some("j"), first_port: Some("1"), client: Some("c"), peer: Some("p") } }"#,
+        subcommand: r#"Serve { server: ServerOptions { port: 3478, rounds: Some(0), listen: 192.0.2.10, listen6: Some(2001:db8::10), buffer: 1073741823, reuse_port: true, deny: Some(["d", "e"]), allow: Some(["f"]), nonce_lifetime: 60, stats: Some(5) }, options: Options { realm: "r", users: Some(["u", "v"]), users_file: Some("f"), slots: 2, relay_ip: Some(203.0.113.1), relay_ip6: Some([32, 1, 13, 184, 0, 0, 0, 0, 0, 0, 0, 0, 0, 0, 0, 171]), first_port: 1, client: Some("c"), peer: Some("p") } }"#,
     },
     // the program may have any name
     Good {
@@ -207,11 +207,232 @@ fn good_lines_are_parsed(rt: HostRuntime) -> Result<(), Fail> {
     for Good { words, subcommand } in GOOD {
         let matches = line(rt.alloc(), words)?;
         match subcommand_of(&matches) {
-            Some(found) => {
+            Ok(Some(found)) => {
                 let shown = format!(in rt.alloc(); "{found:?}")?;
                 assert_eq!(rt; shown.as_str(), subcommand, "{words:?}");
             }
-            None => assert!(rt; false, "{words:?}"),
+            Ok(None) | Err(_) => assert!(rt; false, "{words:?}"),
+        }
+    }
+    Ok(())
+}
+
+/// A command line with a text that spells no value of its option, and the line that names the first one.
+#[derive(Clone, Copy)]
+struct Wrong {
+    words: &'static [&'static str],
+    line: &'static str,
+}
+
+const WRONG: [Wrong; 24] = [
+    // a slot
+    Wrong {
+        words: &["relayd", "explain", "a.bpf", "--slot="],
+        line: "error: invalid value '' for '--slot <N>'",
+    },
+    Wrong {
+        words: &["relayd", "explain", "a.bpf", "--slot=-1"],
+        line: "error: invalid value '-1' for '--slot <N>'",
+    },
+    // the first of several, in the order in which they are looked at
+    Wrong {
+        words: &[
+            "relayd",
+            "replay",
+            "a",
+            "--first-port=65536",
+            "--relay-ip=::1",
+            "--slots=x",
+            "--relay-ip6=::1",
+        ],
+        line: "error: invalid value '::1' for '--relay-ip6 <HEX>'",
+    },
+    Wrong {
+        words: &[
+            "relayd",
+            "replay",
+            "a",
+            "--first-port=65536",
+            "--relay-ip=::1",
+            "--slots=x",
+        ],
+        line: "error: invalid value 'x' for '--slots <N>'",
+    },
+    Wrong {
+        words: &[
+            "relayd",
+            "replay",
+            "a",
+            "--first-port=65536",
+            "--relay-ip=::1",
+        ],
+        line: "error: invalid value '::1' for '--relay-ip <A>'",
+    },
+    Wrong {
+        words: &["relayd", "replay", "a", "--first-port=65536"],
+        line: "error: invalid value '65536' for '--first-port <P>'",
+    },
+    // the ends of values
+    Wrong {
+        words: &["relayd", "replay", "a", "--slots=18446744073709551616"],
+        line: "error: invalid value '18446744073709551616' for '--slots <N>'",
+    },
+    Wrong {
+        words: &["relayd", "replay", "a", "--relay-ip=1.2.3.256"],
+        line: "error: invalid value '1.2.3.256' for '--relay-ip <A>'",
+    },
+    Wrong {
+        words: &["relayd", "replay", "a", "--relay-ip=1.2.3"],
+        line: "error: invalid value '1.2.3' for '--relay-ip <A>'",
+    },
+    Wrong {
+        words: &[
+            "relayd",
+            "replay",
+            "a",
+            "--relay-ip6=0000000000000000000000000000000",
+        ],
+        line: "error: invalid value '0000000000000000000000000000000' for '--relay-ip6 <HEX>'",
+    },
+    Wrong {
+        words: &[
+            "relayd",
+            "replay",
+            "a",
+            "--relay-ip6=0000000000000000000000000000000g",
+        ],
+        line: "error: invalid value '0000000000000000000000000000000g' for '--relay-ip6 <HEX>'",
+    },
+    Wrong {
+        words: &["relayd", "replay", "a", "--first-port="],
+        line: "error: invalid value '' for '--first-port <P>'",
+    },
+    // those of a server, before those that set up a relay
+    Wrong {
+        words: &[
+            "relayd",
+            "serve",
+            "--port=65536",
+            "--rounds=-1",
+            "--listen=::1",
+            "--listen6=1.2.3.4",
+            "--buffer=0",
+            "--nonce-lifetime=0",
+            "--stats=0",
+            "--relay-ip6=x",
+        ],
+        line: "error: invalid value '65536' for '--port <P>'",
+    },
+    Wrong {
+        words: &[
+            "relayd",
+            "serve",
+            "--port=3478",
+            "--rounds=-1",
+            "--listen=::1",
+            "--listen6=1.2.3.4",
+            "--buffer=0",
+            "--nonce-lifetime=0",
+            "--stats=0",
+            "--relay-ip6=x",
+        ],
+        line: "error: invalid value '-1' for '--rounds <N>'",
+    },
+    Wrong {
+        words: &[
+            "relayd",
+            "serve",
+            "--port=3478",
+            "--listen=::1",
+            "--listen6=1.2.3.4",
+            "--buffer=0",
+            "--nonce-lifetime=0",
+            "--stats=0",
+            "--relay-ip6=x",
+        ],
+        line: "error: invalid value '::1' for '--listen <A>'",
+    },
+    Wrong {
+        words: &[
+            "relayd",
+            "serve",
+            "--port=3478",
+            "--listen6=1.2.3.4",
+            "--buffer=0",
+            "--nonce-lifetime=0",
+            "--stats=0",
+            "--relay-ip6=x",
+        ],
+        line: "error: invalid value '1.2.3.4' for '--listen6 <A>'",
+    },
+    Wrong {
+        words: &[
+            "relayd",
+            "serve",
+            "--port=3478",
+            "--buffer=0",
+            "--nonce-lifetime=0",
+            "--stats=0",
+            "--relay-ip6=x",
+        ],
+        line: "error: invalid value '0' for '--buffer <BYTES>'",
+    },
+    Wrong {
+        words: &[
+            "relayd",
+            "serve",
+            "--port=3478",
+            "--nonce-lifetime=0",
+            "--stats=0",
+            "--relay-ip6=x",
+        ],
+        line: "error: invalid value '0' for '--nonce-lifetime <S>'",
+    },
+    Wrong {
+        words: &[
+            "relayd",
+            "serve",
+            "--port=3478",
+            "--stats=0",
+            "--relay-ip6=x",
+        ],
+        line: "error: invalid value '0' for '--stats <S>'",
+    },
+    Wrong {
+        words: &["relayd", "serve", "--port=3478", "--relay-ip6=x"],
+        line: "error: invalid value 'x' for '--relay-ip6 <HEX>'",
+    },
+    Wrong {
+        words: &["relayd", "serve", "--port=3478", "--buffer=1073741824"],
+        line: "error: invalid value '1073741824' for '--buffer <BYTES>'",
+    },
+    Wrong {
+        words: &["relayd", "serve", "--port=3478", "--listen6=[::1]"],
+        line: "error: invalid value '[::1]' for '--listen6 <A>'",
+    },
+    Wrong {
+        words: &["relayd", "serve", "--port=3478", "--stats=soon"],
+        line: "error: invalid value 'soon' for '--stats <S>'",
+    },
+    Wrong {
+        words: &["relayd", "serve", "--port="],
+        line: "error: invalid value '' for '--port <P>'",
+    },
+];
+
+#[test]
+fn wrong_values_are_named(rt: HostRuntime) -> Result<(), Fail> {
+    for Wrong {
+        words,
+        line: wanted,
+    } in WRONG {
+        let matches = line(rt.alloc(), words)?;
+        match subcommand_of(&matches) {
+            Err(error) => {
+                let shown = format!(in rt.alloc(); "{error}")?;
+                assert_eq!(rt; shown.as_str(), wanted, "{words:?}");
+            }
+            Ok(_) => assert!(rt; false, "{words:?}"),
         }
     }
     Ok(())

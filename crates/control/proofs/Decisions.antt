@@ -11,16 +11,16 @@ use Rattle.stun.specs.declared.registry.ErrorCode.{ErrorCode}
 use Rattle.attributes.specs.Addresses.{is_of_family}
 use Rattle.attributes.specs.declared.address.Addr.{Addr}
 use Rattle.tables.specs.Changes.{Change, Follows, permit_change, permission_end}
-use Rattle.tables.specs.LookUps.{held_in, allocation_of, allocation_at}
+use Rattle.tables.specs.LookUps.{held_in, allocation_of}
 use Rattle.tables.specs.Permissions.{with_all}
 use Rattle.tables.specs.WellFormed.{AreWellFormed}
-use Rattle.tables.specs.WellFormedLaws.{allocation_of-at_slot}
+use Rattle.tables.specs.laws.WellFormed.{allocation_of-at_slot}
 use Rattle.tables.specs.declared.held.Held.{Held}
-use Rattle.tables.specs.declared.refusal.Refused.TheVariants as refusal
-use Rattle.tables.specs.PermitLaws.{StandsFor, HaveFamilyOf, permit_held, permit_with, permit_alike}
+use Rattle.tables.specs.declared.refusal.TableError.TheVariants as refusal
+use Rattle.tables.specs.laws.Permit.{StandsFor, HaveFamilyOf, permit_held, permit_with, permit_alike}
 use Rattle.tables.specs.Rows.{Rows}
 use Rattle.tables.specs.declared.allocation.Allocation.{Allocation}
-use Rattle.tables.specs.declared.refusal.Refused.{Refused}
+use Rattle.tables.specs.declared.refusal.TableError.{TableError}
 use Rattle.control.specs.Control.{result_of_change, error_of, Decision, own_allocation, peers_in, addresses_in, some_addresses, create_permission}
 use Rattle.control.specs.Serving.{Gives, are_of}
 use Rattle.control.specs.Peers.{peers_of}
@@ -65,8 +65,8 @@ grant_given (Ok given) old new result h = h.0
 grant_given (Err error) old new result h = h.0
 
 -- a change of the client's own allocation, as it is refused or made
-pub gives_change : (x : Change (Unit {0})) (old new : Rows) (result : Result (Unit {0}) Refused) → Follows x old result new
-    → ((u : Unit {0}) → result ≡ Ok u → Gives (done x) old (Ok Done) new) × ((e : Refused) → result ≡ Err e → Gives (done x) old (Err (error_of e)) new)
+pub gives_change : (x : Change (Unit {0})) (old new : Rows) (result : Result (Unit {0}) TableError) → Follows x old result new
+    → ((u : Unit {0}) → result ≡ Ok u → Gives (done x) old (Ok Done) new) × ((e : TableError) → result ≡ Err e → Gives (done x) old (Err (error_of e)) new)
 gives_change (Ok made) old new result h = ((λ u is. (refl, h.1)), λ e is. absurd (ok-err (sym h.0 ∙ is)))
 gives_change (Err refused) old new result h = ((λ u is. absurd (ok-err (sym is ∙ h.0))), λ e is. (ap (λ r. Err (error_of r)) (same_Err e refused (sym is ∙ h.0)), h.1))
 
@@ -118,9 +118,9 @@ module _ (client : Addr) (user : ℕ) (p : Parts) (rows : Rows) (a : Allocation)
       ∙ ap (λ (b : Bool). done (check b refusal.Family >>= (λ _. permit_with a.slot rows held (with_all held.permissions (peers_of p) (permission_end rows))))) family
 
   -- permissions for some addresses stand for those for all
-  pub permit_gives : (few : List Addr) (old new : Rows) (result : Result (Unit {0}) Refused)
+  pub permit_gives : (few : List Addr) (old new : Rows) (result : Result (Unit {0}) TableError)
       → are_of a.family p ≡ Ok true → list_all (is_of_family a.family) few ≡ true → StandsFor few (peers_of p) → Follows (permit_change a.slot few rows) old result new
-      → ((u : Unit {0}) → result ≡ Ok u → Gives (create_permission client user p rows) old (Ok Done) new) × ((e : Refused) → result ≡ Err e → Gives (create_permission client user p rows) old (Err (error_of e)) new)
+      → ((u : Unit {0}) → result ≡ Ok u → Gives (create_permission client user p rows) old (Ok Done) new) × ((e : TableError) → result ≡ Err e → Gives (create_permission client user p rows) old (Err (error_of e)) new)
   permit_gives few old new result read few_of stands follows =
       let families : HaveFamilyOf few (peers_of p) a.slot rows = λ held is.
       subst (λ (x : Allocation). list_all (is_of_family x.family) few ≡ list_all (is_of_family x.family) (peers_of p)) (sym (held_own held is)) (few_of ∙ sym (read_families a.family p true read)) in

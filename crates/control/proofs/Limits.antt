@@ -1,7 +1,7 @@
 -- What a configuration without a fault keeps.
 use Rattle.std.proofs.Common.{◌≡◌, ◌+◌, ◌≤◌, length, string_bytes, None, arith}
 use Rattle.control.specs.Configs.{fault}
-use Rattle.control.specs.ConfigLaws.{within_limits}
+use Rattle.control.specs.laws.Config.{within_limits}
 use Rattle.control.specs.Serving.{HasSlotBelow}
 use Rattle.control.specs.Serving.{HasPort}
 use Rattle.control.specs.declared.config.TheConstants.{MAX_TEXT}

@@ -28,6 +28,10 @@ abbrev pub are_distinct : List User → Bool
 are_distinct [] = true
 are_distinct (user ∷ users) = not (has_name users (string_bytes user.name)) && are_distinct users
 
+-- whether these can be the users of a relay
+abbrev pub are_users : List User → Bool
+are_users users = is_between 1 64 (length users) && list_all is_user users && are_distinct users
+
 -- a nonce has no blank
 abbrev pub is_nonce : List ℕ → Bool
 is_nonce nonce = is_text 0x21 64 nonce
@@ -38,7 +42,7 @@ is_valid_field c FirstPort = nat_le 1 c.first_port
 is_valid_field c Slots = is_between 1 256 c.slots && nat_le (c.first_port + c.slots) 0x10000
 is_valid_field c Realm = is_text 0x20 MAX_TEXT (string_bytes c.realm)
 is_valid_field c Nonce = is_nonce c.nonce.bytes
-is_valid_field c Users = is_between 1 64 (length c.users.items) && list_all is_user c.users.items && are_distinct c.users.items
+is_valid_field c Users = are_users c.users.items
 
 -- the fields that have limits, in their order
 abbrev pub fields : List Field

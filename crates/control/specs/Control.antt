@@ -26,9 +26,9 @@ use Rattle.tables.specs.Changes as tables
 use Rattle.tables.specs.LookUps.{allocation_of}
 use Rattle.tables.specs.declared.allocation.Allocation.{Allocation}
 use Rattle.tables.specs.declared.channels.TheConstants.{FIRST_CHANNEL, LAST_CHANNEL}
-use Rattle.tables.specs.declared.refusal.Refused.{Refused}
-use Rattle.tables.specs.declared.refusal.Refused.TheVariants.{Mismatch, Capacity, Conflict, NoAllocation}
-use Rattle.tables.specs.declared.refusal.Refused.TheVariants as refusal
+use Rattle.tables.specs.declared.refusal.TableError.{TableError}
+use Rattle.tables.specs.declared.refusal.TableError.TheVariants.{Mismatch, Capacity, Conflict, NoAllocation}
+use Rattle.tables.specs.declared.refusal.TableError.TheVariants as refusal
 use Rattle.control.specs.declared.config.Config.{Config}
 use Rattle.control.specs.Unknown.{unknown_types}
 use Rattle.control.specs.Values.{optional_value, required_value}
@@ -58,7 +58,7 @@ rows_of rows (Ok given) = rows_after rows given.1
 rows_of rows (Err error) = rows
 
 -- the error of a refused change
-abbrev pub error_of : Refused → ErrorCode
+abbrev pub error_of : TableError → ErrorCode
 error_of Mismatch = AllocationMismatch
 error_of Capacity = InsufficientCapacity
 error_of Conflict = BadRequest
@@ -107,7 +107,7 @@ family_for config (Some n) = option_and_then (offered config) (family_numbered n
 
 -- a repeated request gets the first success again
 abbrev pub is_repeated : Allocation → ℕ → Parts → Bool
-is_repeated a user p = bytes_eq a.tx p.transaction_id && nat_eq a.user user
+is_repeated a user p = bytes_eq a.transaction_id p.transaction_id && nat_eq a.user user
 
 -- the family and the lifetime to give, where all values can be granted
 abbrev pub acceptable : Config → Parts → Result (Family × ℕ) ErrorCode
@@ -167,8 +167,8 @@ first_and_rest (Some a) (Some addresses) = Some (a ∷ addresses)
 
 -- all addresses of a request, if each is well formed
 abbrev pub addresses_in : List ℕ → List (List ℕ) → Option (List Addr)
-addresses_in tx [] = Some []
-addresses_in tx (value ∷ values) = first_and_rest (address_in tx value) (addresses_in tx values)
+addresses_in transaction_id [] = Some []
+addresses_in transaction_id (value ∷ values) = first_and_rest (address_in transaction_id value) (addresses_in transaction_id values)
 
 -- the addresses, of which there must be one
 abbrev pub some_addresses : Option (List Addr) → Result (List Addr) ErrorCode

@@ -1,6 +1,7 @@
 -- Internal. The modules of this folder.
 pub mod Configs
-pub mod ConfigLaws
+pub mod Users
+pub mod laws
 pub mod Values
 pub mod Unknown
 pub mod Replies

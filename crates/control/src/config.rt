@@ -3,7 +3,7 @@
 ghost use Rattle.std.specs.Prelude.{◌≡◌};
 ghost use Rattle.std.specs.List.{list_all};
 ghost use Rattle.stun.specs.Ranges.{is_between};
-ghost use Rattle.control.specs.Configs.{is_text, is_nonce, is_user, has_name, are_distinct};
+ghost use Rattle.control.specs.Configs.{is_text, is_nonce, is_user, has_name, are_distinct, are_users};
 
 use arrayvec::ArrayString;
 use credentials::User;
@@ -11,6 +11,9 @@ use std::fmt;
 
 /// The greatest length of a realm, of a user's name and of a password, in bytes.
 pub const MAX_TEXT: usize = 128;
+
+/// The greatest number of users.
+pub const MAX_USERS: usize = 64;
 
 /// The configuration of a relay.
 #[derive(Drop)]
@@ -28,7 +31,7 @@ pub struct Config {
     /// The current nonce: 1 to 64 bytes of 0x21 to 0x7E.
     pub nonce: ArrayString<64>,
     /// The users, 1 to 64, with distinct names of 1 to 128 bytes of 0x21 to 0x7E without `:`, and passwords of 1 to 128
-    /// bytes of 0x20 to 0x7E.
+    /// bytes of 0x20 to 0x7E ([`are_users`]).
     pub users: Vec<User>,
 }
 
@@ -93,8 +96,8 @@ fn is_user(user: &User) -> bool
         && is_text(user.password.as_bytes(), 0x20, MAX_TEXT)
 }
 
-/// Returns whether all users lie within their limits.
-fn are_users(users: &[User]) -> bool
+/// Returns whether each of some users lies within its limits.
+fn are_within_limits(users: &[User]) -> bool
     ensures { result ≡ list_all is_user users.now }
 {
     users.iter().all(|user| is_user(user))
@@ -121,10 +124,18 @@ fn are_distinct(users: &[User]) -> bool
     true
 }
 
+/// Returns whether these can be the users of a relay: 1 to [`MAX_USERS`], with distinct names of 1 to 128 bytes of 0x21 to 0x7E
+/// without `:`, and passwords of 1 to 128 bytes of 0x20 to 0x7E.
+pub fn are_users(users: &[User]) -> bool
+    ensures { result ≡ are_users users.now }
+{
+    (1..=MAX_USERS).contains(&users.len()) && are_within_limits(users) && are_distinct(users)
+}
+
 impl Config {
     ghost use Rattle.std.specs.Prelude.{◌≡◌};
     ghost use Rattle.control.specs.Configs.{is_valid_field, fault};
-    ghost use Rattle.control.specs.ConfigLaws.{IsWithinLimits};
+    ghost use Rattle.control.specs.laws.Config.{IsWithinLimits};
 
     /// Returns whether a field lies within its limits.
     fn is_valid(&self, field: Field) -> bool
@@ -138,16 +149,12 @@ impl Config {
             }
             Field::Realm => is_text(self.realm.as_bytes(), 0x20, MAX_TEXT),
             Field::Nonce => is_nonce(self.nonce.as_str()),
-            Field::Users => {
-                (1..=64).contains(&self.users.len())
-                    && are_users(&self.users)
-                    && are_distinct(&self.users)
-            }
+            Field::Users => are_users(&self.users),
         }
     }
 
     /// States the limits of a configuration without a fault.
-    pub fn is_within_limits(&self)
+    pub fn law_is_within_limits(&self)
         requires { fault self.now ≡ None }
         ensures { IsWithinLimits self.now }
     {}

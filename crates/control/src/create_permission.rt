@@ -8,7 +8,7 @@ ghost use Rattle.tables.specs.Moments.{moment_of};
 ghost use Rattle.tables.specs.Rows.{rows_at};
 ghost use Rattle.control.specs.Serving.{Gives, are_of};
 ghost use Rattle.control.specs.Control.{create_permission};
-ghost use Rattle.tables.specs.PermitLaws.{StandsFor};
+ghost use Rattle.tables.specs.laws.Permit.{StandsFor};
 ghost use Rattle.control.specs.Peers.{peers_of, peers_with};
 
 use crate::owning::{error_of, own_allocation};
@@ -31,10 +31,10 @@ pub const MAX_PEERS: usize = MAX_PERMISSIONS + 1;
 fn are_of(family: Family, message: &Message<'_>) -> Result<bool, ErrorCode>
     ensures { result ≡ are_of family message.now }
 {
-    let tx = message.tx();
+    let transaction_id = message.transaction_id();
     let mut found = None;
     for value in message.values_of(XOR_PEER_ADDRESS) {
-        let Some(peer) = address_in(value, &tx) else {
+        let Some(peer) = address_in(value, &transaction_id) else {
             return Err(ErrorCode::BadRequest);
         };
         found = Some(found.unwrap_or(true) && peer.is_of_family(family));
@@ -64,10 +64,10 @@ fn distinct_peers(message: &Message<'_>) -> ArrayVec<Addr, MAX_PEERS>
     ensures same { StandsFor result.items (peers_of message.now) }
     ensures families { (f : Family) → are_of f message.now ≡ Ok true → list_all (is_of_family f) result.items ≡ true }
 {
-    let tx = message.tx();
+    let transaction_id = message.transaction_id();
     let mut peers = ArrayVec::new();
     for value in message.values_of(XOR_PEER_ADDRESS) {
-        if let Some(peer) = address_in(value, &tx) {
+        if let Some(peer) = address_in(value, &transaction_id) {
             add_peer(&mut peers, peer);
         }
     }
@@ -92,7 +92,7 @@ pub(crate) fn create_permission(
         × (tables.new.moment ≤ moment_of tables.old.moment now) }
     ensures slots { length tables.new.slots ≡ length tables.old.slots }
 {
-    tables.are_well_formed();
+    tables.law_are_well_formed();
     let allocation = own_allocation(tables, client, user, now)?;
     if !are_of(allocation.family, message)? {
         return Err(ErrorCode::PeerAddressFamilyMismatch);

@@ -10,7 +10,7 @@ use crate::unknown::MAX_UNKNOWN;
 
 /// States the lifetimes that are given, in seconds, the protocol number of UDP, how many types a reply lists, the room for
 /// a reply, and the greatest length of a realm, a name or a password, both in bytes.
-pub fn all_numbers()
+pub fn law_all_numbers()
     ensures shortest { MIN_LIFETIME ≡ 600 }
     ensures longest { MAX_LIFETIME ≡ 3600 }
     ensures udp { UDP ≡ 17 }

@@ -6,7 +6,7 @@ ghost use Rattle.control.specs.Control.{own_allocation, error_of};
 
 use attributes::Addr;
 use stun::registry::ErrorCode;
-use tables::{Allocation, Refused, Tables};
+use tables::{Allocation, TableError, Tables};
 
 /// Returns the allocation of a client, which must be the user's.
 ///
@@ -31,13 +31,13 @@ pub(crate) fn own_allocation(
 }
 
 /// Returns the error of a refused change.
-pub(crate) fn error_of(refused: Refused) -> ErrorCode
-    ensures { result ≡ error_of refused }
+pub(crate) fn error_of(error: TableError) -> ErrorCode
+    ensures { result ≡ error_of error }
 {
-    match refused {
-        Refused::Mismatch | Refused::NoAllocation => ErrorCode::AllocationMismatch,
-        Refused::Capacity => ErrorCode::InsufficientCapacity,
-        Refused::Conflict => ErrorCode::BadRequest,
-        Refused::Family => ErrorCode::PeerAddressFamilyMismatch,
+    match error {
+        TableError::Mismatch | TableError::NoAllocation => ErrorCode::AllocationMismatch,
+        TableError::Capacity => ErrorCode::InsufficientCapacity,
+        TableError::Conflict => ErrorCode::BadRequest,
+        TableError::Family => ErrorCode::PeerAddressFamilyMismatch,
     }
 }

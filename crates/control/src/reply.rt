@@ -159,13 +159,14 @@ fn sign_if(builder: &mut Builder<'_>, key: Option<Key>)
 fn write_grant(out: &mut [u8], reply: &Reply<'_>, grant: Grant) -> usize
     requires room { REPLY_BYTES ≤ length out.old }
     requires port { HasPort reply.now.config.now grant }
+    ensures some { 0 < result }
     ensures inside { result ≤ length out.new }
     ensures rest { drop result out.new ≡ drop result out.old }
     ensures bytes { take result out.new ≡ parts_bytes (reply_to reply.now.config.now reply.now.request reply.now.client
         reply.now.message.now (option_map key_bytes reply.now.key) (Ok grant)) }
 {
     let kind = reply.request.kind(Class::Success);
-    if begin(out, kind, &reply.message.tx()).is_err() {
+    if begin(out, kind, &reply.message.transaction_id()).is_err() {
         return 0;
     }
     let mut builder = Builder::resume(out);
@@ -178,13 +179,14 @@ fn write_grant(out: &mut [u8], reply: &Reply<'_>, grant: Grant) -> usize
 fn write_error(out: &mut [u8], reply: &Reply<'_>, error: ErrorCode) -> usize
     requires room { REPLY_BYTES ≤ length out.old }
     requires realm { length (string_bytes reply.now.config.now.realm) ≤ MAX_TEXT }
+    ensures some { 0 < result }
     ensures inside { result ≤ length out.new }
     ensures rest { drop result out.new ≡ drop result out.old }
     ensures bytes { take result out.new ≡ parts_bytes (reply_to reply.now.config.now reply.now.request reply.now.client
         reply.now.message.now (option_map key_bytes reply.now.key) (Err error)) }
 {
     let kind = reply.request.kind(Class::Error);
-    if begin(out, kind, &reply.message.tx()).is_err() {
+    if begin(out, kind, &reply.message.transaction_id()).is_err() {
         return 0;
     }
     let mut builder = Builder::resume(out);
@@ -203,6 +205,7 @@ pub(crate) fn write_reply(
     requires room { REPLY_BYTES ≤ length out.old }
     requires realm { length (string_bytes reply.now.config.now.realm) ≤ MAX_TEXT }
     requires port { IfOk decision (HasPort reply.now.config.now) }
+    ensures some { 0 < result }
     ensures inside { result ≤ length out.new }
     ensures rest { drop result out.new ≡ drop result out.old }
     ensures bytes { take result out.new ≡ parts_bytes (reply_to reply.now.config.now reply.now.request reply.now.client

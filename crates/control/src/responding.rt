@@ -1,6 +1,6 @@
 //! The answers to messages.
 
-ghost use Rattle.std.specs.Prelude.{◌≡◌, ◌≤◌, ◌+◌, None, Ok, Err, length, take, IfOk, IfErr, IsTrue, drop, string_bytes};
+ghost use Rattle.std.specs.Prelude.{◌≡◌, ◌≤◌, ◌<◌, ◌+◌, None, Ok, Err, length, take, IfOk, IfErr, IfSome, IsTrue, drop, string_bytes};
 ghost use Rattle.credentials.specs.Checks.{IsChecked, accounts_of, user_key};
 ghost use Rattle.credentials.specs.Keys.{key_bytes};
 ghost use Rattle.tables.specs.Moments.{moment_of};
@@ -9,7 +9,7 @@ ghost use Rattle.control.specs.Configs.{fault};
 ghost use Rattle.control.specs.Control.{decision_if_understood, refused_credentials};
 ghost use Rattle.control.specs.Serving.{Gives, HasSlotBelow};
 ghost use Rattle.tables.specs.Addresses.{is_ipv4};
-ghost use Rattle.control.specs.Responding.{IsCheckedAnswer, Responds};
+ghost use Rattle.control.specs.Responding.{IsCheckedAnswer, Responds, count_of, response_in};
 ghost use Rattle.control.specs.declared.config.TheConstants.{MAX_TEXT};
 ghost use Rattle.control.specs.declared.reply.TheConstants.{REPLY_BYTES};
 
@@ -21,6 +21,7 @@ use crate::create_permission::create_permission;
 use crate::refresh::refresh;
 use crate::reply::{Grant, Reply, write_reply};
 use crate::request::{Request, TurnRequest};
+use crate::response::{Response, Written, response_of};
 use crate::unknown::check_understood;
 use attributes::Addr;
 use credentials::{AuthError, Authenticated, authenticate};
@@ -96,23 +97,24 @@ fn check_credentials(config: &Config, message: &Message<'_>) -> Result<Authentic
     authenticate(message, &config.realm, &config.users, config.nonce.as_str())
 }
 
-/// Answers a request of TURN, and returns the length of the reply.
+/// Answers a request of TURN, and returns what was written.
 fn answer_user(
     tables: &mut Tables,
     config: &Config,
     request: TurnRequest,
     arrival: &Arrival<'_>,
     out: &mut [u8],
-) -> usize
+) -> Written
     requires room { REPLY_BYTES ≤ length out.old }
     requires ipv4 { IsTrue (is_ipv4 arrival.now.client) }
     requires realm { length (string_bytes config.now.realm) ≤ MAX_TEXT }
     requires ports { config.now.first_port + config.now.slots ≤ 0x10000 }
     requires slots { length tables.old.slots ≡ config.now.slots }
-    ensures inside { result ≤ length out.new }
-    ensures rest { drop result out.new ≡ drop result out.old }
+    ensures some { 0 < result.count }
+    ensures inside { result.count ≤ length out.new }
+    ensures rest { drop result.count out.new ≡ drop result.count out.old }
     ensures answer { IsCheckedAnswer config.now arrival.now.moment request arrival.now.client arrival.now.message.now
-        tables.old tables.new (take result out.new) }
+        tables.old tables.new (take result.count out.new) result.response }
     ensures moment { (tables.old.moment ≤ tables.new.moment)
         × (tables.new.moment ≤ moment_of tables.old.moment arrival.now.moment) }
     ensures slots { length tables.new.slots ≡ length tables.old.slots }
@@ -129,17 +131,20 @@ fn answer_user(
             let user = authenticated.user;
             let decision = serve(tables, config, request, user, arrival);
             let key = Some(authenticated.key);
-            write_reply(out, &Reply { key, ..unsigned }, decision)
+            Written {
+                count: write_reply(out, &Reply { key, ..unsigned }, decision),
+                response: response_of(decision),
+            }
         }
-        Err(error) => {
-            let decision = Err(refused_credentials(error));
-            write_reply(out, &unsigned, decision)
-        }
+        Err(error) => Written {
+            count: write_reply(out, &unsigned, Err(refused_credentials(error))),
+            response: Response::Unauthenticated(error),
+        },
     }
 }
 
 /// Answers a message of a client at a moment, in seconds: changes the tables, writes the reply over the first bytes of
-/// `out`, and returns its length, 0 where there is none. Requests of the methods Binding, Allocate, Refresh,
+/// `out`, and returns its length and what it says; `None` is no reply. Requests of the methods Binding, Allocate, Refresh,
 /// CreatePermission and ChannelBind are answered, and those of clients over IPv4 alone; nothing else changes anything. An
 /// error response changes no table.
 ///
@@ -152,22 +157,22 @@ pub fn respond(
     client: Addr,
     message: &Message<'_>,
     out: &mut [u8],
-) -> usize
+) -> Option<Written>
     requires room { REPLY_BYTES ≤ length out.old }
     requires config { fault config.now ≡ None }
     requires slots { length tables.old.slots ≡ config.now.slots }
-    ensures inside { result ≤ length out.new }
-    ensures rest { drop result out.new ≡ drop result out.old }
-    ensures responds { Responds config.now now client message.now tables.old tables.new (take result out.new) }
+    ensures some { IfSome result (λ w. 0 < w.count) }
+    ensures inside { count_of result ≤ length out.new }
+    ensures rest { drop (count_of result) out.new ≡ drop (count_of result) out.old }
+    ensures responds { Responds config.now now client message.now tables.old tables.new (take (count_of result) out.new)
+        (response_in result) }
     ensures moment { (tables.old.moment ≤ tables.new.moment)
         × (tables.new.moment ≤ moment_of tables.old.moment now) }
     ensures slots { length tables.new.slots ≡ length tables.old.slots }
 {
-    let Some(request) = Request::of(message) else {
-        return 0;
-    };
+    let request = Request::of(message)?;
     if !is_ipv4(&client) {
-        return 0;
+        return None;
     }
     match request {
         Request::Binding => {
@@ -178,7 +183,11 @@ pub fn respond(
                 message,
                 key: None,
             };
-            write_reply(out, &reply, binding(message))
+            let decision = binding(message);
+            Some(Written {
+                count: write_reply(out, &reply, decision),
+                response: response_of(decision),
+            })
         }
         Request::Turn(turn) => {
             let arrival = Arrival {
@@ -186,7 +195,7 @@ pub fn respond(
                 message,
                 moment: now,
             };
-            answer_user(tables, config, turn, &arrival, out)
+            Some(answer_user(tables, config, turn, &arrival, out))
         }
     }
 }

@@ -8,7 +8,7 @@ use attributes::{Addr, Family};
 use control::Config;
 use credentials::User;
 use std::alloc::{AllocError, Global};
-use tables::{FIRST_CHANNEL, MAX_ALLOCATIONS, MAX_CHANNELS, Refused, Tables};
+use tables::{FIRST_CHANNEL, MAX_ALLOCATIONS, MAX_CHANNELS, TableError, Tables};
 
 /// The moment of all requests, in seconds.
 pub const NOW: u64 = 1000;
@@ -71,7 +71,7 @@ pub fn config(alloc: Global) -> Result<Config, AllocError> {
 ///
 /// # Errors
 /// Where a row is refused.
-pub fn fill(tables: &mut Tables) -> Result<(), Refused> {
+pub fn fill(tables: &mut Tables) -> Result<(), TableError> {
     for last in 0..=u8::MAX {
         let slot = tables.allocate(NOW, client(last), 0, TX, Family::Ipv4, LIFETIME)?;
         for index in 0..MAX_CHANNELS {

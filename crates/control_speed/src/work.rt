@@ -6,9 +6,8 @@ ghost use Rattle.control.specs.Configs.{fault};
 use crate::filling::NOW;
 use crate::request::Request;
 use anyhow::{Context, Result, ensure};
-use control::{Config, REPLY_BYTES, respond};
+use control::{Config, REPLY_BYTES, Response, Written, respond};
 use credentials::hmac_sha1;
-use stun::registry::{Class, MessageType};
 use stun::{Message, read};
 use tables::Tables;
 
@@ -54,10 +53,15 @@ impl Work {
     }
 }
 
-/// Returns whether a reply of some length is a success.
-fn is_success(reply: &[u8; REPLY_BYTES], length: usize) -> bool {
-    let kind = u16::from_be_bytes([reply[0], reply[1]]);
-    length > 0 && MessageType::from_kind(kind).is_some_and(|found| found.class == Class::Success)
+/// Returns whether a response was written that grants its request.
+fn is_success(reply: Option<Written>) -> bool {
+    match reply {
+        Some(written) => match written.response {
+            Response::Granted(_) => true,
+            _ => false,
+        },
+        None => false,
+    }
 }
 
 /// Writes a request into a buffer, and returns it as it is read.
@@ -94,8 +98,8 @@ fn answer(tables: &mut Tables, config: &Config, request: Request, count: u64) ->
     let mut out = [0; REPLY_BYTES];
     let mut successes = 0;
     for _ in 0..count {
-        let length = respond(tables, config, NOW, request.client(), &message, &mut out);
-        if is_success(&out, length) {
+        let reply = respond(tables, config, NOW, request.client(), &message, &mut out);
+        if is_success(reply) {
             successes += 1;
         }
     }
@@ -109,7 +113,8 @@ fn hash(tables: &mut Tables, config: &Config, count: u64) -> Result<()> {
     let message = written(request, &mut buffer)?;
     check(tables, config)?;
     let mut out = [0; REPLY_BYTES];
-    let length = respond(tables, config, NOW, request.client(), &message, &mut out);
+    let reply = respond(tables, config, NOW, request.client(), &message, &mut out);
+    let length = reply.context("no reply")?.count;
     let reply = read(out.get(..length).context("no reply")?)?;
     let asked = message.before_integrity().context("no code")?;
     let replied = reply.before_integrity().context("no code")?;

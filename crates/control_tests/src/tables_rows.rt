@@ -10,7 +10,7 @@ use families::address;
 use std::alloc::{AllocError, Global};
 use std::fmt::Debug;
 use std::process::Abort;
-use tables::{Binding, Channel, FIRST_CHANNEL, LAST_CHANNEL, Refused, Tables, is_ipv4};
+use tables::{Binding, Channel, FIRST_CHANNEL, LAST_CHANNEL, TableError, Tables, is_ipv4};
 
 /// The first client, which gets slot 0.
 const CLIENT: Addr = Addr::V4 {
@@ -85,13 +85,15 @@ fn look_up(tables: &Tables, now: u64) -> Found {
 #[derive(Clone, Copy)]
 enum Step<'a> {
     /// The client, the user, the family and the lifetime of an allocation.
-    Allocate(u64, Addr, usize, Family, u32, Result<usize, Refused>),
+    Allocate(u64, Addr, usize, Family, u32, Result<usize, TableError>),
     /// The slot and the lifetime of a refresh.
-    Refresh(u64, usize, u32, Result<(), Refused>),
+    Refresh(u64, usize, u32, Result<(), TableError>),
     /// The addresses that are permitted at slot 0.
-    Permit(u64, &'a [Addr], Result<(), Refused>),
+    Permit(u64, &'a [Addr], Result<(), TableError>),
     /// The channel and the peer that are bound at slot 0.
-    Bind(u64, u16, Addr, Result<(), Refused>),
+    Bind(u64, u16, Addr, Result<(), TableError>),
+    /// The other index of each user, if it has one.
+    ReplaceUsers(&'a [Option<usize>]),
     /// What is found.
     Find(u64, Found),
     /// The peer of a channel of slot 0.
@@ -185,6 +187,7 @@ fn check_step(rt: &impl Abort, tables: &mut Tables, index: usize, step: Step<'_>
             assert!(rt; (FIRST_CHANNEL..=LAST_CHANNEL).contains(&number));
             expect(rt, index, tables.bind(now, 0, number, peer), result);
         }
+        Step::ReplaceUsers(indices) => tables.replace_users(indices),
         Step::Find(now, found) => expect(rt, index, look_up(tables, now), found),
         Step::PeerOf(now, number, result) => {
             expect(rt, index, tables.peer_of(0, number, now), result);
@@ -269,7 +272,7 @@ fn a_refreshed_allocation_keeps_its_rows(rt: &impl Abort, alloc: Global) -> Resu
         Step::Find(4699, ended),
         Step::Find(4700, NOTHING),
         // what is refused changes nothing, whatever its moment
-        Step::Refresh(5000, 0, 600, Err(Refused::NoAllocation)),
+        Step::Refresh(5000, 0, 600, Err(TableError::NoAllocation)),
         Step::Find(1299, kept),
         // a refresh at a smaller moment counts from the greatest one
         Step::Refresh(4699, 0, 600, Ok(())),
@@ -305,17 +308,60 @@ fn the_lowest_free_slot_is_taken(rt: &impl Abort, alloc: Global) -> Result<(), A
         Step::Allocate(1000, OTHER_CLIENT, 0, Family::Ipv4, 600, Ok(0)),
         Step::Allocate(1000, CLIENT, 0, Family::Ipv4, 700, Ok(1)),
         // the client's allocation is refused before the slots are looked at
-        Step::Allocate(1000, CLIENT, 0, Family::Ipv4, 700, Err(Refused::Mismatch)),
+        Step::Allocate(
+            1000,
+            CLIENT,
+            0,
+            Family::Ipv4,
+            700,
+            Err(TableError::Mismatch),
+        ),
         Step::Allocate(
             1599,
             THIRD_CLIENT,
             0,
             Family::Ipv4,
             600,
-            Err(Refused::Capacity),
+            Err(TableError::Capacity),
         ),
         Step::Allocate(1600, THIRD_CLIENT, 0, Family::Ipv4, 600, Ok(0)),
-        Step::Refresh(1600, 2, 600, Err(Refused::NoAllocation)),
+        Step::Refresh(1600, 2, 600, Err(TableError::NoAllocation)),
+    ];
+    check_steps(rt, alloc, 2, &steps)
+}
+
+fn rows_go_on_or_end_by_their_user(rt: &impl Abort, alloc: Global) -> Result<(), AllocError> {
+    let held = Found {
+        client: Some((0, 1600)),
+        slot: Some((2, 600)),
+        peer: Some(PEER),
+        channel: Some(NUMBER),
+        is_permitted: true,
+    };
+    let of_another_index = Found {
+        slot: Some((0, 600)),
+        ..held
+    };
+    let steps = [
+        Step::Allocate(1000, CLIENT, 2, Family::Ipv4, 600, Ok(0)),
+        Step::Bind(1000, NUMBER, PEER, Ok(())),
+        Step::Allocate(1000, OTHER_CLIENT, 0, Family::Ipv4, 700, Ok(1)),
+        Step::ReplaceUsers(&[Some(0), Some(1), Some(2)]),
+        Step::Find(1000, held),
+        // the first user is gone, and the others are the second and the first
+        Step::ReplaceUsers(&[None, Some(1), Some(0)]),
+        Step::Find(1299, of_another_index),
+        Step::Refresh(1000, 1, 600, Err(TableError::NoAllocation)),
+        // the client whose allocation has ended has another one
+        Step::Allocate(1000, OTHER_CLIENT, 1, Family::Ipv4, 600, Ok(1)),
+        // a user beyond the end is gone
+        Step::ReplaceUsers(&[Some(0)]),
+        Step::Find(1000, of_another_index),
+        Step::Refresh(1000, 1, 600, Err(TableError::NoAllocation)),
+        Step::ReplaceUsers(&[]),
+        Step::Find(1000, NOTHING),
+        Step::Allocate(1000, CLIENT, 0, Family::Ipv4, 600, Ok(0)),
+        Step::Channels(1000, &[]),
     ];
     check_steps(rt, alloc, 2, &steps)
 }
@@ -360,12 +406,12 @@ fn a_channel_and_a_peer_belong_together(rt: &impl Abort, alloc: Global) -> Resul
         ..held
     };
     let steps = [
-        Step::Bind(1000, NUMBER, PEER, Err(Refused::NoAllocation)),
+        Step::Bind(1000, NUMBER, PEER, Err(TableError::NoAllocation)),
         Step::Allocate(1000, CLIENT, 0, Family::Ipv4, 3600, Ok(0)),
         Step::Bind(1000, NUMBER, PEER, Ok(())),
-        Step::Bind(1599, NUMBER, peer(7, 5001), Err(Refused::Conflict)),
-        Step::Bind(1599, NUMBER, peer(8, 5000), Err(Refused::Conflict)),
-        Step::Bind(1599, 0x4002, PEER, Err(Refused::Conflict)),
+        Step::Bind(1599, NUMBER, peer(7, 5001), Err(TableError::Conflict)),
+        Step::Bind(1599, NUMBER, peer(8, 5000), Err(TableError::Conflict)),
+        Step::Bind(1599, 0x4002, PEER, Err(TableError::Conflict)),
         Step::Bind(1599, 0x4002, peer(7, 5001), Ok(())),
         // the refused ones changed nothing, and the binding ends at 1600
         Step::Find(1599, bound),
@@ -409,15 +455,15 @@ fn only_distinct_addresses_that_count_fill_capacity(
     let (front, last) = addresses.split_at(64);
     let (none, _) = addresses.split_at(0);
     let steps = [
-        Step::Permit(1000, &addresses, Err(Refused::NoAllocation)),
+        Step::Permit(1000, &addresses, Err(TableError::NoAllocation)),
         Step::Allocate(1000, CLIENT, 0, Family::Ipv4, 3600, Ok(0)),
         // all or none
-        Step::Permit(1000, &addresses, Err(Refused::Capacity)),
+        Step::Permit(1000, &addresses, Err(TableError::Capacity)),
         Step::IsPermitted(1000, peer(0, 0), false),
         Step::Permit(1000, front, Ok(())),
         Step::Permit(1299, front, Ok(())),
-        Step::Permit(1299, last, Err(Refused::Capacity)),
-        Step::Bind(1299, NUMBER, peer(64, 1), Err(Refused::Capacity)),
+        Step::Permit(1299, last, Err(TableError::Capacity)),
+        Step::Bind(1299, NUMBER, peer(64, 1), Err(TableError::Capacity)),
         // of an address, the port doesn't count
         Step::Permit(1299, &TWICE, Ok(())),
         Step::Permit(1299, none, Ok(())),
@@ -436,7 +482,7 @@ fn ended_permissions_make_room(rt: &impl Abort, alloc: Global) -> Result<(), All
     let steps = [
         Step::Allocate(1000, CLIENT, 0, Family::Ipv4, 3600, Ok(0)),
         Step::Permit(1000, front, Ok(())),
-        Step::Permit(1299, last, Err(Refused::Capacity)),
+        Step::Permit(1299, last, Err(TableError::Capacity)),
         Step::Permit(1300, last, Ok(())),
         Step::Permissions(1300, &[(peer(64, 0), 1600)]),
     ];
@@ -460,7 +506,7 @@ fn what_is_refused_later_is_there_before(rt: &impl Abort, alloc: Global) -> Resu
         Step::Allocate(1000, CLIENT, 0, Family::Ipv4, 3600, Ok(0)),
         Step::Permit(1000, front, Ok(())),
         // at 2000 all permissions have ended, and 65 are too many all the same
-        Step::Permit(2000, &addresses, Err(Refused::Capacity)),
+        Step::Permit(2000, &addresses, Err(TableError::Capacity)),
         Step::IsPermitted(1200, peer(0, 0), true),
         Step::IsPermitted(1200, peer(63, 0), true),
         Step::Permissions(1200, &all),
@@ -497,9 +543,9 @@ fn channels_fill_capacity(rt: &impl Abort, alloc: Global) -> Result<(), AllocErr
         assert_eq!(rt; bound, Ok(()), "channel {i}");
     }
     let full = tables.bind(1000, 0, 0x4040, peer(7, 5064));
-    assert_eq!(rt; full, Err(Refused::Capacity));
+    assert_eq!(rt; full, Err(TableError::Capacity));
     let wrong = tables.bind(1000, 0, 0x4040, address(Family::Ipv6, 7, 5064));
-    assert_eq!(rt; wrong, Err(Refused::Family));
+    assert_eq!(rt; wrong, Err(TableError::Family));
     // one that is bound is renewed, and at 1600 the others have ended
     assert_eq!(rt; tables.bind(1100, 0, 0x4000, peer(7, 5000)), Ok(()));
     assert_eq!(rt; tables.channels(0, 1599).len(), 64);
@@ -517,7 +563,7 @@ fn slots_fill_capacity(rt: &impl Abort, alloc: Global) -> Result<(), AllocError>
         assert_eq!(rt; slot, Ok(usize::from(i)), "client {i}");
     }
     let full = tables.allocate(1000, peer(2, 4256), 0, TX, Family::Ipv4, 600);
-    assert_eq!(rt; full, Err(Refused::Capacity));
+    assert_eq!(rt; full, Err(TableError::Capacity));
     // the slot that is freed is taken
     assert_eq!(rt; tables.refresh(1000, 200, 0), Ok(()));
     assert_eq!(rt;
@@ -536,6 +582,7 @@ fn rows_end_as_the_stories_say(rt: HostRuntime) -> Result<(), AllocError> {
     a_refreshed_allocation_keeps_its_rows(&rt, alloc)?;
     a_deleted_allocation_takes_its_rows_along(&rt, alloc)?;
     the_lowest_free_slot_is_taken(&rt, alloc)?;
+    rows_go_on_or_end_by_their_user(&rt, alloc)?;
     a_client_comes_back_at_another_slot(&rt, alloc)?;
     a_channel_and_a_peer_belong_together(&rt, alloc)?;
     only_distinct_addresses_that_count_fill_capacity(&rt, alloc)?;

@@ -188,13 +188,13 @@ pub fn check(
 }
 
 /// States that a result of the ordered check is the one that the function of a message gives.
-pub fn results_are_checked()
+pub fn law_results_are_checked()
     ensures { (p : Parts) (realm : List ℕ) (users : Accounts) (nonce : List ℕ) (r : Result ℕ AuthError)
         → IsChecked p realm users nonce r → r ≡ check_result p realm users nonce }
 {}
 
 /// States that the ordered check has at most one result for a message.
-pub fn results_are_unique()
+pub fn law_results_are_unique()
     ensures { (p : Parts) (realm : List ℕ) (users : Accounts) (nonce : List ℕ) (a b : Result ℕ AuthError)
         → IsChecked p realm users nonce a → IsChecked p realm users nonce b → a ≡ b }
 {}

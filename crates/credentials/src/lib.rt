@@ -9,8 +9,11 @@ mod scanning;
 mod signing;
 
 pub use checking::{
-    AuthError, Authenticated, User, authenticate, check, results_are_checked, results_are_unique,
+    AuthError, Authenticated, User, authenticate, check, law_results_are_checked,
+    law_results_are_unique,
 };
 pub use hmac::hmac_sha1;
 pub use key::Key;
-pub use signing::{push_integrity, sign, what_is_signed_is_accepted, what_is_signed_is_right};
+pub use signing::{
+    law_what_is_signed_is_accepted, law_what_is_signed_is_right, push_integrity, sign,
+};

@@ -63,14 +63,14 @@ pub fn push_integrity(builder: &mut Builder<'_>, key: &Key)
 
 /// States that a message without MESSAGE-INTEGRITY, signed under a key, has the code that
 /// [`check`](crate::check) requires under that key.
-pub fn what_is_signed_is_right()
+pub fn law_what_is_signed_is_right()
     ensures { (key : List ℕ) (p : Parts) → before_first p.attributes ≡ None
         → code_under key (with_integrity key p) ≡ first_value (with_integrity key p) message_integrity }
 {}
 
 /// States that a message which lacks only its code, signed under the key of the first user of its name, is
 /// accepted: [`check`](crate::check) returns the index of that user.
-pub fn what_is_signed_is_accepted()
+pub fn law_what_is_signed_is_accepted()
     ensures { (p : Parts) (name realm nonce : List ℕ) (users : Accounts) (index : ℕ)
         → IsUnsigned p nonce name → IsUser users name index
         → IsChecked (with_integrity (user_key realm users index) p) realm users nonce (Ok index) }

@@ -6,7 +6,7 @@ use Rattle.std.specs.Str.Parse.{ParsesUnsigned}
 use Rattle.std.proofs.lemmas.Fmt.{IsAscii-decimal, parse-decimal}
 use Rattle.std.proofs.lemmas.Str.{IsUtf8-from_ascii}
 use Rattle.events.specs.Reading.{decimal_in}
-use Rattle.events.specs.ReadingLaws.{decimal_in-decimal, decimal_in-is}
+use Rattle.events.specs.laws.Reading.{decimal_in-decimal, decimal_in-is}
 
 pub is_number : (text : List ℕ) (n : ℕ) → n < 2 ^ 64 → text ≡ decimal n → Some n ≡ decimal_in (2 ^ 64) text
 is_number text n small e = sym (ap (decimal_in (2 ^ 64)) e ∙ decimal_in-decimal (2 ^ 64) n small small)

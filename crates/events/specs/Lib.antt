@@ -4,4 +4,4 @@ pub mod Events
 pub mod Lines
 pub mod Parsing
 pub mod Reading
-pub mod ReadingLaws
+pub mod laws

@@ -189,9 +189,9 @@ fn peer(text: &[u8], slots: usize) -> Option<(Source, &[u8])>
 fn transaction_id(text: &[u8]) -> Option<[u8; 12]>
     ensures { result ≡ digits_in 12 text.now }
 {
-    let mut tx = [0; 12];
-    if read_digits(text, &mut tx) {
-        Some(tx)
+    let mut id = [0; 12];
+    if read_digits(text, &mut id) {
+        Some(id)
     } else {
         None
     }
@@ -221,12 +221,16 @@ fn datagram<'a>(side: Side, text: &[u8], slots: usize, room: &mut [u8]) -> Optio
     ensures few { IfSome result FitsRoom }
 {
     let (now, rest) = split_at(text, b' ')?;
-    let (tx, rest) = split_at(rest, b' ')?;
+    let (id, rest) = split_at(rest, b' ')?;
     let now = number(now)?;
-    let tx = transaction_id(tx)?;
+    let transaction_id = transaction_id(id)?;
     let (from, rest) = source(side, rest, slots)?;
     let n = content(rest, room)?;
-    let meta = Meta { now, tx, from };
+    let meta = Meta {
+        now,
+        transaction_id,
+        from,
+    };
     Some(Parsed::Datagram { meta, n })
 }
 

@@ -2,14 +2,14 @@
 use Rattle.std.proofs.Common.{◌≡◌, ℕ, ◌+◌, List, Result, Ok, Err, inl, inr, subst, arith}
 use Rattle.std.specs.Prelude.{IfErr}
 use Rattle.insn.specs.declared.instruction.Insn.{Insn}
-use Rattle.interval.specs.IntervalLaws.{interval_precise}
+use Rattle.interval.specs.laws.Interval.{interval_precise}
 use Rattle.interval.specs.Intervals.{LiesBetween, interval_ops}
 use Rattle.interval.specs.declared.interval.Interval.{Interval}
 use Rattle.verifier.specs.Refusing.{IsVerdict, CountsSteps, IfBudget}
 use Rattle.verifier.specs.SliceEnds.{MayRefuseStart, EndsIn}
 use Rattle.verifier.specs.Slices.{Walking}
 use Rattle.verifier.specs.Units.{IsUnit}
-use Rattle.verifier.specs.VerdictLaws.{real_verdict}
+use Rattle.verifier.specs.laws.Verdict.{real_verdict}
 use Rattle.verifier.specs.Walks.{EndsWalk}
 use Rattle.verifier.specs.declared.kept.Remains.{Remains}
 use Rattle.verifier.specs.declared.refusal.Refusal.{Refusal}

@@ -70,18 +70,18 @@ fn fault_note(
     reason: Reason,
 ) -> Result<String, AllocError> {
     let distance = i64::from(distance(insn).unwrap_or(0));
-    let goal = i64::try_from(slot)
+    let to = i64::try_from(slot)
         .unwrap_or(0)
         .saturating_add(distance)
         .saturating_add(1);
     let slots = slots_of(program);
     match reason {
-        Reason::JumpBackward => format!(in alloc; "refused {reason}: leads back to slot {goal}"),
+        Reason::JumpBackward => format!(in alloc; "refused {reason}: leads back to slot {to}"),
         Reason::JumpOutside => {
-            format!(in alloc; "refused {reason}: leads to slot {goal}, of {slots} slots")
+            format!(in alloc; "refused {reason}: leads to slot {to}, of {slots} slots")
         }
         Reason::JumpIntoWide => {
-            format!(in alloc; "refused {reason}: leads to slot {goal}, the second one of lddw")
+            format!(in alloc; "refused {reason}: leads to slot {to}, the second one of lddw")
         }
         _ => format!(in alloc; "refused {reason}: the last instruction is no exit"),
     }

@@ -1,6 +1,5 @@
 -- Internal. The modules of this folder.
 pub mod Records
 pub mod Nothing
-pub mod NothingLaws
+pub mod laws
 pub mod LookUps
-pub mod LawfulLaws

@@ -3,7 +3,7 @@
 ghost use Rattle.std.specs.Prelude.{◌≡◌, ℕ, List};
 ghost use Rattle.semantics.specs.Runs.{IsLawful};
 ghost use Rattle.helpers.specs.Nothing.{empty_answer};
-ghost use Rattle.helpers.specs.NothingLaws.{nothing_is_lawful};
+ghost use Rattle.helpers.specs.laws.Nothing.{nothing_is_lawful};
 
 /// The helpers 1 to 3 and 6 to 8, which look up channels and permissions in the slot of a run.
 /// See docs/DECISIONS.md, "Lawful helpers".

@@ -3,7 +3,7 @@
 ghost use Rattle.std.specs.Prelude.{◌≡◌};
 ghost use Rattle.semantics.specs.Runs.{IsLawful};
 ghost use Rattle.tables.specs.Rows.{rows_at};
-ghost use Rattle.helpers.specs.LawfulLaws.{IsLawful-prop};
+ghost use Rattle.helpers.specs.laws.Lawful.{IsLawful-prop};
 ghost use Rattle.helpers.specs.LookUps.{look_up_answer};
 
 use crate::answers::Helpers;
@@ -38,7 +38,7 @@ impl<'a> Lookup<'a> {
         ensures moment { result.moment ≡ moment }
         ensures slot { result.slot ≡ slot }
     {
-        tables.are_well_formed();
+        tables.law_are_well_formed();
         Lookup {
             tables,
             moment,
@@ -56,7 +56,7 @@ impl<'a> Lookup<'a> {
     ) -> (u64, [u8; WIDE_RECORD_BYTES])
         ensures { result ≡ peer_answer form (peer_of slot number (rows_at self.now.moment self.now.tables.now)) }
     {
-        self.tables.are_well_formed();
+        self.tables.law_are_well_formed();
         let Ok(number) = u16::try_from(number) else {
             return NOTHING;
         };

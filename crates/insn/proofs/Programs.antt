@@ -31,8 +31,8 @@ use Rattle.insn.specs.declared.instruction.Operand.{Operand}
 use Rattle.insn.specs.declared.instruction.Operand.TheVariants as operand
 use Rattle.insn.specs.declared.instruction.Insn.{Insn}
 use Rattle.insn.specs.declared.instruction.Insn.TheVariants.{Alu, Mov, Neg, SignExtend, Swap, Jump, LongJump, JumpIf, Load, LoadSigned, Store, LoadImm, Call, Exit}
-use Rattle.insn.specs.declared.refusal.SlotFault.{SlotFault}
-use Rattle.insn.specs.declared.refusal.SlotFault.TheVariants as fault
+use Rattle.insn.specs.declared.refusal.SlotError.{SlotError}
+use Rattle.insn.specs.declared.refusal.SlotError.TheVariants as fault
 use Rattle.insn.specs.declared.refusal.DecodeError.{DecodeError}
 use Rattle.insn.specs.declared.refusal.DecodeError.TheVariants as error
 use Rattle.insn.proofs.Unique.{number_small, byte_small, byte_of-injective, are_of, form_is}
@@ -118,7 +118,7 @@ registers_of i =
 nibbles : (n m b : ℕ) → n ≤ 10 → m ≤ 10 → b ≡ n + 16 * m → (b % 16 ≤ 10) × (b / 16 ≤ 10)
 nibbles n m b p q e = (omega arith, omega arith)
 
-pub fault_is_no_encoding : (f : SlotFault) (bytes rest : List ℕ) (i : Insn) → HasFault bytes f → Fits i → bytes ≡ encoding i ++ rest → ⊥
+pub fault_is_no_encoding : (f : SlotError) (bytes rest : List ℕ) (i : Insn) → HasFault bytes f → Fits i → bytes ≡ encoding i ++ rest → ⊥
 fault_is_no_encoding fault.Opcode bytes rest i faulty fits e =
     let a = are_of i in
     faulty (a.opcode, a.opcode_is ∙ sym (ap (λ (b : List ℕ). slice_index b 0) e))
@@ -131,7 +131,7 @@ fault_is_no_encoding fault.WideCut bytes rest i faulty fits e =
     omega (arith, faulty.2, ap length e, length-append (encoding i) rest, length-wide i fits opcode_is)
 fault_is_no_encoding fault.UnusedField bytes rest i faulty fits e = faulty.3 i rest fits e
 
-fault_unique : (bytes : List ℕ) (f g : SlotFault) → HasFault bytes f → HasFault bytes g → f ≡ g
+fault_unique : (bytes : List ℕ) (f g : SlotError) → HasFault bytes f → HasFault bytes g → f ≡ g
 fault_unique bytes fault.Opcode fault.Opcode p q = refl
 fault_unique bytes fault.Opcode fault.Register p q = absurd (p q.0)
 fault_unique bytes fault.Opcode fault.WideCut p q = absurd (p (opcode.LoadImm, sym q.0))
@@ -178,7 +178,7 @@ encodings-injective (i ∷ p) (j ∷ q) all other e =
     λ k. first.0 k ∷ others k
 
 -- two first faults are at one place
-faults_meet : (p q : List Insn) (r s : List ℕ) (f g : SlotFault) → AllFit p → AllFit q → HasFault r f → HasFault s g → encodings p ++ r ≡ encodings q ++ s → (slot_count p ≡ slot_count q) × (r ≡ s)
+faults_meet : (p q : List Insn) (r s : List ℕ) (f g : SlotError) → AllFit p → AllFit q → HasFault r f → HasFault s g → encodings p ++ r ≡ encodings q ++ s → (slot_count p ≡ slot_count q) × (r ≡ s)
 faults_meet [] [] r s f g all other hf hg e = (refl, e)
 faults_meet [] (j ∷ q) r s f g all other hf hg e = absurd (fault_is_no_encoding f r (encodings q ++ s) j hf other.0 (e ∙ append_assoc (encoding j) (encodings q) s))
 faults_meet (i ∷ p) [] r s f g all other hf hg e = absurd (fault_is_no_encoding g s (encodings p ++ r) i hg all.0 (sym e ∙ append_assoc (encoding i) (encodings p) r))
@@ -187,7 +187,7 @@ faults_meet (i ∷ p) (j ∷ q) r s f g all other hf hg e =
     let others = faults_meet p q r s f g all.1 other.1 hf hg first.1 in
     ((λ k. slots_of (first.0 k) + others.0 k), others.1)
 
-first_fault_unique : (bytes : List ℕ) (n m : ℕ) (f g : SlotFault) → FirstFault bytes n f → FirstFault bytes m g → refusal_at f n ≡ refusal_at g m
+first_fault_unique : (bytes : List ℕ) (n m : ℕ) (f g : SlotError) → FirstFault bytes n f → FirstFault bytes m g → refusal_at f n ≡ refusal_at g m
 first_fault_unique bytes n m f g p q =
     let met = faults_meet p.front q.front p.rest q.rest f g p.fit q.fit p.faulty q.faulty (sym p.parts ∙ q.parts) in
     let slots : n ≡ m = sym p.slots ∙ met.0 ∙ q.slots in
@@ -195,7 +195,7 @@ first_fault_unique bytes n m f g p q =
     λ k. refusal_at (faults k) (slots k)
 
 -- bytes with a first fault are no program
-first_fault_is_no_program : (p q : List Insn) (r : List ℕ) (f : SlotFault) → AllFit p → AllFit q → HasFault r f → 0 < length r → encodings p ++ r ≡ encodings q → ⊥
+first_fault_is_no_program : (p q : List Insn) (r : List ℕ) (f : SlotError) → AllFit p → AllFit q → HasFault r f → 0 < length r → encodings p ++ r ≡ encodings q → ⊥
 first_fault_is_no_program [] [] r f all other hf more e = omega (arith, ap length e)
 first_fault_is_no_program [] (j ∷ q) r f all other hf more e = fault_is_no_encoding f r (encodings q) j hf other.0 e
 first_fault_is_no_program (i ∷ p) [] r f all other hf more e = omega (arith, ap length e, length-append (encoding i ++ encodings p) r, length-append (encoding i) (encodings p))
@@ -210,7 +210,7 @@ data Shape (bytes : List ℕ) (e : DecodeError) : Type 0 where
   empty : e ≡ error.Empty → length bytes ≡ 0 → Shape bytes e
   not_eights : e ≡ error.NotEights → (length bytes % 8 ≡ 0 → ⊥) → Shape bytes e
   too_long : e ≡ error.TooLong → length bytes % 8 ≡ 0 → 8 * 4096 < length bytes → Shape bytes e
-  faulty : (n : ℕ) (f : SlotFault) → e ≡ refusal_at f n → IsWhole bytes → FirstFault bytes n f → Shape bytes e
+  faulty : (n : ℕ) (f : SlotError) → e ≡ refusal_at f n → IsWhole bytes → FirstFault bytes n f → Shape bytes e
 
 shape_of : (bytes : List ℕ) (e : DecodeError) → IsRefused bytes e → Shape bytes e
 shape_of bytes error.Empty h = empty refl h
@@ -259,7 +259,7 @@ shape_is_no_program bytes e code (faulty n f a p q) encodes =
 pub refused_is_no_program : (bytes : List ℕ) (e : DecodeError) (code : List Insn) → IsRefused bytes e → Encodes code bytes → ⊥
 refused_is_no_program bytes e code refused encodes = shape_is_no_program bytes e code (shape_of bytes e refused) encodes
 
-at_fault : (bytes : List ℕ) (f : SlotFault) (n : ℕ) → IsWhole bytes → FirstFault bytes n f → IsRefused bytes (refusal_at f n)
+at_fault : (bytes : List ℕ) (f : SlotError) (n : ℕ) → IsWhole bytes → FirstFault bytes n f → IsRefused bytes (refusal_at f n)
 at_fault bytes fault.Opcode n whole first = (whole, first)
 at_fault bytes fault.Register n whole first = (whole, first)
 at_fault bytes fault.WideCut n whole first = (whole, first)
@@ -316,7 +316,7 @@ module _ (bytes rest : List ℕ) (f : Fields) (long : 8 ≤ length bytes) (room 
   longer = omega (arith, ap length rest_is, length-drop 8 bytes)
 
   -- a fault of opcode and registers is the fault of the bytes
-  pub head_fault : (e : SlotFault) → LacksHead f e → HasFault bytes e
+  pub head_fault : (e : SlotError) → LacksHead f e → HasFault bytes e
   head_fault fault.Opcode lacks = λ is. lacks (is.0, is.1 ∙ sym opcode_here)
   head_fault fault.Register lacks = ((lacks.0.0, lacks.0.1 ∙ opcode_here), λ h. lacks.1 (halves_of f.dst f.src (slice_index bytes 1) room.dst byte_here h.0 h.1))
   head_fault fault.WideCut lacks = absurd lacks
@@ -340,7 +340,7 @@ module _ (bytes rest : List ℕ) (f : Fields) (long : 8 ≤ length bytes) (room 
         record { fits = fits; fields = sym both.0; other = other; second = both.1 }
 
     -- and so is a fault of the rest
-    pub form_fault : (e : SlotFault) → LacksForm h.opcode f rest e → HasFault bytes e
+    pub form_fault : (e : SlotError) → LacksForm h.opcode f rest e → HasFault bytes e
     form_fault fault.Opcode lacks = absurd lacks
     form_fault fault.Register lacks = absurd lacks
     form_fault fault.WideCut lacks = (sym opcode_here ∙ sym head.opcode ∙ ap byte_of lacks.0, has_registers, omega (arith, longer, lacks.1))
@@ -354,11 +354,11 @@ module _ (bytes rest : List ℕ) (f : Fields) (long : 8 ≤ length bytes) (room 
       (form.fits, ap (λ (n : ℕ). take n bytes) (sym count) ∙ ap (take (length (encoding i))) all ∙ take-append_seam (encoding i) form.other, omega (arith, count, ap length all, length-append (encoding i) form.other))
 
   -- in the answers of the reader of one slot
-  pub refused_head : (r : Result Head SlotFault) → IfErr r (LacksHead f) → IfErr r (HasFault bytes)
+  pub refused_head : (r : Result Head SlotError) → IfErr r (LacksHead f) → IfErr r (HasFault bytes)
   refused_head (Ok h) lacks = tt
   refused_head (Err e) lacks = head_fault e lacks
 
-  pub refused_slot : (h : Head) → HasHead f h → (r : Result Insn SlotFault) → IfErr r (LacksForm h.opcode f rest) → IfErr r (HasFault bytes)
+  pub refused_slot : (h : Head) → HasHead f h → (r : Result Insn SlotError) → IfErr r (LacksForm h.opcode f rest) → IfErr r (HasFault bytes)
   refused_slot h head (Ok i) lacks = tt
   refused_slot h head (Err e) lacks = form_fault h head e lacks
 
@@ -386,7 +386,7 @@ HasRead-push bytes code slot rest after i read fits is after_is long = record {
 }
 
 -- the loop stops at a fault
-pub HasRead-fault : (bytes : List ℕ) (code : List Insn) (slot : ℕ) (rest : List ℕ) (f : SlotFault) → HasRead bytes code slot rest → 0 < length rest → HasFault rest f → IsFaulty bytes (refusal_at f slot)
+pub HasRead-fault : (bytes : List ℕ) (code : List Insn) (slot : ℕ) (rest : List ℕ) (f : SlotError) → HasRead bytes code slot rest → 0 < length rest → HasFault rest f → IsFaulty bytes (refusal_at f slot)
 HasRead-fault bytes code slot rest f read more fault =
     (slot, f, refl, record { front = code; rest = rest; fit = read.fit; slots = read.slots; parts = read.parts; more = more; faulty = fault })
 

@@ -26,8 +26,8 @@ use Rattle.insn.specs.declared.instruction.Operand.TheVariants as operand
 use Rattle.insn.specs.declared.instruction.Insn.{Insn}
 use Rattle.insn.specs.declared.instruction.Insn.TheVariants.{Alu, Mov, Neg, SignExtend, Swap, Jump, LongJump, JumpIf, Load, LoadSigned, Store, LoadImm, Call, Exit}
 use Rattle.insn.specs.declared.decoding.Head.{Head}
-use Rattle.insn.specs.declared.refusal.SlotFault.{SlotFault}
-use Rattle.insn.specs.declared.refusal.SlotFault.TheVariants as fault
+use Rattle.insn.specs.declared.refusal.SlotError.{SlotError}
+use Rattle.insn.specs.declared.refusal.SlotError.TheVariants as fault
 
 abbrev pub with_source : Source → Reg → ℤ → Operand
 with_source source.Reg src imm = operand.Reg src
@@ -95,7 +95,7 @@ pub record HasHead (f : Fields) (h : Head) : Type 0 where
   pub src : number_of h.src ≡ f.src
 
 -- the first fault of the opcode and the registers of a slot
-abbrev pub LacksHead : Fields → SlotFault → Type 0
+abbrev pub LacksHead : Fields → SlotError → Type 0
 LacksHead f fault.Opcode = IsOpcode f.opcode → ⊥
 LacksHead f fault.Register = IsOpcode f.opcode × ((f.dst ≤ 10) × (f.src ≤ 10) → ⊥)
 LacksHead f fault.WideCut = ⊥
@@ -118,7 +118,7 @@ pub record IsForm (i : Insn) (f : Fields) (rest : List ℕ) : Type 0 where
   pub second : rest ≡ optional_bytes (second_of i) ++ other
 
 -- the fault of fields whose opcode and registers are good
-abbrev pub LacksForm : Opcode → Fields → List ℕ → SlotFault → Type 0
+abbrev pub LacksForm : Opcode → Fields → List ℕ → SlotError → Type 0
 LacksForm o f rest fault.Opcode = ⊥
 LacksForm o f rest fault.Register = ⊥
 LacksForm o f rest fault.WideCut = (o ≡ opcode.LoadImm) × (length rest < 8)

@@ -8,6 +8,6 @@ pub mod Spelling
 pub mod Refusal
 pub mod Forms
 pub mod Words
-pub mod WordLaws
+pub mod laws
 pub use Rattle.byteorder.specs.Endian
 pub use Rattle.byteorder.specs.Numbers

@@ -5,8 +5,8 @@ use Rattle.insn.specs.declared.opcode.Opcode.TheVariants.{LoadImm}
 use Rattle.insn.specs.Encoding.{encoding, encodings, slot_count, Fits, AllFit}
 use Rattle.insn.specs.declared.decoding.TheConstants.{MAX_SLOTS}
 use Rattle.insn.specs.declared.instruction.Insn.{Insn}
-use Rattle.insn.specs.declared.refusal.SlotFault.{SlotFault}
-use Rattle.insn.specs.declared.refusal.SlotFault.TheVariants as fault
+use Rattle.insn.specs.declared.refusal.SlotError.{SlotError}
+use Rattle.insn.specs.declared.refusal.SlotError.TheVariants as fault
 use Rattle.insn.specs.declared.refusal.DecodeError.{DecodeError}
 use Rattle.insn.specs.declared.refusal.DecodeError.TheVariants.{Empty, NotEights, TooLong, Opcode, Register, UnusedField, WideCut, Memory}
 
@@ -19,7 +19,7 @@ abbrev pub IsWide : List ℕ → Type 0
 IsWide bytes = slice_index bytes 0 ≡ byte_of LoadImm
 
 -- the fault of the instruction that begins the bytes: each one where none before it holds
-abbrev pub HasFault : List ℕ → SlotFault → Type 0
+abbrev pub HasFault : List ℕ → SlotError → Type 0
 HasFault bytes fault.Opcode = IsOpcode (slice_index bytes 0) → ⊥
 HasFault bytes fault.Register = IsOpcode (slice_index bytes 0) × (HasRegisters bytes → ⊥)
 HasFault bytes fault.WideCut = IsWide bytes × HasRegisters bytes × (length bytes < 16)
@@ -27,7 +27,7 @@ HasFault bytes fault.UnusedField = IsOpcode (slice_index bytes 0) × HasRegister
     × ((i : Insn) (rest : List ℕ) → Fits i → bytes ≢ encoding i ++ rest)
 
 -- after whole instructions of n slots comes a slot that has the fault
-pub record FirstFault (bytes : List ℕ) (n : ℕ) (fault : SlotFault) : Type 0 where
+pub record FirstFault (bytes : List ℕ) (n : ℕ) (fault : SlotError) : Type 0 where
   pub front : List Insn
   pub rest : List ℕ
   pub fit : AllFit front
@@ -37,7 +37,7 @@ pub record FirstFault (bytes : List ℕ) (n : ℕ) (fault : SlotFault) : Type 0 
   pub faulty : HasFault rest fault
 
 -- the fault of the slot n, as the refusal of the bytes
-abbrev pub refusal_at : SlotFault → ℕ → DecodeError
+abbrev pub refusal_at : SlotError → ℕ → DecodeError
 refusal_at fault.Opcode n = Opcode n
 refusal_at fault.Register n = Register n
 refusal_at fault.WideCut n = WideCut n
@@ -45,7 +45,7 @@ refusal_at fault.UnusedField n = UnusedField n
 
 -- the bytes have a first fault, and this is its refusal
 abbrev pub IsFaulty : List ℕ → DecodeError → Type 0
-IsFaulty bytes e = (n : ℕ) × (f : SlotFault) × (e ≡ refusal_at f n) × FirstFault bytes n f
+IsFaulty bytes e = (n : ℕ) × (f : SlotError) × (e ≡ refusal_at f n) × FirstFault bytes n f
 
 -- whole slots, 1 to 4,096 of them
 pub record IsWhole (bytes : List ℕ) : Type 0 where

@@ -7,7 +7,7 @@ ghost use Rattle.insn.specs.Refusal.{HasFault, IsFaulty, IsRefused, IsWhole};
 ghost use Rattle.insn.specs.Forms.{form, move_form, with_source, HasHead, LacksHead, HasSecond, imm_in, IsForm, LacksForm};
 ghost use Rattle.insn.specs.declared.instruction.Insn.{Insn};
 ghost use Rattle.insn.specs.declared.opcode.Opcode.TheVariants.{LoadImm};
-ghost use Rattle.insn.specs.declared.refusal.SlotFault.TheVariants.{WideCut};
+ghost use Rattle.insn.specs.declared.refusal.SlotError.TheVariants.{WideCut};
 ghost use Rattle.insn.specs.declared.refusal.DecodeError.{DecodeError};
 ghost use Rattle.insn.specs.declared.refusal.DecodeError.TheVariants.{Memory};
 
@@ -15,7 +15,7 @@ use crate::fields::{Fields, SLOT_BYTES, read_slot};
 use crate::instruction::{Insn, Operand, joined};
 use crate::opcode::{Opcode, Source};
 use crate::operator::{AluOp, Extension};
-use crate::refusal::{DecodeError, SlotFault};
+use crate::refusal::{DecodeError, SlotError};
 use crate::register::Reg;
 use crate::size::SwapSize;
 use crate::width::Width;
@@ -25,7 +25,7 @@ use std::alloc::Global;
 pub const MAX_SLOTS: usize = 4096;
 
 /// States the greatest number of slots.
-pub fn limits()
+pub fn law_limits()
     ensures slots { MAX_SLOTS ≡ 4096 }
 {}
 
@@ -123,18 +123,18 @@ struct Head {
 
 /// Returns the opcode and the registers of a slot, or the first fault among them.
 /// See docs/DECISIONS.md, "E5 before E6".
-fn head_of(fields: Fields) -> Result<Head, SlotFault>
+fn head_of(fields: Fields) -> Result<Head, SlotError>
     ensures found { IfOk result (HasHead fields) }
     ensures refused { IfErr result (LacksHead fields) }
 {
-    let opcode = Opcode::from_byte(fields.opcode).ok_or(SlotFault::Opcode)?;
-    let dst = Reg::from_number(fields.dst).ok_or(SlotFault::Register)?;
-    let src = Reg::from_number(fields.src).ok_or(SlotFault::Register)?;
+    let opcode = Opcode::from_byte(fields.opcode).ok_or(SlotError::Opcode)?;
+    let dst = Reg::from_number(fields.dst).ok_or(SlotError::Register)?;
+    let src = Reg::from_number(fields.src).ok_or(SlotError::Register)?;
     Ok(Head { opcode, dst, src })
 }
 
 /// Returns the second slot, which `LDDW` alone has, if it has room in the bytes after the first.
-fn second_slot(opcode: Opcode, rest: &[u8]) -> Result<Option<Fields>, SlotFault>
+fn second_slot(opcode: Opcode, rest: &[u8]) -> Result<Option<Fields>, SlotError>
     ensures found { IfOk result (HasSecond opcode rest.now) }
     ensures refused { IfErr result (λ e. (e ≡ WideCut) × (opcode ≡ LoadImm) × (length rest.now < 8)) }
 {
@@ -142,7 +142,7 @@ fn second_slot(opcode: Opcode, rest: &[u8]) -> Result<Option<Fields>, SlotFault>
         return Ok(None);
     }
     if rest.len() < SLOT_BYTES {
-        return Err(SlotFault::WideCut);
+        return Err(SlotError::WideCut);
     }
     Ok(Some(read_slot(rest)))
 }
@@ -183,7 +183,7 @@ fn has_slots(insn: Insn, fields: Fields, second: Option<Fields>) -> bool
 }
 
 /// Returns the instruction of a slot's fields and of the bytes after it, or its fault.
-fn typed(fields: Fields, head: Head, rest: &[u8]) -> Result<Insn, SlotFault>
+fn typed(fields: Fields, head: Head, rest: &[u8]) -> Result<Insn, SlotError>
     requires room { HaveRoom fields }
     requires head { HasHead fields head }
     ensures found { IfOk result (λ i. IsForm i fields rest.now) }
@@ -194,12 +194,12 @@ fn typed(fields: Fields, head: Head, rest: &[u8]) -> Result<Insn, SlotFault>
     if has_slots(insn, fields, second) {
         Ok(insn)
     } else {
-        Err(SlotFault::UnusedField)
+        Err(SlotError::UnusedField)
     }
 }
 
 /// Decodes the instruction at the beginning of the bytes, or returns its fault.
-fn first(bytes: &[u8]) -> Result<Insn, SlotFault>
+fn first(bytes: &[u8]) -> Result<Insn, SlotError>
     requires { 8 ≤ length bytes.now }
     ensures found { IfOk result (λ i. Fits i × (take (8 * slots_of i) bytes.now ≡ encoding i)
         × (8 * slots_of i ≤ length bytes.now)) }
@@ -257,11 +257,11 @@ pub fn decode(alloc: Global, bytes: &[u8]) -> Result<Vec<Insn>, DecodeError>
 }
 
 /// States that bytes have at most one refusal.
-pub fn refusals_are_unique()
+pub fn law_refusals_are_unique()
     ensures { (bytes : List ℕ) (d e : DecodeError) → IsRefused bytes d → IsRefused bytes e → d ≡ e }
 {}
 
 /// States that bytes that are refused encode no program.
-pub fn refused_bytes_encode_nothing()
+pub fn law_refused_bytes_encode_nothing()
     ensures { (bytes : List ℕ) (e : DecodeError) (code : List Insn) → IsRefused bytes e → Encodes code bytes → ⊥ }
 {}

@@ -43,19 +43,19 @@ pub fn encode(alloc: Global, code: &[Insn]) -> Result<Vec<u8>, AllocError>
 
 /// States that of the encodings of different instructions neither begins the other, so that bytes are read as
 /// instructions in at most one way.
-pub fn no_encoding_begins_another()
+pub fn law_no_encoding_begins_another()
     ensures { (i j : Insn) (rest other : List ℕ) → Fits i → Fits j
         → encoding i ++ rest ≡ encoding j ++ other → i ≡ j }
 {}
 
 /// States that different programs have different encodings.
-pub fn encodings_are_unique()
+pub fn law_encodings_are_unique()
     ensures { (code other : List Insn) → AllFit code → AllFit other
         → encodings code ≡ encodings other → code ≡ other }
 {}
 
 /// States that bytes encode at most one program.
-pub fn bytes_encode_one_program()
+pub fn law_bytes_encode_one_program()
     ensures { (code other : List Insn) (bytes : List ℕ) → Encodes code bytes → Encodes other bytes → code ≡ other }
 {}
 

@@ -16,9 +16,12 @@ mod width;
 mod word;
 
 pub use condition::Condition;
-pub use decoding::{MAX_SLOTS, decode, limits, refusals_are_unique, refused_bytes_encode_nothing};
+pub use decoding::{
+    MAX_SLOTS, decode, law_limits, law_refusals_are_unique, law_refused_bytes_encode_nothing,
+};
 pub use encoding::{
-    bytes_encode_one_program, encode, encodings_are_unique, no_encoding_begins_another, read_back,
+    encode, law_bytes_encode_one_program, law_encodings_are_unique, law_no_encoding_begins_another,
+    read_back,
 };
 pub use instruction::{Insn, Operand, halves_join, high_half, joined, low_half};
 pub use operator::{AluOp, Extension, SwapOp, UnaryOp};

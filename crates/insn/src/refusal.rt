@@ -51,23 +51,23 @@ impl Error for DecodeError {}
 
 /// The fault of one slot.
 #[derive(Clone, Copy, Debug, PartialEq, Eq)]
-pub enum SlotFault {
+pub enum SlotError {
     Opcode,
     Register,
     WideCut,
     UnusedField,
 }
 
-impl SlotFault {
+impl SlotError {
     /// Returns the refusal of bytes whose first fault is this one, at this slot.
     pub fn at(self, slot: usize) -> DecodeError
         ensures { result ≡ refusal_at self slot }
     {
         match self {
-            SlotFault::Opcode => DecodeError::Opcode(slot),
-            SlotFault::Register => DecodeError::Register(slot),
-            SlotFault::WideCut => DecodeError::WideCut(slot),
-            SlotFault::UnusedField => DecodeError::UnusedField(slot),
+            SlotError::Opcode => DecodeError::Opcode(slot),
+            SlotError::Register => DecodeError::Register(slot),
+            SlotError::WideCut => DecodeError::WideCut(slot),
+            SlotError::UnusedField => DecodeError::UnusedField(slot),
         }
     }
 }

@@ -2,4 +2,4 @@
 pub mod Domains
 pub mod Intervals
 pub mod Narrowness
-pub mod IntervalLaws
+pub mod laws

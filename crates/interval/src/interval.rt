@@ -2,7 +2,7 @@
 
 ghost use Rattle.std.specs.Prelude.{◌≡◌, ◌≤◌};
 ghost use Rattle.interval.specs.Intervals.{interval_ops, LiesBetween, all, from_to, single, is_single};
-ghost use Rattle.interval.specs.IntervalLaws.{interval_laws};
+ghost use Rattle.interval.specs.laws.Interval.{interval_laws};
 ghost use Rattle.std.proofs.Common.{arith};
 
 use crate::arithmetic::{alu, unary};

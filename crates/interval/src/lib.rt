@@ -9,4 +9,4 @@ mod refinement;
 
 pub use domain::{Bounds, Domain, Refined, Test};
 pub use interval::Interval;
-pub use narrowness::intervals_are_narrow;
+pub use narrowness::law_intervals_are_narrow;

@@ -11,7 +11,7 @@ ghost use Rattle.interval.specs.declared.domain.Bounds.{Bounds};
 ghost use Rattle.interval.specs.declared.domain.Test.{Test};
 
 /// States how narrow the results of the operations of intervals are.
-pub fn intervals_are_narrow()
+pub fn law_intervals_are_narrow()
     // Where nothing wraps and no divisor is 0, both ends of a result are results of members.
     ensures ends { (op : AluOp) (w : Width) (x y : Bounds) → AreWords w x → AreWords w y
         → IsExact op w x y → AreResults op w x y (interval_ops.alu op w x y) }

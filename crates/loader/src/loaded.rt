@@ -25,7 +25,7 @@ use verifier::{Refusal, Steps, Verified, verify};
 pub const BUDGET: usize = 100_000;
 
 /// States the budget.
-pub fn limits()
+pub fn law_limits()
     ensures budget { BUDGET ≡ 100000 }
 {}
 

@@ -6,7 +6,7 @@ use Rattle.semantics.specs.Effects.{effect}
 use Rattle.semantics.specs.Machine.{Memory, State, Environment, first_registers, no_plan}
 use Rattle.semantics.specs.declared.plan.Plan.{Plan}
 use Rattle.semantics.specs.Slots.{fetch, last_slot, IsAt}
-use Rattle.semantics.specs.SlotLaws.{at_start}
+use Rattle.semantics.specs.laws.Slot.{at_start}
 use Rattle.semantics.specs.Runs as runs
 use Rattle.semantics.specs.Runs.{Run, step_by_effect, step_of_fetched, visits_of, run_after, run_onwards, run}
 use Rattle.semantics.specs.declared.value.Value.{Value}

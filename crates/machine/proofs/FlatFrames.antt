@@ -16,7 +16,7 @@ use Rattle.flat.specs.Layout.{IsFlat, pointers}
 use Rattle.flat.specs.FlatSteps.{FlatEnvironment}
 use Rattle.flat.specs.Following.{flat_environment_of}
 use Rattle.flat.specs.FlatRuns.{IsStart, IsRun}
-use Rattle.flat.specs.FlatLaws.{laid_out_is_flat, laid_out_after, rest_from_headroom}
+use Rattle.flat.specs.laws.Flat.{laid_out_is_flat, laid_out_after, rest_from_headroom}
 use Rattle.flat.specs.declared.flat_run.Exit as flat_run
 use Rattle.machine.specs.Contents.{Contents, datagram_of, frame_area_size}
 use Rattle.machine.specs.FrameFields.{HoldsDatagram}

@@ -12,13 +12,13 @@ use Rattle.semantics.specs.declared.plan.Plan.{Plan}
 use Rattle.semantics.specs.Runs.{Run}
 use Rattle.semantics.specs.Calls.{IsWindow}
 use Rattle.semantics.specs.Extents.{HasExtent, start_extent, run_extent}
-use Rattle.semantics.specs.StartLaws.{length-headroom, length-surrounded}
+use Rattle.semantics.specs.laws.Start.{length-headroom, length-surrounded}
 use Rattle.semantics.specs.declared.limits.TheConstants.{HEADROOM, MAX_DATAGRAM, TAILROOM}
 use Rattle.flat.specs.declared.layout.TheConstants.{HEADROOM_INDEX, AREA_BYTES}
 use Rattle.machine.specs.Contents.{Contents, frame_area_size, datagram_of, window_of, with_room}
 use Rattle.machine.specs.FrameFields.{HoldsDatagram, IsFrame}
 use Rattle.machine.specs.declared.context.Context.{Context}
-use Rattle.machine.specs.FrameLaws.{datagram_inside}
+use Rattle.machine.specs.laws.Frame.{datagram_inside}
 use Rattle.semantics.specs.Views.{memory_with}
 use Rattle.semantics.specs.declared.fetching.Visit.{Visit}
 use Rattle.helpers.specs.Records.{address_of}

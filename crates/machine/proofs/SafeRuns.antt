@@ -3,7 +3,7 @@ use Rattle.std.proofs.Common.{◌≡◌, ℕ, ◌+◌, ◌≤◌, List, length, 
 use Rattle.insn.specs.declared.instruction.Insn.{Insn}
 use Rattle.semantics.specs.Machine.{Environment, start}
 use Rattle.semantics.specs.Runs.{Run, Exited, Stuck, IsPossible, IsDatagram, IsSafe, run}
-use Rattle.semantics.specs.RunLaws.{exits_the_same, path_is_short}
+use Rattle.semantics.specs.laws.Run.{exits_the_same, path_is_short}
 use Rattle.semantics.specs.declared.reason.Reason.{Reason}
 
 one_more : (n : ℕ) → n ≤ n + 1

@@ -2,7 +2,7 @@
 pub mod Contexts
 pub mod Contents
 pub mod FrameFields
-pub mod FrameLaws
+pub mod laws
 pub mod Lends
 pub mod Tracing
 pub mod Execution

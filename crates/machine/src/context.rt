@@ -11,7 +11,7 @@ ghost use Rattle.helpers.specs.Records.{address_record, wide_record};
 ghost use Rattle.machine.specs.Contexts.{context_of, side_number};
 
 use crate::frame::write_zeros;
-use attributes::{Addr, is_address};
+use attributes::{Addr, law_is_address};
 use flat::{POINTERS_BYTES, Record, context_record, lay_out};
 use helpers::{address_record, wide_record};
 use semantics::CONTEXT_BYTES;
@@ -28,7 +28,7 @@ pub enum Side {
 pub struct Context {
     pub side: Side,
     pub source: Addr,
-    pub tx: [u8; 12],
+    pub transaction_id: [u8; 12],
 }
 
 /// States that each item of a `[u8]` is below 256.
@@ -47,8 +47,8 @@ fn law_array<const N: usize>(bytes: &[u8; N])
 pub(crate) fn law_context(context: &Context)
     ensures { IsContext (context_of context.now) }
 {
-    is_address(&context.source);
-    law_array(&context.tx);
+    law_is_address(&context.source);
+    law_array(&context.transaction_id);
 }
 
 /// The numbers of the sides in the context record.
@@ -86,7 +86,13 @@ pub(crate) fn lay_out_context(area: &mut [u8], context: &Context, size: usize)
         ++ drop POINTERS_BYTES (context_bytes (context_of context.now) size)) area.old }
 {
     let source = source_record(&context.source);
-    lay_out(area, size, &source, &context.tx, side_number(context.side));
+    lay_out(
+        area,
+        size,
+        &source,
+        &context.transaction_id,
+        side_number(context.side),
+    );
 }
 
 /// Writes the context record of a datagram of `size` bytes to its place in an area, and returns it as a trace reads it: with

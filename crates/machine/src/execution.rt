@@ -68,7 +68,7 @@ fn law_cells(stack: &StackMemory)
 ///
 /// # Errors
 /// The reason for which it is stuck.
-#[tactic(auto, using(semantics::specs::EffectLaws::effect_inside))]
+#[tactic(auto, using(semantics::specs::laws::Effect::effect_inside))]
 fn next_effect<H>(
     given: &Environment<H>,
     stack: &StackMemory,

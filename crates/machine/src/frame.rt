@@ -52,7 +52,7 @@ const NO_CONTEXT: Context = Context {
         ip: [0; 4],
         port: 0,
     },
-    tx: [0; 12],
+    transaction_id: [0; 12],
 };
 
 fn zeros(alloc: Global, n: usize) -> Result<Vec<u8>, AllocError>
@@ -174,6 +174,13 @@ impl Frame {
         datagram_in(from_headroom(&self.flat), MAX_DATAGRAM)
     }
 
+    /// States that the room for a datagram has 65,507 bytes.
+    pub fn law_room(&self)
+        ensures { length (room_of self.now) ≡ MAX_DATAGRAM }
+    {
+        let _ = self.room();
+    }
+
     /// Returns whether the frame is started, so that a run may begin.
     pub fn started(&self) -> bool
         ensures { result ≡ self.now.is_started }
@@ -214,8 +221,16 @@ impl Frame {
         surround_in(&mut self.flat, n);
         self.length = n;
         // part by part: one load of the whole would wait for the narrower stores of the caller
-        let Context { side, source, tx } = *context;
-        self.context = Context { side, source, tx };
+        let Context {
+            side,
+            source,
+            transaction_id,
+        } = *context;
+        self.context = Context {
+            side,
+            source,
+            transaction_id,
+        };
         self.window = None;
         self.is_started = true;
     }

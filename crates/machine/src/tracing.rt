@@ -142,7 +142,7 @@ pub(crate) fn execute_frame<H: Helpers, S: Sink>(
 ///
 /// # Errors
 /// The step that is stuck, with its reason. A step past the last instruction is stuck, and is not reported.
-#[tactic(auto, using(semantics::specs::SlotLaws::few_instructions))]
+#[tactic(auto, using(semantics::specs::laws::Slot::few_instructions))]
 pub fn trace<H: Helpers, S: Sink>(
     code: &[Insn],
     frame: &mut Frame,

@@ -9,7 +9,7 @@ use Rattle.insn.specs.declared.decoding.TheConstants.{MAX_SLOTS}
 use Rattle.insn.specs.declared.instruction.Insn.{Insn}
 use Rattle.insn.specs.declared.instruction.Insn.TheVariants as insn
 use Rattle.semantics.specs.Slots.{fetch, landing, target}
-use Rattle.semantics.specs.SlotLaws.{fetch_after, fetch_between, at_start}
+use Rattle.semantics.specs.laws.Slot.{fetch_after, fetch_between, at_start}
 use Rattle.semantics.specs.Flow.{flow_of, flow_distance}
 use Rattle.semantics.specs.declared.reason.Reason.TheVariants.{JumpBackward}
 use Rattle.semantics.specs.declared.fetching.Fetched.{Fetched}
@@ -89,10 +89,10 @@ not_back a b h = grind (arith, ints)
 pub target_back : (rest : List Insn) (n place ahead : ℕ) → n ≤ slot_count rest → BeginsBack rest place → n ≡ place + 1 + ahead → target rest (slot_count rest - n) (pos ahead) ≡ Ok (slot_count rest - place)
 target_back rest n place ahead le begins at =
     let slot : ℕ = slot_count rest - n in
-    let goal : unsigned_abs (pos (slot + 1) +ℤ pos ahead) ≡ slot_count rest - place = omega (arith, ints) in
+    let landed : unsigned_abs (pos (slot + 1) +ℤ pos ahead) ≡ slot_count rest - place = omega (arith, ints) in
     let on : pos slot <ℤ (pos (slot + 1) +ℤ pos ahead) = omega (arith, ints) in
     ap (λ (back : Bool). if back then Err JumpBackward else landing (fetch rest (unsigned_abs (pos (slot + 1) +ℤ pos ahead))) (unsigned_abs (pos (slot + 1) +ℤ pos ahead))) (not_back (pos (slot + 1) +ℤ pos ahead) (pos slot) on)
-    ∙ ap (λ (g : ℕ). landing (fetch rest g) g) goal
+    ∙ ap (λ (g : ℕ). landing (fetch rest g) g) landed
     ∙ ap (λ (f : Fetched). landing f (slot_count rest - place)) begins.begins
 
 -- ---- lists that are kept in reverse

@@ -18,7 +18,7 @@ use Rattle.insn.specs.declared.width.Width.TheVariants.{W64}
 use Rattle.fallible.specs.Fallible.{◌>>=◌, check}
 use Rattle.semantics.specs.Access.{index_within, stack_first, location}
 use Rattle.semantics.specs.Calls.{helper_of, signature_of}
-use Rattle.semantics.specs.EffectLaws.{every}
+use Rattle.semantics.specs.laws.Effect.{every}
 use Rattle.semantics.specs.Effects.{register_value, operand_value, writable, register_write, alu_result, unary_result, unary_effect, comparison_result, loaded_effect, pointer, is_group_place, store_pointer, store_value, store_effect, inputs, effect_with, helper_effect, verdict_of, effect}
 use Rattle.semantics.specs.Flow.{Flow, Straight, Jumps, Forks, flow_of, flow_distance, flow_branches}
 use Rattle.semantics.specs.Flow as flow

@@ -10,7 +10,7 @@ use Rattle.fallible.specs.Fallible.{◌>>=◌}
 use Rattle.semantics.specs.Machine.{State, Environment}
 use Rattle.semantics.specs.Effects.{effect}
 use Rattle.semantics.specs.Slots.{fetch, landing, target}
-use Rattle.semantics.specs.SlotLaws.{fetch_past, begins_inside}
+use Rattle.semantics.specs.laws.Slot.{fetch_past, begins_inside}
 use Rattle.semantics.specs.Flow.{flow_of, flow_distance}
 use Rattle.semantics.specs.Runs.{step_to, step_by_effect, step_of_fetched, step}
 use Rattle.semantics.specs.declared.effect.Effect.{Effect}
@@ -44,7 +44,7 @@ distance_ahead new slot i (Some d) ahead here e =
     let there : target new slot d ≡ Ok (slot_count new - lands.place) =
     ap (target new slot) lands.is ∙ ap (λ (s : ℕ). target new s (pos lands.ahead)) (sym back)
     ∙ target_back new (slot_count new - slot) lands.place lands.ahead (omega arith) lands.begins lands.at in
-    ap (λ (r : Result ℕ Reason). r >>= λ goal. Ok tt) there
+    ap (λ (r : Result ℕ Reason). r >>= λ landed. Ok tt) there
 
 fetched_ahead : (new : List Insn) (slot : ℕ) (f : Fetched) → JumpsAhead new → fetch new slot ≡ f → fetched_checked new slot f ≡ Ok tt
 fetched_ahead new slot (Begins i) ahead here = distance_ahead new slot i (flow_distance (flow_of i)) ahead here refl
@@ -68,7 +68,7 @@ any_of_target code slot n d e =
     let both = forward_or_not a slot (int_le a (pos slot)) found n refl e in
     ap (λ (b : Bool). if b then found else Err JumpOutside) both.1 ∙ both.0
 
-passes : (r : Result ℕ Reason) → ◌≡◌ {A = Result (Unit {0}) Reason} (r >>= λ goal. Ok tt) (Ok tt) → (n : ℕ) × (r ≡ Ok n)
+passes : (r : Result ℕ Reason) → ◌≡◌ {A = Result (Unit {0}) Reason} (r >>= λ landed. Ok tt) (Ok tt) → (n : ℕ) × (r ≡ Ok n)
 passes (Ok n) e = (n, refl)
 passes (Err r) e = absurd cc
 

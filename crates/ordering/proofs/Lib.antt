@@ -1,5 +1,5 @@
 pub mod Backs
-pub mod Goals
+pub mod BranchTargets
 pub mod Paths
 pub mod Fitting
 pub mod Placing

@@ -37,21 +37,21 @@ ok_same m n e = cc
 
 -- ---- where branches lead
 
-landing_is : (f : Fetched) (goal n : ℕ) → next_landing f goal ≡ Ok n → n ≡ goal
-landing_is (Begins i) goal n e = cc
-landing_is Inside goal n e = absurd cc
-landing_is Past goal n e = absurd cc
+landing_is : (f : Fetched) (landed n : ℕ) → next_landing f landed ≡ Ok n → n ≡ landed
+landing_is (Begins i) landed n e = cc
+landing_is Inside landed n e = absurd cc
+landing_is Past landed n e = absurd cc
 
 taken_is_not_next : Taken ≡ NotTaken → ⊥
 taken_is_not_next e = absurd cc
 
 -- a fall-through leads to the next slot
-next_is : (code : List Insn) (slot k goal : ℕ) (f : Flow) → IsOneOf (flow_branches f) NotTaken → any_flow_slot code slot k f NotTaken ≡ Ok goal → goal ≡ slot + k
-next_is code slot k goal Straight b e = landing_is (fetch code (slot + k)) (slot + k) goal e
-next_is code slot k goal (Jumps d) (inl bad) e = absurd (taken_is_not_next bad)
-next_is code slot k goal (Jumps d) (inr bad) e = absurd bad
-next_is code slot k goal (Forks d) b e = landing_is (fetch code (slot + k)) (slot + k) goal e
-next_is code slot k goal flow.Ends b e = absurd b
+next_is : (code : List Insn) (slot k landed : ℕ) (f : Flow) → IsOneOf (flow_branches f) NotTaken → any_flow_slot code slot k f NotTaken ≡ Ok landed → landed ≡ slot + k
+next_is code slot k landed Straight b e = landing_is (fetch code (slot + k)) (slot + k) landed e
+next_is code slot k landed (Jumps d) (inl bad) e = absurd (taken_is_not_next bad)
+next_is code slot k landed (Jumps d) (inr bad) e = absurd bad
+next_is code slot k landed (Forks d) b e = landing_is (fetch code (slot + k)) (slot + k) landed e
+next_is code slot k landed flow.Ends b e = absurd b
 
 some_same : (d x : ℤ) → ◌≡◌ {A = Option ℤ} (Some d) (Some x) → d ≡ x
 some_same d x e = cc
@@ -60,11 +60,11 @@ none_is_not_some : (x : ℤ) → ◌≡◌ {A = Option ℤ} None (Some x) → �
 none_is_not_some x e = absurd cc
 
 -- a taken jump leads to its target
-target_is : (code : List Insn) (slot k goal : ℕ) (f : Flow) (x : ℤ) → flow_distance f ≡ Some x → any_flow_slot code slot k f Taken ≡ Ok goal → any_target code slot x ≡ Ok goal
-target_is code slot k goal Straight x d e = absurd (none_is_not_some x d)
-target_is code slot k goal (Jumps y) x d e = ap (any_target code slot) (sym (some_same y x d)) ∙ e
-target_is code slot k goal (Forks y) x d e = ap (any_target code slot) (sym (some_same y x d)) ∙ e
-target_is code slot k goal flow.Ends x d e = absurd (none_is_not_some x d)
+target_is : (code : List Insn) (slot k landed : ℕ) (f : Flow) (x : ℤ) → flow_distance f ≡ Some x → any_flow_slot code slot k f Taken ≡ Ok landed → any_target code slot x ≡ Ok landed
+target_is code slot k landed Straight x d e = absurd (none_is_not_some x d)
+target_is code slot k landed (Jumps y) x d e = ap (any_target code slot) (sym (some_same y x d)) ∙ e
+target_is code slot k landed (Forks y) x d e = ap (any_target code slot) (sym (some_same y x d)) ∙ e
+target_is code slot k landed flow.Ends x d e = absurd (none_is_not_some x d)
 
 module _ (code new : List Insn) (marks : List Mark) (ordered : IsOrdered code marks new) where
   -- ---- every slot that a run may come to has a place
@@ -73,7 +73,7 @@ module _ (code new : List Insn) (marks : List Mark) (ordered : IsOrdered code ma
   HasPlace slot = (n : ℕ) × (mark_at marks slot ≡ Placed n)
 
   lead : (slot next : ℕ) (i : Insn) (b : Branch) → LeadsBy code slot i b (Ok next) → (place : ℕ) → LeadsToPlace code marks slot i b place → HasPlace next
-  lead slot next i b l place to = (place, ap (mark_at marks) (ok_same next to.goal (sym l.leads ∙ to.leads.leads)) ∙ to.mark)
+  lead slot next i b l place to = (place, ap (mark_at marks) (ok_same next to.to (sym l.leads ∙ to.leads.leads)) ∙ to.mark)
 
   branch_placed : (slot n next : ℕ) (i : Insn) (b : Branch) → IsPlaced code marks new slot n → LeadsBy code slot i b (Ok next) → HasPlace next
   branch_placed slot n next i Taken p l =
@@ -95,8 +95,8 @@ module _ (code new : List Insn) (marks : List Mark) (ordered : IsOrdered code ma
       let p = ordered.placed f.from h.0 h.1 in
       let same : p.insn ≡ f.insn = begins_same p.insn f.insn (sym p.here ∙ f.here) in
       let to = p.next (subst (λ (j : Insn). IsOneOf (branches j) NotTaken) (sym same) f.is_branch) in
-      let goal : to.leads.goal ≡ f.from + slots_of p.insn = next_is code f.from (slots_of p.insn) to.leads.goal (flow_of p.insn) to.leads.leads.is_branch to.leads.leads.leads in
-      (to.place, ap (mark_at marks) (f.next ∙ ap (λ (j : Insn). f.from + slots_of j) (sym same) ∙ sym goal) ∙ to.leads.mark)
+      let landed : to.leads.to ≡ f.from + slots_of p.insn = next_is code f.from (slots_of p.insn) to.leads.to (flow_of p.insn) to.leads.leads.is_branch to.leads.leads.leads in
+      (to.place, ap (mark_at marks) (f.next ∙ ap (λ (j : Insn). f.from + slots_of j) (sym same) ∙ sym landed) ∙ to.leads.mark)
 
   entered_placed : (slot : ℕ) → IsEntered code slot → HasPlace slot
   entered_placed slot (inl reached) = path_placed 0 slot reached.0 (slot_count new, ordered.start) reached.1
@@ -162,10 +162,10 @@ module _ (code new : List Insn) (marks : List Mark) (ordered : IsOrdered code ma
     goes_on : (x : State) → IsOneOf (branches p.insn) NotTaken → step w new there ≡ Goes (record x { slot = place s.slot + slots_of with_other }) → GoesTo w new there (record x { slot = place (s.slot + slots_of p.insn) })
     goes_on x b e =
         let falls = p.next b in
-        let goal : falls.leads.goal ≡ s.slot + slots_of p.insn = next_is code s.slot (slots_of p.insn) falls.leads.goal (flow_of p.insn) b falls.leads.leads.leads in
-        let to : place (s.slot + slots_of p.insn) ≡ slot_count new - falls.place = ap place (sym goal) ∙ place_is falls.leads.goal falls.place falls.leads.mark in
+        let landed : falls.leads.to ≡ s.slot + slots_of p.insn = next_is code s.slot (slots_of p.insn) falls.leads.to (flow_of p.insn) b falls.leads.leads.leads in
+        let to : place (s.slot + slots_of p.insn) ≡ slot_count new - falls.place = ap place (sym landed) ∙ place_is falls.leads.to falls.place falls.leads.mark in
         let from : place s.slot + slots_of with_other ≡ slot_count new - falls.next = omega (arith, here_is, same_slots p.insn p.distance, falls.at, p.inside) in
-        let begins : BeginsBack new falls.place = placed_begins code marks new falls.leads.goal falls.place (ordered.placed falls.leads.goal falls.place falls.leads.mark) in
+        let begins : BeginsBack new falls.place = placed_begins code marks new falls.leads.to falls.place (ordered.placed falls.leads.to falls.place falls.leads.mark) in
         elim falls.comes [
           | inl same ↦ inl (e ∙ ap (λ (k : ℕ). Goes (record x { slot = k })) (from ∙ ap (λ (k : ℕ). slot_count new - k) same ∙ sym to))
           | inr jump ↦ inr (over_jump x falls.next falls.place (place (s.slot + slots_of p.insn)) jump begins (e ∙ ap (λ (k : ℕ). Goes (record x { slot = k })) from) to)
@@ -174,13 +174,13 @@ module _ (code new : List Insn) (marks : List Mark) (ordered : IsOrdered code ma
     kept_jump : (d : ℤ) → effect w.context s.memory s.registers p.insn ≡ Ok (effects.Jump d) → EffectOf (flow_of p.insn) (effects.Jump d) → Kept (step_to s (any_target code s.slot d))
     kept_jump d e b =
         let takes = p.taken b.1 in
-        let goal : ℕ = takes.leads.goal in
-        let old : any_target code s.slot d ≡ Ok goal = target_is code s.slot (slots_of p.insn) goal (flow_of p.insn) d b.0 takes.leads.leads.leads in
-        let begins : BeginsBack new takes.place = placed_begins code marks new goal takes.place (ordered.placed goal takes.place takes.leads.mark) in
+        let landed : ℕ = takes.leads.to in
+        let old : any_target code s.slot d ≡ Ok landed = target_is code s.slot (slots_of p.insn) landed (flow_of p.insn) d b.0 takes.leads.leads.leads in
+        let begins : BeginsBack new takes.place = placed_begins code marks new landed takes.place (ordered.placed landed takes.place takes.leads.mark) in
         let to : target new (place s.slot) p.distance ≡ Ok (slot_count new - takes.place) =
         ap (target new (place s.slot)) takes.is ∙ ap (λ (k : ℕ). target new k (pos takes.ahead)) here_is ∙ target_back new n takes.place takes.ahead p.inside begins takes.at in
-        let goes : step w new there ≡ Goes (record s { slot = place goal }) =
-        new_step (Ok (effects.Jump d)) e ∙ ap (step_to there) to ∙ ap (λ (k : ℕ). Goes (record s { slot = k })) (sym (place_is goal takes.place takes.leads.mark)) in
+        let goes : step w new there ≡ Goes (record s { slot = place landed }) =
+        new_step (Ok (effects.Jump d)) e ∙ ap (step_to there) to ∙ ap (λ (k : ℕ). Goes (record s { slot = k })) (sym (place_is landed takes.place takes.leads.mark)) in
         subst (λ (r : Result ℕ Reason). Kept (step_to s r)) (sym old) (inl goes)
 
     kept_effect : (r : Result Effect Reason) → effect w.context s.memory s.registers p.insn ≡ r → IfOk r (EffectOf (flow_of p.insn)) → Kept (free_step_by_effect w code s p.insn r)

@@ -12,7 +12,7 @@ use Rattle.semantics.specs.declared.fetching.Branch.{Branch}
 use Rattle.semantics.specs.declared.fetching.Branch.TheVariants.{NotTaken, Taken}
 use Rattle.semantics.specs.declared.fetching.Visit.{Visit}
 use Rattle.ordering.specs.Orders.{IsOneOf}
-use Rattle.ordering.specs.Goals.{IsVisit}
+use Rattle.ordering.specs.BranchTargets.{IsVisit}
 use Rattle.ordering.specs.Tails.{fetch_back, BeginsBack, redirected, bridged, jump_to, put_before, BeginsAt, HasPlace}
 use Rattle.ordering.specs.Searches.{mark_at, LeadsToPlace, JumpsTo, ArrivesAt, TakesTo, FallsOnTo, IsPlaced, ArePlaced, LooksAt}
 use Rattle.ordering.specs.declared.search.Mark.{Mark}
@@ -38,7 +38,7 @@ Keeps marks new = (slot n : ℕ) → mark_at marks slot ≡ Placed n → mark_at
 
 module _ (code : List Insn) (marks new_marks : List Mark) (keeps : Keeps marks new_marks) where
   leads_kept : (slot : ℕ) (i : Insn) (b : Branch) (place : ℕ) → LeadsToPlace code marks slot i b place → LeadsToPlace code new_marks slot i b place
-  leads_kept slot i b place l = record { goal = l.goal; leads = l.leads; mark = keeps l.goal place l.mark }
+  leads_kept slot i b place l = record { to = l.to; leads = l.leads; mark = keeps l.to place l.mark }
 
   module _ (rest new : List Insn) (extends : Extends rest new) where
     comes_kept : (n place : ℕ) → ArrivesAt rest n place → ArrivesAt new n place
@@ -77,11 +77,11 @@ no_distance flow.Ends h = refl
 module _ (code : List Insn) (marks : List Mark) (rest : List Insn) (at : Visit) (placed : ArePlaced code marks rest) where
   pub taken_place : (taken : Option ℕ) → LooksAt code marks at Taken (Known taken) → HasPlace rest at.insn taken
   taken_place None h = no_distance (flow_of at.insn) h
-  taken_place (Some place) l = placed_begins code marks rest l.goal place (placed l.goal place l.mark)
+  taken_place (Some place) l = placed_begins code marks rest l.to place (placed l.to place l.mark)
 
   pub next_place : (next : Option ℕ) → LooksAt code marks at NotTaken (Known next) → BeginsAt rest next
   next_place None h = tt
-  next_place (Some place) l = placed_begins code marks rest l.goal place (placed l.goal place l.mark)
+  next_place (Some place) l = placed_begins code marks rest l.to place (placed l.to place l.mark)
 
 -- ---- a jump that is put in
 
@@ -162,7 +162,7 @@ module _ (code : List Insn) (marks new_marks : List Mark) (rest : List Insn) (at
   unfolding distance_by
   takes mid n None extends h e b = absurd (h b)
   takes mid n (Some place) extends l e b =
-      let inside : place ≤ slot_count rest = (placed l.goal place l.mark).inside in
+      let inside : place ≤ slot_count rest = (placed l.to place l.mark).inside in
       record {
         place = place;
         leads = leads_kept code marks new_marks keeps at.slot at.insn Taken place l;

@@ -16,7 +16,7 @@ use Rattle.semantics.specs.declared.fetching.Fetched.{Fetched}
 use Rattle.semantics.specs.declared.fetching.Fetched.TheVariants.{Begins, Inside, Past}
 use Rattle.semantics.specs.declared.fetching.Branch.TheVariants.{NotTaken, Taken}
 use Rattle.ordering.specs.Orders.{any_target, next_landing, any_flow_slot, IsOneOf, IsReachable, IsEntered, free_step_by_effect, free_step_of_fetched, free_step, free_run, moved, GoesTo, GoesOverJump, KeepsStep, KeepsMeaning}
-use Rattle.ordering.specs.RunLaws.{moved_ending, KeepsRun, KeepsRuns}
+use Rattle.ordering.specs.laws.Run.{moved_ending, KeepsRun, KeepsRuns}
 use Rattle.ordering.proofs.Effects.{EffectOf, effect_flow}
 use Rattle.ordering.proofs.Paths.{reaches_on}
 

@@ -12,7 +12,7 @@ use Rattle.insn.specs.declared.instruction.Insn.{Insn}
 use Rattle.semantics.specs.declared.fetching.Branch.TheVariants.{NotTaken, Taken}
 use Rattle.semantics.specs.declared.fetching.Visit.{Visit}
 use Rattle.ordering.specs.Orders.{IsOrderFault}
-use Rattle.ordering.specs.Goals.{IsVisit}
+use Rattle.ordering.specs.BranchTargets.{IsVisit}
 use Rattle.ordering.specs.Tails.{put_before, IsNoRoom}
 use Rattle.ordering.specs.Searches.{mark_at, IsPlaced, ArePlaced, IsChain, IsOn, StartsPlaced, IsSearch, weight, LeadsToVisit, LooksAt}
 use Rattle.ordering.specs.declared.error.OrderError.{OrderError}

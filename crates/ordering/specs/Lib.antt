@@ -1,7 +1,7 @@
 -- Internal. The modules of this folder.
 pub mod Orders
-pub mod RunLaws
-pub mod Goals
+pub mod laws
+pub mod BranchTargets
 pub mod Tails
 pub mod Searches
 pub mod Files

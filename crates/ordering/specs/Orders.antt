@@ -31,12 +31,12 @@ any_target code slot distance =
 
 -- a fall-through leads to where an instruction begins
 abbrev pub next_landing : Fetched → ℕ → Result ℕ Reason
-next_landing (Begins i) goal = Ok goal
-next_landing Inside goal = Err FallsOffEnd
-next_landing Past goal = Err FallsOffEnd
+next_landing (Begins i) slot = Ok slot
+next_landing Inside slot = Err FallsOffEnd
+next_landing Past slot = Err FallsOffEnd
 
 abbrev pub next_target : List Insn → ℕ → Result ℕ Reason
-next_target code goal = next_landing (fetch code goal) goal
+next_target code slot = next_landing (fetch code slot) slot
 
 -- the slot that a branch leads to, after an instruction of n slots
 abbrev pub any_flow_slot : List Insn → ℕ → ℕ → Flow → Branch → Result ℕ Reason
@@ -54,10 +54,10 @@ IsOneOf [] branch = ⊥
 IsOneOf (b ∷ rest) branch = (b ≡ branch) ⊎ IsOneOf rest branch
 
 -- an instruction begins at a slot, and one of its branches leads to a slot, or nowhere
-pub record LeadsBy (code : List Insn) (slot : ℕ) (i : Insn) (branch : Branch) (goal : Result ℕ Reason) : Type 0 where
+pub record LeadsBy (code : List Insn) (slot : ℕ) (i : Insn) (branch : Branch) (to : Result ℕ Reason) : Type 0 where
   pub here : fetch code slot ≡ Begins i
   pub is_branch : IsOneOf (branches i) branch
-  pub leads : any_branch_slot code slot i branch ≡ goal
+  pub leads : any_branch_slot code slot i branch ≡ to
 
 abbrev pub Leads : List Insn → ℕ → ℕ → Type 0
 Leads code slot to = (i : Insn) × (branch : Branch) × LeadsBy code slot i branch (Ok to)

@@ -13,7 +13,7 @@ use Rattle.semantics.specs.declared.fetching.Branch.{Branch}
 use Rattle.semantics.specs.declared.fetching.Branch.TheVariants.{NotTaken, Taken}
 use Rattle.semantics.specs.declared.fetching.Visit.{Visit}
 use Rattle.ordering.specs.Orders.{IsOneOf, LeadsBy, Leads}
-use Rattle.ordering.specs.Goals.{IsVisit}
+use Rattle.ordering.specs.BranchTargets.{IsVisit}
 use Rattle.ordering.specs.Tails.{tail_list, fetch_back, redirected, IsTail}
 use Rattle.ordering.specs.declared.search.Mark.{Mark}
 use Rattle.ordering.specs.declared.search.Mark.TheVariants.{Unseen, Open, Placed}
@@ -29,9 +29,9 @@ mark_at marks slot = slice_index_or marks slot Unseen
 
 -- a branch of the instruction at a slot leads to a slot that has a place
 pub record LeadsToPlace (code : List Insn) (marks : List Mark) (slot : ℕ) (i : Insn) (branch : Branch) (place : ℕ) : Type 0 where
-  pub goal : ℕ
-  pub leads : LeadsBy code slot i branch (Ok goal)
-  pub mark : mark_at marks goal ≡ Placed place
+  pub to : ℕ
+  pub leads : LeadsBy code slot i branch (Ok to)
+  pub mark : mark_at marks to ≡ Placed place
 
 -- n slots before the end is a jump to a place
 pub record JumpsTo (rest : List Insn) (n place : ℕ) : Type 0 where

@@ -6,10 +6,10 @@ ghost use Rattle.insn.specs.declared.decoding.TheConstants.{MAX_SLOTS};
 ghost use Rattle.semantics.specs.Flow.{flow_of, flow_distance};
 ghost use Rattle.semantics.specs.declared.fetching.Branch.TheVariants.{NotTaken, Taken};
 ghost use Rattle.ordering.specs.Orders.{any_target, next_target};
-ghost use Rattle.ordering.specs.Goals.{falls_through, IsVisit, IsLanding, IsBranchGoal};
+ghost use Rattle.ordering.specs.BranchTargets.{falls_through, IsVisit, IsLanding, IsBranchTarget};
 
 use insn::Insn;
-use semantics::{Branch, Fetched, Program, Reason, Visit};
+use semantics::{Branch, Fetched, Program, Reason, Visit, slot_by};
 use verifier::distance;
 
 /// Returns whether the next instruction may follow an instruction.
@@ -30,11 +30,7 @@ fn target(program: &Program, slot: usize, offset: i32) -> Result<Visit, Reason>
     requires { slot < MAX_SLOTS }
     ensures { IsLanding program.now (any_target program.now slot offset) result }
 {
-    let goal = slot as i64 + 1 + i64::from(offset);
-    if goal < 0 {
-        return Err(Reason::JumpOutside);
-    }
-    let slot = goal as usize;
+    let slot = slot_by(slot, offset).ok_or(Reason::JumpOutside)?;
     match program.fetch(slot) {
         Fetched::Begins(insn) => Ok(Visit { slot, insn }),
         Fetched::Inside => Err(Reason::JumpIntoWide),
@@ -59,10 +55,10 @@ fn next(program: &Program, slot: usize) -> Result<Visit, Reason>
 ///
 /// # Errors
 /// Where it leads to no instruction.
-fn taken_goal(program: &Program, from: Visit) -> Result<Option<Visit>, Reason>
+fn taken_target(program: &Program, from: Visit) -> Result<Option<Visit>, Reason>
     requires here { IsVisit program.now from }
     requires few { slot_count program.now ≤ MAX_SLOTS }
-    ensures { IsBranchGoal program.now from Taken result }
+    ensures { IsBranchTarget program.now from Taken result }
 {
     match distance(from.insn) {
         None => Ok(None),
@@ -77,10 +73,10 @@ fn taken_goal(program: &Program, from: Visit) -> Result<Option<Visit>, Reason>
 ///
 /// # Errors
 /// Where the program ends there.
-fn next_goal(program: &Program, from: Visit) -> Result<Option<Visit>, Reason>
+fn fall_through_target(program: &Program, from: Visit) -> Result<Option<Visit>, Reason>
     requires here { IsVisit program.now from }
     requires few { slot_count program.now ≤ MAX_SLOTS }
-    ensures { IsBranchGoal program.now from NotTaken result }
+    ensures { IsBranchTarget program.now from NotTaken result }
 {
     if !falls_through(from.insn) {
         return Ok(None);
@@ -95,13 +91,17 @@ fn next_goal(program: &Program, from: Visit) -> Result<Option<Visit>, Reason>
 ///
 /// # Errors
 /// Where it leads to no instruction.
-pub(crate) fn goal(program: &Program, from: Visit, branch: Branch) -> Result<Option<Visit>, Reason>
+pub(crate) fn branch_target(
+    program: &Program,
+    from: Visit,
+    branch: Branch,
+) -> Result<Option<Visit>, Reason>
     requires here { IsVisit program.now from }
     requires few { slot_count program.now ≤ MAX_SLOTS }
-    ensures { IsBranchGoal program.now from branch result }
+    ensures { IsBranchTarget program.now from branch result }
 {
     match branch {
-        Branch::Taken => taken_goal(program, from),
-        Branch::NotTaken => next_goal(program, from),
+        Branch::Taken => taken_target(program, from),
+        Branch::NotTaken => fall_through_target(program, from),
     }
 }

@@ -14,5 +14,5 @@ mod tests;
 
 pub use error::OrderError;
 pub use file::{FileError, order_file};
-pub use laws::runs_are_kept;
+pub use laws::law_runs_are_kept;
 pub use pass::order;

@@ -8,10 +8,10 @@ ghost use Rattle.semantics.specs.declared.fetching.Branch.TheVariants.{NotTaken,
 ghost use Rattle.ordering.specs.Orders.{IsOrderFault};
 ghost use Rattle.ordering.specs.declared.search.Mark.TheVariants.{Unseen};
 ghost use Rattle.ordering.specs.declared.search.Look.TheVariants.{Known};
-ghost use Rattle.ordering.specs.Goals.{IsVisit, IsBranchGoal};
+ghost use Rattle.ordering.specs.BranchTargets.{IsVisit, IsBranchTarget};
 ghost use Rattle.ordering.specs.Searches.{mark_at, LeadsToVisit, LooksAt, Visits, Searches, IsOrderedTail, work_of};
 
-use crate::branches::goal;
+use crate::branches::branch_target;
 use crate::error::OrderError;
 use crate::tail::Tail;
 use insn::MAX_SLOTS;
@@ -78,15 +78,15 @@ impl Search {
         program: &Program,
         at: Visit,
         branch: Branch,
-        goal: Option<Visit>,
+        target: Option<Visit>,
     ) -> Result<Look, OrderError>
         requires few { slot_count program.now ≤ MAX_SLOTS }
         requires visits { Visits program.now at self.now }
-        requires goal { IsBranchGoal program.now at branch (Ok goal) }
+        requires target { IsBranchTarget program.now at branch (Ok target) }
         ensures ok { IfOk result (LooksAt program.now self.now.marks.items at branch) }
         ensures err { IfErr result (IsOrderFault program.now) }
     {
-        let Some(to) = goal else {
+        let Some(to) = target else {
             return Ok(Look::Known(None));
         };
         match self.marks[to.slot] {
@@ -106,12 +106,12 @@ impl Search {
         ensures ok { IfOk result (LooksAt program.now self.now.marks.items at branch) }
         ensures err { IfErr result (IsOrderFault program.now) }
     {
-        match goal(program, at, branch) {
+        match branch_target(program, at, branch) {
             Err(reason) => {
                 let slot = at.slot;
                 Err(OrderError::Stuck { reason, slot })
             }
-            Ok(goal) => self.look_at(program, at, branch, goal),
+            Ok(target) => self.look_at(program, at, branch, target),
         }
     }
 

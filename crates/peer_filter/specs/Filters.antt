@@ -11,13 +11,13 @@ use Rattle.peer_filter.specs.declared.filter.FilterError.TheVariants.{Rules, End
 use Rattle.peer_filter.specs.declared.filter.TheConstants.{MAX_RULES, MAX_ENDPOINTS}
 use Rattle.peer_filter.specs.declared.rule.Action.{Action}
 use Rattle.peer_filter.specs.declared.rule.Action.TheVariants.{Deny, Allow}
-use Rattle.peer_filter.specs.declared.rule.Endpoint.{Endpoint}
-use Rattle.peer_filter.specs.declared.rule.Endpoint.TheVariants.{At, Port}
+use Rattle.peer_filter.specs.declared.rule.ServerEndpoint.{ServerEndpoint}
+use Rattle.peer_filter.specs.declared.rule.ServerEndpoint.TheVariants.{At, Port}
 use Rattle.peer_filter.specs.declared.rule.Loopback.{Loopback}
 use Rattle.peer_filter.specs.declared.rule.Rule.{Rule}
 
 -- whether an endpoint of the server is that of a peer
-abbrev pub is_at : Addr → Endpoint → Bool
+abbrev pub is_at : Addr → ServerEndpoint → Bool
 is_at peer (At address) = is_same_address address peer
 is_at peer (Port port) = nat_eq port (port_of peer)
 
@@ -74,7 +74,7 @@ IsDecision rules peer None = EachCovering peer (λ _. ⊥) rules
 -- the rules, and the endpoints of the server
 pub record Filter : Type 0 where
   pub rules : List Rule
-  pub endpoints : List Endpoint
+  pub endpoints : List ServerEndpoint
 
 -- nothing is sent to port 0, to an endpoint of the server, or to an address that is denied
 abbrev pub allows : Filter → Addr → Bool
@@ -87,7 +87,7 @@ default_rules loopback = ALWAYS_DENIED
     ++ (if loopback.ipv4 then [] else LOOPBACK_V4 ∷ []) ++ (if loopback.ipv6 then [] else LOOPBACK_V6 ∷ [])
 
 -- the filter that is made, or the first limit that is passed
-abbrev pub IsMade : Loopback → List Endpoint → List Rule → Result Filter FilterError → Type 0
+abbrev pub IsMade : Loopback → List ServerEndpoint → List Rule → Result Filter FilterError → Type 0
 IsMade loopback endpoints rules (Ok filter) = (filter ≡ record { rules = default_rules loopback ++ rules; endpoints = endpoints })
     × ((length rules ≤ MAX_RULES) × (length endpoints ≤ MAX_ENDPOINTS))
 IsMade loopback endpoints rules (Err Rules) = MAX_RULES < length rules

@@ -7,7 +7,7 @@ ghost use Rattle.peer_filter.specs.Filters.{is_at, deciding_rule, is_allowed_by,
 ghost use Rattle.peer_filter.specs.declared.rule.Rule.{Rule};
 
 use crate::defaults::{ALWAYS_DENIED, LOOPBACK_V4, LOOPBACK_V6};
-use crate::rule::{Endpoint, Loopback, Rule};
+use crate::rule::{Loopback, Rule, ServerEndpoint};
 use arrayvec::ArrayVec;
 use attributes::Addr;
 use std::marker::Model;
@@ -40,7 +40,7 @@ pub enum FilterError {
 #[derive(Drop)]
 pub struct PeerFilter {
     rules: ArrayVec<Rule, MAX_ALL_RULES>,
-    endpoints: ArrayVec<Endpoint, MAX_ENDPOINTS>,
+    endpoints: ArrayVec<ServerEndpoint, MAX_ENDPOINTS>,
 }
 
 impl Model for PeerFilter {
@@ -99,7 +99,7 @@ fn is_allowed(rules: &[Rule], peer: &Addr) -> bool
 }
 
 /// Returns whether a peer is one of the endpoints.
-fn is_own(endpoints: &[Endpoint], peer: &Addr) -> bool
+fn is_own(endpoints: &[ServerEndpoint], peer: &Addr) -> bool
     ensures { result ≡ list_any (is_at peer.now) endpoints.now }
 {
     endpoints.iter().any(|own| own.is_at(peer))
@@ -132,7 +132,7 @@ impl PeerFilter {
     /// `Rules` for more than [`MAX_RULES`] rules, then `Endpoints` for more than [`MAX_ENDPOINTS`] endpoints.
     pub fn new(
         loopback: Loopback,
-        endpoints: &[Endpoint],
+        endpoints: &[ServerEndpoint],
         rules: &[Rule],
     ) -> Result<PeerFilter, FilterError>
         ensures { IsMade loopback endpoints.now rules.now result }

@@ -12,21 +12,21 @@ ghost use Rattle.peer_filter.specs.declared.rule.Rule.{Rule};
 
 /// States that the rule that decides on an address is the one with the longest prefix of those that contain it, the last
 /// one where several have as many bits; and that there is no decision only where no rule contains the address.
-pub fn longest_prefix_decides()
+pub fn law_longest_prefix_decides()
     ensures found { (rules : List Rule) (peer : Addr) → IsDecision rules peer (deciding_rule rules peer) }
     ensures only { (rules : List Rule) (peer : Addr) (rule : Rule)
         → DecidesOn rules peer rule → deciding_rule rules peer ≡ Some rule }
 {}
 
 /// States which IPv4 addresses the rules that hold without options deny.
-pub fn defaults_deny_v4()
+pub fn law_defaults_deny_v4()
     ensures { (loopback : Loopback) (a b c d port : ℕ) → IsAddress (addresses.V4 (a ∷ b ∷ c ∷ d ∷ []) port)
         → is_allowed_by (deciding_rule (default_rules loopback) (addresses.V4 (a ∷ b ∷ c ∷ d ∷ []) port))
         ≡ not (is_denied_v4 loopback a b) }
 {}
 
 /// States which IPv6 addresses the rules that hold without options deny.
-pub fn defaults_deny_v6()
+pub fn law_defaults_deny_v6()
     ensures { (loopback : Loopback) (ip : List ℕ) (port : ℕ) → IsAddress (addresses.V6 ip port)
         → is_allowed_by (deciding_rule (default_rules loopback) (addresses.V6 ip port))
         ≡ not (is_denied_v6 loopback (ip_number (addresses.V6 ip port))) }

@@ -11,6 +11,6 @@ mod tests;
 mod text;
 
 pub use filter::{FilterError, MAX_ENDPOINTS, MAX_RULES, PeerFilter};
-pub use laws::{defaults_deny_v4, defaults_deny_v6, longest_prefix_decides};
+pub use laws::{law_defaults_deny_v4, law_defaults_deny_v6, law_longest_prefix_decides};
 pub use network::{Network, NetworkError};
-pub use rule::{Action, Endpoint, Loopback, Rule};
+pub use rule::{Action, Loopback, Rule, ServerEndpoint};

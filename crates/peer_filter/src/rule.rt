@@ -52,17 +52,17 @@ impl Default for Rule {
 
 /// An endpoint of the server, to which nothing is sent.
 #[derive(Clone, Copy, Debug, PartialEq, Eq)]
-pub enum Endpoint {
+pub enum ServerEndpoint {
     /// One transport address.
     At(Addr),
     /// A port of every address.
     Port(u16),
 }
 
-impl Default for Endpoint {
+impl Default for ServerEndpoint {
     /// The port 0 of every address.
     fn default() -> Self {
-        Endpoint::Port(0)
+        ServerEndpoint::Port(0)
     }
 }
 
@@ -73,7 +73,7 @@ fn is_same_ip(a: &Addr, b: &Addr) -> bool
     a.cmp_ip(b).is_eq()
 }
 
-impl Endpoint {
+impl ServerEndpoint {
     ghost use Rattle.std.specs.Prelude.{◌≡◌};
     ghost use Rattle.peer_filter.specs.Filters.{is_at};
 
@@ -82,8 +82,10 @@ impl Endpoint {
         ensures { result ≡ is_at peer.now self.now }
     {
         match self {
-            Endpoint::At(address) => { address.port() == peer.port() && is_same_ip(address, peer) }
-            Endpoint::Port(port) => *port == peer.port(),
+            ServerEndpoint::At(address) => {
+                address.port() == peer.port() && is_same_ip(address, peer)
+            }
+            ServerEndpoint::Port(port) => *port == peer.port(),
         }
     }
 }

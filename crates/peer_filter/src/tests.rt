@@ -2,7 +2,7 @@
 
 use crate::filter::{FilterError, MAX_ENDPOINTS, MAX_RULES, PeerFilter};
 use crate::network::{Network, NetworkError};
-use crate::rule::{Action, Endpoint, Loopback, Rule};
+use crate::rule::{Action, Loopback, Rule, ServerEndpoint};
 use attributes::Addr;
 use std::alloc::{AllocError, Global};
 use std::net::{Ipv4Addr, Ipv6Addr};
@@ -272,9 +272,9 @@ fn check_endpoints(rt: &impl Abort) {
         ipv6: true,
     };
     let own = [
-        Endpoint::At(address(rt, "203.0.113.1", 3478)),
-        Endpoint::At(address(rt, "2001:db8::1", 3478)),
-        Endpoint::Port(5349),
+        ServerEndpoint::At(address(rt, "203.0.113.1", 3478)),
+        ServerEndpoint::At(address(rt, "2001:db8::1", 3478)),
+        ServerEndpoint::Port(5349),
     ];
     let filter = PeerFilter::new(everywhere, &own, &[]);
     assert!(rt; filter.is_ok());
@@ -305,7 +305,7 @@ fn error_of(
     endpoints: usize,
 ) -> Result<Option<FilterError>, AllocError> {
     let rules = Vec::from_elem(alloc, Rule::default(), rules)?;
-    let endpoints = Vec::from_elem(alloc, Endpoint::default(), endpoints)?;
+    let endpoints = Vec::from_elem(alloc, ServerEndpoint::default(), endpoints)?;
     Ok(PeerFilter::new(ELSEWHERE, endpoints.as_slice(), rules.as_slice()).err())
 }
 

@@ -1,3 +1,3 @@
 -- Internal. The modules of this folder.
 pub mod OnePeer
-pub mod OnePeerLaws
+pub mod laws

@@ -15,8 +15,8 @@ use Rattle.tables.specs.LookUps.{allocation_of, peer_of, has_permission}
 use Rattle.tables.specs.declared.allocation.Allocation.{Allocation}
 use Rattle.tables.specs.Rows.{Rows}
 use Rattle.tables.specs.WellFormed.{AreWellFormed}
-use Rattle.tables.specs.WellFormedLaws.{peer_of-address}
-use Rattle.helpers.specs.LawfulLaws.{record_bytes, wide_record_bytes, look_up_is_lawful}
+use Rattle.tables.specs.laws.WellFormed.{peer_of-address}
+use Rattle.helpers.specs.laws.Lawful.{record_bytes, wide_record_bytes, look_up_is_lawful}
 use Rattle.helpers.specs.LookUps.{look_up_answer, peer_answer, test_answer}
 use Rattle.semantics.specs.declared.helper.RecordForm.TheVariants.{Narrow, Wide}
 use Rattle.semantics.specs.Machine.{Environment, State}
@@ -114,9 +114,9 @@ answers_client (Some slot) rows formed = record {
 
 -- ---- the start and the end
 
-is_possible : (client : Addr) (tx : List ℕ) (rows : Rows) (datagram : List ℕ) → IsRelayStart client tx rows datagram → IsPossible (environment_for tx (Client client) rows)
-is_possible client tx rows datagram start = record {
-  context = record { side = omega arith; source = record_bytes client start.is_address; wide_source = wide_record_bytes client start.is_address; transaction_id = start.transaction_id };
+is_possible : (client : Addr) (transaction_id : List ℕ) (rows : Rows) (datagram : List ℕ) → IsRelayStart client transaction_id rows datagram → IsPossible (environment_for transaction_id (Client client) rows)
+is_possible client transaction_id rows datagram start = record {
+  context = record { side = omega arith; source = record_bytes client start.is_address; wide_source = wide_record_bytes client start.is_address; transaction_id = start.id_bytes };
   helpers = look_up_is_lawful rows start.well_formed (client_slot client rows);
 }
 
@@ -148,12 +148,12 @@ by_the_rules_of_send (Some at) rows p sent e = ap (λ (o : Option (Addr × List 
 
 -- where code is safe, it serves the client's side
 abbrev pub ServesIfSafe : List Insn → Type 0
-ServesIfSafe code = IsSafe code → (client : Addr) (tx : List ℕ) (rows : Rows) (datagram : List ℕ) → IsRelayStart client tx rows datagram → ServesClient code tx client rows datagram
+ServesIfSafe code = IsSafe code → (client : Addr) (transaction_id : List ℕ) (rows : Rows) (datagram : List ℕ) → IsRelayStart client transaction_id rows datagram → ServesClient code transaction_id client rows datagram
 
 module _ (found : (p : Parts) (bytes : List ℕ) → message_in bytes ≡ Some p → AreParts p × (bytes ≡ parts_bytes p)) (every : (p : Parts) (bytes : List ℕ) → AreParts p → bytes ≡ parts_bytes p → message_in bytes ≡ Some p)
-    (safe : IsSafe client_program) (client : Addr) (tx : List ℕ) (rows : Rows) (datagram : List ℕ) (start : IsRelayStart client tx rows datagram) where
+    (safe : IsSafe client_program) (client : Addr) (transaction_id : List ℕ) (rows : Rows) (datagram : List ℕ) (start : IsRelayStart client transaction_id rows datagram) where
   abbrev w : Environment
-  w = environment_for tx (Client client) rows
+  w = environment_for transaction_id (Client client) rows
 
   abbrev own : Option Allocation
   own = allocation_of client rows
@@ -162,17 +162,17 @@ module _ (found : (p : Parts) (bytes : List ℕ) → message_in bytes ≡ Some p
   slot = slot_of own
 
   abbrev final : State
-  final = (run_for client_program tx (Client client) rows datagram).state
+  final = (run_for client_program transaction_id (Client client) rows datagram).state
 
   -- the end of the run, where a value of XOR-PEER-ADDRESS is read under a transaction id
   ends : (id : List ℕ) → ExitsWith w client_program datagram (λ v s. IsClientEnd (peers_of slot rows) (permitted_in slot rows) id datagram v s)
   ends id =
       let keeps = client_exits_meet w datagram (peers_of slot rows) (permitted_in slot rows) (answers_client slot rows start.well_formed) id refl start.is_datagram in
-      safe_run_exits w client_program is_cut (λ v s. IsClientEnd (peers_of slot rows) (permitted_in slot rows) id datagram v s) datagram safe (is_possible client tx rows datagram start) start.is_datagram keeps
+      safe_run_exits w client_program is_cut (λ v s. IsClientEnd (peers_of slot rows) (permitted_in slot rows) id datagram v s) datagram safe (is_possible client transaction_id rows datagram start) start.is_datagram keeps
 
   -- what the run sends for a Send indication is what the rules send
-  relays_send : (p : Parts) (verdict : ℕ) → (run_for client_program tx (Client client) rows datagram).ending ≡ Exited verdict → verdict ≢ PASSES → sent_to verdict final ≡ send (permitted_in slot rows) p
-      → Relays client_program tx (Client client) rows datagram (send_from client rows p)
+  relays_send : (p : Parts) (verdict : ℕ) → (run_for client_program transaction_id (Client client) rows datagram).ending ≡ Exited verdict → verdict ≢ PASSES → sent_to verdict final ≡ send (permitted_in slot rows) p
+      → Relays client_program transaction_id (Client client) rows datagram (send_from client rows p)
   relays_send p verdict exits alone same = record {
     verdict = verdict;
     exits = exits;
@@ -180,7 +180,7 @@ module _ (found : (p : Parts) (bytes : List ℕ) → message_in bytes ≡ Some p
     sent = from_the_slot (verdict == 2) (window_in final) own (destination_in final) ∙ by_the_rules_of_send own rows p _ same;
   }
 
-  by_its_order : (p : Parts) → message_in datagram ≡ Some p → PassesTests datagram → Relays client_program tx (Client client) rows datagram (send_from client rows p)
+  by_its_order : (p : Parts) → message_in datagram ≡ Some p → PassesTests datagram → Relays client_program transaction_id (Client client) rows datagram (send_from client rows p)
   by_its_order p message (inl is) =
       let end = ends p.transaction_id in
       let owed = end.holds.address_first is in
@@ -198,9 +198,9 @@ module _ (found : (p : Parts) (bytes : List ℕ) → message_in bytes ≡ Some p
       let plain = is_plain found every datagram start.is_datagram tests in
       true≢false (sym plain.2 ∙ none plain.0 plain.1)
 
-  pub serves_client : ServesClient client_program tx client rows datagram
+  pub serves_client : ServesClient client_program transaction_id client rows datagram
   serves_client =
-      let end = ends tx in
+      let end = ends transaction_id in
       record {
         channel_data = λ begins.
             let first = channel_data_begins datagram begins in

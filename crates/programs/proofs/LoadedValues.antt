@@ -11,12 +11,12 @@ use Rattle.insn.specs.declared.operator.SwapOp.TheVariants.{ToBig}
 use Rattle.insn.specs.declared.size.SwapSize.TheVariants as swap
 use Rattle.semantics.specs.Access.{part, overlay, cells_bytes, cells_number}
 use Rattle.std.proofs.lemmas.List.{length-append, length-take, length-drop, take_all, take-append-drop, drop-drop}
-use Rattle.semantics.specs.AccessLaws.{put_after_put}
-use Rattle.semantics.specs.CallLaws.{length-cells, cells_read_back, cells_number_inside}
+use Rattle.semantics.specs.laws.Access.{put_after_put}
+use Rattle.semantics.specs.laws.Call.{length-cells, cells_read_back, cells_number_inside}
 use Rattle.semantics.specs.Machine.{datagram_area, empty_cells}
 use Rattle.semantics.specs.Runs.{IsDatagram}
-use Rattle.semantics.specs.StartLaws.{length-empty_cells, part_datagram}
-use Rattle.semantics.specs.SwapLaws.{swapped_half}
+use Rattle.semantics.specs.laws.Start.{length-empty_cells, part_datagram}
+use Rattle.semantics.specs.laws.Swap.{swapped_half}
 
 -- ---- bytes
 

@@ -14,13 +14,13 @@ use Rattle.attributes.specs.declared.address.Addr.{Addr}
 use Rattle.attributes.specs.declared.address.Addr.TheVariants.{V4, V6}
 use Rattle.helpers.specs.Records.{address_record, wide_record}
 use Rattle.semantics.specs.Access.{overlay, part, with_bytes}
-use Rattle.semantics.specs.ContextLaws.{length_field, source_part, id_head_part, id_tail_part, wide_part}
+use Rattle.semantics.specs.laws.Context.{length_field, source_part, id_head_part, id_tail_part, wide_part}
 use Rattle.semantics.specs.declared.stack.StackMemory.{StackMemory}
 use Rattle.semantics.specs.Machine.{AreBytes, context_bytes, IsContext, State, Environment, start, datagram_area, empty_cells, empty_stack}
 use Rattle.semantics.specs.declared.value.Value.TheVariants.{Nothing, Scalar, Ctx, Stack, Data}
 use Rattle.semantics.specs.declared.limits.TheConstants.{MAX_DATAGRAM}
 use Rattle.semantics.specs.Runs.{IsDatagram}
-use Rattle.semantics.specs.SwapLaws.{stored_again_8, stored_again_4, stored_half}
+use Rattle.semantics.specs.laws.Swap.{stored_again_8, stored_again_4, stored_half}
 use Rattle.fallible.specs.Options.{◌>>=◌, guard}
 use Rattle.programs.specs.Peer.{peer_program}
 use Rattle.rules.specs.Rules.{peer_data}
@@ -72,42 +72,42 @@ no_number (Some n) v range e none = absurd (omega (arith, e, none, range.0, rang
 -- ---- the run
 
 module _ (w : Environment) (d : List ℕ) (source : Addr) (allowed : Bool) (number : Option ℕ) (range : IfSome number (λ n. (0x4000 ≤ n) × (n ≤ 0x4fff))) (is : IsContext w.context) (fit : IsDatagram d) where
-  abbrev tx : List ℕ
-  tx = w.context.transaction_id
+  abbrev transaction_id : List ℕ
+  transaction_id = w.context.transaction_id
 
   abbrev pub IsEnd : ℕ → State → Type 0
-  IsEnd v s = IsPeerEnd allowed number source tx d v s
+  IsEnd v s = IsPeerEnd allowed number source transaction_id d v s
 
   wrong : (v : ℕ) (s : State) → ⊥ → IsEnd v s
   wrong v s bad = absurd bad
 
-  refused : (v : ℕ) (s : State) → v ≡ 0 → peer_data allowed number source tx d ≡ None → IsEnd v s
+  refused : (v : ℕ) (s : State) → v ≡ 0 → peer_data allowed number source transaction_id d ≡ None → IsEnd v s
   refused v s e none = record { alone = λ one. omega (arith, e, one); sends = rw e (sym none) }
 
-  sends : (s : State) (bytes : List ℕ) → window_sent 2 s ≡ Some bytes → peer_data allowed number source tx d ≡ Some bytes → IsEnd 2 s
+  sends : (s : State) (bytes : List ℕ) → window_sent 2 s ≡ Some bytes → peer_data allowed number source transaction_id d ≡ Some bytes → IsEnd 2 s
   sends s bytes e f = record { alone = λ one. omega (arith, one); sends = e ∙ sym f }
 
-  without : allowed ≡ false → peer_data allowed number source tx d ≡ None
+  without : allowed ≡ false → peer_data allowed number source transaction_id d ≡ None
   without e = rw e refl
 
-  id_head_bytes : AreBytes 8 (take 8 tx)
-  id_head_bytes = record { count = omega (arith, length-take 8 tx, is.transaction_id.count); fit = All-take (λ b. b < 256) 8 tx is.transaction_id.fit }
+  id_head_bytes : AreBytes 8 (take 8 transaction_id)
+  id_head_bytes = record { count = omega (arith, length-take 8 transaction_id, is.transaction_id.count); fit = All-take (λ b. b < 256) 8 transaction_id is.transaction_id.fit }
 
-  id_tail_bytes : AreBytes 4 (drop 8 tx)
-  id_tail_bytes = record { count = omega (arith, length-drop 8 tx, is.transaction_id.count); fit = All-drop (λ b. b < 256) 8 tx is.transaction_id.fit }
+  id_tail_bytes : AreBytes 4 (drop 8 transaction_id)
+  id_tail_bytes = record { count = omega (arith, length-drop 8 transaction_id, is.transaction_id.count); fit = All-drop (λ b. b < 256) 8 transaction_id is.transaction_id.fit }
 
   -- ---- with a channel
 
-  from_channel : (n : ℕ) → allowed ≡ true → number ≡ Some n → peer_data allowed number source tx d ≡ limited (channel_bytes (record { number = n; bytes = d }))
+  from_channel : (n : ℕ) → allowed ≡ true → number ≡ Some n → peer_data allowed number source transaction_id d ≡ limited (channel_bytes (record { number = n; bytes = d }))
   from_channel n e f = rw (e, f) refl
 
   long_channel : (n : ℕ) → length (channel_bytes (record { number = n; bytes = d })) ≡ 4 + length d
   long_channel n = omega arith
 
-  no_channel : (n : ℕ) → allowed ≡ true → number ≡ Some n → 65503 < length d → peer_data allowed number source tx d ≡ None
+  no_channel : (n : ℕ) → allowed ≡ true → number ≡ Some n → 65503 < length d → peer_data allowed number source transaction_id d ≡ None
   no_channel n e f lt = from_channel n e f ∙ limited_none (channel_bytes (record { number = n; bytes = d })) (omega (arith, long_channel n, lt))
 
-  channel_so : (n : ℕ) → allowed ≡ true → number ≡ Some n → length d ≤ 65503 → peer_data allowed number source tx d ≡ Some (channel_bytes (record { number = n; bytes = d }))
+  channel_so : (n : ℕ) → allowed ≡ true → number ≡ Some n → length d ≤ 65503 → peer_data allowed number source transaction_id d ≡ Some (channel_bytes (record { number = n; bytes = d }))
   channel_so n e f le = from_channel n e f ∙ limited_some (channel_bytes (record { number = n; bytes = d })) (omega (arith, long_channel n, le))
 
   -- where a part starts that sends: with the channel's number, the source's record or its head, the datagram's length, and
@@ -143,32 +143,32 @@ module _ (w : Environment) (d : List ℕ) (source : Addr) (allowed : Bool) (numb
 -- ---- a source of IPv4
 
 module _ (w : Environment) (d ip : List ℕ) (port : ℕ) (fits : HasWidth 4 ip port) (allowed : Bool) (number : Option ℕ) (is_source : w.context.source ≡ address_record (V4 ip port)) (answers : AnswersPeer w.answer (V4 ip port) allowed number) (is : IsContext w.context) (fit : IsDatagram d) where
-  abbrev tx_4 : List ℕ
-  tx_4 = w.context.transaction_id
+  abbrev id_4 : List ℕ
+  id_4 = w.context.transaction_id
 
   abbrev IsEnd_4 : ℕ → State → Type 0
-  IsEnd_4 v s = IsPeerEnd allowed number (V4 ip port) tx_4 d v s
+  IsEnd_4 v s = IsPeerEnd allowed number (V4 ip port) id_4 d v s
 
   abbrev data_4 : Option (List ℕ)
-  data_4 = peer_data allowed number (V4 ip port) tx_4 d
+  data_4 = peer_data allowed number (V4 ip port) id_4 d
 
-  from_indication : allowed ≡ true → number ≡ None → data_4 ≡ limited (parts_bytes (indication ip port tx_4 d))
+  from_indication : allowed ≡ true → number ≡ None → data_4 ≡ limited (parts_bytes (indication ip port id_4 d))
   from_indication e f = rw (e, f) refl
 
-  long_indication : (p : ℕ) → p ≡ length d + padding_count (length d) → length (parts_bytes (indication ip port tx_4 d)) ≡ 36 + p
+  long_indication : (p : ℕ) → p ≡ length d + padding_count (length d) → length (parts_bytes (indication ip port id_4 d)) ≡ 36 + p
   long_indication p e =
       let tail : List ℕ = d ++ replicate (padding_count (length d)) 0 in
-      let attributes = attributes_bytes (indication ip port tx_4 d).attributes in
+      let attributes = attributes_bytes (indication ip port id_4 d).attributes in
       let count : length attributes ≡ 16 + p =
-      ap length (attributes_are ip d tx_4 port) ∙ length-append (after_header ip port (length d)) tail ∙ omega (arith, length-after_header ip port (length d), length-append d (replicate (padding_count (length d)) 0), length-replicate {A = ℕ} (padding_count (length d)) 0, e) in
+      ap length (attributes_are ip d id_4 port) ∙ length-append (after_header ip port (length d)) tail ∙ omega (arith, length-after_header ip port (length d), length-append d (replicate (padding_count (length d)) 0), length-replicate {A = ℕ} (padding_count (length d)) 0, e) in
       let head : List ℕ = big_bytes 2 0x0017 ++ big_bytes 2 (length attributes) ++ big_bytes 4 magic_cookie in
-      omega (arith, length-append (head ++ tx_4) attributes, length-append head tx_4, count, is.transaction_id.count)
+      omega (arith, length-append (head ++ id_4) attributes, length-append head id_4, count, is.transaction_id.count)
 
   no_indication : allowed ≡ true → number ≡ None → 65468 < length d → data_4 ≡ None
-  no_indication e f lt = from_indication e f ∙ limited_none (parts_bytes (indication ip port tx_4 d)) (omega (arith, long_indication (length d + padding_count (length d)) refl, lt))
+  no_indication e f lt = from_indication e f ∙ limited_none (parts_bytes (indication ip port id_4 d)) (omega (arith, long_indication (length d + padding_count (length d)) refl, lt))
 
-  indication_so : allowed ≡ true → number ≡ None → length d ≤ 65468 → data_4 ≡ Some (parts_bytes (indication ip port tx_4 d))
-  indication_so e f le = from_indication e f ∙ limited_some (parts_bytes (indication ip port tx_4 d)) (omega (arith, long_indication (length d + padding_count (length d)) refl, le))
+  indication_so : allowed ≡ true → number ≡ None → length d ≤ 65468 → data_4 ≡ Some (parts_bytes (indication ip port id_4 d))
+  indication_so e f le = from_indication e f ∙ limited_some (parts_bytes (indication ip port id_4 d)) (omega (arith, long_indication (length d + padding_count (length d)) refl, le))
 
   ip_bytes : AreBytes 4 ip
   ip_bytes = record { count = fits.long; fit = all_below ip fits.bytes }
@@ -193,12 +193,12 @@ module _ (w : Environment) (d ip : List ℕ) (port : ℕ) (fits : HasWidth 4 ip 
         λ b1 is_b1. λ l is_l. λ l' is_l'. λ b2 is_b2. λ b3 is_b3. λ h is_h. λ b4 is_b4. λ g is_g. λ b5 is_b5. λ b6 is_b6. λ b7 is_b7.
         λ q is_q. λ q1 is_q1. λ q2 is_q2. λ q3 is_q3. λ b8 is_b8. λ r is_r. λ r1 is_r1. λ r2 is_r2. λ r3 is_r3. λ b9 is_b9. λ b10 is_b10. λ y is_y. λ b11 is_b11. λ t is_t.
         let t_is : t ≡ 36 + p = omega (arith, is_t, p_small) in
-        let header : AreHeader ip tx_4 port (length d) p b1 b2 b3 b4 b5 b6 b7 b8 b9 b10 b11 = record {
+        let header : AreHeader ip id_4 port (length d) p b1 b2 b3 b4 b5 b6 b7 b8 b9 b10 b11 = record {
           kind = is_b1;
           rest = rest_is p l l' b2 (omega (arith, p_small)) is_l is_l' is_b2;
           cookie = is_b3;
-          id_head = is_b4 ∙ stored_again_8 (take 8 tx_4) h (id_head_bytes w d (V4 ip port) allowed number answers.range is fit) (is_h ∙ ap (little_number 8) (id_head_part w.context (length d) is));
-          id_tail = is_b5 ∙ stored_again_4 (drop 8 tx_4) g (id_tail_bytes w d (V4 ip port) allowed number answers.range is fit) (is_g ∙ ap (little_number 4) (id_tail_part w.context (length d) is));
+          id_head = is_b4 ∙ stored_again_8 (take 8 id_4) h (id_head_bytes w d (V4 ip port) allowed number answers.range is fit) (is_h ∙ ap (little_number 8) (id_head_part w.context (length d) is));
+          id_tail = is_b5 ∙ stored_again_4 (drop 8 id_4) g (id_tail_bytes w d (V4 ip port) allowed number answers.range is fit) (is_g ∙ ap (little_number 4) (id_tail_part w.context (length d) is));
           address = is_b6;
           family = is_b7;
           port_is = port_bytes port q1 q2 q3 b8 fits.small (port_in_record ip port fits.small b0 held q q1 (stack_number 2 2 q b0 size (omega arith) is_q) is_q1) is_q2 is_q3 is_b8;
@@ -206,7 +206,7 @@ module _ (w : Environment) (d ip : List ℕ) (port : ℕ) (fits : HasWidth 4 ip 
           data_kind = is_b10;
           size = is_b11 ∙ stored_half n y (omega (arith, n_is, short_d)) is_y ∙ ap (big_bytes 2) n_is;
         } in (
-          λ fitting. sends w d (V4 ip port) allowed number answers.range is fit _ (parts_bytes (indication ip port tx_4 d)) (ap Some (indication_window ip d tx_4 port p t b1 b2 b3 b4 b5 b6 b7 b8 b9 b10 b11 is.transaction_id.count header p_is t_is)) (indication_so allows unbound short_d),
+          λ fitting. sends w d (V4 ip port) allowed number answers.range is fit _ (parts_bytes (indication ip port id_4 d)) (ap Some (indication_window ip d id_4 port p t b1 b2 b3 b4 b5 b6 b7 b8 b9 b10 b11 is.transaction_id.count header p_is t_is)) (indication_so allows unbound short_d),
           λ no_room. wrong w d (V4 ip port) allowed number answers.range is fit 2 _ (too_wide p t p_is t_is short_d no_room),
         ),
   )
@@ -244,35 +244,35 @@ module _ (w : Environment) (d ip : List ℕ) (port : ℕ) (fits : HasWidth 4 ip 
 -- ---- a source of IPv6
 
 module _ (w : Environment) (d ip : List ℕ) (port : ℕ) (fits : HasWidth 16 ip port) (allowed : Bool) (number : Option ℕ) (is_source : w.context.source ≡ address_record (V6 ip port)) (is_wide : w.context.wide_source ≡ wide_record (V6 ip port)) (answers : AnswersPeer w.answer (V6 ip port) allowed number) (is : IsContext w.context) (fit : IsDatagram d) where
-  abbrev tx_6 : List ℕ
-  tx_6 = w.context.transaction_id
+  abbrev id_6 : List ℕ
+  id_6 = w.context.transaction_id
 
   abbrev wide : List ℕ
   wide = wide_record (V6 ip port)
 
   abbrev IsEnd_6 : ℕ → State → Type 0
-  IsEnd_6 v s = IsPeerEnd allowed number (V6 ip port) tx_6 d v s
+  IsEnd_6 v s = IsPeerEnd allowed number (V6 ip port) id_6 d v s
 
   abbrev data_6 : Option (List ℕ)
-  data_6 = peer_data allowed number (V6 ip port) tx_6 d
+  data_6 = peer_data allowed number (V6 ip port) id_6 d
 
-  from_indication_6 : allowed ≡ true → number ≡ None → data_6 ≡ limited (parts_bytes (indication_6 ip port tx_6 d))
+  from_indication_6 : allowed ≡ true → number ≡ None → data_6 ≡ limited (parts_bytes (indication_6 ip port id_6 d))
   from_indication_6 e f = rw (e, f) refl
 
-  long_indication_6 : (p : ℕ) → p ≡ length d + padding_count (length d) → length (parts_bytes (indication_6 ip port tx_6 d)) ≡ 48 + p
+  long_indication_6 : (p : ℕ) → p ≡ length d + padding_count (length d) → length (parts_bytes (indication_6 ip port id_6 d)) ≡ 48 + p
   long_indication_6 p e =
       let tail : List ℕ = d ++ replicate (padding_count (length d)) 0 in
-      let attributes = attributes_bytes (indication_6 ip port tx_6 d).attributes in
+      let attributes = attributes_bytes (indication_6 ip port id_6 d).attributes in
       let count : length attributes ≡ 28 + p =
-      ap length (attributes_are_6 ip d tx_6 port) ∙ length-append (after_header_6 ip port tx_6 (length d)) tail ∙ omega (arith, length-after_header_6 ip tx_6 port (length d), length-append d (replicate (padding_count (length d)) 0), length-replicate {A = ℕ} (padding_count (length d)) 0, e) in
+      ap length (attributes_are_6 ip d id_6 port) ∙ length-append (after_header_6 ip port id_6 (length d)) tail ∙ omega (arith, length-after_header_6 ip id_6 port (length d), length-append d (replicate (padding_count (length d)) 0), length-replicate {A = ℕ} (padding_count (length d)) 0, e) in
       let head : List ℕ = big_bytes 2 0x0017 ++ big_bytes 2 (length attributes) ++ big_bytes 4 magic_cookie in
-      omega (arith, length-append (head ++ tx_6) attributes, length-append head tx_6, count, is.transaction_id.count)
+      omega (arith, length-append (head ++ id_6) attributes, length-append head id_6, count, is.transaction_id.count)
 
   no_indication_6 : allowed ≡ true → number ≡ None → 65456 < length d → data_6 ≡ None
-  no_indication_6 e f lt = from_indication_6 e f ∙ limited_none (parts_bytes (indication_6 ip port tx_6 d)) (omega (arith, long_indication_6 (length d + padding_count (length d)) refl, lt))
+  no_indication_6 e f lt = from_indication_6 e f ∙ limited_none (parts_bytes (indication_6 ip port id_6 d)) (omega (arith, long_indication_6 (length d + padding_count (length d)) refl, lt))
 
-  indication_so_6 : allowed ≡ true → number ≡ None → length d ≤ 65456 → data_6 ≡ Some (parts_bytes (indication_6 ip port tx_6 d))
-  indication_so_6 e f le = from_indication_6 e f ∙ limited_some (parts_bytes (indication_6 ip port tx_6 d)) (omega (arith, long_indication_6 (length d + padding_count (length d)) refl, le))
+  indication_so_6 : allowed ≡ true → number ≡ None → length d ≤ 65456 → data_6 ≡ Some (parts_bytes (indication_6 ip port id_6 d))
+  indication_so_6 e f le = from_indication_6 e f ∙ limited_some (parts_bytes (indication_6 ip port id_6 d)) (omega (arith, long_indication_6 (length d + padding_count (length d)) refl, le))
 
   length_small : length d < 2 ^ 64
   length_small = omega (arith, fit.short)
@@ -321,22 +321,22 @@ module _ (w : Environment) (d ip : List ℕ) (port : ℕ) (fits : HasWidth 16 ip
         let t_is : t ≡ 48 + p = omega (arith, is_t, p_small) in
         let head_id = id_head_bytes w d (V6 ip port) allowed number answers.range is fit in
         let tail_id = id_tail_bytes w d (V6 ip port) allowed number answers.range is fit in
-        let g_is : g ≡ little_number 8 (take 8 tx_6) = is_g ∙ ap (little_number 8) (id_head_part w.context (length d) is) in
-        let e_is : e ≡ little_number 4 (drop 8 tx_6) = is_e ∙ ap (little_number 4) (id_tail_part w.context (length d) is) in
-        let header : AreWideHeader ip tx_6 port (length d) p b1 b2 b3 b4 b5 b6 b7 b8 b9 b10 b11 = record {
+        let g_is : g ≡ little_number 8 (take 8 id_6) = is_g ∙ ap (little_number 8) (id_head_part w.context (length d) is) in
+        let e_is : e ≡ little_number 4 (drop 8 id_6) = is_e ∙ ap (little_number 4) (id_tail_part w.context (length d) is) in
+        let header : AreWideHeader ip id_6 port (length d) p b1 b2 b3 b4 b5 b6 b7 b8 b9 b10 b11 = record {
           kind = is_b1;
           rest = rest_is_6 p l l' b2 (omega (arith, p_small)) is_l is_l' is_b2;
           cookie = is_b3;
-          id_head = is_b4 ∙ stored_again_8 (take 8 tx_6) g head_id g_is;
-          id_tail = is_b5 ∙ stored_again_4 (drop 8 tx_6) e tail_id e_is;
+          id_head = is_b4 ∙ stored_again_8 (take 8 id_6) g head_id g_is;
+          id_tail = is_b5 ∙ stored_again_4 (drop 8 id_6) e tail_id e_is;
           address = is_b6;
           head = stored_xor_8 (take 8 wide) front_mask b7 h 0x42a4122112210000 x head_bytes front_mask_bytes h_is mask_number is_x is_b7;
-          middle = stored_xor_8 (take 8 (drop 8 wide)) (take 8 tx_6) b8 m g y middle_bytes head_id (middle_field m is_m) g_is is_y is_b8;
-          tail = stored_xor_4 (take 4 (drop 16 wide)) (drop 8 tx_6) b9 q e z tail_bytes tail_id (tail_field q is_q) e_is is_z is_b9;
+          middle = stored_xor_8 (take 8 (drop 8 wide)) (take 8 id_6) b8 m g y middle_bytes head_id (middle_field m is_m) g_is is_y is_b8;
+          tail = stored_xor_4 (take 4 (drop 16 wide)) (drop 8 id_6) b9 q e z tail_bytes tail_id (tail_field q is_q) e_is is_z is_b9;
           data_kind = is_b10;
           size = is_b11 ∙ stored_half n u (omega (arith, n_is, short_d)) is_u ∙ ap (big_bytes 2) n_is;
         } in (
-          λ fitting. sends w d (V6 ip port) allowed number answers.range is fit _ (parts_bytes (indication_6 ip port tx_6 d)) (ap Some (indication_window_6 ip d tx_6 port p t b1 b2 b3 b4 b5 b6 b7 b8 b9 b10 b11 fits is.transaction_id header p_is t_is)) (indication_so_6 allows unbound short_d),
+          λ fitting. sends w d (V6 ip port) allowed number answers.range is fit _ (parts_bytes (indication_6 ip port id_6 d)) (ap Some (indication_window_6 ip d id_6 port p t b1 b2 b3 b4 b5 b6 b7 b8 b9 b10 b11 fits is.transaction_id header p_is t_is)) (indication_so_6 allows unbound short_d),
           λ no_room. wrong w d (V6 ip port) allowed number answers.range is fit 2 _ (too_wide p t p_is t_is short_d no_room),
         ),
   )

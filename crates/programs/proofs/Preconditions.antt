@@ -30,7 +30,7 @@ use Rattle.semantics.specs.Machine.{State, AddressRecord, Environment, context_b
 use Rattle.semantics.specs.Effects.{unary_effect, load_effect, jump_if_effect, register_value, operand_value, writable, register_write, pointer_to, alu_result, unary_result, comparison_result, comparison_of_places, pointer, store_value, store_effect, context_argument, number_argument, stack_argument, record_argument, helper_effect, verdict_of, effect}
 use Rattle.semantics.specs.Slots.{fetch, target}
 use Rattle.semantics.specs.Runs.{StepResult, Goes, Exits, Sticks, Ending, Exited, Stuck, Running, step_by_effect, Run, step_to, step_of_fetched, step, run_onwards, run, registers_with, IsSafe, IsPossible, IsDatagram, state_after_answer, state_with_plan, with_window, with_destination}
-use Rattle.semantics.specs.RunLaws.{exits_the_same}
+use Rattle.semantics.specs.laws.Run.{exits_the_same}
 use Rattle.machine.specs.Tracing.{run_over}
 use Rattle.semantics.specs.declared.access.Location.{Location}
 use Rattle.semantics.specs.declared.access.Location.TheVariants.{InStack, InBytes}

@@ -8,7 +8,7 @@ use Rattle.insn.specs.Endian.{big_number, big_bytes}
 use Rattle.insn.specs.Numbers.{big_from-take}
 use Rattle.stun.specs.Messages.{Parts, PaddedAttribute, AreParts, parts_bytes, attributes_bytes, padding_count, header}
 use Rattle.semantics.specs.Access.{part}
-use Rattle.semantics.specs.AccessLaws.{part_more}
+use Rattle.semantics.specs.laws.Access.{part_more}
 use Rattle.semantics.specs.Runs.{IsDatagram}
 use Rattle.programs.specs.PlainSends.{padded_length, IsSendHeader, IsAddressFirst, IsDataFirst}
 use Rattle.programs.proofs.LoadedValues.{byte_below}
@@ -161,19 +161,19 @@ module _ (d : List ℕ) (fit : IsDatagram d) where
 
 -- ---- and back
 
-module _ (d tx v x pad : List ℕ) (id : length tx ≡ 12) (eight : length v ≡ 8) (padding : length pad ≡ padding_count (length x)) (short : length d ≤ 65507) where
+module _ (d transaction_id v x pad : List ℕ) (id : length transaction_id ≡ 12) (eight : length v ≡ 8) (padding : length pad ≡ padding_count (length x)) (short : length d ≤ 65507) where
   abbrev pub address_attribute_of : PaddedAttribute
   address_attribute_of = record { kind = 0x0012; value = v; padding = [] }
 
   abbrev pub data_attribute_of : PaddedAttribute
   data_attribute_of = record { kind = 0x0013; value = x; padding = pad }
 
-  module _ (attributes : List PaddedAttribute) (is : d ≡ parts_bytes (record { kind = 0x0016; transaction_id = tx; attributes = attributes })) where
+  module _ (attributes : List PaddedAttribute) (is : d ≡ parts_bytes (record { kind = 0x0016; transaction_id = transaction_id; attributes = attributes })) where
     abbrev after_the_header : List ℕ
     after_the_header = attributes_bytes attributes
 
     size_is : length d ≡ 20 + length after_the_header
-    size_is = ap length is ∙ omega (arith, length-append tx after_the_header, id)
+    size_is = ap length is ∙ omega (arith, length-append transaction_id after_the_header, id)
 
     header_back : 16 ≤ length after_the_header → IsSendHeader d
     header_back le = record {
@@ -184,7 +184,7 @@ module _ (d tx v x pad : List ℕ) (id : length tx ≡ 12) (eight : length v ≡
     }
 
     from_attributes : drop 20 d ≡ after_the_header
-    from_attributes = ap (drop 20) is ∙ drop_at tx after_the_header 12 id
+    from_attributes = ap (drop 20) is ∙ drop_at transaction_id after_the_header 12 id
 
   -- what is after the first attribute, and the sizes
   abbrev data_bytes : List ℕ
@@ -199,7 +199,7 @@ module _ (d tx v x pad : List ℕ) (id : length tx ≡ 12) (eight : length v ≡
   address_long : length address_bytes ≡ 12
   address_long = omega (arith, length-append (v ++ []) [], length-append v [], eight)
 
-  pub address_first_back : d ≡ parts_bytes (record { kind = 0x0016; transaction_id = tx; attributes = address_attribute_of ∷ data_attribute_of ∷ [] }) → IsAddressFirst d
+  pub address_first_back : d ≡ parts_bytes (record { kind = 0x0016; transaction_id = transaction_id; attributes = address_attribute_of ∷ data_attribute_of ∷ [] }) → IsAddressFirst d
   address_first_back is =
       let attributes : List PaddedAttribute = address_attribute_of ∷ data_attribute_of ∷ [] in
       let all : List ℕ = attributes_bytes attributes in
@@ -219,7 +219,7 @@ module _ (d tx v x pad : List ℕ) (id : length tx ≡ 12) (eight : length v ≡
       small : (n : ℕ) → n < 65536 → big_number 2 (big_bytes 2 n) ≡ n
       small n lt = omega arith
 
-  pub data_first_back : d ≡ parts_bytes (record { kind = 0x0016; transaction_id = tx; attributes = data_attribute_of ∷ address_attribute_of ∷ [] }) → IsDataFirst d
+  pub data_first_back : d ≡ parts_bytes (record { kind = 0x0016; transaction_id = transaction_id; attributes = data_attribute_of ∷ address_attribute_of ∷ [] }) → IsDataFirst d
   data_first_back is =
       let attributes : List PaddedAttribute = data_attribute_of ∷ address_attribute_of ∷ [] in
       let all : List ℕ = attributes_bytes attributes in

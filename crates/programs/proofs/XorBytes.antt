@@ -11,9 +11,9 @@ use Rattle.insn.specs.Words.{alu}
 use Rattle.insn.specs.declared.operator.AluOp.TheVariants.{Xor}
 use Rattle.insn.specs.declared.width.Width.TheVariants.{W64}
 use Rattle.semantics.specs.Machine.{AreBytes}
-use Rattle.semantics.specs.SwapLaws.{stored_again_8, stored_again_4}
+use Rattle.semantics.specs.laws.Swap.{stored_again_8, stored_again_4}
 use Rattle.programs.proofs.LoadedValues.{byte_below}
-use Rattle.attributes.specs.NumberLaws.{bytes_back}
+use Rattle.attributes.specs.laws.Number.{bytes_back}
 
 -- bytes xored with others, as many as both have
 abbrev pub xor_each : List ℕ → List ℕ → List ℕ

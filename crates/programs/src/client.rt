@@ -2,7 +2,7 @@
 
 /// The bytes of the program of the client's side, an instruction a line, made of examples/relay/client.s. It relays
 /// ChannelData and Send indications of an IPv4 address and data, passes on whatever else begins as a STUN message does,
-/// and sends nothing for any other datagram. [`client_serves`](crate::client_serves) states what it promises.
+/// and sends nothing for any other datagram. [`law_client_serves`](crate::law_client_serves) states what it promises.
 /// See docs/DECISIONS.md, "A plain Send indication".
 pub const CLIENT: &[u8] = &[
     0xbf, 0x16, 0x00, 0x00, 0x00, 0x00, 0x00, 0x00, // mov r6, r1

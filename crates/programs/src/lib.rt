@@ -7,6 +7,6 @@ mod peer;
 mod verdict;
 
 pub use client::CLIENT;
-pub use laws::{client_serves, client_tests_plain_sends, peer_serves};
+pub use laws::{law_client_serves, law_client_tests_plain_sends, law_peer_serves};
 pub use peer::PEER;
-pub use verdict::{DISCARDS, PASSES, SENDS, verdicts};
+pub use verdict::{DISCARDS, PASSES, SENDS, law_verdicts};

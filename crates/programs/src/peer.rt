@@ -2,7 +2,7 @@
 
 /// The bytes of the program of the peers' side, an instruction a line, made of examples/relay/peer.s. It relays
 /// datagrams of peers that have a permission: as ChannelData where a channel is bound to the peer, and else as Data
-/// indications. [`peer_serves`](crate::peer_serves) states what it promises.
+/// indications. [`law_peer_serves`](crate::law_peer_serves) states what it promises.
 pub const PEER: &[u8] = &[
     0xbf, 0x16, 0x00, 0x00, 0x00, 0x00, 0x00, 0x00, // mov r6, r1
     0x79, 0x17, 0x18, 0x00, 0x00, 0x00, 0x00, 0x00, // ldxdw r7, [r1+24]

@@ -12,7 +12,7 @@ pub const PASSES: u64 = 1;
 pub const SENDS: u64 = 2;
 
 /// States the verdicts.
-pub fn verdicts()
+pub fn law_verdicts()
     ensures discards { DISCARDS ≡ 0 }
     ensures passes { PASSES ≡ 1 }
     ensures sends { SENDS ≡ 2 }

@@ -1,30 +1,36 @@
 -- A datagram of a source that is served: what its run decides is the outcome of the system with programs.
-use Rattle.std.proofs.Common.{◌≡◌, ℕ, length, Bool, true, false, refl, sym, ap, subst, ◌∙◌}
-use Rattle.std.specs.Prelude.{◌==◌, ◌&&◌, None, if◌then◌else◌}
-use Rattle.std.proofs.lemmas.Bool.{cond-true, cond-false, and_parts}
+use Rattle.std.proofs.Common.{◌≡◌, ℕ, List, length, Bool, true, false, refl, sym, ap, subst, ◌∙◌}
+use Rattle.std.specs.Prelude.{◌==◌, ◌&&◌, Option, None, if◌then◌else◌}
+use Rattle.std.proofs.lemmas.Bool.{cond-false}
 use Rattle.semantics.specs.Runs.{Run, Ending}
 use Rattle.attributes.specs.declared.address.Addr.{Addr}
 use Rattle.control.specs.declared.config.Config.{Config}
 use Rattle.machine.specs.declared.outcome.Outcome.{Outcome}
 use Rattle.tables.specs.Moments.{moment_of}
-use Rattle.tables.specs.Rows.{rows_at}
+use Rattle.machine.specs.Contents.{datagram_of}
+use Rattle.tables.specs.Rows.{Rows, rows_at}
 use Rattle.events.specs.declared.meta.Meta.{Meta}
 use Rattle.events.specs.declared.meta.Source.{Source}
 use Rattle.events.specs.declared.meta.Source.TheVariants.{Client, Peer}
 use Rattle.programs.specs.Runs.{planned_sending, datagram_in, destination_in, window_in}
 use Rattle.programs.specs.declared.verdict.TheConstants.{PASSES, SENDS}
-use Rattle.relay.specs.ByPrograms.{by_programs, by_run, by_ending, by_verdict, is_there}
+use Rattle.relay.specs.ByPrograms.{by_programs, by_run, of_run, of_ending, of_verdict, of_passing, is_there, disposition_by_run, relayed_where_sent}
+use Rattle.events.specs.Events.{Sending}
 use Rattle.rules.specs.ByRules.{from_client}
-use Rattle.relay.specs.Found.{HasRun, run_at, reply_of_passing, window_shown}
+use Rattle.rules.specs.Dispositions.{client_disposition}
+use Rattle.rules.specs.declared.disposition.Discard.TheVariants.{NotServed, ByProgram}
+use Rattle.rules.specs.declared.disposition.Disposition.{Disposition}
+use Rattle.rules.specs.declared.disposition.Disposition.TheVariants.{Discarded}
+use Rattle.relay.specs.Found.{HasRun, run_at, reply_of_passing, disposition_of_passing, window_shown}
 use Rattle.relay.specs.Relays.{RelayContents, state_of, datagram_at}
-use Rattle.relay.specs.Steps.{HasStepped, outcome_of}
+use Rattle.relay.specs.Steps.{HasStepped, outcome_of, disposition_for, disposition_of_step}
 use Rattle.rules.specs.Systems.{SystemReply, no_answer, reply_of_relaying, outcome_at, if_served, is_served, with_nonce}
 use Rattle.relay.proofs.SameNonce.{from_client_same}
 
 module _ (old : RelayContents) (given : Meta) (n moment : ℕ) where
   -- the reply at a moment
   abbrev pub reply_at : SystemReply
-  reply_at = if_served (by_programs old.programs) (with_nonce old.config old.config.nonce.bytes) moment given.tx given.from old.rows (datagram_at old n)
+  reply_at = if_served (by_programs old.programs) (with_nonce old.config old.config.nonce.bytes) moment given.transaction_id given.from old.rows (datagram_at old n)
 
   -- the relay at the moment
   abbrev pub at_moment : RelayContents
@@ -34,10 +40,14 @@ module _ (old : RelayContents) (given : Meta) (n moment : ℕ) where
   abbrev run_reply : SystemReply
   run_reply = by_run (with_nonce old.config old.config.nonce.bytes) moment given.from old.rows (length (datagram_at old n)) (run_at at_moment given n)
 
+  -- what is done by the run
+  abbrev run_disposition : Disposition
+  run_disposition = disposition_by_run old.config moment given.from old.rows (length (datagram_at old n)) (run_at at_moment given n)
+
   -- a reply of a system makes a step
   pub steps : (new : RelayContents) → moment ≡ moment_of old.greatest given.now → new.rows ≡ reply_at.rows → new.greatest ≡ moment → new.config ≡ old.config → new.programs ≡ old.programs → HasStepped old new (outcome_of old given n)
   steps new is rows greatest config programs =
-      let P : ℕ → Type 0 = λ m. HasStepped old new (outcome_at m (state_of old) (if_served (by_programs old.programs) (with_nonce old.config old.config.nonce.bytes) m given.tx given.from old.rows (datagram_at old n))) in
+      let P : ℕ → Type 0 = λ m. HasStepped old new (outcome_at m (state_of old) (if_served (by_programs old.programs) (with_nonce old.config old.config.nonce.bytes) m given.transaction_id given.from old.rows (datagram_at old n))) in
       subst P is (record {
         state = λ i. record { rows = rows i; greatest = greatest i; nonce = (config i).nonce.bytes };
         config = config;
@@ -50,58 +60,109 @@ module _ (old : RelayContents) (given : Meta) (n moment : ℕ) where
       (ap (λ (r : RelayContents). r.rows) kept ∙ sym rows) (ap (λ (r : RelayContents). r.greatest) kept) (ap (λ (r : RelayContents). r.config) kept) (ap (λ (r : RelayContents). r.programs) kept)
 
   pub answers : moment ≡ moment_of old.greatest given.now → reply_at.answer ≡ (outcome_of old given n).answer
-  answers is = ap (λ (m : ℕ). (if_served (by_programs old.programs) (with_nonce old.config old.config.nonce.bytes) m given.tx given.from old.rows (datagram_at old n)).answer) is
+  answers is = ap (λ (m : ℕ). (if_served (by_programs old.programs) (with_nonce old.config old.config.nonce.bytes) m given.transaction_id given.from old.rows (datagram_at old n)).answer) is
 
-  -- a source that is not served
-  pub not_served : (is_served given.from && is_there given.from old.rows) ≡ false → reply_at ≡ no_answer old.rows
-  not_served other = of (is_served given.from) (is_there given.from old.rows) other where
-    of : (a b : Bool) → (a && b) ≡ false → (if a then (if b then run_reply else no_answer old.rows) else no_answer old.rows) ≡ no_answer old.rows
-    of false b e = refl
-    of true false e = refl
-    of true true e = absurd cc
+  -- what is done at a moment
+  abbrev pub done_at : Disposition
+  done_at = disposition_for old given n moment
 
-  module _ (o : Outcome) (shown : RelayContents) (served : (is_served given.from && is_there given.from old.rows) ≡ true)
-      (ran : HasRun (length (datagram_at old n)) o shown.frame (run_at at_moment given n)) where
-    abbrev config : Config
-    config = with_nonce old.config old.config.nonce.bytes
+  pub done_then : moment ≡ moment_of old.greatest given.now → done_at ≡ disposition_of_step old given n
+  done_then is = ap (disposition_for old given n) is
 
+  if_both : {X : Type 0} (a b : Bool) (x y : X) → (a && b) ≡ true → (if a then (if b then x else y) else y) ≡ x
+  if_both true true x y e = refl
+  if_both true false x y e = absurd cc
+  if_both false b x y e = absurd cc
+
+  -- ---- what follows from a run
+
+  module _ (o : Outcome) (shown : RelayContents) (ran : HasRun (length (datagram_at old n)) o shown.frame (run_at at_moment given n)) where
     abbrev r : Run
     r = run_at at_moment given n
 
-    -- the reply is that of the verdict
-    by_its_verdict : reply_at ≡ by_verdict config moment given.from old.rows (length (datagram_at old n)) r o.verdict
-    by_its_verdict =
-        let both = and_parts (is_served given.from) (is_there given.from old.rows) served in
-        cond-true (is_served given.from) _ (no_answer old.rows) both.0
-        ∙ cond-true (is_there given.from old.rows) _ (no_answer old.rows) both.1
-        ∙ ap (λ (e : Ending). by_ending config moment given.from old.rows (length (datagram_at old n)) r e) ran.outcome.verdict
+    abbrev live : Rows
+    live = rows_at moment old.rows
 
-    -- a client's datagram is passed on
-    pub passes_client : (client : Addr) → given.from ≡ Client client → o.verdict ≡ PASSES → shown.config ≡ old.config → shown.rows ≡ old.rows → shown.greatest ≡ moment → reply_at ≡ reply_of_passing shown client
-    passes_client client from verdict same rows greatest =
-        by_its_verdict
-        ∙ ap (λ (v : ℕ). by_verdict config moment given.from old.rows (length (datagram_at old n)) r v) verdict
-        ∙ ap (λ (s : Source). by_verdict config moment s old.rows (length (datagram_at old n)) r PASSES) from
-        ∙ from_client_same old.config moment client old.rows (datagram_in (length (datagram_at old n)) r.state)
-        ∙ (λ i. from_client (sym same i) (sym greatest i) client (sym rows i) (sym ran.datagram i))
+    module _ {X : Type 0} (passes : Addr → List ℕ → X) (sending : Option Sending → X) where
+      abbrev end : X
+      end = of_run passes sending given.from live (length (datagram_at old n)) r
 
-    -- a peer's is not
-    pub passes_peer : (slot : ℕ) (peer : Addr) → given.from ≡ Peer slot peer → o.verdict ≡ PASSES → reply_at ≡ no_answer old.rows
-    passes_peer slot peer from verdict =
-        by_its_verdict
-        ∙ ap (λ (v : ℕ). by_verdict config moment given.from old.rows (length (datagram_at old n)) r v) verdict
-        ∙ ap (λ (s : Source). by_verdict config moment s old.rows (length (datagram_at old n)) r PASSES) from
+      by_its_verdict : end ≡ of_verdict passes sending given.from live (length (datagram_at old n)) r o.verdict
+      by_its_verdict = ap (λ (e : Ending). of_ending passes sending given.from live (length (datagram_at old n)) r e) ran.outcome.verdict
 
-    -- the plan is sent
-    pub sends : o.verdict ≡ SENDS → reply_at ≡ reply_of_relaying old.rows (planned_sending given.from (rows_at moment old.rows) o.destination (window_shown shown.frame))
-    sends verdict =
-        by_its_verdict
-        ∙ ap (λ (v : ℕ). by_verdict config moment given.from old.rows (length (datagram_at old n)) r v) verdict
-        ∙ (λ i. reply_of_relaying old.rows (planned_sending given.from (rows_at moment old.rows) (sym ran.outcome.destination i) (sym ran.window i)))
+      by_passing : o.verdict ≡ PASSES → end ≡ of_passing passes sending given.from (datagram_in (length (datagram_at old n)) r.state)
+      by_passing verdict = by_its_verdict ∙ ap (λ (v : ℕ). of_verdict passes sending given.from live (length (datagram_at old n)) r v) verdict
 
-    -- every other verdict discards
-    pub discards : (o.verdict == PASSES) ≡ false → (o.verdict == SENDS) ≡ false → reply_at ≡ no_answer old.rows
-    discards no_pass no_send =
-        by_its_verdict
-        ∙ cond-false (o.verdict == PASSES) _ _ no_pass
-        ∙ ap (λ (b : Bool). reply_of_relaying old.rows (if b then planned_sending given.from (rows_at moment old.rows) (destination_in r.state) (window_in r.state) else None)) no_send
+      -- a client's datagram is passed on
+      end_passes_client : (client : Addr) → given.from ≡ Client client → o.verdict ≡ PASSES → end ≡ passes client (datagram_of shown.frame)
+      end_passes_client client from verdict =
+          by_passing verdict
+          ∙ ap (λ (s : Source). of_passing passes sending s (datagram_in (length (datagram_at old n)) r.state)) from
+          ∙ ap (passes client) (sym ran.datagram)
+
+      -- a peer's is not
+      end_passes_peer : (slot : ℕ) (peer : Addr) → given.from ≡ Peer slot peer → o.verdict ≡ PASSES → end ≡ sending None
+      end_passes_peer slot peer from verdict =
+          by_passing verdict
+          ∙ ap (λ (s : Source). of_passing passes sending s (datagram_in (length (datagram_at old n)) r.state)) from
+
+      -- the plan is sent
+      end_sends : o.verdict ≡ SENDS → end ≡ sending (planned_sending given.from live o.destination (window_shown shown.frame))
+      end_sends verdict =
+          by_its_verdict
+          ∙ ap (λ (v : ℕ). of_verdict passes sending given.from live (length (datagram_at old n)) r v) verdict
+          ∙ (λ i. sending (planned_sending given.from live (sym ran.outcome.destination i) (sym ran.window i)))
+
+      -- every other verdict discards
+      end_discards : (o.verdict == PASSES) ≡ false → (o.verdict == SENDS) ≡ false → end ≡ sending None
+      end_discards no_pass no_send =
+          by_its_verdict
+          ∙ cond-false (o.verdict == PASSES) _ _ no_pass
+          ∙ ap (λ (b : Bool). sending (if b then planned_sending given.from live (destination_in r.state) (window_in r.state) else None)) no_send
+
+    module _ (served : (is_served given.from && is_there given.from old.rows) ≡ true) where
+      abbrev config : Config
+      config = with_nonce old.config old.config.nonce.bytes
+
+      abbrev replies : Addr → List ℕ → SystemReply
+      replies client bytes = from_client config moment client old.rows bytes
+
+      abbrev dispositions : Addr → List ℕ → Disposition
+      dispositions client bytes = client_disposition old.config moment client old.rows bytes
+
+      reply_is : reply_at ≡ run_reply
+      reply_is = if_both (is_served given.from) (is_there given.from old.rows) run_reply (no_answer old.rows) served
+
+      done_is : done_at ≡ run_disposition
+      done_is = if_both (is_served given.from) (is_there given.from old.rows) run_disposition (Discarded NotServed) served
+
+      pub passes_client : (client : Addr) → given.from ≡ Client client → o.verdict ≡ PASSES → shown.config ≡ old.config → shown.rows ≡ old.rows → shown.greatest ≡ moment → reply_at ≡ reply_of_passing shown client
+      passes_client client from verdict same rows greatest =
+          reply_is
+          ∙ end_passes_client replies (reply_of_relaying old.rows) client from verdict
+          ∙ from_client_same old.config moment client old.rows (datagram_of shown.frame)
+          ∙ (λ i. from_client (sym same i) (sym greatest i) client (sym rows i) (datagram_of shown.frame))
+
+      pub does_pass_client : (client : Addr) → given.from ≡ Client client → o.verdict ≡ PASSES → shown.config ≡ old.config → shown.rows ≡ old.rows → shown.greatest ≡ moment → done_at ≡ disposition_of_passing shown client
+      does_pass_client client from verdict same rows greatest =
+          done_is
+          ∙ end_passes_client dispositions relayed_where_sent client from verdict
+          ∙ (λ i. client_disposition (sym same i) (sym greatest i) client (sym rows i) (datagram_of shown.frame))
+
+      pub passes_peer : (slot : ℕ) (peer : Addr) → given.from ≡ Peer slot peer → o.verdict ≡ PASSES → reply_at ≡ no_answer old.rows
+      passes_peer slot peer from verdict = reply_is ∙ end_passes_peer replies (reply_of_relaying old.rows) slot peer from verdict
+
+      pub does_pass_peer : (slot : ℕ) (peer : Addr) → given.from ≡ Peer slot peer → o.verdict ≡ PASSES → done_at ≡ Discarded ByProgram
+      does_pass_peer slot peer from verdict = done_is ∙ end_passes_peer dispositions relayed_where_sent slot peer from verdict
+
+      pub sends : o.verdict ≡ SENDS → reply_at ≡ reply_of_relaying old.rows (planned_sending given.from live o.destination (window_shown shown.frame))
+      sends verdict = reply_is ∙ end_sends replies (reply_of_relaying old.rows) verdict
+
+      pub does_send : o.verdict ≡ SENDS → done_at ≡ relayed_where_sent (planned_sending given.from live o.destination (window_shown shown.frame))
+      does_send verdict = done_is ∙ end_sends dispositions relayed_where_sent verdict
+
+      pub discards : (o.verdict == PASSES) ≡ false → (o.verdict == SENDS) ≡ false → reply_at ≡ no_answer old.rows
+      discards no_pass no_send = reply_is ∙ end_discards replies (reply_of_relaying old.rows) no_pass no_send
+
+      pub does_discard : (o.verdict == PASSES) ≡ false → (o.verdict == SENDS) ≡ false → done_at ≡ Discarded ByProgram
+      does_discard no_pass no_send = done_is ∙ end_discards dispositions relayed_where_sent no_pass no_send

@@ -6,7 +6,7 @@ use Rattle.semantics.specs.Runs.{Run}
 use Rattle.semantics.specs.declared.limits.TheConstants.{HEADROOM, MAX_DATAGRAM}
 use Rattle.machine.specs.Contents.{Contents, room_of, datagram_of, IsStartedOver}
 use Rattle.machine.specs.Contexts.{HelperAnswers, environment_around, context_of}
-use Rattle.machine.specs.FrameLaws.{datagram_started}
+use Rattle.machine.specs.laws.Frame.{datagram_started}
 use Rattle.machine.specs.Tracing.{IsOutcome, Shows, run_of, run_over, safe_run_of}
 use Rattle.machine.specs.declared.context.Context.{Context}
 use Rattle.machine.specs.declared.outcome.Outcome.{Outcome}

@@ -42,7 +42,7 @@ use Rattle.tables.specs.Channels.{IsChannelNumber}
 use Rattle.tables.specs.LookUps.{allocation_of}
 use Rattle.tables.specs.Rows.{Rows, rows_at}
 use Rattle.tables.specs.WellFormed.{AreWellFormed}
-use Rattle.tables.specs.WellFormedLaws.{of_ipv4, rows_at-well_formed, allocate-well_formed, refresh-well_formed, permit-well_formed, bind-well_formed}
+use Rattle.tables.specs.laws.WellFormed.{of_ipv4, rows_at-well_formed, allocate-well_formed, refresh-well_formed, permit-well_formed, bind-well_formed}
 use Rattle.tables.specs.declared.allocation.Allocation.{Allocation}
 use Rattle.tables.specs.declared.channels.TheConstants.{FIRST_CHANNEL, LAST_CHANNEL}
 use Rattle.events.specs.declared.meta.Source.{Source}
@@ -121,11 +121,11 @@ port_small value fit =
     let low : big_number 2 (drop 2 value) < 2 ^ 16 = omega (arith, big_from-lt 0 2 (drop 2 value) (fit_at (drop 2 value) (All-drop (λ b. b < 256) 2 value fit))) in
     omega (arith, xor_lt 16 (big_number 2 (drop 2 value)) cookie_half low (omega arith))
 
-address_fits : (tx value : List ℕ) (a : Addr) → AreFit value → address_in tx value ≡ Some a → IsAddress a
-address_fits tx value a fit = of (has_family 8 1 value) (has_family 20 2 value) where
-  of : (short long : Bool) → (if short then Some (V4 (xor_bytes 4 (drop 4 value) magic_cookie) (port_in value)) else if long then Some (V6 (xor_bytes 16 (drop 4 value) (ipv6_mask tx)) (port_in value)) else None) ≡ Some a → IsAddress a
+address_fits : (transaction_id value : List ℕ) (a : Addr) → AreFit value → address_in transaction_id value ≡ Some a → IsAddress a
+address_fits transaction_id value a fit = of (has_family 8 1 value) (has_family 20 2 value) where
+  of : (short long : Bool) → (if short then Some (V4 (xor_bytes 4 (drop 4 value) magic_cookie) (port_in value)) else if long then Some (V6 (xor_bytes 16 (drop 4 value) (ipv6_mask transaction_id)) (port_in value)) else None) ≡ Some a → IsAddress a
   of true long e = subst IsAddress (same_Some _ a e) (masked_width 4 (drop 4 value) magic_cookie (port_in value) (port_small value fit))
-  of false true e = subst IsAddress (same_Some _ a e) (masked_width 16 (drop 4 value) (ipv6_mask tx) (port_in value) (port_small value fit))
+  of false true e = subst IsAddress (same_Some _ a e) (masked_width 16 (drop 4 value) (ipv6_mask transaction_id) (port_in value) (port_small value fit))
   of false false e = absurd (none-some a e)
 
 -- ---- decisions
@@ -242,7 +242,7 @@ pub is_served-is : (from : Source) → IsAddress (address_of_source from) → is
 is_served-is (Client client) address e = of_ipv4 client address e
 is_served-is (Peer slot peer) address e = tt
 
-pub keeps : (config : Config) (now : ℕ) (tx : List ℕ) (from : Source) (rows : Rows) (datagram : List ℕ)
-    → AreWellFormed rows → IsServed from → IsDatagram datagram → AreWellFormed (by_rules config now tx from rows datagram).rows
-keeps config now tx (Client client) rows datagram are ipv4 is = keeps_client config now client rows datagram are ipv4 is
-keeps config now tx (Peer slot peer) rows datagram are ipv4 is = are
+pub keeps : (config : Config) (now : ℕ) (transaction_id : List ℕ) (from : Source) (rows : Rows) (datagram : List ℕ)
+    → AreWellFormed rows → IsServed from → IsDatagram datagram → AreWellFormed (by_rules config now transaction_id from rows datagram).rows
+keeps config now transaction_id (Client client) rows datagram are ipv4 is = keeps_client config now client rows datagram are ipv4 is
+keeps config now transaction_id (Peer slot peer) rows datagram are ipv4 is = are

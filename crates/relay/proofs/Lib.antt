@@ -3,6 +3,7 @@ mod FirstLines
 mod Frames
 mod KeptRows
 mod LineLengths
+mod NewUsers
 mod Played
 mod Plays
 mod ReadLines

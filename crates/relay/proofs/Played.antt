@@ -10,7 +10,7 @@ use Rattle.control.specs.declared.config.Config.{Config}
 use Rattle.events.specs.Events.{Event, Datagram, Nonce}
 use Rattle.events.specs.Lines.{line_of, answer_line, IsEvent}
 use Rattle.events.specs.Reading.{event_in}
-use Rattle.events.specs.ReadingLaws.{event_in-line_of, event_in-is}
+use Rattle.events.specs.laws.Reading.{event_in-line_of, event_in-is}
 use Rattle.relay.specs.ReadLines.{IsLine}
 use Rattle.relay.specs.Relays.{RelayContents, state_of}
 use Rattle.relay.specs.Replays.{text_of_events, IsText, answer_text, answers_text, after_line, answer_to, system_of, IsSameRelay, HasPlayed, HasPlayedAll, answers_of_events, IsCut, StopsAtLine, StopsBefore, StopsWriting}

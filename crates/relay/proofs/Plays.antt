@@ -2,7 +2,7 @@
 use Rattle.std.proofs.Common.{◌≡◌, ℕ, List, [], ◌∷◌, ◌++◌, length, take, sym, subst, ap, ◌∙◌}
 use Rattle.std.specs.Prelude.{Option, Some, is_some}
 use Rattle.machine.specs.Contents.{room_of, with_room}
-use Rattle.machine.specs.FrameLaws.{room_written}
+use Rattle.machine.specs.laws.Frame.{room_written}
 use Rattle.semantics.specs.declared.limits.TheConstants.{MAX_DATAGRAM}
 use Rattle.events.specs.Events.{Event, Datagram, Sending}
 use Rattle.streams.specs.Outputs.{AppendsBeginning}

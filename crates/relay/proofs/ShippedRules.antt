@@ -24,7 +24,7 @@ use Rattle.tables.specs.declared.allocation.Allocation.{Allocation}
 use Rattle.tables.specs.Moments.{moment_of}
 use Rattle.tables.specs.Rows.{Rows, held_at, rows_at}
 use Rattle.tables.specs.WellFormed.{AreWellFormed}
-use Rattle.tables.specs.WellFormedLaws.{rows_at-well_formed}
+use Rattle.tables.specs.laws.WellFormed.{rows_at-well_formed}
 use Rattle.tables.specs.declared.held.Held.{Held}
 use Rattle.events.specs.Events.{Sending, ToClient}
 use Rattle.fallible.specs.Options.{◌>>=◌}
@@ -37,22 +37,25 @@ use Rattle.programs.specs.Runs.{run_for}
 use Rattle.programs.specs.declared.client.TheConstants.{CLIENT}
 use Rattle.programs.specs.declared.peer.TheConstants.{PEER}
 use Rattle.programs.specs.declared.verdict.TheConstants.{PASSES}
-use Rattle.relay.specs.ByPrograms.{Programs, by_programs, by_run, by_ending, is_there}
+use Rattle.relay.specs.ByPrograms.{Programs, by_programs, by_run, of_ending, is_there}
 use Rattle.rules.specs.ByRules.{by_rules, from_client}
 use Rattle.relay.specs.Shipped.{AreShipped}
 use Rattle.rules.specs.Systems.{SystemReply, no_answer, reply_of_relaying, address_of_source, is_served, if_served}
-use Rattle.rules.specs.ClientLaws.{is_relayed, is_sent}
+use Rattle.rules.specs.laws.Client.{is_relayed, is_sent}
 
-module _ (config : Config) (now : ℕ) (tx : List ℕ) (rows : Rows) (datagram : List ℕ) (code : List Insn) where
+module _ (config : Config) (now : ℕ) (transaction_id : List ℕ) (rows : Rows) (datagram : List ℕ) (code : List Insn) where
   abbrev live : Rows
   live = rows_at now rows
 
   abbrev run_from : Source → Run
-  run_from from = run_for code tx from live datagram
+  run_from from = run_for code transaction_id from live datagram
 
   -- what the run of the code gives
   abbrev pub given : Source → SystemReply
   given from = by_run config now from rows (length datagram) (run_from from)
+
+  abbrev passes : Addr → List ℕ → SystemReply
+  passes client bytes = from_client config now client rows bytes
 
   differs : (verdict : ℕ) → verdict ≢ PASSES → (verdict == PASSES) ≡ false
   differs verdict other = elim (cases_Bool (verdict == PASSES)) [
@@ -61,16 +64,16 @@ module _ (config : Config) (now : ℕ) (tx : List ℕ) (rows : Rows) (datagram :
   ]
 
   -- what is relayed by the program alone
-  gives_relayed : (from : Source) (sends : Option Sending) → Relays code tx from live datagram sends → given from ≡ reply_of_relaying rows sends
+  gives_relayed : (from : Source) (sends : Option Sending) → Relays code transaction_id from live datagram sends → given from ≡ reply_of_relaying rows sends
   gives_relayed from sends is =
-      ap (λ (e : Ending). by_ending config now from rows (length datagram) (run_from from) e) is.exits
+      ap (λ (e : Ending). of_ending passes (reply_of_relaying rows) from live (length datagram) (run_from from) e) is.exits
       ∙ cond-false (is.verdict == PASSES) _ _ (differs is.verdict is.alone)
       ∙ ap (reply_of_relaying rows) is.sent
 
   -- what is passed on as it came goes by the rules
-  gives_passed : (client : Addr) → PassesOn code tx (Client client) live datagram → given (Client client) ≡ from_client config now client rows datagram
+  gives_passed : (client : Addr) → PassesOn code transaction_id (Client client) live datagram → given (Client client) ≡ from_client config now client rows datagram
   gives_passed client is =
-      ap (λ (e : Ending). by_ending config now (Client client) rows (length datagram) (run_from (Client client)) e) is.exits
+      ap (λ (e : Ending). of_ending passes (reply_of_relaying rows) (Client client) live (length datagram) (run_from (Client client)) e) is.exits
       ∙ ap (λ (d : List ℕ). from_client config now client rows d) is.unchanged
 
   -- ---- what begins neither as STUN nor as ChannelData does
@@ -99,7 +102,7 @@ module _ (config : Config) (now : ℕ) (tx : List ℕ) (rows : Rows) (datagram :
 
   -- ---- a client's datagram
 
-  client_gives : (client : Addr) → IsDatagram datagram → ServesClient code tx client live datagram → given (Client client) ≡ from_client config now client rows datagram
+  client_gives : (client : Addr) → IsDatagram datagram → ServesClient code transaction_id client live datagram → given (Client client) ≡ from_client config now client rows datagram
   client_gives client is serves = elim (cases_Bool (begins_as_stun datagram)) [
     | inl stun ↦ by_message stun (message_in datagram) refl
     | inr other ↦ elim (cases_Bool (begins_as_channel_data datagram)) [
@@ -131,13 +134,13 @@ module _ (config : Config) (now : ℕ) (tx : List ℕ) (rows : Rows) (datagram :
       let few : length live.slots ≤ slot = omega (arith, length-map rows.slots (option_and_then (held_at t)), beyond slot (length rows.slots) past) in
       ap (λ (o : Option (Option Held)). option_map (λ a. a.client) (option_map (λ held. held.allocation) (option_flatten o))) (slice_get_past live.slots slot few)
 
-  peer_gives : (slot : ℕ) (peer : Addr) → ServesPeer code tx slot peer live datagram
-      → (if is_there (Peer slot peer) rows then given (Peer slot peer) else no_answer rows) ≡ by_rules config now tx (Peer slot peer) rows datagram
+  peer_gives : (slot : ℕ) (peer : Addr) → ServesPeer code transaction_id slot peer live datagram
+      → (if is_there (Peer slot peer) rows then given (Peer slot peer) else no_answer rows) ≡ by_rules config now transaction_id (Peer slot peer) rows datagram
   peer_gives slot peer serves = elim (cases_Bool (is_there (Peer slot peer) rows)) [
     | inl there ↦ cond-true (is_there (Peer slot peer) rows) (given (Peer slot peer)) (no_answer rows) there ∙ gives_relayed (Peer slot peer) _ serves
     | inr past ↦
         cond-false (is_there (Peer slot peer) rows) (given (Peer slot peer)) (no_answer rows) past
-        ∙ ap (λ (client : Option Addr). reply_of_relaying rows (client >>= λ c. option_map (ToClient c) (peer_data (has_permission slot peer live) (channel_of slot peer live) peer tx datagram))) (sym (no_client slot past))
+        ∙ ap (λ (client : Option Addr). reply_of_relaying rows (client >>= λ c. option_map (ToClient c) (peer_data (has_permission slot peer live) (channel_of slot peer live) peer transaction_id datagram))) (sym (no_client slot past))
   ]
 
 -- ---- both sides
@@ -145,31 +148,31 @@ module _ (config : Config) (now : ℕ) (tx : List ℕ) (rows : Rows) (datagram :
 -- what the two laws of the programs state
 abbrev pub ClientServes : Type 0
 ClientServes = (code : List Insn) → Encodes code CLIENT.now → IsSafe code
-    → (client : Addr) (tx : List ℕ) (rows : Rows) (datagram : List ℕ) → IsRelayStart client tx rows datagram → ServesClient code tx client rows datagram
+    → (client : Addr) (transaction_id : List ℕ) (rows : Rows) (datagram : List ℕ) → IsRelayStart client transaction_id rows datagram → ServesClient code transaction_id client rows datagram
 
 abbrev pub PeerServes : Type 0
 PeerServes = (code : List Insn) → Encodes code PEER.now → IsSafe code
-    → (slot : ℕ) (peer : Addr) (tx : List ℕ) (rows : Rows) (datagram : List ℕ) → IsRelayStart peer tx rows datagram → ServesPeer code tx slot peer rows datagram
+    → (slot : ℕ) (peer : Addr) (transaction_id : List ℕ) (rows : Rows) (datagram : List ℕ) → IsRelayStart peer transaction_id rows datagram → ServesPeer code transaction_id slot peer rows datagram
 
 module _ (serves_client : ClientServes) (serves_peer : PeerServes) (programs : Programs) (are : AreShipped programs)
-    (config : Config) (now : ℕ) (tx : List ℕ) (rows : Rows) (datagram : List ℕ)
-    (well_formed : AreWellFormed rows) (is_id : AreBytes 12 tx) (is : IsDatagram datagram) where
-  start : (address : Addr) → IsAddress address → IsRelayStart address tx (rows_at now rows) datagram
-  start address fits = record { well_formed = rows_at-well_formed now rows well_formed; is_address = fits; transaction_id = is_id; is_datagram = is }
+    (config : Config) (now : ℕ) (transaction_id : List ℕ) (rows : Rows) (datagram : List ℕ)
+    (well_formed : AreWellFormed rows) (is_id : AreBytes 12 transaction_id) (is : IsDatagram datagram) where
+  start : (address : Addr) → IsAddress address → IsRelayStart address transaction_id (rows_at now rows) datagram
+  start address fits = record { well_formed = rows_at-well_formed now rows well_formed; is_address = fits; id_bytes = is_id; is_datagram = is }
 
   -- any source
-  served : (from : Source) → IsAddress (address_of_source from) → by_programs programs config now tx from rows datagram ≡ by_rules config now tx from rows datagram
+  served : (from : Source) → IsAddress (address_of_source from) → by_programs programs config now transaction_id from rows datagram ≡ by_rules config now transaction_id from rows datagram
   served (Client client) fits =
-      client_gives config now tx rows datagram programs.client client is
-      (serves_client programs.client are.client.encoded are.client.safe client tx (rows_at now rows) datagram (start client fits))
+      client_gives config now transaction_id rows datagram programs.client client is
+      (serves_client programs.client are.client.encoded are.client.safe client transaction_id (rows_at now rows) datagram (start client fits))
   served (Peer slot peer) fits =
-      peer_gives config now tx rows datagram programs.peer slot peer
-      (serves_peer programs.peer are.peer.encoded are.peer.safe slot peer tx (rows_at now rows) datagram (start peer fits))
+      peer_gives config now transaction_id rows datagram programs.peer slot peer
+      (serves_peer programs.peer are.peer.encoded are.peer.safe slot peer transaction_id (rows_at now rows) datagram (start peer fits))
 
   -- to a client over IPv6 both systems are silent
   pub same_reply : (from : Source) → IsAddress (address_of_source from)
-      → if_served (by_programs programs) config now tx from rows datagram ≡ if_served by_rules config now tx from rows datagram
+      → if_served (by_programs programs) config now transaction_id from rows datagram ≡ if_served by_rules config now transaction_id from rows datagram
   same_reply from address = of (is_served from) where
-    of : (b : Bool) → (if b then by_programs programs config now tx from rows datagram else no_answer rows) ≡ (if b then by_rules config now tx from rows datagram else no_answer rows)
+    of : (b : Bool) → (if b then by_programs programs config now transaction_id from rows datagram else no_answer rows) ≡ (if b then by_rules config now transaction_id from rows datagram else no_answer rows)
     of true = served from address
     of false = refl

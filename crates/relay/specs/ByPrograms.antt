@@ -1,16 +1,23 @@
--- Meaning. The system with loaded programs: every datagram first goes through the run of its side's program.
-use Rattle.std.specs.Prelude.{ℕ, List, Bool, true, length, nat_lt, ◌==◌, if◌then◌else◌}
+-- Meaning. The system with loaded programs: every datagram first goes through the run of its side's program. And what it
+-- does with a datagram.
+use Rattle.std.specs.Prelude.{ℕ, List, Bool, true, Option, None, Some, length, nat_lt, ◌==◌, if◌then◌else◌}
 use Rattle.insn.specs.declared.instruction.Insn.{Insn}
 use Rattle.semantics.specs.Runs as runs
 use Rattle.semantics.specs.Runs.{Run, Ending}
 use Rattle.tables.specs.Rows.{Rows, rows_at}
+use Rattle.attributes.specs.declared.address.Addr.{Addr}
 use Rattle.control.specs.declared.config.Config.{Config}
+use Rattle.events.specs.Events.{Sending}
 use Rattle.events.specs.declared.meta.Source.{Source}
 use Rattle.events.specs.declared.meta.Source.TheVariants.{Client, Peer}
 use Rattle.programs.specs.Runs.{run_for, datagram_in, sent_by}
 use Rattle.programs.specs.declared.verdict.TheConstants.{PASSES}
 use Rattle.rules.specs.ByRules.{from_client}
-use Rattle.rules.specs.Systems.{SystemReply, no_answer, reply_of_relaying, System}
+use Rattle.rules.specs.Dispositions.{client_disposition}
+use Rattle.rules.specs.declared.disposition.Discard.TheVariants.{NotServed, ByProgram}
+use Rattle.rules.specs.declared.disposition.Disposition.{Disposition}
+use Rattle.rules.specs.declared.disposition.Disposition.TheVariants.{Relayed, Discarded}
+use Rattle.rules.specs.Systems.{SystemReply, no_answer, reply_of_relaying, is_served, System}
 
 -- the programs of the two sides
 pub record Programs : Type 0 where
@@ -21,25 +28,32 @@ abbrev pub program_for : Programs → Source → List Insn
 program_for programs (Client client) = programs.client
 program_for programs (Peer slot peer) = programs.peer
 
+-- ---- what follows from a run, by what follows from a client's datagram that is passed on, and from what is sent else
+
 -- a datagram that is passed on goes by the rules if it is a client's, as it is at the exit, and is discarded if it is a
 -- peer's
-abbrev pub reply_where_passed_on : Config → ℕ → Source → Rows → List ℕ → SystemReply
-reply_where_passed_on config now (Client client) rows bytes = from_client config now client rows bytes
-reply_where_passed_on config now (Peer slot peer) rows bytes = no_answer rows
+abbrev pub of_passing : {X : Type 0} → (Addr → List ℕ → X) → (Option Sending → X) → Source → List ℕ → X
+of_passing passes sends (Client client) bytes = passes client bytes
+of_passing passes sends (Peer slot peer) bytes = sends None
 
-abbrev pub by_verdict : Config → ℕ → Source → Rows → ℕ → Run → ℕ → SystemReply
-by_verdict config now from rows size r verdict =
-    if verdict == PASSES then reply_where_passed_on config now from rows (datagram_in size r.state)
-    else reply_of_relaying rows (sent_by from (rows_at now rows) verdict r.state)
+abbrev pub of_verdict : {X : Type 0} → (Addr → List ℕ → X) → (Option Sending → X) → Source → Rows → ℕ → Run → ℕ → X
+of_verdict passes sends from live size r verdict =
+    if verdict == PASSES then of_passing passes sends from (datagram_in size r.state) else sends (sent_by from live verdict r.state)
 
 -- a stuck run sends nothing
-abbrev pub by_ending : Config → ℕ → Source → Rows → ℕ → Run → Ending → SystemReply
-by_ending config now from rows size r (runs.Exited verdict) = by_verdict config now from rows size r verdict
-by_ending config now from rows size r (runs.Stuck reason slot) = no_answer rows
-by_ending config now from rows size r runs.Running = no_answer rows
+abbrev pub of_ending : {X : Type 0} → (Addr → List ℕ → X) → (Option Sending → X) → Source → Rows → ℕ → Run → Ending → X
+of_ending passes sends from live size r (runs.Exited verdict) = of_verdict passes sends from live size r verdict
+of_ending passes sends from live size r (runs.Stuck reason slot) = sends None
+of_ending passes sends from live size r runs.Running = sends None
+
+abbrev pub of_run : {X : Type 0} → (Addr → List ℕ → X) → (Option Sending → X) → Source → Rows → ℕ → Run → X
+of_run passes sends from live size r = of_ending passes sends from live size r r.ending
+
+-- ---- the reply
 
 abbrev pub by_run : Config → ℕ → Source → Rows → ℕ → Run → SystemReply
-by_run config now from rows size r = by_ending config now from rows size r r.ending
+by_run config now from rows size r =
+    of_run (λ client bytes. from_client config now client rows bytes) (reply_of_relaying rows) from (rows_at now rows) size r
 
 -- a peer's datagram comes to a slot that is there
 abbrev pub is_there : Source → Rows → Bool
@@ -47,7 +61,29 @@ is_there (Client client) rows = true
 is_there (Peer slot peer) rows = nat_lt slot (length rows.slots)
 
 abbrev pub by_programs : Programs → System
-by_programs programs config now tx from rows bytes =
+by_programs programs config now transaction_id from rows bytes =
     if is_there from rows
-    then by_run config now from rows (length bytes) (run_for (program_for programs from) tx from (rows_at now rows) bytes)
+    then by_run config now from rows (length bytes) (run_for (program_for programs from) transaction_id from (rows_at now rows) bytes)
     else no_answer rows
+
+-- ---- what is done with a datagram
+
+-- it is relayed where a program sends something
+abbrev pub relayed_where_sent : Option Sending → Disposition
+relayed_where_sent None = Discarded ByProgram
+relayed_where_sent (Some sending) = Relayed
+
+abbrev pub disposition_by_run : Config → ℕ → Source → Rows → ℕ → Run → Disposition
+disposition_by_run config now from rows size r =
+    of_run (λ client bytes. client_disposition config now client rows bytes) relayed_where_sent from (rows_at now rows) size r
+
+abbrev pub disposition_by_programs : Programs → Config → ℕ → List ℕ → Source → Rows → List ℕ → Disposition
+disposition_by_programs programs config now transaction_id from rows bytes =
+    if is_there from rows
+    then disposition_by_run config now from rows (length bytes) (run_for (program_for programs from) transaction_id from (rows_at now rows) bytes)
+    else Discarded NotServed
+
+-- clients are served over IPv4
+abbrev pub disposition_of_datagram : Programs → Config → ℕ → List ℕ → Source → Rows → List ℕ → Disposition
+disposition_of_datagram programs config now transaction_id from rows bytes =
+    if is_served from then disposition_by_programs programs config now transaction_id from rows bytes else Discarded NotServed

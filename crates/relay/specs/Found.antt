@@ -17,9 +17,13 @@ use Rattle.events.specs.declared.meta.Source.TheVariants.{Client, Peer}
 use Rattle.tables.specs.LookUps.{allocation_of}
 use Rattle.tables.specs.declared.allocation.Allocation.{Allocation}
 use Rattle.semantics.specs.Runs.{Run}
-use Rattle.relay.specs.ByPrograms.{program_for}
+use Rattle.relay.specs.ByPrograms.{program_for, relayed_where_sent}
 use Rattle.rules.specs.Answers.{sending_of_answer, LiesInRoom}
 use Rattle.rules.specs.ByRules.{from_client}
+use Rattle.rules.specs.Dispositions.{client_disposition, disposition_of}
+use Rattle.rules.specs.declared.disposition.Discard.TheVariants.{ByProgram}
+use Rattle.rules.specs.declared.disposition.Disposition.{Disposition}
+use Rattle.rules.specs.declared.disposition.Disposition.TheVariants.{Discarded}
 use Rattle.rules.specs.Rules.{client_at}
 use Rattle.fallible.specs.Options.{◌>>=◌}
 use Rattle.rules.specs.Systems.{SystemReply}
@@ -43,11 +47,15 @@ pub record HasRun (size : ℕ) (o : Outcome) (f : machine.Contents) (run : Run) 
 
 -- the run of a step
 abbrev pub run_at : RelayContents → Meta → ℕ → Run
-run_at r given n = run_for (program_for r.programs given.from) given.tx given.from (rows_at r.greatest r.rows) (datagram_at r n)
+run_at r given n = run_for (program_for r.programs given.from) given.transaction_id given.from (rows_at r.greatest r.rows) (datagram_at r n)
 
 -- the reply to a client's datagram that is passed on
 abbrev pub reply_of_passing : RelayContents → Addr → SystemReply
 reply_of_passing r client = from_client r.config r.greatest client r.rows (datagram_of r.frame)
+
+-- and what is done with it
+abbrev pub disposition_of_passing : RelayContents → Addr → Disposition
+disposition_of_passing r client = client_disposition r.config r.greatest client r.rows (datagram_of r.frame)
 
 -- the allocation of a client
 abbrev pub own_for : Source → Rows → Option Allocation
@@ -63,15 +71,23 @@ window_to_client slot rows window = do
 
 -- for a datagram of a source
 abbrev pub sending_of_found : RelayContents → Source → Found → Option Sending
-sending_of_found r from found.Nothing = None
+sending_of_found r from (found.Nothing reason) = None
 sending_of_found r from (found.WindowToPeer slot peer) = option_map (ToPeer slot peer) (window_shown r.frame)
 sending_of_found r from (found.WindowToClient slot) = window_to_client slot (rows_at r.greatest r.rows) (window_shown r.frame)
 sending_of_found r (Client client) (found.Answer answer) = sending_of_answer client (datagram_of r.frame) r.reply answer
 sending_of_found r (Peer slot peer) (found.Answer answer) = None
 
+-- what is done with the datagram
+abbrev pub disposition_of_found : RelayContents → Source → Found → Disposition
+disposition_of_found r from (found.Nothing reason) = Discarded reason
+disposition_of_found r from (found.WindowToPeer slot peer) = relayed_where_sent (sending_of_found r from (found.WindowToPeer slot peer))
+disposition_of_found r from (found.WindowToClient slot) = relayed_where_sent (sending_of_found r from (found.WindowToClient slot))
+disposition_of_found r (Client client) (found.Answer answer) = disposition_of answer
+disposition_of_found r (Peer slot peer) (found.Answer answer) = Discarded ByProgram
+
 -- the room for replies has that of the rules
 abbrev pub HasRoomFor : Found → List ℕ → Type 0
-HasRoomFor found.Nothing reply = Unit {0}
+HasRoomFor (found.Nothing reason) reply = Unit {0}
 HasRoomFor (found.WindowToPeer slot peer) reply = Unit {0}
 HasRoomFor (found.WindowToClient slot) reply = Unit {0}
 HasRoomFor (found.Answer answer) reply = LiesInRoom answer reply

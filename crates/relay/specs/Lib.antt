@@ -7,3 +7,4 @@ pub mod Relays
 pub mod Replays
 pub mod Shipped
 pub mod Steps
+pub mod Users

@@ -1,9 +1,9 @@
-//! Why a relay can't be made, or a nonce not be set.
+//! Why a relay can't be made, or a nonce or users not be set.
 
 use control::Field;
 use thiserror::Error;
 
-/// Why a relay can't be made, or a nonce not be set.
+/// Why a relay can't be made, or a nonce or users not be set.
 #[derive(Clone, Copy, Debug, PartialEq, Eq, Error)]
 pub enum RelayError {
     /// The first field of the configuration that lies outside its limits.

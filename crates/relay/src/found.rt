@@ -5,19 +5,20 @@ ghost use Rattle.tables.specs.Rows.{rows_at};
 ghost use Rattle.events.specs.Actions.{sending_of};
 ghost use Rattle.events.specs.Events.{ToPeer};
 ghost use Rattle.programs.specs.Runs.{planned_sending};
-ghost use Rattle.relay.specs.Found.{sending_of_found, own_for, window_shown, window_to_client, HasRoomFor};
+ghost use Rattle.relay.specs.ByPrograms.{relayed_where_sent};
+ghost use Rattle.relay.specs.Found.{disposition_of_found, sending_of_found, own_for, window_shown, window_to_client, HasRoomFor};
 ghost use Rattle.relay.specs.Relays.{RelayContents};
 
 use attributes::Addr;
 use events::{Action, Source};
-use rules::Answer;
+use rules::{Answer, Discard};
 use tables::{Allocation, Tables};
 
 /// What is to be sent, as a step finds it.
 #[derive(Clone, Copy)]
 pub(crate) enum Found {
-    /// Nothing is sent.
-    Nothing,
+    /// Nothing is sent, for this reason.
+    Nothing(Discard),
     /// The window, from a slot to a peer.
     WindowToPeer { slot: usize, peer: Addr },
     /// The window, to the client of the allocation at a slot.
@@ -36,15 +37,18 @@ pub(crate) fn window_found(
 ) -> Found
     ensures sends { (r : RelayContents) → own ≡ own_for from (rows_at r.greatest r.rows)
         → sending_of_found r from result ≡ planned_sending from (rows_at r.greatest r.rows) destination (window_shown r.frame) }
+    ensures disposition { (r : RelayContents) → own ≡ own_for from (rows_at r.greatest r.rows)
+        → disposition_of_found r from result
+        ≡ relayed_where_sent (planned_sending from (rows_at r.greatest r.rows) destination (window_shown r.frame)) }
     ensures room { (reply : List ℕ) → HasRoomFor result reply }
 {
     match from {
         Source::Client(_) => {
             let (Some(allocation), Some(peer)) = (own, destination) else {
-                return Found::Nothing;
+                return Found::Nothing(Discard::ByProgram);
             };
             if !peer.is_of_family(allocation.family) {
-                return Found::Nothing;
+                return Found::Nothing(Discard::ByProgram);
             }
             Found::WindowToPeer {
                 slot: allocation.slot,

@@ -8,15 +8,17 @@ ghost use Rattle.relay.specs.ByPrograms.{is_there};
 use crate::error::RelayError;
 use crate::found::{Found, window_found, window_to_client, window_to_peer};
 use crate::running::{context_for, own_for, program_for, run_over, slot_for};
+use crate::step::{Step, discarded, relayed};
 use arrayvec::ArrayString;
 use attributes::Addr;
-use control::{Config, Field, REPLY_BYTES, is_nonce};
-use events::{Action, Meta, Source};
+use control::{Config, Field, REPLY_BYTES, are_users, is_nonce, new_indices};
+use credentials::User;
+use events::{Meta, Source};
 use helpers::Lookup;
 use loader::Loaded;
 use machine::{Frame, Outcome};
 use programs::{PASSES, SENDS};
-use rules::{Answer, answer_client};
+use rules::{Answer, Discard, answer_client};
 use std::alloc::Global;
 use std::marker::Model;
 use tables::{Tables, is_ipv4, moment_of};
@@ -70,8 +72,8 @@ fn is_served(from: Source, tables: &Tables) -> bool
 impl Relay {
     ghost use Rattle.std.specs.Prelude.{◌≡◌, ◌≤◌, ◌↔◌, IsOk, IsTrue, IfOk, IfErr, OnOk, OnErr, length, true, unwrap_or};
     ghost use Rattle.std.specs.Borrow.{sem};
-    ghost use Rattle.control.specs.Configs.{fault, is_nonce};
-    ghost use Rattle.control.specs.declared.config.Field.TheVariants.{Nonce};
+    ghost use Rattle.control.specs.Configs.{fault, is_nonce, are_users};
+    ghost use Rattle.control.specs.declared.config.Field.TheVariants.{Nonce, Users};
     ghost use Rattle.machine.specs.Contents.{room_of};
     ghost use Rattle.tables.specs.Addresses.{is_ipv4};
     ghost use Rattle.tables.specs.Rows.{rows_at};
@@ -81,10 +83,12 @@ impl Relay {
     ghost use Rattle.relay.specs.Errors.{IsFault};
     ghost use Rattle.machine.specs.Contents.{datagram_of};
     ghost use Rattle.rules.specs.Answers.{sending_of_answer, LiesInRoom};
-    ghost use Rattle.relay.specs.Found.{sending_of_found, run_at, reply_of_passing, HasRun, HasRoomFor};
+    ghost use Rattle.relay.specs.Found.{disposition_of_found, disposition_of_passing, sending_of_found, run_at, reply_of_passing, HasRun, HasRoomFor};
     ghost use Rattle.relay.specs.Relays.{state_of, datagram_at};
     ghost use Rattle.relay.specs.Shipped.{AreShipped};
-    ghost use Rattle.relay.specs.Steps.{outcome_of, ruled_outcome_of, after_step, lends_relay_room, HasStepped};
+    ghost use Rattle.rules.specs.Dispositions.{disposition_of};
+    ghost use Rattle.relay.specs.Users.{after_users};
+    ghost use Rattle.relay.specs.Steps.{disposition_of_step, outcome_of, ruled_outcome_of, after_step, lends_relay_room, HasStepped};
     ghost use Rattle.rules.specs.Systems.{first};
     ghost use Rattle.relay.specs.declared.error.RelayError.TheVariants.{BadConfig};
 
@@ -196,18 +200,41 @@ impl Relay {
         Ok(())
     }
 
-    /// Decides a datagram, the first `n` bytes of [`area`](Relay::area), and returns what is to be sent: the program of its
-    /// side runs over it, and what the client's program passes on is answered by the rules. With the shipped
-    /// programs this is what the rules say.
+    /// Replaces the users. The allocations of a user go on where one of the new users has the same name and the same password,
+    /// at whatever index, and end otherwise, with their permissions and channels. Nothing else changes.
+    /// See docs/DECISIONS.md, "Users that are replaced".
+    ///
+    /// # Errors
+    /// Where they are not 1 to 64 users of distinct names, or a name or a password is outside its limits
+    /// ([`are_users`]). Then nothing is changed.
+    pub fn set_users(&mut self, users: Vec<User>) -> Result<(), RelayError>
+        ensures ok { OnOk result (self.new ≡ after_users self.old users) }
+        ensures valid { IsOk result ↔ IsTrue (are_users users.items) }
+        ensures refused { IfErr result (λ e. e ≡ BadConfig Users) }
+        ensures unchanged { OnErr result (self.new ≡ self.old) }
+    {
+        if !are_users(&users) {
+            return Err(RelayError::BadConfig(Field::Users));
+        }
+        let indices = new_indices(&self.config.users, &users);
+        self.tables.replace_users(&indices);
+        self.config.users = users;
+        Ok(())
+    }
+
+    /// Decides a datagram, the first `n` bytes of [`area`](Relay::area), and returns what is to be sent and what was done with
+    /// it: the program of its side runs over it, and what the client's program passes on is answered by the rules. With the
+    /// shipped programs this is what the rules say.
     /// See docs/DECISIONS.md, "A system is a function".
     #[inline(always)]
-    pub fn step(&mut self, meta: Meta, n: usize) -> Action<'_>
+    pub fn step(&mut self, meta: Meta, n: usize) -> Step<'_>
         requires { n ≤ MAX_DATAGRAM }
-        ensures answer { sending_of result ≡ (outcome_of self.old meta n).answer }
+        ensures answer { sending_of result.action ≡ (outcome_of self.old meta n).answer }
+        ensures disposition { result.disposition ≡ disposition_of_step self.old meta n }
         ensures rules { AreShipped self.old.programs → outcome_of self.old meta n ≡ ruled_outcome_of self.old meta n }
         ensures* after { sem 𝓛 (after_step self.entry meta n) }
     {
-        self.steps_by_rules(&meta, n);
+        self.law_steps_by_rules(&meta, n);
         let found = self.advance(&meta, n);
         let relay = &*self;
         relay.lend(meta.from, found)
@@ -215,21 +242,26 @@ impl Relay {
 
     /// Lends the bytes of what was found for a datagram of a source.
     #[inline(always)]
-    fn lend(&self, from: Source, found: Found) -> Action<'_>
+    fn lend(&self, from: Source, found: Found) -> Step<'_>
         requires { HasRoomFor found self.now.reply }
-        ensures { sending_of result ≡ sending_of_found self.now from found }
+        ensures answer { sending_of result.action ≡ sending_of_found self.now from found }
+        ensures disposition { result.disposition ≡ disposition_of_found self.now from found }
     {
         match found {
-            Found::Nothing => Action::Nothing,
-            Found::WindowToPeer { slot, peer } => window_to_peer(slot, peer, self.frame.window()),
+            Found::Nothing(reason) => discarded(reason),
+            Found::WindowToPeer { slot, peer } => {
+                relayed(window_to_peer(slot, peer, self.frame.window()))
+            }
             Found::WindowToClient { slot } => {
-                window_to_client(&self.tables, self.greatest, slot, self.frame.window())
+                let window = self.frame.window();
+                relayed(window_to_client(&self.tables, self.greatest, slot, window))
             }
             Found::Answer(answer) => match from {
-                Source::Client(client) => {
-                    answer.action(client, self.frame.datagram(), &self.reply)
-                }
-                Source::Peer { .. } => Action::Nothing,
+                Source::Client(client) => Step {
+                    action: answer.action(client, self.frame.datagram(), &self.reply),
+                    disposition: answer.disposition(),
+                },
+                Source::Peer { .. } => discarded(Discard::ByProgram),
             },
         }
     }
@@ -240,11 +272,12 @@ impl Relay {
         requires { n ≤ MAX_DATAGRAM }
         ensures stepped { HasStepped self.old self.new (outcome_of self.old meta.entry.now n) }
         ensures found { sending_of_found self.new meta.entry.now.from result ≡ (outcome_of self.old meta.entry.now n).answer }
+        ensures disposition { disposition_of_found self.new meta.entry.now.from result ≡ disposition_of_step self.old meta.entry.now n }
         ensures room { HasRoomFor result self.new.reply }
     {
         self.greatest = moment_of(self.greatest, meta.now);
         if !is_served(meta.from, &self.tables) {
-            return Found::Nothing;
+            return Found::Nothing(Discard::NotServed);
         }
         let own = own_for(&self.tables, self.greatest, meta.from);
         let slot = slot_for(meta.from, own);
@@ -252,10 +285,10 @@ impl Relay {
         match outcome.verdict {
             PASSES => match meta.from {
                 Source::Client(client) => Found::Answer(self.pass_on(client)),
-                Source::Peer { .. } => Found::Nothing,
+                Source::Peer { .. } => Found::Nothing(Discard::ByProgram),
             },
             SENDS => window_found(meta.from, own, outcome.destination),
-            _ => Found::Nothing,
+            _ => Found::Nothing(Discard::ByProgram),
         }
     }
 
@@ -273,7 +306,7 @@ impl Relay {
             program,
             &mut self.frame,
             &helpers,
-            &context_for(meta.tx, meta.from),
+            &context_for(meta.transaction_id, meta.from),
             n,
         )
     }
@@ -285,6 +318,7 @@ impl Relay {
         requires { is_ipv4 client ≡ true }
         ensures answer { sending_of_answer client (datagram_of self.new.frame) self.new.reply result
             ≡ (reply_of_passing self.old client).answer }
+        ensures disposition { disposition_of result ≡ disposition_of_passing self.old client }
         ensures room { LiesInRoom result self.new.reply }
         ensures rest { self.new
             ≡ record self.old { rows = (reply_of_passing self.old client).rows; reply = self.new.reply } }

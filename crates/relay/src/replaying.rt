@@ -65,8 +65,8 @@ impl Relay {
                 Ok(true)
             }
             Some(Parsed::Datagram { meta, n }) => {
-                let action = self.step(meta, n);
-                write_answer(output, &action)?;
+                let step = self.step(meta, n);
+                write_answer(output, &step.action)?;
                 Ok(true)
             }
         }
@@ -101,7 +101,7 @@ impl Relay {
         ensures rules { AreShipped self.old.programs → (events : List Event) → All (IsEvent self.old.config.slots) events
             → AnswerAlike (system_of self.old) by_rules self.old.config (state_of self.old) events }
     {
-        self.plays_by_rules();
+        self.law_plays_by_rules();
         let mut line = Vec::new(alloc);
         let mut count = 0u64;
         'lines: loop {

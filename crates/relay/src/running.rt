@@ -20,19 +20,19 @@ use tables::{Allocation, Tables};
 use verifier::Verified;
 
 /// Returns the context of a datagram.
-pub(crate) fn context_for(tx: [u8; 12], from: Source) -> Context
-    ensures { result ≡ context_for tx from }
+pub(crate) fn context_for(transaction_id: [u8; 12], from: Source) -> Context
+    ensures { result ≡ context_for transaction_id from }
 {
     match from {
         Source::Client(source) => Context {
             side: Side::Client,
             source,
-            tx,
+            transaction_id,
         },
         Source::Peer { addr, .. } => Context {
             side: Side::Peer,
             source: addr,
-            tx,
+            transaction_id,
         },
     }
 }
@@ -82,7 +82,7 @@ pub(crate) fn run_over(
     ensures { HasRun (length (take n (room_of frame.old))) result frame.new
         (run_over (environment_around (context_of context.now) (answers_of_look_up helpers.now)) program.now (take n (room_of frame.old))) }
 {
-    let _ = frame.room();
+    frame.law_room();
     frame.start(context, n);
     run(program, frame, helpers)
 }

@@ -14,41 +14,41 @@ ghost use Rattle.relay.specs.Shipped.{AreShipped, AnswerAlike};
 ghost use Rattle.rules.specs.Systems.{first, address_of_source};
 
 use crate::relay::Relay;
-use attributes::is_address;
+use attributes::law_is_address;
 use events::{Meta, Source};
-use programs::{client_serves, peer_serves};
+use programs::{law_client_serves, law_peer_serves};
 
 /// States that with [`CLIENT`](programs::CLIENT) and [`PEER`](programs::PEER) a new relay sends, over every list of events,
 /// exactly what the rules say (RFC 8656), and comes to the same state.
-pub fn shipped_programs_are_the_rules()
+pub fn law_shipped_programs_are_the_rules()
     ensures { (programs : Programs) → AreShipped programs
         → (config : Config) → fault config ≡ None
         → (events : List Event) → All (IsEvent config.slots) events
         → AnswerAlike (by_programs programs) by_rules config (first config) events }
 {
-    client_serves();
-    peer_serves();
+    law_client_serves();
+    law_peer_serves();
 }
 
 /// States that each byte is below 256.
-fn all_fit(bytes: &[u8])
+fn law_all_fit(bytes: &[u8])
     ensures { All (λ b. b < 256) bytes.now }
 {}
 
 /// States that an array of `N` bytes has `N` items, each below 256.
-fn are_bytes<const N: usize>(bytes: &[u8; N])
+fn law_are_bytes<const N: usize>(bytes: &[u8; N])
     ensures { AreBytes N bytes.now }
 {
-    all_fit(bytes);
+    law_all_fit(bytes);
 }
 
 /// States that the address of a source is one.
-fn is_source(from: Source)
+fn law_is_source(from: Source)
     ensures { IsAddress (address_of_source from) }
 {
     match from {
-        Source::Client(client) => is_address(&client),
-        Source::Peer { addr, .. } => is_address(&addr),
+        Source::Client(client) => law_is_address(&client),
+        Source::Peer { addr, .. } => law_is_address(&addr),
     }
 }
 
@@ -58,26 +58,26 @@ impl Relay {
     ghost use Rattle.relay.specs.Steps.{outcome_of, ruled_outcome_of};
 
     /// States that with the shipped programs a datagram gives what the rules say.
-    pub(crate) fn steps_by_rules(&self, meta: &Meta, n: usize)
+    pub(crate) fn law_steps_by_rules(&self, meta: &Meta, n: usize)
         requires { n ≤ MAX_DATAGRAM }
         ensures { AreShipped self.now.programs → outcome_of self.now meta.entry.now n
             ≡ ruled_outcome_of self.now meta.entry.now n }
     {
-        client_serves();
-        peer_serves();
-        is_source(meta.from);
-        are_bytes(&meta.tx);
-        all_fit(self.frame().room());
-        self.tables().are_well_formed();
+        law_client_serves();
+        law_peer_serves();
+        law_is_source(meta.from);
+        law_are_bytes(&meta.transaction_id);
+        law_all_fit(self.frame().room());
+        self.tables().law_are_well_formed();
     }
 
     /// States that with the shipped programs events are answered as the rules say.
-    pub(crate) fn plays_by_rules(&self)
+    pub(crate) fn law_plays_by_rules(&self)
         ensures { AreShipped self.now.programs → (events : List Event) → All (IsEvent self.now.config.slots) events
             → AnswerAlike (system_of self.now) by_rules self.now.config (state_of self.now) events }
     {
-        client_serves();
-        peer_serves();
-        self.tables().are_well_formed();
+        law_client_serves();
+        law_peer_serves();
+        self.tables().law_are_well_formed();
     }
 }

@@ -24,7 +24,7 @@ pub fn repeat(
     let mut sent = 0;
     for _ in 0..count {
         relay.area()[..n].copy_from_slice(&bytes);
-        match relay.step(meta, n) {
+        match relay.step(meta, n).action {
             Action::Nothing => {}
             Action::ToPeer { .. } | Action::ToClient { .. } => sent += 1,
         }

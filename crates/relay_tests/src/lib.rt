@@ -2,6 +2,8 @@
 #![tactic(auto)]
 
 #[cfg(test)]
+mod dispositions;
+#[cfg(test)]
 mod links;
 #[cfg(test)]
 mod sockets;

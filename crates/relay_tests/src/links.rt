@@ -44,11 +44,11 @@ fn serve(
     };
     let mut wire = Wire::new(alloc, from, &room[..n], fate, log);
     let now = now.unwrap_or(meta.now);
-    let served = serve_once(relay, &mut wire, endpoint, now, meta.tx);
+    let served = serve_once(relay, &mut wire, endpoint, now, meta.transaction_id);
     if !wire.stores_all() {
         return Err(Fail::new("no room for a call"));
     }
-    Ok(served)
+    Ok(served.map(|done| done.is_some()))
 }
 
 /// Serves all events, that of one index with another fate, and returns what is sent and what came of that event.

@@ -4,7 +4,7 @@ use crate::story::shipped;
 use attributes::{Addr, write_xor_addr};
 use credentials::{Key, sign};
 use relay::Relay;
-use serving::{Endpoint, Link, LinkFault, serve_once};
+use serving::{Endpoint, Link, LinkError, serve_once};
 use std::alloc::Global;
 use std::io;
 use std::net::{Ipv4Addr, Net, SocketAddr, UdpSocket};
@@ -61,13 +61,13 @@ struct Exchange {
 }
 
 /// Returns an address as messages have it.
-fn address_of(address: SocketAddr) -> Result<Addr, LinkFault> {
+fn address_of(address: SocketAddr) -> Result<Addr, LinkError> {
     match address {
         SocketAddr::V4(address) => Ok(Addr::V4 {
             ip: address.ip().octets(),
             port: address.port(),
         }),
-        SocketAddr::V6(_) => Err(LinkFault),
+        SocketAddr::V6(_) => Err(LinkError),
     }
 }
 
@@ -86,21 +86,21 @@ impl Link for Sockets {
         &mut self,
         endpoint: Endpoint,
         into: &mut [u8],
-    ) -> Result<Option<(usize, Addr)>, LinkFault> {
+    ) -> Result<Option<(usize, Addr)>, LinkError> {
         match self.at(endpoint).recv_from(into) {
             Ok((n, from)) => Ok(Some((n, address_of(from)?))),
-            Err(_) => Err(LinkFault),
+            Err(_) => Err(LinkError),
         }
     }
 
-    fn send(&mut self, endpoint: Endpoint, to: Addr, bytes: &[u8]) -> Result<(), LinkFault> {
+    fn send(&mut self, endpoint: Endpoint, to: Addr, bytes: &[u8]) -> Result<(), LinkError> {
         let Addr::V4 { ip, port } = to else {
-            return Err(LinkFault);
+            return Err(LinkError);
         };
         let to = SocketAddr::from((Ipv4Addr::from(ip), port));
         match self.at(endpoint).send_to(bytes, to) {
             Ok(n) if n == bytes.len() => Ok(()),
-            _ => Err(LinkFault),
+            _ => Err(LinkError),
         }
     }
 }
@@ -165,8 +165,8 @@ impl Session {
     /// Serves the one datagram that has come at an endpoint.
     fn serve(&mut self, endpoint: Endpoint) -> Result<(), Fail> {
         match serve_once(&mut self.relay, &mut self.sockets, endpoint, 1000, TX)? {
-            true => Ok(()),
-            false => Err(Fail::new("nothing came")),
+            Some(_) => Ok(()),
+            None => Err(Fail::new("nothing came")),
         }
     }
 

@@ -120,7 +120,7 @@ pub(crate) static STORY: [(&str, &str); 23] = [
 ];
 
 /// Returns a configuration of two slots.
-fn config(alloc: Global) -> Result<Config, AllocError> {
+pub(crate) fn config(alloc: Global) -> Result<Config, AllocError> {
     let mut users = Vec::new(alloc);
     users.push(User {
         name: String::from_str(alloc, "u")?,

@@ -6,7 +6,7 @@ ghost use Rattle.std.specs.Prelude.{◌≡◌, IfOk};
 use attributes::Addr;
 use events::{Action, write_answer};
 use semantics::MAX_DATAGRAM;
-use serving::{Endpoint, Link, LinkFault};
+use serving::{Endpoint, Link, LinkError};
 use std::alloc::{AllocError, Global};
 use streams::Output;
 
@@ -34,14 +34,14 @@ pub enum Entry {
     Received {
         endpoint: Endpoint,
         buffer: Vec<u8>,
-        answer: Result<Option<(usize, Addr)>, LinkFault>,
+        answer: Result<Option<(usize, Addr)>, LinkError>,
     },
     /// A send.
     Sent {
         endpoint: Endpoint,
         to: Addr,
         bytes: Vec<u8>,
-        answer: Result<(), LinkFault>,
+        answer: Result<(), LinkError>,
     },
 }
 
@@ -98,11 +98,11 @@ impl Wire<'_> {
     ghost use Rattle.std.specs.Prelude.{◌≡◌};
 
     /// Writes the datagram over the first bytes of a buffer, if it comes.
-    fn take(&self, into: &mut [u8]) -> Result<Option<(usize, Addr)>, LinkFault> {
+    fn take(&self, into: &mut [u8]) -> Result<Option<(usize, Addr)>, LinkError> {
         match self.fate {
             Fate::Lost | Fate::Late => return Ok(None),
             Fate::TooLong => return Ok(Some((MAX_DATAGRAM + 1, self.from))),
-            Fate::ReceiveFails => return Err(LinkFault),
+            Fate::ReceiveFails => return Err(LinkError),
             Fate::Served | Fate::SendFails => {}
         }
         let n = self.datagram.len();
@@ -111,17 +111,17 @@ impl Wire<'_> {
                 room.copy_from_slice(self.datagram);
                 Ok(Some((n, self.from)))
             }
-            None => Err(LinkFault),
+            None => Err(LinkError),
         }
     }
 
     /// Writes the line of what is sent, unless its send fails.
-    fn write(&mut self, endpoint: Endpoint, to: Addr, bytes: &[u8]) -> Result<(), LinkFault>
+    fn write(&mut self, endpoint: Endpoint, to: Addr, bytes: &[u8]) -> Result<(), LinkError>
         ensures entries { self.new.entries ≡ self.old.entries }
         ensures is_full { self.new.is_full ≡ self.old.is_full }
     {
         if self.fate == Fate::SendFails {
-            return Err(LinkFault);
+            return Err(LinkError);
         }
         let action = match endpoint {
             Endpoint::Client => Action::ToClient { client: to, bytes },
@@ -132,7 +132,7 @@ impl Wire<'_> {
             },
         };
         let mut output = Output::new(&mut *self.log);
-        write_answer(&mut output, &action).map_err(|_| LinkFault)
+        write_answer(&mut output, &action).map_err(|_| LinkError)
     }
 }
 
@@ -145,7 +145,7 @@ impl Link for Wire<'_> {
         &mut self,
         endpoint: Endpoint,
         into: &mut [u8],
-    ) -> Result<Option<(usize, Addr)>, LinkFault> {
+    ) -> Result<Option<(usize, Addr)>, LinkError> {
         let answer = self.take(into);
         let Ok(buffer) = copied(self.alloc, into) else {
             self.is_full = true;
@@ -160,7 +160,7 @@ impl Link for Wire<'_> {
         answer
     }
 
-    fn send(&mut self, endpoint: Endpoint, to: Addr, bytes: &[u8]) -> Result<(), LinkFault> {
+    fn send(&mut self, endpoint: Endpoint, to: Addr, bytes: &[u8]) -> Result<(), LinkError> {
         let answer = self.write(endpoint, to, bytes);
         let Ok(bytes) = copied(self.alloc, bytes) else {
             self.is_full = true;

@@ -1,24 +1,10 @@
 //! What a server has received, sent and discarded since its start.
 
+use control::Response;
+use credentials::AuthError;
+use relay::Disposition;
 use serving::Endpoint;
 use std::fmt;
-
-/// The index of the second byte of a message's type, and the bit in it that distinguishes an error response from a success
-/// response (RFC 8489, section 5).
-const TYPE: usize = 1;
-
-const ERROR: u8 = 0x10;
-
-/// The index of the code in a response's first attribute, its hundreds and the rest (RFC 8489, section 14.8): an error response
-/// begins with ERROR-CODE.
-const HUNDREDS: usize = 26;
-
-const REST: usize = 27;
-
-/// The codes that ask a client for credentials, or for another nonce.
-const UNAUTHENTICATED: (u8, u8) = (4, 1);
-
-const STALE_NONCE: (u8, u8) = (4, 38);
 
 /// What a datagram that came is: ChannelData, a STUN message or something else of a client, or a peer's.
 #[derive(Clone, Copy, PartialEq, Eq)]
@@ -49,9 +35,11 @@ pub(crate) struct Counters {
     /// Datagrams that were relayed.
     to_peers: u64,
     to_clients: u64,
-    /// Responses to requests: successes, errors that ask for credentials or a new nonce, and all other errors.
+    /// Responses to requests: successes, challenges to requests without credentials or with an old nonce, errors for names that no
+    /// user has and for wrong passwords, and all other errors.
     granted: u64,
     challenged: u64,
+    unauthenticated: u64,
     refused: u64,
     /// Datagrams that nothing was sent for, by the index of what they are.
     discarded: [u64; KINDS],
@@ -119,24 +107,6 @@ fn kind_of(datagram: &[u8]) -> Kind {
     }
 }
 
-/// Returns whether a response is an error that asks for credentials or for another nonce.
-fn is_challenge(response: &[u8]) -> bool {
-    match (response.get(HUNDREDS), response.get(REST)) {
-        (Some(&hundreds), Some(&rest)) => {
-            (hundreds, rest) == UNAUTHENTICATED || (hundreds, rest) == STALE_NONCE
-        }
-        _ => false,
-    }
-}
-
-/// Returns whether a response is an error.
-fn is_error(response: &[u8]) -> bool {
-    match response.get(TYPE) {
-        Some(&byte) => byte & ERROR != 0,
-        None => false,
-    }
-}
-
 impl Counters {
     pub(crate) fn new() -> Counters {
         Counters {
@@ -146,6 +116,7 @@ impl Counters {
             to_clients: 0,
             granted: 0,
             challenged: 0,
+            unauthenticated: 0,
             refused: 0,
             discarded: [0; KINDS],
             denied: 0,
@@ -186,17 +157,32 @@ impl Counters {
         *discarded = discarded.saturating_sub(1);
     }
 
-    /// Counts what was sent from an endpoint for the last datagram that came. What goes back to clients is a response.
-    pub(crate) fn sent(&mut self, endpoint: Endpoint, bytes: &[u8]) {
-        self.keep();
-        let counter = match (endpoint, self.last) {
-            (Endpoint::Slot(_), _) => &mut self.to_peers,
-            (Endpoint::Client, Kind::FromPeer) => &mut self.to_clients,
-            (Endpoint::Client, _) if !is_error(bytes) => &mut self.granted,
-            (Endpoint::Client, _) if is_challenge(bytes) => &mut self.challenged,
-            (Endpoint::Client, _) => &mut self.refused,
+    /// Returns the counter of a response.
+    fn responses(&mut self, response: Response) -> &mut u64 {
+        match response {
+            Response::Granted(_) => &mut self.granted,
+            Response::Unauthenticated(AuthError::Missing | AuthError::StaleNonce) => {
+                &mut self.challenged
+            }
+            Response::Unauthenticated(AuthError::UnknownUser | AuthError::WrongCode) => {
+                &mut self.unauthenticated
+            }
+            Response::Unauthenticated(AuthError::Incomplete) | Response::Refused(_) => {
+                &mut self.refused
+            }
+        }
+    }
+
+    /// Counts what was done with the last datagram that came, where nothing failed.
+    pub(crate) fn done(&mut self, disposition: Disposition) {
+        let counter = match (disposition, self.last) {
+            (Disposition::Discarded(_), _) => return,
+            (Disposition::Relayed, Kind::FromPeer) => &mut self.to_clients,
+            (Disposition::Relayed, _) => &mut self.to_peers,
+            (Disposition::Answered(response), _) => self.responses(response),
         };
         count(counter);
+        self.keep();
     }
 
     /// Counts a send that failed, for the last datagram that came.
@@ -233,8 +219,8 @@ impl fmt::Display for Counters {
         )?;
         write!(
             f,
-            "granted {} challenged {} refused {}, ",
-            self.granted, self.challenged, self.refused
+            "granted {} challenged {} unauthenticated {} refused {}, ",
+            self.granted, self.challenged, self.unauthenticated, self.refused
         )?;
         write!(
             f,

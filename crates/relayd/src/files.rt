@@ -7,7 +7,7 @@ use thiserror::Error;
 
 /// Why a file isn't read.
 #[derive(Clone, Copy, Debug, PartialEq, Eq, Error)]
-pub(crate) enum Unusable {
+pub(crate) enum UnusableFile {
     /// It is a folder, a pipe or a device: to open it may take forever.
     #[error("not a regular file")]
     Kind,
@@ -25,22 +25,22 @@ pub(crate) fn read_regular<R: Files + AllocGlobal>(
     rt: &R,
     path: &str,
     most: u64,
-) -> Result<Option<Vec<u8>>, Unusable> {
+) -> Result<Option<Vec<u8>>, UnusableFile> {
     let Ok(metadata) = fs::metadata(rt, path) else {
         return Ok(None);
     };
     if !metadata.is_file() {
-        return Err(Unusable::Kind);
+        return Err(UnusableFile::Kind);
     }
     if metadata.len() > most {
-        return Err(Unusable::Long(most));
+        return Err(UnusableFile::Long(most));
     }
     let Ok(file) = fs::open(rt, path) else {
         return Ok(None);
     };
     let mut bytes = Vec::new(rt.alloc());
     match file.take(most.saturating_add(1)).read_to_end(&mut bytes) {
-        Ok(n) if n as u64 > most => Err(Unusable::Long(most)),
+        Ok(n) if n as u64 > most => Err(UnusableFile::Long(most)),
         Ok(_) => Ok(Some(bytes)),
         Err(_) => Ok(None),
     }

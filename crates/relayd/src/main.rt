@@ -2,15 +2,16 @@
 //! events or serves sockets.
 #![tactic(auto)]
 
-mod arguments;
 mod clock;
 mod counters;
 mod drops;
 mod error_lines;
 mod explanations;
 mod files;
+mod filters;
 mod options;
 mod replacing;
+mod replacing_users;
 mod replay_command;
 mod server;
 mod sockets;
@@ -22,7 +23,7 @@ use crate::server::serve;
 use asm::{AsmError, assemble};
 use clap::ArgMatches;
 use clap::error::ErrorKind as LineErrorKind;
-use command_line::{Subcommand, line, subcommand_of};
+use command_line::{Subcommand, ValueError, line, subcommand_of};
 use ordering::{FileError, order_file};
 use report::{Ask, ReportError, fail, report};
 use std::alloc::AllocError;
@@ -195,32 +196,38 @@ fn reorder_file<R: Files + Input + Print + AllocGlobal, E: Write>(
     }
 }
 
+/// Prints that the text of an option is no value of it, and returns the exit status.
+fn report_value<E: Write>(err: &mut E, error: ValueError<'_>) -> u8 {
+    let _ = writeln!(err, "{error}");
+    BAD_LINE
+}
+
 /// Runs the subcommand of a parsed command line and returns the exit status.
 fn run_subcommand<R: Files + Input + Print + Net + Clock + RandomSource + AllocGlobal, E: Write>(
     rt: &R,
     err: &mut E,
     matches: &ArgMatches<'_>,
 ) -> u8 {
-    match subcommand_of(matches) {
-        Some(Subcommand::Verify { file }) => verify_file(rt, err, file),
-        Some(Subcommand::Explain { file, slot }) => explain(rt, err, file, slot),
-        Some(Subcommand::Trace { file, data }) => {
-            report_file(rt, err, file, Ask::Trace { hex: data })
-        }
-        Some(Subcommand::Disassemble { file, slots }) => {
+    let subcommand = match subcommand_of(matches) {
+        Ok(Some(subcommand)) => subcommand,
+        Ok(None) => return BAD_LINE,
+        Err(error) => return report_value(err, error),
+    };
+    match subcommand {
+        Subcommand::Verify { file } => verify_file(rt, err, file),
+        Subcommand::Explain { file, slot } => explain(rt, err, file, slot),
+        Subcommand::Trace { file, data } => report_file(rt, err, file, Ask::Trace { hex: data }),
+        Subcommand::Disassemble { file, slots } => {
             report_file(rt, err, file, Ask::Disassemble { slots })
         }
-        Some(Subcommand::Assemble { input, output }) => assemble_file(rt, err, input, output),
-        Some(Subcommand::Order { input, output }) => reorder_file(rt, err, input, output),
-        Some(
-            Subcommand::Replay {
-                events,
-                nonce,
-                options,
-            },
-        ) => replay(rt, err, events, nonce, &options),
-        Some(Subcommand::Serve { server, options }) => serve(rt, err, server, &options),
-        None => BAD_LINE,
+        Subcommand::Assemble { input, output } => assemble_file(rt, err, input, output),
+        Subcommand::Order { input, output } => reorder_file(rt, err, input, output),
+        Subcommand::Replay {
+            events,
+            nonce,
+            options,
+        } => replay(rt, err, events, nonce, &options),
+        Subcommand::Serve { server, options } => serve(rt, err, &server, &options),
     }
 }
 

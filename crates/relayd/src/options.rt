@@ -1,14 +1,12 @@
 //! Options that set up a relay, and why a command that takes them ends early.
 
-use crate::sockets::BindReason;
-use command_line::Options;
+use crate::sockets::BindErrorKind;
+use command_line::{Options, RelayedError, ValueError};
 use credentials::User;
 use peer_filter::{FilterError, NetworkError};
 use programs::{CLIENT, PEER};
 use relay::Relay;
-use setup::{
-    ProgramError, Setup, SetupError, defaults, ip, is_comment, octets6, port, relay_of, slots, user,
-};
+use setup::{ProgramError, Setup, SetupError, is_comment, relay_of, user};
 use std::alloc::Global;
 use std::net::SocketAddr;
 use std::rt::Files;
@@ -17,13 +15,10 @@ use thiserror::Error;
 
 /// Why a command ends early. Displays as the line for standard error.
 #[derive(Clone, Copy, Debug, Error)]
-pub(crate) enum Fault<'a> {
+pub(crate) enum CommandError<'a> {
     /// The text of an option is no value of it.
-    #[error("error: invalid value '{text}' for '{option}'")]
-    Value {
-        option: &'static str,
-        text: &'a str,
-    },
+    #[error("{0}")]
+    Value(ValueError<'a>),
     /// The text of an option is no network.
     #[error("error: invalid value '{text}' for '{option}': {error}")]
     Network {
@@ -34,15 +29,12 @@ pub(crate) enum Fault<'a> {
     /// There are too many networks.
     #[error("error: {0} of '--deny <NETWORK>' and '--allow <NETWORK>'")]
     Filter(FilterError),
-    /// Sockets are bound to all addresses of the machine, and none is given as the relayed one.
-    #[error("error: '--relay-ip <A>' is required with '--listen 0.0.0.0'")]
-    NoRelayedAddress,
+    /// A server has no relayed address.
+    #[error("{0}")]
+    Relayed(RelayedError),
     /// Peers can't send to the relayed IPv4 address.
     #[error("refused ip")]
     RelayedAddress,
-    /// A relayed IPv6 address is given, and none that sockets are bound to.
-    #[error("error: '--relay-ip6 <HEX>' needs '--listen6 <A>'")]
-    NoListen6,
     /// Peers can't send to the relayed IPv6 address.
     #[error("refused ip6")]
     RelayedAddress6,
@@ -66,7 +58,7 @@ pub(crate) enum Fault<'a> {
     Setup(SetupError),
     /// A socket can't be bound to this address.
     #[error("cannot bind {0}\n{1}")]
-    Bind(SocketAddr, BindReason),
+    Bind(SocketAddr, BindErrorKind),
     /// The system doesn't say which sockets are ready.
     #[error("cannot wait for sockets")]
     Wait,
@@ -84,132 +76,104 @@ pub(crate) enum Fault<'a> {
     Memory,
 }
 
-impl Fault<'_> {
+impl CommandError<'_> {
     /// Returns the exit status.
     pub(crate) fn status(&self) -> u8 {
         match self {
-            Fault::Users(_) | Fault::Program { .. } | Fault::Setup(_) | Fault::Line(_) => 1,
-            Fault::RelayedAddress | Fault::RelayedAddress6 => 1,
-            Fault::Value { .. } | Fault::Network { .. } | Fault::Filter(_) => 2,
-            Fault::NoUsers | Fault::NoListen6 | Fault::NoRelayedAddress => 2,
-            Fault::File(_) | Fault::Output => 3,
-            Fault::Bind(..) | Fault::Wait | Fault::Random => 3,
-            Fault::Memory => 4,
+            CommandError::Users(_)
+            | CommandError::Program { .. }
+            | CommandError::Setup(_)
+            | CommandError::Line(_) => 1,
+            CommandError::RelayedAddress | CommandError::RelayedAddress6 => 1,
+            CommandError::Value(_) | CommandError::Network { .. } | CommandError::Filter(_) => 2,
+            CommandError::NoUsers | CommandError::Relayed(_) => 2,
+            CommandError::File(_) | CommandError::Output => 3,
+            CommandError::Bind(..) | CommandError::Wait | CommandError::Random => 3,
+            CommandError::Memory => 4,
         }
     }
 }
 
-/// Returns the number of slots.
-/// See docs/DECISIONS.md, "Numbers of options".
-pub(crate) fn slots_of<'a>(options: &Options<'a>) -> Result<usize, Fault<'a>> {
-    let Some(text) = options.slots else {
-        return Ok(defaults::SLOTS);
-    };
-    let option = "--slots <N>";
-    slots(text).ok_or(Fault::Value { option, text })
-}
-
-/// Returns the relayed IPv4 address, which is `default` where none is given.
-fn ip_of<'a>(options: &Options<'a>, default: Option<[u8; 4]>) -> Result<[u8; 4], Fault<'a>> {
-    let Some(text) = options.relay_ip else {
-        return default.ok_or(Fault::NoRelayedAddress);
-    };
-    let option = "--relay-ip <A>";
-    ip(text).ok_or(Fault::Value { option, text })
-}
-
-/// Returns the relayed IPv6 address, if one is given.
-pub(crate) fn octets6_of<'a>(options: &Options<'a>) -> Result<Option<[u8; 16]>, Fault<'a>> {
-    let Some(text) = options.relay_ip6 else {
-        return Ok(None);
-    };
-    let option = "--relay-ip6 <HEX>";
-    match octets6(text) {
-        Some(octets) => Ok(Some(octets)),
-        None => Err(Fault::Value { option, text }),
-    }
-}
-
-/// Returns the relayed port of slot 0.
-pub(crate) fn port_of<'a>(options: &Options<'a>) -> Result<u16, Fault<'a>> {
-    let Some(text) = options.first_port else {
-        return Ok(defaults::FIRST_PORT);
-    };
-    let option = "--first-port <P>";
-    port(text).ok_or(Fault::Value { option, text })
-}
-
 /// Returns the fault of a failed read of a file.
 /// See docs/DECISIONS.md, "File names as given".
-pub(crate) fn unread<'a>(error: &io::Error, path: &'a str) -> Fault<'a> {
+pub(crate) fn unread<'a>(error: &io::Error, path: &'a str) -> CommandError<'a> {
     if error.kind() == io::ErrorKind::OutOfMemory {
-        Fault::Memory
+        CommandError::Memory
     } else {
-        Fault::File(path)
+        CommandError::File(path)
     }
 }
 
 /// Adds the user that a text has, and returns whether it has one.
-fn add_user(alloc: Global, users: &mut Vec<User>, text: &str) -> Result<bool, Fault<'static>> {
+fn add_user(
+    alloc: Global,
+    users: &mut Vec<User>,
+    text: &str,
+) -> Result<bool, CommandError<'static>> {
     let Ok(found) = user(alloc, text) else {
-        return Err(Fault::Memory);
+        return Err(CommandError::Memory);
     };
     let Some(user) = found else {
         return Ok(false);
     };
     match users.push(user) {
         Ok(()) => Ok(true),
-        Err(_) => Err(Fault::Memory),
+        Err(_) => Err(CommandError::Memory),
     }
 }
 
 /// Adds the users of `--user`.
-fn add_users<'a>(alloc: Global, users: &mut Vec<User>, texts: &[&'a str]) -> Result<(), Fault<'a>> {
+pub(crate) fn add_users<'a>(
+    alloc: Global,
+    users: &mut Vec<User>,
+    texts: &[&'a str],
+) -> Result<(), CommandError<'a>> {
     for text in texts {
         if !add_user(alloc, users, text)? {
             let option = "--user <NAME:PASSWORD>";
-            return Err(Fault::Value { option, text });
+            return Err(CommandError::Value(ValueError { option, text }));
         }
     }
     Ok(())
 }
 
-/// Adds the users of a file, one a line; empty lines and comments, which begin with `#`, have none.
+/// Adds the users of a file's text, one a line; empty lines and comments, which begin with `#`, have none.
 /// See docs/DECISIONS.md, "Users from a file".
-fn add_users_of_file<'a, R: Files + AllocGlobal>(
-    rt: &R,
+pub(crate) fn add_users_of_text(
+    alloc: Global,
     users: &mut Vec<User>,
-    path: &'a str,
-) -> Result<(), Fault<'a>> {
-    let text = match fs::read_to_string(rt, path) {
-        Ok(text) => text,
-        Err(error) => return Err(unread(&error, path)),
-    };
+    text: &str,
+) -> Result<(), CommandError<'static>> {
     for (number, line) in (1u64..).zip(text.lines()) {
-        if !is_comment(line) && !add_user(rt.alloc(), users, line)? {
-            return Err(Fault::Users(number));
+        if !is_comment(line) && !add_user(alloc, users, line)? {
+            return Err(CommandError::Users(number));
         }
     }
     Ok(())
 }
 
-/// Returns the users that the options name.
+/// Returns the users that the options name, and the text of the file that has some of them.
 /// See docs/DECISIONS.md, "A user is required".
 fn users_of<'a, R: Files + AllocGlobal>(
     rt: &R,
     options: &Options<'a>,
-) -> Result<Vec<User>, Fault<'a>> {
+) -> Result<(Vec<User>, Option<String>), CommandError<'a>> {
     if options.users.is_none() && options.users_file.is_none() {
-        return Err(Fault::NoUsers);
+        return Err(CommandError::NoUsers);
     }
     let mut users = Vec::new(rt.alloc());
     if let Some(texts) = options.users {
         add_users(rt.alloc(), &mut users, texts)?;
     }
-    if let Some(path) = options.users_file {
-        add_users_of_file(rt, &mut users, path)?;
-    }
-    Ok(users)
+    let Some(path) = options.users_file else {
+        return Ok((users, None));
+    };
+    let text = match fs::read_to_string(rt, path) {
+        Ok(text) => text,
+        Err(error) => return Err(unread(&error, path)),
+    };
+    add_users_of_text(rt.alloc(), &mut users, &text)?;
+    Ok((users, Some(text)))
 }
 
 /// The bytes of the programs' files; `None` where no file is given, or it can't be read.
@@ -222,31 +186,32 @@ pub(crate) struct ProgramBytes {
 /// The relayed addresses of a relay.
 #[derive(Clone, Copy)]
 pub(crate) struct Relayed {
-    /// That of IPv4 where none is given; `None` is to require one.
-    pub(crate) ip: Option<[u8; 4]>,
+    /// That of IPv4.
+    pub(crate) ip: [u8; 4],
     /// That of IPv6, if there is one.
     pub(crate) ip6: Option<[u8; 16]>,
 }
 
-/// A relay that can begin, its relayed IPv4 address, and the bytes of its programs' files.
+/// A relay that can begin, and what its programs' files and its file of users had.
 #[derive(Drop)]
 pub(crate) struct Prepared {
     pub(crate) relay: Relay,
-    pub(crate) ip: [u8; 4],
     pub(crate) programs: ProgramBytes,
+    /// The text of the file of users; `None` where no file is given.
+    pub(crate) users: Option<String>,
 }
 
 /// Reads the file of a program. `None` is one that isn't given or can't be read.
 fn read_program<R: Files + AllocGlobal>(
     rt: &R,
     path: Option<&str>,
-) -> Result<Option<Vec<u8>>, Fault<'static>> {
+) -> Result<Option<Vec<u8>>, CommandError<'static>> {
     let Some(path) = path else {
         return Ok(None);
     };
     match fs::read(rt, path) {
         Ok(bytes) => Ok(Some(bytes)),
-        Err(error) if error.kind() == io::ErrorKind::OutOfMemory => Err(Fault::Memory),
+        Err(error) if error.kind() == io::ErrorKind::OutOfMemory => Err(CommandError::Memory),
         Err(_) => Ok(None),
     }
 }
@@ -265,21 +230,21 @@ fn program<'a>(
 }
 
 /// Returns the fault of a side's program, by the name of its file, or of the shipped one.
-fn program_fault(error: ProgramError, path: &str) -> Fault<'_> {
+fn program_fault(error: ProgramError, path: &str) -> CommandError<'_> {
     match error {
-        ProgramError::File => Fault::File(path),
-        ProgramError::Memory => Fault::Memory,
-        error => Fault::Program { path, error },
+        ProgramError::File => CommandError::File(path),
+        ProgramError::Memory => CommandError::Memory,
+        error => CommandError::Program { path, error },
     }
 }
 
 /// Returns the fault of a relay that can't be set up.
-fn setup_fault<'a>(error: SetupError, options: &Options<'a>) -> Fault<'a> {
+fn setup_fault<'a>(error: SetupError, options: &Options<'a>) -> CommandError<'a> {
     match error {
         SetupError::Client(error) => program_fault(error, options.client.unwrap_or("CLIENT")),
         SetupError::Peer(error) => program_fault(error, options.peer.unwrap_or("PEER")),
-        SetupError::Memory => Fault::Memory,
-        refusal => Fault::Setup(refusal),
+        SetupError::Memory => CommandError::Memory,
+        refusal => CommandError::Setup(refusal),
     }
 }
 
@@ -290,23 +255,20 @@ pub(crate) fn set_up<'a, R: Files + AllocGlobal>(
     options: &Options<'a>,
     nonce: &'a str,
     relayed: Relayed,
-) -> Result<Prepared, Fault<'a>> {
-    let slots = slots_of(options)?;
-    let ip = ip_of(options, relayed.ip)?;
-    let first_port = port_of(options)?;
-    let Ok(realm) = String::from_str(rt.alloc(), options.realm.unwrap_or(defaults::REALM)) else {
-        return Err(Fault::Memory);
+) -> Result<Prepared, CommandError<'a>> {
+    let Ok(realm) = String::from_str(rt.alloc(), options.realm) else {
+        return Err(CommandError::Memory);
     };
-    let users = users_of(rt, options)?;
+    let (users, text) = users_of(rt, options)?;
     let programs = ProgramBytes {
         client: read_program(rt, options.client)?,
         peer: read_program(rt, options.peer)?,
     };
     let setup = Setup {
-        ip,
+        ip: relayed.ip,
         ip6: relayed.ip6,
-        first_port,
-        slots,
+        first_port: options.first_port,
+        slots: options.slots,
         realm,
         nonce,
         users,
@@ -316,8 +278,8 @@ pub(crate) fn set_up<'a, R: Files + AllocGlobal>(
     match relay_of(rt.alloc(), setup) {
         Ok(relay) => Ok(Prepared {
             relay,
-            ip,
             programs,
+            users: text,
         }),
         Err(error) => Err(setup_fault(error, options)),
     }

@@ -1,7 +1,7 @@
 //! Programs that are replaced while a server runs. Each is verified in slices, so that datagrams are served meanwhile.
 
-use crate::files::{Unusable, read_regular};
-use crate::options::{Fault, ProgramBytes};
+use crate::files::{UnusableFile, read_regular};
+use crate::options::{CommandError, ProgramBytes};
 use command_line::Options;
 use insn::MAX_SLOTS;
 use loader::{LoadError, LoadProgress, Loaded, Loading, Remains};
@@ -41,7 +41,7 @@ pub(crate) struct Side<'a> {
     /// The bytes that the file had when it was last refused.
     refused: Option<Vec<u8>>,
     /// Why the file couldn't be used when it was last looked at.
-    unusable: Option<Unusable>,
+    unusable: Option<UnusableFile>,
     next: Next,
     /// What the last verification has kept, which is freed gradually.
     remains: Option<Remains>,
@@ -55,7 +55,7 @@ pub(crate) struct Sides<'a> {
 }
 
 /// Returns whether bytes were kept, and are these.
-fn is_kept(kept: &Option<Vec<u8>>, bytes: &[u8]) -> bool {
+pub(crate) fn is_kept(kept: &Option<Vec<u8>>, bytes: &[u8]) -> bool {
     match kept {
         Some(kept) => kept.as_slice() == bytes,
         None => false,
@@ -125,7 +125,7 @@ impl<'a> Side<'a> {
         let error = ProgramError::from(error);
         let is_memory = error == ProgramError::Memory;
         if let Some(path) = self.path {
-            let fault = Fault::Program { path, error };
+            let fault = CommandError::Program { path, error };
             let _ = if is_memory {
                 writeln!(err, "{error} in {path}")
             } else {

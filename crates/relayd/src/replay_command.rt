@@ -1,9 +1,8 @@
 //! The command `replay`: replays the events of a file through a relay.
 
-use crate::options::{Fault, Relayed, octets6_of, set_up, unread};
-use command_line::Options;
+use crate::options::{CommandError, Relayed, set_up, unread};
+use command_line::{Options, defaults};
 use relay::{Relay, ReplayError};
-use setup::defaults;
 use std::fs;
 use std::io::{self, BufRead, BufReader, BufWriter, Write};
 use std::rt::Files;
@@ -16,21 +15,21 @@ fn play<'a, R: Print + AllocGlobal, B: BufRead + Drop>(
     relay: &mut Relay,
     reader: B,
     path: &'a str,
-) -> Result<(), Fault<'a>> {
+) -> Result<(), CommandError<'a>> {
     let Ok(writer) = BufWriter::new(rt.alloc(), io::writer(rt)) else {
-        return Err(Fault::Memory);
+        return Err(CommandError::Memory);
     };
     let mut output = Output::new(writer);
     let played = relay.replay(rt.alloc(), &mut streams::Input::new(reader), &mut output);
     if output.has_failed() || output.flush().is_err() {
-        return Err(Fault::Output);
+        return Err(CommandError::Output);
     }
     match played {
         Ok(()) => Ok(()),
-        Err(ReplayError::Line(number)) => Err(Fault::Line(number)),
-        Err(ReplayError::Read) => Err(Fault::File(path)),
-        Err(ReplayError::Write) => Err(Fault::Output),
-        Err(ReplayError::Memory) => Err(Fault::Memory),
+        Err(ReplayError::Line(number)) => Err(CommandError::Line(number)),
+        Err(ReplayError::Read) => Err(CommandError::File(path)),
+        Err(ReplayError::Write) => Err(CommandError::Output),
+        Err(ReplayError::Memory) => Err(CommandError::Memory),
     }
 }
 
@@ -39,18 +38,18 @@ fn play<'a, R: Print + AllocGlobal, B: BufRead + Drop>(
 fn replay_events<'a, R: Files + Input + Print + AllocGlobal>(
     rt: &R,
     events: &'a str,
-    nonce: Option<&'a str>,
+    nonce: &'a str,
     options: &Options<'a>,
-) -> Result<(), Fault<'a>> {
+) -> Result<(), CommandError<'a>> {
     let relayed = Relayed {
-        ip: Some(defaults::RELAY_IP),
-        ip6: octets6_of(options)?,
+        ip: options.relay_ip.unwrap_or(defaults::RELAY_IP).octets(),
+        ip6: options.relay_ip6,
     };
-    let mut relay = set_up(rt, options, nonce.unwrap_or(defaults::NONCE), relayed)?.relay;
+    let mut relay = set_up(rt, options, nonce, relayed)?.relay;
     if events == "-" {
         return match BufReader::new(rt.alloc(), rt.reader()) {
             Ok(reader) => play(rt, &mut relay, reader, events),
-            Err(_) => Err(Fault::Memory),
+            Err(_) => Err(CommandError::Memory),
         };
     }
     let file = match fs::open(rt, events) {
@@ -59,7 +58,7 @@ fn replay_events<'a, R: Files + Input + Print + AllocGlobal>(
     };
     match BufReader::new(rt.alloc(), file) {
         Ok(reader) => play(rt, &mut relay, reader, events),
-        Err(_) => Err(Fault::Memory),
+        Err(_) => Err(CommandError::Memory),
     }
 }
 
@@ -68,7 +67,7 @@ pub(crate) fn replay<R: Files + Input + Print + AllocGlobal, E: Write>(
     rt: &R,
     err: &mut E,
     events: &str,
-    nonce: Option<&str>,
+    nonce: &str,
     options: &Options<'_>,
 ) -> u8 {
     match replay_events(rt, events, nonce, options) {

@@ -1,13 +1,15 @@
 //! The command `serve`: relays the datagrams of UDP sockets.
 
-use crate::arguments::{Arguments, filter_of, parse, rules_of};
 use crate::clock::{Moments, elapsed};
 use crate::drops::Ports;
 use crate::error_lines::ErrorLines;
-use crate::options::{Fault, Relayed, octets6_of, port_of, set_up, slots_of};
+use crate::filters::{filter_of, rules_of};
+use crate::options::{CommandError, Relayed, set_up};
 use crate::replacing::Sides;
-use crate::sockets::{Addresses, BindFault, Endpoints, Sockets};
-use command_line::{Options, ServerOptions};
+use crate::replacing_users::UserList;
+use crate::sockets::{Addresses, BindError, Endpoints, Sockets};
+use crate::udp::SocketOptions;
+use command_line::{Options, ServerOptions, defaults, relayed_ip, relayed_ip6};
 use mio::{Events, Poll, Token};
 use peer_filter::Rule;
 use rand::make_rng;
@@ -15,7 +17,6 @@ use rand::rngs::StdRng;
 use rand_core::Rng;
 use relay::Relay;
 use serving::{Endpoint, draw_nonce, serve_once};
-use setup::defaults;
 use std::io::{self, Write};
 use std::net::{Ipv4Addr, Ipv6Addr, Net};
 use std::random::RandomSource;
@@ -26,8 +27,8 @@ use turns::{Schedule, TURNS, Timer};
 /// How many events one wait reports. Further ones are reported by the next.
 const EVENTS: usize = 256;
 
-/// The seconds after which the programs' files are read again, and those of the longest wait where something is looked at
-/// from time to time.
+/// The seconds after which the files of programs and of users are read again, and those of the longest wait where something is
+/// looked at from time to time.
 const PERIOD: u64 = 1;
 
 /// The microseconds for which programs are verified between two turns.
@@ -45,9 +46,10 @@ struct Server<'a> {
     relayed6: Option<[u8; 16]>,
     sockets: Sockets,
     sides: Sides<'a>,
+    users: UserList<'a>,
     rng: StdRng,
     /// The transaction id for the next datagram that comes.
-    tx: [u8; 12],
+    transaction_id: [u8; 12],
     moments: Moments,
     nonces: Timer,
     files: Timer,
@@ -65,18 +67,6 @@ struct Waiting {
     events: Events,
     /// Which endpoints are served in a round.
     schedule: Schedule,
-}
-
-/// Returns the relayed IPv6 address: that of `--relay-ip6`, or else the one that sockets are bound to.
-fn relayed6<'a>(
-    listen6: Option<Ipv6Addr>,
-    options: &Options<'a>,
-) -> Result<Option<[u8; 16]>, Fault<'a>> {
-    match (octets6_of(options)?, listen6) {
-        (Some(_), None) => Err(Fault::NoListen6),
-        (Some(octets), Some(_)) => Ok(Some(octets)),
-        (None, listen6) => Ok(listen6.map(|ip| ip.octets())),
-    }
 }
 
 /// Returns whether peers can send to a relayed IPv4 address: it is one, and not of a group or of all.
@@ -135,10 +125,10 @@ impl Server<'_> {
         &self,
         rt: &R,
         err: &mut E,
-        arguments: &Arguments,
-    ) -> Result<(), Fault<'static>> {
-        self.announce(rt).map_err(|_| Fault::Output)?;
-        self.report_buffer(err, arguments.socket.buffer);
+        buffer: i32,
+    ) -> Result<(), CommandError<'static>> {
+        self.announce(rt).map_err(|_| CommandError::Output)?;
+        self.report_buffer(err, buffer);
         Ok(())
     }
 
@@ -153,7 +143,8 @@ impl Server<'_> {
         }
     }
 
-    /// Does what is due: draws a nonce, looks for other programs, goes on verifying them, and prints faults and counters.
+    /// Does what is due: draws a nonce, looks for other programs and users, goes on verifying programs, and prints faults and
+    /// counters.
     /// See docs/DECISIONS.md, "What is looked at once a second".
     fn tend<R: Files + Clock + AllocGlobal, E: Write>(&mut self, rt: &R, err: &mut E) {
         let now = elapsed(rt);
@@ -162,6 +153,7 @@ impl Server<'_> {
         }
         if self.files.is_due(now) {
             self.sides.look(rt, err);
+            self.users.look(rt, err, &mut self.relay);
         }
         self.verify(rt, err, now);
         if self.sockets.has_faults() && self.faults.is_due(now) {
@@ -177,7 +169,8 @@ impl Server<'_> {
     /// Returns the longest wait for a datagram. Without end where nothing but datagrams matters: a nonce that is due is
     /// drawn before the next of them is served.
     fn longest_wait(&self) -> Option<Duration> {
-        if self.sides.has_files() || self.stats.is_some() || self.sockets.has_faults() {
+        let has_files = self.sides.has_files() || self.users.has_file();
+        if has_files || self.stats.is_some() || self.sockets.has_faults() {
             Some(Duration::from_secs(PERIOD))
         } else {
             None
@@ -188,10 +181,14 @@ impl Server<'_> {
     /// the sockets have counted. A transaction id is drawn where the one before may have been used. See docs/DECISIONS.md, "One function serves a datagram".
     #[inline(always)]
     fn turn(&mut self, endpoint: Endpoint, now: u64) -> bool {
-        if let Ok(false) = serve_once(&mut self.relay, &mut self.sockets, endpoint, now, self.tx) {
-            return false;
+        let (relay, sockets) = (&mut self.relay, &mut self.sockets);
+        match serve_once(relay, sockets, endpoint, now, self.transaction_id) {
+            Ok(None) => return false,
+            Ok(Some(disposition)) => sockets.done(disposition),
+            // the sockets have counted the fault
+            Err(_) => {}
         }
-        self.rng.fill_bytes(&mut self.tx);
+        self.rng.fill_bytes(&mut self.transaction_id);
         true
     }
 
@@ -281,7 +278,7 @@ impl Server<'_> {
         rt: &R,
         err: &mut E,
         mut waiting: Waiting,
-    ) -> Result<(), Fault<'static>> {
+    ) -> Result<(), CommandError<'static>> {
         for _ in 0..u64::MAX {
             let is_idle = !waiting.schedule.has_ready() && !self.sides.is_replacing();
             let wait = if is_idle {
@@ -303,17 +300,17 @@ impl Server<'_> {
         &mut self,
         rt: &R,
         err: &mut E,
-        arguments: &Arguments,
-    ) -> Result<(), Fault<'static>> {
-        match arguments.rounds {
+        options: &ServerOptions<'_>,
+    ) -> Result<(), CommandError<'static>> {
+        match options.rounds {
             Some(rounds) => {
-                self.begin(rt, err, arguments)?;
+                self.begin(rt, err, options.buffer)?;
                 self.make_rounds(rt, err, rounds);
                 Ok(())
             }
             None => {
                 let waiting = Waiting::new(rt, &mut self.sockets)?;
-                self.begin(rt, err, arguments)?;
+                self.begin(rt, err, options.buffer)?;
                 self.run(rt, err, waiting)
             }
         }
@@ -322,11 +319,16 @@ impl Server<'_> {
 
 impl Waiting {
     /// Returns what the server of these sockets waits with. Each endpoint is ready at first, since datagrams may have come.
-    fn new<R: Net + AllocGlobal>(rt: &R, sockets: &mut Sockets) -> Result<Waiting, Fault<'static>> {
-        let poll = Poll::new(rt).map_err(|_| Fault::Wait)?;
-        sockets.register(&poll).map_err(|_| Fault::Wait)?;
-        let events = Events::with_capacity(rt.alloc(), EVENTS).map_err(|_| Fault::Memory)?;
-        let schedule = Schedule::new(rt.alloc(), sockets.count()).map_err(|_| Fault::Memory)?;
+    fn new<R: Net + AllocGlobal>(
+        rt: &R,
+        sockets: &mut Sockets,
+    ) -> Result<Waiting, CommandError<'static>> {
+        let poll = Poll::new(rt).map_err(|_| CommandError::Wait)?;
+        sockets.register(&poll).map_err(|_| CommandError::Wait)?;
+        let events = Events::with_capacity(rt.alloc(), EVENTS).map_err(|_| CommandError::Memory)?;
+        let schedule = Schedule::new(rt.alloc(), sockets.count()).map_err(
+            |_| CommandError::Memory,
+        )?;
         Ok(Waiting {
             poll,
             events,
@@ -335,33 +337,54 @@ impl Waiting {
     }
 
     /// Waits until a socket is ready, or for a time; without a time, until a socket is ready.
-    fn wait(&mut self, time: Option<Duration>) -> Result<(), Fault<'static>> {
+    fn wait(&mut self, time: Option<Duration>) -> Result<(), CommandError<'static>> {
         self.poll
             .poll(&mut self.events, time)
-            .map_err(|_| Fault::Wait)
+            .map_err(|_| CommandError::Wait)
     }
-}
-
-/// Returns the relayed addresses where no option gives one: those that sockets are bound to.
-/// See docs/DECISIONS.md, "The default of a server's relayed address".
-fn relayed_of<'a>(arguments: &Arguments, options: &Options<'a>) -> Result<Relayed, Fault<'a>> {
-    let ip = if arguments.listen.is_unspecified() {
-        None
-    } else {
-        Some(arguments.listen.octets())
-    };
-    let ip6 = relayed6(arguments.listen6, options)?;
-    Ok(Relayed { ip, ip6 })
 }
 
 /// Refuses relayed addresses that peers can't send to.
-fn check_reachable(ip: [u8; 4], ip6: Option<[u8; 16]>) -> Result<(), Fault<'static>> {
+fn check_reachable(ip: [u8; 4], ip6: Option<[u8; 16]>) -> Result<(), CommandError<'static>> {
     if !is_reachable(ip) {
-        return Err(Fault::RelayedAddress);
+        return Err(CommandError::RelayedAddress);
     }
     match ip6 {
-        Some(octets) if !is_reachable6(octets) => Err(Fault::RelayedAddress6),
+        Some(octets) if !is_reachable6(octets) => Err(CommandError::RelayedAddress6),
         _ => Ok(()),
+    }
+}
+
+/// Returns the relayed addresses of a server.
+fn relayed_of<'a>(
+    server_options: &ServerOptions<'a>,
+    options: &Options<'a>,
+) -> Result<Relayed, CommandError<'a>> {
+    let ip6 = match relayed_ip6(server_options, options) {
+        Ok(ip6) => ip6,
+        Err(error) => return Err(CommandError::Relayed(error)),
+    };
+    match relayed_ip(server_options, options) {
+        Ok(ip) => Ok(Relayed {
+            ip: ip.octets(),
+            ip6,
+        }),
+        Err(error) => Err(CommandError::Relayed(error)),
+    }
+}
+
+/// Returns the addresses of the sockets.
+fn addresses_of(server: &ServerOptions<'_>, options: &Options<'_>) -> Addresses {
+    Addresses {
+        listen: server.listen,
+        listen6: server.listen6,
+        port: server.port,
+        first_port: options.first_port,
+        slots: options.slots,
+        options: SocketOptions {
+            buffer: server.buffer,
+            reuse_port: server.reuse_port,
+        },
     }
 }
 
@@ -371,72 +394,67 @@ fn bind_sockets<R: Net + AllocGlobal>(
     addresses: Addresses,
     relayed: [u8; 4],
     rules: &[Rule],
-) -> Result<Sockets, Fault<'static>> {
+) -> Result<Sockets, CommandError<'static>> {
     let endpoints = match Endpoints::bind(rt, addresses) {
         Ok(endpoints) => endpoints,
-        Err(BindFault::Address(address, reason)) => return Err(Fault::Bind(address, reason)),
-        Err(BindFault::Memory) => return Err(Fault::Memory),
+        Err(BindError::Address(address, reason)) => return Err(CommandError::Bind(address, reason)),
+        Err(BindError::Memory) => return Err(CommandError::Memory),
     };
     let filter = filter_of(&addresses, endpoints.client_port(), relayed, rules)?;
-    Sockets::new(rt.alloc(), endpoints, filter).map_err(|_| Fault::Memory)
+    Sockets::new(rt.alloc(), endpoints, filter).map_err(|_| CommandError::Memory)
 }
 
 /// Sets up a server: its relay, and then its sockets, all of which are bound.
 fn start<'a, R: Files + Net + Clock + RandomSource + AllocGlobal>(
     rt: &R,
-    arguments: Arguments,
+    server_options: &ServerOptions<'a>,
     rules: &[Rule],
     options: &Options<'a>,
-) -> Result<Server<'a>, Fault<'a>> {
-    let relayed = relayed_of(&arguments, options)?;
+) -> Result<Server<'a>, CommandError<'a>> {
+    let relayed = relayed_of(server_options, options)?;
+    let Relayed { ip, ip6 } = relayed;
     let set = set_up(rt, options, defaults::NONCE, relayed)?;
-    check_reachable(set.ip, relayed.ip6)?;
-    let addresses = Addresses {
-        listen: arguments.listen,
-        listen6: arguments.listen6,
-        port: arguments.port,
-        first_port: port_of(options)?,
-        slots: slots_of(options)?,
-        options: arguments.socket,
-    };
-    let sockets = bind_sockets(rt, addresses, set.ip, rules)?;
-    let mut rng: StdRng = make_rng(rt).map_err(|_| Fault::Random)?;
-    let mut tx = [0; 12];
-    rng.fill_bytes(&mut tx);
+    check_reachable(ip, ip6)?;
+    let sockets = bind_sockets(rt, addresses_of(server_options, options), ip, rules)?;
+    let mut rng: StdRng = make_rng(rt).map_err(|_| CommandError::Random)?;
+    let mut transaction_id = [0; 12];
+    rng.fill_bytes(&mut transaction_id);
     let now = elapsed(rt);
     let period = Duration::from_secs(PERIOD);
     let mut server = Server {
         relay: set.relay,
-        relayed: set.ip,
-        relayed6: relayed.ip6,
+        relayed: ip,
+        relayed6: ip6,
         sockets,
         sides: Sides::new(options, set.programs),
+        users: UserList::new(options, set.users),
         rng,
-        tx,
+        transaction_id,
         moments: Moments::starting_now(rt),
-        nonces: Timer::new(now, arguments.nonce_lifetime),
+        nonces: Timer::new(now, Duration::from_secs(server_options.nonce_lifetime)),
         files: Timer::new(now, period),
         faults: Timer::new(now, period),
-        stats: arguments.stats.map(|every| Timer::new(now, every)),
+        stats: server_options
+            .stats
+            .map(|seconds| Timer::new(now, Duration::from_secs(seconds))),
         is_busy: false,
     };
     server.renew_nonce();
     Ok(server)
 }
 
-/// Serves as the arguments and options say.
+/// Serves as the options say.
 fn serve_sockets<'a, R: Files + Print + Net + Clock + RandomSource + AllocGlobal, E: Write>(
     rt: &R,
     err: &mut E,
-    texts: &ServerOptions<'a>,
+    server_options: &ServerOptions<'a>,
     options: &Options<'a>,
-) -> Result<(), Fault<'a>> {
-    let arguments = parse(texts)?;
-    let rules = rules_of(rt.alloc(), texts)?;
-    let mut server = start(rt, arguments, &rules, options)?;
+) -> Result<(), CommandError<'a>> {
+    let rules = rules_of(rt.alloc(), server_options)?;
+    let mut server = start(rt, server_options, &rules, options)?;
     match ErrorLines::new(rt.alloc(), err) {
-        Ok(mut lines) => server.serve(rt, &mut lines, &arguments),
-        Err(_) => Err(Fault::Memory),
+        Ok(mut lines) => server.serve(rt, &mut lines, server_options),
+        Err(_) => Err(CommandError::Memory),
     }
 }
 
@@ -445,10 +463,10 @@ fn serve_sockets<'a, R: Files + Print + Net + Clock + RandomSource + AllocGlobal
 pub(crate) fn serve<R: Files + Print + Net + Clock + RandomSource + AllocGlobal, E: Write>(
     rt: &R,
     err: &mut E,
-    texts: ServerOptions<'_>,
+    server_options: &ServerOptions<'_>,
     options: &Options<'_>,
 ) -> u8 {
-    match serve_sockets(rt, err, &texts, options) {
+    match serve_sockets(rt, err, server_options, options) {
         Ok(()) => 0,
         Err(fault) => {
             let _ = writeln!(err, "{fault}");

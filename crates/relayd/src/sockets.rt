@@ -7,7 +7,8 @@ use attributes::{Addr, Family};
 use mio::net::UdpSocket;
 use mio::{Interest, Poll, Registry, Token};
 use peer_filter::PeerFilter;
-use serving::{Endpoint, Link, LinkFault};
+use relay::Disposition;
+use serving::{Endpoint, Link, LinkError};
 use std::alloc::{AllocError, Global};
 use std::io::{self, ErrorKind};
 use std::net::{IpAddr, Ipv4Addr, Ipv6Addr, Net, SocketAddr, SocketAddrV4, SocketAddrV6};
@@ -52,7 +53,7 @@ impl Addresses {
 
 /// Why a socket can't be bound. Displays as the reason.
 #[derive(Clone, Copy, Debug, Error)]
-pub(crate) enum BindReason {
+pub(crate) enum BindErrorKind {
     #[error("address in use")]
     InUse,
     #[error("not an address of this machine")]
@@ -68,9 +69,9 @@ pub(crate) enum BindReason {
 
 /// Why the sockets can't be bound.
 #[derive(Clone, Copy)]
-pub(crate) enum BindFault {
+pub(crate) enum BindError {
     /// The first address that can't be bound, and why.
-    Address(SocketAddr, BindReason),
+    Address(SocketAddr, BindErrorKind),
     /// Memory ran out.
     Memory,
 }
@@ -108,17 +109,17 @@ enum Unsent {
     /// Its peer is denied.
     Denied,
     /// The send failed.
-    Fault,
+    CommandError,
 }
 
-impl From<io::Error> for BindReason {
-    fn from(error: io::Error) -> BindReason {
+impl From<io::Error> for BindErrorKind {
+    fn from(error: io::Error) -> BindErrorKind {
         match (error.kind(), error.raw_os_error()) {
-            (ErrorKind::AddrInUse, _) => BindReason::InUse,
-            (ErrorKind::AddrNotAvailable, _) => BindReason::NotHere,
-            (ErrorKind::PermissionDenied, _) => BindReason::Denied,
-            (_, Some(EMFILE | ENFILE)) => BindReason::Files,
-            (_, number) => BindReason::Other(number.unwrap_or(0)),
+            (ErrorKind::AddrInUse, _) => BindErrorKind::InUse,
+            (ErrorKind::AddrNotAvailable, _) => BindErrorKind::NotHere,
+            (ErrorKind::PermissionDenied, _) => BindErrorKind::Denied,
+            (_, Some(EMFILE | ENFILE)) => BindErrorKind::Files,
+            (_, number) => BindErrorKind::Other(number.unwrap_or(0)),
         }
     }
 }
@@ -128,10 +129,10 @@ fn bind_one<R: Net>(
     rt: &R,
     address: SocketAddr,
     options: SocketOptions,
-) -> Result<UdpSocket, BindFault> {
+) -> Result<UdpSocket, BindError> {
     match bind(rt, address, options) {
         Ok(socket) => Ok(socket),
-        Err(error) => Err(BindFault::Address(address, BindReason::from(error))),
+        Err(error) => Err(BindError::Address(address, BindErrorKind::from(error))),
     }
 }
 
@@ -140,14 +141,14 @@ fn bind_slots<R: Net + AllocGlobal>(
     rt: &R,
     ip: IpAddr,
     addresses: Addresses,
-) -> Result<Vec<UdpSocket>, BindFault> {
+) -> Result<Vec<UdpSocket>, BindError> {
     let mut options = addresses.options;
     options.reuse_port = false;
     let mut sockets = Vec::new(rt.alloc());
     for port in (addresses.first_port..=u16::MAX).take(addresses.slots) {
         let socket = bind_one(rt, SocketAddr::new(ip, port), options)?;
         if sockets.push(socket).is_err() {
-            return Err(BindFault::Memory);
+            return Err(BindError::Memory);
         }
     }
     Ok(sockets)
@@ -169,13 +170,13 @@ impl Endpoints {
     pub(crate) fn bind<R: Net + AllocGlobal>(
         rt: &R,
         addresses: Addresses,
-    ) -> Result<Endpoints, BindFault> {
+    ) -> Result<Endpoints, BindError> {
         let listen = IpAddr::V4(addresses.listen);
         let client = bind_one(rt, addresses.client(), addresses.options)?;
         let port = match client.local_addr() {
             Ok(address) => address.port(),
             Err(error) => {
-                return Err(BindFault::Address(addresses.client(), BindReason::from(error)));
+                return Err(BindError::Address(addresses.client(), BindErrorKind::from(error)));
             }
         };
         Ok(Endpoints {
@@ -196,14 +197,14 @@ impl Endpoints {
     }
 
     /// Returns the socket of a family at an endpoint. That of clients is of IPv4.
-    fn at(&self, endpoint: Endpoint, family: Family) -> Result<&UdpSocket, LinkFault> {
+    fn at(&self, endpoint: Endpoint, family: Family) -> Result<&UdpSocket, LinkError> {
         let socket = match (endpoint, family) {
             (Endpoint::Client, Family::Ipv4) => Some(&self.client),
             (Endpoint::Client, Family::Ipv6) => None,
             (Endpoint::Slot(slot), Family::Ipv4) => self.slots.get(slot),
             (Endpoint::Slot(slot), Family::Ipv6) => self.slots6.get(slot),
         };
-        socket.ok_or(LinkFault)
+        socket.ok_or(LinkError)
     }
 }
 
@@ -282,6 +283,12 @@ impl Sockets {
         }
     }
 
+    /// Counts what was done with the last datagram that came.
+    #[inline(always)]
+    pub(crate) fn done(&mut self, disposition: Disposition) {
+        self.counters.done(disposition);
+    }
+
     /// Prints the line of counters. A failure to print is ignored.
     pub(crate) fn report<R: Files + AllocGlobal, E: io::Write>(&self, rt: &R, err: &mut E) {
         let _ = match dropped(rt, &self.endpoints.ports) {
@@ -315,19 +322,19 @@ impl Sockets {
         }
         match self.endpoints.send(endpoint, to, bytes) {
             Ok(()) => Ok(()),
-            Err(LinkFault) => Err(Unsent::Fault),
+            Err(LinkError) => Err(Unsent::CommandError),
         }
     }
 }
 
 impl Link for Endpoints {
     #[inline(always)]
-    fn receive(&mut self, endpoint: Endpoint, into: &mut [u8]) -> Result<Receipt, LinkFault> {
+    fn receive(&mut self, endpoint: Endpoint, into: &mut [u8]) -> Result<Receipt, LinkError> {
         receive(self.at(endpoint, self.family)?, into)
     }
 
     /// Sends a datagram from an endpoint. One that would have to wait, or isn't sent whole, is a fault.
-    fn send(&mut self, endpoint: Endpoint, to: Addr, bytes: &[u8]) -> Result<(), LinkFault> {
+    fn send(&mut self, endpoint: Endpoint, to: Addr, bytes: &[u8]) -> Result<(), LinkError> {
         let (family, to) = match to {
             Addr::V4 { ip, port } => {
                 let to = SocketAddrV4::new(Ipv4Addr::from(ip), port);
@@ -340,7 +347,7 @@ impl Link for Endpoints {
         };
         match self.at(endpoint, family)?.send_to(bytes, to) {
             Ok(n) if n == bytes.len() => Ok(()),
-            _ => Err(LinkFault),
+            _ => Err(LinkError),
         }
     }
 }
@@ -351,7 +358,7 @@ impl Link for Sockets {
         &mut self,
         endpoint: Endpoint,
         into: &mut [u8],
-    ) -> Result<Option<(usize, Addr)>, LinkFault> {
+    ) -> Result<Option<(usize, Addr)>, LinkError> {
         match self.ahead.receive(&mut self.endpoints, endpoint, into) {
             Ok(Some((n, from))) => {
                 self.counters
@@ -359,23 +366,20 @@ impl Link for Sockets {
                 Ok(Some((n, from)))
             }
             Ok(None) => Ok(None),
-            Err(LinkFault) => {
+            Err(LinkError) => {
                 self.counters.receive_failed();
-                Err(LinkFault)
+                Err(LinkError)
             }
         }
     }
 
     #[inline(always)]
-    fn send(&mut self, endpoint: Endpoint, to: Addr, bytes: &[u8]) -> Result<(), LinkFault> {
+    fn send(&mut self, endpoint: Endpoint, to: Addr, bytes: &[u8]) -> Result<(), LinkError> {
         match self.put(endpoint, to, bytes) {
-            Ok(()) => {
-                self.counters.sent(endpoint, bytes);
-                return Ok(());
-            }
+            Ok(()) => return Ok(()),
             Err(Unsent::Denied) => self.counters.denied(),
-            Err(Unsent::Fault) => self.counters.send_failed(),
+            Err(Unsent::CommandError) => self.counters.send_failed(),
         }
-        Err(LinkFault)
+        Err(LinkError)
     }
 }

@@ -1,6 +1,6 @@
 -- What `respond` promises is the answer of the rules.
 use Rattle.std.proofs.Common.{◌≡◌, ◌≢◌, ℕ, ◌<◌, ◌≤◌, length, take, arith, length-take-le, ◌⊎◌, true, false, List, [], ◌∷◌, refl, sym, ap, subst, ◌∙◌, inl, inr, eqb-true, eq-eqb}
-use Rattle.std.specs.Prelude.{◌==◌, Option, None, Some, Result, string_bytes}
+use Rattle.std.specs.Prelude.{◌==◌, Option, None, Some, Result, IsSomeAnd, string_bytes}
 use Rattle.std.proofs.lemmas.Bool.{cases_Bool, cond-true, cond-false, both_ways}
 use Rattle.std.proofs.lemmas.Option.{same_Some}
 use Rattle.stun.specs.Messages.{Parts}
@@ -11,15 +11,17 @@ use Rattle.credentials.specs.Results.{check_result}
 use Rattle.credentials.specs.declared.checking.AuthError.{AuthError}
 use Rattle.control.specs.Control.{Decision, decision, binding}
 use Rattle.control.specs.Replies.{kind_of}
-use Rattle.control.specs.Responding.{Responds, Answers, IsSilent, IsAnswer, key_for}
+use Rattle.control.specs.Responding.{Responds, Answers, IsSilent, IsAnswer, key_for, response_of}
+use Rattle.control.specs.declared.response.Response.{Response}
 use Rattle.tables.specs.Addresses.{is_ipv4}
 use Rattle.control.specs.declared.config.Config.{Config}
 use Rattle.control.specs.declared.request.Request.{Request}
 use Rattle.control.specs.declared.request.Request.TheVariants as request
 use Rattle.control.specs.declared.request.TurnRequest.TheVariants as turn
 use Rattle.tables.specs.Rows.{Rows, rows_at}
-use Rattle.events.specs.Events.{ToClient}
-use Rattle.rules.specs.ByRules.{requests, request_among, request_of, decision_and_key, reply_with, reply_to_request, control}
+use Rattle.rules.specs.Dispositions.{response_to, disposition_of_response, disposition_of_request}
+use Rattle.rules.specs.declared.disposition.Disposition.TheVariants.{Answered}
+use Rattle.rules.specs.ByRules.{requests, request_among, request_of, check_of, decision_and_key, reply_with, reply_to_request, control}
 use Rattle.rules.specs.Answers.{reply_sent}
 use Rattle.rules.specs.Systems.{SystemReply, no_answer}
 
@@ -67,33 +69,47 @@ abbrev pub AreChecked : Type 0
 AreChecked = (p : Parts) (realm : List ℕ) (users : Accounts) (nonce : List ℕ) (r : Result ℕ AuthError)
     → IsChecked p realm users nonce r → r ≡ check_result p realm users nonce
 
-module _ (are_checked : AreChecked) (config : Config) (now : ℕ) (client : Addr) (p : Parts) (old new : Rows) (written : List ℕ) where
+module _ (are_checked : AreChecked) (config : Config) (now : ℕ) (client : Addr) (p : Parts) (old new : Rows) (written : List ℕ) (says : Option Response) where
   abbrev reply_of : SystemReply
   reply_of = record { answer = reply_sent client written; rows = new }
 
   with_decision : (r : Request) (key : Option (List ℕ)) (d : Decision) → IsAnswer config r client p key d old new written → reply_with config r client p old (d, key) ≡ reply_of
   with_decision r key d is = λ i. record { answer = reply_sent client (sym is.bytes i); rows = sym is.rows i }
 
-  with_request : (r : Request) → Answers config now r client p old new written → reply_with config r client p old (decision_and_key config now r client p old) ≡ reply_of
-  with_request request.Binding is = with_decision request.Binding None (binding p) is
-  with_request (request.Turn r) is =
-      subst (λ c. reply_with config (request.Turn r) client p old (decision r c config client p (rows_at now old), key_for config c) ≡ reply_of)
-      (are_checked p (string_bytes config.realm) (accounts_of config.users.items) config.nonce.bytes is.checked is.is_checked)
-      (with_decision (request.Turn r) _ _ is.answer)
+  checked_is : (c : Result ℕ AuthError) → IsChecked p (string_bytes config.realm) (accounts_of config.users.items) config.nonce.bytes c → c ≡ check_of config p
+  checked_is c is = are_checked p (string_bytes config.realm) (accounts_of config.users.items) config.nonce.bytes c is
 
-  silent_is : IsSilent old new written → no_answer old ≡ reply_of
+  with_request : (r : Request) (s : Response) → Answers config now r client p old new written s → reply_with config r client p old (decision_and_key config now r client p old) ≡ reply_of
+  with_request request.Binding s is = with_decision request.Binding None (binding p) is.0
+  with_request (request.Turn r) s is =
+      subst (λ c. reply_with config (request.Turn r) client p old (decision r c config client p (rows_at now old), key_for config c) ≡ reply_of)
+      (checked_is is.checked is.is_checked) (with_decision (request.Turn r) _ _ is.answer)
+
+  silent_is : IsSilent old new written says → no_answer old ≡ reply_of
   silent_is is = λ i. record { answer = reply_sent client (sym is.bytes i); rows = sym is.rows i }
 
-  by_request : is_ipv4 client ≡ true → Responds config now client p old new written → (o : Option Request) → request_of p.kind ≡ o → reply_to_request config now client p old o ≡ reply_of
+  by_request : is_ipv4 client ≡ true → Responds config now client p old new written says → (o : Option Request) → request_of p.kind ≡ o → reply_to_request config now client p old o ≡ reply_of
   by_request ipv4 responds None e = silent_is (responds.other (λ r same. none_among p.kind requests r (all_requests r) same e))
-  by_request ipv4 responds (Some r) e = with_request r (responds.answered r (found_among p.kind requests r e) ipv4)
+  by_request ipv4 responds (Some r) e = there says (responds.answered r (found_among p.kind requests r e) ipv4) where
+    there : (o : Option Response) → IsSomeAnd o (Answers config now r client p old new written) → reply_to_request config now client p old (Some r) ≡ reply_of
+    there None is = absurd is
+    there (Some s) is = with_request r s is
 
-  pub control_is : is_ipv4 client ≡ true → Responds config now client p old new written → control config now client p old ≡ reply_of
+  pub control_is : is_ipv4 client ≡ true → Responds config now client p old new written says → control config now client p old ≡ reply_of
   control_is ipv4 responds = by_request ipv4 responds (request_of p.kind) refl
 
--- a reply of some bytes is sent
-pub reply_is_sent : (client : Addr) (n : ℕ) (out : List ℕ) → n ≤ length out → n ≢ 0 → reply_sent client (take n out) ≡ Some (ToClient client (take n out))
-reply_is_sent client n out fits some = of (take n out) (omega (arith, length-take-le n out fits, some)) where
-  of : (bytes : List ℕ) → 0 < length bytes → reply_sent client bytes ≡ Some (ToClient client bytes)
-  of [] h = absurd (omega (arith, h))
-  of (b ∷ bytes) h = refl
+  -- ---- what the response says
+
+  says_of : (r : Request) (s : Response) → Answers config now r client p old new written s → s ≡ response_to config now r client p old
+  says_of request.Binding s is = is.1
+  says_of (request.Turn r) s is = is.response ∙ ap (λ c. response_of c (decision r c config client p (rows_at now old))) (checked_is is.checked is.is_checked)
+
+  says_by_request : is_ipv4 client ≡ true → Responds config now client p old new written says → (o : Option Request) → request_of p.kind ≡ o → disposition_of_response says ≡ disposition_of_request config now client p old o
+  says_by_request ipv4 responds None e = ap disposition_of_response (responds.other (λ r same. none_among p.kind requests r (all_requests r) same e)).response
+  says_by_request ipv4 responds (Some r) e = there says (responds.answered r (found_among p.kind requests r e) ipv4) where
+    there : (o : Option Response) → IsSomeAnd o (Answers config now r client p old new written) → disposition_of_response o ≡ disposition_of_request config now client p old (Some r)
+    there None is = absurd is
+    there (Some s) is = ap Answered (says_of r s is)
+
+  pub response_is : is_ipv4 client ≡ true → Responds config now client p old new written says → disposition_of_response says ≡ disposition_of_request config now client p old (request_of p.kind)
+  response_is ipv4 responds = says_by_request ipv4 responds (request_of p.kind) refl

@@ -25,14 +25,14 @@ reply_sent client (b ∷ bytes) = Some (ToClient client (b ∷ bytes))
 
 -- what is sent, over the datagram that is answered, and the room for replies
 abbrev pub sending_of_answer : Addr → List ℕ → List ℕ → Answer → Option Sending
-sending_of_answer client datagram reply answer.Nothing = None
+sending_of_answer client datagram reply (answer.Nothing reason) = None
 sending_of_answer client datagram reply (answer.ChannelData slot peer) = option_map (ToPeer slot peer) (channel_data_in datagram)
 sending_of_answer client datagram reply (answer.Send slot peer) = option_map (ToPeer slot peer) (sent_data_in datagram)
-sending_of_answer client datagram reply (answer.Reply count) = reply_sent client (take count reply)
+sending_of_answer client datagram reply (answer.Reply count response) = reply_sent client (take count reply)
 
 -- a reply lies in the room for replies, and has some bytes
 abbrev pub LiesInRoom : Answer → List ℕ → Type 0
-LiesInRoom answer.Nothing reply = Unit {0}
+LiesInRoom (answer.Nothing reason) reply = Unit {0}
 LiesInRoom (answer.ChannelData slot peer) reply = Unit {0}
 LiesInRoom (answer.Send slot peer) reply = Unit {0}
-LiesInRoom (answer.Reply count) reply = (0 < count) × (count ≤ length reply)
+LiesInRoom (answer.Reply count response) reply = (0 < count) × (count ≤ length reply)

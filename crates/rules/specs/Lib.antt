@@ -1,7 +1,8 @@
 -- Internal. The modules of this folder.
 pub mod Answers
 pub mod ByRules
-pub mod ClientLaws
+pub mod Dispositions
+pub mod laws
 pub mod FastPart
 pub mod Rules
 pub mod Systems

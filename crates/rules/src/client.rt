@@ -5,12 +5,14 @@ ghost use Rattle.control.specs.Configs.{fault};
 ghost use Rattle.tables.specs.Addresses.{is_ipv4};
 ghost use Rattle.rules.specs.Answers.{sending_of_answer, LiesInRoom};
 ghost use Rattle.rules.specs.ByRules.{from_client};
+ghost use Rattle.rules.specs.Dispositions.{client_disposition, disposition_of};
 
 use crate::answer::{Answer, reply_of};
+use crate::disposition::Discard;
 use crate::relaying::{begins_as_stun, channel_data, send};
 use attributes::Addr;
 use control::{Config, REPLY_BYTES, respond};
-use credentials::results_are_checked;
+use credentials::law_results_are_checked;
 use stun::read;
 use stun::registry::{Class, MessageType, Method};
 use tables::Tables;
@@ -39,6 +41,7 @@ pub fn answer_client(
     requires ipv4 { is_ipv4 client ≡ true }
     ensures answer { sending_of_answer client datagram.now out.new result
         ≡ (from_client config.now moment client tables.old datagram.now).answer }
+    ensures disposition { disposition_of result ≡ client_disposition config.now moment client tables.old datagram.now }
     ensures rows { tables.new ≡ (from_client config.now moment client tables.old datagram.now).rows }
     ensures room { LiesInRoom result out.new }
     ensures slots { length tables.new.slots ≡ length tables.old.slots }
@@ -47,12 +50,11 @@ pub fn answer_client(
         return channel_data(tables, moment, client, datagram);
     }
     let Ok(message) = read(datagram) else {
-        return Answer::Nothing;
+        return Answer::Nothing(Discard::Malformed);
     };
     if message.kind() == SEND.kind() {
         return send(tables, moment, client, &message);
     }
-    results_are_checked();
-    let count = respond(tables, config, moment, client, &message, out);
-    reply_of(count)
+    law_results_are_checked();
+    reply_of(respond(tables, config, moment, client, &message, out))
 }

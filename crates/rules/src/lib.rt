@@ -4,7 +4,9 @@
 
 mod answer;
 mod client;
+mod disposition;
 mod relaying;
 
 pub use answer::Answer;
 pub use client::answer_client;
+pub use disposition::{Discard, Disposition};

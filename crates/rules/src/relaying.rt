@@ -4,10 +4,12 @@ ghost use Rattle.std.specs.Prelude.{◌≡◌, List, ℕ, Some};
 ghost use Rattle.stun.specs.Datagrams.{message_in};
 ghost use Rattle.tables.specs.Rows.{rows_at};
 ghost use Rattle.rules.specs.Answers.{sending_of_answer, LiesInRoom};
+ghost use Rattle.rules.specs.Dispositions.{channel_data_test, disposition_of, relayed_if, send_test};
 ghost use Rattle.rules.specs.FastPart.{begins_as_stun};
 ghost use Rattle.rules.specs.Rules.{channel_data_from, send_from};
 
 use crate::answer::Answer;
+use crate::disposition::Discard;
 use attributes::{Addr, read_xor_addr};
 use control::all_understood;
 use stun::registry::attribute::{DATA, XOR_PEER_ADDRESS};
@@ -28,20 +30,21 @@ pub(crate) fn begins_as_stun(datagram: &[u8]) -> bool
 pub(crate) fn channel_data(tables: &Tables, moment: u64, client: Addr, datagram: &[u8]) -> Answer
     ensures sends { (reply : List ℕ) → sending_of_answer client datagram.now reply result
         ≡ channel_data_from client (rows_at moment tables.now) datagram.now }
+    ensures disposition { disposition_of result ≡ relayed_if (channel_data_test client (rows_at moment tables.now) datagram.now) }
     ensures room { (reply : List ℕ) → LiesInRoom result reply }
 {
     let Some(own) = tables.allocation_of(client, moment) else {
-        return Answer::Nothing;
+        return Answer::Nothing(Discard::NoAllocation);
     };
     let Some(message) = read_channel(datagram) else {
-        return Answer::Nothing;
+        return Answer::Nothing(Discard::Malformed);
     };
     let slot = own.slot;
     let Some(peer) = tables.peer_of(slot, message.number, moment) else {
-        return Answer::Nothing;
+        return Answer::Nothing(Discard::NoChannel);
     };
     if !peer.is_of_family(own.family) {
-        return Answer::Nothing;
+        return Answer::Nothing(Discard::OtherFamily);
     }
     Answer::ChannelData { slot, peer }
 }
@@ -50,29 +53,30 @@ pub(crate) fn channel_data(tables: &Tables, moment: u64, client: Addr, datagram:
 pub(crate) fn send(tables: &Tables, moment: u64, client: Addr, message: &Message<'_>) -> Answer
     ensures sends { (datagram reply : List ℕ) → message_in datagram ≡ Some message.now
         → sending_of_answer client datagram reply result ≡ send_from client (rows_at moment tables.now) message.now }
+    ensures disposition { disposition_of result ≡ relayed_if (send_test client (rows_at moment tables.now) message.now) }
     ensures room { (reply : List ℕ) → LiesInRoom result reply }
 {
     let Some(own) = tables.allocation_of(client, moment) else {
-        return Answer::Nothing;
+        return Answer::Nothing(Discard::NoAllocation);
     };
     if !all_understood(message) {
-        return Answer::Nothing;
+        return Answer::Nothing(Discard::UnknownAttribute);
     }
     let Some(value) = message.value_of(XOR_PEER_ADDRESS) else {
-        return Answer::Nothing;
+        return Answer::Nothing(Discard::Incomplete);
     };
     if message.value_of(DATA).is_none() {
-        return Answer::Nothing;
+        return Answer::Nothing(Discard::Incomplete);
     }
-    let Ok(peer) = read_xor_addr(value, &message.tx()) else {
-        return Answer::Nothing;
+    let Ok(peer) = read_xor_addr(value, &message.transaction_id()) else {
+        return Answer::Nothing(Discard::Incomplete);
     };
     let slot = own.slot;
     if !tables.permitted(slot, peer, moment) {
-        return Answer::Nothing;
+        return Answer::Nothing(Discard::NoPermission);
     }
     if !peer.is_of_family(own.family) {
-        return Answer::Nothing;
+        return Answer::Nothing(Discard::OtherFamily);
     }
     Answer::Send { slot, peer }
 }

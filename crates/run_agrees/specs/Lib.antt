@@ -1,3 +1,3 @@
 -- Internal. The modules of this folder.
 pub mod Drawn
-pub mod DrawnLaws
+pub mod laws

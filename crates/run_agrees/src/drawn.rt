@@ -2,7 +2,7 @@
 
 ghost use Rattle.std.specs.Prelude.{◌≡◌};
 ghost use Rattle.run_agrees.specs.Drawn.{drawn_record, drawn_answer};
-ghost use Rattle.run_agrees.specs.DrawnLaws.{drawn_is_lawful};
+ghost use Rattle.run_agrees.specs.laws.Drawn.{drawn_is_lawful};
 
 use crate::random::Random;
 use machine::Helpers;

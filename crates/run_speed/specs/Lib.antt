@@ -1,3 +1,3 @@
 -- Internal. The modules of this folder.
 pub mod Constant
-pub mod ConstantLaws
+pub mod laws

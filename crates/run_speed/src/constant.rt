@@ -2,7 +2,7 @@
 
 ghost use Rattle.std.specs.Prelude.{◌≡◌};
 ghost use Rattle.run_speed.specs.Constant.{constant_answers};
-ghost use Rattle.run_speed.specs.ConstantLaws.{constant_answers_are_lawful};
+ghost use Rattle.run_speed.specs.laws.Constant.{constant_answers_are_lawful};
 
 use machine::Helpers;
 

@@ -43,7 +43,7 @@ fn run<R: Env + Clock + Print + AllocGlobal>(rt: &R) -> Result<()> {
         context: machine::Context {
             side,
             source: SOURCE,
-            tx: [7; 12],
+            transaction_id: [7; 12],
         },
         datagram: &bytes,
     };

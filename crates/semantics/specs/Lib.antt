@@ -1,25 +1,15 @@
 -- Internal. The modules of this folder.
 pub mod Machine
-pub mod StartLaws
+pub mod laws
 pub mod Access
-pub mod AccessLaws
-pub mod GroupLaws
-pub mod ContextLaws
 pub mod Loading
 pub mod Calls
-pub mod CallLaws
-pub mod NumberLaws
 pub mod Effects
-pub mod EffectLaws
 pub mod Kept
 pub mod Slots
-pub mod SlotLaws
 pub mod Reasons
 pub mod Runs
-pub mod RunLaws
 pub mod Extents
-pub mod SwapLaws
-pub mod KeptLaws
 pub mod Flow
 pub mod LooseRuns
 pub mod Views

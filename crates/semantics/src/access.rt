@@ -109,7 +109,7 @@ fn in_bytes(base: i64, displacement: i16, n: usize, low: i64, high: i64) -> Resu
 ///
 /// # Errors
 /// The reason for which an access to them is stuck.
-#[tactic(auto, using(crate::specs::AccessLaws::location_inside))]
+#[tactic(auto, using(crate::specs::laws::Access::location_inside))]
 pub(crate) fn locate(
     memory: &Memory<'_>,
     base: Value,

@@ -202,7 +202,7 @@ pub struct Inputs {
 
 /// Returns the index, among the stack cells, of the `n` bytes that a pointer points to, or `None` where they don't lie in
 /// the stack.
-#[tactic(auto, using(crate::specs::AccessLaws::index_short))]
+#[tactic(auto, using(crate::specs::laws::Access::index_short))]
 pub(crate) fn stack_index(pointer: Value, n: usize) -> Option<usize>
     requires { n ≤ STACK_BYTES }
     ensures index { result ≡ stack_index n pointer }

@@ -19,14 +19,14 @@ mod value;
 
 pub use access::{HEADROOM_FIRST, Location, index_in_stack, is_within};
 pub use effect::{Comparison, Effect, Registers, effect_of, is_group_place, moved_place, writable};
-pub use fetching::{Branch, Fetched, Position, Visit, fetch, last, target};
+pub use fetching::{Branch, Fetched, Position, Visit, fetch, last, slot_by, target};
 pub use helper::{
     Argument, Helper, Inputs, Question, RECORD_BYTES, RecordForm, Room, Signature,
     WIDE_RECORD_BYTES, destination_at, is_valid, widened, window_within,
 };
 pub use limits::{
     GROUP_BYTES, GROUPS, HEADROOM, MAX_CHANNEL, MAX_DATAGRAM, MAX_OFFSET, STACK_BYTES, TAILROOM,
-    sizes,
+    law_sizes,
 };
 pub use loading::{CONTEXT_BYTES, ContextField, field_at};
 pub use memory::Memory;

@@ -28,7 +28,7 @@ pub const MAX_OFFSET: i64 = 1_048_576;
 pub const MAX_CHANNEL: u64 = 0x4fff;
 
 /// States the sizes in bytes, the greatest offset, and the greatest channel.
-pub fn sizes()
+pub fn law_sizes()
     ensures stack { STACK_BYTES ≡ 512 }
     ensures channel { MAX_CHANNEL ≡ 0x4fff }
     ensures headroom { HEADROOM ≡ 64 }

@@ -112,7 +112,7 @@ fn field_number(context: &[u8; CONTEXT_BYTES], n: usize, offset: usize) -> Value
 }
 
 /// Returns the side in the context record.
-#[tactic(auto, using(crate::specs::ContextLaws::side_field))]
+#[tactic(auto, using(crate::specs::laws::Context::side_field))]
 pub(crate) fn side(context: &[u8; CONTEXT_BYTES]) -> u64
     ensures { (c : Context) (n : ℕ) → IsContext c → context.now ≡ context_bytes c n → result ≡ c.side }
 {

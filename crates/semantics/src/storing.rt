@@ -11,7 +11,7 @@ use crate::stack::{StackMemory, put_bytes};
 use insn::{Size, write_little_endian};
 
 /// Writes bytes into stack cells, from an index on.
-#[tactic(auto, using(crate::specs::AccessLaws::put_none))]
+#[tactic(auto, using(crate::specs::laws::Access::put_none))]
 pub fn put_cells(cells: &mut [Option<u8>], index: usize, bytes: &[u8])
     requires { index + length bytes.now ≤ length cells.old }
     ensures { cells.new ≡ overlay index (map Some bytes.now) cells.old }

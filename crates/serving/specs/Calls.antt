@@ -1,13 +1,13 @@
 -- Meaning. The calls of a link: what each was handed, and what it answered.
 use Rattle.std.specs.Prelude.{◌≡◌, ℕ, List, ◌++◌, Option, None, Some, Result}
 use Rattle.attributes.specs.declared.address.Addr.{Addr}
-use Rattle.serving.specs.declared.link.LinkFault.{LinkFault}
+use Rattle.serving.specs.declared.link.LinkError.{LinkError}
 use Rattle.serving.specs.declared.link.Endpoint.{Endpoint}
 
 -- a receive, with the bytes that the buffer has afterwards; and a send
 pub data Call : Type 0 where
-  Received : (endpoint : Endpoint) (buffer : List ℕ) (answer : Result (Option (ℕ × Addr)) LinkFault) → Call
-  Sent : (endpoint : Endpoint) (to : Addr) (bytes : List ℕ) (answer : Result (Unit {0}) LinkFault) → Call
+  Received : (endpoint : Endpoint) (buffer : List ℕ) (answer : Result (Option (ℕ × Addr)) LinkError) → Call
+  Sent : (endpoint : Endpoint) (to : Addr) (bytes : List ℕ) (answer : Result (Unit {0}) LinkError) → Call
 
 -- A link that reports its calls has reported these after its former ones, or reports no more, as where it has no memory for
 -- them. One that doesn't report never begins to.

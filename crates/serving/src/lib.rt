@@ -5,6 +5,6 @@ mod link;
 mod nonce;
 mod serving;
 
-pub use link::{Endpoint, Link, LinkFault};
+pub use link::{Endpoint, Link, LinkError};
 pub use nonce::draw_nonce;
 pub use serving::{ServeError, serve_once};

@@ -16,7 +16,7 @@ pub enum Endpoint {
 
 /// A receive or a send that failed.
 #[derive(Clone, Copy, Debug, PartialEq, Eq)]
-pub struct LinkFault;
+pub struct LinkError;
 
 /// What datagrams come from and go to, as the sockets of a server.
 pub trait Link {
@@ -32,13 +32,13 @@ pub trait Link {
         &mut self,
         endpoint: Endpoint,
         into: &mut [u8],
-    ) -> Result<Option<(usize, Addr)>, LinkFault>
+    ) -> Result<Option<(usize, Addr)>, LinkError>
         ensures { HasReported (calls self.old) (calls self.new) (Received endpoint into.new result ∷ []) };
 
     /// Sends a datagram from an endpoint to an address.
     ///
     /// # Errors
     /// Where the send fails: the datagram wasn't sent whole.
-    fn send(&mut self, endpoint: Endpoint, to: Addr, bytes: &[u8]) -> Result<(), LinkFault>
+    fn send(&mut self, endpoint: Endpoint, to: Addr, bytes: &[u8]) -> Result<(), LinkError>
         ensures { HasReported (calls self.old) (calls self.new) (Sent endpoint to bytes.now result ∷ []) };
 }

@@ -1,3 +1,3 @@
 pub mod RefusedFields
 pub mod NamedFaults
-pub mod NoValues
+pub mod Colons

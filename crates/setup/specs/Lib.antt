@@ -1,3 +1,3 @@
 -- Internal. The modules of this folder.
 pub mod Setups
-pub mod Texts
+pub mod Users

@@ -12,6 +12,6 @@ pub mod Datagrams
 pub mod Attributes
 pub mod ChannelData
 pub mod Building
-pub mod BuildingLaws
+pub mod laws
 pub mod Builders
 pub use Rattle.byteorder.specs.Numbers

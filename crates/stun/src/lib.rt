@@ -17,8 +17,8 @@ pub use buffer::begin;
 pub use building::Builder;
 pub use channel::{ChannelData, read_channel};
 pub use reading::{
-    Message, message_in_has_the_parts, messages_are_unique, parts_are_unique, read,
-    refusals_are_unique, refused_is_no_message,
+    Message, law_message_in_has_the_parts, law_messages_are_unique, law_parts_are_unique,
+    law_refusals_are_unique, law_refused_is_no_message, read,
 };
 pub use reading_back::read_back;
 pub use refusal::{NoRoom, StunError};

@@ -53,14 +53,14 @@ impl<'a> Message<'a> {
     }
 
     /// Returns the transaction id.
-    pub fn tx(&self) -> [u8; 12]
+    pub fn transaction_id(&self) -> [u8; 12]
         ensures { result ≡ self.now.transaction_id }
     {
-        let mut tx = [0; 12];
+        let mut transaction_id = [0; 12];
         let (_, id) = self.bytes.split_at(8);
         let (id, _) = id.split_at(12);
-        tx.copy_from_slice(id);
-        tx
+        transaction_id.copy_from_slice(id);
+        transaction_id
     }
 
     /// Returns the bytes of all attributes with their padding: the datagram after its header.
@@ -151,28 +151,28 @@ pub fn read(bytes: &[u8]) -> Result<Message<'_>, StunError>
 }
 
 /// States that bytes have at most one refusal.
-pub fn refusals_are_unique()
+pub fn law_refusals_are_unique()
     ensures { (bytes : List ℕ) (d e : StunError) → IsRefusedMessage bytes d → IsRefusedMessage bytes e → d ≡ e }
 {}
 
 /// States that bytes which are refused encode no message.
-pub fn refused_is_no_message()
+pub fn law_refused_is_no_message()
     ensures { (bytes : List ℕ) (e : StunError) (p : Parts)
         → IsRefusedMessage bytes e → AreParts p → bytes ≡ parts_bytes p → ⊥ }
 {}
 
 /// States that a datagram has at most one list of parts.
-pub fn parts_are_unique()
+pub fn law_parts_are_unique()
     ensures { (p q : Parts) → AreParts p → AreParts q → parts_bytes p ≡ parts_bytes q → p ≡ q }
 {}
 
 /// States that `message_in` has the parts that a datagram encodes, if it encodes some.
-pub fn message_in_has_the_parts()
+pub fn law_message_in_has_the_parts()
     ensures found { (p : Parts) (bytes : List ℕ) → message_in bytes ≡ Some p → AreParts p × (bytes ≡ parts_bytes p) }
     ensures every { (p : Parts) (bytes : List ℕ) → AreParts p → bytes ≡ parts_bytes p → message_in bytes ≡ Some p }
 {}
 
 /// States that a datagram encodes at most one message.
-pub fn messages_are_unique()
+pub fn law_messages_are_unique()
     ensures { (m n : SpecMessage) (bytes : List ℕ) → IsMessage m bytes → IsMessage n bytes → m ≡ n }
 {}

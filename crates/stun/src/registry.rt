@@ -263,6 +263,6 @@ impl ErrorCode {
 }
 
 /// States that a phrase has at most 30 bytes.
-pub fn phrases_are_short()
+pub fn law_phrases_are_short()
     ensures { (e : errors.ErrorCode) → length (phrase_of e) ≤ 30 }
 {}

@@ -13,13 +13,13 @@ use Rattle.std.proofs.lemmas.List.Kept.{AllPairs-filter}
 use Rattle.attributes.specs.declared.address.Addr.{Addr}
 use Rattle.attributes.specs.declared.address.Addr.TheVariants.{V4}
 use Rattle.attributes.specs.AddressOrder.{address_parts, order_by_parts, is_same_address}
-use Rattle.attributes.specs.AddressOrderLaws.{parts_order-total, parts_order-antisymmetric}
+use Rattle.attributes.specs.laws.AddressOrder.{parts_order-total, parts_order-antisymmetric}
 use Rattle.tables.specs.Channels.{channels_at, number_to, may_bind, is_none_or}
-use Rattle.tables.specs.MapLaws.{entry_found}
+use Rattle.tables.specs.laws.Map.{entry_found}
 use Rattle.tables.specs.RowLists.{channels_of, AreChannels}
 use Rattle.tables.specs.Retained.{value_if}
-use Rattle.tables.specs.RetainedLaws.{get-kept_of, kept_from}
-use Rattle.tables.specs.RowLaws.{is_live_binding}
+use Rattle.tables.specs.laws.Retained.{get-kept_of, kept_from}
+use Rattle.tables.specs.laws.Row.{is_live_binding}
 use Rattle.tables.specs.Search.{AreAscending, IsFoundAt, IsMissingAt, IsPlace, with_row, has_room}
 use Rattle.tables.specs.SortedRows.{AreSortedByNumber, AreSortedByPeer, AreChannelLists}
 use Rattle.tables.specs.declared.channels.Binding.{Binding}

@@ -13,13 +13,13 @@ use Rattle.std.proofs.lemmas.List.Edits.{get_or-insert_below, get_or-insert_at, 
 use Rattle.attributes.specs.declared.address.Addr.{Addr}
 use Rattle.attributes.specs.declared.address.Addr.TheVariants.{V4}
 use Rattle.attributes.specs.AddressOrder.{address_parts, order_by_parts, is_same_address}
-use Rattle.attributes.specs.AddressOrderLaws.{parts_order-total, parts_order-antisymmetric, order_by_parts-total}
+use Rattle.attributes.specs.laws.AddressOrder.{parts_order-total, parts_order-antisymmetric, order_by_parts-total}
 use Rattle.tables.specs.LookUps.{is_of}
-use Rattle.tables.specs.RowLaws.{held_at-live, held_at-ended}
+use Rattle.tables.specs.laws.Row.{held_at-live, held_at-ended}
 use Rattle.tables.specs.Rows.{held_at, slots_at}
 use Rattle.tables.specs.Search.{AreAscending, IsFoundAt, IsMissingAt, IsPlace, with_row}
 use Rattle.tables.specs.Stored.{stored_at, client_in, left_at, AreClients}
-use Rattle.tables.specs.WellFormedLaws.{get-set_same, get-set_other, inside}
+use Rattle.tables.specs.laws.WellFormed.{get-set_same, get-set_other, inside}
 use Rattle.tables.specs.declared.clients.Client.{Client}
 use Rattle.tables.specs.WellFormed.{AreWellFormed}
 use Rattle.tables.specs.declared.held.Held.{Held}
@@ -181,25 +181,45 @@ some_is : {X : Type 0} (o : Option X) → is_some o ≡ true → (x : X) × (o �
 some_is None h = absurd (both_ways false refl h)
 some_is (Some x) h = (x, refl)
 
+some_client : (o : Option Held) (a : Addr) → client_in o ≡ Some a → (held : Held) × (o ≡ Some held)
+some_client None a is = absurd (none-some a is)
+some_client (Some held) a is = (held, refl)
+
+-- where each slot that something is left of keeps its client
+module _ (left : Option Held → Option Held) (none : left None ≡ None) (keeps : (o : Option Held) (held : Held) → left o ≡ Some held → client_in o ≡ Some held.allocation.client) (slots : List (Option Held))
+    (clients : List Client) (are : AreClients slots clients) where
+  abbrev is_left : Client → Bool
+  is_left row = is_some (stored_at (map left slots) row.slot)
+
+  flat_left : (o : Option (Option Held)) → option_flatten (option_map left o) ≡ left (option_flatten o)
+  flat_left None = sym none
+  flat_left (Some None) = refl
+  flat_left (Some (Some held)) = refl
+
+  client_kept : (k : ℕ) (held : Held) → stored_at (map left slots) k ≡ Some held → client_in (stored_at slots k) ≡ Some held.allocation.client
+  client_kept k held is = keeps (stored_at slots k) held (sym (ap option_flatten (slice_get-map left slots k) ∙ flat_left (slice_get slots k)) ∙ is)
+
+  still : (row : Client) → client_in (stored_at slots row.slot) ≡ Some row.address → is_left row ≡ true → client_in (stored_at (map left slots) row.slot) ≡ Some row.address
+  still row before has =
+      let now = some_is (stored_at (map left slots) row.slot) has in
+      ap client_in now.1 ∙ sym (client_kept row.slot now.0 now.1) ∙ before
+
+  pub left_are : AreClients (map left slots) (filter (λ row. is_some (stored_at (map left slots) row.slot)) clients)
+  left_are = record {
+    ascending = Ascending-filter parts_order-total key_in is_left clients are.ascending;
+    held = All-kept is_left (λ row. client_in (stored_at slots row.slot) ≡ Some row.address) (λ row. client_in (stored_at (map left slots) row.slot) ≡ Some row.address) still clients are.held;
+    listed = λ slot held there unlisted.
+        let before = some_client (stored_at slots slot) held.allocation.client (client_kept slot held there) in
+        are.listed slot before.0 before.1 (All-unkept is_left (λ row. client_in (stored_at slots row.slot) ≡ Some row.address) (λ row. row.slot ≢ slot)
+        (λ row _ ended at. both_ways (is_left row) ended (ap (λ n. is_some (stored_at (map left slots) n)) at ∙ ap is_some there)) clients are.held unlisted);
+  }
+
 module _ (t : ℕ) (slots : List (Option Held)) (clients : List Client) (are : AreClients slots clients) where
   abbrev has_slot : Client → Bool
   has_slot row = is_some (stored_at (map (left_at t) slots) row.slot)
 
-  still : (row : Client) → client_in (stored_at slots row.slot) ≡ Some row.address → has_slot row ≡ true → client_in (stored_at (map (left_at t) slots) row.slot) ≡ Some row.address
-  still row before has =
-      let now = some_is (stored_at (map (left_at t) slots) row.slot) has in
-      let same : stored_at slots row.slot ≡ Some now.0 = (left_some t (stored_at slots row.slot) now.0 (sym (stored_at-swept t slots row.slot) ∙ now.1)).0 in
-      ap client_in (now.1 ∙ sym same) ∙ before
-
   pub swept_are : AreClients (map (left_at t) slots) (filter (λ row. is_some (stored_at (map (left_at t) slots) row.slot)) clients)
-  swept_are = record {
-    ascending = Ascending-filter parts_order-total key_in has_slot clients are.ascending;
-    held = All-kept has_slot (λ row. client_in (stored_at slots row.slot) ≡ Some row.address) (λ row. client_in (stored_at (map (left_at t) slots) row.slot) ≡ Some row.address) still clients are.held;
-    listed = λ slot held there none.
-        let before : stored_at slots slot ≡ Some held = (left_some t (stored_at slots slot) held (sym (stored_at-swept t slots slot) ∙ there)).0 in
-        are.listed slot held before (All-unkept has_slot (λ row. client_in (stored_at slots row.slot) ≡ Some row.address) (λ row. row.slot ≢ slot)
-        (λ row _ ended at. both_ways (has_slot row) ended (ap (λ n. is_some (stored_at (map (left_at t) slots) n)) at ∙ ap is_some there)) clients are.held none);
-  }
+  swept_are = left_are (left_at t) refl (λ o held is. ap client_in (left_some t o held is).0) slots clients are
 
   -- a client whose allocation does not count has no row
   pub no_row : (client : Addr) → option_flatten (find (is_of client) (slots_at t slots)) ≡ None → (i : ℕ)
@@ -218,10 +238,6 @@ module _ (t : ℕ) (slots : List (Option Held)) (clients : List Client) (are : A
       ] refl
 
 -- ---- slots that are filled
-
-some_client : (o : Option Held) (a : Addr) → client_in o ≡ Some a → (held : Held) × (o ≡ Some held)
-some_client None a is = absurd (none-some a is)
-some_client (Some held) a is = (held, refl)
 
 either_part : (a b : Bool) → (a || b) ≡ true → a ≡ false → b ≡ true
 either_part true b h f = absurd (both_ways true f refl)
@@ -364,6 +380,6 @@ swept-well_formed m t slots latest are = record {
 }
 
 -- the clients that the code keeps
-pub kept_shown : (t : ℕ) (slots : List (Option Held)) (clients : List Client) (shown_slots : List (Option Held)) (shown rows : List Client) → rows ≡ filter (λ row. is_some (stored_at shown_slots row.slot)) shown
-    → shown_slots ≡ map (left_at t) slots → shown ≡ clients → rows ≡ filter (λ row. is_some (stored_at (map (left_at t) slots) row.slot)) clients
-kept_shown t slots clients shown_slots shown rows made same_slots same = made ∙ (λ i. filter (λ row. is_some (stored_at (same_slots i) row.slot)) (same i))
+pub kept_shown : (left : List (Option Held)) (clients : List Client) (shown_slots : List (Option Held)) (shown rows : List Client) → rows ≡ filter (λ row. is_some (stored_at shown_slots row.slot)) shown
+    → shown_slots ≡ left → shown ≡ clients → rows ≡ filter (λ row. is_some (stored_at left row.slot)) clients
+kept_shown left clients shown_slots shown rows made same_slots same = made ∙ (λ i. filter (λ row. is_some (stored_at (same_slots i) row.slot)) (same i))

@@ -4,14 +4,14 @@ use Rattle.std.specs.Cmp.{nat_cmp_total}
 use Rattle.std.specs.FinMap.{get}
 use Rattle.std.proofs.lemmas.Bool.{cond-true, cond-false, lt-ltb, le-ltb}
 use Rattle.attributes.specs.Addresses.{ip_of}
-use Rattle.attributes.specs.AddressOrderLaws.{ip_total}
+use Rattle.attributes.specs.laws.AddressOrder.{ip_total}
 use Rattle.attributes.specs.declared.address.Addr.{Addr}
 use Rattle.tables.specs.Moments.{moment_of, is_live_at}
 use Rattle.tables.specs.Rows.{Rows, held_at, live_rows, rows_at}
 use Rattle.tables.specs.LookUps.{held_in, peer_of, has_permission}
 use Rattle.tables.specs.Retained.{value_if}
-use Rattle.tables.specs.RetainedLaws.{get-kept_of}
-use Rattle.tables.specs.RowLaws.{is_live_binding, held_at-live, live_held}
+use Rattle.tables.specs.laws.Retained.{get-kept_of}
+use Rattle.tables.specs.laws.Row.{is_live_binding, held_at-live, live_held}
 use Rattle.tables.specs.declared.channels.Binding.{Binding}
 use Rattle.tables.specs.declared.held.Held.{Held}
 

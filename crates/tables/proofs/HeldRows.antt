@@ -5,7 +5,7 @@ use Rattle.attributes.specs.Addresses.{IsIpv4Address}
 use Rattle.tables.specs.Channels.{ChannelMap}
 use Rattle.tables.specs.Permissions.{PermissionMap}
 use Rattle.tables.specs.WellFormed.{IsHeldAt}
-use Rattle.tables.specs.WellFormedLaws.{fresh-held_at}
+use Rattle.tables.specs.laws.WellFormed.{fresh-held_at}
 use Rattle.tables.specs.declared.allocation.Allocation.{Allocation}
 use Rattle.tables.specs.declared.held.Held.{Held}
 

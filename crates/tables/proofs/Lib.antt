@@ -7,6 +7,7 @@ pub mod PermissionRows
 pub mod ChannelRows
 pub mod Slots
 pub mod ClientRows
+pub mod UserRows
 pub mod Found
 pub mod HeldRows
 pub mod SlotChanges

@@ -7,8 +7,8 @@ use Rattle.std.specs.FinMap.{FinMap, IsAntisymmetric, get, insert, len, entries,
 use Rattle.std.proofs.lemmas.Bool.{cases_Bool, cond-true, cond-false, false_from_ne_true, both_ways}
 use Rattle.std.proofs.lemmas.Option.{none-some, same_Some}
 use Rattle.std.proofs.lemmas.List.{get_or_default, take-append-drop}
-use Rattle.tables.specs.MapLaws.{entry_found}
-use Rattle.tables.specs.RetainedLaws.{none_kept}
+use Rattle.tables.specs.laws.Map.{entry_found}
+use Rattle.tables.specs.laws.Retained.{none_kept}
 use Rattle.tables.proofs.Lists.{AllPairs-head, AllPairs-tail, AllPairs-set}
 
 -- two tests that do not pass together may change places

@@ -5,7 +5,7 @@ use Rattle.std.proofs.lemmas.Bool.{and_parts, and_from, cases_lt}
 use Rattle.attributes.specs.Addresses.{ip_of, port_of}
 use Rattle.attributes.specs.declared.address.Addr.{Addr}
 use Rattle.attributes.specs.AddressOrder.{order_by_parts, is_same_address}
-use Rattle.attributes.specs.AddressOrderLaws.{order_by_parts-total, order_by_parts-same, ip_total}
+use Rattle.attributes.specs.laws.AddressOrder.{order_by_parts-total, order_by_parts-same, ip_total}
 use Rattle.tables.specs.Search.{IsFoundAt, IsMissingAt}
 
 pub is_same-symmetric : (a b : Addr) → is_same_address a b ≡ is_same_address b a

@@ -16,8 +16,8 @@ use Rattle.tables.specs.RowLists.{permissions_of, ArePermissions}
 use Rattle.tables.specs.declared.permissions.Permission.{Permission}
 use Rattle.tables.proofs.Lists.{length-filter-le}
 use Rattle.attributes.specs.AddressOrder.{ip_cmp, ip_order}
-use Rattle.attributes.specs.AddressOrderLaws.{ip_order-total, ip_order-antisymmetric, ip_total, ip_antisymmetric}
-use Rattle.tables.specs.PermitLaws.{with_all-append}
+use Rattle.attributes.specs.laws.AddressOrder.{ip_order-total, ip_order-antisymmetric, ip_total, ip_antisymmetric}
+use Rattle.tables.specs.laws.Permit.{with_all-append}
 use Rattle.tables.specs.Search.{AreAscending, IsFoundAt, IsMissingAt, IsPlace}
 use Rattle.tables.specs.SortedRows.{AreSortedPermissions}
 use Rattle.tables.proofs.Ascending.{searchable, Ascending-distinct, Ascending-filter, Ascending-set, Ascending-insert, missing_key, found_key}

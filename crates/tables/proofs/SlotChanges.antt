@@ -10,21 +10,21 @@ use Rattle.std.proofs.lemmas.Option.{same_Some, slice_get_read}
 use Rattle.fallible.specs.Fallible.{◌>>=◌, check}
 use Rattle.std.specs.List.{list_all}
 use Rattle.attributes.specs.Addresses.{IsAddress, ip_of, is_of_family}
-use Rattle.attributes.specs.AddressOrderLaws.{ip_total, ip_antisymmetric}
+use Rattle.attributes.specs.laws.AddressOrder.{ip_total, ip_antisymmetric}
 use Rattle.attributes.specs.declared.address.Addr.{Addr}
 use Rattle.tables.specs.Changes.{Change, Follows, with_held, refresh_change, permit_change, bind_change, permission_end}
 use Rattle.tables.specs.Channels.{ChannelMap, IsChannelNumber, channels_at, may_bind}
 use Rattle.tables.specs.LookUps.{held_in}
-use Rattle.tables.specs.MapLaws.{len-within}
+use Rattle.tables.specs.laws.Map.{len-within}
 use Rattle.tables.specs.Moments.{is_live_at}
 use Rattle.tables.specs.Permissions.{PermissionMap, permissions_at, with_all}
 use Rattle.tables.specs.Retained.{value_if, kept_of}
-use Rattle.tables.specs.RetainedLaws.{get-kept_of, kept_again, kept_from}
-use Rattle.tables.specs.RowLaws.{is_live_binding, live_held, held_at-live, held_at-ended, permissions_again, channels_again}
+use Rattle.tables.specs.laws.Retained.{get-kept_of, kept_again, kept_from}
+use Rattle.tables.specs.laws.Row.{is_live_binding, live_held, held_at-live, held_at-ended, permissions_again, channels_again}
 use Rattle.tables.specs.Rows.{Rows, held_at, live_rows}
 use Rattle.tables.specs.Stored.{AreStored, LeavesHeld, stored_at, client_in, with_end, with_permissions, with_binding, permit_held, bind_held}
 use Rattle.tables.specs.WellFormed.{IsHeldAt}
-use Rattle.tables.specs.WellFormedLaws.{set-well_formed, refreshed-held_at, bound-held_at}
+use Rattle.tables.specs.laws.WellFormed.{set-well_formed, refreshed-held_at, bound-held_at}
 use Rattle.tables.specs.declared.allocation.Allocation.{Allocation}
 use Rattle.tables.specs.declared.channels.Binding.{Binding}
 use Rattle.tables.specs.declared.channels.TheConstants.{CHANNEL_LIFETIME, MAX_CHANNELS}
@@ -32,9 +32,9 @@ use Rattle.tables.specs.declared.clients.Client.{Client}
 use Rattle.tables.specs.declared.held.Held.{Held}
 use Rattle.tables.specs.declared.moment.TheConstants.{LATEST}
 use Rattle.tables.specs.declared.permissions.TheConstants.{PERMISSION_LIFETIME, MAX_PERMISSIONS}
-use Rattle.tables.specs.declared.refusal.Refused.{Refused}
-use Rattle.tables.specs.declared.refusal.Refused.TheVariants.{Capacity, Conflict, NoAllocation}
-use Rattle.tables.specs.declared.refusal.Refused.TheVariants as refusal
+use Rattle.tables.specs.declared.refusal.TableError.{TableError}
+use Rattle.tables.specs.declared.refusal.TableError.TheVariants.{Capacity, Conflict, NoAllocation}
+use Rattle.tables.specs.declared.refusal.TableError.TheVariants as refusal
 use Rattle.tables.proofs.ClientRows.{held_again}
 use Rattle.tables.proofs.HeldRows.{held_of}
 use Rattle.tables.proofs.Slots.{ShowsStored, held_in-stored, with_held-stored}
@@ -120,13 +120,13 @@ module _ (t : ℕ) (held : Held) where
 -- ---- the changes of what a slot holds
 
 -- a change that is made
-leaves : (change : Result Held Refused) (t : ℕ) (old new made : Held) → change ≡ Ok made → held_at t new ≡ held_at t made → LeavesHeld change t old (Ok tt) new
-leaves change t old new made is same = subst (λ (c : Result Held Refused). LeavesHeld c t old (Ok tt) new) (sym is) (refl, same)
+leaves : (change : Result Held TableError) (t : ℕ) (old new made : Held) → change ≡ Ok made → held_at t new ≡ held_at t made → LeavesHeld change t old (Ok tt) new
+leaves change t old new made is same = subst (λ (c : Result Held TableError). LeavesHeld c t old (Ok tt) new) (sym is) (refl, same)
 
 permit-is : (t : ℕ) (ips : List Addr) (held : Held) → list_all (is_of_family held.allocation.family) ips ≡ true → len (with_all held.permissions ips (t + PERMISSION_LIFETIME)) ≤ MAX_PERMISSIONS
     → permit_held t ips held ≡ Ok (with_permissions (t + PERMISSION_LIFETIME) ips held)
 permit-is t ips held of few =
-    let made : Result Held Refused = Ok (with_permissions (t + PERMISSION_LIFETIME) ips held) in
+    let made : Result Held TableError = Ok (with_permissions (t + PERMISSION_LIFETIME) ips held) in
     ap (λ (b : Bool). check b refusal.Family >>= (λ _. check (nat_le (len (with_all held.permissions ips (t + PERMISSION_LIFETIME))) MAX_PERMISSIONS) Capacity >>= (λ _. made))) of
     ∙ ap (λ (b : Bool). check b Capacity >>= (λ _. made)) (le-leb _ _ few)
 
@@ -134,7 +134,7 @@ bind-is : (t number : ℕ) (peer : Addr) (held : Held) → is_of_family held.all
     → len (with_binding t number peer held).channels ≤ MAX_CHANNELS → len (with_binding t number peer held).permissions ≤ MAX_PERMISSIONS
     → bind_held t number peer held ≡ Ok (with_binding t number peer held)
 bind-is t number peer held of free few_channels few_permissions =
-    let made : Result Held Refused = Ok (with_binding t number peer held) in
+    let made : Result Held TableError = Ok (with_binding t number peer held) in
     let channels : ℕ = len (with_binding t number peer held).channels in
     let permissions : ℕ = len (with_binding t number peer held).permissions in
     ap (λ (b : Bool). check b refusal.Family >>= (λ _. check (may_bind held.channels number peer) Conflict >>= (λ _. check (nat_le channels MAX_CHANNELS) Capacity >>= (λ _. check (nat_le permissions MAX_PERMISSIONS) Capacity >>= (λ _. made))))) of
@@ -142,7 +142,7 @@ bind-is t number peer held of free few_channels few_permissions =
     ∙ ap (λ (b : Bool). check b Capacity >>= (λ _. check (nat_le permissions MAX_PERMISSIONS) Capacity >>= (λ _. made))) (le-leb _ _ few_channels)
     ∙ ap (λ (b : Bool). check b Capacity >>= (λ _. made)) (le-leb _ _ few_permissions)
 
-full : (b : Bool) (rest : Result Held Refused) → rest ≡ Err Capacity → (check b Capacity >>= (λ _. rest)) ≡ Err Capacity
+full : (b : Bool) (rest : Result Held TableError) → rest ≡ Err Capacity → (check b Capacity >>= (λ _. rest)) ≡ Err Capacity
 full true rest same = same
 full false rest same = refl
 
@@ -150,7 +150,7 @@ full false rest same = refl
 pub bind-full : (t number : ℕ) (peer : Addr) (held : Held) → is_of_family held.allocation.family peer ≡ true → may_bind held.channels number peer ≡ true
     → nat_le (len (insert held.permissions (ip_of peer) (t + PERMISSION_LIFETIME))) MAX_PERMISSIONS ≡ false → bind_held t number peer held ≡ Err Capacity
 bind-full t number peer held of free no_room =
-    let made : Result Held Refused = Ok (with_binding t number peer held) in
+    let made : Result Held TableError = Ok (with_binding t number peer held) in
     let channels : ℕ = len (with_binding t number peer held).channels in
     let permissions : ℕ = len (with_binding t number peer held).permissions in
     ap (λ (b : Bool). check b refusal.Family >>= (λ _. check (may_bind held.channels number peer) Conflict >>= (λ _. check (nat_le channels MAX_CHANNELS) Capacity >>= (λ _. check (nat_le permissions MAX_PERMISSIONS) Capacity >>= (λ _. made))))) of
@@ -217,7 +217,7 @@ module _ (slot : ℕ) (rows : Rows) where
   abbrev pub put-back : Held → Change (Unit {0})
   put-back made = Ok (tt, with_held rows slot made)
 
-  after-check : (b : Bool) (refused : Refused) (change : Result Held Refused) (rest : Change (Unit {0})) → rest ≡ (change >>= put-back) → (check b refused >>= (λ _. rest)) ≡ ((check b refused >>= (λ _. change)) >>= put-back)
+  after-check : (b : Bool) (refused : TableError) (change : Result Held TableError) (rest : Change (Unit {0})) → rest ≡ (change >>= put-back) → (check b refused >>= (λ _. rest)) ≡ ((check b refused >>= (λ _. change)) >>= put-back)
   after-check true refused change rest same = same
   after-check false refused change rest same = refl
 
@@ -233,11 +233,11 @@ module _ (slot : ℕ) (rows : Rows) where
 
 -- ---- a slot that is read
 
-ok-err : {why : Refused} {result : Result (Unit {0}) Refused} → result ≡ Ok tt → result ≡ Err why → ⊥
+ok-err : {why : TableError} {result : Result (Unit {0}) TableError} → result ≡ Ok tt → result ≡ Err why → ⊥
 ok-err ok err = cc
 
 -- a refused change leaves what the slot holds
-pub left-unchanged : (change : Result Held Refused) (t : ℕ) (old new : Held) (why : Refused) → LeavesHeld change t old (Err why) new → new ≡ old
+pub left-unchanged : (change : Result Held TableError) (t : ℕ) (old new : Held) (why : TableError) → LeavesHeld change t old (Err why) new → new ≡ old
 left-unchanged (Ok made) t old new why left = absurd (ok-err left.0 refl)
 left-unchanged (Err refused) t old new why left = left.1
 
@@ -289,7 +289,7 @@ module _ (last : ℕ) (slots : List (Option Held)) (now : Rows) (shows : ShowsSt
         subst (λ (c : Change (Unit {0})). Follows c now (Ok tt) (live_rows t (record { moment = t; slots = set slots slot (Some new) }))) (sym (changed slot (live_rows t now) (live_held t held) _ held_rows))
         (refl, made new _ (ap (held_at t) same ∙ left-end t held (t + lifetime)))
 
-    followed : (change : Change (Unit {0})) (inner : Result Held Refused) (new : Held) → change ≡ (inner >>= put-back slot (live_rows t now)) → LeavesHeld inner t held (Ok tt) new
+    followed : (change : Change (Unit {0})) (inner : Result Held TableError) (new : Held) → change ≡ (inner >>= put-back slot (live_rows t now)) → LeavesHeld inner t held (Ok tt) new
         → Follows change now (Ok tt) (live_rows t (record { moment = t; slots = set slots slot (Some new) }))
     followed change (Ok wanted) new made_is left = subst (λ (c : Change (Unit {0})). Follows c now (Ok tt) (live_rows t (record { moment = t; slots = set slots slot (Some new) }))) (sym made_is) (refl, made new wanted left.1)
     followed change (Err refused) new made_is left = absurd (ok-err refl left.0)
@@ -303,24 +303,24 @@ module _ (last : ℕ) (slots : List (Option Held)) (now : Rows) (shows : ShowsSt
     bind-follows number peer new = followed _ _ new (bind-changes slot (live_rows t now) number peer (live_held t held) held_rows)
 
     -- where the change of what the slot holds is refused, so is that of the rows
-    refused : (change : Change (Unit {0})) (inner : Result Held Refused) (why : Refused) (new : Held) → change ≡ (inner >>= put-back slot (live_rows t now)) → LeavesHeld inner t held (Err why) new
+    refused : (change : Change (Unit {0})) (inner : Result Held TableError) (why : TableError) (new : Held) → change ≡ (inner >>= put-back slot (live_rows t now)) → LeavesHeld inner t held (Err why) new
         → Follows change now (Err why) (live_rows last (record { moment = last; slots = set slots slot (Some new) }))
     refused change (Ok wanted) why new refused_is left = absurd (ok-err left.0 refl)
     refused change (Err other) why new refused_is left =
         subst (λ (c : Change (Unit {0})). Follows c now (Err why) (live_rows last (record { moment = last; slots = set slots slot (Some new) }))) (sym refused_is)
         (left.0, unchanged (Some new) (ap Some left.1 ∙ sym same))
 
-    pub permit-refused : (ips : List Addr) (why : Refused) (new : Held) → LeavesHeld (permit_held t ips (live_held t held)) t held (Err why) new
+    pub permit-refused : (ips : List Addr) (why : TableError) (new : Held) → LeavesHeld (permit_held t ips (live_held t held)) t held (Err why) new
         → Follows (permit_change slot ips (live_rows t now)) now (Err why) (live_rows last (record { moment = last; slots = set slots slot (Some new) }))
     permit-refused ips why new = refused _ _ why new (permit-changes slot (live_rows t now) ips (live_held t held) held_rows)
 
-    pub bind-refused : (number : ℕ) (peer : Addr) (why : Refused) (new : Held) → LeavesHeld (bind_held t number peer (live_held t held)) t held (Err why) new
+    pub bind-refused : (number : ℕ) (peer : Addr) (why : TableError) (new : Held) → LeavesHeld (bind_held t number peer (live_held t held)) t held (Err why) new
         → Follows (bind_change slot number peer (live_rows t now)) now (Err why) (live_rows last (record { moment = last; slots = set slots slot (Some new) }))
     bind-refused number peer why new = refused _ _ why new (bind-changes slot (live_rows t now) number peer (live_held t held) held_rows)
 
 -- ---- the moment of a change
 
-pub at_moment : (change : Rows → Change (Unit {0})) (now new : Rows) (result : Result (Unit {0}) Refused) (t u : ℕ) → t ≡ u → Follows (change (live_rows t now)) now result new → Follows (change (live_rows u now)) now result new
+pub at_moment : (change : Rows → Change (Unit {0})) (now new : Rows) (result : Result (Unit {0}) TableError) (t u : ℕ) → t ≡ u → Follows (change (live_rows t now)) now result new → Follows (change (live_rows u now)) now result new
 at_moment change now new result t u moment = subst (λ m. Follows (change (live_rows m now)) now result new) moment
 
 -- ---- what is stored stays well formed

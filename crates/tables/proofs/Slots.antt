@@ -11,7 +11,7 @@ use Rattle.attributes.specs.declared.address.Addr.{Addr}
 use Rattle.tables.specs.Rows.{Rows, held_at, slots_at, live_rows}
 use Rattle.tables.specs.LookUps.{held_in, held_by, is_of}
 use Rattle.tables.specs.Changes.{with_held, first_free}
-use Rattle.tables.specs.RowLaws.{live_again, held_in-live, held_at-live}
+use Rattle.tables.specs.laws.Row.{live_again, held_in-live, held_at-live}
 use Rattle.tables.specs.declared.held.Held.{Held}
 
 -- `now` is the rows of what is stored

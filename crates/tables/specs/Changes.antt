@@ -14,16 +14,16 @@ use Rattle.tables.specs.declared.allocation.Allocation.{Allocation}
 use Rattle.tables.specs.declared.channels.TheConstants.{CHANNEL_LIFETIME, MAX_CHANNELS}
 use Rattle.tables.specs.declared.held.Held.{Held}
 use Rattle.tables.specs.declared.permissions.TheConstants.{PERMISSION_LIFETIME, MAX_PERMISSIONS}
-use Rattle.tables.specs.declared.refusal.Refused.{Refused}
-use Rattle.tables.specs.declared.refusal.Refused.TheVariants as refusal
-use Rattle.tables.specs.declared.refusal.Refused.TheVariants.{Mismatch, Capacity, Conflict, NoAllocation}
+use Rattle.tables.specs.declared.refusal.TableError.{TableError}
+use Rattle.tables.specs.declared.refusal.TableError.TheVariants as refusal
+use Rattle.tables.specs.declared.refusal.TableError.TheVariants.{Mismatch, Capacity, Conflict, NoAllocation}
 
 -- an answer with the new rows, or a refusal
 abbrev pub Change : Type 0 → Type 0
-Change A = Result (A × Rows) Refused
+Change A = Result (A × Rows) TableError
 
 -- A change that is made gives its answer and leaves its rows; a refused one leaves the rows as they were.
-abbrev pub Follows : {A : Type 0} → Change A → Rows → Result A Refused → Rows → Type 0
+abbrev pub Follows : {A : Type 0} → Change A → Rows → Result A TableError → Rows → Type 0
 Follows (Ok made) old result new = (result ≡ Ok made.0) × (new ≡ made.1)
 Follows (Err refused) old result new = (result ≡ Err refused) × (new ≡ old)
 
@@ -42,10 +42,10 @@ abbrev pub fresh : Allocation → Held
 fresh allocation = record { allocation = allocation; permissions = empty; channels = empty }
 
 abbrev pub allocation_change : Addr → ℕ → List ℕ → Family → ℕ → Rows → Change ℕ
-allocation_change client user tx family lifetime rows = do
+allocation_change client user transaction_id family lifetime rows = do
   _ ← check (is_none (allocation_of client rows)) Mismatch
   slot ← ok_or (first_free rows) Capacity
-  Ok (slot, with_held rows slot (fresh (record { slot = slot; client = client; family = family; user = user; tx = tx; lifetime = lifetime; end = rows.moment + lifetime })))
+  Ok (slot, with_held rows slot (fresh (record { slot = slot; client = client; family = family; user = user; transaction_id = transaction_id; lifetime = lifetime; end = rows.moment + lifetime })))
 
 -- a new end; with a lifetime of 0 the allocation has ended
 abbrev pub refresh_change : ℕ → ℕ → Rows → Change (Unit {0})

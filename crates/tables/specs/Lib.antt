@@ -1,6 +1,6 @@
 -- Internal. The modules of this folder.
 pub mod Moments
-pub mod MomentLaws
+pub mod laws
 pub mod Addresses
 pub mod Search
 pub mod Permissions
@@ -9,13 +9,9 @@ pub mod RowLists
 pub mod Rows
 pub mod LookUps
 pub mod WellFormed
-pub mod WellFormedLaws
 pub mod Changes
+pub mod Users
 pub mod Storage
-pub mod MapLaws
 pub mod Retained
-pub mod RetainedLaws
-pub mod RowLaws
-pub mod PermitLaws
 pub mod SortedRows
 pub mod Stored

@@ -17,9 +17,9 @@ use Rattle.tables.specs.declared.channels.TheConstants.{CHANNEL_LIFETIME, MAX_CH
 use Rattle.tables.specs.declared.clients.Client.{Client}
 use Rattle.tables.specs.declared.held.Held.{Held}
 use Rattle.tables.specs.declared.permissions.TheConstants.{PERMISSION_LIFETIME, MAX_PERMISSIONS}
-use Rattle.tables.specs.declared.refusal.Refused.{Refused}
-use Rattle.tables.specs.declared.refusal.Refused.TheVariants as refusal
-use Rattle.tables.specs.declared.refusal.Refused.TheVariants.{Capacity, Conflict}
+use Rattle.tables.specs.declared.refusal.TableError.{TableError}
+use Rattle.tables.specs.declared.refusal.TableError.TheVariants as refusal
+use Rattle.tables.specs.declared.refusal.TableError.TheVariants.{Capacity, Conflict}
 
 abbrev pub stored_at : List (Option Held) → ℕ → Option Held
 stored_at slots slot = option_flatten (slice_get slots slot)
@@ -61,13 +61,13 @@ with_binding t number peer held = record held {
 
 -- ---- the changes of what a slot holds
 
-abbrev pub permit_held : ℕ → List Addr → Held → Result Held Refused
+abbrev pub permit_held : ℕ → List Addr → Held → Result Held TableError
 permit_held t ips held = do
   _ ← check (list_all (is_of_family held.allocation.family) ips) refusal.Family
   _ ← check (nat_le (len (with_all held.permissions ips (t + PERMISSION_LIFETIME))) MAX_PERMISSIONS) Capacity
   Ok (with_permissions (t + PERMISSION_LIFETIME) ips held)
 
-abbrev pub bind_held : ℕ → ℕ → Addr → Held → Result Held Refused
+abbrev pub bind_held : ℕ → ℕ → Addr → Held → Result Held TableError
 bind_held t number peer held = do
   _ ← check (is_of_family held.allocation.family peer) refusal.Family
   _ ← check (may_bind held.channels number peer) Conflict
@@ -76,6 +76,6 @@ bind_held t number peer held = do
   Ok (with_binding t number peer held)
 
 -- after a change that is made, what is live is what it makes; a refused one leaves what is stored
-abbrev pub LeavesHeld : Result Held Refused → ℕ → Held → Result (Unit {0}) Refused → Held → Type 0
+abbrev pub LeavesHeld : Result Held TableError → ℕ → Held → Result (Unit {0}) TableError → Held → Type 0
 LeavesHeld (Ok made) t old result new = (result ≡ Ok tt) × (held_at t new ≡ held_at t made)
 LeavesHeld (Err refused) t old result new = (result ≡ Err refused) × (new ≡ old)

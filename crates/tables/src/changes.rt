@@ -4,9 +4,9 @@ use crate::allocation::Allocation;
 use crate::channels::Channels;
 use crate::held::Held;
 use crate::permissions::Permissions;
-use crate::refusal::Refused;
+use crate::refusal::TableError;
 use crate::storage::Tables;
-use attributes::{Addr, Family, is_address};
+use attributes::{Addr, Family, law_is_address};
 
 impl Tables {
     ghost use Rattle.std.specs.Prelude.{◌≡◌, ◌≤◌, ◌<◌, IfOk, IsTrue, length};
@@ -26,28 +26,28 @@ impl Tables {
         now: u64,
         client: Addr,
         user: usize,
-        tx: [u8; 12],
+        transaction_id: [u8; 12],
         family: Family,
         lifetime: u32,
-    ) -> Result<usize, Refused>
+    ) -> Result<usize, TableError>
         requires ipv4 { IsTrue (is_ipv4 client) }
-        ensures follows { Follows (allocation_change client user tx family lifetime (rows_at now self.old)) self.old result self.new }
+        ensures follows { Follows (allocation_change client user transaction_id family lifetime (rows_at now self.old)) self.old result self.new }
         ensures inside { IfOk result (λ slot. slot < length self.old.slots) }
         ensures moment { (self.old.moment ≤ self.new.moment) × (self.new.moment ≤ moment_of self.old.moment now) }
         ensures slots { length self.new.slots ≡ length self.old.slots }
     {
         let moment = self.moment_at(now);
         if self.allocation_of(client, now).is_some() {
-            return Err(Refused::Mismatch);
+            return Err(TableError::Mismatch);
         }
-        let slot = self.first_free(moment).ok_or(Refused::Capacity)?;
-        is_address(&client);
+        let slot = self.first_free(moment).ok_or(TableError::Capacity)?;
+        law_is_address(&client);
         let allocation = Allocation {
             slot,
             client,
             family,
             user,
-            tx,
+            transaction_id,
             lifetime,
             end: moment + u64::from(lifetime),
         };
@@ -68,20 +68,20 @@ impl Tables {
     ///
     /// # Errors
     /// `NoAllocation` where the slot has none.
-    pub fn refresh(&mut self, now: u64, slot: usize, lifetime: u32) -> Result<(), Refused>
+    pub fn refresh(&mut self, now: u64, slot: usize, lifetime: u32) -> Result<(), TableError>
         ensures follows { Follows (refresh_change slot lifetime (rows_at now self.old)) self.old result self.new }
         ensures moment { (self.old.moment ≤ self.new.moment) × (self.new.moment ≤ moment_of self.old.moment now) }
         ensures slots { length self.new.slots ≡ length self.old.slots }
     {
         let moment = self.moment_at(now);
         if slot >= self.slots.len() {
-            return Err(Refused::NoAllocation);
+            return Err(TableError::NoAllocation);
         }
         let Some(held) = &mut self.slots[slot] else {
-            return Err(Refused::NoAllocation);
+            return Err(TableError::NoAllocation);
         };
         if held.allocation.end <= moment {
-            return Err(Refused::NoAllocation);
+            return Err(TableError::NoAllocation);
         }
         held.refresh(moment + u64::from(lifetime));
         self.moment = moment;
@@ -96,20 +96,20 @@ impl Tables {
     /// more than [`MAX_PERMISSIONS`] permissions.
     ///
     /// [`MAX_PERMISSIONS`]: crate::MAX_PERMISSIONS
-    pub fn permit(&mut self, now: u64, slot: usize, ips: &[Addr]) -> Result<(), Refused>
+    pub fn permit(&mut self, now: u64, slot: usize, ips: &[Addr]) -> Result<(), TableError>
         ensures follows { Follows (permit_change slot ips.now (rows_at now self.old)) self.old result self.new }
         ensures moment { (self.old.moment ≤ self.new.moment) × (self.new.moment ≤ moment_of self.old.moment now) }
         ensures slots { length self.new.slots ≡ length self.old.slots }
     {
         let moment = self.moment_at(now);
         if slot >= self.slots.len() {
-            return Err(Refused::NoAllocation);
+            return Err(TableError::NoAllocation);
         }
         let Some(held) = &mut self.slots[slot] else {
-            return Err(Refused::NoAllocation);
+            return Err(TableError::NoAllocation);
         };
         if held.allocation.end <= moment {
-            return Err(Refused::NoAllocation);
+            return Err(TableError::NoAllocation);
         }
         held.permit(ips, moment)?;
         self.moment = moment;
@@ -126,7 +126,7 @@ impl Tables {
     ///
     /// [`MAX_CHANNELS`]: crate::MAX_CHANNELS
     /// [`MAX_PERMISSIONS`]: crate::MAX_PERMISSIONS
-    pub fn bind(&mut self, now: u64, slot: usize, number: u16, peer: Addr) -> Result<(), Refused>
+    pub fn bind(&mut self, now: u64, slot: usize, number: u16, peer: Addr) -> Result<(), TableError>
         requires range { IsChannelNumber number }
         ensures follows { Follows (bind_change slot number peer (rows_at now self.old)) self.old result self.new }
         ensures moment { (self.old.moment ≤ self.new.moment) × (self.new.moment ≤ moment_of self.old.moment now) }
@@ -134,13 +134,13 @@ impl Tables {
     {
         let moment = self.moment_at(now);
         if slot >= self.slots.len() {
-            return Err(Refused::NoAllocation);
+            return Err(TableError::NoAllocation);
         }
         let Some(held) = &mut self.slots[slot] else {
-            return Err(Refused::NoAllocation);
+            return Err(TableError::NoAllocation);
         };
         if held.allocation.end <= moment {
-            return Err(Refused::NoAllocation);
+            return Err(TableError::NoAllocation);
         }
         held.bind(number, peer, moment)?;
         self.moment = moment;

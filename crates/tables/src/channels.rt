@@ -5,10 +5,10 @@ ghost use Rattle.tables.specs.Search.{has_room};
 ghost use Rattle.tables.specs.declared.channels.TheConstants.{MAX_CHANNELS};
 
 use crate::address::is_same;
-use crate::refusal::Refused;
+use crate::refusal::TableError;
 use crate::search::{Row, place_of, put_at, search};
 use arrayvec::ArrayVec;
-use attributes::{Addr, is_address};
+use attributes::{Addr, law_is_address};
 use std::cmp::Ordering;
 use std::marker::Model;
 use std::sync::ledger::Ledger;
@@ -73,8 +73,8 @@ impl Row<Addr> for Channel {
     ghost order = { λ row peer. order_by_parts row.binding.peer peer };
 
     fn compare(&self, peer: &Addr) -> Ordering {
-        is_address(&self.binding.peer);
-        is_address(peer);
+        law_is_address(&self.binding.peer);
+        law_is_address(peer);
         self.binding.peer.cmp(peer)
     }
 }
@@ -134,7 +134,7 @@ impl Channels {
     ghost use Rattle.tables.specs.Channels.{IsChannelNumber, channels_at, number_to, may_bind};
     ghost use Rattle.tables.specs.RowLists.{AreChannels, channels_of};
     ghost use Rattle.tables.specs.declared.channels.TheConstants.{MAX_CHANNELS};
-    ghost use Rattle.tables.specs.declared.refusal.Refused.TheVariants.{Capacity};
+    ghost use Rattle.tables.specs.declared.refusal.TableError.TheVariants.{Capacity};
 
     /// Makes a collection of no channels.
     pub(crate) fn new() -> Channels
@@ -234,7 +234,7 @@ impl Channels {
     }
 
     /// States that a number and a peer that may be bound may also be bound among the channels that are live at a moment.
-    pub(crate) fn stay_free(&self, number: u16, peer: &Addr)
+    pub(crate) fn law_stay_free(&self, number: u16, peer: &Addr)
         requires { IsTrue (may_bind self.now number peer.now) }
         ensures { (t : ℕ) → IsTrue (may_bind (channels_at t self.now) number peer.now) }
     {
@@ -245,7 +245,7 @@ impl Channels {
     ///
     /// # Errors
     /// `Capacity` where there would be more than [`MAX_CHANNELS`]. Nothing is changed then.
-    pub(crate) fn put(&mut self, number: u16, binding: Binding) -> Result<(), Refused>
+    pub(crate) fn put(&mut self, number: u16, binding: Binding) -> Result<(), TableError>
         requires range { IsChannelNumber number }
         requires free { IsTrue (may_bind self.old number binding.peer) }
         ensures put { OnOk result (self.new ≡ insert self.old number binding) }
@@ -257,7 +257,7 @@ impl Channels {
         let channel = Channel { number, binding };
         let place = place_of(self.rows.as_slice(), &number);
         if !has_room(self.rows.as_slice(), &place) {
-            return Err(Refused::Capacity);
+            return Err(TableError::Capacity);
         }
         let place_by_peer = place_of(self.by_peer.as_slice(), &binding.peer);
         put_at(&mut self.rows, place, channel);

@@ -8,7 +8,7 @@ use crate::held::Held;
 use crate::search::Row;
 use crate::storage::MAX_ALLOCATIONS;
 use arrayvec::ArrayVec;
-use attributes::{Addr, is_address};
+use attributes::{Addr, law_is_address};
 use std::cmp::Ordering;
 
 /// A client, and the slot that it has.
@@ -34,8 +34,8 @@ impl Row<Addr> for Client {
     ghost order = { λ row client. order_by_parts row.address client };
 
     fn compare(&self, client: &Addr) -> Ordering {
-        is_address(&self.address);
-        is_address(client);
+        law_is_address(&self.address);
+        law_is_address(client);
         self.address.cmp(client)
     }
 }

@@ -6,8 +6,8 @@ use crate::address::are_of;
 use crate::allocation::Allocation;
 use crate::channels::{Binding, CHANNEL_LIFETIME, Channels};
 use crate::permissions::{PERMISSION_LIFETIME, Permissions};
-use crate::refusal::Refused;
-use attributes::{Addr, is_address};
+use crate::refusal::TableError;
+use attributes::{Addr, law_is_address};
 
 /// An allocation with its permissions and channels, which end with it.
 #[derive(Drop)]
@@ -22,7 +22,7 @@ impl Held {
     ghost use Rattle.std.specs.FinMap.{len};
     ghost use Rattle.attributes.specs.Addresses.{IsAddress, is_of_family};
     ghost use Rattle.tables.specs.Channels.{IsChannelNumber, channels_at, may_bind};
-    ghost use Rattle.tables.specs.RowLaws.{live_held};
+    ghost use Rattle.tables.specs.laws.Row.{live_held};
     ghost use Rattle.tables.specs.Stored.{LeavesHeld, permit_held, bind_held, with_end, with_binding};
     ghost use Rattle.tables.specs.WellFormed.{IsHeldAt};
     ghost use Rattle.tables.specs.declared.channels.TheConstants.{MAX_CHANNELS};
@@ -53,14 +53,14 @@ impl Held {
     /// # Errors
     /// `Family` where an address is not of the allocation's family; `Capacity` where there would be more than 64 permissions.
     /// Nothing is changed then.
-    pub(crate) fn permit(&mut self, ips: &[Addr], moment: u64) -> Result<(), Refused>
+    pub(crate) fn permit(&mut self, ips: &[Addr], moment: u64) -> Result<(), TableError>
         requires latest { moment ≤ LATEST }
         ensures follows { LeavesHeld (permit_held moment ips.now (live_held moment self.old)) moment self.old result self.new }
         ensures held_at { (slot : ℕ) → IsHeldAt slot self.old → IsHeldAt slot self.new }
         ensures same { self.new.allocation ≡ self.old.allocation }
     {
         if !are_of(self.allocation.family, ips) {
-            return Err(Refused::Family);
+            return Err(TableError::Family);
         }
         let end = moment + PERMISSION_LIFETIME;
         if self.permissions.have_room(ips) {
@@ -79,7 +79,7 @@ impl Held {
     /// # Errors
     /// `Family` where the peer is not of the allocation's family; `Conflict` where the number is bound to another peer, or the
     /// peer to another number; `Capacity` where there would be more than 64 channels or permissions. Nothing is changed then.
-    pub(crate) fn bind(&mut self, number: u16, peer: Addr, moment: u64) -> Result<(), Refused>
+    pub(crate) fn bind(&mut self, number: u16, peer: Addr, moment: u64) -> Result<(), TableError>
         requires range { IsChannelNumber number }
         requires latest { moment ≤ LATEST }
         ensures follows { LeavesHeld (bind_held moment number peer (live_held moment self.old)) moment self.old result self.new }
@@ -94,7 +94,7 @@ impl Held {
 
     /// As [`Held::bind`], with a copy from which what has ended is dropped. It is a function of its own, so that a change in
     /// place makes no room for the copy.
-    fn put_swept(&mut self, number: u16, peer: Addr, moment: u64) -> Result<(), Refused>
+    fn put_swept(&mut self, number: u16, peer: Addr, moment: u64) -> Result<(), TableError>
         requires range { IsChannelNumber number }
         requires latest { moment ≤ LATEST }
         ensures follows { LeavesHeld (bind_held moment number peer (live_held moment self.old)) moment self.old result self.new }
@@ -111,7 +111,7 @@ impl Held {
     ///
     /// # Errors
     /// Those of [`Held::bind`]. Nothing is changed then.
-    fn put(&mut self, number: u16, peer: Addr, moment: u64) -> Result<(), Refused>
+    fn put(&mut self, number: u16, peer: Addr, moment: u64) -> Result<(), TableError>
         requires range { IsChannelNumber number }
         requires latest { moment ≤ LATEST }
         ensures made { OnOk result (self.new ≡ with_binding moment number peer self.old) }
@@ -122,17 +122,17 @@ impl Held {
         ensures refused { IfErr result (λ e. bind_held moment number peer self.old ≡ Err e) }
         ensures unchanged { OnErr result (self.new ≡ self.old) }
     {
-        is_address(&peer);
+        law_is_address(&peer);
         if !peer.is_of_family(self.allocation.family) {
-            return Err(Refused::Family);
+            return Err(TableError::Family);
         }
         if !self.channels.may_bind(number, &peer) {
-            return Err(Refused::Conflict);
+            return Err(TableError::Conflict);
         }
         if !self.permissions.has_room_for(&peer) {
-            return Err(Refused::Capacity);
+            return Err(TableError::Capacity);
         }
-        self.channels.stay_free(number, &peer);
+        self.channels.law_stay_free(number, &peer);
         let end = moment + CHANNEL_LIFETIME;
         self.channels.put(number, Binding { peer, end })?;
         self.permissions

@@ -17,13 +17,14 @@ mod permissions;
 mod refusal;
 mod search;
 mod storage;
+mod users;
 
 pub use address::is_ipv4;
 pub use allocation::Allocation;
 pub use channels::{Binding, CHANNEL_LIFETIME, Channel, FIRST_CHANNEL, LAST_CHANNEL, MAX_CHANNELS};
-pub use limits::{capacities, lifetimes};
+pub use limits::{law_capacities, law_lifetimes};
 pub use moment::{LATEST, moment_of};
 pub use permissions::{MAX_PERMISSIONS, PERMISSION_LIFETIME, Permission};
-pub use refusal::Refused;
+pub use refusal::TableError;
 pub use steps::Steps;
 pub use storage::{MAX_ALLOCATIONS, Tables};

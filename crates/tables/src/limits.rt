@@ -8,7 +8,7 @@ use crate::permissions::{MAX_PERMISSIONS, PERMISSION_LIFETIME};
 use crate::storage::MAX_ALLOCATIONS;
 
 /// States how much the tables hold, and which moment is the latest.
-pub fn capacities()
+pub fn law_capacities()
     ensures allocations { MAX_ALLOCATIONS ≡ 256 }
     ensures permissions { MAX_PERMISSIONS ≡ 64 }
     ensures channels { MAX_CHANNELS ≡ 64 }
@@ -17,7 +17,7 @@ pub fn capacities()
 
 /// States the lifetimes of permissions and channels, in seconds, and the range of channel numbers (RFC 8656, sections 9
 /// and 12).
-pub fn lifetimes()
+pub fn law_lifetimes()
     ensures permissions { PERMISSION_LIFETIME ≡ 300 }
     ensures channels { CHANNEL_LIFETIME ≡ 600 }
     ensures first_channel { FIRST_CHANNEL ≡ 0x4000 }

@@ -1,6 +1,6 @@
 //! The permissions of an allocation (RFC 8656, section 9).
 
-use crate::refusal::Refused;
+use crate::refusal::TableError;
 use crate::search::{Row, place_of, search};
 use arrayvec::ArrayVec;
 use attributes::Addr;
@@ -78,7 +78,7 @@ impl Permissions {
     ghost use Rattle.tables.specs.Permissions.{permissions_at, with_all};
     ghost use Rattle.tables.specs.RowLists.{ArePermissions, permissions_of};
     ghost use Rattle.tables.specs.declared.permissions.TheConstants.{MAX_PERMISSIONS};
-    ghost use Rattle.tables.specs.declared.refusal.Refused.TheVariants.{Capacity};
+    ghost use Rattle.tables.specs.declared.refusal.TableError.TheVariants.{Capacity};
 
     /// Makes a collection of no permissions.
     pub(crate) fn new() -> Permissions
@@ -151,7 +151,7 @@ impl Permissions {
     ///
     /// # Errors
     /// `Capacity` where there would be more than [`MAX_PERMISSIONS`]. Nothing is changed then.
-    pub(crate) fn put(&mut self, ip: Addr, end: u64) -> Result<(), Refused>
+    pub(crate) fn put(&mut self, ip: Addr, end: u64) -> Result<(), TableError>
         ensures put { OnOk result (self.new ≡ insert self.old (ip_of ip) end) }
         ensures few { OnOk result (len self.new ≤ MAX_PERMISSIONS) }
         ensures why { IfErr result (λ e. e ≡ Capacity) }
@@ -166,7 +166,7 @@ impl Permissions {
             Err(index) => index,
         };
         if self.rows.is_full() {
-            return Err(Refused::Capacity);
+            return Err(TableError::Capacity);
         }
         self.rows.insert(index, Permission { ip, end });
         Ok(())
@@ -176,7 +176,7 @@ impl Permissions {
     ///
     /// # Errors
     /// `Capacity` where there would be more than [`MAX_PERMISSIONS`].
-    pub(crate) fn put_all(&mut self, ips: &[Addr], end: u64) -> Result<(), Refused>
+    pub(crate) fn put_all(&mut self, ips: &[Addr], end: u64) -> Result<(), TableError>
         requires { len self.old ≤ MAX_PERMISSIONS }
         ensures put { OnOk result (self.new ≡ with_all self.old ips.now end) }
         ensures few { OnOk result (len self.new ≤ MAX_PERMISSIONS) }

@@ -5,7 +5,7 @@ use thiserror::Error;
 /// Why a change is refused. Nothing is changed then. It displays as its name.
 /// See docs/DECISIONS.md, "Refusals of the tables".
 #[derive(Clone, Copy, Debug, PartialEq, Eq, Error)]
-pub enum Refused {
+pub enum TableError {
     /// The client has an allocation.
     #[error("Mismatch")]
     Mismatch,

@@ -6,6 +6,7 @@ use crate::clients::{Client, sweep, with_slots};
 use crate::held::Held;
 use crate::moment::moment_of;
 use crate::search::{place_of, put_at, search};
+use crate::users::replace_each_user;
 use arrayvec::ArrayVec;
 use attributes::Addr;
 use std::alloc::{AllocError, Global};
@@ -51,6 +52,7 @@ impl Tables {
     ghost use Rattle.tables.specs.Rows.{no_rows, live_rows, held_at};
     ghost use Rattle.tables.specs.LookUps.{held_in, held_by};
     ghost use Rattle.tables.specs.Changes.{first_free, with_held};
+    ghost use Rattle.tables.specs.Users.{rows_of_users, index_in};
     ghost use Rattle.tables.specs.WellFormed.{IsHeldAt, AreWellFormed};
     ghost use Rattle.tables.specs.Stored.{client_in};
     ghost use Rattle.tables.specs.declared.moment.TheConstants.{LATEST};
@@ -84,7 +86,7 @@ impl Tables {
     }
 
     /// States that the rows are well formed.
-    pub fn are_well_formed(&self)
+    pub fn law_are_well_formed(&self)
         ensures { AreWellFormed self.now }
     {
         let _ = &self.moment;
@@ -175,5 +177,15 @@ impl Tables {
         self.moment = moment;
         self.slots[slot] = Some(held);
         self.clients = clients;
+    }
+
+    /// Gives the user of each allocation another index, which `indices` has at the former one. The allocations of a user that
+    /// has none there end, with their permissions and channels. Nothing else changes.
+    /// See docs/DECISIONS.md, "Users that are replaced".
+    pub fn replace_users(&mut self, indices: &[Option<usize>])
+        ensures { self.new ≡ rows_of_users (index_in indices.now) self.old }
+    {
+        replace_each_user(&mut self.slots, indices);
+        self.clients = with_slots(self.clients.as_slice(), &self.slots);
     }
 }

@@ -8,7 +8,7 @@ use native.Mathlib.Numerals.{add-one}
 use Rattle.attributes.specs.declared.address.Addr.{Addr}
 use Rattle.semantics.specs.declared.limits.TheConstants.{MAX_DATAGRAM}
 use Rattle.serving.specs.Calls.{Call, Received, HasReported}
-use Rattle.serving.specs.declared.link.LinkFault.{LinkFault}
+use Rattle.serving.specs.declared.link.LinkError.{LinkError}
 use Rattle.serving.specs.declared.link.Endpoint.{Endpoint}
 use Rattle.turns.specs.Ahead.{Waiting, Datagram, Fault, Receive, call_at, waiting_of, waiting_after, is_datagram, IsReceive, AreDatagrams, HasFilled, HasTaken, IsHandedOn}
 use Rattle.turns.specs.Filling.{stored_datagram, ending_of, waiting_in, AreWithin, HasReceived, HasReceivedOne, HasFilledSoFar}
@@ -98,7 +98,7 @@ room_is ys end h = let l = length-drop end ys in length-take-le MAX_DATAGRAM (dr
 -- a datagram that came lies where its receive has written it
 module _ (endpoint : Endpoint) (before after : Option (List Call)) (old : List Waiting) (xs ys : List ℕ) (ss : List Stored) (i end : ℕ)
     (view : waiting_in xs ss i then.Receive ≡ old) (same : take end ys ≡ take end xs) (within : AreWithin end ss) (handed : i ≤ length ss)
-    (long : end + MAX_DATAGRAM ≤ length ys) (answer result : Result (Option (ℕ × Addr)) LinkFault)
+    (long : end + MAX_DATAGRAM ≤ length ys) (answer result : Result (Option (ℕ × Addr)) LinkError)
     (reported : HasReported before after (Received endpoint (take MAX_DATAGRAM (drop end ys)) result ∷ [])) (is : result ≡ answer) where
   made : Receive
   made = record { buffer = take MAX_DATAGRAM (drop end ys); answer = answer }
@@ -218,12 +218,12 @@ one_more_at_most endpoint before after old new came (inr one) =
 
 -- ---- handing on
 
-pub taken_first : (endpoint : Endpoint) (before after : Option (List Call)) (old new : List Waiting) (into now : List ℕ) (result : Result (Option (ℕ × Addr)) LinkFault) (w : Waiting) (rest : List Waiting)
+pub taken_first : (endpoint : Endpoint) (before after : Option (List Call)) (old new : List Waiting) (into now : List ℕ) (result : Result (Option (ℕ × Addr)) LinkError) (w : Waiting) (rest : List Waiting)
     → old ≡ w ∷ rest → new ≡ rest → after ≡ before → IsHandedOn w into now result → HasTaken endpoint before after old new into now result
 taken_first endpoint before after old new into now result w rest is same calls handed =
     subst (λ (l : List Waiting). HasTaken endpoint before after l new into now result) (sym is) (same, calls, handed)
 
-pub taken_none : (endpoint : Endpoint) (before after : Option (List Call)) (old new : List Waiting) (into now : List ℕ) (result : Result (Option (ℕ × Addr)) LinkFault)
+pub taken_none : (endpoint : Endpoint) (before after : Option (List Call)) (old new : List Waiting) (into now : List ℕ) (result : Result (Option (ℕ × Addr)) LinkError)
     → old ≡ [] → new ≡ [] → HasReported before after (Received endpoint now result ∷ []) → HasTaken endpoint before after old new into now result
 taken_none endpoint before after old new into now result is same reported =
     subst (λ (l : List Waiting). HasTaken endpoint before after l new into now result) (sym is) (same, reported)

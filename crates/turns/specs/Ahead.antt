@@ -3,7 +3,7 @@ use Rattle.std.specs.Prelude.{◌≡◌, ◌≢◌, ℕ, ◌≤◌, ◌<◌, nat
 use Rattle.attributes.specs.declared.address.Addr.{Addr}
 use Rattle.semantics.specs.declared.limits.TheConstants.{MAX_DATAGRAM}
 use Rattle.serving.specs.Calls.{Call, Received, HasReported}
-use Rattle.serving.specs.declared.link.LinkFault.{LinkFault}
+use Rattle.serving.specs.declared.link.LinkError.{LinkError}
 use Rattle.serving.specs.declared.link.Endpoint.{Endpoint}
 
 -- what waits: a datagram with its source, that nothing more had come, or that a receive failed
@@ -17,13 +17,13 @@ pub data Waiting : Type 0 where
 -- a receive of a link: the bytes that the buffer has afterwards, and the answer
 pub record Receive : Type 0 where
   pub buffer : List ℕ
-  pub answer : Result (Option (ℕ × Addr)) LinkFault
+  pub answer : Result (Option (ℕ × Addr)) LinkError
 
 abbrev pub call_at : Endpoint → Receive → Call
 call_at endpoint r = Received endpoint r.buffer r.answer
 
 -- a datagram is the first n bytes of the buffer; one that is longer than a datagram may be is a fault
-abbrev pub waiting_after : List ℕ → Result (Option (ℕ × Addr)) LinkFault → Waiting
+abbrev pub waiting_after : List ℕ → Result (Option (ℕ × Addr)) LinkError → Waiting
 waiting_after buffer (Ok (Some (n, from))) = if nat_le n MAX_DATAGRAM then Datagram (take n buffer) from else Fault
 waiting_after buffer (Ok None) = Nothing
 waiting_after buffer (Err fault) = Fault
@@ -64,7 +64,7 @@ pub record HasFilled (endpoint : Endpoint) (before after : Option (List Call)) (
 
 -- A datagram's bytes are written over the first of a buffer, which is else as before; one that is longer than the buffer is lost,
 -- and counts as a fault.
-abbrev pub IsHandedOn : Waiting → List ℕ → List ℕ → Result (Option (ℕ × Addr)) LinkFault → Type 0
+abbrev pub IsHandedOn : Waiting → List ℕ → List ℕ → Result (Option (ℕ × Addr)) LinkError → Type 0
 IsHandedOn (Datagram bytes from) into now result =
     ((length bytes ≤ length into) × (now ≡ bytes ++ drop (length bytes) into) × (result ≡ Ok (Some (length bytes, from))))
     ⊎ ((length into < length bytes) × (now ≡ into) × IsErr result)
@@ -73,6 +73,6 @@ IsHandedOn Fault into now result = (now ≡ into) × IsErr result
 
 -- The first of what waits is handed on, and no call of the link is made. Where nothing waits, one receive of the link is made, and
 -- its answer is the result.
-abbrev pub HasTaken : Endpoint → Option (List Call) → Option (List Call) → List Waiting → List Waiting → List ℕ → List ℕ → Result (Option (ℕ × Addr)) LinkFault → Type 0
+abbrev pub HasTaken : Endpoint → Option (List Call) → Option (List Call) → List Waiting → List Waiting → List ℕ → List ℕ → Result (Option (ℕ × Addr)) LinkError → Type 0
 HasTaken endpoint before after [] new into now result = (new ≡ []) × HasReported before after (Received endpoint now result ∷ [])
 HasTaken endpoint before after (w ∷ rest) new into now result = (new ≡ rest) × (after ≡ before) × IsHandedOn w into now result

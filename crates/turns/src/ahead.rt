@@ -7,7 +7,7 @@ ghost use Rattle.turns.specs.Filling.{HasReceivedOne};
 
 use attributes::Addr;
 use semantics::MAX_DATAGRAM;
-use serving::{Endpoint, Link, LinkFault};
+use serving::{Endpoint, Link, LinkError};
 use std::alloc::{AllocError, Global};
 use std::marker::Model;
 use std::mem;
@@ -75,7 +75,7 @@ fn receive_at<L: Link>(
     endpoint: Endpoint,
     bytes: &mut [u8],
     start: usize,
-) -> Result<Receipt, LinkFault>
+) -> Result<Receipt, LinkError>
     requires { start + MAX_DATAGRAM ≤ length bytes.old }
     ensures front { take start bytes.new ≡ take start bytes.old }
     ensures reported { HasReported (L.calls link.old) (L.calls link.new) (Received endpoint (take MAX_DATAGRAM (drop start bytes.new)) result ∷ []) }
@@ -88,12 +88,12 @@ fn receive_at<L: Link>(
 /// # Errors
 /// Where it is longer than `into`, which stays as it is.
 #[inline(always)]
-fn hand_on(bytes: &[u8], from: Addr, into: &mut [u8]) -> Result<Receipt, LinkFault>
+fn hand_on(bytes: &[u8], from: Addr, into: &mut [u8]) -> Result<Receipt, LinkError>
     ensures { IsHandedOn (Datagram bytes.now from) into.old into.new result }
 {
     let n = bytes.len();
     if n > into.len() {
-        return Err(LinkFault);
+        return Err(LinkError);
     }
     into[..n].copy_from_slice(bytes);
     Ok(Some((n, from)))
@@ -200,7 +200,7 @@ impl Ahead {
         link: &mut L,
         endpoint: Endpoint,
         into: &mut [u8],
-    ) -> Result<Receipt, LinkFault>
+    ) -> Result<Receipt, LinkError>
         ensures { HasTaken endpoint (L.calls link.old) (L.calls link.new) self.old self.new into.old into.new result }
     {
         if self.count < self.datagrams.len() {
@@ -212,7 +212,7 @@ impl Ahead {
         match mem::replace(&mut self.then, Then::Receive) {
             Then::Receive => link.receive(endpoint, into),
             Then::Nothing => Ok(None),
-            Then::Fault => Err(LinkFault),
+            Then::Fault => Err(LinkError),
         }
     }
 }

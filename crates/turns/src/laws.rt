@@ -6,6 +6,6 @@ ghost use Rattle.turns.specs.declared.schedule.Status.{Status};
 
 /// States that rounds are fair: in one round no endpoint has more than one turn, and each endpoint that is ready or reported
 /// has one; so no endpoint has more than two from any moment of a round to any moment of the next.
-pub fn rounds_are_fair()
+pub fn law_rounds_are_fair()
     ensures { (endpoints : List Status) → IsFair endpoints }
 {}

@@ -7,6 +7,6 @@ mod schedule;
 mod timer;
 
 pub use ahead::{Ahead, ROOM, Receipt, TURNS};
-pub use laws::rounds_are_fair;
+pub use laws::law_rounds_are_fair;
 pub use schedule::{Schedule, Status};
 pub use timer::Timer;

@@ -7,7 +7,7 @@ use Rattle.insn.specs.declared.decoding.TheConstants.{MAX_SLOTS}
 use Rattle.insn.specs.declared.instruction.Insn.{Insn}
 use Rattle.fallible.specs.Fallible.{◌>>=◌}
 use Rattle.semantics.specs.Slots.{fetch, target, landing}
-use Rattle.semantics.specs.SlotLaws.{some_slots, begins_inside}
+use Rattle.semantics.specs.laws.Slot.{some_slots, begins_inside}
 use Rattle.semantics.specs.Flow.{Flow, Straight, Jumps, Forks, flow_of, flow_distance, flow_slot, branch_slot}
 use Rattle.semantics.specs.Flow as flow
 use Rattle.semantics.specs.declared.fetching.Branch.{Branch}
@@ -18,8 +18,8 @@ use Rattle.semantics.specs.declared.fetching.Fetched.{Fetched}
 use Rattle.semantics.specs.declared.fetching.Fetched.TheVariants.{Begins}
 use Rattle.absstate.specs.MemberSteps.{state_after}
 use Rattle.absstate.specs.Successors.{Ends, successors_of, successors_in}
-use Rattle.absstate.specs.StepLaws.Bounds.{not_le}
-use Rattle.absstate.specs.StepLaws.MemoryValues.{abs_is}
+use Rattle.absstate.specs.laws.Step.Bounds.{not_le}
+use Rattle.absstate.specs.laws.Step.MemoryValues.{abs_is}
 use Rattle.absstate.specs.declared.abstract_state.AbsState.{AbsState}
 use Rattle.absstate.specs.declared.abstract_step.Next.{Next}
 use Rattle.absstate.specs.declared.abstract_step.Next.TheVariants as next
@@ -27,7 +27,7 @@ use Rattle.operations.specs.Operations.{LeadsInside, HasJumpsInside}
 use Rattle.verifier.specs.Layout.{distance_checked, fetched_checked, HasGoodJumps, EndsInExit}
 use Rattle.verifier.proofs.Positions.{one_goes_on, two_goes_on, next_begins, target_begins, landing_ok}
 
-passes : (x : Result ℕ Reason) → ◌≡◌ {A = Result (Unit {0}) Reason} (x >>= λ goal. Ok tt) (Ok tt) → IsOk x
+passes : (x : Result ℕ Reason) → ◌≡◌ {A = Result (Unit {0}) Reason} (x >>= λ to. Ok tt) (Ok tt) → IsOk x
 passes (Ok n) e = refl
 passes (Err r) e = absurd cc
 
@@ -85,21 +85,21 @@ branch_begins code slot n i branch exit here on e = flow_begins code slot n (slo
 
 -- ---- the slots that jumps lead to
 
-goal_is : (a : ℤ) (slot n : ℕ) (b : Bool) (p : Fetched) → int_le a (pos slot) ≡ b → cond b (Err reasons.JumpBackward) (landing p (unsigned_abs a)) ≡ Ok n → pos n ≡ a
-goal_is a slot n true p e f = absurd cc
-goal_is a slot n false p e f =
+place_is : (a : ℤ) (slot n : ℕ) (b : Bool) (p : Fetched) → int_le a (pos slot) ≡ b → cond b (Err reasons.JumpBackward) (landing p (unsigned_abs a)) ≡ Ok n → pos n ≡ a
+place_is a slot n true p e f = absurd cc
+place_is a slot n false p e f =
     let above : pos slot <ℤ a = not_le a (pos slot) e in
     ap pos (sym (landing_ok p (unsigned_abs a) n f).2) ∙ abs_is a (omega (arith, ints))
 
 leads_inside : (code : List Insn) (slot n : ℕ) (d : ℤ) → slot_count code ≤ MAX_SLOTS → target code slot d ≡ Ok n → LeadsInside slot d
 leads_inside code slot n d few e =
     let a : ℤ = pos (slot + 1) +ℤ d in
-    let is : pos n ≡ a = goal_is a slot n (int_le a (pos slot)) (fetch code (unsigned_abs a)) refl e in
+    let is : pos n ≡ a = place_is a slot n (int_le a (pos slot)) (fetch code (unsigned_abs a)) refl e in
     let there = target_begins code slot n d e in
     let inside : n < slot_count code = begins_inside code n there.0 there.1 in
     record { first = omega (arith, ints, is); last = omega (arith, ints, is, inside, few) }
 
-target_inside : (code : List Insn) (slot : ℕ) (d : ℤ) (r : Result ℕ Reason) → slot_count code ≤ MAX_SLOTS → target code slot d ≡ r → ◌≡◌ {A = Result (Unit {0}) Reason} (r >>= λ goal. Ok tt) (Ok tt) → LeadsInside slot d
+target_inside : (code : List Insn) (slot : ℕ) (d : ℤ) (r : Result ℕ Reason) → slot_count code ≤ MAX_SLOTS → target code slot d ≡ r → ◌≡◌ {A = Result (Unit {0}) Reason} (r >>= λ to. Ok tt) (Ok tt) → LeadsInside slot d
 target_inside code slot d (Ok n) few is e = leads_inside code slot n d few is
 target_inside code slot d (Err reason) few is e = absurd cc
 

@@ -4,7 +4,7 @@ use Rattle.std.specs.List.{flat_map}
 use Rattle.std.proofs.lemmas.List.{length-map}
 use Rattle.insn.specs.declared.instruction.Insn.{Insn}
 use Rattle.semantics.specs.Slots.{fetch, target, instructions_ahead}
-use Rattle.semantics.specs.SlotLaws.{ahead_falls}
+use Rattle.semantics.specs.laws.Slot.{ahead_falls}
 use Rattle.insn.specs.Encoding.{slots_of}
 use Rattle.semantics.specs.Flow.{Flow, Straight, Jumps, Forks, flow_of, flow_slot, flow_branches, branches, branch_slot}
 use Rattle.semantics.specs.Flow as flow

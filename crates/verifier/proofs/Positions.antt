@@ -6,7 +6,7 @@ use Rattle.insn.specs.Encoding.{slots_of, slot_count}
 use Rattle.insn.specs.declared.instruction.Insn.{Insn}
 use Rattle.insn.specs.declared.instruction.Insn.TheVariants.{Exit}
 use Rattle.semantics.specs.Slots.{fetch, target, landing, last_slot, IsAt}
-use Rattle.semantics.specs.SlotLaws.{slots_go_on, fetch_past, fetch_at, fetch_before_next, at_start, at_end}
+use Rattle.semantics.specs.laws.Slot.{slots_go_on, fetch_past, fetch_at, fetch_before_next, at_start, at_end}
 use Rattle.semantics.specs.declared.reason.Reason.{Reason}
 use Rattle.semantics.specs.declared.reason.Reason.TheVariants.{JumpBackward, FallsOffEnd}
 use Rattle.semantics.specs.declared.fetching.Fetched.{Fetched}
@@ -27,8 +27,8 @@ passed false r n e = e
 -- a jump that may be taken leads to an instruction
 pub target_begins : (code : List Insn) (slot n : ℕ) (d : ℤ) → target code slot d ≡ Ok n → (i : Insn) × (fetch code n ≡ Begins i)
 target_begins code slot n d e =
-    let goal : ℕ = unsigned_abs (pos (slot + 1) +ℤ d) in
-    let landed = landing_ok (fetch code goal) goal n (passed (int_le (pos (slot + 1) +ℤ d) (pos slot)) (landing (fetch code goal) goal) n e) in
+    let to : ℕ = unsigned_abs (pos (slot + 1) +ℤ d) in
+    let landed = landing_ok (fetch code to) to n (passed (int_le (pos (slot + 1) +ℤ d) (pos slot)) (landing (fetch code to) to) n e) in
     (landed.0, ap (fetch code) (sym landed.2) ∙ landed.1)
 
 begins_is : (i j : Insn) → Begins i ≡ Begins j → i ≡ j

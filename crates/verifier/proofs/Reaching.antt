@@ -21,14 +21,14 @@ use Rattle.absstate.specs.AbstractStates.{first_abstract_state}
 use Rattle.absstate.specs.AbstractSteps as abstract
 use Rattle.absstate.specs.Membership.{Strict, IsMember}
 use Rattle.absstate.specs.MemberSteps.{state_after}
-use Rattle.absstate.specs.StepLaws.MemoryValues.{abs_is}
-use Rattle.absstate.specs.StepLaws.Members.{at_first, first_member, loosens_itself, loosens_then, no_group}
+use Rattle.absstate.specs.laws.Step.MemoryValues.{abs_is}
+use Rattle.absstate.specs.laws.Step.Members.{at_first, first_member, loosens_itself, loosens_then, no_group}
 use Rattle.absstate.specs.StepReasons.{IsAboutPlaces}
-use Rattle.absstate.specs.StepLaws.Anchors.{NameNoMadeAnchor, greater_number, greater_left, greater_right, greater_least, reach_of, reach_of_plain, IsMade}
-use Rattle.absstate.specs.StepLaws.Following.{step_is}
-use Rattle.absstate.specs.StepLaws.Opening.{Opens, step_rises, step_opens}
-use Rattle.absstate.specs.StepLaws.Plainness.{step_plain}
-use Rattle.absstate.specs.StepLaws.Refusing as refusing
+use Rattle.absstate.specs.laws.Step.Anchors.{NameNoMadeAnchor, greater_number, greater_left, greater_right, greater_least, reach_of, reach_of_plain, IsMade}
+use Rattle.absstate.specs.laws.Step.Following.{step_is}
+use Rattle.absstate.specs.laws.Step.Opening.{Opens, step_rises, step_opens}
+use Rattle.absstate.specs.laws.Step.Plainness.{step_plain}
+use Rattle.absstate.specs.laws.Step.Refusing as refusing
 use Rattle.absstate.specs.declared.abstract_state.AbsState.{AbsState}
 use Rattle.absstate.specs.declared.abstract_step.Next.{Next}
 use Rattle.verifier.specs.Layout.{HasGoodJumps}

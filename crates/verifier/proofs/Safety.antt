@@ -5,10 +5,10 @@ use Rattle.insn.specs.Encoding.{Fits}
 use Rattle.insn.specs.declared.instruction.Insn.{Insn}
 use Rattle.semantics.specs.Machine.{State, Environment}
 use Rattle.semantics.specs.Slots.{fetch, instructions_ahead}
-use Rattle.semantics.specs.SlotLaws.{ahead_falls}
+use Rattle.semantics.specs.laws.Slot.{ahead_falls}
 use Rattle.semantics.specs.Flow.{branch_slot}
 use Rattle.semantics.specs.Runs.{StepResult, Goes, Exits, Sticks, Run, IsPossible, run_onwards, step, run}
-use Rattle.semantics.specs.RunLaws.{exits_the_same}
+use Rattle.semantics.specs.laws.Run.{exits_the_same}
 use Rattle.semantics.specs.declared.limits.TheConstants.{MAX_DATAGRAM}
 use Rattle.semantics.specs.declared.reason.Reason.{Reason}
 use Rattle.semantics.specs.declared.fetching.Fetched.TheVariants.{Begins}
@@ -18,7 +18,7 @@ use Rattle.interval.specs.Domains.{Operations, AreSound}
 use Rattle.absstate.specs.AbstractSteps as abstract
 use Rattle.absstate.specs.Membership.{Loose, IsMember}
 use Rattle.absstate.specs.MemberSteps.{IsAfterSome, state_after, MemberFollows}
-use Rattle.absstate.specs.StepLaws.Following.{steps_follow}
+use Rattle.absstate.specs.laws.Step.Following.{steps_follow}
 use Rattle.absstate.specs.declared.abstract_state.AbsState.{AbsState}
 use Rattle.absstate.specs.declared.abstract_step.Next.{Next}
 use Rattle.verifier.specs.Layout.{HasGoodJumps}

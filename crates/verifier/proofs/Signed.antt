@@ -6,8 +6,8 @@ use Rattle.std.proofs.lemmas.List.{get_or-map, length-map}
 use Rattle.interval.specs.Domains.{Operations, AreSound}
 use Rattle.absstate.specs.Covers.{covers}
 use Rattle.absstate.specs.Signatures.{state_signature, lies_within}
-use Rattle.absstate.specs.StepLaws.Packing.{same_item}
-use Rattle.absstate.specs.StepLaws.Signing.{covered_signature}
+use Rattle.absstate.specs.laws.Step.Packing.{same_item}
+use Rattle.absstate.specs.laws.Step.Signing.{covered_signature}
 use Rattle.absstate.specs.declared.abstract_state.AbsState.{AbsState}
 use Rattle.absstate.specs.declared.signature.StateSignature.{StateSignature}
 use Rattle.verifier.specs.Signed.{signatures_of}

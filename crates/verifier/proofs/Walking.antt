@@ -8,7 +8,7 @@ use Rattle.std.proofs.lemmas.List.Sums.{sum_by-append, sum_by_push}
 use Rattle.insn.specs.Encoding.{Fits}
 use Rattle.insn.specs.declared.instruction.Insn.{Insn}
 use Rattle.semantics.specs.Slots.{fetch, instructions_ahead}
-use Rattle.semantics.specs.SlotLaws.{ahead_start}
+use Rattle.semantics.specs.laws.Slot.{ahead_start}
 use Rattle.semantics.specs.Machine.{start}
 use Rattle.semantics.specs.Runs.{IsSafe, run}
 use Rattle.semantics.specs.LooseRuns.{beginnings, beginnings_from}
@@ -22,8 +22,8 @@ use Rattle.absstate.specs.MemberSteps.{state_after}
 use Rattle.absstate.specs.AbstractSteps as abstract
 use Rattle.absstate.specs.StepReasons.{IsStepReason}
 use Rattle.absstate.specs.Successors.{successors_of, successors_in}
-use Rattle.absstate.specs.StepLaws.Answers.{step_successors, step_reasons}
-use Rattle.absstate.specs.StepLaws.Members.{at_first, first_member}
+use Rattle.absstate.specs.laws.Step.Answers.{step_successors, step_reasons}
+use Rattle.absstate.specs.laws.Step.Members.{at_first, first_member}
 use Rattle.absstate.specs.declared.abstract_state.AbsState.{AbsState}
 use Rattle.absstate.specs.declared.abstract_step.Next.{Next}
 use Rattle.verifier.specs.Keeping.{kept_at, keeps_at, states_with, kept_with}

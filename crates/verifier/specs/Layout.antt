@@ -23,7 +23,7 @@ distance_of i = flow_distance (flow_of i)
 -- a jump leads to an instruction ahead
 abbrev pub distance_checked : List Insn → ℕ → Option ℤ → Result (Unit {0}) Reason
 distance_checked code slot None = Ok tt
-distance_checked code slot (Some d) = target code slot d >>= λ goal. Ok tt
+distance_checked code slot (Some d) = target code slot d >>= λ to. Ok tt
 
 abbrev pub jump_checked : List Insn → ℕ → Insn → Result (Unit {0}) Reason
 jump_checked code slot i = distance_checked code slot (distance_of i)

@@ -1,6 +1,6 @@
 -- Internal. The modules of this folder.
 pub mod Layout
-pub mod Goals
+pub mod Targets
 pub mod Signed
 pub mod Keeping
 pub mod Walk
@@ -10,4 +10,4 @@ pub mod PendingStates
 pub mod Slices
 pub mod SliceEnds
 pub mod Units
-pub mod VerdictLaws
+pub mod laws

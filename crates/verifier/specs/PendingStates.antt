@@ -9,7 +9,7 @@ use Rattle.semantics.specs.Runs.{Exited, run, IsPossible, IsSafe}
 use Rattle.semantics.specs.declared.limits.TheConstants.{MAX_DATAGRAM}
 use Rattle.semantics.specs.LooseRuns.{Loosens, LooselyReaches, beginnings_from}
 use Rattle.absstate.specs.Membership.{Loose, Strict, IsMember}
-use Rattle.absstate.specs.StepLaws.Anchors.{NameNoMadeAnchor, reach_of}
+use Rattle.absstate.specs.laws.Step.Anchors.{NameNoMadeAnchor, reach_of}
 use Rattle.verifier.specs.Refusing.{HasNoSums}
 use Rattle.verifier.specs.declared.walk.Pending.{Pending}
 

@@ -2,7 +2,7 @@
 use Rattle.std.specs.Prelude.{◌≡◌, ℕ, zero, suc, ◌+◌, ◌⊎◌, List, [], ◌∷◌, ◌++◌, Option, Result, Ok, Err}
 use Rattle.insn.specs.declared.instruction.Insn.{Insn}
 use Rattle.interval.specs.Domains.{Operations}
-use Rattle.verifier.specs.Keeping.{KeepsAtGoals, KeepsNothing, kept_at, Keeps}
+use Rattle.verifier.specs.Keeping.{KeepsAtTargets, KeepsNothing, kept_at, Keeps}
 use Rattle.verifier.specs.Layout.{IsLayoutFault}
 use Rattle.verifier.specs.Walk.{first_pending, waiting_states, Advances, Skips, IsWalkStep, IsRefusedAt}
 use Rattle.verifier.specs.declared.kept.Kept.{Kept}
@@ -13,7 +13,7 @@ use Rattle.verifier.specs.declared.walk.Pending.{Pending}
 -- A number of steps of the walk leads from its start to the states that wait, the next one last, and those that are kept.
 -- At the start only the first state waits, and none is kept.
 abbrev pub Walks : {D : Type 0} → Operations D → (D → ℕ → Type 0) → List Insn → ℕ → List (Pending D) → Kept D → Type 0
-Walks ops Member code zero waits kept = (waits ≡ first_pending ∷ []) × KeepsAtGoals code kept × KeepsNothing kept
+Walks ops Member code zero waits kept = (waits ≡ first_pending ∷ []) × KeepsAtTargets code kept × KeepsNothing kept
 Walks {D = D} ops Member code (suc n) waits kept =
     (here : Pending D) × (old : List (Pending D)) × (before : Kept D) × (picked : Option (Pending D)) × (new : List (Pending D))
     × Walks ops Member code n (old ++ here ∷ []) before × IsWalkStep ops Member code here old before picked new kept × (waits ≡ waiting_states picked new)

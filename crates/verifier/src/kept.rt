@@ -8,9 +8,9 @@ ghost use Rattle.absstate.specs.Covers.{covers};
 ghost use Rattle.absstate.specs.MarkWords.{words_of};
 ghost use Rattle.absstate.specs.Signatures.{lies_within};
 ghost use Rattle.absstate.specs.declared.signature.StateSignature.{StateSignature};
-ghost use Rattle.verifier.specs.Goals.{goal_at};
+ghost use Rattle.verifier.specs.Targets.{target_at};
 ghost use Rattle.verifier.specs.Signed.{signatures_of};
-ghost use Rattle.verifier.specs.Keeping.{states_of, states_with, kept_at, keeps_at, is_covered, HasCover, KeepsNothing, KeepsAtGoals, MarksGoal, Keeps};
+ghost use Rattle.verifier.specs.Keeping.{states_of, states_with, kept_at, keeps_at, is_covered, HasCover, KeepsNothing, KeepsAtTargets, MarksTarget, Keeps};
 
 use crate::layout::distance;
 use crate::walk::Pending;
@@ -263,9 +263,9 @@ fn push_state<D: Domain>(
 }
 
 /// Returns the slot that the jump at a slot leads to, `None` where no jump is.
-fn goal_at(program: &Program, slot: usize) -> Option<usize>
+fn target_at(program: &Program, slot: usize) -> Option<usize>
     requires { slot < MAX_SLOTS }
-    ensures { result ≡ goal_at program.now slot }
+    ensures { result ≡ target_at program.now slot }
 {
     let Fetched::Begins(insn) = program.fetch(slot) else {
         return None;
@@ -296,10 +296,10 @@ impl<D: Domain> Kept<D> {
     ///
     /// # Errors
     /// Where memory runs out.
-    #[tactic(auto, using(crate::proofs::Keeping::none_below, crate::proofs::Keeping::next_below, crate::proofs::Keeping::goals_below))]
+    #[tactic(auto, using(crate::proofs::Keeping::none_below, crate::proofs::Keeping::next_below, crate::proofs::Keeping::targets_below))]
     pub fn new(alloc: Global, program: &Program) -> Result<Kept<D>, AllocError>
         requires { slot_count program.now ≤ MAX_SLOTS }
-        ensures goals { IfOk result (KeepsAtGoals program.now) }
+        ensures targets { IfOk result (KeepsAtTargets program.now) }
         ensures none { IfOk result KeepsNothing }
     {
         let mut kept = Kept {
@@ -309,7 +309,7 @@ impl<D: Domain> Kept<D> {
         };
         // no jump is at a slot after the last one
         for slot in 0..MAX_SLOTS {
-            kept.mark(alloc, goal_at(program, slot))?;
+            kept.mark(alloc, target_at(program, slot))?;
         }
         Ok(kept)
     }
@@ -318,11 +318,11 @@ impl<D: Domain> Kept<D> {
     ///
     /// # Errors
     /// Where memory runs out.
-    fn mark(&mut self, alloc: Global, goal: Option<usize>) -> Result<(), AllocError>
-        ensures marks { OnOk result (MarksGoal goal self.old self.new) }
+    fn mark(&mut self, alloc: Global, target: Option<usize>) -> Result<(), AllocError>
+        ensures marks { OnOk result (MarksTarget target self.old self.new) }
         ensures none { KeepsNothing self.old → OnOk result (KeepsNothing self.new) }
     {
-        let Some(slot) = goal else {
+        let Some(slot) = target else {
             return Ok(());
         };
         lengthen(&mut self.by_slot, slot)?;

@@ -5,8 +5,8 @@ ghost use Rattle.std.proofs.Common.{inl, inr, refl, sym, ap, ◌∙◌, arith};
 ghost use Rattle.std.proofs.lemmas.Bool.{cond_both, eqb-true, true≢false};
 ghost use Rattle.insn.specs.Words.{alu, unary};
 ghost use Rattle.interval.specs.Domains.{passes, KeepsPair};
-ghost use Rattle.interval.specs.IntervalLaws.Operators.{alu_fits};
-ghost use Rattle.interval.specs.IntervalLaws.OneOperand.{unary_fits};
+ghost use Rattle.interval.specs.laws.Interval.Operators.{alu_fits};
+ghost use Rattle.interval.specs.laws.Interval.OneOperand.{unary_fits};
 
 use insn::{AluOp, Condition, UnaryOp, Width, holds};
 use interval::{Bounds, Domain, Refined, Test};

@@ -71,7 +71,8 @@ fn check_bare(rt: &impl Abort, alloc: Global, config: &Config) -> Result<(), Fai
         assert!(rt; config.fault().is_none());
         assert_eq!(rt; tables.slots(), config.slots);
         let message = read(request)?;
-        let n = respond(&mut tables, config, 1000, CLIENT, &message, &mut out);
+        let written = respond(&mut tables, config, 1000, CLIENT, &message, &mut out);
+        let n = written.map_or(0, |written| written.count);
         assert_eq!(rt; n, reply.len(), "row {row}");
         assert!(rt; out.starts_with(reply), "row {row}");
         assert_eq!(rt;
@@ -174,7 +175,10 @@ fn check_rows(
 
 /// Compares the replies to requests of a user.
 fn check_signed(rt: &impl Abort, alloc: Global, config: &Config) -> Result<(), Fail> {
-    let other = Request { tx: 2, ..FIRST };
+    let other = Request {
+        transaction_id: 2,
+        ..FIRST
+    };
     let bind = Request {
         method: Method::ChannelBind,
         attributes: &[CHANNEL, PEER],
@@ -212,7 +216,7 @@ fn check_families(rt: &impl Abort, alloc: Global, config: &Config) -> Result<(),
     };
     let other = Request {
         client: OTHER_CLIENT,
-        tx: 2,
+        transaction_id: 2,
         ..ipv6
     };
     // one that is repeated for another family, or for none, gets the same reply

@@ -4,7 +4,7 @@ use super::{CLIENT, NUMBER, OTHER_CLIENT, Step, TX, check_steps, peer};
 use attributes::{Addr, Family};
 use std::alloc::{AllocError, Global};
 use std::process::Abort;
-use tables::{Refused, Tables, is_ipv4};
+use tables::{TableError, Tables, is_ipv4};
 
 /// Returns the address 192.0.2.`last` or 2001:db8::`last` at a port.
 pub(super) fn address(family: Family, last: u8, port: u16) -> Addr {
@@ -41,18 +41,18 @@ fn all_permitted_addresses_are_of_the_family(
     let mut many_and_wrong = addresses(own);
     many_and_wrong[65] = wrong;
     let steps = [
-        Step::Permit(1000, &[wrong], Err(Refused::NoAllocation)),
+        Step::Permit(1000, &[wrong], Err(TableError::NoAllocation)),
         Step::Allocate(1000, CLIENT, 0, own, 3600, Ok(0)),
         Step::Permit(1000, &[], Ok(())),
         // one address of the other family is enough, wherever it is
-        Step::Permit(1000, &[wrong], Err(Refused::Family)),
-        Step::Permit(1000, &[wrong, a, b], Err(Refused::Family)),
-        Step::Permit(1000, &[a, wrong, b], Err(Refused::Family)),
-        Step::Permit(1000, &[a, b, wrong], Err(Refused::Family)),
+        Step::Permit(1000, &[wrong], Err(TableError::Family)),
+        Step::Permit(1000, &[wrong, a, b], Err(TableError::Family)),
+        Step::Permit(1000, &[a, wrong, b], Err(TableError::Family)),
+        Step::Permit(1000, &[a, b, wrong], Err(TableError::Family)),
         // the 65 addresses before it are too many already
-        Step::Permit(1000, &many_and_wrong, Err(Refused::Family)),
-        Step::Permit(1000, front, Err(Refused::Capacity)),
-        Step::Permit(1000, &many, Err(Refused::Capacity)),
+        Step::Permit(1000, &many_and_wrong, Err(TableError::Family)),
+        Step::Permit(1000, front, Err(TableError::Capacity)),
+        Step::Permit(1000, &many, Err(TableError::Capacity)),
         Step::Permissions(1000, &[]),
         Step::Permit(1000, &[b, a], Ok(())),
         Step::Permissions(1299, &[(a, 1300), (b, 1300)]),
@@ -76,22 +76,22 @@ fn a_refused_family_changes_nothing(
     let steps = [
         Step::Allocate(1000, CLIENT, 0, own, 3600, Ok(0)),
         // what is refused takes no room
-        Step::Permit(1000, &[next, wrong], Err(Refused::Family)),
+        Step::Permit(1000, &[next, wrong], Err(TableError::Family)),
         Step::Permit(1000, front, Ok(())),
-        Step::Permit(1299, &[next], Err(Refused::Capacity)),
-        Step::Permit(1299, &[wrong], Err(Refused::Family)),
-        Step::Bind(1299, NUMBER, next, Err(Refused::Capacity)),
-        Step::Bind(1299, NUMBER, wrong, Err(Refused::Family)),
+        Step::Permit(1299, &[next], Err(TableError::Capacity)),
+        Step::Permit(1299, &[wrong], Err(TableError::Family)),
+        Step::Bind(1299, NUMBER, next, Err(TableError::Capacity)),
+        Step::Bind(1299, NUMBER, wrong, Err(TableError::Family)),
         // at 2000 all permissions have ended, and at 1299 they are there all the same
-        Step::Permit(2000, &[last, wrong], Err(Refused::Family)),
-        Step::Bind(2000, NUMBER, wrong, Err(Refused::Family)),
+        Step::Permit(2000, &[last, wrong], Err(TableError::Family)),
+        Step::Bind(2000, NUMBER, wrong, Err(TableError::Family)),
         Step::IsPermitted(1299, last, true),
         Step::IsPermitted(1299, wrong, false),
         Step::IsPermitted(1300, last, false),
         Step::PeerOf(1299, NUMBER, None),
         Step::ChannelOf(1299, wrong, None),
         Step::Channels(1299, &[]),
-        Step::Permit(1299, &[next], Err(Refused::Capacity)),
+        Step::Permit(1299, &[next], Err(TableError::Capacity)),
     ];
     check_steps(rt, alloc, 1, &steps)
 }
@@ -106,18 +106,18 @@ fn all_bound_peers_are_of_the_family(
     let (bound, wrong) = (address(own, 7, 5000), address(other, 7, 5000));
     let other_port = address(own, 7, 5001);
     let steps = [
-        Step::Bind(1000, NUMBER, wrong, Err(Refused::NoAllocation)),
+        Step::Bind(1000, NUMBER, wrong, Err(TableError::NoAllocation)),
         Step::Allocate(1000, CLIENT, 0, own, 3600, Ok(0)),
-        Step::Bind(1000, NUMBER, wrong, Err(Refused::Family)),
+        Step::Bind(1000, NUMBER, wrong, Err(TableError::Family)),
         Step::Channels(1000, &[]),
         Step::Permissions(1000, &[]),
         Step::Bind(1000, NUMBER, bound, Ok(())),
         Step::Bind(1000, NUMBER, bound, Ok(())),
         // the number is bound to another peer
-        Step::Bind(1000, NUMBER, wrong, Err(Refused::Family)),
-        Step::Bind(1000, NUMBER, other_port, Err(Refused::Conflict)),
-        Step::Bind(1000, 0x4002, bound, Err(Refused::Conflict)),
-        Step::Bind(1000, 0x4002, wrong, Err(Refused::Family)),
+        Step::Bind(1000, NUMBER, wrong, Err(TableError::Family)),
+        Step::Bind(1000, NUMBER, other_port, Err(TableError::Conflict)),
+        Step::Bind(1000, 0x4002, bound, Err(TableError::Conflict)),
+        Step::Bind(1000, 0x4002, wrong, Err(TableError::Family)),
         Step::PeerOf(1599, NUMBER, Some(bound)),
         Step::PeerOf(1599, 0x4002, None),
         Step::PeerOf(1600, NUMBER, None),
@@ -148,19 +148,19 @@ fn each_allocation_has_a_family_of_its_own(
         Step::Allocate(1000, CLIENT, 0, own, 600, Ok(0)),
         Step::Bind(1000, NUMBER, right, Ok(())),
         // a client has one allocation, whatever its family
-        Step::Allocate(1000, CLIENT, 0, other, 600, Err(Refused::Mismatch)),
+        Step::Allocate(1000, CLIENT, 0, other, 600, Err(TableError::Mismatch)),
         Step::Refresh(1100, 0, 3600, Ok(())),
-        Step::Permit(1100, &[wrong], Err(Refused::Family)),
+        Step::Permit(1100, &[wrong], Err(TableError::Family)),
         Step::Permit(1100, &[right], Ok(())),
         // a deleted one, and one that has ended, take their family along
         Step::Refresh(1100, 0, 0, Ok(())),
         Step::Allocate(1100, CLIENT, 0, other, 600, Ok(0)),
         Step::Permissions(1100, &[]),
-        Step::Permit(1100, &[right], Err(Refused::Family)),
+        Step::Permit(1100, &[right], Err(TableError::Family)),
         Step::Bind(1100, NUMBER, wrong, Ok(())),
-        Step::Permit(1700, &[right], Err(Refused::NoAllocation)),
+        Step::Permit(1700, &[right], Err(TableError::NoAllocation)),
         Step::Allocate(1700, CLIENT, 0, own, 600, Ok(0)),
-        Step::Bind(1700, NUMBER, wrong, Err(Refused::Family)),
+        Step::Bind(1700, NUMBER, wrong, Err(TableError::Family)),
         Step::Bind(1700, NUMBER, right, Ok(())),
         Step::Channels(1700, &[(NUMBER, right, 2300)]),
         Step::Permissions(1700, &[(right, 2000)]),

@@ -2,7 +2,7 @@
 
 use crate::attributes_tests::{ADDRESSES, ZERO_ID};
 use attributes::{
-    Addr, BadValue, ValueKind, channel_number, lifetime, read_back, read_xor_addr,
+    Addr, ValueError, ValueKind, channel_number, lifetime, read_back, read_xor_addr,
     requested_family, requested_transport,
 };
 
@@ -20,7 +20,7 @@ const MALFORMED: [&[u8]; 6] = [
 fn addresses_are_read(rt: HostRuntime) {
     for (index, row) in ADDRESSES.iter().enumerate() {
         assert_eq!(rt;
-            read_xor_addr(row.value, &row.tx),
+            read_xor_addr(row.value, &row.transaction_id),
             Ok(row.address),
             "row {index}"
         );
@@ -28,7 +28,7 @@ fn addresses_are_read(rt: HostRuntime) {
     for value in MALFORMED {
         assert_eq!(rt;
             read_xor_addr(value, &ZERO_ID),
-            Err(BadValue(ValueKind::Address)),
+            Err(ValueError(ValueKind::Address)),
             "{value:?}"
         );
     }
@@ -43,13 +43,13 @@ fn addresses_are_read(rt: HostRuntime) {
 }
 
 /// Returns the number that a value of a kind is read as.
-fn number_of(kind: ValueKind, value: &[u8]) -> Result<u32, BadValue> {
+fn number_of(kind: ValueKind, value: &[u8]) -> Result<u32, ValueError> {
     match kind {
         ValueKind::Lifetime => lifetime(value),
         ValueKind::ChannelNumber => Ok(u32::from(channel_number(value)?)),
         ValueKind::RequestedTransport => Ok(u32::from(requested_transport(value)?)),
         ValueKind::RequestedFamily => Ok(u32::from(requested_family(value)?)),
-        ValueKind::Address => Err(BadValue(kind)),
+        ValueKind::Address => Err(ValueError(kind)),
     }
 }
 
@@ -114,7 +114,7 @@ fn numbers_are_read(rt: HostRuntime) {
         } = row;
         assert_eq!(rt;
             number_of(kind, value),
-            number.ok_or(BadValue(kind)),
+            number.ok_or(ValueError(kind)),
             "{kind:?} {value:?}"
         );
     }

@@ -2,7 +2,7 @@
 
 ghost use Rattle.std.specs.Prelude.{◌≡◌};
 ghost use Rattle.program_tests.specs.OnePeer.{is_host, is_peer, one_peer};
-ghost use Rattle.program_tests.specs.OnePeerLaws.{one_peer_is_lawful};
+ghost use Rattle.program_tests.specs.laws.OnePeer.{one_peer_is_lawful};
 
 use super::{CLIENT, PEER, outcome_of};
 use machine::{Addr, Helpers};

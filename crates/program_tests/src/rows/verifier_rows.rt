@@ -286,7 +286,7 @@ fn verified(alloc: Global, code: &[Insn], budget: usize) -> Result<usize, Refusa
 
 /// Compares what a budget is enough for: a state that a kept one of its slot covers costs no step.
 fn expect_covered_states<R: Abort + AllocGlobal>(rt: &R) {
-    // `ldxdw r2, [r1+0]`, `ldxb r0, [r2-1]`, `jeq r0, 0, +0`, `exit`: four steps. The exit is the goal of the jump, so
+    // `ldxdw r2, [r1+0]`, `ldxb r0, [r2-1]`, `jeq r0, 0, +0`, `exit`: four steps. The exit is the target of the jump, so
     // its first state is kept: a byte of 0 to 255. That of the taken branch, a byte of 0, is covered.
     let load = |size, dst, base, offset| Insn::Load {
         size,

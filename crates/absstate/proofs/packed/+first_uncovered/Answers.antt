@@ -3,7 +3,7 @@ use Rattle.std.proofs.lemmas.List.{take_all, length-drop}
 use Rattle.std.proofs.lemmas.Int.{to_z-of_z}
 use Rattle.std.specs.Prelude.{slice_index_or}
 use Rattle.absstate.specs.Covers.{covers_value}
-use Rattle.absstate.specs.StepLaws.Packing.{item_after}
+use Rattle.absstate.specs.laws.Step.Packing.{item_after}
 use Rattle.absstate.specs.declared.abstract_state.AbstractValue.{AbstractValue}
 use Rattle.absstate.specs.declared.abstract_state.AbstractValue.TheVariants.{Nothing}
 use Rattle.absstate.proofs.packed.+first_uncovered.Goals as goal

@@ -1,6 +1,6 @@
 use Rattle.std.proofs.Common.{◌≡◌, ◌+◌, ◌-◌, ◌++◌, ◌≤◌, List, length, take, drop, sym, ap, ◌∙◌, arith}
 use Rattle.absstate.specs.Packing.{joined}
-use Rattle.absstate.specs.StepLaws.Packing.{joined_first, written_after}
+use Rattle.absstate.specs.laws.Step.Packing.{joined_first, written_after}
 use Rattle.absstate.specs.declared.abstract_state.AbstractValue.{AbstractValue}
 use Rattle.absstate.proofs.packed.+put_chunks.Goals as goal
 

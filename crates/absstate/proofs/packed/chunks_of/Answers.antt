@@ -1,6 +1,6 @@
 use Rattle.std.proofs.Common.{◌++◌, List, inl, inr, sym, ap, ◌∙◌}
 use Rattle.absstate.specs.Packing.{joined}
-use Rattle.absstate.specs.StepLaws.Packing.{groups_kept}
+use Rattle.absstate.specs.laws.Step.Packing.{groups_kept}
 use Rattle.absstate.specs.declared.abstract_state.AbstractValue.{AbstractValue}
 use Rattle.absstate.proofs.packed.chunks_of.Goals as goal
 

@@ -2,7 +2,7 @@ use Rattle.std.proofs.Common.{◌≡◌, ◌<◌, length, Bool, true, false, not
 use Rattle.std.proofs.lemmas.Bool.{ltb-true}
 use Rattle.std.specs.Prelude.{slice_index_or}
 use Rattle.absstate.specs.Packing.{may_cover}
-use Rattle.absstate.specs.StepLaws.Packing.{not_true, same_item, may_cover_at, values_of}
+use Rattle.absstate.specs.laws.Step.Packing.{not_true, same_item, may_cover_at, values_of}
 use Rattle.absstate.specs.declared.abstract_state.AbstractValue.{AbstractValue}
 use Rattle.absstate.specs.declared.abstract_state.AbstractValue.TheVariants.{Nothing}
 use Rattle.absstate.proofs.part.value_rules_out.Goals as goal

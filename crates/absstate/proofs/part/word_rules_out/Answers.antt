@@ -2,9 +2,9 @@ use Rattle.std.proofs.Common.{◌≡◌, ℕ, zero, suc, ◌<◌, arith, length,
 use Rattle.std.proofs.lemmas.Bool.{ltb-true}
 use Rattle.std.specs.Prelude.{◌==◌, slice_index_or}
 use Rattle.absstate.specs.MarkWords.{words_of, are_within}
-use Rattle.absstate.specs.StepLaws.MemoryValues.{first_of_and, rest_of_and}
-use Rattle.absstate.specs.StepLaws.Packing.{not_true, same_item}
-use Rattle.absstate.specs.StepLaws.Words.{covered_within}
+use Rattle.absstate.specs.laws.Step.MemoryValues.{first_of_and, rest_of_and}
+use Rattle.absstate.specs.laws.Step.Packing.{not_true, same_item}
+use Rattle.absstate.specs.laws.Step.Words.{covered_within}
 use Rattle.absstate.proofs.part.word_rules_out.Goals as goal
 
 and_nothing : (n : ℕ) → (bit_and 0 n == 0) ≡ true

@@ -1,6 +1,6 @@
 use Rattle.std.proofs.Common.{◌∙◌, sym}
 use Rattle.std.specs.Ordering.{nat_cmp}
-use Rattle.attributes.specs.AddressOrderLaws.{of_one_length}
+use Rattle.attributes.specs.laws.AddressOrder.{of_one_length}
 use Rattle.attributes.proofs.ByteOrder.{ip_cmp-number}
 use Rattle.attributes.proofs.order.cmp_ipv4.Goals as goal
 

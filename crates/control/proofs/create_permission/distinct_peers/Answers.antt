@@ -10,12 +10,12 @@ loop-value-preserved-in-Some-address_in c = record {
   finite = tt;
   collected = collected_value c.args.message.now.transaction_id c.loop-value.peers.items c.add_peer.new.peers.items c.in-Some-address_in.peer c.in-Some.value.now c.next.new.self c.loop-value.value-iterator (peers_of c.args.message.now)
       c.in-Some.ensures.steps
-      (ap (λ tx. address_in tx c.in-Some.value.now) (sym c.tx-tx.ensures) ∙ sym c.address_in.ensures ∙ c.in-Some-address_in.is)
+      (ap (λ transaction_id. address_in transaction_id c.in-Some.value.now) (sym c.transaction_id-transaction_id.ensures) ∙ sym c.address_in.ensures ∙ c.in-Some-address_in.is)
       c.add_peer.ensures
       c.loop-value.invariant.collected;
   families = λ f all. family_value f c.args.message.now.transaction_id c.loop-value.peers.items c.add_peer.new.peers.items c.in-Some-address_in.peer c.in-Some.value.now c.next.new.self c.loop-value.value-iterator
       c.in-Some.ensures.steps
-      (ap (λ tx. address_in tx c.in-Some.value.now) (sym c.tx-tx.ensures) ∙ sym c.address_in.ensures ∙ c.in-Some-address_in.is)
+      (ap (λ transaction_id. address_in transaction_id c.in-Some.value.now) (sym c.transaction_id-transaction_id.ensures) ∙ sym c.address_in.ensures ∙ c.in-Some-address_in.is)
       c.add_peer.ensures
       (c.loop-value.invariant.families f all);
 }

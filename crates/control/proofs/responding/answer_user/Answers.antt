@@ -4,6 +4,7 @@ use Rattle.credentials.specs.Checks.{accounts_of, user_key}
 use Rattle.tables.specs.Rows.{rows_at}
 use Rattle.control.specs.Control.{decision_if_understood}
 use Rattle.control.specs.Replies.{reply_to}
+use Rattle.control.specs.Responding.{response_of_result}
 use Rattle.control.specs.declared.request.Request.TheVariants as request
 use Rattle.control.proofs.Decisions.{rows_given, grant_given}
 use Rattle.control.proofs.responding.answer_user.Goals as goal
@@ -26,6 +27,7 @@ returns-in-Ok-clause-answer c =
             ∙ ap (λ k. parts_bytes (reply_to config (request.Turn c.args.request) c.args.arrival.now.client p (Some k) c.serve-decision.result)) c.in-Ok.ensures.key
             ∙ ap (λ result. parts_bytes (reply_to config (request.Turn c.args.request) c.args.arrival.now.client p (Some key) result)) (grant_given served old c.serve-decision.new.tables c.serve-decision.result c.serve-decision.ensures.gives);
       };
+      response = c.response_of.ensures ∙ ap response_of_result (grant_given served old c.serve-decision.new.tables c.serve-decision.result c.serve-decision.ensures.gives);
     }
 
 pub returns-in-Err-clause-answer : goal.returns-in-Err-clause-answer
@@ -36,4 +38,5 @@ returns-in-Err-clause-answer c = record {
     rows = refl;
     bytes = c.write_reply-in-Err.ensures.bytes ∙ ap (λ error. parts_bytes (reply_to c.args.config.now (request.Turn c.args.request) c.args.arrival.now.client c.args.arrival.now.message.now None (Err error))) c.refused_credentials.ensures;
   };
+  response = refl;
 }

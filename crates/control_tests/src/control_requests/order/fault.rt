@@ -129,7 +129,7 @@ pub struct Case {
     /// The credentials of the request that made it.
     pub owner: Credentials<'static>,
     /// Each byte of that request's transaction id.
-    pub allocation_tx: u8,
+    pub allocation_id: u8,
 }
 
 /// An attribute that is ignored: SOFTWARE (RFC 8489, section 14.14).
@@ -150,7 +150,7 @@ pub const FIRST_CASE: Case = Case {
     peers: (0, 0),
     has_allocation: true,
     owner: USER,
-    allocation_tx: 1,
+    allocation_id: 1,
 };
 
 impl Case {
@@ -216,7 +216,7 @@ impl Fault {
             }
             Fault::OtherTransaction => {
                 case.has_allocation = true;
-                case.allocation_tx = 2;
+                case.allocation_id = 2;
             }
             Fault::NoTransport => case.transport = IGNORED,
             Fault::MalformedTransport => case.transport = (REQUESTED_TRANSPORT, &[17, 0, 0]),

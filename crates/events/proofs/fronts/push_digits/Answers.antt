@@ -1,6 +1,6 @@
 use Rattle.std.proofs.Common.{rules, ◌++◌, ap, sym, ◌∙◌}
 use Rattle.hex.specs.Hex.{IsBytes}
-use Rattle.events.specs.ReadingLaws.{digits_are}
+use Rattle.events.specs.laws.Reading.{digits_are}
 use Rattle.events.proofs.fronts.push_digits.Goals as goal
 
 pub returns-clause-bytes : goal.returns-clause-bytes

@@ -2,7 +2,7 @@ use Rattle.std.proofs.Common.{List, ℕ, ◌++◌, drop, replicate, ap, ◌∙�
 use Rattle.semantics.specs.Access.{part}
 use Rattle.semantics.specs.declared.limits.TheConstants.{STACK_BYTES}
 use Rattle.semantics.specs.declared.loading.TheConstants.{CONTEXT_BYTES}
-use Rattle.flat.specs.FlatLaws.{laid_out_after, laid_out_record}
+use Rattle.flat.specs.laws.Flat.{laid_out_after, laid_out_record}
 use Rattle.flat.specs.declared.layout.TheConstants.{HEADROOM_INDEX, POINTERS_BYTES}
 use Rattle.machine.specs.Contexts.{context_of}
 use Rattle.machine.proofs.context.traced_record.Goals as goal

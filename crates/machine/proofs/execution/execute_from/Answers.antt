@@ -1,5 +1,5 @@
 use Rattle.std.proofs.Common.{sym, rules}
-use Rattle.semantics.specs.SlotLaws.{begins_at}
+use Rattle.semantics.specs.laws.Slot.{begins_at}
 use Rattle.machine.proofs.Executions.{starts, goes_on, over_at_exit, over_at_stuck, over_past, over_inside}
 use Rattle.machine.proofs.execution.execute_from.Goals as goal
 

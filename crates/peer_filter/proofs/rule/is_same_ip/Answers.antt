@@ -1,5 +1,5 @@
 use Rattle.std.proofs.Common.{is_eq, ap, ◌∙◌}
-use Rattle.attributes.specs.AddressOrderLaws.{ip_order-same}
+use Rattle.attributes.specs.laws.AddressOrder.{ip_order-same}
 use Rattle.attributes.specs.Addresses.{ip_of}
 use Rattle.peer_filter.proofs.rule.is_same_ip.Goals as goal
 

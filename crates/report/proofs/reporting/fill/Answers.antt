@@ -5,7 +5,7 @@ use Rattle.hex.specs.Hex.{decode_of}
 use Rattle.hex.specs.declared.error.FromHexError.{FromHexError}
 use Rattle.hex.proofs.HexLemmas.{decode_of-ok, decode_sized-ok, decode_sized-twice}
 use Rattle.machine.specs.Contexts.{context_of}
-use Rattle.machine.specs.FrameLaws.{room_written, datagram_started}
+use Rattle.machine.specs.laws.Frame.{room_written, datagram_started}
 use Rattle.report.specs.Traces.{digits_of, HasNoDatagram}
 use Rattle.report.proofs.reporting.fill.Goals as goal
 

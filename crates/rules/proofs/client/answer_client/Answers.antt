@@ -1,13 +1,15 @@
 use Rattle.std.proofs.Common.{◌≡◌, true, false, take, rules, sym, ap, ◌∙◌}
 use Rattle.std.specs.Prelude.{◌==◌, Some}
 use Rattle.stun.specs.Datagrams.{message_in}
+use Rattle.control.specs.Responding.{count_of}
 use Rattle.rules.specs.Answers.{reply_sent}
+use Rattle.rules.specs.Dispositions.{client_disposition}
 use Rattle.rules.specs.ByRules.{from_client}
-use Rattle.rules.specs.ClientLaws.{is_handled}
+use Rattle.rules.specs.laws.Client.{is_handled, disposition_is_handled}
 use Rattle.rules.specs.FastPart.{begins_as_stun}
 use Rattle.rules.specs.Rules.{send_indication}
 use Rattle.rules.specs.Systems.{SystemReply}
-use Rattle.rules.proofs.Controls.{control_is}
+use Rattle.rules.proofs.Controls.{control_is, response_is}
 use Rattle.rules.proofs.client.answer_client.Goals as goal
 
 stun : (c : goal.After-reply_of) → begins_as_stun c.args.datagram.now ≡ true
@@ -21,15 +23,21 @@ other c = search rules
 
 -- what the rules answer is the reply, and the rows are those of the tables
 handled : (c : goal.After-reply_of) → from_client c.args.config.now c.args.moment c.args.client c.args.tables.now c.args.datagram.now
-    ≡ record { answer = reply_sent c.args.client (take c.respond-count.result c.respond-count.new.out); rows = c.respond-count.new.tables }
+    ≡ record { answer = reply_sent c.args.client (take (count_of c.respond.result) c.respond.new.out); rows = c.respond.new.tables }
 handled c =
     is_handled c.args.config.now c.args.moment c.args.client c.args.tables.now c.args.datagram.now c.in-Ok.message (stun c) (is_message c) (other c)
-    ∙ control_is c.results_are_checked.ensures _ _ _ _ _ _ _ c.requires.ipv4 c.respond-count.ensures.responds
+    ∙ control_is c.law_results_are_checked.ensures _ _ _ _ _ _ _ _ c.requires.ipv4 c.respond.ensures.responds
 
 pub returns-clause-answer : goal.returns-clause-answer
 returns-clause-answer c =
-    c.reply_of.ensures.sends c.args.client c.args.datagram.now c.respond-count.new.out c.respond-count.ensures.inside
+    c.reply_of.ensures.sends c.args.client c.args.datagram.now c.respond.new.out
     ∙ sym (ap (λ (r : SystemReply). r.answer) (handled c))
 
 pub returns-clause-rows : goal.returns-clause-rows
 returns-clause-rows c = sym (ap (λ (r : SystemReply). r.rows) (handled c))
+
+pub returns-clause-disposition : goal.returns-clause-disposition
+returns-clause-disposition c =
+    c.reply_of.ensures.disposition
+    ∙ response_is c.law_results_are_checked.ensures _ _ _ _ _ _ _ _ c.requires.ipv4 c.respond.ensures.responds
+    ∙ sym (disposition_is_handled c.args.config.now c.args.moment c.args.client c.args.tables.now c.args.datagram.now c.in-Ok.message (stun c) (is_message c) (other c))

@@ -5,7 +5,7 @@ use Rattle.semantics.proofs.fetching.find.Given as goal
 abbrev pub invariant-loop-at : goal.invariant-loop-at
 invariant-loop-at l = record {
   at : IsAt l.code l.at;
-  before : l.at.slot ≤ l.goal;
+  before : l.at.slot ≤ l.slot;
   further : l.fn.at.index ≤ l.at.index;
 }
 

@@ -2,7 +2,7 @@ use Rattle.std.proofs.Common.{rules, ◌≡◌, ℕ, suc, ◌+◌, ◌≤◌, �
 use Rattle.std.specs.Prelude.{slice_set}
 use Rattle.std.proofs.lemmas.List.{length-replicate, length-set, take_all, take_more_set}
 use Rattle.semantics.specs.Access.{cells_bytes}
-use Rattle.semantics.specs.CallLaws.{cells_more, cells_none}
+use Rattle.semantics.specs.laws.Call.{cells_more, cells_none}
 use Rattle.semantics.proofs.helper.bytes_of_cells.Goals as goal
 
 next : (i : ℕ) → i + 1 ≡ suc i

@@ -1,7 +1,7 @@
 use Rattle.std.proofs.Common.{List, ℕ, ap, ◌∙◌}
 use Rattle.insn.specs.Endian.{little_number}
 use Rattle.semantics.specs.Access.{part}
-use Rattle.semantics.specs.ContextLaws.{side_field}
+use Rattle.semantics.specs.laws.Context.{side_field}
 use Rattle.semantics.proofs.loading.side.Goals as goal
 
 pub returns : goal.returns

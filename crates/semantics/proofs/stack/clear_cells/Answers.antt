@@ -2,7 +2,7 @@ use Rattle.std.proofs.Common.{◌≡◌, ℕ, zero, suc, ◌+◌, ◌<◌, ◌�
 use Rattle.std.specs.Prelude.{slice_set}
 use Rattle.std.proofs.lemmas.List.{length-replicate}
 use Rattle.semantics.specs.Access.{overlay}
-use Rattle.semantics.specs.AccessLaws.{put_none, put_more}
+use Rattle.semantics.specs.laws.Access.{put_none, put_more}
 use Rattle.semantics.proofs.stack.clear_cells.Goals as goal
 
 one_more : (n : ℕ) (x : Option ℕ) → replicate n x ++ x ∷ [] ≡ replicate (suc n) x

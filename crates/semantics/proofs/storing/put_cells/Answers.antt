@@ -2,7 +2,7 @@ use Rattle.std.proofs.Common.{◌≡◌, ℕ, ◌+◌, ◌<◌, ◌≤◌, List,
 use Rattle.std.specs.Prelude.{slice_set}
 use Rattle.std.proofs.lemmas.List.{length-take-le, length-map, map_more}
 use Rattle.semantics.specs.Access.{overlay}
-use Rattle.semantics.specs.AccessLaws.{put_more}
+use Rattle.semantics.specs.laws.Access.{put_more}
 use Rattle.semantics.proofs.storing.put_cells.Goals as goal
 
 -- one byte more is written

@@ -3,7 +3,7 @@ use Rattle.std.proofs.lemmas.List.{length-take-le, length-drop, drop-drop}
 use Rattle.insn.specs.Endian.{little_bytes}
 use Rattle.insn.specs.Numbers.{length-bytes_low_first}
 use Rattle.semantics.specs.Access.{overlay}
-use Rattle.semantics.specs.AccessLaws.{put_is}
+use Rattle.semantics.specs.laws.Access.{put_is}
 use Rattle.semantics.proofs.storing.put_number.Goals as goal
 
 -- the bytes that a slice in the middle of others leaves

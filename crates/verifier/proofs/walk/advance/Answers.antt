@@ -1,6 +1,6 @@
 use Rattle.std.proofs.Common.{◌≡◌, None, Ok, [], refl, sym, ◌∙◌, rules, subst, append-nil}
 use Rattle.insn.specs.Encoding.{Fits}
-use Rattle.semantics.specs.SlotLaws.{begins_inside}
+use Rattle.semantics.specs.laws.Slot.{begins_inside}
 use Rattle.semantics.specs.declared.fetching.Branch.TheVariants.{NotTaken, Taken}
 use denote.Memory.{lone}
 use Rattle.absstate.specs.AbstractSteps.{abstract_step}

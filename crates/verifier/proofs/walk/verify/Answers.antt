@@ -1,6 +1,6 @@
 use Rattle.interval.specs.Intervals.{LiesBetween, interval_ops}
-use Rattle.interval.specs.IntervalLaws.{interval_precise}
-use Rattle.verifier.specs.VerdictLaws.{real_verdict}
+use Rattle.interval.specs.laws.Interval.{interval_precise}
+use Rattle.verifier.specs.laws.Verdict.{real_verdict}
 use Rattle.verifier.proofs.walk.verify.Goals as goal
 
 pub returns-clause-verdict : goal.returns-clause-verdict

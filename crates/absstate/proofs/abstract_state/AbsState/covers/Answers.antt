@@ -1,5 +1,5 @@
 use Rattle.std.proofs.Common.{sym, ◌∙◌}
-use Rattle.absstate.specs.StepLaws.Covering.{member_covered}
+use Rattle.absstate.specs.laws.Step.Covering.{member_covered}
 use Rattle.absstate.proofs.Generality.{covers_wider}
 use Rattle.absstate.proofs.abstract_state.AbsState.covers.Goals as goal
 

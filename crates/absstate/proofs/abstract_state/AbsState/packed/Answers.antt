@@ -2,7 +2,7 @@ use Rattle.std.proofs.Common.{◌≡◌, ℤ, List, ◌++◌, take, drop, to_z, 
 use Rattle.std.proofs.lemmas.List.{take-append-drop}
 use Rattle.absstate.specs.Packing.{joined, unpacked}
 use Rattle.absstate.specs.declared.abstract_state.AbstractValue.{AbstractValue}
-use Rattle.absstate.specs.StepLaws.Packing.{whole_state, words_kept}
+use Rattle.absstate.specs.laws.Step.Packing.{whole_state, words_kept}
 use Rattle.absstate.proofs.abstract_state.AbsState.packed.Goals as goal
 
 pub invariant_of-result : goal.invariant_of-result

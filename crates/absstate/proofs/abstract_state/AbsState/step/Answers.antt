@@ -1,6 +1,6 @@
 use Rattle.std.proofs.Common.{◌≡◌, Ok, rules}
 use Rattle.absstate.specs.AbstractSteps.{abstract_step}
-use Rattle.absstate.specs.StepLaws.Following.{followed}
+use Rattle.absstate.specs.laws.Step.Following.{followed}
 use Rattle.absstate.proofs.Generality.{narrows_both}
 use Rattle.absstate.proofs.abstract_state.AbsState.step.Goals as goal
 

@@ -2,8 +2,8 @@ use Rattle.std.proofs.Common.{◌≡◌, ◌<◌, true, false, List, length, sub
 use Rattle.std.specs.Prelude.{int_le, slice_index_or}
 use Rattle.absstate.specs.Covers.{covers_value, covers_values, share_alike}
 use Rattle.absstate.specs.Packing.{joined}
-use Rattle.absstate.specs.StepLaws.Covering.{member_covered}
-use Rattle.absstate.specs.StepLaws.Packing.{word_differs, proved_differs, sharing_differs, value_differs, covers_all}
+use Rattle.absstate.specs.laws.Step.Covering.{member_covered}
+use Rattle.absstate.specs.laws.Step.Packing.{word_differs, proved_differs, sharing_differs, value_differs, covers_all}
 use Rattle.absstate.specs.declared.abstract_state.AbstractValue.{AbstractValue}
 use Rattle.absstate.specs.declared.abstract_state.AbstractValue.TheVariants.{Nothing}
 use Rattle.absstate.specs.declared.abstract_state.AbsState.{AbsState}

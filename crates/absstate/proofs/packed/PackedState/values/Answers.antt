@@ -1,6 +1,6 @@
 use Rattle.std.proofs.Common.{◌≡◌, ◌+◌, ◌++◌, List, length, take, drop, ap, ◌∙◌, rules}
 use Rattle.absstate.specs.Packing.{joined}
-use Rattle.absstate.specs.StepLaws.Packing.{laid_out}
+use Rattle.absstate.specs.laws.Step.Packing.{laid_out}
 use Rattle.absstate.specs.declared.abstract_state.AbstractValue.{AbstractValue}
 use Rattle.absstate.specs.declared.abstract_state.AbsState.{AbsState}
 use Rattle.absstate.proofs.packed.PackedState.values.Goals as goal

@@ -3,7 +3,7 @@ use Rattle.std.proofs.Common.{◌≡◌, ℕ, ◌<◌, ◌^◌, None, Some, refl
 use Rattle.tables.specs.LookUps.{peer_of}
 use Rattle.tables.specs.Rows.{Rows, rows_at}
 use Rattle.tables.specs.WellFormed.{AreWellFormed}
-use Rattle.tables.specs.WellFormedLaws.{peer_of-number, rows_at-well_formed}
+use Rattle.tables.specs.laws.WellFormed.{peer_of-number, rows_at-well_formed}
 use Rattle.helpers.specs.LookUps.{peer_answer}
 use Rattle.helpers.proofs.tables_lookup.Lookup.channel_peer.Goals as goal
 
@@ -15,4 +15,4 @@ no_peer slot number rows are large = elim (peer_of slot number rows) as (λ o. p
 
 pub returns-in_default : goal.returns-in_default
 returns-in_default c = ap (peer_answer c.args.form) (no_peer c.args.slot c.args.number (rows_at c.args.self.now.moment c.args.self.now.tables.now)
-    (rows_at-well_formed c.args.self.now.moment c.args.self.now.tables.now c.are_well_formed.ensures) c.in_default.ensures)
+    (rows_at-well_formed c.args.self.now.moment c.args.self.now.tables.now c.law_are_well_formed.ensures) c.in_default.ensures)

@@ -1,12 +1,12 @@
 use Rattle.std.proofs.Common.{◌≡◌, ℕ, List, Result, Ok, Err, subst}
 use Rattle.insn.specs.declared.instruction.Insn.{Insn}
-use Rattle.interval.specs.IntervalLaws.{interval_precise}
+use Rattle.interval.specs.laws.Interval.{interval_precise}
 use Rattle.interval.specs.Intervals.{LiesBetween, interval_ops}
 use Rattle.interval.specs.declared.interval.Interval.{Interval}
 use Rattle.verifier.specs.Refusing.{MayRefuse, CountsSteps}
 use Rattle.verifier.specs.SliceEnds.{EndsIn}
 use Rattle.verifier.specs.Slices.{Walking}
-use Rattle.verifier.specs.VerdictLaws.{real_verdict}
+use Rattle.verifier.specs.laws.Verdict.{real_verdict}
 use Rattle.verifier.specs.declared.refusal.Refusal.{Refusal}
 use Rattle.verifier.specs.declared.walk.Verified.{Verified}
 use Rattle.loader.specs.Slices.{IsLoadEnd}

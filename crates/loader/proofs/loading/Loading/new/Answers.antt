@@ -2,10 +2,10 @@ use Rattle.std.proofs.Common.{◌≡◌, List, Result, Err, inl, sym, ap, ◌∙
 use Rattle.std.proofs.lemmas.Result.{err_from_is_err_and}
 use Rattle.insn.specs.Encoding.{Encodes}
 use Rattle.insn.specs.declared.instruction.Insn.{Insn}
-use Rattle.interval.specs.IntervalLaws.{interval_precise}
+use Rattle.interval.specs.laws.Interval.{interval_precise}
 use Rattle.interval.specs.Intervals.{LiesBetween, interval_ops}
 use Rattle.verifier.specs.Layout.{IsLayoutFault}
-use Rattle.verifier.specs.VerdictLaws.{real_verdict}
+use Rattle.verifier.specs.laws.Verdict.{real_verdict}
 use Rattle.verifier.specs.declared.refusal.Refusal.{Refusal}
 use Rattle.loader.specs.declared.loaded.TheConstants.{BUDGET}
 use Rattle.loader.specs.declared.refusal.LoadError.TheVariants.{Verify}

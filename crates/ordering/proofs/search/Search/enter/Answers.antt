@@ -7,7 +7,7 @@ use Rattle.ordering.specs.Searches.{path_of, IsSearch}
 use Rattle.ordering.specs.Tails.{tail_list}
 use Rattle.ordering.specs.declared.search.Mark.TheVariants.{Open}
 use Rattle.ordering.proofs.Backs.{reverse_push}
-use Rattle.ordering.proofs.Goals.{visit_inside}
+use Rattle.ordering.proofs.BranchTargets.{visit_inside}
 use Rattle.ordering.proofs.Searching.{entered, weight_entered}
 use Rattle.ordering.proofs.search.Search.enter.Goals as goal
 

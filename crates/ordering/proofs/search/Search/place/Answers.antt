@@ -8,7 +8,7 @@ use Rattle.ordering.specs.Searches.{path_of, IsSearch}
 use Rattle.ordering.specs.Tails.{tail_list}
 use Rattle.ordering.specs.declared.search.Mark.TheVariants.{Placed}
 use Rattle.ordering.proofs.Fitting.{fits_at}
-use Rattle.ordering.proofs.Goals.{visit_inside}
+use Rattle.ordering.proofs.BranchTargets.{visit_inside}
 use Rattle.ordering.proofs.Placing.{taken_place, next_place}
 use Rattle.ordering.proofs.Searching.{left, no_room}
 use Rattle.ordering.proofs.search.Search.place.Goals as goal

@@ -2,13 +2,14 @@ use Rattle.std.proofs.Common.{◌≡◌, rules, sym, ap, subst, ◌∙◌}
 use Rattle.tables.specs.Rows.{rows_at}
 use Rattle.events.specs.declared.meta.Source.{Source}
 use Rattle.programs.specs.Runs.{planned_sending}
-use Rattle.relay.specs.Found.{reply_of_passing, own_for, sending_of_found, window_shown}
+use Rattle.relay.specs.ByPrograms.{relayed_where_sent}
+use Rattle.relay.specs.Found.{reply_of_passing, own_for, sending_of_found, disposition_of_found, window_shown}
 use Rattle.relay.specs.Relays.{RelayContents}
-use Rattle.relay.specs.Steps.{HasStepped, outcome_of}
+use Rattle.relay.specs.Steps.{HasStepped, outcome_of, disposition_of_step}
 use Rattle.rules.specs.Systems.{SystemReply, no_answer, reply_of_relaying}
 use Rattle.relay.specs.contracts.relay.Relay.{the_view}
 use Rattle.relay.specs.declared.found.Found.TheVariants as found
-use Rattle.relay.proofs.Advances.{reply_at, steps, stays, answers, passes_client, passes_peer, sends, discards}
+use Rattle.relay.proofs.Advances.{reply_at, steps, stays, answers, passes_client, passes_peer, sends, discards, done_then, does_pass_client, does_pass_peer, does_send, does_discard}
 use Rattle.relay.proofs.relay.Relay.advance.Goals as goal
 
 -- ---- where the program of a client passes the datagram on
@@ -17,7 +18,7 @@ client_reply : (c : goal.After-pass_on) → reply_at (the_view c.self.inside) c.
 client_reply c =
     let kept = c.run-outcome.ensures.rest in
     passes_client (the_view c.self.inside) c.args.meta.now c.args.n c.moment_of-self-inside.result c.run-outcome.result c.run-outcome.new.self
-    (search rules) c.run-outcome.ensures.run c.in-Client.client c.in-Client.is c.in-1.is
+    c.run-outcome.ensures.run (search rules) c.in-Client.client c.in-Client.is c.in-1.is
     (ap (λ (r : RelayContents). r.config) kept) (ap (λ (r : RelayContents). r.rows) kept) (ap (λ (r : RelayContents). r.greatest) kept)
 
 pub returns-in-Client-clause-stepped : goal.returns-in-Client-clause-stepped
@@ -45,7 +46,7 @@ returns-in-Client-clause-found c =
 not_passed : (c : goal.In-Peer) → reply_at (the_view c.self.inside) c.args.meta.now c.args.n c.moment_of-self-inside.result ≡ no_answer c.self.inside.tables
 not_passed c =
     passes_peer (the_view c.self.inside) c.args.meta.now c.args.n c.moment_of-self-inside.result c.run-outcome.result c.run-outcome.new.self
-    (search rules) c.run-outcome.ensures.run c.in-Peer.slot c.in-Peer.addr c.in-Peer.is c.in-1.is
+    c.run-outcome.ensures.run (search rules) c.in-Peer.slot c.in-Peer.addr c.in-Peer.is c.in-1.is
 
 pub returns-in-Peer-clause-stepped : goal.returns-in-Peer-clause-stepped
 returns-in-Peer-clause-stepped c =
@@ -66,7 +67,7 @@ plan_reply : (c : goal.After-window_found) → reply_at (the_view c.self.inside)
     ≡ reply_of_relaying c.self.inside.tables (planned_sending c.args.meta.now.from (rows_at c.moment_of-self-inside.result c.self.inside.tables) c.run-outcome.result.destination (window_shown c.run-outcome.new.self.frame))
 plan_reply c =
     sends (the_view c.self.inside) c.args.meta.now c.args.n c.moment_of-self-inside.result c.run-outcome.result c.run-outcome.new.self
-    (search rules) c.run-outcome.ensures.run c.in-2.is
+    c.run-outcome.ensures.run (search rules) c.in-2.is
 
 pub returns-in-2-clause-stepped : goal.returns-in-2-clause-stepped
 returns-in-2-clause-stepped c =
@@ -90,7 +91,7 @@ returns-in-2-clause-found c =
 discarded : (c : goal.In_default) → reply_at (the_view c.self.inside) c.args.meta.now c.args.n c.moment_of-self-inside.result ≡ no_answer c.self.inside.tables
 discarded c =
     discards (the_view c.self.inside) c.args.meta.now c.args.n c.moment_of-self-inside.result c.run-outcome.result c.run-outcome.new.self
-    (search rules) c.run-outcome.ensures.run (search rules) (search rules)
+    c.run-outcome.ensures.run (search rules) (search rules) (search rules)
 
 pub returns-in_default-clause-stepped : goal.returns-in_default-clause-stepped
 returns-in_default-clause-stepped c =
@@ -104,3 +105,40 @@ returns-in_default-clause-found c =
     sym (ap (λ (r : SystemReply). r.answer) (discarded c))
     ∙ answers (the_view c.self.inside) c.args.meta.now c.args.n c.moment_of-self-inside.result c.moment_of-self-inside.ensures
     ∙ (λ i. (outcome_of (c.self.view_is i) c.args.meta.now c.args.n).answer)
+
+-- ---- what is done with the datagram
+
+pub returns-in-Client-clause-disposition : goal.returns-in-Client-clause-disposition
+returns-in-Client-clause-disposition c =
+    let kept = c.run-outcome.ensures.rest in
+    ap (λ (s : Source). disposition_of_found c.pass_on.new.self s (found.Answer c.pass_on.result)) c.in-Client.is
+    ∙ c.pass_on.ensures.disposition
+    ∙ sym (does_pass_client (the_view c.self.inside) c.args.meta.now c.args.n c.moment_of-self-inside.result c.run-outcome.result c.run-outcome.new.self
+    c.run-outcome.ensures.run (search rules) c.in-Client.client c.in-Client.is c.in-1.is
+    (ap (λ (r : RelayContents). r.config) kept) (ap (λ (r : RelayContents). r.rows) kept) (ap (λ (r : RelayContents). r.greatest) kept))
+    ∙ done_then (the_view c.self.inside) c.args.meta.now c.args.n c.moment_of-self-inside.result c.moment_of-self-inside.ensures
+    ∙ (λ i. disposition_of_step (c.self.view_is i) c.args.meta.now c.args.n)
+
+pub returns-in-Peer-clause-disposition : goal.returns-in-Peer-clause-disposition
+returns-in-Peer-clause-disposition c =
+    sym (does_pass_peer (the_view c.self.inside) c.args.meta.now c.args.n c.moment_of-self-inside.result c.run-outcome.result c.run-outcome.new.self
+    c.run-outcome.ensures.run (search rules) c.in-Peer.slot c.in-Peer.addr c.in-Peer.is c.in-1.is)
+    ∙ done_then (the_view c.self.inside) c.args.meta.now c.args.n c.moment_of-self-inside.result c.moment_of-self-inside.ensures
+    ∙ (λ i. disposition_of_step (c.self.view_is i) c.args.meta.now c.args.n)
+
+pub returns-in-2-clause-disposition : goal.returns-in-2-clause-disposition
+returns-in-2-clause-disposition c =
+    let kept = c.run-outcome.ensures.rest in
+    c.window_found.ensures.disposition c.run-outcome.new.self
+    (c.own_for-own.ensures ∙ (λ i. own_for c.args.meta.now.from (rows_at (sym kept i).greatest (sym kept i).rows)))
+    ∙ (λ i. relayed_where_sent (planned_sending c.args.meta.now.from (rows_at (kept i).greatest (kept i).rows) c.run-outcome.result.destination (window_shown c.run-outcome.new.self.frame)))
+    ∙ sym (does_send (the_view c.self.inside) c.args.meta.now c.args.n c.moment_of-self-inside.result c.run-outcome.result c.run-outcome.new.self c.run-outcome.ensures.run (search rules) c.in-2.is)
+    ∙ done_then (the_view c.self.inside) c.args.meta.now c.args.n c.moment_of-self-inside.result c.moment_of-self-inside.ensures
+    ∙ (λ i. disposition_of_step (c.self.view_is i) c.args.meta.now c.args.n)
+
+pub returns-in_default-clause-disposition : goal.returns-in_default-clause-disposition
+returns-in_default-clause-disposition c =
+    sym (does_discard (the_view c.self.inside) c.args.meta.now c.args.n c.moment_of-self-inside.result c.run-outcome.result c.run-outcome.new.self
+    c.run-outcome.ensures.run (search rules) (search rules) (search rules))
+    ∙ done_then (the_view c.self.inside) c.args.meta.now c.args.n c.moment_of-self-inside.result c.moment_of-self-inside.ensures
+    ∙ (λ i. disposition_of_step (c.self.view_is i) c.args.meta.now c.args.n)

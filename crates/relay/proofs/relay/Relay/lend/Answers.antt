@@ -1,10 +1,23 @@
 use Rattle.std.proofs.Common.{◌≡◌, sym, ap, ◌∙◌}
 use Rattle.tables.specs.Rows.{rows_at}
-use Rattle.relay.specs.Found.{sending_of_found, window_to_client}
+use Rattle.events.specs.Actions.{sending_of}
+use Rattle.relay.specs.ByPrograms.{relayed_where_sent}
+use Rattle.relay.specs.Found.{sending_of_found, disposition_of_found, window_to_client}
 use Rattle.relay.proofs.relay.Relay.lend.Goals as goal
 
-pub returns-in-WindowToClient : goal.returns-in-WindowToClient
-returns-in-WindowToClient c =
+-- what is sent to the client of the slot
+sent : (c : goal.After-relayed-in-WindowToClient) → sending_of c.window_to_client.result ≡ sending_of_found c.args.self.now c.args.from c.args.found
+sent c =
     c.window_to_client.ensures
-    ∙ ap (λ window. window_to_client c.in-WindowToClient.slot (rows_at c.self.inside.greatest c.self.inside.tables) window) c.window-in-WindowToClient.ensures
+    ∙ ap (λ window. window_to_client c.in-WindowToClient.slot (rows_at c.self.inside.greatest c.self.inside.tables) window) c.window-window.ensures
     ∙ (λ i. sending_of_found (c.self.view_is i) c.args.from (sym c.in-WindowToClient.is i))
+
+pub returns-in-WindowToClient-clause-answer : goal.returns-in-WindowToClient-clause-answer
+returns-in-WindowToClient-clause-answer c = c.relayed-in-WindowToClient.ensures.action ∙ sent c
+
+pub returns-in-WindowToClient-clause-disposition : goal.returns-in-WindowToClient-clause-disposition
+returns-in-WindowToClient-clause-disposition c =
+    c.relayed-in-WindowToClient.ensures.disposition
+    ∙ ap relayed_where_sent (sent c)
+    ∙ (λ i. relayed_where_sent (sending_of_found c.args.self.now c.args.from (c.in-WindowToClient.is i)))
+    ∙ (λ i. disposition_of_found c.args.self.now c.args.from (sym c.in-WindowToClient.is i))

@@ -2,7 +2,8 @@ use Rattle.std.proofs.Common.{◌≡◌, length, rules, sym, ◌∙◌}
 use Rattle.std.proofs.lemmas.List.{with_items_is}
 use Rattle.rules.specs.Answers.{sending_of_answer}
 use Rattle.rules.specs.ByRules.{from_client}
-use Rattle.relay.specs.Found.{reply_of_passing}
+use Rattle.rules.specs.Dispositions.{client_disposition}
+use Rattle.relay.specs.Found.{reply_of_passing, disposition_of_passing}
 use Rattle.relay.proofs.relay.Relay.pass_on.Goals as goal
 
 pub returns-clause-answer : goal.returns-clause-answer
@@ -12,3 +13,9 @@ returns-clause-answer c =
     ∙ c.answer_client.ensures.answer
     ∙ (λ i. (from_client c.self.inside.config c.self.inside.greatest c.args.client c.self.inside.tables (c.datagram-datagram.ensures.bytes i)).answer)
     ∙ (λ i. (reply_of_passing (c.self.view_is i) c.args.client).answer)
+
+pub returns-clause-disposition : goal.returns-clause-disposition
+returns-clause-disposition c =
+    c.answer_client.ensures.disposition
+    ∙ (λ i. client_disposition c.self.inside.config c.self.inside.greatest c.args.client c.self.inside.tables (c.datagram-datagram.ensures.bytes i))
+    ∙ (λ i. disposition_of_passing (c.self.view_is i) c.args.client)

@@ -24,11 +24,11 @@ pub returns-in_err-write_answer-in-Some-Datagram-clause-cut : goal.returns-in_er
 returns-in_err-write_answer-in-Some-Datagram-clause-cut g c =
     for_err c.from_residual-in_err-write_answer-in-Some-Datagram.result (λ e. cut_is c.args.self.now c.parse.new.room c.in-Some-Datagram.meta c.in-Some-Datagram.n (event_in c.args.self.now.config.slots c.args.line.now)
     (ap length (sym c.area.ensures.value) ∙ c.area.ensures.len) (search rules) ((λ i. Some (event_of c.parse.new.room (sym c.in-Some-Datagram.field-0-is i))) ∙ c.in-Some-Datagram.ensures.reads ∙ ap (λ s. event_in s c.args.line.now) c.slots-slots.ensures)
-    (sending_of c.step.result) c.step.ensures.answer c.args.output.now.contents c.write_answer-in-Some-Datagram.new.output.contents c.in_err-write_answer-in-Some-Datagram.ensures.err)
+    (sending_of c.step.result.action) c.step.ensures.answer c.args.output.now.contents c.write_answer-in-Some-Datagram.new.output.contents c.in_err-write_answer-in-Some-Datagram.ensures.err)
 
 pub returns-in_ok-write_answer-in-Some-Datagram-clause-written : goal.returns-in_ok-write_answer-in-Some-Datagram-clause-written
 returns-in_ok-write_answer-in-Some-Datagram-clause-written g c =
     subst (Appends c.args.output.now.contents c.write_answer-in-Some-Datagram.new.output.contents)
     (answer_is c.args.self.now c.parse.new.room c.in-Some-Datagram.meta c.in-Some-Datagram.n (event_in c.args.self.now.config.slots c.args.line.now)
     (ap length (sym c.area.ensures.value) ∙ c.area.ensures.len) (search rules) ((λ i. Some (event_of c.parse.new.room (sym c.in-Some-Datagram.field-0-is i))) ∙ c.in-Some-Datagram.ensures.reads ∙ ap (λ s. event_in s c.args.line.now) c.slots-slots.ensures)
-    (sending_of c.step.result) c.step.ensures.answer) c.in_ok-write_answer-in-Some-Datagram.ensures.ok
+    (sending_of c.step.result.action) c.step.ensures.answer) c.in_ok-write_answer-in-Some-Datagram.ensures.ok

@@ -1,5 +1,5 @@
 use Rattle.std.proofs.Common.{ℕ, ◌+◌, ap, ◌∙◌}
-use Rattle.semantics.specs.SlotLaws.{slots_here}
+use Rattle.semantics.specs.laws.Slot.{slots_here}
 use Rattle.semantics.proofs.fetching.Position.next.Goals as goal
 
 pub returns-clause-slot : goal.returns-clause-slot

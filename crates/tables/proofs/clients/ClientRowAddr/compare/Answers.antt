@@ -1,6 +1,6 @@
 use Rattle.std.proofs.Common.{◌∙◌}
-use Rattle.attributes.specs.AddressOrderLaws.{address_order-by_parts}
+use Rattle.attributes.specs.laws.AddressOrder.{address_order-by_parts}
 use Rattle.tables.proofs.clients.ClientRowAddr.compare.Goals as goal
 
 pub returns : goal.returns
-returns c = c.cmp.ensures ∙ address_order-by_parts _ _ c.is_address.ensures c.is_address-2.ensures
+returns c = c.cmp.ensures ∙ address_order-by_parts _ _ c.law_is_address.ensures c.law_is_address-2.ensures

@@ -1,7 +1,7 @@
 use Rattle.std.proofs.Common.{sym, ◌∙◌, subst}
 use Rattle.tables.proofs.HeldRows.{on_made, on_refused, moved}
 use Rattle.tables.proofs.SlotChanges.{bind-beside, bound-at}
-use Rattle.tables.specs.RowLaws.{live_held}
+use Rattle.tables.specs.laws.Row.{live_held}
 use Rattle.tables.specs.Stored.{LeavesHeld, bind_held}
 use Rattle.tables.specs.WellFormed.{IsHeldAt}
 use Rattle.tables.proofs.held.Held.bind.Goals as goal

@@ -1,7 +1,7 @@
 use Rattle.tables.proofs.HeldRows.{moved}
 use Rattle.tables.proofs.SlotChanges.{bind-left, bound-at}
 use Rattle.tables.specs.WellFormed.{IsHeldAt}
-use Rattle.tables.specs.WellFormedLaws.{live-held_at}
+use Rattle.tables.specs.laws.WellFormed.{live-held_at}
 use Rattle.tables.proofs.held.Held.put_swept.Goals as goal
 
 pub returns-clause-follows : goal.returns-clause-follows

@@ -6,7 +6,7 @@ use Rattle.tables.specs.Rows.{Rows, held_at, slots_at}
 use Rattle.tables.specs.Search.{AreAscending, IsPlace, with_row}
 use Rattle.tables.specs.Stored.{stored_at, left_at, AreClients}
 use Rattle.tables.specs.WellFormed.{IsHeldAt, AreWellFormed}
-use Rattle.tables.specs.WellFormedLaws.{set-well_formed}
+use Rattle.tables.specs.laws.WellFormed.{set-well_formed}
 use Rattle.tables.specs.declared.clients.Client.{Client}
 use Rattle.tables.proofs.ClientRows.{by_client, searchable_by_client, swept_are, kept_shown, few-admitted, are-admitted, slots_at-admitted, swept-well_formed}
 use Rattle.tables.proofs.Searches.{place_inside, place_room}
@@ -20,7 +20,7 @@ place_of-place-requires c =
     let client = c.args.held.allocation.client in
     let slots = c.self.inside.slots.items in
     let clients = c.self.inside.clients.items in
-    let left = kept_shown t slots clients c.deref.result.now c.as_slice.result.now c.with_slots-clients.result.items c.with_slots-clients.ensures (c.deref.ensures.value ∙ c.sweep.ensures) c.as_slice.ensures.value in
+    let left = kept_shown (map (left_at t) slots) clients c.deref.result.now c.as_slice.result.now c.with_slots-clients.result.items c.with_slots-clients.ensures (c.deref.ensures.value ∙ c.sweep.ensures) c.as_slice.ensures.value in
     let swept = map (left_at t) slots in
     subst (AreAscending (by_client client)) (sym (c.as_slice-2.ensures.value ∙ left)) (searchable_by_client client swept (filter (λ row. is_some (stored_at swept row.slot)) clients) (swept_are t slots clients c.self.invariant.listed))
 
@@ -33,7 +33,7 @@ put_at-requires c =
     let clients = c.self.inside.clients.items in
     let within : slot < length slots = omega (arith, c.requires.inside, ap (λ (r : Rows). length r.slots) c.self.view_is, length-map slots (option_and_then (held_at c.self.inside.moment))) in
     let free = sym (held_in-stored c.self.inside.moment slots c.args.self.now c.self.view_is t c.requires.later slot) ∙ c.requires.free in
-    let left = kept_shown t slots clients c.deref.result.now c.as_slice.result.now c.with_slots-clients.result.items c.with_slots-clients.ensures (c.deref.ensures.value ∙ c.sweep.ensures) c.as_slice.ensures.value in
+    let left = kept_shown (map (left_at t) slots) clients c.deref.result.now c.as_slice.result.now c.with_slots-clients.result.items c.with_slots-clients.ensures (c.deref.ensures.value ∙ c.sweep.ensures) c.as_slice.ensures.value in
     let place = c.place_of-place.result in
     let at = subst (λ s. IsPlace (by_client client) s place) (c.as_slice-2.ensures.value ∙ left) c.place_of-place.ensures in
     let few = few-admitted t slots clients c.self.invariant.listed slot c.args.held within free in
@@ -50,7 +50,7 @@ invariant_of-self c =
     let clients = c.self.inside.clients.items in
     let within : slot < length slots = omega (arith, c.requires.inside, ap (λ (r : Rows). length r.slots) c.self.view_is, length-map slots (option_and_then (held_at c.self.inside.moment))) in
     let free = sym (held_in-stored c.self.inside.moment slots c.args.self.now c.self.view_is t c.requires.later slot) ∙ c.requires.free in
-    let left = kept_shown t slots clients c.deref.result.now c.as_slice.result.now c.with_slots-clients.result.items c.with_slots-clients.ensures (c.deref.ensures.value ∙ c.sweep.ensures) c.as_slice.ensures.value in
+    let left = kept_shown (map (left_at t) slots) clients c.deref.result.now c.as_slice.result.now c.with_slots-clients.result.items c.with_slots-clients.ensures (c.deref.ensures.value ∙ c.sweep.ensures) c.as_slice.ensures.value in
     let place = c.place_of-place.result in
     let at = subst (λ s. IsPlace (by_client client) s place) (c.as_slice-2.ensures.value ∙ left) c.place_of-place.ensures in
     let none = sym (held_by-stored c.self.inside.moment slots c.args.self.now c.self.view_is t c.requires.later client) ∙ c.requires.new_client in

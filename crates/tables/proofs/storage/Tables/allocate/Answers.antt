@@ -1,7 +1,7 @@
 use Rattle.std.proofs.Common.{refl, rules, ap, sym, ◌∙◌}
 use Rattle.std.specs.Result.{result_ok}
 use Rattle.tables.specs.Rows.{live_rows}
-use Rattle.tables.specs.WellFormedLaws.{of_ipv4}
+use Rattle.tables.specs.laws.WellFormed.{of_ipv4}
 use Rattle.tables.proofs.HeldRows.{allocated}
 use Rattle.tables.proofs.Slots.{free_slot}
 use Rattle.tables.proofs.storage.Tables.allocate.Goals as goal
@@ -13,7 +13,7 @@ pub returns-clause-follows : goal.returns-clause-follows
 returns-clause-follows c = search rules
 
 pub admit-requires-clause-held_at : goal.admit-requires-clause-held_at
-admit-requires-clause-held_at c = allocated c.in_ok-slot.slot _ c.new.result c.new-2.result c.new.ensures c.new-2.ensures refl (of_ipv4 c.args.client c.is_address.ensures c.requires.ipv4)
+admit-requires-clause-held_at c = allocated c.in_ok-slot.slot _ c.new.result c.new-2.result c.new.ensures c.new-2.ensures refl (of_ipv4 c.args.client c.law_is_address.ensures c.requires.ipv4)
 
 pub admit-requires-clause-free : goal.admit-requires-clause-free
 admit-requires-clause-free c = free_slot (live_rows c.moment_at-moment.result c.args.self.now) c.in_ok-slot.slot (sym c.first_free.ensures ∙ c.ok_or.ensures.ok_part ∙ ap result_ok c.in_ok-slot.was)

@@ -2,7 +2,7 @@ use Rattle.std.proofs.Common.{Some, option_and_then, ap, ◌∙◌, sym}
 use Rattle.std.specs.Option.{option_flatten}
 use Rattle.std.proofs.lemmas.Bool.{le-ltb}
 use Rattle.tables.specs.Rows.{held_at}
-use Rattle.tables.specs.RowLaws.{held_at-ended}
+use Rattle.tables.specs.laws.Row.{held_at-ended}
 use Rattle.tables.proofs.Slots.{held_in-stored, slot_shown}
 use Rattle.tables.proofs.storage.Tables.held.Goals as goal
 

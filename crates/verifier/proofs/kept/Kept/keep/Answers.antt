@@ -1,6 +1,6 @@
 use Rattle.std.proofs.Common.{◌≡◌, ◌<◌, List, Option, None, length, subst, sym, ap, ◌∙◌}
 use Rattle.std.specs.Prelude.{slice_index_or, slice_set}
-use Rattle.absstate.specs.StepLaws.Packing.{same_item}
+use Rattle.absstate.specs.laws.Step.Packing.{same_item}
 use Rattle.absstate.specs.declared.abstract_state.AbsState.{AbsState}
 use Rattle.verifier.specs.Keeping.{Keeps}
 use Rattle.verifier.proofs.Keeping.{kept_inside, keeps_here}

@@ -1,5 +1,0 @@
-use Rattle.attributes.proofs.Masks.{value_short}
-use Rattle.attributes.proofs.address.values_are_short.Goals as goal
-
-pub returns : goal.returns
-returns c = value_short

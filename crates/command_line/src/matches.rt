@@ -1,0 +1,219 @@
+//! The subcommand of a parsed command line, with the values of its arguments.
+
+ghost use Rattle.std.specs.Prelude.{◌≡◌, codes, IfOk, IfErr, IfSome, IfNone, IsSomeAnd, unwrap_or};
+ghost use Rattle.clap.specs.Words.{all_of, first_of, found_of, one_of, rows_of, subcommand_rows_of};
+ghost use Rattle.command_line.specs.Subcommands.{HaveValues, IsFirstFault, IsFlag, IsNoSubcommand, IsReadAs, IsSubcommand, IsValueFault, list_of, text_of, texts_in};
+
+use crate::defaults::{BUFFER, FIRST_PORT, LISTEN, NONCE, NONCE_LIFETIME, REALM, SLOTS};
+use crate::values::{ValueError, buffer, ip, ip6, number, octets6, port, seconds, slots};
+use crate::{Options, ServerOptions, Subcommand};
+use clap::ArgMatches;
+
+/// Returns the text of an argument, if it is given.
+fn text<'a>(matches: &'a ArgMatches<'_>, id: &str) -> Option<&'a str>
+    ensures { text_of result ≡ first_of id.now (rows_of (found_of matches.now)) }
+{
+    matches.get_str(id)
+}
+
+/// Returns the text of an argument, or `default` where it is not given.
+fn text_or<'a>(matches: &'a ArgMatches<'_>, id: &str, default: &'static str) -> &'a str
+    ensures { result.now ≡ unwrap_or (first_of id.now (rows_of (found_of matches.now))) default.entry.now }
+{
+    match text(matches, id) {
+        Some(text) => text,
+        None => default,
+    }
+}
+
+/// Returns the texts of an option that may be repeated, if it is given.
+fn texts<'a>(matches: &'a ArgMatches<'_>, id: &str) -> Option<&'a [&'a str]>
+    ensures { list_of result ≡ all_of id.now (rows_of (found_of matches.now)) }
+{
+    matches.get_strs(id)
+}
+
+/// Returns whether a flag is given.
+fn is_given(matches: &ArgMatches<'_>, id: &str) -> bool
+    ensures { IsFlag (one_of id.now (rows_of (found_of matches.now))) result }
+{
+    matches.get_flag(id)
+}
+
+/// Returns the subcommand `assemble` of its matches, or `None` where a file is missing.
+fn assemble_of<'a>(matches: &'a ArgMatches<'_>) -> Option<Subcommand<'a>>
+    ensures { IsReadAs (codes "assemble", rows_of (found_of matches.now)) result }
+{
+    let input = text(matches, "in")?;
+    let output = text(matches, "out")?;
+    Some(Subcommand::Assemble { input, output })
+}
+
+/// Returns the subcommand `order` of its matches, or `None` where a file is missing.
+fn order_of<'a>(matches: &'a ArgMatches<'_>) -> Option<Subcommand<'a>>
+    ensures { IsReadAs (codes "order", rows_of (found_of matches.now)) result }
+{
+    let input = text(matches, "in")?;
+    let output = text(matches, "out")?;
+    Some(Subcommand::Order { input, output })
+}
+
+/// Returns the subcommand `disassemble` of its matches, or `None` where the file is missing.
+fn disassemble_of<'a>(matches: &'a ArgMatches<'_>) -> Option<Subcommand<'a>>
+    ensures { IsReadAs (codes "disassemble", rows_of (found_of matches.now)) result }
+{
+    let file = text(matches, "file")?;
+    let slots = is_given(matches, "slots");
+    Some(Subcommand::Disassemble { file, slots })
+}
+
+/// Returns the subcommand `verify` of its matches, or `None` where the file is missing.
+fn verify_of<'a>(matches: &'a ArgMatches<'_>) -> Option<Subcommand<'a>>
+    ensures { IsReadAs (codes "verify", rows_of (found_of matches.now)) result }
+{
+    let file = text(matches, "file")?;
+    Some(Subcommand::Verify { file })
+}
+
+/// Returns the subcommand `trace` of its matches, or `None` where the file is missing.
+fn trace_of<'a>(matches: &'a ArgMatches<'_>) -> Option<Subcommand<'a>>
+    ensures { IsReadAs (codes "trace", rows_of (found_of matches.now)) result }
+{
+    let file = text(matches, "file")?;
+    let data = text(matches, "data");
+    Some(Subcommand::Trace { file, data })
+}
+
+/// Returns the subcommand `explain` of its matches, or `None` where the file is missing.
+///
+/// # Errors
+/// Where the slot is no number.
+fn explain_of<'a>(matches: &'a ArgMatches<'_>) -> Result<Option<Subcommand<'a>>, ValueError<'a>>
+    ensures value { IfOk result (IsReadAs (codes "explain", rows_of (found_of matches.now))) }
+    ensures refused { IfErr result (IsValueFault (codes "explain", rows_of (found_of matches.now))) }
+{
+    let Some(file) = text(matches, "file") else {
+        return Ok(None);
+    };
+    let slot = slots("--slot <N>", text(matches, "slot"))?;
+    Ok(Some(Subcommand::Explain { file, slot }))
+}
+
+/// Returns the options that set up a relay, of the matches of a subcommand.
+///
+/// # Errors
+/// The first text that spells no value of its option.
+fn options_of<'a>(matches: &'a ArgMatches<'_>) -> Result<Options<'a>, ValueError<'a>>
+    ensures value { IfOk result (HaveValues (texts_in (rows_of (found_of matches.now)))) }
+    ensures refused { IfErr result (IsFirstFault (texts_in (rows_of (found_of matches.now)))) }
+{
+    let relay_ip6 = octets6("--relay-ip6 <HEX>", text(matches, "relay-ip6"))?;
+    let slots = slots("--slots <N>", text(matches, "slots"))?;
+    let relay_ip = ip("--relay-ip <A>", text(matches, "relay-ip"))?;
+    let first_port = port("--first-port <P>", text(matches, "first-port"))?;
+    Ok(Options {
+        realm: text_or(matches, "realm", REALM),
+        users: texts(matches, "user"),
+        users_file: text(matches, "users"),
+        slots: slots.unwrap_or(SLOTS),
+        relay_ip,
+        relay_ip6,
+        first_port: first_port.unwrap_or(FIRST_PORT),
+        client: text(matches, "client"),
+        peer: text(matches, "peer"),
+    })
+}
+
+/// Returns the subcommand `replay` of its matches, or `None` where the file of events is missing.
+///
+/// # Errors
+/// The first text that spells no value of its option.
+fn replay_of<'a>(matches: &'a ArgMatches<'_>) -> Result<Option<Subcommand<'a>>, ValueError<'a>>
+    ensures value { IfOk result (IsReadAs (codes "replay", rows_of (found_of matches.now))) }
+    ensures refused { IfErr result (IsValueFault (codes "replay", rows_of (found_of matches.now))) }
+{
+    let Some(events) = text(matches, "events") else {
+        return Ok(None);
+    };
+    let options = options_of(matches)?;
+    let nonce = text_or(matches, "nonce", NONCE);
+    Ok(Some(Subcommand::Replay {
+        events,
+        nonce,
+        options,
+    }))
+}
+
+/// Returns the subcommand `serve` of its matches, or `None` where the port is missing.
+///
+/// # Errors
+/// The first text that spells no value of its option.
+fn serve_of<'a>(matches: &'a ArgMatches<'_>) -> Result<Option<Subcommand<'a>>, ValueError<'a>>
+    ensures value { IfOk result (IsReadAs (codes "serve", rows_of (found_of matches.now))) }
+    ensures refused { IfErr result (IsValueFault (codes "serve", rows_of (found_of matches.now))) }
+{
+    let Some(port) = port("--port <P>", text(matches, "port"))? else {
+        return Ok(None);
+    };
+    let rounds = number("--rounds <N>", text(matches, "rounds"))?;
+    let listen = ip("--listen <A>", text(matches, "listen"))?;
+    let listen6 = ip6("--listen6 <A>", text(matches, "listen6"))?;
+    let buffer = buffer("--buffer <BYTES>", text(matches, "buffer"))?;
+    let nonce_lifetime = seconds("--nonce-lifetime <S>", text(matches, "nonce-lifetime"))?;
+    let stats = seconds("--stats <S>", text(matches, "stats"))?;
+    let options = options_of(matches)?;
+    let server = ServerOptions {
+        port,
+        rounds,
+        listen: listen.unwrap_or(LISTEN),
+        listen6,
+        buffer: buffer.unwrap_or(BUFFER),
+        reuse_port: is_given(matches, "reuse-port"),
+        deny: texts(matches, "deny"),
+        allow: texts(matches, "allow"),
+        nonce_lifetime: nonce_lifetime.unwrap_or(NONCE_LIFETIME),
+        stats,
+    };
+    Ok(Some(Subcommand::Serve { server, options }))
+}
+
+/// Returns the subcommand of this name, of its matches, or `None` where relayd has none of the name, or an argument is missing.
+fn named<'a>(
+    name: &str,
+    matches: &'a ArgMatches<'_>,
+) -> Result<Option<Subcommand<'a>>, ValueError<'a>>
+    ensures value { IfOk result (IsReadAs (name.now, rows_of (found_of matches.now))) }
+    ensures refused { IfErr result (IsValueFault (name.now, rows_of (found_of matches.now))) }
+{
+    match name {
+        "assemble" => Ok(assemble_of(matches)),
+        "order" => Ok(order_of(matches)),
+        "disassemble" => Ok(disassemble_of(matches)),
+        "verify" => Ok(verify_of(matches)),
+        "explain" => explain_of(matches),
+        "trace" => Ok(trace_of(matches)),
+        "replay" => replay_of(matches),
+        "serve" => serve_of(matches),
+        _ => Ok(None),
+    }
+}
+
+/// Returns the subcommand of a parsed command line, or `None` where the matches are not those of a
+/// subcommand of relayd.
+///
+/// # Errors
+/// The first text that spells no value of its option, in this order: those of `--port`, `--rounds`, `--listen`, `--listen6`,
+/// `--buffer`, `--nonce-lifetime` and `--stats`; then those of `--relay-ip6`, `--slots`, `--relay-ip` and `--first-port`.
+/// See docs/DECISIONS.md, "Numbers of options".
+pub fn subcommand_of<'a>(
+    matches: &'a ArgMatches<'_>,
+) -> Result<Option<Subcommand<'a>>, ValueError<'a>>
+    ensures found { IfOk result (λ o. IfSome o (λ s. IsSomeAnd (subcommand_rows_of matches.now) (λ p. IsSubcommand p s))) }
+    ensures none { IfOk result (λ o. IfNone o (IfSome (subcommand_rows_of matches.now) IsNoSubcommand)) }
+    ensures refused { IfErr result (λ e. IsSomeAnd (subcommand_rows_of matches.now) (λ p. IsValueFault p e)) }
+{
+    match matches.subcommand() {
+        Some((name, matches)) => named(name, matches),
+        None => Ok(None),
+    }
+}

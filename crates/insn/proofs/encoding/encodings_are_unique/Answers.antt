@@ -1,5 +1,0 @@
-use Rattle.insn.proofs.Programs.{encodings-injective}
-use Rattle.insn.proofs.encoding.encodings_are_unique.Goals as goal
-
-pub returns : goal.returns
-returns c = encodings-injective

@@ -1,5 +1,0 @@
-use Rattle.std.proofs.Common.{rules}
-use Rattle.insn.proofs.refusal.SlotFault.at.Goals as goal
-
-pub returns-in-WideCut : goal.returns-in-WideCut
-returns-in-WideCut c = search rules

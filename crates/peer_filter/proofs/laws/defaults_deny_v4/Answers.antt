@@ -1,5 +1,0 @@
-use Rattle.peer_filter.proofs.DefaultRules.{defaults_v4}
-use Rattle.peer_filter.proofs.laws.defaults_deny_v4.Goals as goal
-
-pub returns : goal.returns
-returns c = defaults_v4

@@ -1,8 +1,0 @@
-use Rattle.programs.proofs.PlainSendLaws.{passes_tests, is_plain}
-use Rattle.programs.proofs.laws.client_tests_plain_sends.Goals as goal
-
-pub returns-clause-only : goal.returns-clause-only
-returns-clause-only c = passes_tests c.message_in_has_the_parts.ensures.found c.message_in_has_the_parts.ensures.every
-
-pub returns-clause-every : goal.returns-clause-every
-returns-clause-every c = is_plain c.message_in_has_the_parts.ensures.found c.message_in_has_the_parts.ensures.every

@@ -1,0 +1,229 @@
+//! What a step says of its datagram. The rows are worked by hand.
+
+use crate::story::{STORY, config};
+use attributes::Family;
+use control::{Grant, Response};
+use credentials::AuthError;
+use events::{Parsed, parse};
+use loader::{Loaded, load};
+use programs::{CLIENT, PEER};
+use relay::{Discard, Disposition, Relay};
+use std::alloc::Global;
+use std::process::Abort;
+use std::test::Fail;
+use stun::registry::ErrorCode;
+
+/// How many slots the relays have.
+const SLOTS: usize = 2;
+
+/// `mov r0, 1` and `exit`: every datagram is passed on.
+const PASSES_ALL: [u8; 16] = [
+    0xb7, 0x00, 0x00, 0x00, 0x01, 0x00, 0x00, 0x00, 0x95, 0x00, 0x00, 0x00, 0x00, 0x00, 0x00, 0x00,
+];
+
+/// The allocation of slot 0, for 600 seconds.
+const ALLOCATED: Disposition = Disposition::Answered(Response::Granted(Grant::Allocated {
+    family: Family::Ipv4,
+    slot: 0,
+    lifetime: 600,
+}));
+
+/// A channel is bound.
+const BOUND: Disposition = Disposition::Answered(Response::Granted(Grant::Done));
+
+const BY_PROGRAM: Disposition = Disposition::Discarded(Discard::ByProgram);
+
+const NO_ALLOCATION: Disposition = Disposition::Discarded(Discard::NoAllocation);
+
+const UNKNOWN_ATTRIBUTE: Disposition = Disposition::Discarded(Discard::UnknownAttribute);
+
+const INCOMPLETE: Disposition = Disposition::Discarded(Discard::Incomplete);
+
+const MALFORMED: Disposition = Disposition::Discarded(Discard::Malformed);
+
+const NO_REQUEST: Disposition = Disposition::Discarded(Discard::NoRequest);
+
+/// What is said of each event of the story.
+const OF_STORY: [Disposition; 23] = [
+    Disposition::Answered(Response::Unauthenticated(AuthError::Missing)),
+    Disposition::Answered(Response::Granted(Grant::Mapped)),
+    Disposition::Answered(Response::Refused(ErrorCode::UnknownAttribute)),
+    ALLOCATED,
+    BOUND,
+    Disposition::Relayed,
+    BY_PROGRAM,
+    Disposition::Relayed,
+    BY_PROGRAM,
+    BY_PROGRAM,
+    Disposition::Relayed,
+    Disposition::Relayed,
+    Disposition::Relayed,
+    Disposition::Answered(Response::Refused(ErrorCode::BadRequest)),
+    Disposition::Relayed,
+    Disposition::Relayed,
+    Disposition::Relayed,
+    UNKNOWN_ATTRIBUTE,
+    Disposition::Relayed,
+    BY_PROGRAM,
+    BY_PROGRAM,
+    Disposition::Relayed,
+    BY_PROGRAM,
+];
+
+/// Further datagrams over an allocation with a channel, with what is said of each: the first test that fails decides.
+const FURTHER: [(&str, Disposition); 17] = [
+    // a Send indication with an attribute that is ignored, to a peer without a permission
+    (
+        "c 1000 000000000000000000000000 198.51.100.2:4000 001600182112a442000000000000000000000000001200080001329ae112a64a001300036162630080010000",
+        Disposition::Discarded(Discard::NoPermission),
+    ),
+    // the same of a client without an allocation, and with an attribute that isn't understood besides
+    (
+        "c 1000 000000000000000000000000 198.51.100.3:4000 001600182112a442000000000000000000000000001200080001329ae112a64a001300036162630080010000",
+        NO_ALLOCATION,
+    ),
+    (
+        "c 1000 000000000000000000000000 198.51.100.3:4000 001600182112a442000000000000000000000000001a0000001200080001329ae112a64a0013000361626300",
+        NO_ALLOCATION,
+    ),
+    // an attribute that isn't understood, to a peer without a permission, and without data
+    (
+        "c 1000 000000000000000000000000 198.51.100.2:4000 001600182112a442000000000000000000000000001a0000001200080001329ae112a64a0013000361626300",
+        UNKNOWN_ATTRIBUTE,
+    ),
+    (
+        "c 1000 000000000000000000000000 198.51.100.2:4000 001600102112a442000000000000000000000000001a0000001200080001329ae112a64a",
+        UNKNOWN_ATTRIBUTE,
+    ),
+    // no data, to a peer without a permission; no address; an address of another length
+    (
+        "c 1000 000000000000000000000000 198.51.100.2:4000 0016000c2112a442000000000000000000000000001200080001329ae112a64a",
+        INCOMPLETE,
+    ),
+    (
+        "c 1000 000000000000000000000000 198.51.100.2:4000 001600082112a4420000000000000000000000000013000361626300",
+        INCOMPLETE,
+    ),
+    (
+        "c 1000 000000000000000000000000 198.51.100.2:4000 001600102112a442000000000000000000000000001200040001329a0013000361626300",
+        INCOMPLETE,
+    ),
+    // no whole message; an indication and a response of the method Binding
+    (
+        "c 1000 000000000000000000000000 198.51.100.2:4000 00010000",
+        MALFORMED,
+    ),
+    (
+        "c 1000 000000000000000000000000 198.51.100.2:4000 001100002112a442000000000000000000000000",
+        NO_REQUEST,
+    ),
+    (
+        "c 1000 000000000000000000000000 198.51.100.2:4000 010100002112a442000000000000000000000000",
+        NO_REQUEST,
+    ),
+    // a client over IPv6
+    (
+        "c 1000 000000000000000000000000 [20010db8000000000000000000000001]:4000 000100002112a442000000000000000000000000",
+        Disposition::Discarded(Discard::NotServed),
+    ),
+    // what the programs discard: a client without an allocation, other bytes, none, and a peer of a slot without one
+    (
+        "c 1000 000000000000000000000000 198.51.100.3:4000 4001000361626300",
+        BY_PROGRAM,
+    ),
+    (
+        "c 1000 000000000000000000000000 198.51.100.2:4000 ff",
+        BY_PROGRAM,
+    ),
+    (
+        "c 1000 000000000000000000000000 198.51.100.2:4000 -",
+        BY_PROGRAM,
+    ),
+    (
+        "p 1000 000000000000000000000000 1 192.0.2.7:5000 616263",
+        BY_PROGRAM,
+    ),
+    // a name that no user has
+    (
+        "c 1000 000000000000000000000000 198.51.100.2:4000 000300342112a44200000000000000000000000000060001760000000014000572656c6179000000001500026e310000000800140000000000000000000000000000000000000000",
+        Disposition::Answered(Response::Unauthenticated(AuthError::UnknownUser)),
+    ),
+];
+
+/// What the rules say of ChannelData, where a program passes it on: before the allocation, and after it.
+const PASSED_BEFORE: [(&str, Disposition); 2] = [
+    (
+        "c 1000 000000000000000000000000 198.51.100.2:4000 4001000361626300",
+        NO_ALLOCATION,
+    ),
+    (
+        "c 1000 000000000000000000000000 198.51.100.2:4000 ff",
+        NO_ALLOCATION,
+    ),
+];
+
+const PASSED_AFTER: [(&str, Disposition); 5] = [
+    (
+        "c 1000 000000000000000000000000 198.51.100.2:4000 4001000361626300",
+        Disposition::Relayed,
+    ),
+    (
+        "c 1000 000000000000000000000000 198.51.100.2:4000 4002000361626300",
+        Disposition::Discarded(Discard::NoChannel),
+    ),
+    (
+        "c 1000 000000000000000000000000 198.51.100.2:4000 4001000561626300",
+        MALFORMED,
+    ),
+    (
+        "c 1000 000000000000000000000000 198.51.100.2:4000 ff",
+        MALFORMED,
+    ),
+    (
+        "p 1000 000000000000000000000000 0 192.0.2.7:5000 616263",
+        BY_PROGRAM,
+    ),
+];
+
+/// Compares what a relay says of the datagram of an event, a line.
+fn check(rt: &impl Abort, relay: &mut Relay, event: &str, wanted: Disposition) -> Result<(), Fail> {
+    let Some(Parsed::Datagram { meta, n }) = parse(event.as_bytes(), SLOTS, relay.area()) else {
+        return Err(Fail::new("no datagram"));
+    };
+    let found = relay.step(meta, n).disposition;
+    assert_eq!(rt; found, wanted, "{event}");
+    Ok(())
+}
+
+/// Compares what a relay says of some events.
+fn check_all(rt: &impl Abort, relay: &mut Relay, rows: &[(&str, Disposition)]) -> Result<(), Fail> {
+    for &(event, wanted) in rows {
+        check(rt, relay, event, wanted)?;
+    }
+    Ok(())
+}
+
+/// Makes a relay of two programs.
+fn relay_of(alloc: Global, client: Loaded, peer: Loaded) -> Result<Relay, Fail> {
+    let relay = Relay::new(alloc, config(alloc)?, client, peer)?;
+    Ok(relay)
+}
+
+#[test]
+fn each_step_says_what_it_did(rt: HostRuntime) -> Result<(), Fail> {
+    let alloc = rt.alloc();
+    let mut relay = relay_of(alloc, load(alloc, CLIENT)?, load(alloc, PEER)?)?;
+    for (&(event, _), wanted) in STORY.iter().zip(OF_STORY) {
+        check(&rt, &mut relay, event, wanted)?;
+    }
+    let mut relay = relay_of(alloc, load(alloc, CLIENT)?, load(alloc, PEER)?)?;
+    check(&rt, &mut relay, STORY[3].0, ALLOCATED)?;
+    check(&rt, &mut relay, STORY[4].0, BOUND)?;
+    check_all(&rt, &mut relay, &FURTHER)?;
+    let passes = load(alloc, &PASSES_ALL)?;
+    let mut relay = relay_of(alloc, passes, load(alloc, &PASSES_ALL)?)?;
+    check_all(&rt, &mut relay, &PASSED_BEFORE)?;
+    check(&rt, &mut relay, STORY[3].0, ALLOCATED)?;
+    check(&rt, &mut relay, STORY[4].0, BOUND)?;
+    check_all(&rt, &mut relay, &PASSED_AFTER)
+}

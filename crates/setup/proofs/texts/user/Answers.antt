@@ -1,6 +1,0 @@
-use Rattle.std.proofs.Common.{rules}
-use Rattle.setup.proofs.NoValues.{no_colon}
-use Rattle.setup.proofs.texts.user.Goals as goal
-
-pub returns-in_default : goal.returns-in_default
-returns-in_default c = no_colon c.args.text.now (search rules)

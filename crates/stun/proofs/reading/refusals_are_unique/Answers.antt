@@ -1,5 +1,0 @@
-use Rattle.stun.proofs.Datagrams.{refusal_unique}
-use Rattle.stun.proofs.reading.refusals_are_unique.Goals as goal
-
-pub returns : goal.returns
-returns c = refusal_unique

@@ -1,5 +1,0 @@
-use Rattle.stun.proofs.Datagrams.{refused_is_no_message}
-use Rattle.stun.proofs.reading.refused_is_no_message.Goals as goal
-
-pub returns : goal.returns
-returns c = refused_is_no_message
