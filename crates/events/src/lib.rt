@@ -3,12 +3,14 @@
 #![tactic(auto)]
 
 mod action;
+mod event;
 mod fronts;
 mod meta;
 mod parsing;
 mod writing;
 
 pub use action::Action;
+pub use event::Event;
 pub use meta::{Meta, Source};
 pub use parsing::{Parsed, parse};
-pub use writing::write_answer;
+pub use writing::{write_answer, write_event};

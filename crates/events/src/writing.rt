@@ -1,15 +1,18 @@
-//! Writes the lines of answers.
+//! Writes the lines of events and of answers.
 
 ghost use Rattle.std.specs.Prelude.{◌≡◌, ◌≤◌, ◌++◌, ◌∷◌, [], false, is_err, length, OnOk, OnErr};
 ghost use Rattle.std.specs.Io.KnownBytes.{Appends};
 ghost use Rattle.hex.specs.Hex.{encode_lower};
 ghost use Rattle.streams.specs.Outputs.{AppendsBeginning};
 ghost use Rattle.events.specs.Actions.{sending_of};
-ghost use Rattle.events.specs.Lines.{bytes_text, answer_line};
+ghost use Rattle.events.specs.Fields.{field_text};
+ghost use Rattle.events.specs.LentEvents.{as_event};
+ghost use Rattle.events.specs.Lines.{bytes_text, line_of, answer_line};
 ghost use Rattle.events.specs.declared.writing.TheConstants.{CHUNK};
 
 use crate::action::Action;
-use crate::fronts::{client_front, peer_front};
+use crate::event::Event;
+use crate::fronts::{client_front, datagram_front, peer_front};
 use std::io::Write;
 use streams::{Failed, Output};
 
@@ -48,17 +51,43 @@ fn write_bytes<W: Write>(output: &mut Output<W>, bytes: &[u8]) -> Result<(), Fai
     Ok(())
 }
 
-/// Writes a line: what precedes its bytes, the bytes, and a line feed.
-fn write_line<W: Write>(output: &mut Output<W>, front: &[u8], bytes: &[u8]) -> Result<(), Failed>
+/// The last field of a line.
+#[derive(Clone, Copy)]
+enum Field<'a> {
+    /// Bytes, which are written as hexadecimal digits; no bytes as a hyphen.
+    Digits(&'a [u8]),
+    /// A text, which is written as it is.
+    Text(&'a str),
+}
+
+/// Writes the last field of a line.
+fn write_field<W: Write>(output: &mut Output<W>, field: Field<'_>) -> Result<(), Failed>
+    requires { output.old.failed ≡ false }
+    ensures ok { OnOk result (Appends output.old.contents output.new.contents (field_text field.entry)) }
+    ensures err { OnErr result (AppendsBeginning output.old.contents output.new.contents (field_text field.entry)) }
+    ensures failed { output.new.failed ≡ is_err result }
+{
+    match field {
+        Field::Digits(bytes) => write_bytes(output, bytes),
+        Field::Text(text) => output.write_all(text.as_bytes()),
+    }
+}
+
+/// Writes a line: what precedes its last field, that field, and a line feed.
+fn write_line<W: Write>(
+    output: &mut Output<W>,
+    front: &[u8],
+    field: Field<'_>,
+) -> Result<(), Failed>
     requires { output.old.failed ≡ false }
     ensures ok { OnOk result (Appends output.old.contents output.new.contents
-        (front.now ++ bytes_text bytes.now ++ 10 ∷ [])) }
+        (front.now ++ field_text field.entry ++ 10 ∷ [])) }
     ensures err { OnErr result (AppendsBeginning output.old.contents output.new.contents
-        (front.now ++ bytes_text bytes.now ++ 10 ∷ [])) }
+        (front.now ++ field_text field.entry ++ 10 ∷ [])) }
     ensures failed { output.new.failed ≡ is_err result }
 {
     output.write_all(front)?;
-    write_bytes(output, bytes)?;
+    write_field(output, field)?;
     output.write_all(b"\n")
 }
 
@@ -77,10 +106,43 @@ pub fn write_answer<W: Write>(output: &mut Output<W>, action: &Action<'_>) -> Re
     match action {
         Action::Nothing => output.write_all(b"-\n"),
         Action::ToPeer { slot, peer, bytes } => {
-            write_line(output, peer_front(*slot, peer).as_slice(), bytes)
+            write_line(
+                output,
+                peer_front(*slot, peer).as_slice(),
+                Field::Digits(bytes),
+            )
         }
         Action::ToClient { client, bytes } => {
-            write_line(output, client_front(client).as_slice(), bytes)
+            write_line(
+                output,
+                client_front(client).as_slice(),
+                Field::Digits(bytes),
+            )
         }
+    }
+}
+
+/// Writes the line of what comes to a relay, with its line feed. [`parse`](crate::parse) reads it as that event, if a relay
+/// can have it.
+///
+/// # Errors
+/// Where the output fails; a beginning of the line was written.
+pub fn write_event<W: Write>(output: &mut Output<W>, event: &Event<'_>) -> Result<(), Failed>
+    requires { output.old.failed ≡ false }
+    ensures ok { OnOk result (Appends output.old.contents output.new.contents
+        (line_of (as_event event.now) ++ 10 ∷ [])) }
+    ensures err { OnErr result (AppendsBeginning output.old.contents output.new.contents
+        (line_of (as_event event.now) ++ 10 ∷ [])) }
+    ensures failed { output.new.failed ≡ is_err result }
+{
+    match event {
+        Event::Datagram { meta, bytes } => {
+            write_line(
+                output,
+                datagram_front(meta).as_slice(),
+                Field::Digits(bytes),
+            )
+        }
+        Event::Nonce(text) => write_line(output, b"n ", Field::Text(text)),
     }
 }
