@@ -80,7 +80,7 @@ replay_command = with_rule (with_options (with_rule (new_app (codes "replay")) e
 abbrev pub port_option : Rule
 port_option = record (option (codes "port")) { required = true }
 
--- the command with the options of sockets, with those of the peers that are sent to, and with those of time
+-- the command with the options of sockets, with those of the peers that are sent to, with those of time, and with that of the record
 abbrev pub with_sockets : App → App
 with_sockets app = with_rule (with_rule (with_rule (with_rule app (option (codes "listen"))) (option (codes "listen6"))) (option (codes "buffer")))
     (flag (codes "reuse-port"))
@@ -91,9 +91,12 @@ with_filter app = with_rule (with_rule app (repeated_option (codes "deny"))) (re
 abbrev pub with_times : App → App
 with_times app = with_rule (with_rule (with_rule app (option (codes "rounds"))) (option (codes "nonce-lifetime"))) (option (codes "stats"))
 
+abbrev pub with_record : App → App
+with_record app = with_rule app (option (codes "record"))
+
 -- serve --port P, with the options of a server, and those that set up a relay
 abbrev pub serve_command : App
-serve_command = with_options (with_times (with_filter (with_sockets (with_rule (new_app (codes "serve")) port_option))))
+serve_command = with_options (with_record (with_times (with_filter (with_sockets (with_rule (new_app (codes "serve")) port_option)))))
 
 -- relayd COMMAND, of which COMMAND is required: with no word after the name, the answer is the help. It has a version
 abbrev pub bare_command : App

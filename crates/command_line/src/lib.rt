@@ -8,7 +8,7 @@ mod values;
 
 ghost use Rattle.std.specs.Prelude.{◌≡◌, true, false, map, IfOk};
 ghost use Rattle.clap.specs.Words.{FailsBy, has_subcommand, rule_of, subcommand_rows_of};
-ghost use Rattle.command_line.specs.Commands.{HasAdded, HasShape, assemble_command, bare_command, disassemble_command, events_argument, explain_command, faults_of, file_argument, flag, input_argument, option, order_command, output_argument, port_option, program_command, relayd_command, repeated_option, replay_command, serve_command, subcommand_in, text_command, trace_command, verify_command, with_addresses, with_filter, with_options, with_programs, with_sockets, with_times, with_users};
+ghost use Rattle.command_line.specs.Commands.{HasAdded, HasShape, assemble_command, bare_command, disassemble_command, events_argument, explain_command, faults_of, file_argument, flag, input_argument, option, order_command, output_argument, port_option, program_command, relayd_command, repeated_option, replay_command, serve_command, subcommand_in, text_command, trace_command, verify_command, with_addresses, with_filter, with_options, with_programs, with_record, with_sockets, with_times, with_users};
 ghost use Rattle.command_line.specs.Lines.{IsLineOf, IsParsedAs};
 ghost use Rattle.command_line.specs.declared.Subcommand.{Subcommand};
 
@@ -76,6 +76,8 @@ pub struct ServerOptions<'a> {
     pub nonce_lifetime: u64,
     /// The seconds between two lines of counters, at least 1; `None` is to print none.
     pub stats: Option<u64>,
+    /// The file that is made of the server's events; `None` is to record none.
+    pub record: Option<&'a str>,
 }
 
 /// A subcommand of relayd, with the values of its arguments.
@@ -469,6 +471,18 @@ fn with_times<'a>(alloc: Global, command: Command<'a>) -> Result<Command<'a>, Al
         ))
 }
 
+/// Adds the option of the record.
+fn with_record<'a>(alloc: Global, command: Command<'a>) -> Result<Command<'a>, AllocError>
+    ensures { IfOk result (HasAdded with_record command.entry) }
+{
+    command.arg(option(
+        alloc,
+        "record",
+        "FILE",
+        "Write each event to a new file, as replay reads it: what users send is in it",
+    ))
+}
+
 /// Returns the subcommand `serve`.
 fn serve<'a>(alloc: Global) -> Result<Command<'a>, AllocError>
     ensures { IfOk result (HasShape serve_command) }
@@ -481,6 +495,7 @@ fn serve<'a>(alloc: Global) -> Result<Command<'a>, AllocError>
     let command = with_sockets(alloc, command)?;
     let command = with_filter(alloc, command)?;
     let command = with_times(alloc, command)?;
+    let command = with_record(alloc, command)?;
     with_options(alloc, command)
 }
 
