@@ -7,4 +7,4 @@ mod serving;
 
 pub use link::{Endpoint, Link, LinkError};
 pub use nonce::draw_nonce;
-pub use serving::{ServeError, serve_once};
+pub use serving::{ServeError, serve_once, source_at};

@@ -25,7 +25,7 @@ pub enum ServeError {
 }
 
 /// Returns the source of what comes from an address at an endpoint.
-fn source_at(endpoint: Endpoint, address: Addr) -> Source
+pub fn source_at(endpoint: Endpoint, address: Addr) -> Source
     ensures { result ≡ source_at endpoint address }
 {
     match endpoint {
