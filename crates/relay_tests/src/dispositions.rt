@@ -4,13 +4,14 @@ use crate::story::{STORY, config};
 use attributes::Family;
 use control::{Grant, Response};
 use credentials::AuthError;
-use events::{Parsed, parse};
+use events::{Event, Parsed, parse, write_event};
 use loader::{Loaded, load};
 use programs::{CLIENT, PEER};
 use relay::{Discard, Disposition, Relay};
 use std::alloc::Global;
 use std::process::Abort;
 use std::test::Fail;
+use streams::Output;
 use stun::registry::ErrorCode;
 
 /// How many slots the relays have.
@@ -185,18 +186,39 @@ const PASSED_AFTER: [(&str, Disposition); 5] = [
     ),
 ];
 
-/// Compares what a relay says of the datagram of an event, a line.
-fn check(rt: &impl Abort, relay: &mut Relay, event: &str, wanted: Disposition) -> Result<(), Fail> {
+/// Returns the line of an event, with its line feed.
+fn line_of(alloc: Global, event: &Event<'_>) -> Result<Vec<u8>, Fail> {
+    let mut output = Output::new(Vec::new(alloc));
+    match write_event(&mut output, event) {
+        Ok(()) => Ok(output.into_inner()),
+        Err(_) => Err(Fail::new("no line")),
+    }
+}
+
+/// Compares what a relay says of the datagram of an event, a line, and the line that is written of it.
+fn check(
+    rt: &(impl Abort + AllocGlobal),
+    relay: &mut Relay,
+    event: &str,
+    wanted: Disposition,
+) -> Result<(), Fail> {
     let Some(Parsed::Datagram { meta, n }) = parse(event.as_bytes(), SLOTS, relay.area()) else {
         return Err(Fail::new("no datagram"));
     };
+    let bytes = &relay.area()[..n];
+    let line = line_of(rt.alloc(), &Event::Datagram { meta, bytes })?;
+    assert_eq!(rt; line.strip_suffix(b"\n".as_slice()), Some(event.as_bytes()));
     let found = relay.step(meta, n).disposition;
     assert_eq!(rt; found, wanted, "{event}");
     Ok(())
 }
 
 /// Compares what a relay says of some events.
-fn check_all(rt: &impl Abort, relay: &mut Relay, rows: &[(&str, Disposition)]) -> Result<(), Fail> {
+fn check_all(
+    rt: &(impl Abort + AllocGlobal),
+    relay: &mut Relay,
+    rows: &[(&str, Disposition)],
+) -> Result<(), Fail> {
     for &(event, wanted) in rows {
         check(rt, relay, event, wanted)?;
     }
