@@ -10,6 +10,7 @@ mod explanations;
 mod files;
 mod filters;
 mod options;
+mod recording;
 mod replacing;
 mod replacing_users;
 mod replay_command;
@@ -27,6 +28,7 @@ use command_line::{Subcommand, ValueError, line, subcommand_of};
 use ordering::{FileError, order_file};
 use report::{Ask, ReportError, fail, report};
 use std::alloc::AllocError;
+use std::fs::File;
 use std::io::{self, BufWriter, Read, Write};
 use std::net::Net;
 use std::process::ExitCode;
@@ -203,11 +205,10 @@ fn report_value<E: Write>(err: &mut E, error: ValueError<'_>) -> u8 {
 }
 
 /// Runs the subcommand of a parsed command line and returns the exit status.
-fn run_subcommand<R: Files + Input + Print + Net + Clock + RandomSource + AllocGlobal, E: Write>(
-    rt: &R,
-    err: &mut E,
-    matches: &ArgMatches<'_>,
-) -> u8 {
+fn run_subcommand<
+    R: Files<File = File> + Input + Print + Net + Clock + RandomSource + AllocGlobal,
+    E: Write,
+>(rt: &R, err: &mut E, matches: &ArgMatches<'_>) -> u8 {
     let subcommand = match subcommand_of(matches) {
         Ok(Some(subcommand)) => subcommand,
         Ok(None) => return BAD_LINE,
@@ -233,7 +234,7 @@ fn run_subcommand<R: Files + Input + Print + Net + Clock + RandomSource + AllocG
 
 /// Runs the command line of the process and returns the exit status.
 fn run<
-    R: Env + Files + Input + Print + Eprint + Net + Clock + RandomSource + AllocGlobal,
+    R: Env + Files<File = File> + Input + Print + Eprint + Net + Clock + RandomSource + AllocGlobal,
     E: Write,
 >(rt: &R, err: &mut E) -> u8 {
     let words: Result<Vec<String>, AllocError> = match env::args(rt) {

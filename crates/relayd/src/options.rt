@@ -1,5 +1,6 @@
 //! Options that set up a relay, and why a command that takes them ends early.
 
+use crate::recording::RecordErrorKind;
 use crate::sockets::BindErrorKind;
 use command_line::{Options, RelayedError, ValueError};
 use credentials::User;
@@ -59,6 +60,9 @@ pub(crate) enum CommandError<'a> {
     /// A socket can't be bound to this address.
     #[error("cannot bind {0}\n{1}")]
     Bind(SocketAddr, BindErrorKind),
+    /// The file of a record can't be made.
+    #[error("cannot record to {0}\n{1}")]
+    Record(&'a str, RecordErrorKind),
     /// The system doesn't say which sockets are ready.
     #[error("cannot wait for sockets")]
     Wait,
@@ -88,7 +92,8 @@ impl CommandError<'_> {
             CommandError::Value(_) | CommandError::Network { .. } | CommandError::Filter(_) => 2,
             CommandError::NoUsers | CommandError::Relayed(_) => 2,
             CommandError::File(_) | CommandError::Output => 3,
-            CommandError::Bind(..) | CommandError::Wait | CommandError::Random => 3,
+            CommandError::Bind(..) | CommandError::Record(..) => 3,
+            CommandError::Wait | CommandError::Random => 3,
             CommandError::Memory => 4,
         }
     }

@@ -241,15 +241,18 @@ impl<'a> Sides<'a> {
     }
 
     /// Goes on verifying by a slice of each program. Where all are verified, those that are loaded replace the ones that run;
-    /// a program that is refused leaves the one that runs.
+    /// a program that is refused leaves the one that runs. Returns whether one was replaced.
     /// See docs/DECISIONS.md, "Verification in slices".
-    pub(crate) fn advance<E: Write>(&mut self, relay: &mut Relay, err: &mut E) {
+    pub(crate) fn advance<E: Write>(&mut self, relay: &mut Relay, err: &mut E) -> bool {
         self.client.advance(err);
         self.peer.advance(err);
-        if !self.client.next.is_verifying() && !self.peer.next.is_verifying() {
-            let client = self.client.take(err);
-            let peer = self.peer.take(err);
-            relay.set_programs(client, peer);
+        if self.client.next.is_verifying() || self.peer.next.is_verifying() {
+            return false;
         }
+        let client = self.client.take(err);
+        let peer = self.peer.take(err);
+        let is_replaced = client.is_some() || peer.is_some();
+        relay.set_programs(client, peer);
+        is_replaced
     }
 }

@@ -121,32 +121,33 @@ impl<'a> UserList<'a> {
 
     /// Reads the file again. Where its bytes are others than those whose users are set and those that were last refused, its
     /// users, after those of `--user`, replace the relay's, or are refused as a whole. Either is reported, and so is a file
-    /// that isn't read, once until it is. Where memory ran out the file is tried again.
+    /// that isn't read, once until it is. Where memory ran out the file is tried again. Returns whether they are replaced.
     /// See docs/DECISIONS.md, "Users that are replaced".
     pub(crate) fn look<R: Files + AllocGlobal, E: Write>(
         &mut self,
         rt: &R,
         err: &mut E,
         relay: &mut Relay,
-    ) {
+    ) -> bool {
         let Some(path) = self.path else {
-            return;
+            return false;
         };
         match read(rt, path) {
             Ok(bytes) => {
                 self.read_error = None;
-                self.take(rt.alloc(), err, relay, path, bytes);
+                self.take(rt.alloc(), err, relay, path, bytes)
             }
             Err(error) => {
                 if self.read_error != Some(error) {
                     let _ = writeln!(err, "cannot use {path}: {error}");
                 }
                 self.read_error = Some(error);
+                false
             }
         }
     }
 
-    /// Replaces the users by those of the file's bytes, if these are others, and reports it.
+    /// Replaces the users by those of the file's bytes, if these are others, and reports it. Returns whether they are replaced.
     fn take<E: Write>(
         &mut self,
         alloc: Global,
@@ -154,26 +155,29 @@ impl<'a> UserList<'a> {
         relay: &mut Relay,
         path: &str,
         bytes: Vec<u8>,
-    ) {
+    ) -> bool {
         if is_kept(&self.set, &bytes) {
             self.refused = None;
-            return;
+            return false;
         }
         if is_kept(&self.refused, &bytes) {
-            return;
+            return false;
         }
         match self.replace(alloc, &bytes, relay) {
             Ok(count) => {
                 let _ = writeln!(err, "users replaced, {count} users");
                 self.set = Some(bytes);
                 self.refused = None;
+                true
             }
             Err(ListError::Memory) => {
                 let _ = writeln!(err, "out of memory in {path}");
+                false
             }
             Err(error) => {
                 let _ = writeln!(err, "cannot use {path}: {error}");
                 self.refused = Some(bytes);
+                false
             }
         }
     }

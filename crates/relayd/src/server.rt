@@ -5,11 +5,13 @@ use crate::drops::Ports;
 use crate::error_lines::ErrorLines;
 use crate::filters::{filter_of, rules_of};
 use crate::options::{CommandError, Relayed, set_up};
+use crate::recording::{RecordEnd, RecordedLink, Recording};
 use crate::replacing::Sides;
 use crate::replacing_users::UserList;
 use crate::sockets::{Addresses, BindError, Endpoints, Sockets};
 use crate::udp::SocketOptions;
 use command_line::{Options, ServerOptions, defaults, relayed_ip, relayed_ip6};
+use events::Event;
 use mio::{Events, Poll, Token};
 use peer_filter::Rule;
 use rand::make_rng;
@@ -17,6 +19,7 @@ use rand::rngs::StdRng;
 use rand_core::Rng;
 use relay::Relay;
 use serving::{Endpoint, draw_nonce, serve_once};
+use std::fs::File;
 use std::io::{self, Write};
 use std::net::{Ipv4Addr, Ipv6Addr, Net};
 use std::random::RandomSource;
@@ -47,6 +50,7 @@ struct Server<'a> {
     sockets: Sockets,
     sides: Sides<'a>,
     users: UserList<'a>,
+    recording: Recording<'a>,
     rng: StdRng,
     /// The transaction id for the next datagram that comes.
     transaction_id: [u8; 12],
@@ -85,6 +89,7 @@ impl Server<'_> {
     /// Replaces the nonce by one that is drawn, which is never refused.
     fn renew_nonce(&mut self) {
         let nonce = draw_nonce(&mut self.rng);
+        self.recording.record(&Event::Nonce(nonce.as_str()));
         let _ = self.relay.set_nonce(nonce.as_str());
     }
 
@@ -139,7 +144,9 @@ impl Server<'_> {
             if !self.sides.is_replacing() || elapsed(rt) >= end {
                 return;
             }
-            self.sides.advance(&mut self.relay, err);
+            if self.sides.advance(&mut self.relay, err) {
+                self.recording.end(err, RecordEnd::Programs);
+            }
         }
     }
 
@@ -153,7 +160,9 @@ impl Server<'_> {
         }
         if self.files.is_due(now) {
             self.sides.look(rt, err);
-            self.users.look(rt, err, &mut self.relay);
+            if self.users.look(rt, err, &mut self.relay) {
+                self.recording.end(err, RecordEnd::Users);
+            }
         }
         self.verify(rt, err, now);
         if self.sockets.has_faults() && self.faults.is_due(now) {
@@ -181,10 +190,16 @@ impl Server<'_> {
     /// the sockets have counted. A transaction id is drawn where the one before may have been used. See docs/DECISIONS.md, "One function serves a datagram".
     #[inline(always)]
     fn turn(&mut self, endpoint: Endpoint, now: u64) -> bool {
-        let (relay, sockets) = (&mut self.relay, &mut self.sockets);
-        match serve_once(relay, sockets, endpoint, now, self.transaction_id) {
+        let transaction_id = self.transaction_id;
+        let mut link = RecordedLink {
+            link: &mut self.sockets,
+            recording: &mut self.recording,
+            now,
+            transaction_id,
+        };
+        match serve_once(&mut self.relay, &mut link, endpoint, now, transaction_id) {
             Ok(None) => return false,
-            Ok(Some(disposition)) => sockets.done(disposition),
+            Ok(Some(disposition)) => self.sockets.done(disposition),
             // the sockets have counted the fault
             Err(_) => {}
         }
@@ -213,6 +228,7 @@ impl Server<'_> {
             self.round(rt);
             self.tend(rt, err);
         }
+        self.recording.flush(err);
         if self.sockets.has_faults() {
             self.sockets.report_faults(err);
         }
@@ -286,6 +302,7 @@ impl Server<'_> {
             } else {
                 Some(Duration::ZERO)
             };
+            self.recording.flush(err);
             waiting.wait(wait)?;
             self.tend(rt, err);
             waiting.schedule.begin();
@@ -405,7 +422,7 @@ fn bind_sockets<R: Net + AllocGlobal>(
 }
 
 /// Sets up a server: its relay, and then its sockets, all of which are bound.
-fn start<'a, R: Files + Net + Clock + RandomSource + AllocGlobal>(
+fn start<'a, R: Files<File = File> + Net + Clock + RandomSource + AllocGlobal>(
     rt: &R,
     server_options: &ServerOptions<'a>,
     rules: &[Rule],
@@ -419,6 +436,7 @@ fn start<'a, R: Files + Net + Clock + RandomSource + AllocGlobal>(
     let mut rng: StdRng = make_rng(rt).map_err(|_| CommandError::Random)?;
     let mut transaction_id = [0; 12];
     rng.fill_bytes(&mut transaction_id);
+    let recording = Recording::begin(rt, server_options.record)?;
     let now = elapsed(rt);
     let period = Duration::from_secs(PERIOD);
     let mut server = Server {
@@ -428,6 +446,7 @@ fn start<'a, R: Files + Net + Clock + RandomSource + AllocGlobal>(
         sockets,
         sides: Sides::new(options, set.programs),
         users: UserList::new(options, set.users),
+        recording,
         rng,
         transaction_id,
         moments: Moments::starting_now(rt),
@@ -444,7 +463,11 @@ fn start<'a, R: Files + Net + Clock + RandomSource + AllocGlobal>(
 }
 
 /// Serves as the options say.
-fn serve_sockets<'a, R: Files + Print + Net + Clock + RandomSource + AllocGlobal, E: Write>(
+fn serve_sockets<
+    'a,
+    R: Files<File = File> + Print + Net + Clock + RandomSource + AllocGlobal,
+    E: Write,
+>(
     rt: &R,
     err: &mut E,
     server_options: &ServerOptions<'a>,
@@ -460,12 +483,10 @@ fn serve_sockets<'a, R: Files + Print + Net + Clock + RandomSource + AllocGlobal
 
 /// Serves clients and peers, prints the line of the first fault to `err`, and returns the exit status.
 /// See docs/DECISIONS.md, "`serve` is a command".
-pub(crate) fn serve<R: Files + Print + Net + Clock + RandomSource + AllocGlobal, E: Write>(
-    rt: &R,
-    err: &mut E,
-    server_options: &ServerOptions<'_>,
-    options: &Options<'_>,
-) -> u8 {
+pub(crate) fn serve<
+    R: Files<File = File> + Print + Net + Clock + RandomSource + AllocGlobal,
+    E: Write,
+>(rt: &R, err: &mut E, server_options: &ServerOptions<'_>, options: &Options<'_>) -> u8 {
     match serve_sockets(rt, err, server_options, options) {
         Ok(()) => 0,
         Err(fault) => {
