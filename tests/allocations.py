@@ -1,4 +1,4 @@
-"""Counts the allocations of memory by the built relayd while it serves: none, once it listens.
+"""Counts the allocations of memory by the built relayd while it serves: none, once it listens, also while it records.
 
 Sessions over sockets, with each kind of request, datagrams both ways by channel and by permission, requests that are
 refused, and datagrams that are discarded: 172 datagrams in a session come to the server. It needs gcc.
@@ -45,14 +45,14 @@ def session(server, client, peer, stranger):
     yield from wanted("Refresh", code_of(client.signed(REFRESH, [(LIFETIME, bytes(4))])), 0)
 
 
-def failures_of_sessions(library, count):
+def failures_of_sessions(library, count, *words):
     """Yields what is wrong with the sessions, and how many allocations they make, where they make any."""
     count.write_bytes(bytes(8))
     environment = {**os.environ, "LD_PRELOAD": str(library), "COUNT_FILE": str(count)}
     sockets = udp_socket(), udp_socket(address="127.0.0.2")
-    with Server(env=environment) as server, Client(server) as client, sockets[0] as peer, sockets[1] as stranger:
+    with Server(*words, env=environment) as server, Client(server) as client, sockets[0] as peer, sockets[1] as stranger:
         before = int.from_bytes(count.read_bytes(), "little")
-        for _ in range(SESSIONS):
+        for _ in range(SESSIONS // 2):
             yield from session(server, client, peer, stranger)
         made = int.from_bytes(count.read_bytes(), "little") - before
         yield from wanted("allocations before the server listens are counted", before > 0, True)
@@ -66,6 +66,7 @@ def main():
         folder = pathlib.Path(folder_name)
         library = preloadable(folder, "refuse_malloc")
         failures = list(failures_of_sessions(library, folder / "count"))
+        failures += failures_of_sessions(library, folder / "count", "--record", str(folder / "record"))
     return finish(failures, f"allocations while serving {SESSIONS} sessions: {len(failures)} failures")
 
 

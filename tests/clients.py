@@ -2,7 +2,8 @@
 
 Installs nothing: a client that isn't there is passed over, and the last line says how many ran. With `--require` it is a
 failure. docs/CLIENTS.md names the packages (docs/DECISIONS.md, "Clients are run where they are installed"). Where tshark may
-capture, what the clients and the server sent each other must have no malformed packet.
+capture, what the clients and the server sent each other must have no malformed packet. Each session is recorded, and a replay
+of the record must answer with each datagram that the server has sent, in order, where gcc is there.
 """
 
 import contextlib
@@ -17,9 +18,9 @@ import tempfile
 import threading
 import time
 
-from lib.program import TOP, build, finish
+from lib.program import TOP, build, finish, preloadable
 from lib.rules import XOR_RELAYED_ADDRESS, address_in
-from lib.server import LOOPBACK, Client, Server, udp_socket, wanted
+from lib.server import LOOPBACK, LOOPBACK6, Client, Server, replayed, sends, udp_socket, wanted
 
 HERE = TOP / "tests" / "clients"
 sys.path.append(str(HERE))
@@ -194,9 +195,37 @@ class Capture:
         return [f"packet {number} is malformed" for number in numbers]
 
 
+# ---- the record
+
+class Record:
+    """The record of a server in a folder, and a library that writes down what the server sends, where gcc is there."""
+
+    def __init__(self, folder):
+        self.folder = pathlib.Path(tempfile.mkdtemp(dir=folder))
+        self.file, self.sent, self.environment = self.folder / "record", self.folder / "sent", dict(os.environ)
+        if shutil.which("gcc"):
+            self.environment.update(LD_PRELOAD=str(preloadable(self.folder, "sends")), SENT=str(self.sent))
+
+    def failures(self, server):
+        """Ends the server once it waits, and returns where a replay doesn't answer what it has sent."""
+        server.becomes("S")
+        server.end()
+        if not self.sent.exists():
+            return PASSED_OVER
+        found = replayed(server, self.file, "--relay-ip6", LOOPBACK6.hex())
+        expected = sends(server, self.sent)
+        if found == expected:
+            return []
+        pairs = enumerate(zip(found, expected))
+        first = next((number for number, (one, other) in pairs if one != other), min(len(found), len(expected)))
+        return [f"answer {first} of {len(found)}, in place of {len(expected)}: {found[first:][:1]} and not {expected[first:][:1]}"]
+
+
 def tried(name, client, folder):
-    """What a client finds wrong with a server of its own, and what the capture does; each may be `PASSED_OVER`."""
-    with Server("--listen6", "::1", slots=SLOTS) as server:
+    """What a client finds wrong with a server of its own, and what the capture and the record do; each may be `PASSED_OVER`."""
+    record = Record(folder)
+    words = ["--listen6", "::1", "--record", str(record.file)]
+    with Server(*words, slots=SLOTS, env=record.environment) as server:
         capture = Capture(server.port, folder)
         try:
             found = client(server)
@@ -207,7 +236,7 @@ def tried(name, client, folder):
         if found == PASSED_OVER:
             return [(name, found)]
         found += wanted("standard error of the server", server.printed(), "")
-    return [(name, found), ("a capture by tshark", captured)]
+        return [(name, found), ("a capture by tshark", captured), ("a replay of the record", record.failures(server))]
 
 
 def main():

@@ -79,6 +79,7 @@ def refused_lines():
         missing = f"{name}/missing"
         port = ["--port", taken]
         free = str(free_ports(2))
+        good_port = ["--port", "0", "--first-port", free, "--slots", "1"]
         value = "error: invalid value '{}' for '{}'\n".format
         in_use = "cannot bind {}\naddress in use\n".format
         network = "error: invalid value '{}' for '{}': {}\n".format
@@ -103,6 +104,11 @@ def refused_lines():
             (["--port", "0", *USER, "--first-port", taken], 3, in_use(f"127.0.0.1:{taken}")),
             (["--port", free, *USER, "--first-port", free], 3, in_use(f"127.0.0.1:{free}")),
             ([*port, *USER, "--reuse-port"], 3, in_use(f"127.0.0.1:{taken}")),
+            ([*port, *USER, "--record", missing], 3, in_use(f"127.0.0.1:{taken}")),
+            ([*good_port, *USER, "--record", str(bad)], 3, f"cannot record to {bad}\nthe file exists\n"),
+            ([*good_port, *USER, "--record", name], 3, f"cannot record to {name}\nthe file exists\n"),
+            ([*good_port, *USER, "--record", f"{missing}/record"], 3, f"cannot record to {missing}/record\nno such folder\n"),
+            ([*good_port, *USER, "--record", f"{bad}/record"], 3, f"cannot record to {bad}/record\nerror 20 of the system\n"),
             (["--port", "0", *USER, "--listen", "192.0.2.1"], 3, "cannot bind 192.0.2.1:0\nnot an address of this machine\n"),
             ([*port, *USER, "--buffer", "0"], 2, value("0", "--buffer <BYTES>")),
             ([*port, *USER, "--buffer", "1073741824"], 2, value("1073741824", "--buffer <BYTES>")),
@@ -134,6 +140,25 @@ def refused_lines():
         ]
         for words, status, printed in cases:
             yield from wanted(" ".join(words), run(["serve", "--rounds", "0", *words]), (status, "", printed))
+        yield from wanted("the file where a record is", bad.read_bytes(), BAD)
+        yield from wanted("files of records", os.listdir(name), [bad.name])
+        yield from denied_record(pathlib.Path(name), [*good_port, *USER])
+
+
+def denied_record(folder, words):
+    """Yields what a server prints of a record in a folder that it may not write to, where it isn't that. Root may write to any,
+    without its capabilities aside."""
+    closed = folder / "closed"
+    closed.mkdir(mode=0o500)
+    command = [PROGRAM, "serve", "--rounds", "0", *words, "--record", closed / "record"]
+    if os.geteuid() == 0:
+        if not shutil.which("setpriv"):
+            PASSED_OVER.append("a folder that may not be written to (no setpriv)")
+            return
+        command = ["setpriv", "--bounding-set=-all", "--inh-caps=-all", *command]
+    ran = subprocess.run(command, capture_output=True, text=True, check=False)
+    line = f"cannot record to {closed / 'record'}\npermission denied\n"
+    yield from wanted("a folder that may not be written to", (ran.returncode, ran.stdout, ran.stderr), (3, "", line))
 
 
 def rounds():
@@ -194,7 +219,7 @@ def default_ports():
 
 
 def counted_rounds():
-    """Yields how many of ten waiting requests three rounds answer, where that isn't three.
+    """Yields how many of ten waiting requests three rounds answer, where that isn't three, and what else their record has.
 
     The server has bound its sockets when it prints where it listens, and waits there while its output is a full pipe.
     """
@@ -204,7 +229,10 @@ def counted_rounds():
              "--rounds", "3", "--stats", "60"]
     read_end, write_end = full_pipe()
     streams = {"stdout": write_end, "stderr": subprocess.PIPE}
-    with subprocess.Popen(words, text=True, **streams) as process, udp_socket() as client:
+    with contextlib.ExitStack() as stack:
+        path = pathlib.Path(stack.enter_context(tempfile.TemporaryDirectory())) / "record"
+        process = stack.enter_context(subprocess.Popen([*words, "--record", path], text=True, **streams))
+        client = stack.enter_context(udp_socket())
         os.close(write_end)
         client.connect(("127.0.0.1", port))
         for _ in range(50):
@@ -217,12 +245,13 @@ def counted_rounds():
             output.read()
         printed = without_buffers(process.stderr.read())
         client.setblocking(False)
-        answers = 0
+        answers = []
         with contextlib.suppress(BlockingIOError, ConnectionRefusedError):
             while True:
-                client.recv(2000)
-                answers += 1
-    yield from wanted("requests that three rounds answer", (answers, printed), (3, counters(from_clients=3, granted=3)))
+                answers.append(f"c 127.0.0.1:{client.getsockname()[1]} {client.recv(2000).hex()}\n")
+        _, played, _ = run(["replay", *USER, "--first-port", str(first), "--slots", "1", path])
+    found = len(answers), printed, played
+    yield from wanted("requests that three rounds answer", found, (3, counters(from_clients=3, granted=3), "".join(["-\n", *answers])))
 
 
 def default_slots():

@@ -74,14 +74,15 @@ def free_ports(count, address="127.0.0.1"):
 class Server:
     """A running server."""
 
-    def __init__(self, *words, slots=2, env=None):
+    def __init__(self, *words, slots=2, **options):
+        self.slots = slots
         for _ in range(10):
             self.first_port = free_ports(slots)
             self.errors = tempfile.TemporaryFile("w+")
             ports = ["--port", "0", "--first-port", str(self.first_port), "--slots", str(slots)]
             self.process = subprocess.Popen(
-                [PROGRAM, "serve", *ports, *USER, *words], env=env,
-                stdout=subprocess.PIPE, stderr=self.errors, text=True)
+                [PROGRAM, "serve", *ports, *USER, *words],
+                stdout=subprocess.PIPE, stderr=self.errors, text=True, **options)
             line = self.process.stdout.readline()
             if line.startswith("listening 127.0.0.1:"):
                 self.port = int(line.rpartition(":")[2])
@@ -208,6 +209,19 @@ class Client:
         """Sends data to a peer in a Send indication."""
         transaction_id = random.randbytes(12)
         self.send(message(SEND, transaction_id, [(XOR_PEER_ADDRESS, address_value(peer, transaction_id)), (DATA, data)]))
+
+
+def replayed(server, record, *words):
+    """The answers of a replay of what a server recorded, without those that send nothing; and its fault, where it has one."""
+    ports = ["--first-port", str(server.first_port), "--slots", str(server.slots)]
+    status, out, err = run(["replay", *USER, *ports, *words, record])
+    return [line for line in out.splitlines() if line != "-"] + ([f"status {status}: {err}"] if status else [])
+
+
+def sends(server, path):
+    """The datagrams that a server has sent, as lines of answers, by the file that preloaded/sends.c has written."""
+    lines = [line.partition(" ") for line in path.read_text(encoding="utf-8").splitlines()]
+    return [f"c {rest}" if int(port) == server.port else f"p {int(port) - server.first_port} {rest}" for port, _, rest in lines]
 
 
 def channel_data(data):
