@@ -50,7 +50,7 @@ class Heard:
 
 
 class HeardClient(Client):
-    """A client of which each receive is heard."""
+    """A client of which each receive is heard, and that signs a request anew where its nonce was replaced."""
 
     def __init__(self, server, heard):
         super().__init__(server)
@@ -60,6 +60,13 @@ class HeardClient(Client):
         data = super().receive()
         self.heard.lines.append(f"c 127.0.0.1:{self.socket.getsockname()[1]} {data.hex() or '-'}")
         return data
+
+    def signed(self, kind, given, peer=None):
+        answer = super().signed(kind, given, peer)
+        if code_of(answer) != 438:
+            return answer
+        self.nonce = answer.first(NONCE)
+        return super().signed(kind, given, peer)
 
 
 def by_receiver(lines):
@@ -112,16 +119,6 @@ def exchange(heard, client, peer, relayed):
         yield from wanted("ChannelData back", client.receive(), channel_data(data))
 
 
-def renew(client):
-    """Refreshes with the old nonce and with the new one, which may be replaced once more, and returns the last code."""
-    for _ in range(3):
-        answer = client.signed(REFRESH, [])
-        if code_of(answer) != 438:
-            break
-        client.nonce = answer.first(NONCE)
-    return code_of(answer)
-
-
 def session():
     """Yields what a replay answers otherwise than the server did, of sessions over both families and of three nonces."""
     with contextlib.ExitStack() as stack:
@@ -136,7 +133,7 @@ def session():
         yield from wanted("Allocate over IPv6", code_of(client6.allocate(FAMILY6)), 0)
         yield from exchange(heard, client6, peer6, ("::1", server.first_port + 1))
         time.sleep(1.2)
-        yield from wanted("Refresh", renew(client), 0)
+        yield from wanted("Refresh", code_of(client.signed(REFRESH, [])), 0)
         # what is answered by nothing: no message, and data of a peer without a permission
         client.send(b"no message")
         with udp_socket(address="127.0.0.2") as stranger:
