@@ -32,6 +32,9 @@ OUT_OF_MEMORY = (4, "", "out of memory\n")
 EVER = 10**9
 PORT = free_ports(5)
 SERVER = ["--port", str(PORT), "--first-port", str(PORT + 1)]
+# the file of a record, which is new in each run
+FOLDER = tempfile.TemporaryDirectory()
+RECORD = pathlib.Path(FOLDER.name) / "record"
 # command lines, each with its status where no allocation is refused
 CASES = [
     (["verify", FOURTH_BYTE], 0),
@@ -57,6 +60,7 @@ CASES = [
     (["replay", "--user", "u:p", "--users", USERS, "--client", FOURTH_BYTE, "--peer", HEADER, "/dev/null"], 0),
     (["replay", "--user", "u:p", "--nonce", "a b", "/dev/null"], 1),
     (["serve", *SERVER, "--user", "u:p", "--slots", "4", "--rounds", "1"], 0),
+    (["serve", *SERVER, "--user", "u:p", "--slots", "1", "--rounds", "1", "--record", str(RECORD)], 0),
     (["verify", "no such file"], 3),
     (["verify"], 2),
     (["load"], 2),
@@ -96,6 +100,7 @@ def counted_run(words, program=PROGRAM, events=os.devnull, **environment):
     """
     read_end, write_end = os.pipe()
     given = {**os.environ, "REFUSE_REPORT": str(write_end), **environment}
+    RECORD.unlink(missing_ok=True)
     with open(events, encoding="utf-8") as stdin:
         end = run(words, program, env=given, pass_fds=[write_end], stdin=stdin)
     os.close(write_end)
