@@ -1,5 +1,7 @@
 -- Internal. The modules of this folder.
 pub mod Ahead
+pub mod Counters
+pub mod CounterValues
 pub mod Entries
 pub mod Filling
 pub mod Rounds

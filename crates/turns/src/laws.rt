@@ -1,6 +1,7 @@
-//! Laws of rounds.
+//! Laws of rounds and of counters.
 
 ghost use Rattle.std.specs.Prelude.{List};
+ghost use Rattle.turns.specs.Counters.{CountsEachOnce};
 ghost use Rattle.turns.specs.Rounds.{IsFair};
 ghost use Rattle.turns.specs.declared.schedule.Status.{Status};
 
@@ -8,4 +9,9 @@ ghost use Rattle.turns.specs.declared.schedule.Status.{Status};
 /// has one; so no endpoint has more than two from any moment of a round to any moment of the next.
 pub fn law_rounds_are_fair()
     ensures { (endpoints : List Status) → IsFair endpoints }
+{}
+
+/// States that each datagram is counted exactly once as one that came, and exactly once by what became of it.
+pub fn law_each_datagram_is_counted_once()
+    ensures { CountsEachOnce }
 {}
