@@ -1,15 +1,16 @@
 -- The slots as they are stored, and the live rows.
-use Rattle.std.proofs.Common.{◌≡◌, ℕ, zero, suc, ◌<◌, ◌≤◌, true, false, cond, List, ◌∷◌, length, get_or, set, find, replicate, slice_get, nat_lt, Option, Some, None, is_some, is_none, IfSome, option_and_then, option_copied, sym, refl, ap, ◌∙◌, Bor, arith}
-use Rattle.std.specs.List.{position_or_len}
+use Rattle.std.proofs.Common.{◌≡◌, ℕ, zero, suc, ◌+◌, ◌<◌, ◌≤◌, true, false, cond, List, ◌∷◌, length, take, get_or, set, find, replicate, slice_get, nat_lt, Option, Some, None, is_some, is_none, IfSome, option_and_then, option_copied, sym, refl, ap, ◌∙◌, Bor, take_all, arith}
+use Rattle.std.specs.List.{position_or_len, count_by}
 use Rattle.std.specs.Option.{option_flatten}
 use Rattle.std.proofs.lemmas.Bool.{cond-true, cond-false, ltb-true, lt-ltb, le-ltb, both_ways}
 use Rattle.std.proofs.lemmas.List.{map-set, length-map}
 use Rattle.std.proofs.lemmas.List.Quantifiers.{position-Some}
-use Rattle.std.proofs.lemmas.List.Sums.{position_or_len_is}
+use Rattle.std.proofs.lemmas.List.Sums.{position_or_len_is, count_by_more_yes, count_by_more_no}
 use Rattle.std.proofs.lemmas.Option.{slice_get-get_or, slice_get_read}
 use Rattle.attributes.specs.declared.address.Addr.{Addr}
 use Rattle.tables.specs.Rows.{Rows, held_at, slots_at, live_rows}
 use Rattle.tables.specs.LookUps.{held_in, held_by, is_of}
+use Rattle.tables.specs.Counts.{allocation_count}
 use Rattle.tables.specs.Changes.{with_held, first_free}
 use Rattle.tables.specs.laws.Row.{live_again, held_in-live, held_at-live}
 use Rattle.tables.specs.declared.held.Held.{Held}
@@ -82,6 +83,23 @@ held_none t (Some held) o e h = absurd (both_ways true h refl)
 pub held_some : (t : ℕ) (r : Option (Bor Held)) (o : Option Held) → option_and_then (held_at t) (option_copied r) ≡ o → IfSome r (λ held. t < held.now.allocation.end) → is_some r ≡ true → is_none o ≡ false
 held_some t None o e counts h = absurd (both_ways false refl h)
 held_some t (Some held) o e counts h = ap is_none (sym e) ∙ ap is_none (held_at-live t held.now (lt-ltb t held.now.allocation.end counts))
+
+-- ---- how many slots hold an allocation
+
+pub held_is : (t : ℕ) (r : Option (Bor Held)) (o : Option Held) → option_and_then (held_at t) (option_copied r) ≡ o → IfSome r (λ held. t < held.now.allocation.end) → is_some o ≡ is_some r
+held_is t None o e counts = ap is_some (sym e)
+held_is t (Some held) o e counts = ap is_some (sym e) ∙ ap is_some (held_at-live t held.now (lt-ltb t held.now.allocation.end counts))
+
+pub counted_one : (rows : Rows) (i n : ℕ) → i < length rows.slots → n ≡ count_by is_some (take i rows.slots) → is_some (held_in rows i) ≡ true → n + 1 ≡ count_by is_some (take (i + 1) rows.slots)
+counted_one rows i n l before here =
+    omega (arith, before, count_by_more_yes is_some rows.slots i None l (ap is_some (sym (get_flat rows.slots i None l)) ∙ here))
+
+pub counted_none : (rows : Rows) (i n : ℕ) → i < length rows.slots → n ≡ count_by is_some (take i rows.slots) → is_some (held_in rows i) ≡ false → n ≡ count_by is_some (take (i + 1) rows.slots)
+counted_none rows i n l before here =
+    before ∙ sym (count_by_more_no is_some rows.slots i None l (ap is_some (sym (get_flat rows.slots i None l)) ∙ here))
+
+pub counted_all : (rows : Rows) (i n : ℕ) → length rows.slots ≤ i → n ≡ count_by is_some (take i rows.slots) → n ≡ allocation_count rows
+counted_all rows i n l before = before ∙ ap (count_by is_some) (take_all i rows.slots l)
 
 -- ---- no rows
 

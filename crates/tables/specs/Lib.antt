@@ -10,6 +10,7 @@ pub mod Rows
 pub mod LookUps
 pub mod WellFormed
 pub mod Changes
+pub mod Counts
 pub mod Users
 pub mod Storage
 pub mod Retained

@@ -49,7 +49,8 @@ impl Tables {
     ghost use Rattle.std.specs.Prelude.{◌≡◌, ◌+◌, ◌≤◌, ◌<◌, IfOk, IfSome, None, Some, is_some, length, option_and_then};
     ghost use Rattle.std.specs.Option.{option_copied};
     ghost use Rattle.tables.specs.Moments.{moment_of};
-    ghost use Rattle.tables.specs.Rows.{no_rows, live_rows, held_at};
+    ghost use Rattle.tables.specs.Rows.{no_rows, live_rows, rows_at, held_at};
+    ghost use Rattle.tables.specs.Counts.{allocation_count};
     ghost use Rattle.tables.specs.LookUps.{held_in, held_by};
     ghost use Rattle.tables.specs.Changes.{first_free, with_held};
     ghost use Rattle.tables.specs.Users.{rows_of_users, index_in};
@@ -155,6 +156,20 @@ impl Tables {
             }
         }
         None
+    }
+
+    /// Returns the number of allocations that are live at a moment.
+    pub fn allocation_count(&self, now: u64) -> usize
+        ensures { result ≡ allocation_count (rows_at now self.now) }
+    {
+        let moment = self.moment_at(now);
+        let mut count = 0;
+        for slot in 0..self.slots.len() {
+            if self.held(slot, moment).is_some() {
+                count += 1;
+            }
+        }
+        count
     }
 
     /// Puts into a free slot what it holds for a new client from a moment on, the greatest so far.

@@ -1,0 +1,29 @@
+use Rattle.std.proofs.Common.{◌<◌, ◌≤◌, length, sym, ap, ◌∙◌, arith}
+use Rattle.tables.specs.Rows.{live_rows}
+use Rattle.tables.specs.Counts.{allocation_count}
+use Rattle.tables.specs.LookUps.{held_in}
+use Rattle.tables.proofs.Slots.{length-stored, held_is, counted_one, counted_none, counted_all}
+use Rattle.tables.proofs.storage.Tables.allocation_count.Goals as goal
+use Rattle.tables.proofs.storage.Tables.allocation_count.Goals.{then-is_some, else-is_some}
+
+pub loop-slot-preserved : goal.loop-slot-preserved
+loop-slot-preserved c =
+    let t = c.moment_at-moment.result in
+    let slot = c.loop-slot.slot in
+    let rows = live_rows t c.args.self.now in
+    let long = length-stored c.self.inside.moment c.self.inside.slots.items c.args.self.now c.self.view_is t c.moment_at-moment.ensures.later in
+    let within : slot < length rows.slots = omega (arith, long, c.loop-slot-test.true, c.len-slot-end.ensures, c.self.inside.slots.ok.0) in
+    let held = held_is t c.held.result (held_in rows slot) c.held.ensures.held c.held.ensures.counts ∙ sym c.is_some.ensures in
+    elim c.if-is_some.branch [
+      | then-is_some w ↦ w.count-is ∙ counted_one rows slot c.loop-slot.count within c.loop-slot.invariant (held ∙ w.if-is_some.true)
+      | else-is_some w ↦ w.count-is ∙ counted_none rows slot c.loop-slot.count within c.loop-slot.invariant (held ∙ w.if-is_some.false)
+    ]
+
+pub returns : goal.returns
+returns c =
+    let t = c.moment_at-moment.result in
+    let slot = c.loop-slot.slot in
+    let rows = live_rows t c.args.self.now in
+    let long = length-stored c.self.inside.moment c.self.inside.slots.items c.args.self.now c.self.view_is t c.moment_at-moment.ensures.later in
+    let all : length rows.slots ≤ slot = omega (arith, long, c.loop-slot-test.false, c.len-slot-end.ensures, c.self.inside.slots.ok.0) in
+    counted_all rows slot c.loop-slot.count all c.loop-slot.invariant ∙ ap (λ m. allocation_count (live_rows m c.args.self.now)) c.moment_at-moment.ensures.moment
