@@ -80,7 +80,8 @@ replay_command = with_rule (with_options (with_rule (new_app (codes "replay")) e
 abbrev pub port_option : Rule
 port_option = record (option (codes "port")) { required = true }
 
--- the command with the options of sockets, with those of the peers that are sent to, with those of time, and with that of the record
+-- the command with the options of sockets, with those of the peers that are sent to, with those of time and of what is reported,
+-- and with that of the record
 abbrev pub with_sockets : App → App
 with_sockets app = with_rule (with_rule (with_rule (with_rule app (option (codes "listen"))) (option (codes "listen6"))) (option (codes "buffer")))
     (flag (codes "reuse-port"))
@@ -89,7 +90,8 @@ abbrev pub with_filter : App → App
 with_filter app = with_rule (with_rule app (repeated_option (codes "deny"))) (repeated_option (codes "allow"))
 
 abbrev pub with_times : App → App
-with_times app = with_rule (with_rule (with_rule app (option (codes "rounds"))) (option (codes "nonce-lifetime"))) (option (codes "stats"))
+with_times app = with_rule (with_rule (with_rule (with_rule app (option (codes "rounds"))) (option (codes "nonce-lifetime"))) (option (codes "stats")))
+    (option (codes "metrics"))
 
 abbrev pub with_record : App → App
 with_record app = with_rule app (option (codes "record"))

@@ -119,6 +119,7 @@ pub record GivenServer : Type 0 where
   pub allow : Text
   pub nonce_lifetime : Text
   pub stats : Text
+  pub metrics : Text
   pub «record» : Text
 
 abbrev pub only_port : Text → ServerTexts
@@ -132,6 +133,7 @@ only_port port = record {
   allow = None;
   nonce_lifetime = None;
   stats = None;
+  metrics = None;
   «record» = None;
 }
 
@@ -146,6 +148,7 @@ every_server_option s = record {
   allow = Some (s.allow ∷ []);
   nonce_lifetime = Some s.nonce_lifetime;
   stats = Some s.stats;
+  metrics = Some s.metrics;
   «record» = Some s.«record»;
 }
 
@@ -155,7 +158,8 @@ server_before s rest =
     (codes "--port=" ++ s.port) ∷ (codes "--rounds=" ++ s.rounds) ∷ (codes "--listen=" ++ s.listen)
     ∷ (codes "--listen6=" ++ s.listen6) ∷ (codes "--buffer=" ++ s.buffer) ∷ codes "--reuse-port"
     ∷ (codes "--deny=" ++ s.deny) ∷ (codes "--deny=" ++ s.further_deny) ∷ (codes "--allow=" ++ s.allow)
-    ∷ (codes "--nonce-lifetime=" ++ s.nonce_lifetime) ∷ (codes "--stats=" ++ s.stats) ∷ (codes "--record=" ++ s.«record») ∷ rest
+    ∷ (codes "--nonce-lifetime=" ++ s.nonce_lifetime) ∷ (codes "--stats=" ++ s.stats)
+    ∷ (codes "--metrics=" ++ s.metrics) ∷ (codes "--record=" ++ s.«record») ∷ rest
 
 -- a program's name, `serve`, and --port=P with --users=FILE, or with every option
 abbrev pub IsServeLine : ServerTexts → Bool → Texts → List Text → Type 0

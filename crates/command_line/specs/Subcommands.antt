@@ -88,6 +88,7 @@ pub record ServerTexts : Type 0 where
   pub allow : Option (List Text)
   pub nonce_lifetime : Option Text
   pub stats : Option Text
+  pub metrics : Option Text
   pub «record» : Option Text
 
 abbrev pub server_texts_in : List Row → ServerTexts
@@ -101,6 +102,7 @@ server_texts_in rows = record {
   allow = all_of (codes "allow") rows;
   nonce_lifetime = first_of (codes "nonce-lifetime") rows;
   stats = first_of (codes "stats") rows;
+  metrics = first_of (codes "metrics") rows;
   «record» = first_of (codes "record") rows;
 }
 
@@ -119,6 +121,7 @@ pub record HaveServerValues (texts : ServerTexts) (s : ServerOptions) : Type 0 w
   pub allow : texts.allow ≡ list_of s.allow
   pub nonce_lifetime : HasValueOr 3600 IsSeconds texts.nonce_lifetime s.nonce_lifetime
   pub stats : HasValue IsSeconds texts.stats s.stats
+  pub metrics : texts.metrics ≡ text_of s.metrics
   pub «record» : texts.«record» ≡ text_of s.«record»
 
 -- the first of the texts that spells no value of its option, those of a server before those that set up a relay

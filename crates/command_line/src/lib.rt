@@ -76,6 +76,8 @@ pub struct ServerOptions<'a> {
     pub nonce_lifetime: u64,
     /// The seconds between two lines of counters, at least 1; `None` is to print none.
     pub stats: Option<u64>,
+    /// The file that the metrics are written to; `None` is to write none.
+    pub metrics: Option<&'a str>,
     /// The file that is made of the server's events; `None` is to record none.
     pub record: Option<&'a str>,
 }
@@ -446,7 +448,7 @@ fn with_filter<'a>(alloc: Global, command: Command<'a>) -> Result<Command<'a>, A
         ))
 }
 
-/// Adds the options of time.
+/// Adds the options of time, and of what is reported.
 fn with_times<'a>(alloc: Global, command: Command<'a>) -> Result<Command<'a>, AllocError>
     ensures { IfOk result (HasAdded with_times command.entry) }
 {
@@ -468,6 +470,12 @@ fn with_times<'a>(alloc: Global, command: Command<'a>) -> Result<Command<'a>, Al
             "stats",
             "S",
             "Print counters to standard error each S seconds, and after the last round",
+        ))?
+        .arg(option(
+            alloc,
+            "metrics",
+            "FILE",
+            "Write the counters to a file each 15 seconds, in the text format of Prometheus",
         ))
 }
 

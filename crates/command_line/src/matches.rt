@@ -173,6 +173,7 @@ fn serve_of<'a>(matches: &'a ArgMatches<'_>) -> Result<Option<Subcommand<'a>>, V
         allow: texts(matches, "allow"),
         nonce_lifetime: nonce_lifetime.unwrap_or(NONCE_LIFETIME),
         stats,
+        metrics: text(matches, "metrics"),
         record: text(matches, "record"),
     };
     Ok(Some(Subcommand::Serve { server, options }))

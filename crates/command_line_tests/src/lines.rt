@@ -151,7 +151,7 @@ const GOOD: [Good; 30] = [
     // a server with its port alone, and with every option
     Good {
         words: &["relayd", "serve", "--port", "3478"],
-        subcommand: r#"Serve { server: ServerOptions { port: 3478, rounds: None, listen: 127.0.0.1, listen6: None, buffer: 4194304, reuse_port: false, deny: None, allow: None, nonce_lifetime: 3600, stats: None, record: None }, options: Options { realm: "relay", users: None, users_file: None, slots: 16, relay_ip: None, relay_ip6: None, first_port: 49152, client: None, peer: None } }"#,
+        subcommand: r#"Serve { server: ServerOptions { port: 3478, rounds: None, listen: 127.0.0.1, listen6: None, buffer: 4194304, reuse_port: false, deny: None, allow: None, nonce_lifetime: 3600, stats: None, metrics: None, record: None }, options: Options { realm: "relay", users: None, users_file: None, slots: 16, relay_ip: None, relay_ip6: None, first_port: 49152, client: None, peer: None } }"#,
     },
     Good {
         words: &[
@@ -192,10 +192,12 @@ const GOOD: [Good; 30] = [
             "1073741823",
             "--rounds",
             "0",
+            "--metrics",
+            "m",
             "--port",
             "3478",
         ],
-        subcommand: r#"Serve { server: ServerOptions { port: 3478, rounds: Some(0), listen: 192.0.2.10, listen6: Some(2001:db8::10), buffer: 1073741823, reuse_port: true, deny: Some(["d", "e"]), allow: Some(["f"]), nonce_lifetime: 60, stats: Some(5), record: Some("e") }, options: Options { realm: "r", users: Some(["u", "v"]), users_file: Some("f"), slots: 2, relay_ip: Some(203.0.113.1), relay_ip6: Some([32, 1, 13, 184, 0, 0, 0, 0, 0, 0, 0, 0, 0, 0, 0, 171]), first_port: 1, client: Some("c"), peer: Some("p") } }"#,
+        subcommand: r#"Serve { server: ServerOptions { port: 3478, rounds: Some(0), listen: 192.0.2.10, listen6: Some(2001:db8::10), buffer: 1073741823, reuse_port: true, deny: Some(["d", "e"]), allow: Some(["f"]), nonce_lifetime: 60, stats: Some(5), metrics: Some("m"), record: Some("e") }, options: Options { realm: "r", users: Some(["u", "v"]), users_file: Some("f"), slots: 2, relay_ip: Some(203.0.113.1), relay_ip6: Some([32, 1, 13, 184, 0, 0, 0, 0, 0, 0, 0, 0, 0, 0, 0, 171]), first_port: 1, client: Some("c"), peer: Some("p") } }"#,
     },
     // the program may have any name
     Good {
@@ -616,6 +618,8 @@ const REFUSED: [Refused; 54] = [
             "The seconds after which a new nonce is drawn; 3600 by default",
             "--stats <S>",
             "Print counters to standard error each S seconds, and after the last round",
+            "--metrics <FILE>",
+            "Write the counters to a file each 15 seconds, in the text format of Prometheus",
             "--record <FILE>",
             "Write each event to a new file, as replay reads it: what users send is in it",
             "--realm <R>",
