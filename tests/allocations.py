@@ -1,20 +1,21 @@
-"""Counts the allocations of memory by the built relayd while it serves: none, once it listens, also while it records.
+"""Counts the allocations of memory by the built relayd while it serves, records and writes metrics: none, once it listens.
 
 Sessions over sockets, with each kind of request, datagrams both ways by channel and by permission, requests that are
-refused, and datagrams that are discarded: 172 datagrams in a session come to the server. It needs gcc.
+refused, and datagrams that are discarded: 172 datagrams in a session come to the server. After each session a line of counters
+and metrics are due. It needs gcc.
 """
 
-import os
 import pathlib
 import random
 import sys
 import tempfile
 
+from clock import SECOND, Clocks
 from lib.program import build, finish, preloadable
 from lib.rules import (
     ALLOCATE, BINDING, CREATE_PERMISSION, DATA, DATA_INDICATION, LIFETIME, REFRESH, SEND, TRANSPORT, XOR_PEER_ADDRESS,
     address_value, message, read)
-from lib.server import Client, Server, address_of, channel_data, code_of, exchange, udp_socket, wanted
+from lib.server import Client, Server, address_of, channel_data, code_of, exchange, samples_of, udp_socket, wanted
 
 # the sessions, and the batches of ChannelData in each
 SESSIONS, BATCHES, BATCH = 100, 10, 8
@@ -45,15 +46,23 @@ def session(server, client, peer, stranger):
     yield from wanted("Refresh", code_of(client.signed(REFRESH, [(LIFETIME, bytes(4))])), 0)
 
 
-def failures_of_sessions(library, count, *words):
+def failures_of_sessions(folder):
     """Yields what is wrong with the sessions, and how many allocations they make, where they make any."""
+    count, metrics = folder / "count", folder / "relayd.prom"
     count.write_bytes(bytes(8))
-    environment = {**os.environ, "LD_PRELOAD": str(library), "COUNT_FILE": str(count)}
+    clocks = Clocks(folder)
+    preloaded = f"{preloadable(folder, 'refuse_malloc')}:{clocks.library}"
+    environment = {**clocks.environment, "LD_PRELOAD": preloaded, "COUNT_FILE": str(count)}
     sockets = udp_socket(), udp_socket(address="127.0.0.2")
+    words = "--stats", "1", "--metrics", str(metrics), "--record", str(folder / "record")
     with Server(*words, env=environment) as server, Client(server) as client, sockets[0] as peer, sockets[1] as stranger:
         before = int.from_bytes(count.read_bytes(), "little")
-        for _ in range(SESSIONS // 2):
+        for _ in range(SESSIONS):
             yield from session(server, client, peer, stranger)
+            clocks.pass_by(server, 15 * SECOND)
+        client.ask(BINDING, [])
+        written = samples_of(metrics)['relayd_datagrams_relayed_total{to="peers"}'], server.printed().count("received from")
+        yield from wanted("data in metrics, and lines of counters", written, (SESSIONS * (BATCHES * BATCH + 1), SESSIONS))
         made = int.from_bytes(count.read_bytes(), "little") - before
         yield from wanted("allocations before the server listens are counted", before > 0, True)
         yield from wanted("allocations afterwards", made, 0)
@@ -63,10 +72,7 @@ def main():
     """Runs the sessions, and returns the exit status."""
     build()
     with tempfile.TemporaryDirectory() as folder_name:
-        folder = pathlib.Path(folder_name)
-        library = preloadable(folder, "refuse_malloc")
-        failures = list(failures_of_sessions(library, folder / "count"))
-        failures += failures_of_sessions(library, folder / "count", "--record", str(folder / "record"))
+        failures = list(failures_of_sessions(pathlib.Path(folder_name)))
     return finish(failures, f"allocations while serving {SESSIONS} sessions: {len(failures)} failures")
 
 

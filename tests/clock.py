@@ -21,7 +21,8 @@ from memory import over_additions
 from lib.program import assembled, build, explained, finish, preloadable, shipped
 from lib.rules import BINDING, CREATE_PERMISSION, NONCE, REFRESH
 from lib.server import (
-    BAD, DISCARD, Client, Server, address_of, channel_data, code_of, comes, counters, passed, put, udp_socket, wanted)
+    BAD, DISCARD, Client, Server, address_of, channel_data, code_of, comes, counters, passed, put, samples_of,
+    udp_socket, wanted)
 
 SECOND = 10**9
 # three quarters of a second after a whole one, whose half and double are other moments; and the time since a start
@@ -56,6 +57,13 @@ PERIODS = [1, 5]
 # datagrams of clients that are discarded, each after one of another kind: ChannelData, messages, and others
 DISCARDED = [b"\x40", b"\x3f", b"", b"\x4f", b"\x00", b"\x50", b"\x47\0\0\0", b"", b"\x3f", b"\xff", b"\x40", b""]
 OF_EACH = (4, 3, 5)
+# the samples of these and of a peer without a permission: the shipped programs pass on what begins as a message does, and no more
+DISCARDED_SAMPLES = {
+    'relayd_datagrams_discarded_total{kind="channel_data",reason="by_program"}': 4,
+    'relayd_datagrams_discarded_total{kind="message",reason="malformed"}': 3,
+    'relayd_datagrams_discarded_total{kind="other",reason="by_program"}': 5,
+    'relayd_datagrams_discarded_total{kind="from_peer",reason="by_program"}': 1,
+}
 
 
 class Clocks:
@@ -197,8 +205,52 @@ def counted(clocks):
         clocks.pass_by(server, SECOND)
         client.ask(BINDING, [])
         first = counters(from_clients=2, granted=1, challenged=1)
-        last = counters(from_clients=4 + len(DISCARDED), granted=2, challenged=2, discarded=(*OF_EACH, 0))
+        last = counters(from_clients=4 + len(DISCARDED), granted=2, challenged=2, discarded=(*OF_EACH, 0), malformed=3, by_program=9)
         yield from wanted("counters", server.printed(), first + last)
+
+
+def metrics(clocks):
+    """Yields what is otherwise than that metrics are written at the start and each 15 seconds, of all that came before.
+
+    Where they can't be written it is reported, once until they are.
+    """
+    def at(server, client, nanoseconds):
+        """The samples some time later, and what was printed."""
+        clocks.pass_by(server, nanoseconds)
+        client.ask(BINDING, [])
+        return samples_of(path), server.printed()
+
+    with tempfile.TemporaryDirectory() as name:
+        path, new = pathlib.Path(name) / "relayd.prom", pathlib.Path(name) / "relayd.prom.new"
+        line = f"cannot write {path}\n"
+        with clocks.serving("--metrics", str(path)) as (server, client), udp_socket() as peer:
+            begin = {"relayd_slots": 2}
+            yield from wanted("metrics before 15 s", at(server, client, 15 * SECOND - 1), (begin, ""))
+            for data in DISCARDED:
+                client.send(data)
+            peer.sendto(b"no permission", ("127.0.0.1", server.first_port))
+            after = {
+                "relayd_slots": 2, "relayd_slots_in_use": 1,
+                'relayd_datagrams_received_total{from="clients"}': 4 + len(DISCARDED),
+                'relayd_datagrams_received_total{from="peers"}': 1,
+                'relayd_responses_total{result="granted"}': 3, 'relayd_responses_total{result="challenged"}': 1,
+                **DISCARDED_SAMPLES,
+            }
+            client.ask(BINDING, [])
+            yield from wanted("metrics at 15 s", at(server, client, 1), (after, ""))
+            new.mkdir()
+            count = 'relayd_datagrams_received_total{from="clients"}'
+            for printed in line, line:
+                yield from wanted("metrics that can't be written", at(server, client, 15 * SECOND), (after, printed))
+            new.rmdir()
+            found, printed = at(server, client, 15 * SECOND)
+            yield from wanted("metrics afterwards", (found[count], printed), (after[count] + 3, line))
+            new.mkdir()
+            yield from wanted("a further fault", at(server, client, 15 * SECOND), (found, 2 * line))
+            new.rmdir()
+            # the allocation has ended by then
+            found, printed = at(server, client, 600 * SECOND)
+            yield from wanted("slots in use at the end", (found.get("relayd_slots_in_use"), printed), (None, 2 * line))
 
 
 # ---- programs that are replaced
@@ -315,7 +367,7 @@ def main():
     with tempfile.TemporaryDirectory() as name:
         folder = pathlib.Path(name)
         clocks = Clocks(folder)
-        parts = [(lifetimes, []), (clocks_that_are_set, []), (nonces, []), (lines, []), (counted, []),
+        parts = [(lifetimes, []), (clocks_that_are_set, []), (nonces, []), (lines, []), (counted, []), (metrics, []),
                  (replaced_programs, [folder]), (refused_programs, [folder])]
         for part, given in parts:
             try:

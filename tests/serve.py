@@ -28,7 +28,7 @@ from lib.rules import (
     XOR_PEER_ADDRESS, XOR_RELAYED_ADDRESS, address_in, address_value, key_of, message, read)
 from lib.server import (
     BAD, DISCARD, LOOPBACK, LOOPBACK6, PERIOD, UDP, USER, Client, Server, address_of, channel_data, code_of, comes, counters,
-    fault_line, free_ports, full_pipe, passed, put, round_trip, run, started, udp_socket, wanted, without_buffers)
+    fault_line, free_ports, full_pipe, passed, put, round_trip, run, samples_of, started, udp_socket, wanted, without_buffers)
 from worst_programs import known_programs
 
 CLIENTS, DATAGRAMS, BATCH = 10, 200_000, 40
@@ -110,6 +110,9 @@ def refused_lines():
             ([*good_port, *USER, "--record", f"{missing}/record"], 3, f"cannot record to {missing}/record\nno such folder\n"),
             ([*good_port, *USER, "--record", f"{bad}/record"], 3, f"cannot record to {bad}/record\nerror 20 of the system\n"),
             (["--port", "0", *USER, "--listen", "192.0.2.1"], 3, "cannot bind 192.0.2.1:0\nnot an address of this machine\n"),
+            ([*port, *USER, "--metrics", f"{missing}/m"], 3, in_use(f"127.0.0.1:{taken}")),
+            (["--port", "0", *USER, "--first-port", free, "--metrics", f"{missing}/m"], 3, f"cannot write {missing}/m\n"),
+            (["--port", "0", *USER, "--first-port", free, "--metrics", name], 3, f"cannot write {name}\n"),
             ([*port, *USER, "--buffer", "0"], 2, value("0", "--buffer <BYTES>")),
             ([*port, *USER, "--buffer", "1073741824"], 2, value("1073741824", "--buffer <BYTES>")),
             ([*port, *USER, "--buffer", "4MB", "--deny", "x"], 2, value("4MB", "--buffer <BYTES>")),
@@ -175,6 +178,33 @@ def rounds():
     with open("/dev/full", "w", encoding="utf-8") as full:
         found = run([*words, "--rounds", "0"], stdout=full)
     yield from wanted("a full output", found, (3, None, "cannot write output\n"))
+
+
+def metrics_of_rounds():
+    """Yields what `--metrics` does otherwise with rounds than it says: metrics are written at the start, and after the last round,
+    to a new file each time, which takes the name. So one that is read meanwhile stays whole."""
+    first = free_ports(2)
+    words = ["serve", "--port", str(first + 1), *USER, "--first-port", str(first), "--slots", "1"]
+    with tempfile.TemporaryDirectory() as name:
+        path, new = pathlib.Path(name) / "relayd.prom", pathlib.Path(name) / "relayd.prom.new"
+        path.write_text("old", encoding="utf-8")
+        os.mkfifo(new)  # to open it would wait for a reader
+        with path.open(encoding="utf-8") as old:
+            for rounds in "0", "3":
+                found = run([*words, "--rounds", rounds, "--metrics", path])
+                yield from wanted(f"{rounds} rounds with metrics", found, (0, started(first + 1, first, first), ""))
+                yield from wanted(f"metrics of {rounds} rounds", samples_of(path), {"relayd_slots": 1})
+            yield from wanted("what is read of the old file", old.read(), "old")
+        run([*words, "--rounds", "0", "--reuse-port", "--metrics", path])
+        yield from wanted("metrics of a shared port", samples_of(path), {f'relayd_slots{{first_port="{first}"}}': 1})
+        yield from wanted("files", [file.name for file in pathlib.Path(name).iterdir()], [path.name])
+        promtool = shutil.which("promtool")
+        if promtool is None:
+            PASSED_OVER.append("the format of metrics by promtool: it isn't installed")
+            return
+        with path.open("rb") as text:
+            checked = subprocess.run([promtool, "check", "metrics"], stdin=text, capture_output=True, text=True, check=False)
+        yield from wanted("promtool check metrics", (checked.returncode, checked.stdout + checked.stderr), (0, ""))
 
 
 def addresses():
@@ -325,7 +355,7 @@ def session():
         for _ in range(4):
             peer.sendto(b"no permission", ("127.0.0.1", server.first_port))
         last = counters(from_clients=18, from_peers=6, to_peers=2, to_clients=2, granted=5, challenged=2, unauthenticated=2,
-                        refused=1, discarded=(1, 2, 3, 4))
+                        refused=1, discarded=(1, 2, 3, 4), by_program=10)
         if not server.awaited(last):
             yield f"other counters: {server.printed()!r} in place of {last!r}"
         lines = server.printed().splitlines()
@@ -371,7 +401,7 @@ def session6():
         peer4.sendto(b"and back", ("127.0.0.1", server.first_port + 1))
         yield from wanted("over IPv4 back", client4.receive(), channel_data(b"and back"))
         last = counters(from_clients=13, from_peers=5, to_peers=3, to_clients=3, granted=5, challenged=3, refused=2,
-                        discarded=(0, 0, 0, 2))
+                        discarded=(0, 0, 0, 2), by_program=2)
         if not server.awaited(last):
             yield f"other counters: {server.printed()!r} in place of {last!r}"
 
@@ -814,7 +844,7 @@ def many():
 def main():
     """Runs every part, and returns the exit status."""
     build()
-    parts = [refused_lines, rounds, addresses, addresses6, default_ports, default_slots, counted_rounds, receives_of_rounds,
+    parts = [refused_lines, rounds, metrics_of_rounds, addresses, addresses6, default_ports, default_slots, counted_rounds, receives_of_rounds,
              session, session6, no_family6, transactions, many_slots, faults, failed_receives, idle, idle_files, nonces,
              replaced_programs, slow_programs, withdrawn_programs, users_that_come_and_go, turns, ahead, many]
     failures = []

@@ -30,6 +30,11 @@ CHANNEL = 0x4000
 DISCARD = bytes.fromhex("b700000000000000 9500000000000000")
 # `exit`, which is refused since r0 is not set
 BAD = bytes.fromhex("9500000000000000")
+# the reasons for which datagrams are discarded, as counters name them
+REASONS = ("not_served", "by_program", "malformed", "no_request", "no_allocation", "no_channel", "unknown_attribute",
+           "incomplete", "no_permission", "other_family")
+# a sample of a metric, with labels or without
+SAMPLE = re.compile(r'[a-z_]+(?:\{[a-z_]+="\w+"(?:,[a-z_]+="\w+")*\})? \d+')
 PERIOD = 1.0  # seconds: how often a server looks at what is due
 
 
@@ -251,17 +256,41 @@ def fault_line(receive=0, send=0):
 
 
 def counters(from_clients=0, from_peers=0, to_peers=0, to_clients=0, granted=0, challenged=0, unauthenticated=0,
-             refused=0, discarded=(0, 0, 0, 0), receive_faults=0, send_faults=0, denied=0):
+             refused=0, discarded=(0, 0, 0, 0), receive_faults=0, send_faults=0, denied=0, **reasons):
     """The line of counters.
 
-    What is discarded is ChannelData, messages and others of clients, and what comes from peers.
+    What is discarded is ChannelData, messages and others of clients, and what comes from peers; the same by its reasons is given
+    by their names.
     """
     of_channels, messages, others, of_peers = discarded
+    for_reasons = " ".join(f"{reason} {reasons.pop(reason, 0)}" for reason in REASONS)
+    if reasons:
+        raise ValueError(f"no reasons: {reasons}")
     return (f"received from clients {from_clients} peers {from_peers}, "
             f"relayed to peers {to_peers} clients {to_clients}, "
             f"granted {granted} challenged {challenged} unauthenticated {unauthenticated} refused {refused}, "
             f"discarded channel data {of_channels} messages {messages} others {others} from peers {of_peers}, "
-            f"receive faults {receive_faults} send faults {send_faults}, denied {denied} dropped 0\n")
+            f"receive faults {receive_faults} send faults {send_faults}, denied {denied} dropped 0, reasons {for_reasons}\n")
+
+
+def samples_of(path):
+    """The samples of a file of metrics, with a value other than 0, by their names with labels.
+
+    A line that has no place where it is ends the test: each metric begins with what it is and with its type.
+    """
+    samples, metric = {}, None
+    for line in path.read_text(encoding="utf-8").splitlines():
+        words = line.split(" ")
+        if line.startswith("# HELP "):
+            metric = words[2]
+        elif line.startswith("# TYPE "):
+            if words[2:] not in ([metric, "counter"], [metric, "gauge"]):
+                raise ValueError(f"{line} after the help of {metric}")
+        elif SAMPLE.fullmatch(line) and words[0].partition("{")[0] == metric and words[0] not in samples:
+            samples[words[0]] = int(words[1])
+        else:
+            raise ValueError(f"{line} among the samples of {metric}")
+    return {name: value for name, value in samples.items() if value}
 
 
 def full_pipe():

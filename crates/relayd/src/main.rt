@@ -9,6 +9,7 @@ mod error_lines;
 mod explanations;
 mod files;
 mod filters;
+mod metrics;
 mod options;
 mod recording;
 mod replacing;

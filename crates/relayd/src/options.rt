@@ -72,6 +72,9 @@ pub(crate) enum CommandError<'a> {
     /// The line of this number, from 1 on, is no event's.
     #[error("refused line {0}")]
     Line(u64),
+    /// The file of the metrics can't be written.
+    #[error("cannot write {0}")]
+    Unwritable(&'a str),
     /// The output can't be written.
     #[error("cannot write output")]
     Output,
@@ -91,7 +94,7 @@ impl CommandError<'_> {
             CommandError::RelayedAddress | CommandError::RelayedAddress6 => 1,
             CommandError::Value(_) | CommandError::Network { .. } | CommandError::Filter(_) => 2,
             CommandError::NoUsers | CommandError::Relayed(_) => 2,
-            CommandError::File(_) | CommandError::Output => 3,
+            CommandError::File(_) | CommandError::Unwritable(_) | CommandError::Output => 3,
             CommandError::Bind(..) | CommandError::Record(..) => 3,
             CommandError::Wait | CommandError::Random => 3,
             CommandError::Memory => 4,

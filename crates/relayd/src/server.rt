@@ -4,6 +4,7 @@ use crate::clock::{Moments, elapsed};
 use crate::drops::Ports;
 use crate::error_lines::ErrorLines;
 use crate::filters::{filter_of, rules_of};
+use crate::metrics::{Metrics, MetricsFile};
 use crate::options::{CommandError, Relayed, set_up};
 use crate::recording::{RecordEnd, RecordedLink, Recording};
 use crate::replacing::Sides;
@@ -19,6 +20,7 @@ use rand::rngs::StdRng;
 use rand_core::Rng;
 use relay::Relay;
 use serving::{Endpoint, draw_nonce, serve_once};
+use std::alloc::Global;
 use std::fs::File;
 use std::io::{self, Write};
 use std::net::{Ipv4Addr, Ipv6Addr, Net};
@@ -60,6 +62,7 @@ struct Server<'a> {
     /// When faults may be printed next.
     faults: Timer,
     stats: Option<Timer>,
+    metrics: Option<MetricsFile<'a>>,
     /// Whether several datagrams had come at the endpoint that was served last.
     is_busy: bool,
 }
@@ -85,7 +88,25 @@ fn is_reachable6(octets: [u8; 16]) -> bool {
     !ip.is_unspecified() && !ip.is_multicast()
 }
 
-impl Server<'_> {
+/// Returns the metrics of a server at a moment, with the label of their samples if they have one.
+fn metrics_of<'a, R: Files>(
+    rt: &R,
+    relay: &Relay,
+    sockets: &'a mut Sockets,
+    first_port: Option<u16>,
+    now: u64,
+) -> Metrics<'a> {
+    let dropped = sockets.dropped(rt);
+    Metrics {
+        counters: sockets.counters(),
+        dropped,
+        slots: relay.tables().slots(),
+        used: relay.tables().allocation_count(now),
+        first_port,
+    }
+}
+
+impl<'a> Server<'a> {
     /// Replaces the nonce by one that is drawn, which is never refused.
     fn renew_nonce(&mut self) {
         let nonce = draw_nonce(&mut self.rng);
@@ -125,13 +146,19 @@ impl Server<'_> {
         }
     }
 
-    /// Says that the server listens, once all its memory is taken.
-    fn begin<R: Print, E: Write>(
-        &self,
+    /// Writes the first metrics, and says that the server listens, once all its memory is taken.
+    fn begin<R: Files + Print + Clock, E: Write>(
+        &mut self,
         rt: &R,
         err: &mut E,
         buffer: i32,
-    ) -> Result<(), CommandError<'static>> {
+    ) -> Result<(), CommandError<'a>> {
+        let now = self.moments.now(rt);
+        if let Some(file) = &mut self.metrics {
+            let port = file.first_port;
+            let metrics = metrics_of(rt, &self.relay, &mut self.sockets, port, now);
+            file.begin(rt, &metrics)?;
+        }
         self.announce(rt).map_err(|_| CommandError::Output)?;
         self.report_buffer(err, buffer);
         Ok(())
@@ -150,8 +177,18 @@ impl Server<'_> {
         }
     }
 
-    /// Does what is due: draws a nonce, looks for other programs and users, goes on verifying programs, and prints faults and
-    /// counters.
+    /// Writes the metrics, if they are wanted.
+    fn write_metrics<R: Files + Clock, E: Write>(&mut self, rt: &R, err: &mut E) {
+        let now = self.moments.now(rt);
+        if let Some(file) = &mut self.metrics {
+            let port = file.first_port;
+            let metrics = metrics_of(rt, &self.relay, &mut self.sockets, port, now);
+            file.write(rt, err, &metrics);
+        }
+    }
+
+    /// Does what is due: draws a nonce, looks for other programs and users, goes on verifying programs, prints faults and
+    /// counters, and writes metrics.
     /// See docs/DECISIONS.md, "What is looked at once a second".
     fn tend<R: Files + Clock + AllocGlobal, E: Write>(&mut self, rt: &R, err: &mut E) {
         let now = elapsed(rt);
@@ -173,21 +210,28 @@ impl Server<'_> {
         {
             self.sockets.report(rt, err);
         }
+        if let Some(file) = &mut self.metrics
+            && file.is_due(now)
+        {
+            self.write_metrics(rt, err);
+        }
     }
 
     /// Returns the longest wait for a datagram. Without end where nothing but datagrams matters: a nonce that is due is
     /// drawn before the next of them is served.
     fn longest_wait(&self) -> Option<Duration> {
         let has_files = self.sides.has_files() || self.users.has_file();
-        if has_files || self.stats.is_some() || self.sockets.has_faults() {
+        let has_reports = self.stats.is_some() || self.metrics.is_some();
+        if has_files || has_reports || self.sockets.has_faults() {
             Some(Duration::from_secs(PERIOD))
         } else {
             None
         }
     }
 
-    /// Serves one datagram at an endpoint, if one has come there, at a moment. Returns whether one has come, or a fault, which
-    /// the sockets have counted. A transaction id is drawn where the one before may have been used. See docs/DECISIONS.md, "One function serves a datagram".
+    /// Serves one datagram at an endpoint, if one has come there, at a moment, and counts it. Returns whether one has come, or a
+    /// fault. A transaction id is drawn where the one before may have been used.
+    /// See docs/DECISIONS.md, "One function serves a datagram".
     #[inline(always)]
     fn turn(&mut self, endpoint: Endpoint, now: u64) -> bool {
         let transaction_id = self.transaction_id;
@@ -199,9 +243,8 @@ impl Server<'_> {
         };
         match serve_once(&mut self.relay, &mut link, endpoint, now, transaction_id) {
             Ok(None) => return false,
-            Ok(Some(disposition)) => self.sockets.done(disposition),
-            // the sockets have counted the fault
-            Err(_) => {}
+            Ok(Some(disposition)) => self.sockets.count_turn(Ok(disposition)),
+            Err(fault) => self.sockets.count_turn(Err(fault)),
         }
         self.rng.fill_bytes(&mut self.transaction_id);
         true
@@ -216,7 +259,7 @@ impl Server<'_> {
         }
     }
 
-    /// Makes rounds that never wait, and prints the counters if they are wanted.
+    /// Makes rounds that never wait, and prints the counters and writes the metrics if they are wanted.
     /// See docs/DECISIONS.md, "Rounds never wait".
     fn make_rounds<R: Files + Clock + AllocGlobal, E: Write>(
         &mut self,
@@ -235,6 +278,7 @@ impl Server<'_> {
         if self.stats.is_some() {
             self.sockets.report(rt, err);
         }
+        self.write_metrics(rt, err);
     }
 
     /// Serves an endpoint until nothing comes there, or for as many datagrams as it may have, all at one moment. Returns how many
@@ -318,7 +362,7 @@ impl Server<'_> {
         rt: &R,
         err: &mut E,
         options: &ServerOptions<'_>,
-    ) -> Result<(), CommandError<'static>> {
+    ) -> Result<(), CommandError<'a>> {
         match options.rounds {
             Some(rounds) => {
                 self.begin(rt, err, options.buffer)?;
@@ -421,6 +465,24 @@ fn bind_sockets<R: Net + AllocGlobal>(
     Sockets::new(rt.alloc(), endpoints, filter).map_err(|_| CommandError::Memory)
 }
 
+/// Returns the file that the metrics are written to, if one is given. Where processes share a port, each has its first port as a
+/// label: node_exporter takes no two samples with the same name and labels.
+fn metrics_file<'a>(
+    alloc: Global,
+    server_options: &ServerOptions<'a>,
+    options: &Options<'_>,
+    now: Duration,
+) -> Result<Option<MetricsFile<'a>>, CommandError<'static>> {
+    let Some(path) = server_options.metrics else {
+        return Ok(None);
+    };
+    let first_port = server_options.reuse_port.then_some(options.first_port);
+    match MetricsFile::new(alloc, path, first_port, now) {
+        Ok(file) => Ok(Some(file)),
+        Err(_) => Err(CommandError::Memory),
+    }
+}
+
 /// Sets up a server: its relay, and then its sockets, all of which are bound.
 fn start<'a, R: Files<File = File> + Net + Clock + RandomSource + AllocGlobal>(
     rt: &R,
@@ -439,6 +501,7 @@ fn start<'a, R: Files<File = File> + Net + Clock + RandomSource + AllocGlobal>(
     let recording = Recording::begin(rt, server_options.record)?;
     let now = elapsed(rt);
     let period = Duration::from_secs(PERIOD);
+    let metrics = metrics_file(rt.alloc(), server_options, options, now)?;
     let mut server = Server {
         relay: set.relay,
         relayed: ip,
@@ -456,6 +519,7 @@ fn start<'a, R: Files<File = File> + Net + Clock + RandomSource + AllocGlobal>(
         stats: server_options
             .stats
             .map(|seconds| Timer::new(now, Duration::from_secs(seconds))),
+        metrics,
         is_busy: false,
     };
     server.renew_nonce();

@@ -1,20 +1,20 @@
 //! The sockets of a server: one for clients, and one of each family for the peers of each slot.
 
-use crate::counters::Counters;
-use crate::drops::{Ports, dropped};
+use crate::counters::{CounterLine, Faults};
+use crate::drops::{Drops, Ports};
 use crate::udp::{SocketOptions, bind, buffer_of, receive};
 use attributes::{Addr, Family};
 use mio::net::UdpSocket;
 use mio::{Interest, Poll, Registry, Token};
 use peer_filter::PeerFilter;
 use relay::Disposition;
-use serving::{Endpoint, Link, LinkError};
+use serving::{Endpoint, Link, LinkError, ServeError};
 use std::alloc::{AllocError, Global};
 use std::io::{self, ErrorKind};
 use std::net::{IpAddr, Ipv4Addr, Ipv6Addr, Net, SocketAddr, SocketAddrV4, SocketAddrV6};
 use std::rt::Files;
 use thiserror::Error;
-use turns::{Ahead, Receipt};
+use turns::{Ahead, Counters, Kind, Outcome, Receipt};
 
 /// The addresses that the sockets of a server are bound to.
 #[derive(Clone, Copy)]
@@ -90,27 +90,27 @@ pub(crate) struct Endpoints {
     family: Family,
 }
 
-/// The sockets of a server, what was received ahead at one of them, and what was counted.
+/// The sockets of a server, what was received ahead at one of them, and what was counted. A turn is counted once, when it ends.
+/// See docs/DECISIONS.md, "A turn is counted when it ends".
 #[derive(Drop)]
 pub(crate) struct Sockets {
     endpoints: Endpoints,
     ahead: Ahead,
     filter: PeerFilter,
+    drops: Drops,
     counters: Counters,
+    /// The faults when they were last printed.
+    printed: Faults,
+    /// What the last datagram that came is.
+    kind: Kind,
+    /// Why the last one that wasn't sent wasn't.
+    unsent: Outcome,
 }
 
 /// The numbers of the system's errors for too many open files, of the process and of the machine.
 const EMFILE: i32 = 24;
 
 const ENFILE: i32 = 23;
-
-/// Why a datagram isn't sent.
-enum Unsent {
-    /// Its peer is denied.
-    Denied,
-    /// The send failed.
-    CommandError,
-}
 
 impl From<io::Error> for BindErrorKind {
     fn from(error: io::Error) -> BindErrorKind {
@@ -218,11 +218,16 @@ impl Sockets {
         endpoints: Endpoints,
         filter: PeerFilter,
     ) -> Result<Sockets, AllocError> {
+        let drops = Drops::new(alloc, endpoints.ports)?;
         Ok(Sockets {
             endpoints,
             ahead: Ahead::new(alloc)?,
             filter,
+            drops,
             counters: Counters::new(),
+            printed: Faults::NONE,
+            kind: Kind::Other,
+            unsent: Outcome::SendFailed,
         })
     }
 
@@ -283,29 +288,44 @@ impl Sockets {
         }
     }
 
-    /// Counts what was done with the last datagram that came.
+    /// Counts what a turn did in which something came: the datagram, by what became of it, or a receive that failed.
     #[inline(always)]
-    pub(crate) fn done(&mut self, disposition: Disposition) {
-        self.counters.done(disposition);
+    pub(crate) fn count_turn(&mut self, served: Result<Disposition, ServeError>) {
+        let outcome = match served {
+            Ok(disposition) => Outcome::Done(disposition),
+            Err(ServeError::Send) => self.unsent,
+            Err(ServeError::Receive) => return self.counters.fault(),
+        };
+        self.counters.count(self.kind, outcome);
+    }
+
+    /// Returns the counters.
+    pub(crate) fn counters(&self) -> &Counters {
+        &self.counters
+    }
+
+    /// Returns how many datagrams the system dropped, if it says so.
+    pub(crate) fn dropped<R: Files>(&mut self, rt: &R) -> Option<u64> {
+        self.drops.count(rt)
     }
 
     /// Prints the line of counters. A failure to print is ignored.
-    pub(crate) fn report<R: Files + AllocGlobal, E: io::Write>(&self, rt: &R, err: &mut E) {
-        let _ = match dropped(rt, &self.endpoints.ports) {
-            Some(dropped) => writeln!(err, "{} dropped {dropped}", self.counters),
-            None => writeln!(err, "{} dropped unknown", self.counters),
-        };
+    pub(crate) fn report<R: Files, E: io::Write>(&mut self, rt: &R, err: &mut E) {
+        let dropped = self.dropped(rt);
+        let counters = &self.counters;
+        let _ = writeln!(err, "{}", CounterLine { counters, dropped });
     }
 
     /// Returns whether receives or sends failed since that was last printed.
     pub(crate) fn has_faults(&self) -> bool {
-        self.counters.has_faults()
+        Faults::of(&self.counters) != self.printed
     }
 
     /// Prints how many receives and sends failed since that was last printed. A failure to print is ignored.
     pub(crate) fn report_faults<E: io::Write>(&mut self, err: &mut E) {
-        let faults = self.counters.take_faults();
-        let _ = writeln!(err, "{faults}");
+        let faults = Faults::of(&self.counters);
+        let _ = writeln!(err, "{}", faults.since(self.printed));
+        self.printed = faults;
     }
 
     /// Receives ahead at an endpoint.
@@ -314,15 +334,18 @@ impl Sockets {
     }
 
     /// Sends a datagram from an endpoint, unless it is to a peer that is denied.
-    fn put(&mut self, endpoint: Endpoint, to: Addr, bytes: &[u8]) -> Result<(), Unsent> {
+    ///
+    /// # Errors
+    /// Why it isn't sent: what becomes of the datagram that it is sent for.
+    fn put(&mut self, endpoint: Endpoint, to: Addr, bytes: &[u8]) -> Result<(), Outcome> {
         if let Endpoint::Slot(_) = endpoint
             && !self.filter.allows(&to)
         {
-            return Err(Unsent::Denied);
+            return Err(Outcome::Denied);
         }
         match self.endpoints.send(endpoint, to, bytes) {
             Ok(()) => Ok(()),
-            Err(LinkError) => Err(Unsent::CommandError),
+            Err(LinkError) => Err(Outcome::SendFailed),
         }
     }
 }
@@ -359,27 +382,21 @@ impl Link for Sockets {
         endpoint: Endpoint,
         into: &mut [u8],
     ) -> Result<Option<(usize, Addr)>, LinkError> {
-        match self.ahead.receive(&mut self.endpoints, endpoint, into) {
-            Ok(Some((n, from))) => {
-                self.counters
-                    .received(endpoint, into.get(..n).unwrap_or(&[]));
-                Ok(Some((n, from)))
-            }
-            Ok(None) => Ok(None),
-            Err(LinkError) => {
-                self.counters.receive_failed();
-                Err(LinkError)
-            }
+        let received = self.ahead.receive(&mut self.endpoints, endpoint, into)?;
+        if let Some((n, _)) = received {
+            self.kind = Kind::of(endpoint, into.get(..n).unwrap_or(&[]));
         }
+        Ok(received)
     }
 
     #[inline(always)]
     fn send(&mut self, endpoint: Endpoint, to: Addr, bytes: &[u8]) -> Result<(), LinkError> {
         match self.put(endpoint, to, bytes) {
-            Ok(()) => return Ok(()),
-            Err(Unsent::Denied) => self.counters.denied(),
-            Err(Unsent::CommandError) => self.counters.send_failed(),
+            Ok(()) => Ok(()),
+            Err(outcome) => {
+                self.unsent = outcome;
+                Err(LinkError)
+            }
         }
-        Err(LinkError)
     }
 }
