@@ -7,6 +7,7 @@ of the record must answer with each datagram that the server has sent, in order,
 """
 
 import contextlib
+import json
 import os
 import pathlib
 import re
@@ -26,6 +27,8 @@ HERE = TOP / "tests" / "clients"
 sys.path.append(str(HERE))
 MESSAGES = 1_000
 SLOTS = 256
+USER = "u", "p"
+SECRET = "between-the-web-and-the-relay"
 # Half of turnutils_uclient's allocations ask for an even port and three quarters of its channels are above 0x4FFF, by
 # chance; both are refused. So a client that isn't refused is waited for, this often.
 TRIES = 400
@@ -84,7 +87,7 @@ def stunclient(server):
 
 def uclient(*mode):
     """coturn's client of TURN, in a mode: messages to a peer or to each other, by indications or over channels, of an
-    allocation over IPv4 or (`-x`) over IPv6."""
+    allocation over IPv4 or (`-x`) over IPv6, as a user or (`-W`) with a secret."""
 
     def exchanges(server):
         program = shutil.which("turnutils_uclient")
@@ -104,16 +107,28 @@ def uclient(*mode):
     return exchanges
 
 
-def aioice(server):
+def credentials(server):
+    """A name that expires and its password, as `examples/credentials.py` gives them to a web page."""
+    words = [sys.executable, TOP / "examples" / "credentials.py", server.secret, f"turn:127.0.0.1:{server.port}", "ann"]
+    [given] = json.loads(subprocess.run(words, stdout=subprocess.PIPE, text=True, check=True).stdout)
+    return given["username"], given["credential"]
+
+
+def expiring(client):
+    """A client with credentials that expire."""
+    return lambda server: client(server, credentials(server))
+
+
+def aioice(server, user=USER):
     """The client of aioice, a library of Python: messages over a channel, and the end of the allocation."""
     for python in (sys.executable, "/usr/bin/python3"):
         with contextlib.suppress(OSError):
             if ran([python, "-c", "import aioice"])[0] == 0:
-                return exchanged(server, [python, HERE / "aioice_client.py", server.port, MESSAGES])
+                return exchanged(server, [python, HERE / "aioice_client.py", server.port, MESSAGES, *user])
     return PASSED_OVER
 
 
-def pion(server):
+def pion(server, user=USER):
     """The client of pion, a library of Go: a Binding, messages by indications and over a channel, and the end."""
     go, library = shutil.which("go"), pathlib.Path("/usr/share/gocode")
     if go is None or not (library / "src" / "github.com" / "pion" / "turn").exists():
@@ -122,16 +137,16 @@ def pion(server):
         environment = {**os.environ, "GO111MODULE": "off", "GOPATH": str(library), "GOCACHE": f"{name}/cache"}
         program = f"{name}/client"
         subprocess.run([go, "build", "-o", program, HERE / "pion_client.go"], env=environment, check=True)
-        return list(exchanged(server, [program, f"127.0.0.1:{server.port}", MESSAGES]))
+        return list(exchanged(server, [program, f"127.0.0.1:{server.port}", MESSAGES, *user]))
 
 
-def chromium(server):
+def chromium(server, user=USER):
     """A page in Chromium: two peer connections that may use relayed candidates alone, and a data channel."""
     program = shutil.which("chromium") or shutil.which("chromium-browser") or shutil.which("google-chrome")
     if program is None:
         return PASSED_OVER
     from chromium import exchange
-    found = exchange(program, f"turn:127.0.0.1:{server.port}", MESSAGES)
+    found = exchange(program, f"turn:127.0.0.1:{server.port}", *user, MESSAGES)
     return wanted("messages", found, {"returned": MESSAGES, "relayed": True})
 
 
@@ -140,11 +155,15 @@ CLIENTS = [
     ("turnutils_uclient by indications", uclient("-s")),
     ("turnutils_uclient over channels", uclient()),
     ("turnutils_uclient to each other", uclient("-y", "-s")),
+    ("turnutils_uclient with a secret", uclient("-y", "-s", "-W", SECRET)),
     ("turnutils_uclient over IPv6 by indications", uclient("-x", "-s")),
     ("turnutils_uclient over IPv6 over channels", uclient("-x")),
     ("aioice", aioice),
+    ("aioice with credentials that expire", expiring(aioice)),
     ("pion", pion),
+    ("pion with credentials that expire", expiring(pion)),
     ("chromium", chromium),
+    ("chromium with credentials that expire", expiring(chromium)),
 ]
 
 
@@ -212,7 +231,7 @@ class Record:
         server.end()
         if not self.sent.exists():
             return PASSED_OVER
-        found = replayed(server, self.file, "--relay-ip6", LOOPBACK6.hex())
+        found = replayed(server, self.file, "--relay-ip6", LOOPBACK6.hex(), "--secret", server.secret)
         expected = sends(server, self.sent)
         if found == expected:
             return []
@@ -224,9 +243,11 @@ class Record:
 def tried(name, client, folder):
     """What a client finds wrong with a server of its own, and what the capture and the record do; each may be `PASSED_OVER`."""
     record = Record(folder)
-    words = ["--listen6", "::1", "--record", str(record.file)]
+    secret = record.folder / "secret"
+    secret.write_text(f"{SECRET}\n", encoding="utf-8")
+    words = ["--listen6", "::1", "--record", str(record.file), "--secret", str(secret)]
     with Server(*words, slots=SLOTS, env=record.environment) as server:
-        capture = Capture(server.port, folder)
+        capture, server.secret = Capture(server.port, folder), secret
         try:
             found = client(server)
             found = found if found == PASSED_OVER else list(found)

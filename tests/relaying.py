@@ -41,9 +41,9 @@ IPV4_PROGRAMS = TOP / "tests" / "ipv4_programs"
 class Generator:
     """Events that are likely to meet each rule, made along a model's state."""
 
-    def __init__(self, seed, ip6=None):
+    def __init__(self, seed, ip6=None, secret=None):
         self.random = random.Random(seed)
-        self.rules = Rules(USERS, slots=SLOTS, ip6=ip6)
+        self.rules = Rules(USERS, slots=SLOTS, ip6=ip6, secret=secret)
         self.clients = CLIENTS if ip6 is None else [*CLIENTS * 4, CLIENT6]
         self.peers = PEERS if ip6 is None else PEERS + PEERS6
         self.families = [1, 1, 2] if ip6 is None else [1, 2, 2, 2, 3]
@@ -114,7 +114,7 @@ class Generator:
         given = self.arguments(kind, transaction_id)
         if self.chance(0.05):
             given.insert(self.random.randrange(len(given) + 1), self.pick([(0x8022, b"name"), (0x001A, b""), (0x7F00, b"x")]))
-        name, password = USERS[0] if self.chance(0.9) else self.pick([USERS[1], ("carol", "secret"), ("alice", "wrong")])
+        name, password = self.user()
         nonce = self.rules.nonce if self.chance(0.95) else b"stale"
         credentials = [(USERNAME, name.encode()), (REALM, b"relay"), (NONCE, nonce)]
         if self.chance(0.03):
@@ -122,6 +122,10 @@ class Generator:
         if self.chance(0.05):
             return message(kind, transaction_id, given)
         return message(kind, transaction_id, given + credentials, key_of(name, "relay", password))
+
+    def user(self):
+        """The name and the password of a request."""
+        return USERS[0] if self.chance(0.9) else self.pick([USERS[1], ("carol", "secret"), ("alice", "wrong")])
 
     def arguments(self, kind, transaction_id):
         lifetime = [(LIFETIME, struct.pack(">I", self.pick([0, 1, 599, 601, 3600, 4000, 2 ** 32 - 1])))]
@@ -140,7 +144,11 @@ class Generator:
 
 def seeded(seed, count, ip6=None):
     """Events, each with the answer of the model."""
-    generator = Generator(seed, ip6)
+    return answered(Generator(seed, ip6), count)
+
+
+def answered(generator, count):
+    """As many events of a generator, each with the answer of its model."""
     pairs = []
     for _ in range(count):
         event = generator.event()

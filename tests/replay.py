@@ -66,10 +66,10 @@ UNKNOWN = message(0x0001, bytes(12), [(0x0102, b""), (0x0100, b"")]).hex()
 NOT_UNDERSTOOD = "c 198.51.100.2:4000 " + message(
     0x0111, bytes(12), [(ERROR_CODE, bytes([0, 0, 4, 20]) + b"Unknown Attribute"), (UNKNOWN_ATTRIBUTES, b"\1\2\1\0")]).hex() + "\n"
 # the words after `replay`, the status, standard error; nothing is printed to standard output. The faults come in the
-# order of the command line, the file of users, the nonce's length, the programs, the fields and the events, so the
+# order of the command line, the files of users and of the secret, the nonce's length, the programs, the fields and the events, so the
 # second fault of a case is not named.
 FAULTS = [
-    (["missing"], 2, "error: '--user <NAME:PASSWORD>' or '--users <FILE>' is required\n"),
+    (["missing"], 2, "error: '--user <NAME:PASSWORD>', '--users <FILE>' or '--secret <FILE>' is required\n"),
     (["--user", "up", "missing"], 2, "error: invalid value 'up' for '--user <NAME:PASSWORD>'\n"),
     ([*USER, "--slots", "x", *LONG_NONCE, "events"], 2, "error: invalid value 'x' for '--slots <N>'\n"),
     ([*USER, "--slots", "-1", "events"], 2, None),
@@ -111,6 +111,18 @@ FAULTS = [
     ([*USER, *TWICE, "missing"], 1, "refused users\n"),
     (["--users", "empty", "missing"], 1, "refused users\n"),
     ([*USER, "--users", "users", "events"], 1, "refused users\n"),
+    (["--secret", "missing", *LONG_NONCE, "events"], 3, UNREAD),
+    (["--users", "bad_users", "--secret", "missing", "events"], 1, "refused users at line 2\n"),
+    (["--secret", "two_lines", *LONG_NONCE, "events"], 1, "refused secret at line 2\n"),
+    (["--secret", "bytes", "events"], 3, "cannot read bytes\n"),
+    (["--secret", "15_bytes", *SPACED_NONCE, "events"], 1, "refused nonce\n"),
+    ([*USER, *TWICE, "--secret", "15_bytes", "events"], 1, "refused users\n"),
+    (["--secret", "empty", "missing"], 1, "refused secret\n"),
+    (["--secret", "15_bytes", "missing"], 1, "refused secret\n"),
+    (["--secret", "16_bytes", "missing"], 3, UNREAD),
+    (["--secret", "128_bytes", "missing"], 3, UNREAD),
+    (["--secret", "129_bytes", "missing"], 1, "refused secret\n"),
+    (["--users", "empty", "--secret", "16_bytes", "missing"], 3, UNREAD),
     ([*USER, "missing"], 3, UNREAD),
     ([*USER, "folder"], 3, "cannot read folder\n"),
 ]
@@ -336,6 +348,8 @@ def write_files(folder):
         "allocate6": f"c 1000 {TX} 198.51.100.2:4000 {ALLOCATE6}\n",
         "unknown": f"c 1000 {TX} 198.51.100.2:4000 {UNKNOWN}\n",
         "bad_users": "u:p\nup\n",
+        "two_lines": "s" * 16 + "\n\n",
+        **{f"{count}_bytes": "s" * count + "\n" for count in (15, 16, 128, 129)},
     }
     for name, text in texts.items():
         (folder / name).write_text(text, encoding="utf-8")

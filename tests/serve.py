@@ -84,7 +84,7 @@ def refused_lines():
         in_use = "cannot bind {}\naddress in use\n".format
         network = "error: invalid value '{}' for '{}': {}\n".format
         many = [word for number in range(65) for word in ("--deny", f"192.0.2.{number}/32")]
-        needs = "error: '--user <NAME:PASSWORD>' or '--users <FILE>' is required\n"
+        needs = "error: '--user <NAME:PASSWORD>', '--users <FILE>' or '--secret <FILE>' is required\n"
         cases = [
             (["--port", "x"], 2, value("x", "--port <P>")),
             (["--port", "65536", *USER], 2, value("65536", "--port <P>")),

@@ -26,12 +26,12 @@ class Receiver(asyncio.DatagramProtocol):
         self.received.put_nowait((data, addr))
 
 
-async def run(port, count):
+async def run(port, count, username, password):
     """Sends messages to the peer one after the other, and returns how many came back."""
     loop = asyncio.get_running_loop()
     peer, _ = await loop.create_datagram_endpoint(Echo, local_addr=("127.0.0.1", 0))
     address = peer.get_extra_info("sockname")
-    relayed, receiver = await turn.create_turn_endpoint(Receiver, ("127.0.0.1", port), username="u", password="p")
+    relayed, receiver = await turn.create_turn_endpoint(Receiver, ("127.0.0.1", port), username=username, password=password)
     returned = 0
     for i in range(count):
         sent = b"message %d" % i
@@ -44,4 +44,4 @@ async def run(port, count):
     return returned
 
 
-print(asyncio.run(run(int(sys.argv[1]), int(sys.argv[2]))))
+print(asyncio.run(run(int(sys.argv[1]), int(sys.argv[2]), *sys.argv[3:])))

@@ -63,8 +63,8 @@ class Browser:
                 return answer["result"]
 
 
-def exchange(program, url, count):
-    """Returns what the page saw of messages over the relay with this URL."""
+def exchange(program, url, username, password, count):
+    """Returns what the page saw of messages over the relay with this URL, of a user."""
     with tempfile.TemporaryDirectory(ignore_cleanup_errors=True) as profile:
         browser = Browser(program, profile)
         try:
@@ -73,7 +73,7 @@ def exchange(program, url, count):
             browser.ask("Page.enable", session)
             browser.ask("Page.navigate", session, url=PAGE.as_uri())
             loaded = "while (!self.exchange) await new Promise((go) => setTimeout(go, 10));"
-            call = f'(async () => {{ {loaded} return exchange("{url}", "u", "p", {count}); }})()'
+            call = f'(async () => {{ {loaded} return exchange("{url}", "{username}", "{password}", {count}); }})()'
             found = browser.ask("Runtime.evaluate", session, expression=call, awaitPromise=True, returnByValue=True)
             return found["result"].get("value")
         finally:

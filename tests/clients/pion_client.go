@@ -49,7 +49,7 @@ func exchange(relayed net.PacketConn, peer net.Addr, count int) error {
 	return nil
 }
 
-func run(server string, count int) error {
+func run(server string, count int, username, password string) error {
 	conn, err := net.ListenPacket("udp4", "127.0.0.1:0")
 	if err != nil {
 		return err
@@ -62,7 +62,7 @@ func run(server string, count int) error {
 	defer peer.Close()
 	go echo(peer)
 	client, err := turn.NewClient(&turn.ClientConfig{
-		STUNServerAddr: server, TURNServerAddr: server, Conn: conn, Username: "u", Password: "p", Realm: "relay",
+		STUNServerAddr: server, TURNServerAddr: server, Conn: conn, Username: username, Password: password, Realm: "relay",
 	})
 	if err != nil {
 		return err
@@ -93,7 +93,7 @@ func main() {
 	if err != nil {
 		log.Fatal(err)
 	}
-	if err := run(os.Args[1], count); err != nil {
+	if err := run(os.Args[1], count, os.Args[3], os.Args[4]); err != nil {
 		log.Fatal(err)
 	}
 	fmt.Println(count)

@@ -1,7 +1,9 @@
 """A model of the relay's rules, from the standards (RFC 8489, RFC 8656) and the tables of this profile: what is answered to
 a list of events, written apart from the relay's definitions. Python's standard library alone."""
+import base64
 import hashlib
 import hmac
+import re
 import struct
 
 COOKIE = 0x2112A442
@@ -70,6 +72,11 @@ def key_of(name, realm, password):
     return hashlib.md5(f"{name}:{realm}:{password}".encode()).digest()
 
 
+def password_of(secret, name):
+    """The password of a name with time-limited credentials."""
+    return base64.b64encode(hmac.new(secret, name, hashlib.sha1).digest())
+
+
 class Message:
     """A message that was read: type, transaction id, and the attributes up to the first MESSAGE-INTEGRITY."""
 
@@ -124,8 +131,8 @@ class Allocation:
 class Rules:
     """The rules, over a state: allocations by slot, the greatest moment, and the nonce."""
 
-    def __init__(self, users, realm="relay", nonce="n1", slots=16, ip=bytes([127, 0, 0, 1]), ip6=None, first_port=49152):
-        self.users, self.realm, self.nonce = users, realm, nonce.encode()
+    def __init__(self, users, realm="relay", nonce="n1", slots=16, ip=bytes([127, 0, 0, 1]), ip6=None, first_port=49152, secret=None):
+        self.users, self.realm, self.nonce, self.secret = users, realm, nonce.encode(), secret
         self.ips, self.first_port, self.now = {IPV4: ip, IPV6: ip6}, first_port, 0
         self.slots = [None] * slots
 
@@ -212,7 +219,7 @@ class Rules:
         try:
             user = None
             if m.kind != BINDING:
-                user, key = self.check(m)
+                user, key = self.check(client, m)
             if m.unknown():
                 raise Refused(420)
             if m.kind == BINDING:
@@ -229,8 +236,21 @@ class Rules:
                 given += [(UNKNOWN_ATTRIBUTES, b"".join(struct.pack(">H", k) for k in m.unknown()))]
             return ("c", client, message(m.kind | 0x110, m.transaction_id, given, key))
 
-    def check(self, m):
-        """The user of a request, by index, and the key."""
+    def account(self, client, name):
+        """The user of a name, an index or the name itself, and the password; None where nobody has the name."""
+        for index, (user, password) in enumerate(self.users):
+            if user.encode() == name:
+                return index, password.encode()
+        said = re.fullmatch(rb"(0|[1-9][0-9]*)(:.*)?", name, re.DOTALL)
+        if self.secret is None or said is None or len(name) > 128 or int(said[1]) >= 2 ** 64:
+            return None
+        held = self.of(client)
+        if int(said[1]) <= self.now and (held is None or held.user != name):
+            return None
+        return name, password_of(self.secret, name)
+
+    def check(self, client, m):
+        """The user of a request of a client, and the key."""
         code, name = m.first(INTEGRITY), m.first(USERNAME)
         if code is None:
             raise Refused(401)
@@ -238,13 +258,14 @@ class Rules:
             raise Refused(400)
         if m.first(NONCE) != self.nonce:
             raise Refused(438)
-        for index, (user, password) in enumerate(self.users):
-            if user.encode() == name:
-                key = key_of(user, self.realm, password)
-                if hmac.new(key, m.covered, hashlib.sha1).digest() != code:
-                    raise Refused(401)
-                return index, key
-        raise Refused(401)
+        account = self.account(client, name)
+        if account is None:
+            raise Refused(401)
+        user, password = account
+        key = hashlib.md5(b":".join([name, self.realm.encode(), password])).digest()
+        if hmac.new(key, m.covered, hashlib.sha1).digest() != code:
+            raise Refused(401)
+        return user, key
 
     @staticmethod
     def number(m, kind, size, must=False):

@@ -79,14 +79,14 @@ def free_ports(count, address="127.0.0.1"):
 class Server:
     """A running server."""
 
-    def __init__(self, *words, slots=2, **options):
+    def __init__(self, *words, slots=2, users=tuple(USER), **options):
         self.slots = slots
         for _ in range(10):
             self.first_port = free_ports(slots)
             self.errors = tempfile.TemporaryFile("w+")
             ports = ["--port", "0", "--first-port", str(self.first_port), "--slots", str(slots)]
             self.process = subprocess.Popen(
-                [PROGRAM, "serve", *ports, *USER, *words],
+                [PROGRAM, "serve", *ports, *users, *words],
                 stdout=subprocess.PIPE, stderr=self.errors, text=True, **options)
             line = self.process.stdout.readline()
             if line.startswith("listening 127.0.0.1:"):

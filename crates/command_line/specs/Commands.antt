@@ -59,7 +59,8 @@ events_argument = record (new_rule (codes "events")) { action = Some Set; value_
 
 -- the command with the options of the users, with those of the relayed addresses, and with those of the programs
 abbrev pub with_users : App → App
-with_users app = with_rule (with_rule (with_rule app (option (codes "realm"))) (repeated_option (codes "user"))) (option (codes "users"))
+with_users app = with_rule (with_rule (with_rule (with_rule app (option (codes "realm"))) (repeated_option (codes "user"))) (option (codes "users")))
+    (option (codes "secret"))
 
 abbrev pub with_addresses : App → App
 with_addresses app = with_rule (with_rule (with_rule (with_rule app (option (codes "slots"))) (option (codes "relay-ip"))) (option (codes "relay-ip6")))

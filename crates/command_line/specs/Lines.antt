@@ -43,6 +43,7 @@ only_user user = record {
   realm = None;
   users = Some (user ∷ []);
   users_file = None;
+  secret_file = None;
   slots = None;
   relay_ip = None;
   relay_ip6 = None;
@@ -57,6 +58,7 @@ only_users_file file = record {
   realm = None;
   users = None;
   users_file = Some file;
+  secret_file = None;
   slots = None;
   relay_ip = None;
   relay_ip6 = None;
@@ -71,6 +73,7 @@ pub record GivenOptions : Type 0 where
   pub user : Text
   pub other : Text
   pub users_file : Text
+  pub secret_file : Text
   pub slots : Text
   pub relay_ip : Text
   pub relay_ip6 : Text
@@ -83,6 +86,7 @@ every_option g = record {
   realm = Some g.realm;
   users = Some (g.user ∷ g.other ∷ []);
   users_file = Some g.users_file;
+  secret_file = Some g.secret_file;
   slots = Some g.slots;
   relay_ip = Some g.relay_ip;
   relay_ip6 = Some g.relay_ip6;
@@ -95,7 +99,8 @@ every_option g = record {
 abbrev pub options_before : GivenOptions → List Text → List Text
 options_before g rest =
     (codes "--realm=" ++ g.realm) ∷ (codes "--user=" ++ g.user) ∷ (codes "--user=" ++ g.other)
-    ∷ (codes "--users=" ++ g.users_file) ∷ (codes "--slots=" ++ g.slots) ∷ (codes "--relay-ip=" ++ g.relay_ip)
+    ∷ (codes "--users=" ++ g.users_file) ∷ (codes "--secret=" ++ g.secret_file) ∷ (codes "--slots=" ++ g.slots)
+    ∷ (codes "--relay-ip=" ++ g.relay_ip)
     ∷ (codes "--relay-ip6=" ++ g.relay_ip6) ∷ (codes "--first-port=" ++ g.first_port)
     ∷ (codes "--client=" ++ g.client) ∷ (codes "--peer=" ++ g.peer) ∷ rest
 

@@ -30,6 +30,7 @@ pub record Texts : Type 0 where
   pub realm : Option Text
   pub users : Option (List Text)
   pub users_file : Option Text
+  pub secret_file : Option Text
   pub slots : Option Text
   pub relay_ip : Option Text
   pub relay_ip6 : Option Text
@@ -42,6 +43,7 @@ texts_in rows = record {
   realm = first_of (codes "realm") rows;
   users = all_of (codes "user") rows;
   users_file = first_of (codes "users") rows;
+  secret_file = first_of (codes "secret") rows;
   slots = first_of (codes "slots") rows;
   relay_ip = first_of (codes "relay-ip") rows;
   relay_ip6 = first_of (codes "relay-ip6") rows;
@@ -62,6 +64,7 @@ pub record HaveValues (texts : Texts) (o : Options) : Type 0 where
   pub realm : o.realm.now ≡ unwrap_or texts.realm (codes "relay")
   pub users : texts.users ≡ list_of o.users
   pub users_file : texts.users_file ≡ text_of o.users_file
+  pub secret_file : texts.secret_file ≡ text_of o.secret_file
   pub slots : HasValueOr 16 (IsDecimal (2 ^ 64)) texts.slots o.slots
   pub relay_ip : HasValue IsIpv4Text texts.relay_ip o.relay_ip
   pub relay_ip6 : HasValue AreOctets6 texts.relay_ip6 o.relay_ip6

@@ -39,6 +39,8 @@ pub struct Options<'a> {
     pub users: Option<&'a [&'a str]>,
     /// The file that has further users.
     pub users_file: Option<&'a str>,
+    /// The file that has the secret of time-limited credentials.
+    pub secret_file: Option<&'a str>,
     /// The number of slots; 16 by default.
     pub slots: usize,
     /// The relayed IPv4 address.
@@ -313,6 +315,12 @@ fn with_users<'a>(alloc: Global, command: Command<'a>) -> Result<Command<'a>, Al
             "users",
             "FILE",
             "A file of users: NAME:PASSWORD a line",
+        ))?
+        .arg(option(
+            alloc,
+            "secret",
+            "FILE",
+            "A file with the secret of time-limited credentials, a line of 16 to 128 bytes; none by default",
         ))
 }
 

@@ -115,6 +115,7 @@ fn options_of<'a>(matches: &'a ArgMatches<'_>) -> Result<Options<'a>, ValueError
         realm: text_or(matches, "realm", REALM),
         users: texts(matches, "user"),
         users_file: text(matches, "users"),
+        secret_file: text(matches, "secret"),
         slots: slots.unwrap_or(SLOTS),
         relay_ip,
         relay_ip6,

@@ -112,12 +112,12 @@ const GOOD: [Good; 30] = [
     // standard input, without an option
     Good {
         words: &["relayd", "replay", "-"],
-        subcommand: r#"Replay { events: "-", nonce: "n1", options: Options { realm: "relay", users: None, users_file: None, slots: 16, relay_ip: None, relay_ip6: None, first_port: 49152, client: None, peer: None } }"#,
+        subcommand: r#"Replay { events: "-", nonce: "n1", options: Options { realm: "relay", users: None, users_file: None, secret_file: None, slots: 16, relay_ip: None, relay_ip6: None, first_port: 49152, client: None, peer: None } }"#,
     },
     // users in the order in which they are given, and no value is parted at a comma
     Good {
         words: &["relayd", "replay", "--user", "v:q,r", "a", "--user=u:p"],
-        subcommand: r#"Replay { events: "a", nonce: "n1", options: Options { realm: "relay", users: Some(["v:q,r", "u:p"]), users_file: None, slots: 16, relay_ip: None, relay_ip6: None, first_port: 49152, client: None, peer: None } }"#,
+        subcommand: r#"Replay { events: "a", nonce: "n1", options: Options { realm: "relay", users: Some(["v:q,r", "u:p"]), users_file: None, secret_file: None, slots: 16, relay_ip: None, relay_ip6: None, first_port: 49152, client: None, peer: None } }"#,
     },
     // every option
     Good {
@@ -140,18 +140,20 @@ const GOOD: [Good; 30] = [
             "2",
             "--users",
             "f",
+            "--secret",
+            "s",
             "--user",
             "u",
             "--realm",
             "r",
             "a",
         ],
-        subcommand: r#"Replay { events: "a", nonce: "n", options: Options { realm: "r", users: Some(["u"]), users_file: Some("f"), slots: 2, relay_ip: Some(203.0.113.1), relay_ip6: Some([32, 1, 13, 184, 0, 0, 0, 0, 0, 0, 0, 0, 0, 0, 0, 171]), first_port: 1, client: Some("c"), peer: Some("p") } }"#,
+        subcommand: r#"Replay { events: "a", nonce: "n", options: Options { realm: "r", users: Some(["u"]), users_file: Some("f"), secret_file: Some("s"), slots: 2, relay_ip: Some(203.0.113.1), relay_ip6: Some([32, 1, 13, 184, 0, 0, 0, 0, 0, 0, 0, 0, 0, 0, 0, 171]), first_port: 1, client: Some("c"), peer: Some("p") } }"#,
     },
     // a server with its port alone, and with every option
     Good {
         words: &["relayd", "serve", "--port", "3478"],
-        subcommand: r#"Serve { server: ServerOptions { port: 3478, rounds: None, listen: 127.0.0.1, listen6: None, buffer: 4194304, reuse_port: false, deny: None, allow: None, nonce_lifetime: 3600, stats: None, metrics: None, record: None }, options: Options { realm: "relay", users: None, users_file: None, slots: 16, relay_ip: None, relay_ip6: None, first_port: 49152, client: None, peer: None } }"#,
+        subcommand: r#"Serve { server: ServerOptions { port: 3478, rounds: None, listen: 127.0.0.1, listen6: None, buffer: 4194304, reuse_port: false, deny: None, allow: None, nonce_lifetime: 3600, stats: None, metrics: None, record: None }, options: Options { realm: "relay", users: None, users_file: None, secret_file: None, slots: 16, relay_ip: None, relay_ip6: None, first_port: 49152, client: None, peer: None } }"#,
     },
     Good {
         words: &[
@@ -169,6 +171,8 @@ const GOOD: [Good; 30] = [
             "--slots=2",
             "--users",
             "f",
+            "--secret",
+            "s",
             "--user",
             "u",
             "--user=v",
@@ -197,7 +201,7 @@ const GOOD: [Good; 30] = [
             "--port",
             "3478",
         ],
-        subcommand: r#"Serve { server: ServerOptions { port: 3478, rounds: Some(0), listen: 192.0.2.10, listen6: Some(2001:db8::10), buffer: 1073741823, reuse_port: true, deny: Some(["d", "e"]), allow: Some(["f"]), nonce_lifetime: 60, stats: Some(5), metrics: Some("m"), record: Some("e") }, options: Options { realm: "r", users: Some(["u", "v"]), users_file: Some("f"), slots: 2, relay_ip: Some(203.0.113.1), relay_ip6: Some([32, 1, 13, 184, 0, 0, 0, 0, 0, 0, 0, 0, 0, 0, 0, 171]), first_port: 1, client: Some("c"), peer: Some("p") } }"#,
+        subcommand: r#"Serve { server: ServerOptions { port: 3478, rounds: Some(0), listen: 192.0.2.10, listen6: Some(2001:db8::10), buffer: 1073741823, reuse_port: true, deny: Some(["d", "e"]), allow: Some(["f"]), nonce_lifetime: 60, stats: Some(5), metrics: Some("m"), record: Some("e") }, options: Options { realm: "r", users: Some(["u", "v"]), users_file: Some("f"), secret_file: Some("s"), slots: 2, relay_ip: Some(203.0.113.1), relay_ip6: Some([32, 1, 13, 184, 0, 0, 0, 0, 0, 0, 0, 0, 0, 0, 0, 171]), first_port: 1, client: Some("c"), peer: Some("p") } }"#,
     },
     // the program may have any name
     Good {
@@ -569,6 +573,8 @@ const REFUSED: [Refused; 54] = [
             "Other users of the machine can see it: see --users",
             "--users <FILE>",
             "A file of users: NAME:PASSWORD a line",
+            "--secret <FILE>",
+            "A file with the secret of time-limited credentials, a line of 16 to 128 bytes; none by default",
             "--slots <N>",
             "How many allocations there may be at once; 16 by default",
             "--relay-ip <A>",
@@ -628,6 +634,8 @@ const REFUSED: [Refused; 54] = [
             "A user, whose name ends at the first colon; may be repeated",
             "--users <FILE>",
             "A file of users: NAME:PASSWORD a line",
+            "--secret <FILE>",
+            "A file with the secret of time-limited credentials, a line of 16 to 128 bytes; none by default",
             "--slots <N>",
             "How many allocations there may be at once; 16 by default",
             "--relay-ip <A>",

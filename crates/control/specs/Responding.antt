@@ -4,9 +4,11 @@ use Rattle.std.specs.Prelude.{◌≡◌, ℕ, true, false, List, [], Option, Non
 use Rattle.stun.specs.Messages.{Parts, parts_bytes}
 use Rattle.stun.specs.declared.registry.Class.TheVariants as class
 use Rattle.attributes.specs.declared.address.Addr.{Addr}
-use Rattle.credentials.specs.Checks.{IsChecked, accounts_of, user_key}
+use Rattle.credentials.specs.Checks.{Directory, IsChecked, users_of, user_in}
+use Rattle.credentials.specs.TimeLimited.{Account}
 use Rattle.credentials.specs.declared.checking.AuthError.{AuthError}
 use Rattle.tables.specs.Addresses.{is_ipv4}
+use Rattle.tables.specs.LookUps.{allocation_of}
 use Rattle.tables.specs.Rows.{Rows, rows_at}
 use Rattle.control.specs.Control.{Decision, grant_of, rows_of, decision, binding}
 use Rattle.control.specs.Replies.{kind_of, reply_to}
@@ -20,10 +22,21 @@ use Rattle.control.specs.declared.response.Written.{Written}
 use Rattle.control.specs.declared.reply.Grant.{Grant}
 use Rattle.stun.specs.declared.registry.ErrorCode.{ErrorCode}
 
--- the key that a reply is signed under: that of the user whose credentials were accepted
-abbrev pub key_for : Config → Result ℕ AuthError → Option (List ℕ)
-key_for config (Ok user) = Some (user_key (string_bytes config.realm) (accounts_of config.users.items) user)
-key_for config (Err e) = None
+-- the user of the allocation that a client has, if it has one
+abbrev pub user_held : Addr → Rows → Option ℕ
+user_held client rows = option_map (λ allocation. allocation.user) (allocation_of client rows)
+
+-- whose credentials are accepted from a client at a moment, where these rows are live
+abbrev pub directory_for : Config → Addr → ℕ → Rows → Directory
+directory_for config client now rows = record {
+  users = users_of config.users.items;
+  limits = option_map (λ secret. record { secret = secret.items; moment = now; held = user_held client rows }) config.secret;
+}
+
+-- the key that a reply is signed under: that of the account whose credentials were accepted
+abbrev pub key_for : Result Account AuthError → Option (List ℕ)
+key_for (Ok account) = Some account.key
+key_for (Err e) = None
 
 -- what a response says: what is granted, or the error
 abbrev pub response_of_result : Result Grant ErrorCode → Response
@@ -41,10 +54,10 @@ pub record IsAnswer (config : Config) (r : Request) (client : Addr) (p : Parts) 
 
 -- the answer to a request whose credentials are checked
 pub record IsCheckedAnswer (config : Config) (now : ℕ) (turn : TurnRequest) (client : Addr) (p : Parts) (old new : Rows) (written : List ℕ) (says : Response) : Type 0 where
-  pub checked : Result ℕ AuthError
-  pub is_checked : IsChecked p (string_bytes config.realm) (accounts_of config.users.items) config.nonce.bytes checked
-  pub answer : IsAnswer config (request.Turn turn) client p (key_for config checked) (decision turn checked config client p (rows_at now old)) old new written
-  pub response : says ≡ response_of checked (decision turn checked config client p (rows_at now old))
+  pub checked : Result Account AuthError
+  pub is_checked : IsChecked p (string_bytes config.realm) (directory_for config client now (rows_at now old)) config.nonce.bytes checked
+  pub answer : IsAnswer config (request.Turn turn) client p (key_for checked) (decision turn (user_in checked) config client p (rows_at now old)) old new written
+  pub response : says ≡ response_of (user_in checked) (decision turn (user_in checked) config client p (rows_at now old))
 
 -- the answer to a request: that to Binding is not signed, since its credentials are not looked at
 abbrev pub Answers : Config → ℕ → Request → Addr → Parts → Rows → Rows → List ℕ → Response → Type 0

@@ -3,13 +3,13 @@
 ghost use Rattle.std.specs.Prelude.{◌≡◌};
 ghost use Rattle.std.specs.List.{list_all};
 ghost use Rattle.stun.specs.Ranges.{is_between};
-ghost use Rattle.control.specs.Configs.{is_text, is_nonce, is_user, has_name, are_distinct, are_users};
+ghost use Rattle.control.specs.Configs.{is_text, is_nonce, is_user, has_name, are_distinct, are_users, is_secret};
 
 use arrayvec::ArrayString;
 use credentials::User;
 use std::fmt;
 
-/// The greatest length of a realm, of a user's name and of a password, in bytes.
+/// The greatest length of a realm, of a user's name, of a password and of a secret, in bytes.
 pub const MAX_TEXT: usize = 128;
 
 /// The greatest number of users.
@@ -30,9 +30,11 @@ pub struct Config {
     pub realm: String,
     /// The current nonce: 1 to 64 bytes of 0x21 to 0x7E.
     pub nonce: ArrayString<64>,
-    /// The users, 1 to 64, with distinct names of 1 to 128 bytes of 0x21 to 0x7E without `:`, and passwords of 1 to 128
-    /// bytes of 0x20 to 0x7E ([`are_users`]).
+    /// The users, at most 64, and at least one where there is no secret, with distinct names of 1 to 128 bytes of 0x21 to 0x7E
+    /// without `:`, and passwords of 1 to 128 bytes of 0x20 to 0x7E ([`are_users`]).
     pub users: Vec<User>,
+    /// The secret of time-limited credentials, 16 to 128 bytes, if such credentials are accepted.
+    pub secret: Option<Vec<u8>>,
 }
 
 /// A field of a configuration that may lie outside its limits. It displays as its name.
@@ -43,6 +45,7 @@ pub enum Field {
     Realm,
     Nonce,
     Users,
+    Secret,
 }
 
 impl fmt::Display for Field {
@@ -53,17 +56,19 @@ impl fmt::Display for Field {
             Field::Realm => f.write_str("realm"),
             Field::Nonce => f.write_str("nonce"),
             Field::Users => f.write_str("users"),
+            Field::Secret => f.write_str("secret"),
         }
     }
 }
 
 /// The fields that have limits, in their order.
-const FIELDS: [Field; 5] = [
+const FIELDS: [Field; 6] = [
     Field::FirstPort,
     Field::Slots,
     Field::Realm,
     Field::Nonce,
     Field::Users,
+    Field::Secret,
 ];
 
 /// Returns whether each byte lies between `lowest` and `~`.
@@ -124,12 +129,24 @@ fn are_distinct(users: &[User]) -> bool
     true
 }
 
-/// Returns whether these can be the users of a relay: 1 to [`MAX_USERS`], with distinct names of 1 to 128 bytes of 0x21 to 0x7E
-/// without `:`, and passwords of 1 to 128 bytes of 0x20 to 0x7E.
-pub fn are_users(users: &[User]) -> bool
-    ensures { result ≡ are_users users.now }
+/// Returns whether these can be the users of a relay: at most [`MAX_USERS`], and at least one where there is no secret of
+/// time-limited credentials, with distinct names of 1 to 128 bytes of 0x21 to 0x7E without `:`, and passwords of 1 to 128 bytes of
+/// 0x20 to 0x7E.
+pub fn are_users(has_secret: bool, users: &[User]) -> bool
+    ensures { result ≡ are_users has_secret users.now }
 {
-    (1..=MAX_USERS).contains(&users.len()) && are_within_limits(users) && are_distinct(users)
+    let least = if has_secret { 0 } else { 1 };
+    (least..=MAX_USERS).contains(&users.len()) && are_within_limits(users) && are_distinct(users)
+}
+
+/// Returns whether the secret of time-limited credentials, if there is one, has 16 to 128 bytes.
+fn is_secret(secret: &Option<Vec<u8>>) -> bool
+    ensures { result ≡ is_secret secret.now }
+{
+    match secret {
+        Some(secret) => (16..=MAX_TEXT).contains(&secret.len()),
+        None => true,
+    }
 }
 
 impl Config {
@@ -149,7 +166,8 @@ impl Config {
             }
             Field::Realm => is_text(self.realm.as_bytes(), 0x20, MAX_TEXT),
             Field::Nonce => is_nonce(self.nonce.as_str()),
-            Field::Users => are_users(&self.users),
+            Field::Users => are_users(self.secret.is_some(), &self.users),
+            Field::Secret => is_secret(&self.secret),
         }
     }
 

@@ -1,15 +1,16 @@
 //! The answers to messages.
 
-ghost use Rattle.std.specs.Prelude.{◌≡◌, ◌≤◌, ◌<◌, ◌+◌, None, Ok, Err, length, take, IfOk, IfErr, IfSome, IsTrue, drop, string_bytes};
-ghost use Rattle.credentials.specs.Checks.{IsChecked, accounts_of, user_key};
-ghost use Rattle.credentials.specs.Keys.{key_bytes};
+ghost use Rattle.std.specs.Prelude.{◌≡◌, ◌≤◌, ◌<◌, ◌+◌, None, length, take, IfOk, IfSome, IsTrue, drop, option_map, string_bytes};
+ghost use Rattle.std.specs.Result.{result_map_both};
+ghost use Rattle.credentials.specs.Checks.{IsChecked, account_of};
+ghost use Rattle.credentials.specs.TimeLimited.{limits_of};
 ghost use Rattle.tables.specs.Moments.{moment_of};
 ghost use Rattle.tables.specs.Rows.{rows_at};
 ghost use Rattle.control.specs.Configs.{fault};
 ghost use Rattle.control.specs.Control.{decision_if_understood, refused_credentials};
 ghost use Rattle.control.specs.Serving.{Gives, HasSlotBelow};
 ghost use Rattle.tables.specs.Addresses.{is_ipv4};
-ghost use Rattle.control.specs.Responding.{IsCheckedAnswer, Responds, count_of, response_in};
+ghost use Rattle.control.specs.Responding.{user_held, directory_for, IsCheckedAnswer, Responds, count_of, response_in};
 ghost use Rattle.control.specs.declared.config.TheConstants.{MAX_TEXT};
 ghost use Rattle.control.specs.declared.reply.TheConstants.{REPLY_BYTES};
 
@@ -24,7 +25,7 @@ use crate::request::{Request, TurnRequest};
 use crate::response::{Response, Written, response_of};
 use crate::unknown::check_understood;
 use attributes::Addr;
-use credentials::{AuthError, Authenticated, authenticate};
+use credentials::{AuthError, Authenticated, Directory, TimeLimited, authenticate};
 use stun::Message;
 use stun::registry::ErrorCode;
 use tables::{Tables, is_ipv4};
@@ -82,19 +83,51 @@ fn serve(
     }
 }
 
-/// Checks the credentials of a request, with the realm, the users and the nonce of a configuration.
+/// Returns the user of the allocation that a client has at a moment, if it has one.
+fn user_held(tables: &Tables, client: Addr, now: u64) -> Option<usize>
+    ensures { result ≡ user_held client (rows_at now tables.now) }
+{
+    let allocation = tables.allocation_of(client, now)?;
+    Some(allocation.user)
+}
+
+/// Returns what time-limited credentials of a client are checked with at a moment; `None` where there is no secret.
+fn time_limited<'a>(
+    config: &'a Config,
+    tables: &Tables,
+    client: Addr,
+    now: u64,
+) -> Option<TimeLimited<'a>>
+    ensures { option_map limits_of result ≡ (directory_for config.now client now (rows_at now tables.now)).limits }
+{
+    match &config.secret {
+        Some(secret) => Some(TimeLimited {
+            secret,
+            moment: now,
+            held: user_held(tables, client, now),
+        }),
+        None => None,
+    }
+}
+
+/// Checks the credentials of a request that a client sent, with the realm, the users, the secret and the nonce of a configuration.
 ///
 /// # Errors
 /// The first test that fails, in the order of [`AuthError`].
-fn check_credentials(config: &Config, message: &Message<'_>) -> Result<Authenticated, AuthError>
-    ensures found { IfOk result (λ a. IsChecked message.now (string_bytes config.now.realm)
-        (accounts_of config.now.users.items) config.now.nonce.bytes (Ok a.user)) }
-    ensures key { IfOk result (λ a. key_bytes a.key
-        ≡ user_key (string_bytes config.now.realm) (accounts_of config.now.users.items) a.user) }
-    ensures refused { IfErr result (λ e. IsChecked message.now (string_bytes config.now.realm)
-        (accounts_of config.now.users.items) config.now.nonce.bytes (Err e)) }
+fn check_credentials(
+    tables: &Tables,
+    config: &Config,
+    arrival: &Arrival<'_>,
+) -> Result<Authenticated, AuthError>
+    ensures { IsChecked arrival.now.message.now (string_bytes config.now.realm)
+        (directory_for config.now arrival.now.client arrival.now.moment (rows_at arrival.now.moment tables.now))
+        config.now.nonce.bytes (result_map_both account_of (λ e. e) result) }
 {
-    authenticate(message, &config.realm, &config.users, config.nonce.as_str())
+    let directory = Directory {
+        users: &config.users,
+        time_limited: time_limited(config, tables, arrival.client, arrival.moment),
+    };
+    authenticate(arrival.message, &config.realm, &directory, config.nonce.as_str())
 }
 
 /// Answers a request of TURN, and returns what was written.
@@ -126,7 +159,7 @@ fn answer_user(
         message: arrival.message,
         key: None,
     };
-    match check_credentials(config, arrival.message) {
+    match check_credentials(tables, config, arrival) {
         Ok(authenticated) => {
             let user = authenticated.user;
             let decision = serve(tables, config, request, user, arrival);

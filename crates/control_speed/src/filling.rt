@@ -64,6 +64,7 @@ pub fn config(alloc: Global) -> Result<Config, AllocError> {
         realm: String::from_str(alloc, REALM)?,
         nonce,
         users,
+        secret: None,
     })
 }
 

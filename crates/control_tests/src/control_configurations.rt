@@ -33,6 +33,7 @@ pub fn config(rt: &impl Abort, alloc: Global) -> Result<Config, AllocError> {
         realm: String::from_str(alloc, "relay")?,
         nonce,
         users,
+        secret: None,
     })
 }
 
@@ -127,9 +128,36 @@ fn check_nonces(rt: &impl Abort, alloc: Global) -> Result<(), Fail> {
     Ok(())
 }
 
+/// Checks the limits of a secret, and that with one no user is needed.
+fn check_secrets(rt: &impl Abort, alloc: Global) -> Result<(), Fail> {
+    let mut config = config(rt, alloc)?;
+    let rows = [
+        (0, Some(Field::Secret)),
+        (15, Some(Field::Secret)),
+        (16, None),
+        (128, None),
+        (129, Some(Field::Secret)),
+    ];
+    for (length, want) in rows {
+        config.secret = Some(vec![in alloc; 0u8; length]?);
+        assert_eq!(rt; config.fault(), want, "{length} bytes");
+    }
+    // the users are named before the secret, and none are needed
+    config.users.push(user(alloc, "user", "again")?)?;
+    assert_eq!(rt; config.fault(), Some(Field::Users));
+    config.users.clear();
+    assert_eq!(rt; config.fault(), Some(Field::Secret));
+    config.secret = Some(vec![in alloc; 0u8; 16]?);
+    assert_eq!(rt; config.fault(), None);
+    config.secret = None;
+    assert_eq!(rt; config.fault(), Some(Field::Users));
+    Ok(())
+}
+
 #[test]
 fn configurations_have_their_limits(rt: HostRuntime) -> Result<(), Fail> {
     check_numbers(&rt, rt.alloc())?;
     check_texts(&rt, rt.alloc())?;
-    check_nonces(&rt, rt.alloc())
+    check_nonces(&rt, rt.alloc())?;
+    check_secrets(&rt, rt.alloc())
 }

@@ -220,7 +220,10 @@ fn write_credentials(
     }
     if let Some(password) = credentials.password {
         let username = credentials.username.unwrap_or("user");
-        sign(builder, &Key::of(username, "relay", password))?;
+        sign(
+            builder,
+            &Key::of(username.as_bytes(), "relay", password.as_bytes()),
+        )?;
     }
     Ok(())
 }

@@ -354,12 +354,13 @@ fn rows_go_on_or_end_by_their_user(rt: &impl Abort, alloc: Global) -> Result<(),
         Step::Refresh(1000, 1, 600, Err(TableError::NoAllocation)),
         // the client whose allocation has ended has another one
         Step::Allocate(1000, OTHER_CLIENT, 1, Family::Ipv4, 600, Ok(1)),
-        // a user beyond the end is gone
+        // a user beyond the end goes on
         Step::ReplaceUsers(&[Some(0)]),
         Step::Find(1000, of_another_index),
-        Step::Refresh(1000, 1, 600, Err(TableError::NoAllocation)),
-        Step::ReplaceUsers(&[]),
+        Step::Refresh(1000, 1, 600, Ok(())),
+        Step::ReplaceUsers(&[None]),
         Step::Find(1000, NOTHING),
+        Step::Refresh(1000, 1, 600, Ok(())),
         Step::Allocate(1000, CLIENT, 0, Family::Ipv4, 600, Ok(0)),
         Step::Channels(1000, &[]),
     ];

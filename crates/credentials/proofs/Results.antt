@@ -9,9 +9,10 @@ use Rattle.fallible.specs.Fallible.{◌>>=◌, check}
 use Rattle.stun.specs.Messages.{Parts}
 use Rattle.stun.specs.Registry.{message_integrity}
 use Rattle.stun.specs.declared.registry.attribute.TheConstants.{USERNAME, REALM, NONCE}
-use Rattle.credentials.specs.Checks.{Accounts, HasCredentials, IsChecked, IsUser, IsNoUser, first_value, user_key}
+use Rattle.credentials.specs.Checks.{Users, Directory, HasAccount, HasNoAccount, HasCredentials, IsChecked, IsUser, IsNoUser, first_value}
 use Rattle.credentials.specs.Integrity.{code_under}
-use Rattle.credentials.specs.Results.{user_of, check_result}
+use Rattle.credentials.specs.Results.{user_of, account_at, check_result}
+use Rattle.credentials.specs.TimeLimited.{Account}
 use Rattle.credentials.specs.declared.checking.AuthError.{AuthError}
 use Rattle.credentials.specs.declared.checking.AuthError.TheVariants.{Missing, Incomplete, StaleNonce, UnknownUser, WrongCode}
 
@@ -23,7 +24,7 @@ other_bytes xs ys ne = false_from_ne_true (bytes_eq xs ys) (λ t. ne ((bytes_eq-
 
 -- ---- users
 
-user_from : (name : List ℕ) (i : ℕ) (users : Accounts) (index : ℕ) → IsUser users name index → position_from (λ user. bytes_eq user.0 name) i users ≡ Some (i + index)
+user_from : (name : List ℕ) (i : ℕ) (users : Users) (index : ℕ) → IsUser users name index → position_from (λ user. bytes_eq user.0 name) i users ≡ Some (i + index)
 user_from name i [] index is = absurd (omega (arith, is.inside))
 user_from name i (u ∷ us) zero is =
     let here : i ≡ i + 0 = omega arith in
@@ -33,40 +34,53 @@ user_from name i (u ∷ us) (suc k) is =
     let next : i + 1 + k ≡ i + suc k = omega arith in
     cond-false (bytes_eq u.0 name) (Some i) (position_from (λ user. bytes_eq user.0 name) (i + 1) us) (other_bytes u.0 name (is.first 0 (omega arith))) ∙ user_from name (i + 1) us k rest ∙ ap Some next
 
-no_user_from : (name : List ℕ) (i : ℕ) (users : Accounts) → IsNoUser users name → position_from (λ user. bytes_eq user.0 name) i users ≡ None
+no_user_from : (name : List ℕ) (i : ℕ) (users : Users) → IsNoUser users name → position_from (λ user. bytes_eq user.0 name) i users ≡ None
 no_user_from name i [] none = refl
 no_user_from name i (u ∷ us) none =
     cond-false (bytes_eq u.0 name) (Some i) (position_from (λ user. bytes_eq user.0 name) (i + 1) us) (other_bytes u.0 name (none 0 (omega arith)))
     ∙ no_user_from name (i + 1) us (λ k lt. none (suc k) (omega (arith, lt)))
 
-user_is : (users : Accounts) (name : List ℕ) (index : ℕ) → IsUser users name index → user_of users name ≡ Some index
+user_is : (users : Users) (name : List ℕ) (index : ℕ) → IsUser users name index → user_of users name ≡ Some index
 user_is users name index is =
     let here : 0 + index ≡ index = omega arith in
     position_from-zero (λ user. bytes_eq user.0 name) users ∙ user_from name 0 users index is ∙ ap Some here
 
-user_is_none : (users : Accounts) (name : List ℕ) → IsNoUser users name → user_of users name ≡ None
+user_is_none : (users : Users) (name : List ℕ) → IsNoUser users name → user_of users name ≡ None
 user_is_none users name none = position_from-zero (λ user. bytes_eq user.0 name) users ∙ no_user_from name 0 users none
+
+-- ---- accounts
+
+module _ (realm : List ℕ) (directory : Directory) (name : List ℕ) where
+  has_account : (account : Account) → HasAccount realm directory name account → account_at realm directory name (user_of directory.users name) ≡ Some account
+  has_account account (inl (index, is, e)) = ap (account_at realm directory name) (user_is directory.users name index is) ∙ sym (ap Some e)
+  has_account account (inr (none, e)) = ap (account_at realm directory name) (user_is_none directory.users name none) ∙ e
+
+  has_no_account : HasNoAccount realm directory name → account_at realm directory name (user_of directory.users name) ≡ None
+  has_no_account (none, e) = ap (account_at realm directory name) (user_is_none directory.users name none) ∙ e
 
 -- ---- the tests, from the last to the first
 
-module _ (p : Parts) (realm : List ℕ) (users : Accounts) (nonce : List ℕ) where
-  abbrev code_tested : ℕ → List ℕ → Option (List ℕ) → Result ℕ AuthError
-  code_tested index code made = do
+module _ (p : Parts) (realm : List ℕ) (directory : Directory) (nonce : List ℕ) where
+  abbrev code_tested : Account → List ℕ → Option (List ℕ) → Result Account AuthError
+  code_tested account code made = do
     right ← ok_or made WrongCode
     _ ← check (bytes_eq right code) WrongCode
-    Ok index
+    Ok account
 
-  abbrev user_tested : List ℕ → Option ℕ → Result ℕ AuthError
-  user_tested code user = do
-    index ← ok_or user UnknownUser
-    code_tested index code (code_under (user_key realm users index) p)
+  abbrev account_tested : List ℕ → Option Account → Result Account AuthError
+  account_tested code found = do
+    account ← ok_or found UnknownUser
+    code_tested account code (code_under account.key p)
 
-  abbrev nonce_tested : List ℕ → List ℕ → List ℕ → Result ℕ AuthError
+  abbrev account_of_name : List ℕ → Option Account
+  account_of_name name = account_at realm directory name (user_of directory.users name)
+
+  abbrev nonce_tested : List ℕ → List ℕ → List ℕ → Result Account AuthError
   nonce_tested code name given = do
     _ ← check (bytes_eq given nonce) StaleNonce
-    user_tested code (user_of users name)
+    account_tested code (account_of_name name)
 
-  abbrev all_tested : Option (List ℕ) → Option (List ℕ) → Option (List ℕ) → Option (List ℕ) → Result ℕ AuthError
+  abbrev all_tested : Option (List ℕ) → Option (List ℕ) → Option (List ℕ) → Option (List ℕ) → Result Account AuthError
   all_tested code name realm given = do
     code ← ok_or code Missing
     name ← ok_or name Incomplete
@@ -74,26 +88,26 @@ module _ (p : Parts) (realm : List ℕ) (users : Accounts) (nonce : List ℕ) wh
     given ← ok_or given Incomplete
     nonce_tested code name given
 
-  right_code : (index : ℕ) (code : List ℕ) → code_tested index code (Some code) ≡ Ok index
-  right_code index code = ap (λ b. check b WrongCode >>= (λ _. Ok index)) (same_bytes code code refl)
+  right_code : (account : Account) (code : List ℕ) → code_tested account code (Some code) ≡ Ok account
+  right_code account code = ap (λ b. check b WrongCode >>= (λ _. Ok account)) (same_bytes code code refl)
 
-  wrong_code : (index : ℕ) (code : List ℕ) (made : Option (List ℕ)) → made ≢ Some code → code_tested index code made ≡ Err WrongCode
-  wrong_code index code None ne = refl
-  wrong_code index code (Some right) ne = ap (λ b. check b WrongCode >>= (λ _. Ok index)) (other_bytes right code (λ e. ne (ap Some e)))
+  wrong_code : (account : Account) (code : List ℕ) (made : Option (List ℕ)) → made ≢ Some code → code_tested account code made ≡ Err WrongCode
+  wrong_code account code None ne = refl
+  wrong_code account code (Some right) ne = ap (λ b. check b WrongCode >>= (λ _. Ok account)) (other_bytes right code (λ e. ne (ap Some e)))
 
   -- with all four attributes, the nonce is compared
-  with_all : (code name given : List ℕ) → HasCredentials p given code name → check_result p realm users nonce ≡ nonce_tested code name given
+  with_all : (code name given : List ℕ) → HasCredentials p given code name → check_result p realm directory nonce ≡ nonce_tested code name given
   with_all code name given has =
       λ i. all_tested (has.code_is i) (has.name_is i) (has.realm_is i) (has.nonce_is i)
 
-  -- with the current nonce, the user is looked up
-  looked_up : (code name : List ℕ) → HasCredentials p nonce code name → check_result p realm users nonce ≡ user_tested code (user_of users name)
+  -- with the current nonce, the account is looked up
+  looked_up : (code name : List ℕ) → HasCredentials p nonce code name → check_result p realm directory nonce ≡ account_tested code (account_of_name name)
   looked_up code name has =
-      with_all code name nonce has ∙ ap (λ b. check b StaleNonce >>= (λ _. user_tested code (user_of users name))) (same_bytes nonce nonce refl)
+      with_all code name nonce has ∙ ap (λ b. check b StaleNonce >>= (λ _. account_tested code (account_of_name name))) (same_bytes nonce nonce refl)
 
-  of_user : (code name : List ℕ) (index : ℕ) → HasCredentials p nonce code name → IsUser users name index
-      → check_result p realm users nonce ≡ code_tested index code (code_under (user_key realm users index) p)
-  of_user code name index has is = looked_up code name has ∙ ap (user_tested code) (user_is users name index is)
+  of_account : (code name : List ℕ) (account : Account) → HasCredentials p nonce code name → HasAccount realm directory name account
+      → check_result p realm directory nonce ≡ code_tested account code (code_under account.key p)
+  of_account code name account has is = looked_up code name has ∙ ap (account_tested code) (has_account realm directory name account is)
 
   incomplete : (code : List ℕ) (a b c : Option (List ℕ)) → (a ≡ None) ⊎ (b ≡ None) ⊎ (c ≡ None) → all_tested (Some code) a b c ≡ Err Incomplete
   incomplete code None b c h = refl
@@ -107,13 +121,13 @@ module _ (p : Parts) (realm : List ℕ) (users : Accounts) (nonce : List ℕ) wh
   with_code None a b c some h = absurd (some refl)
   with_code (Some code) a b c some h = incomplete code a b c h
 
-  pub result_is_checked : (r : Result ℕ AuthError) → IsChecked p realm users nonce r → r ≡ check_result p realm users nonce
-  result_is_checked (Ok index) (code, name, has, is, right) =
-      sym (of_user code name index has is ∙ ap (code_tested index code) right ∙ right_code index code)
+  pub result_is_checked : (r : Result Account AuthError) → IsChecked p realm directory nonce r → r ≡ check_result p realm directory nonce
+  result_is_checked (Ok account) (code, name, has, is, right) =
+      sym (of_account code name account has is ∙ ap (code_tested account code) right ∙ right_code account code)
   result_is_checked (Err Missing) none = sym (ap (λ code. all_tested code (first_value p USERNAME) (first_value p REALM) (first_value p NONCE)) none)
   result_is_checked (Err Incomplete) (some, missing) = sym (with_code (first_value p message_integrity) (first_value p USERNAME) (first_value p REALM) (first_value p NONCE) some missing)
   result_is_checked (Err StaleNonce) (other, code, name, has, ne) =
-      sym (with_all code name other has ∙ ap (λ b. check b StaleNonce >>= (λ _. user_tested code (user_of users name))) (other_bytes other nonce ne))
-  result_is_checked (Err UnknownUser) (code, name, has, none) = sym (looked_up code name has ∙ ap (user_tested code) (user_is_none users name none))
-  result_is_checked (Err WrongCode) (code, name, index, has, is, wrong) =
-      sym (of_user code name index has is ∙ wrong_code index code (code_under (user_key realm users index) p) wrong)
+      sym (with_all code name other has ∙ ap (λ b. check b StaleNonce >>= (λ _. account_tested code (account_of_name name))) (other_bytes other nonce ne))
+  result_is_checked (Err UnknownUser) (code, name, has, none) = sym (looked_up code name has ∙ ap (account_tested code) (has_no_account realm directory name none))
+  result_is_checked (Err WrongCode) (code, name, account, has, is, wrong) =
+      sym (of_account code name account has is ∙ wrong_code account code (code_under account.key p) wrong)

@@ -4,7 +4,8 @@ use Rattle.std.specs.Prelude.{option_map, ◌==◌, if◌then◌else◌}
 use Rattle.stun.specs.Registry.{message_integrity}
 use Rattle.stun.specs.Messages.{PaddedAttribute, Parts, attribute_of, up_to_integrity, before_first, zero_padded}
 use Rattle.credentials.specs.Hmac.{hmac}
-use Rattle.credentials.specs.Checks.{Accounts, IsUser, HasCredentials, IsChecked, user_key, first_value}
+use Rattle.credentials.specs.TimeLimited.{Account}
+use Rattle.credentials.specs.Checks.{Directory, HasAccount, HasCredentials, IsChecked, first_value}
 use Rattle.credentials.specs.Integrity.{covered_bytes, code_under, integrity_of}
 use Rattle.credentials.specs.Signs.{IsUnsigned, with_integrity}
 use Rattle.credentials.proofs.Values.{value_cons}
@@ -61,9 +62,9 @@ kept (a ∷ attributes) kind code value e is =
     ∙ kept_step (a.kind == message_integrity) (a.kind == kind) a kind a.value value (before_first attributes) (up_to_integrity attributes) (up_to_integrity (attributes ++ zero_padded message_integrity code ∷ [])) (kept attributes kind code value) e (sym (value_cons kind (attribute_of a) (map attribute_of (if a.kind == message_integrity then [] else up_to_integrity attributes))) ∙ is)
 
 -- a message that lacks only its code, with this code
-pub sign_is_accepted : (p : Parts) (name realm nonce : List ℕ) (users : Accounts) (index : ℕ) → IsUnsigned p nonce name → IsUser users name index → IsChecked (with_integrity (user_key realm users index) p) realm users nonce (Ok index)
-sign_is_accepted p name realm nonce users index is user =
-    let key : List ℕ = user_key realm users index in
+pub sign_is_accepted : (p : Parts) (name realm nonce : List ℕ) (accounts : Directory) (account : Account) → IsUnsigned p nonce name → HasAccount realm accounts name account → IsChecked (with_integrity account.key p) realm accounts nonce (Ok account)
+sign_is_accepted p name realm nonce accounts account is has =
+    let key : List ℕ = account.key in
     let code : List ℕ = integrity_of key p in
     let code_is : first_value (with_integrity key p) message_integrity ≡ Some code = value_is p.attributes code is.no_code in
     let fresh : HasCredentials (with_integrity key p) nonce code name = record {
@@ -73,4 +74,4 @@ sign_is_accepted p name realm nonce users index is user =
       realm_is = kept p.attributes REALM code is.realm is.no_code is.realm_is;
       nonce_is = kept p.attributes NONCE code nonce is.no_code is.nonce_is;
     } in
-    (code, name, fresh, user, sign_is_right key p (with_integrity key p) refl is.no_code ∙ code_is)
+    (code, name, fresh, has, sign_is_right key p (with_integrity key p) refl is.no_code ∙ code_is)

@@ -4,4 +4,5 @@ pub mod Integrity
 pub mod Checks
 pub mod Results
 pub mod Keys
+pub mod TimeLimited
 pub mod Signs

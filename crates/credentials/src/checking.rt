@@ -1,17 +1,19 @@
 //! The ordered check of a request's credentials (RFC 8489, section 9.2.4).
 
-ghost use Rattle.std.specs.Prelude.{◌≡◌, ℕ, List, Result, Some, Ok, Err, IfSome, IfNone, IfOk, IfErr, string_bytes, Decides};
+ghost use Rattle.std.specs.Prelude.{◌≡◌, ℕ, List, Result, Some, Ok, Err, IfSome, IfNone, IfOk, IfErr, option_map, string_bytes, Decides};
 ghost use Rattle.std.specs.Result.{result_map_both};
 ghost use Rattle.stun.specs.Messages.{Parts};
 ghost use Rattle.credentials.specs.Keys.{key_of, key_bytes};
 ghost use Rattle.credentials.specs.Integrity.{code_under};
-ghost use Rattle.credentials.specs.Checks.{accounts_of, Accounts, user_key, IsUser, IsNoUser, HasCredentials, IsChecked};
+ghost use Rattle.credentials.specs.TimeLimited.{Account};
+ghost use Rattle.credentials.specs.Checks.{users_of, Directory as Accounts, directory_of, listed_only, account_of, user_in, unlisted_account, IsUser, IsNoUser, HasAccount, HasNoAccount, HasCredentials, IsChecked};
 ghost use Rattle.credentials.specs.Results.{check_result};
 ghost use Rattle.credentials.specs.declared.checking.AuthError.{AuthError};
 
 use crate::key::Key;
 use crate::scanning::credentials_of;
 use crate::signing::code_over;
+use crate::time_limited::TimeLimited;
 use stun::Message;
 use thiserror::Error;
 
@@ -42,10 +44,21 @@ pub struct User {
     pub password: String,
 }
 
-/// The user whose credentials were accepted: its index, and its key, under which the reply is signed.
+/// Whose credentials are accepted: those of a list of users, and time-limited ones where there is a secret.
+#[derive(Clone, Copy)]
+pub struct Directory<'a> {
+    /// The users of the list.
+    pub users: &'a [User],
+    /// What names that no user of the list has are checked with; `None` where they are unknown.
+    pub time_limited: Option<TimeLimited<'a>>,
+}
+
+/// The account whose credentials were accepted.
 #[derive(Clone, Copy, PartialEq, Eq)]
 pub struct Authenticated {
+    /// The number of the user: the index in the list, or one of at least 2^56 for a name with time-limited credentials.
     pub user: usize,
+    /// The key, under which the reply is signed.
     pub key: Key,
 }
 
@@ -100,14 +113,14 @@ fn is_nonce(given: &[u8], nonce: &str) -> bool
 fn key_of_user(user: &User, realm: &str) -> Key
     ensures { key_bytes result ≡ key_of (string_bytes user.now.name) realm.now (string_bytes user.now.password) }
 {
-    Key::of(&user.name, realm, &user.password)
+    Key::of(user.name.as_bytes(), realm, user.password.as_bytes())
 }
 
 /// Returns the index of the first user of a name.
 /// See docs/DECISIONS.md, "The first user of a name".
 fn user_of(users: &[User], name: &[u8]) -> Option<usize>
-    ensures some { IfSome result (IsUser (accounts_of users.now) name.now) }
-    ensures none { IfNone result (IsNoUser (accounts_of users.now) name.now) }
+    ensures some { IfSome result (IsUser (users_of users.now) name.now) }
+    ensures none { IfNone result (IsNoUser (users_of users.now) name.now) }
 {
     for index in 0..users.len() {
         if has_name(&users[index], name) {
@@ -123,8 +136,8 @@ fn user_of(users: &[User], name: &[u8]) -> Option<usize>
 /// Returns C1 to C3.
 fn presented<'a>(message: &Message<'a>, nonce: &str) -> Result<(&'a [u8], &'a [u8]), AuthError>
     ensures found { IfOk result (λ r. HasCredentials message.now nonce.now r.0.now r.1.now) }
-    ensures refused { IfErr result (λ e. (realm : List ℕ) (users : Accounts)
-        → IsChecked message.now realm users nonce.now (Err e)) }
+    ensures refused { IfErr result (λ e. (realm : List ℕ) (accounts : Accounts)
+        → IsChecked message.now realm accounts nonce.now (Err e)) }
 {
     let found = credentials_of(message);
     let code = found.code.ok_or(AuthError::Missing)?;
@@ -137,40 +150,61 @@ fn presented<'a>(message: &Message<'a>, nonce: &str) -> Result<(&'a [u8], &'a [u
     Ok((code, name))
 }
 
+impl Directory<'_> {
+    /// Returns the account of a name that no user of the list has.
+    fn unlisted(&self, realm: &str, name: &[u8]) -> Option<Authenticated>
+        ensures { option_map account_of result ≡ unlisted_account realm.now (directory_of self.now) name.now }
+    {
+        let time_limited = self.time_limited?;
+        time_limited.account(realm, name)
+    }
+
+    /// Returns the account of a name in a realm.
+    /// See docs/DECISIONS.md, "The key of a check".
+    fn account(&self, realm: &str, name: &[u8]) -> Option<Authenticated>
+        ensures some { IfSome result (λ a. HasAccount realm.now (directory_of self.now) name.now (account_of a)) }
+        ensures none { IfNone result (HasNoAccount realm.now (directory_of self.now) name.now) }
+    {
+        match user_of(self.users, name) {
+            Some(user) => Some(Authenticated {
+                user,
+                key: key_of_user(&self.users[user], realm),
+            }),
+            None => self.unlisted(realm, name),
+        }
+    }
+}
+
 /// Checks the credentials of a request, in one scan of its attributes: it has a code, a name, a realm and the nonce,
-/// a user has the name, and the code is the right one under the key of that user. Returns that user and key. The
-/// realm that the request names is not compared.
-/// See docs/DECISIONS.md, "The key of a check".
+/// the name has an account in a directory, and the code is the right one under the key of that account, which is returned.
+/// The realm that the request names is not compared.
 ///
 /// # Errors
 /// Returns the first test that fails, in the order of [`AuthError`].
 pub fn authenticate(
     message: &Message<'_>,
     realm: &str,
-    users: &[User],
+    directory: &Directory<'_>,
     nonce: &str,
 ) -> Result<Authenticated, AuthError>
-    ensures found { IfOk result
-        (λ a. IsChecked message.now realm.now (accounts_of users.now) nonce.now (Ok a.user)) }
-    ensures checked { result_map_both (λ a. a.user) (λ e. e) result
-        ≡ check_result message.now realm.now (accounts_of users.now) nonce.now }
-    ensures key { IfOk result (λ a. key_bytes a.key ≡ user_key realm.now (accounts_of users.now) a.user) }
-    ensures refused { IfErr result
-        (λ e. IsChecked message.now realm.now (accounts_of users.now) nonce.now (Err e)) }
+    ensures is_checked { IsChecked message.now realm.now (directory_of directory.now) nonce.now
+        (result_map_both account_of (λ e. e) result) }
+    ensures checked { result_map_both account_of (λ e. e) result
+        ≡ check_result message.now realm.now (directory_of directory.now) nonce.now }
 {
     let (code, name) = presented(message, nonce)?;
-    let Some(index) = user_of(users, name) else {
+    let Some(account) = directory.account(realm, name) else {
         return Err(AuthError::UnknownUser);
     };
-    let key = key_of_user(&users[index], realm);
-    if is_code(message, &key, code) {
-        Ok(Authenticated { user: index, key })
+    if is_code(message, &account.key, code) {
+        Ok(account)
     } else {
         Err(AuthError::WrongCode)
     }
 }
 
-/// Checks the credentials of a request as [`authenticate`] does, and returns the index of the user alone.
+/// Checks the credentials of a request as [`authenticate`] does, where no credentials are time-limited, and returns the index
+/// of the user alone.
 ///
 /// # Errors
 /// Returns those of [`authenticate`].
@@ -180,21 +214,24 @@ pub fn check(
     users: &[User],
     nonce: &str,
 ) -> Result<usize, AuthError>
-    ensures is_checked { IsChecked message.now realm.now (accounts_of users.now) nonce.now result }
-    ensures checked { result ≡ check_result message.now realm.now (accounts_of users.now) nonce.now }
+    ensures { result ≡ user_in (check_result message.now realm.now (listed_only users.now) nonce.now) }
 {
-    let authenticated = authenticate(message, realm, users, nonce)?;
-    Ok(authenticated.user)
+    let directory = Directory {
+        users,
+        time_limited: None,
+    };
+    let account = authenticate(message, realm, &directory, nonce)?;
+    Ok(account.user)
 }
 
 /// States that a result of the ordered check is the one that the function of a message gives.
 pub fn law_results_are_checked()
-    ensures { (p : Parts) (realm : List ℕ) (users : Accounts) (nonce : List ℕ) (r : Result ℕ AuthError)
-        → IsChecked p realm users nonce r → r ≡ check_result p realm users nonce }
+    ensures { (p : Parts) (realm : List ℕ) (accounts : Accounts) (nonce : List ℕ) (r : Result Account AuthError)
+        → IsChecked p realm accounts nonce r → r ≡ check_result p realm accounts nonce }
 {}
 
 /// States that the ordered check has at most one result for a message.
 pub fn law_results_are_unique()
-    ensures { (p : Parts) (realm : List ℕ) (users : Accounts) (nonce : List ℕ) (a b : Result ℕ AuthError)
-        → IsChecked p realm users nonce a → IsChecked p realm users nonce b → a ≡ b }
+    ensures { (p : Parts) (realm : List ℕ) (accounts : Accounts) (nonce : List ℕ) (a b : Result Account AuthError)
+        → IsChecked p realm accounts nonce a → IsChecked p realm accounts nonce b → a ≡ b }
 {}

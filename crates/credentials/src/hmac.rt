@@ -3,7 +3,7 @@
 ghost use Rattle.std.specs.Prelude.{◌≡◌, ◌≤◌, ◌++◌, ℕ, List, length, map, drop};
 ghost use Rattle.std.specs.List.{concat};
 ghost use Rattle.sha1.specs.Sha1.{Holds};
-ghost use Rattle.credentials.specs.Hmac.{block_of, block_with_pad, hmac};
+ghost use Rattle.credentials.specs.Hmac.{short_key, block_of, block_with_pad, hmac};
 
 use sha1::Sha1;
 
@@ -23,14 +23,25 @@ fn write_front(bytes: &mut [u8], front: &[u8])
     begin.copy_from_slice(front);
 }
 
-/// Returns a key filled with zeros to a block.
-fn block_of(key: &[u8]) -> [u8; BLOCK]
+/// Returns a key of at most a block, filled with zeros to a block.
+fn filled(key: &[u8]) -> [u8; BLOCK]
     requires { length key.now ≤ 64 }
     ensures { result ≡ block_of key.now }
 {
     let mut block = [0; BLOCK];
     write_front(&mut block, key);
     block
+}
+
+/// Returns a key, hashed where it is longer than a block, filled with zeros to a block.
+fn block_of(key: &[u8]) -> [u8; BLOCK]
+    ensures { result ≡ block_of (short_key key.now) }
+{
+    if key.len() <= BLOCK {
+        filled(key)
+    } else {
+        filled(&Sha1::digest(key))
+    }
 }
 
 /// Xors each byte with a pad.
@@ -59,10 +70,9 @@ fn update_all(hash: &mut Sha1, pieces: &[&[u8]])
     }
 }
 
-/// Returns the code of a message, given in pieces, under a key of at most 64 bytes (RFC 2104, section 2).
+/// Returns the code of a message, given in pieces, under a key of any length (RFC 2104, sections 2 and 3).
 #[tactic(auto, unfolding(crate::specs::Hmac::hmac))]
 pub fn hmac_sha1(key: &[u8], pieces: &[&[u8]]) -> [u8; 20]
-    requires { length key.now ≤ 64 }
     ensures { result ≡ hmac key.now (concat (map (λ piece. piece.now) pieces.now)) }
 {
     let block = block_of(key);

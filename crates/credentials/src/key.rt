@@ -13,15 +13,15 @@ impl Key {
     ghost use Rattle.credentials.specs.Keys.{key_of, key_bytes};
 
     /// Returns the MD5 digest of `user:realm:password`.
-    pub fn of(user: &str, realm: &str, password: &str) -> Key
+    pub fn of(user: &[u8], realm: &str, password: &[u8]) -> Key
         ensures { key_bytes result ≡ key_of user.now realm.now password.now }
     {
         let mut hasher = Md5::new();
-        hasher.update(user.as_bytes());
+        hasher.update(user);
         hasher.update(b":");
         hasher.update(realm.as_bytes());
         hasher.update(b":");
-        hasher.update(password.as_bytes());
+        hasher.update(password);
         Key {
             bytes: hasher.finalize(),
         }

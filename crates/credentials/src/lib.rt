@@ -7,9 +7,10 @@ mod hmac;
 mod key;
 mod scanning;
 mod signing;
+mod time_limited;
 
 pub use checking::{
-    AuthError, Authenticated, User, authenticate, check, law_results_are_checked,
+    AuthError, Authenticated, Directory, User, authenticate, check, law_results_are_checked,
     law_results_are_unique,
 };
 pub use hmac::hmac_sha1;
@@ -17,3 +18,4 @@ pub use key::Key;
 pub use signing::{
     law_what_is_signed_is_accepted, law_what_is_signed_is_right, push_integrity, sign,
 };
+pub use time_limited::TimeLimited;

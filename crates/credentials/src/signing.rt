@@ -7,7 +7,8 @@ ghost use Rattle.stun.specs.Builders.{used_of, capacity_of, SameBuffer, Appends,
 ghost use Rattle.credentials.specs.Hmac.{hmac};
 ghost use Rattle.credentials.specs.Integrity.{covered_bytes, code_under};
 ghost use Rattle.credentials.specs.Keys.{key_bytes};
-ghost use Rattle.credentials.specs.Checks.{Accounts, IsUser, IsChecked, user_key, first_value};
+ghost use Rattle.credentials.specs.TimeLimited.{Account};
+ghost use Rattle.credentials.specs.Checks.{Directory, HasAccount, IsChecked, first_value};
 ghost use Rattle.credentials.specs.Signs.{IsUnsigned, with_integrity, code_in};
 
 use crate::hmac::hmac_sha1;
@@ -68,10 +69,10 @@ pub fn law_what_is_signed_is_right()
         → code_under key (with_integrity key p) ≡ first_value (with_integrity key p) message_integrity }
 {}
 
-/// States that a message which lacks only its code, signed under the key of the first user of its name, is
-/// accepted: [`check`](crate::check) returns the index of that user.
+/// States that a message which lacks only its code, signed under the key of its name's account, is accepted:
+/// [`authenticate`](crate::authenticate) returns that account.
 pub fn law_what_is_signed_is_accepted()
-    ensures { (p : Parts) (name realm nonce : List ℕ) (users : Accounts) (index : ℕ)
-        → IsUnsigned p nonce name → IsUser users name index
-        → IsChecked (with_integrity (user_key realm users index) p) realm users nonce (Ok index) }
+    ensures { (p : Parts) (name realm nonce : List ℕ) (accounts : Directory) (account : Account)
+        → IsUnsigned p nonce name → HasAccount realm accounts name account
+        → IsChecked (with_integrity account.key p) realm accounts nonce (Ok account) }
 {}

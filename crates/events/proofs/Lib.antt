@@ -1,4 +1,3 @@
 mod Events
-mod Numbers
 mod Splits
 mod WrittenBytes

@@ -1,15 +1,15 @@
 -- Interface. The reader of a line, as functions on its bytes, which the code mirrors. Its laws say that it reads just the
 -- lines of events.
-use Rattle.std.specs.Prelude.{ℕ, ◌/◌, ◌^◌, ◌==◌, ◌&&◌, Bool, false, List, [], ◌∷◌, length, codes, decimal, bytes_eq, nat_lt, Option, None, Some, option_map, if◌then◌else◌}
+use Rattle.std.specs.Prelude.{ℕ, ◌/◌, ◌^◌, ◌==◌, ◌&&◌, Bool, false, List, [], ◌∷◌, length, codes, bytes_eq, Option, None, Some, option_map, if◌then◌else◌}
 use Rattle.std.specs.List.{list_any}
 use Rattle.std.specs.Result.{result_ok}
-use Rattle.std.specs.Str.Parse.{digits_value}
 use Rattle.hex.specs.Hex.{decode_sized}
 use Rattle.stun.specs.Ranges.{is_between}
 use Rattle.attributes.specs.declared.address.Addr.{Addr}
 use Rattle.attributes.specs.declared.address.Addr.TheVariants.{V4, V6}
 use Rattle.control.specs.Configs.{is_nonce}
 use Rattle.semantics.specs.declared.limits.TheConstants.{MAX_DATAGRAM}
+use Rattle.decimal.specs.Decimals.{decimal_in}
 use Rattle.events.specs.Events.{Event, Datagram, Nonce}
 use Rattle.fallible.specs.Options.{◌>>=◌, guard}
 use Rattle.events.specs.declared.meta.Source.{Source}
@@ -22,11 +22,6 @@ parts_around separator (b ∷ bytes) =
     if b == separator then Some ([], bytes) else option_map (λ p. (b ∷ p.0, p.1)) (parts_around separator bytes)
 
 -- ---- fields
-
--- a decimal number below a limit, without needless zeros
-abbrev pub decimal_in : ℕ → List ℕ → Option ℕ
-decimal_in limit text =
-    if nat_lt (digits_value 10 text) limit && bytes_eq (decimal (digits_value 10 text)) text then Some (digits_value 10 text) else None
 
 abbrev pub ipv4_in : List ℕ → Option (List ℕ)
 ipv4_in text = do

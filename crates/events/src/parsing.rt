@@ -2,15 +2,16 @@
 
 ghost use Rattle.std.specs.Prelude.{◌≡◌, ℕ, ◌^◌, ◌≤◌, List, IfSome, IsSomeAnd, None, Some, option_map, length, take, if◌then◌else◌};
 ghost use Rattle.semantics.specs.declared.limits.TheConstants.{MAX_DATAGRAM};
+ghost use Rattle.decimal.specs.Decimals.{decimal_in};
 ghost use Rattle.events.specs.Events.{Event};
 ghost use Rattle.events.specs.Lines.{line_of, IsEvent};
 ghost use Rattle.events.specs.Parsing.{event_of, FitsRoom, pair_of, source_and_rest, source_of_side};
-ghost use Rattle.events.specs.Reading.{parts_around, decimal_in, ipv4_in, is_bracketed, ipv6_in, host_in, address_in_text, has_upper, digits_in, content_in, client_in_text, peer_in, datagram_in_text, nonce_in, event_in};
+ghost use Rattle.events.specs.Reading.{parts_around, ipv4_in, is_bracketed, ipv6_in, host_in, address_in_text, has_upper, digits_in, content_in, client_in_text, peer_in, datagram_in_text, nonce_in, event_in};
 
 use crate::meta::{Meta, Source};
 use attributes::Addr;
 use control::is_nonce;
-use itoa::Buffer;
+use decimal::number;
 use semantics::MAX_DATAGRAM;
 
 /// An event that a line has. The bytes of a datagram are in the room that was given.
@@ -34,24 +35,6 @@ fn split_at(bytes: &[u8], separator: u8) -> Option<(&[u8], &[u8])>
         }
     }
     None
-}
-
-/// Returns the number of a decimal text without needless zeros.
-fn number(text: &[u8]) -> Option<u64>
-    ensures { result ≡ decimal_in (2 ^ 64) text.now }
-{
-    let Ok(digits) = std::str::from_utf8(text) else {
-        return None;
-    };
-    let Ok(number) = digits.parse::<u64>() else {
-        return None;
-    };
-    let mut buffer = Buffer::new();
-    if buffer.format(number).as_bytes() == text {
-        Some(number)
-    } else {
-        None
-    }
 }
 
 /// Returns the number of a decimal text, if it is below a limit.

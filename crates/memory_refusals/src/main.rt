@@ -47,6 +47,7 @@ fn parts(alloc: Global) -> Result<(Config, Loaded, Loaded)> {
         realm: String::from_str(alloc, "relay")?,
         nonce,
         users,
+        secret: None,
     };
     Ok((config, load(alloc, &PROGRAM)?, load(alloc, &PROGRAM)?))
 }

@@ -2,3 +2,4 @@
 
 mod checks;
 mod codes;
+mod time_limited;

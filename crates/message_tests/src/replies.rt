@@ -158,7 +158,7 @@ fn check_pushed_grant(rt: &impl Abort) {
         ip: [198, 51, 100, 2],
         port: 4000,
     };
-    let key = Key::of("user", "relay", "pass");
+    let key = Key::of(b"user", "relay", b"pass");
     let n = grant(&mut buffer, &ZERO_ID, &relayed, 600, &key);
     assert_eq!(rt; n, 64);
     assert!(rt; buffer.starts_with(&ALLOCATE_SUCCESS));

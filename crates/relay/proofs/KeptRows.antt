@@ -24,7 +24,7 @@ use Rattle.attributes.specs.Addresses.{IsAddress, IsIpv4Address, HasWidth, addre
 use Rattle.attributes.specs.declared.address.Addr.{Addr}
 use Rattle.attributes.specs.declared.address.Addr.TheVariants.{V4, V6}
 use Rattle.attributes.specs.Values.{number_of_value}
-use Rattle.credentials.specs.Checks.{first_value}
+use Rattle.credentials.specs.Checks.{first_value, user_in}
 use Rattle.credentials.specs.declared.checking.AuthError.{AuthError}
 use Rattle.fallible.specs.Fallible.{◌>>=◌, check}
 use Rattle.control.specs.Control.{Decision, rows_of, result_of_change, acceptable, allocate_beside, allocate_decision, own_allocation, refresh_decision, refresh_for, requested_family, requested_lifetime, create_permission, peers_in, channel_bind, is_repeated, user_or_error, attribute_test, decision_for_user, decision, binding}
@@ -218,7 +218,7 @@ module _ (config : Config) (now : ℕ) (client : Addr) (rows : Rows) (datagram :
   keeps_control : (p : Parts) → message_in datagram ≡ Some p → (o : Option Request) → AreWellFormed (reply_to_request config now client p rows o).rows
   keeps_control p there None = are
   keeps_control p there (Some request.Binding) = kept rows (binding p) are (after (attribute_test p) _ (λ _ _. tt))
-  keeps_control p there (Some (request.Turn r)) = kept rows (decision r (check_of config p) config client p (rows_at now rows)) are (keeps_decision p there r (check_of config p))
+  keeps_control p there (Some (request.Turn r)) = kept rows (decision r (user_in (check_of config now client p rows)) config client p (rows_at now rows)) are (keeps_decision p there r (user_in (check_of config now client p rows)))
 
   keeps_message : (o : Option Parts) → message_in datagram ≡ o → AreWellFormed (message config now client rows o).rows
   keeps_message None there = are

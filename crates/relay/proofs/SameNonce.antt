@@ -6,6 +6,7 @@ use Rattle.stun.specs.Messages.{Parts, parts_bytes}
 use Rattle.stun.specs.declared.registry.ErrorCode.{ErrorCode}
 use Rattle.stun.specs.declared.registry.ErrorCode.TheVariants as error
 use Rattle.attributes.specs.declared.address.Addr.{Addr}
+use Rattle.credentials.specs.Checks.{user_in}
 use Rattle.credentials.specs.declared.checking.AuthError.{AuthError}
 use Rattle.control.specs.Control.{Decision, grant_of, rows_of, decision, binding}
 use Rattle.control.specs.Replies.{reply_to}
@@ -44,10 +45,6 @@ module _ (c : Config) where
   reply_same r client p key (Err error.PeerAddressFamilyMismatch) = refl
   reply_same r client p key (Err error.InsufficientCapacity) = refl
 
-  key_same : (result : Result ℕ AuthError) → key_for d result ≡ key_for c result
-  key_same (Ok user) = refl
-  key_same (Err e) = refl
-
   module _ (now : ℕ) (client : Addr) (rows : Rows) where
     with_same : (r : Request) (p : Parts) (x : Decision) (key : Option (List ℕ)) → reply_with d r client p rows (x, key) ≡ reply_with c r client p rows (x, key)
     with_same r p x key = λ i. record { answer = Some (ToClient client (parts_bytes (reply_same r client p key (grant_of x) i))); rows = rows_of rows x }
@@ -62,10 +59,9 @@ module _ (c : Config) where
     answered_same p None = refl
     answered_same p (Some request.Binding) = with_same request.Binding p (binding p) None
     answered_same p (Some (request.Turn t)) =
-        let made : Decision = decision t (check_of c p) c client p (rows_at now rows) in
-        ap (λ (x : Decision). reply_with d (request.Turn t) client p rows (x, key_for d (check_of c p))) (decision_same t (check_of c p) p)
-        ∙ with_same (request.Turn t) p made (key_for d (check_of c p))
-        ∙ ap (λ key. reply_with c (request.Turn t) client p rows (made, key)) (key_same (check_of c p))
+        let checked = check_of c now client p rows in
+        ap (λ (x : Decision). reply_with d (request.Turn t) client p rows (x, key_for checked)) (decision_same t (user_in checked) p)
+        ∙ with_same (request.Turn t) p (decision t (user_in checked) c client p (rows_at now rows)) (key_for checked)
 
     message_same : (m : Option Parts) → message d now client rows m ≡ message c now client rows m
     message_same None = refl

@@ -70,7 +70,7 @@ fn is_served(from: Source, tables: &Tables) -> bool
 }
 
 impl Relay {
-    ghost use Rattle.std.specs.Prelude.{◌≡◌, ◌≤◌, ◌↔◌, IsOk, IsTrue, IfOk, IfErr, OnOk, OnErr, length, true, unwrap_or};
+    ghost use Rattle.std.specs.Prelude.{◌≡◌, ◌≤◌, ◌↔◌, IsOk, IsTrue, is_some, IfOk, IfErr, OnOk, OnErr, length, true, unwrap_or};
     ghost use Rattle.std.specs.Borrow.{sem};
     ghost use Rattle.control.specs.Configs.{fault, is_nonce, are_users};
     ghost use Rattle.control.specs.declared.config.Field.TheVariants.{Nonce, Users};
@@ -205,15 +205,15 @@ impl Relay {
     /// See docs/DECISIONS.md, "Users that are replaced".
     ///
     /// # Errors
-    /// Where they are not 1 to 64 users of distinct names, or a name or a password is outside its limits
-    /// ([`are_users`]). Then nothing is changed.
+    /// Where they can't be the users of a relay ([`are_users`]): too many or too few, two of one name, or a name or a password
+    /// outside its limits. Then nothing is changed.
     pub fn set_users(&mut self, users: Vec<User>) -> Result<(), RelayError>
         ensures ok { OnOk result (self.new ≡ after_users self.old users) }
-        ensures valid { IsOk result ↔ IsTrue (are_users users.items) }
+        ensures valid { IsOk result ↔ IsTrue (are_users (is_some self.old.config.secret) users.items) }
         ensures refused { IfErr result (λ e. e ≡ BadConfig Users) }
         ensures unchanged { OnErr result (self.new ≡ self.old) }
     {
-        if !are_users(&users) {
+        if !are_users(self.config.secret.is_some(), &users) {
             return Err(RelayError::BadConfig(Field::Users));
         }
         let indices = new_indices(&self.config.users, &users);

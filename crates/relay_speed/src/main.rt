@@ -33,6 +33,7 @@ fn config(alloc: Global, slots: usize) -> Result<Config, AllocError> {
         realm: String::from_str(alloc, "relay")?,
         nonce,
         users,
+        secret: None,
     })
 }
 

@@ -5,7 +5,7 @@ use attributes::Family;
 use control::{Grant, Response};
 use credentials::AuthError;
 use events::{Event, Parsed, parse, write_event};
-use loader::{Loaded, load};
+use loader::load;
 use programs::{CLIENT, PEER};
 use relay::{Discard, Disposition, Relay};
 use std::alloc::Global;
@@ -225,27 +225,42 @@ fn check_all(
     Ok(())
 }
 
-/// Makes a relay of two programs.
-fn relay_of(alloc: Global, client: Loaded, peer: Loaded) -> Result<Relay, Fail> {
+/// Makes a relay of two programs, of clients and of peers, by their bytes.
+fn relay_of(alloc: Global, client: &[u8], peer: &[u8]) -> Result<Relay, Fail> {
+    let client = load(alloc, client)?;
+    let peer = load(alloc, peer)?;
     let relay = Relay::new(alloc, config(alloc)?, client, peer)?;
     Ok(relay)
 }
 
+/// Allocates, and binds a channel, by events of the story.
+fn open(rt: &(impl Abort + AllocGlobal), relay: &mut Relay) -> Result<(), Fail> {
+    check(rt, relay, STORY[3].0, ALLOCATED)?;
+    check(rt, relay, STORY[4].0, BOUND)
+}
+
+/// Compares what a relay with the shipped programs says of the story.
+fn check_story(rt: &(impl Abort + AllocGlobal)) -> Result<(), Fail> {
+    let mut relay = relay_of(rt.alloc(), CLIENT, PEER)?;
+    for (&(event, _), wanted) in STORY.iter().zip(OF_STORY) {
+        check(rt, &mut relay, event, wanted)?;
+    }
+    Ok(())
+}
+
+/// Compares what a relay with programs that pass all on says before and after an allocation.
+fn check_passed(rt: &(impl Abort + AllocGlobal)) -> Result<(), Fail> {
+    let mut relay = relay_of(rt.alloc(), &PASSES_ALL, &PASSES_ALL)?;
+    check_all(rt, &mut relay, &PASSED_BEFORE)?;
+    open(rt, &mut relay)?;
+    check_all(rt, &mut relay, &PASSED_AFTER)
+}
+
 #[test]
 fn each_step_says_what_it_did(rt: HostRuntime) -> Result<(), Fail> {
-    let alloc = rt.alloc();
-    let mut relay = relay_of(alloc, load(alloc, CLIENT)?, load(alloc, PEER)?)?;
-    for (&(event, _), wanted) in STORY.iter().zip(OF_STORY) {
-        check(&rt, &mut relay, event, wanted)?;
-    }
-    let mut relay = relay_of(alloc, load(alloc, CLIENT)?, load(alloc, PEER)?)?;
-    check(&rt, &mut relay, STORY[3].0, ALLOCATED)?;
-    check(&rt, &mut relay, STORY[4].0, BOUND)?;
+    check_story(&rt)?;
+    let mut relay = relay_of(rt.alloc(), CLIENT, PEER)?;
+    open(&rt, &mut relay)?;
     check_all(&rt, &mut relay, &FURTHER)?;
-    let passes = load(alloc, &PASSES_ALL)?;
-    let mut relay = relay_of(alloc, passes, load(alloc, &PASSES_ALL)?)?;
-    check_all(&rt, &mut relay, &PASSED_BEFORE)?;
-    check(&rt, &mut relay, STORY[3].0, ALLOCATED)?;
-    check(&rt, &mut relay, STORY[4].0, BOUND)?;
-    check_all(&rt, &mut relay, &PASSED_AFTER)
+    check_passed(&rt)
 }

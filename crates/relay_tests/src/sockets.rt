@@ -195,7 +195,7 @@ fn write_credentials(builder: &mut Builder<'_>) -> Result<(), NoRoom> {
     builder.attr(USERNAME, b"u")?;
     builder.attr(REALM, b"relay")?;
     builder.attr(NONCE, b"n1")?;
-    sign(builder, &Key::of("u", "relay", "p"))
+    sign(builder, &Key::of(b"u", "relay", b"p"))
 }
 
 /// Writes an Allocate request, and returns its length.

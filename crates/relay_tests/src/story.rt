@@ -136,6 +136,7 @@ pub(crate) fn config(alloc: Global) -> Result<Config, AllocError> {
         realm: String::from_str(alloc, "relay")?,
         nonce,
         users,
+        secret: None,
     })
 }
 

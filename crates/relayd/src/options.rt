@@ -7,7 +7,7 @@ use credentials::User;
 use peer_filter::{FilterError, NetworkError};
 use programs::{CLIENT, PEER};
 use relay::Relay;
-use setup::{ProgramError, Setup, SetupError, is_comment, relay_of, user};
+use setup::{ProgramError, Setup, SetupError, is_comment, relay_of, secret, user};
 use std::alloc::Global;
 use std::net::SocketAddr;
 use std::rt::Files;
@@ -39,12 +39,15 @@ pub(crate) enum CommandError<'a> {
     /// Peers can't send to the relayed IPv6 address.
     #[error("refused ip6")]
     RelayedAddress6,
-    /// No user is given.
-    #[error("error: '--user <NAME:PASSWORD>' or '--users <FILE>' is required")]
+    /// Neither a user nor a secret is given.
+    #[error("error: '--user <NAME:PASSWORD>', '--users <FILE>' or '--secret <FILE>' is required")]
     NoUsers,
     /// The line of this number in the file of users, from 1 on, has no colon.
     #[error("refused users at line {0}")]
     Users(u64),
+    /// The file of the secret has a second line.
+    #[error("refused secret at line 2")]
+    Secret,
     /// A file can't be read.
     #[error("cannot read {0}")]
     File(&'a str),
@@ -88,6 +91,7 @@ impl CommandError<'_> {
     pub(crate) fn status(&self) -> u8 {
         match self {
             CommandError::Users(_)
+            | CommandError::Secret
             | CommandError::Program { .. }
             | CommandError::Setup(_)
             | CommandError::Line(_) => 1,
@@ -166,7 +170,7 @@ fn users_of<'a, R: Files + AllocGlobal>(
     rt: &R,
     options: &Options<'a>,
 ) -> Result<(Vec<User>, Option<String>), CommandError<'a>> {
-    if options.users.is_none() && options.users_file.is_none() {
+    if options.users.is_none() && options.users_file.is_none() && options.secret_file.is_none() {
         return Err(CommandError::NoUsers);
     }
     let mut users = Vec::new(rt.alloc());
@@ -182,6 +186,28 @@ fn users_of<'a, R: Files + AllocGlobal>(
     };
     add_users_of_text(rt.alloc(), &mut users, &text)?;
     Ok((users, Some(text)))
+}
+
+/// Returns the secret of the file that the options name, if they name one.
+fn secret_of<'a, R: Files + AllocGlobal>(
+    rt: &R,
+    options: &Options<'a>,
+) -> Result<Option<Vec<u8>>, CommandError<'a>> {
+    let Some(path) = options.secret_file else {
+        return Ok(None);
+    };
+    let text = match fs::read_to_string(rt, path) {
+        Ok(text) => text,
+        Err(error) => return Err(unread(&error, path)),
+    };
+    let Some(line) = secret(&text) else {
+        return Err(CommandError::Secret);
+    };
+    let mut bytes = Vec::new(rt.alloc());
+    match bytes.extend_from_slice(line.as_bytes()) {
+        Ok(()) => Ok(Some(bytes)),
+        Err(_) => Err(CommandError::Memory),
+    }
 }
 
 /// The bytes of the programs' files; `None` where no file is given, or it can't be read.
@@ -268,6 +294,7 @@ pub(crate) fn set_up<'a, R: Files + AllocGlobal>(
         return Err(CommandError::Memory);
     };
     let (users, text) = users_of(rt, options)?;
+    let secret = secret_of(rt, options)?;
     let programs = ProgramBytes {
         client: read_program(rt, options.client)?,
         peer: read_program(rt, options.peer)?,
@@ -280,6 +307,7 @@ pub(crate) fn set_up<'a, R: Files + AllocGlobal>(
         realm,
         nonce,
         users,
+        secret,
         client: program(options.client, &programs.client, CLIENT),
         peer: program(options.peer, &programs.peer, PEER),
     };

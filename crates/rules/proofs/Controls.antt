@@ -6,12 +6,13 @@ use Rattle.std.proofs.lemmas.Option.{same_Some}
 use Rattle.stun.specs.Messages.{Parts}
 use Rattle.stun.specs.declared.registry.Class.TheVariants as class
 use Rattle.attributes.specs.declared.address.Addr.{Addr}
-use Rattle.credentials.specs.Checks.{Accounts, accounts_of, IsChecked}
+use Rattle.credentials.specs.Checks.{Directory, IsChecked, user_in}
+use Rattle.credentials.specs.TimeLimited.{Account}
 use Rattle.credentials.specs.Results.{check_result}
 use Rattle.credentials.specs.declared.checking.AuthError.{AuthError}
 use Rattle.control.specs.Control.{Decision, decision, binding}
 use Rattle.control.specs.Replies.{kind_of}
-use Rattle.control.specs.Responding.{Responds, Answers, IsSilent, IsAnswer, key_for, response_of}
+use Rattle.control.specs.Responding.{Responds, Answers, IsSilent, IsAnswer, directory_for, key_for, response_of}
 use Rattle.control.specs.declared.response.Response.{Response}
 use Rattle.tables.specs.Addresses.{is_ipv4}
 use Rattle.control.specs.declared.config.Config.{Config}
@@ -66,8 +67,8 @@ all_requests (request.Turn turn.ChannelBind) = inr (inr (inr (inr (inl refl))))
 
 -- a result of the check is the one that the function of a message gives
 abbrev pub AreChecked : Type 0
-AreChecked = (p : Parts) (realm : List ℕ) (users : Accounts) (nonce : List ℕ) (r : Result ℕ AuthError)
-    → IsChecked p realm users nonce r → r ≡ check_result p realm users nonce
+AreChecked = (p : Parts) (realm : List ℕ) (accounts : Directory) (nonce : List ℕ) (r : Result Account AuthError)
+    → IsChecked p realm accounts nonce r → r ≡ check_result p realm accounts nonce
 
 module _ (are_checked : AreChecked) (config : Config) (now : ℕ) (client : Addr) (p : Parts) (old new : Rows) (written : List ℕ) (says : Option Response) where
   abbrev reply_of : SystemReply
@@ -76,13 +77,13 @@ module _ (are_checked : AreChecked) (config : Config) (now : ℕ) (client : Addr
   with_decision : (r : Request) (key : Option (List ℕ)) (d : Decision) → IsAnswer config r client p key d old new written → reply_with config r client p old (d, key) ≡ reply_of
   with_decision r key d is = λ i. record { answer = reply_sent client (sym is.bytes i); rows = sym is.rows i }
 
-  checked_is : (c : Result ℕ AuthError) → IsChecked p (string_bytes config.realm) (accounts_of config.users.items) config.nonce.bytes c → c ≡ check_of config p
-  checked_is c is = are_checked p (string_bytes config.realm) (accounts_of config.users.items) config.nonce.bytes c is
+  checked_is : (c : Result Account AuthError) → IsChecked p (string_bytes config.realm) (directory_for config client now (rows_at now old)) config.nonce.bytes c → c ≡ check_of config now client p old
+  checked_is c is = are_checked p (string_bytes config.realm) (directory_for config client now (rows_at now old)) config.nonce.bytes c is
 
   with_request : (r : Request) (s : Response) → Answers config now r client p old new written s → reply_with config r client p old (decision_and_key config now r client p old) ≡ reply_of
   with_request request.Binding s is = with_decision request.Binding None (binding p) is.0
   with_request (request.Turn r) s is =
-      subst (λ c. reply_with config (request.Turn r) client p old (decision r c config client p (rows_at now old), key_for config c) ≡ reply_of)
+      subst (λ c. reply_with config (request.Turn r) client p old (decision r (user_in c) config client p (rows_at now old), key_for c) ≡ reply_of)
       (checked_is is.checked is.is_checked) (with_decision (request.Turn r) _ _ is.answer)
 
   silent_is : IsSilent old new written says → no_answer old ≡ reply_of
@@ -102,7 +103,7 @@ module _ (are_checked : AreChecked) (config : Config) (now : ℕ) (client : Addr
 
   says_of : (r : Request) (s : Response) → Answers config now r client p old new written s → s ≡ response_to config now r client p old
   says_of request.Binding s is = is.1
-  says_of (request.Turn r) s is = is.response ∙ ap (λ c. response_of c (decision r c config client p (rows_at now old))) (checked_is is.checked is.is_checked)
+  says_of (request.Turn r) s is = is.response ∙ ap (λ c. response_of (user_in c) (decision r (user_in c) config client p (rows_at now old))) (checked_is is.checked is.is_checked)
 
   says_by_request : is_ipv4 client ≡ true → Responds config now client p old new written says → (o : Option Request) → request_of p.kind ≡ o → disposition_of_response says ≡ disposition_of_request config now client p old o
   says_by_request ipv4 responds None e = ap disposition_of_response (responds.other (λ r same. none_among p.kind requests r (all_requests r) same e)).response

@@ -6,11 +6,12 @@ use Rattle.stun.specs.Messages.{Parts, parts_bytes}
 use Rattle.stun.specs.declared.registry.Class.TheVariants as class
 use Rattle.attributes.specs.declared.address.Addr.{Addr}
 use Rattle.credentials.specs.Results.{check_result}
-use Rattle.credentials.specs.Checks.{accounts_of}
+use Rattle.credentials.specs.Checks.{user_in}
+use Rattle.credentials.specs.TimeLimited.{Account}
 use Rattle.credentials.specs.declared.checking.AuthError.{AuthError}
 use Rattle.control.specs.Control.{Decision, grant_of, rows_of, decision, binding}
 use Rattle.control.specs.Replies.{kind_of, reply_to}
-use Rattle.control.specs.Responding.{key_for}
+use Rattle.control.specs.Responding.{directory_for, key_for}
 use Rattle.control.specs.declared.config.Config.{Config}
 use Rattle.control.specs.declared.request.Request.{Request}
 use Rattle.control.specs.declared.request.Request.TheVariants as request
@@ -42,14 +43,16 @@ request_among kind (r ∷ rest) = if kind_of r class.Request == kind then Some r
 abbrev pub request_of : ℕ → Option Request
 request_of kind = request_among kind requests
 
-abbrev pub check_of : Config → Parts → Result ℕ AuthError
-check_of config p = check_result p (string_bytes config.realm) (accounts_of config.users.items) config.nonce.bytes
+-- the account whose credentials a request of a client has, or the first test that fails
+abbrev pub check_of : Config → ℕ → Addr → Parts → Rows → Result Account AuthError
+check_of config now client p rows =
+    check_result p (string_bytes config.realm) (directory_for config client now (rows_at now rows)) config.nonce.bytes
 
 -- what is decided, and the key that the reply is signed under; that to Binding is not signed
 abbrev pub decision_and_key : Config → ℕ → Request → Addr → Parts → Rows → Decision × Option (List ℕ)
 decision_and_key config now request.Binding client p rows = (binding p, None)
 decision_and_key config now (request.Turn r) client p rows =
-    (decision r (check_of config p) config client p (rows_at now rows), key_for config (check_of config p))
+    (decision r (user_in (check_of config now client p rows)) config client p (rows_at now rows), key_for (check_of config now client p rows))
 
 abbrev pub reply_with : Config → Request → Addr → Parts → Rows → Decision × Option (List ℕ) → SystemReply
 reply_with config r client p rows d = record {

@@ -7,7 +7,7 @@ use Rattle.stun.specs.Messages.{Parts}
 use Rattle.stun.specs.declared.registry.attribute.TheConstants.{XOR_PEER_ADDRESS, DATA}
 use Rattle.attributes.specs.Addresses.{address_in, is_of_family}
 use Rattle.attributes.specs.declared.address.Addr.{Addr}
-use Rattle.credentials.specs.Checks.{first_value}
+use Rattle.credentials.specs.Checks.{first_value, user_in}
 use Rattle.control.specs.Control.{all_understood, binding, decision, grant_of}
 use Rattle.control.specs.Responding.{response_of, response_of_result}
 use Rattle.control.specs.declared.config.Config.{Config}
@@ -61,7 +61,7 @@ disposition_of_response (Some response) = Answered response
 abbrev pub response_to : Config → ℕ → Request → Addr → Parts → Rows → Response
 response_to config now request.Binding client p rows = response_of_result (grant_of (binding p))
 response_to config now (request.Turn r) client p rows =
-    response_of (check_of config p) (decision r (check_of config p) config client p (rows_at now rows))
+    response_of (user_in (check_of config now client p rows)) (decision r (user_in (check_of config now client p rows)) config client p (rows_at now rows))
 
 abbrev pub disposition_of_request : Config → ℕ → Addr → Parts → Rows → Option Request → Disposition
 disposition_of_request config now client p rows found = disposition_of_response (option_map (λ r. response_to config now r client p rows) found)

@@ -33,6 +33,7 @@ fn config(alloc: Global) -> Result<Config, AllocError> {
         realm: String::from_str(alloc, "relay")?,
         nonce,
         users,
+        secret: None,
     })
 }
 

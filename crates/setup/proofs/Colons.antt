@@ -2,7 +2,7 @@
 use Rattle.std.proofs.Common.{◌≡◌, ◌+◌, ◌||◌, arith, cond, suc, ℕ, Bool, true, false, refl, List, [], ◌∷◌, length}
 use Rattle.std.specs.Prelude.{not}
 use Rattle.std.specs.List.{list_any, position_or_len}
-use Rattle.setup.specs.Users.{is_colon}
+use Rattle.credentials.specs.TimeLimited.{is_colon}
 
 pub no_colon : (text : List ℕ) → position_or_len is_colon text ≡ length text → list_any is_colon text ≡ false
 no_colon [] same = refl

@@ -1,3 +1,4 @@
 -- Internal. The modules of this folder.
+pub mod Secrets
 pub mod Setups
 pub mod Users

@@ -34,6 +34,7 @@ pub record IsConfigOf (s : Setup) (c : Config) : Type 0 where
   pub realm : string_bytes c.realm ≡ string_bytes s.realm
   pub nonce : c.nonce.bytes ≡ s.nonce.now
   pub users_are : c.users.items ≡ s.users.items
+  pub secret : c.secret ≡ s.secret
 
 -- the bytes were read, and this program is loaded from them
 abbrev pub IsProgram : Option (Bor (List ℕ)) → List Insn → Type 0

@@ -1,15 +1,13 @@
 -- Meaning. Users as texts.
 use Rattle.std.specs.Prelude.{◌≡◌, ℕ, Bool, true, false, List, [], ◌∷◌, Option, Some, None, ◌==◌, string_bytes}
 use Rattle.std.specs.List.{list_any, before_first, after_first}
+use Rattle.credentials.specs.TimeLimited.{is_colon}
 use Rattle.credentials.specs.declared.checking.User.{User}
 
 -- a line without a user: nothing, or a comment
 abbrev pub is_comment : List ℕ → Bool
 is_comment [] = true
 is_comment (byte ∷ line) = byte == 0x23
-
-abbrev pub is_colon : ℕ → Bool
-is_colon byte = byte == 0x3a
 
 -- the name before the first colon and the password after it, or none where there is no colon
 abbrev pub IsUserIn : List ℕ → Option User → Type 0

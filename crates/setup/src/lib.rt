@@ -2,9 +2,11 @@
 #![tactic(auto)]
 
 mod error;
+mod secrets;
 mod setting_up;
 mod users;
 
 pub use error::{ProgramError, SetupError};
+pub use secrets::secret;
 pub use setting_up::{Setup, program, relay_of};
 pub use users::{is_comment, user};

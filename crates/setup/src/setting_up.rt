@@ -32,8 +32,10 @@ pub struct Setup<'a> {
     pub realm: String,
     /// The nonce: 1 to 64 bytes of 0x21 to 0x7E.
     pub nonce: &'a str,
-    /// The users: 1 to 64, of distinct names.
+    /// The users: at most 64, of distinct names, and at least one where there is no secret.
     pub users: Vec<User>,
+    /// The secret of time-limited credentials: 16 to 128 bytes; `None` where none are accepted.
+    pub secret: Option<Vec<u8>>,
     /// The bytes of the program for clients' datagrams; `None` where its file can't be read.
     pub client: Option<&'a [u8]>,
     /// The bytes of the program for peers' datagrams; `None` where its file can't be read.
@@ -97,6 +99,7 @@ pub fn relay_of(alloc: Global, setup: Setup<'_>) -> Result<Relay, SetupError>
         realm: setup.realm,
         nonce,
         users: setup.users,
+        secret: setup.secret,
     };
     match Relay::new(alloc, config, client, peer) {
         Ok(relay) => Ok(relay),

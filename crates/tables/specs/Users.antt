@@ -1,6 +1,6 @@
 -- Meaning. The rows where the users of a relay are replaced: what each slot holds goes on or ends by its user.
-use Rattle.std.specs.Prelude.{ℕ, List, map, slice_get, Option}
-use Rattle.std.specs.Option.{option_map, option_and_then, option_flatten}
+use Rattle.std.specs.Prelude.{ℕ, List, map, slice_get, Option, Some, unwrap_or}
+use Rattle.std.specs.Option.{option_map, option_and_then}
 use Rattle.tables.specs.Rows.{Rows}
 use Rattle.tables.specs.declared.held.Held.{Held}
 
@@ -16,6 +16,6 @@ held_of_users index held = option_map (with_user held) (index held.allocation.us
 abbrev pub rows_of_users : (ℕ → Option ℕ) → Rows → Rows
 rows_of_users index rows = record rows { slots = map (option_and_then (held_of_users index)) rows.slots }
 
--- the other index of a user in a list of them, which has none of a user beyond its end
+-- the other index of a user in a list of them; a user beyond its end keeps its number
 abbrev pub index_in : List (Option ℕ) → ℕ → Option ℕ
-index_in indices user = option_flatten (slice_get indices user)
+index_in indices user = unwrap_or (slice_get indices user) (Some user)

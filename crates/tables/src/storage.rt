@@ -195,7 +195,7 @@ impl Tables {
     }
 
     /// Gives the user of each allocation another index, which `indices` has at the former one. The allocations of a user that
-    /// has none there end, with their permissions and channels. Nothing else changes.
+    /// has none there end, with their permissions and channels; those of a user beyond its end go on. Nothing else changes.
     /// See docs/DECISIONS.md, "Users that are replaced".
     pub fn replace_users(&mut self, indices: &[Option<usize>])
         ensures { self.new ≡ rows_of_users (index_in indices.now) self.old }

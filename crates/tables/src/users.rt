@@ -5,11 +5,11 @@ ghost use Rattle.tables.specs.Users.{held_of_users, index_in};
 
 use crate::held::Held;
 
-/// Returns the other index of a user; `None` where it has none.
+/// Returns the other index of a user; `None` where it has none. A user beyond the end of the list keeps its number.
 fn index_in(indices: &[Option<usize>], user: usize) -> Option<usize>
     ensures { result ≡ index_in indices.now user }
 {
-    indices.get(user).copied().flatten()
+    indices.get(user).copied().unwrap_or(Some(user))
 }
 
 /// Gives what a slot holds the other index of its user, or empties the slot where the user has none.

@@ -1,14 +1,14 @@
 -- Interface. The limits of a configuration without a fault.
-use Rattle.std.specs.Prelude.{◌≡◌, ℕ, ◌+◌, ◌≤◌, Bool, true, false, not, cond, ◌&&◌, List, length, string_bytes, Option, None, Some, refl}
+use Rattle.std.specs.Prelude.{◌≡◌, ℕ, ◌+◌, ◌≤◌, Bool, true, false, not, cond, ◌&&◌, List, length, string_bytes, Option, None, Some, is_some, refl}
 use Rattle.std.specs.List.{list_all}
 use Rattle.std.proofs.lemmas.Bool.{both_ways, leb-true}
 use Rattle.std.proofs.lemmas.Option.{none-some}
 use Rattle.std.proofs.Common.{sym}
 use Rattle.stun.specs.Ranges.{is_between}
-use Rattle.control.specs.Configs.{is_text, is_user, are_distinct, is_valid_field, fault}
+use Rattle.control.specs.Configs.{is_text, is_user, are_distinct, least_users, is_secret, is_valid_field, fault}
 use Rattle.control.specs.declared.config.TheConstants.{MAX_TEXT}
 use Rattle.control.specs.declared.config.Config.{Config}
-use Rattle.control.specs.declared.config.Field.TheVariants.{FirstPort, Slots, Realm, Nonce, Users}
+use Rattle.control.specs.declared.config.Field.TheVariants.{FirstPort, Slots, Realm, Nonce, Users, Secret}
 
 -- a number from `low` to `high`
 abbrev pub IsBetween : ℕ → ℕ → ℕ → Type 0
@@ -25,9 +25,10 @@ pub record IsWithinLimits (c : Config) : Type 0 where
   pub ports : c.first_port + c.slots ≤ 0x10000
   pub realm : IsText 0x20 MAX_TEXT (string_bytes c.realm)
   pub nonce : IsText 0x21 64 c.nonce.bytes
-  pub users : IsBetween 1 64 (length c.users.items)
+  pub users : IsBetween (least_users (is_some c.secret)) 64 (length c.users.items)
   pub each_user : list_all is_user c.users.items ≡ true
   pub distinct : are_distinct c.users.items ≡ true
+  pub secret : is_secret c.secret ≡ true
 
 -- the first of some fields that is not valid: there is none, so each is
 passes : (b : Bool) {X : Type 0} (x : X) (rest : Option X) → cond (not b) (Some x) rest ≡ None → (b ≡ true) × (rest ≡ None)
@@ -51,6 +52,7 @@ within_limits c e =
     let third = passes (is_valid_field c Realm) Realm _ second.1 in
     let fourth = passes (is_valid_field c Nonce) Nonce _ third.1 in
     let fifth = passes (is_valid_field c Users) Users _ fourth.1 in
+    let sixth = passes (is_valid_field c Secret) Secret _ fifth.1 in
     let ports = both _ _ second.0 in
     let users = both _ _ fifth.0 in
     let few = both _ _ users.0 in
@@ -60,7 +62,8 @@ within_limits c e =
       ports = leb-true _ _ ports.1;
       realm = is_text-text 0x20 MAX_TEXT (string_bytes c.realm) third.0;
       nonce = is_text-text 0x21 64 c.nonce.bytes fourth.0;
-      users = between 1 64 (length c.users.items) few.0;
+      users = between (least_users (is_some c.secret)) 64 (length c.users.items) few.0;
       each_user = few.1;
       distinct = users.1;
+      secret = sixth.0;
     }

@@ -25,7 +25,9 @@ use Rattle.events.specs.declared.meta.Meta.{Meta}
 use Rattle.events.specs.declared.meta.Source.{Source}
 use Rattle.events.specs.declared.meta.Source.TheVariants.{Client, Peer}
 use Rattle.fallible.specs.Options.{◌>>=◌, guard}
-use Rattle.events.specs.Reading.{parts_around, decimal_in, has_upper, digits_in, ipv4_in, is_bracketed, ipv6_in, host_in, address_in_text, content_in, client_in_text, peer_in, datagram_in_text, nonce_in, event_in}
+use Rattle.decimal.specs.Decimals.{decimal_in}
+use Rattle.decimal.specs.laws.Decimals.{decimal_in-decimal, decimal_in-is}
+use Rattle.events.specs.Reading.{parts_around, has_upper, digits_in, ipv4_in, is_bracketed, ipv6_in, host_in, address_in_text, content_in, client_in_text, peer_in, datagram_in_text, nonce_in, event_in}
 
 -- ---- texts without a separator
 
@@ -102,24 +104,6 @@ decimal-free s n outside = decimal_by_steps (λ n ds. is_free s ds ≡ true) one
 
 same_bytes : (xs : List ℕ) → bytes_eq xs xs ≡ true
 same_bytes xs = (bytes_eq-Decides xs xs).1 refl
-
-pub decimal_in-decimal : (limit n : ℕ) → n < limit → n < 2 ^ 64 → decimal_in limit (decimal n) ≡ Some n
-decimal_in-decimal limit n below small =
-    let value : digits_value 10 (decimal n) ≡ n = (decimal_is_IsNumeral n small).1 in
-    (λ i. if nat_lt (value i) limit && bytes_eq (decimal (value i)) (decimal n) then Some (value i) else None)
-    ∙ cond-true (nat_lt n limit && bytes_eq (decimal n) (decimal n)) (Some n) None (and_from (nat_lt n limit) (bytes_eq (decimal n) (decimal n)) (lt-ltb n limit below) (same_bytes (decimal n)))
-
-pub decimal_in-is : (limit : ℕ) (text : List ℕ) (n : ℕ) → decimal_in limit text ≡ Some n → (n < limit) × (text ≡ decimal n)
-decimal_in-is limit text n e = of (cases_Bool (nat_lt v limit && bytes_eq (decimal v) text)) where
-  v : ℕ
-  v = digits_value 10 text
-
-  of : (((nat_lt (digits_value 10 text) limit && bytes_eq (decimal (digits_value 10 text)) text) ≡ true) ⊎ ((nat_lt (digits_value 10 text) limit && bytes_eq (decimal (digits_value 10 text)) text) ≡ false)) → (n < limit) × (text ≡ decimal n)
-  of (inl t) =
-      let parts = and_parts (nat_lt (digits_value 10 text) limit) (bytes_eq (decimal (digits_value 10 text)) text) t in
-      let is : digits_value 10 text ≡ n = same_Some (digits_value 10 text) n (sym (cond-true _ (Some (digits_value 10 text)) None t) ∙ e) in
-      (subst (λ (k : ℕ). k < limit) is (ltb-true (digits_value 10 text) limit parts.0), sym ((bytes_eq-Decides (decimal (digits_value 10 text)) text).0 parts.1) ∙ ap decimal is)
-  of (inr f) = absurd (none-some n (sym (cond-false _ (Some (digits_value 10 text)) None f) ∙ e))
 
 -- ---- digits of bytes
 

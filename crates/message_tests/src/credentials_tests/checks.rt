@@ -1,7 +1,8 @@
 //! Requests whose credentials are checked: RFC 5769, section 2.4, and messages that `sign` signed.
 
+use super::time_limited::check_rows;
 use crate::stun_tests::samples::LONG_TERM_REQUEST;
-use credentials::{AuthError, Key, User, authenticate, check, sign};
+use credentials::{AuthError, Directory, Key, User, authenticate, check, sign};
 use std::alloc::Global;
 use std::process::Abort;
 use std::test::Fail;
@@ -12,7 +13,7 @@ use stun::{Builder, NoRoom, read};
 /// the password `TheMatrIX`, its realm `example.org`.
 const NONCE: &str = "f//499k954d6OL34oL9FSTvy64sA";
 
-fn user(alloc: Global, name: &str, password: &str) -> Result<User, Fail> {
+pub(super) fn user(alloc: Global, name: &str, password: &str) -> Result<User, Fail> {
     Ok(User {
         name: String::from_str(alloc, name)?,
         password: String::from_str(alloc, password)?,
@@ -81,7 +82,11 @@ fn sample_result(alloc: Global, sample: &Sample) -> Result<Result<usize, AuthErr
 fn check_sample_key(rt: &impl Abort, alloc: Global) -> Result<(), Fail> {
     let message = read(&LONG_TERM_REQUEST)?;
     let users = [user(alloc, "マトリックス", "TheMatrIX")?];
-    let authenticated = authenticate(&message, "example.org", &users, NONCE)?;
+    let directory = Directory {
+        users: &users,
+        time_limited: None,
+    };
+    let authenticated = authenticate(&message, "example.org", &directory, NONCE)?;
     // MD5 of the user, the realm and the password, with colons between them
     let key = [
         0xe8, 0xca, 0x7a, 0xd5, 0x9d, 0x5e, 0xb0, 0x51, 0x8e, 0x31, 0x29, 0x11, 0xd2, 0xda, 0xb2,
@@ -101,7 +106,10 @@ fn check_sample_signed(rt: &impl Abort) -> Result<(), Fail> {
     builder.attr(USERNAME, "マトリックス".as_bytes())?;
     builder.attr(NONCE_TYPE, NONCE.as_bytes())?;
     builder.attr(REALM, b"example.org")?;
-    sign(&mut builder, &Key::of("マトリックス", "example.org", "TheMatrIX"))?;
+    sign(
+        &mut builder,
+        &Key::of("マトリックス".as_bytes(), "example.org", b"TheMatrIX"),
+    )?;
     assert_eq!(rt; builder.finish(), 116);
     assert!(rt; buffer == LONG_TERM_REQUEST);
     Ok(())
@@ -124,7 +132,7 @@ fn the_sample_request_is_checked_and_signed(rt: HostRuntime) -> Result<(), Fail>
 fn check_no_room(rt: &impl Abort) -> Result<(), Fail> {
     let mut buffer = [0xff; 43];
     let mut builder = Builder::start(&mut buffer, 0x0001, [7; 12])?;
-    assert_eq!(rt; sign(&mut builder, &Key::of("u", "r", "p")), Err(NoRoom));
+    assert_eq!(rt; sign(&mut builder, &Key::of(b"u", "r", b"p")), Err(NoRoom));
     assert_eq!(rt; builder.finish(), 20);
     assert!(rt; buffer[20..] == [0xff; 23]);
     Ok(())
@@ -339,7 +347,10 @@ fn code_of(before: &[Attribute], password: &str) -> Result<[u8; 20], Fail> {
     for attribute in before {
         builder.attr(attribute.kind, attribute.value)?;
     }
-    sign(&mut builder, &Key::of("user", "relay", password))?;
+    sign(
+        &mut builder,
+        &Key::of(b"user", "relay", password.as_bytes()),
+    )?;
     let message = read(builder.written())?;
     let mut code = [0; 20];
     if let Some(value) = message.value_of(MESSAGE_INTEGRITY)
@@ -354,8 +365,8 @@ fn code_of(before: &[Attribute], password: &str) -> Result<[u8; 20], Fail> {
 fn write_code(builder: &mut Builder<'_>, case: &Case) -> Result<(), Fail> {
     let right = code_of(case.before, "pass")?;
     match case.code {
-        Code::Signed => sign(builder, &Key::of("user", "relay", "pass"))?,
-        Code::SignedWithAnother => sign(builder, &Key::of("user", "relay", "word"))?,
+        Code::Signed => sign(builder, &Key::of(b"user", "relay", b"pass"))?,
+        Code::SignedWithAnother => sign(builder, &Key::of(b"user", "relay", b"word"))?,
         Code::Cut => builder.attr(MESSAGE_INTEGRITY, &right[..19])?,
         Code::Lengthened => {
             let mut code = [0; 24];
@@ -416,6 +427,7 @@ fn check_changed_bytes(rt: &impl Abort, alloc: Global) -> Result<(), Fail> {
 
 #[test]
 fn the_first_test_that_fails_is_answered(rt: HostRuntime) -> Result<(), Fail> {
+    check_rows(&rt, rt.alloc())?;
     let users = [
         user(rt.alloc(), "user", "pass")?,
         user(rt.alloc(), "user", "word")?,

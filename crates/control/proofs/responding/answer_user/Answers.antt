@@ -1,6 +1,7 @@
-use Rattle.std.proofs.Common.{Ok, Err, Some, None, ap, ◌∙◌, refl, string_bytes}
+use Rattle.std.proofs.Common.{Ok, Err, Some, None, ap, ◌∙◌, refl}
 use Rattle.stun.specs.Messages.{parts_bytes}
-use Rattle.credentials.specs.Checks.{accounts_of, user_key}
+use Rattle.credentials.specs.Checks.{account_of}
+use Rattle.credentials.specs.Keys.{key_bytes}
 use Rattle.tables.specs.Rows.{rows_at}
 use Rattle.control.specs.Control.{decision_if_understood}
 use Rattle.control.specs.Replies.{reply_to}
@@ -15,17 +16,15 @@ returns-in-Ok-clause-answer c =
     let p = c.args.arrival.now.message.now in
     let old = c.args.tables.now in
     let user = c.in-Ok.authenticated.user in
-    let key = user_key (string_bytes config.realm) (accounts_of config.users.items) user in
     let served = decision_if_understood c.args.request config c.args.arrival.now.client user p (rows_at c.args.arrival.now.moment old) in
     record {
-      checked = Ok user;
-      is_checked = c.in-Ok.ensures.found;
+      checked = Ok (account_of c.in-Ok.authenticated);
+      is_checked = c.in-Ok.ensures;
       answer = record {
         rows = rows_given served old c.serve-decision.new.tables c.serve-decision.result c.serve-decision.ensures.gives;
         bytes =
             c.write_reply.ensures.bytes
-            ∙ ap (λ k. parts_bytes (reply_to config (request.Turn c.args.request) c.args.arrival.now.client p (Some k) c.serve-decision.result)) c.in-Ok.ensures.key
-            ∙ ap (λ result. parts_bytes (reply_to config (request.Turn c.args.request) c.args.arrival.now.client p (Some key) result)) (grant_given served old c.serve-decision.new.tables c.serve-decision.result c.serve-decision.ensures.gives);
+            ∙ ap (λ result. parts_bytes (reply_to config (request.Turn c.args.request) c.args.arrival.now.client p (Some (key_bytes c.in-Ok.authenticated.key)) result)) (grant_given served old c.serve-decision.new.tables c.serve-decision.result c.serve-decision.ensures.gives);
       };
       response = c.response_of.ensures ∙ ap response_of_result (grant_given served old c.serve-decision.new.tables c.serve-decision.result c.serve-decision.ensures.gives);
     }
@@ -33,7 +32,7 @@ returns-in-Ok-clause-answer c =
 pub returns-in-Err-clause-answer : goal.returns-in-Err-clause-answer
 returns-in-Err-clause-answer c = record {
   checked = Err c.in-Err.error;
-  is_checked = c.in-Err.ensures.refused;
+  is_checked = c.in-Err.ensures;
   answer = record {
     rows = refl;
     bytes = c.write_reply-in-Err.ensures.bytes ∙ ap (λ error. parts_bytes (reply_to c.args.config.now (request.Turn c.args.request) c.args.arrival.now.client c.args.arrival.now.message.now None (Err error))) c.refused_credentials.ensures;

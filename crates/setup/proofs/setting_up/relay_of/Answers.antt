@@ -13,6 +13,7 @@ returns-in-Err-BadConfig-clause-refused c =
       realm = c.args.setup.realm;
       nonce = c.in_ok-nonce.nonce;
       users = c.args.setup.users;
+      secret = c.args.setup.secret;
     } in
     has_fault c.args.setup config c.in_ok-client.client c.in_ok-peer.peer _ (search rules) (search rules) (search rules) (search rules) (search rules)
 
@@ -26,5 +27,6 @@ returns-in-Err-Memory-clause-refused c =
       realm = c.args.setup.realm;
       nonce = c.in_ok-nonce.nonce;
       users = c.args.setup.users;
+      secret = c.args.setup.secret;
     } in
     has_fault c.args.setup config c.in_ok-client.client c.in_ok-peer.peer _ (search rules) (search rules) (search rules) (search rules) (search rules)

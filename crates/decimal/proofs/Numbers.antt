@@ -5,8 +5,8 @@ use Rattle.std.specs.Str.{IsUtf8}
 use Rattle.std.specs.Str.Parse.{ParsesUnsigned}
 use Rattle.std.proofs.lemmas.Fmt.{IsAscii-decimal, parse-decimal}
 use Rattle.std.proofs.lemmas.Str.{IsUtf8-from_ascii}
-use Rattle.events.specs.Reading.{decimal_in}
-use Rattle.events.specs.laws.Reading.{decimal_in-decimal, decimal_in-is}
+use Rattle.decimal.specs.Decimals.{decimal_in}
+use Rattle.decimal.specs.laws.Decimals.{decimal_in-decimal, decimal_in-is}
 
 pub is_number : (text : List ℕ) (n : ℕ) → n < 2 ^ 64 → text ≡ decimal n → Some n ≡ decimal_in (2 ^ 64) text
 is_number text n small e = sym (ap (decimal_in (2 ^ 64)) e ∙ decimal_in-decimal (2 ^ 64) n small small)

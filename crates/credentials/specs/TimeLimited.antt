@@ -1,0 +1,60 @@
+-- Meaning. Time-limited credentials (draft-uberti-behave-turn-rest-00, section 2.2): a name says how long it is accepted, and
+-- a secret gives each name its password.
+use Rattle.std.specs.Prelude.{ℕ, ◌^◌, ◌∷◌, ◌==◌, ◌||◌, Bool, false, List, length, take, nat_le, nat_lt, Option, None, Some, if◌then◌else◌}
+use Rattle.std.specs.List.{before_first}
+use Rattle.std.specs.Int.{w64, from_be_bytes}
+use Rattle.base64.specs.Engines.{standard}
+use Rattle.base64.specs.GeneralPurpose.{encode_of}
+use Rattle.decimal.specs.Decimals.{decimal_in}
+use Rattle.fallible.specs.Options.{◌>>=◌, guard}
+use Rattle.credentials.specs.Hmac.{hmac}
+use Rattle.credentials.specs.Keys.{key_of}
+use Rattle.credentials.specs.declared.time_limited.TimeLimited.{TimeLimited}
+
+-- a user, by number, and its key
+pub record Account : Type 0 where
+  pub user : ℕ
+  pub key : List ℕ
+
+-- a secret, the current moment in seconds since 1970, and the user of the allocation that the client has, if it has one
+pub record Limits : Type 0 where
+  pub secret : List ℕ
+  pub moment : ℕ
+  pub held : Option ℕ
+
+abbrev pub limits_of : TimeLimited → Limits
+limits_of limited = record { secret = limited.secret.now; moment = limited.moment; held = limited.held }
+
+-- ---- names
+
+abbrev pub is_colon : ℕ → Bool
+is_colon byte = byte == 0x3a
+
+-- the moment at which a name of at most 128 bytes expires: what precedes its first colon, or all of it
+abbrev pub expiry_of : List ℕ → Option ℕ
+expiry_of name = if nat_le (length name) 128 then decimal_in (2 ^ 64) (before_first is_colon name) else None
+
+-- the password of a name
+abbrev pub password_of : List ℕ → List ℕ → List ℕ
+password_of secret name = encode_of standard (hmac secret name)
+
+-- the number of a name: 7 bytes of a digest after a byte 1, so that it is the index of no user of a list
+abbrev pub user_number : List ℕ → List ℕ → ℕ
+user_number secret name = from_be_bytes w64 (1 ∷ take 7 (hmac secret name))
+
+-- ---- accounts
+
+abbrev pub is_held_by : Option ℕ → ℕ → Bool
+is_held_by None user = false
+is_held_by (Some held) user = held == user
+
+-- whether a name that expires at a moment is accepted: it hasn't expired, or the client's allocation is its own
+abbrev pub is_accepted : Limits → List ℕ → ℕ → Bool
+is_accepted limits name expiry = nat_lt limits.moment expiry || is_held_by limits.held (user_number limits.secret name)
+
+-- the account of a name, if it is accepted
+abbrev pub limited_account : List ℕ → Limits → List ℕ → Option Account
+limited_account realm limits name = do
+  expiry ← expiry_of name
+  _ ← guard (is_accepted limits name expiry)
+  Some (record { user = user_number limits.secret name; key = key_of name realm (password_of limits.secret name) })

@@ -1,0 +1,6 @@
+//! Decimal numbers in texts.
+#![tactic(auto)]
+
+mod reading;
+
+pub use reading::number;
