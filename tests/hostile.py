@@ -254,7 +254,7 @@ def bursts():
         while came + dropped != 101 and time.monotonic() < end:
             time.sleep(0.1)
             words = (server.printed().splitlines() or ["received from clients 0 dropped 0"])[-1].split()
-            came, dropped = int(words[3]), int(words[-1])
+            came, dropped = int(words[3]), int(words[words.index("dropped") + 1].rstrip(","))
         yield from wanted("datagrams that came and those that were dropped", came + dropped, 101)
         yield from wanted("that some were dropped", dropped > 0, True)
 

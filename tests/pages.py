@@ -4,7 +4,8 @@ Each page has a folder of its own, in which examples/ is. A block `asm` is assem
 `console` has lines `$ relayd WORD..` or `$ ./relayd WORD..`, each with what that command prints, and lines
 `$ cat FILE.. > FILE`. A block `sh` has commands, of which those of relayd are run and have to succeed. So have those of a block
 `text`, whose files the reader would have made: an example stands for each that isn't there, and a server tests its configuration
-on an address of this machine, and ends (`--rounds 0`). The unit of systemd is read by `systemd-analyze`, where that is installed.
+on an address of this machine, writes metrics beside these files, and ends (`--rounds 0`). The unit of systemd is read by
+`systemd-analyze`, where that is installed.
 """
 
 import pathlib
@@ -23,7 +24,7 @@ PROMPT = re.compile(r"^\$ (?:\./)?relayd(.*)$", re.MULTILINE)
 JOIN = re.compile(r"^(?:\$ )?cat (.*) > (\S+)\n", re.MULTILINE)
 # the files that stand for those that a reader would have made, by the last part of the name
 STAND_INS = {".s": "relay/client.s", ".events": "session.events", "users": "users.txt"}
-OPTIONS = {"--port": "0", "--listen": "127.0.0.1"}
+OPTIONS = {"--port": "0", "--listen": "127.0.0.1", "--metrics": "relayd.prom"}
 
 
 def commands(block):

@@ -113,6 +113,7 @@ impl Kind {
     }
 
     /// Returns the counter of the datagrams of this kind that came.
+    #[inline(always)]
     fn arrival_counter(self) -> Counter
         ensures { result ≡ arrival_counter self }
     {
@@ -154,6 +155,7 @@ fn response_counter(response: Response) -> Counter
 
 impl Outcome {
     /// Returns the counter of the datagrams of a kind with this outcome.
+    #[inline(always)]
     fn counter(self, kind: Kind) -> Counter
         ensures { result ≡ outcome_counter kind self }
     {
@@ -191,6 +193,7 @@ fn reason_index(reason: Discard) -> usize
 
 impl Counter {
     /// Returns the index of the counter, below [`COUNTER_COUNT`].
+    #[inline(always)]
     fn index(self) -> usize
         ensures index { result ≡ counter_index self }
         ensures below { result < COUNTER_COUNT }
