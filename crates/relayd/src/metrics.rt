@@ -266,7 +266,11 @@ impl<'a> MetricsFile<'a> {
         let _ = fs::remove_file(rt, self.new_path.as_str());
         let mut file = fs::File::create_new(rt, self.new_path.as_str())?;
         file.write_all(&self.text)?;
-        fs::rename(rt, self.new_path.as_str(), self.path)
+        let renamed = fs::rename(rt, self.new_path.as_str(), self.path);
+        if renamed.is_err() {
+            let _ = fs::remove_file(rt, self.new_path.as_str());
+        }
+        renamed
     }
 
     /// Writes the first metrics.
