@@ -1,8 +1,10 @@
 //! The record of a server's events. A replay of them gives the answers of the server.
 
 use crate::options::CommandError;
+use crate::sockets::Sockets;
 use attributes::Addr;
 use events::{Event, Meta, write_event};
+use rand_core::Rng;
 use semantics::MAX_DATAGRAM;
 use serving::{Endpoint, Link, LinkError, source_at};
 use std::fs::{File, OpenOptions};
@@ -70,12 +72,12 @@ pub(crate) struct Recording<'a> {
     recorder: Option<Recorder<'a>>,
 }
 
-/// A link that records each datagram that is received.
+/// The sockets of a server, which record each datagram that is received.
 /// See docs/DECISIONS.md, "A recording has what is served".
 #[derive(Drop)]
-pub(crate) struct RecordedLink<'a, 'b, L: Link> {
-    pub(crate) link: &'a mut L,
-    pub(crate) recording: &'a mut Recording<'b>,
+pub(crate) struct RecordedSockets<'a> {
+    pub(crate) sockets: Sockets,
+    pub(crate) recording: Recording<'a>,
     /// The moment of the next datagram.
     pub(crate) now: u64,
     /// The transaction id for an indication about it.
@@ -191,10 +193,18 @@ impl<'a> Recording<'a> {
     }
 }
 
-impl<L: Link> Link for RecordedLink<'_, '_, L> {
+impl RecordedSockets<'_> {
+    /// Draws the transaction id of the next datagram.
+    #[inline(always)]
+    pub(crate) fn draw_id<R: Rng>(&mut self, rng: &mut R) {
+        rng.fill_bytes(&mut self.transaction_id);
+    }
+}
+
+impl Link for RecordedSockets<'_> {
     #[inline(always)]
     fn receive(&mut self, endpoint: Endpoint, into: &mut [u8]) -> Result<Receipt, LinkError> {
-        let received = self.link.receive(endpoint, into)?;
+        let received = self.sockets.receive(endpoint, into)?;
         if let Some(recorder) = &mut self.recording.recorder
             && let Some((n, from)) = received
             && let Some(bytes) = into.get(..n)
@@ -211,6 +221,6 @@ impl<L: Link> Link for RecordedLink<'_, '_, L> {
 
     #[inline(always)]
     fn send(&mut self, endpoint: Endpoint, to: Addr, bytes: &[u8]) -> Result<(), LinkError> {
-        self.link.send(endpoint, to, bytes)
+        self.sockets.send(endpoint, to, bytes)
     }
 }

@@ -6,7 +6,7 @@ use crate::error_lines::ErrorLines;
 use crate::filters::{filter_of, rules_of};
 use crate::metrics::{Metrics, MetricsFile};
 use crate::options::{CommandError, Relayed, set_up};
-use crate::recording::{RecordEnd, RecordedLink, Recording};
+use crate::recording::{RecordEnd, RecordedSockets, Recording};
 use crate::replacing::Sides;
 use crate::replacing_users::UserList;
 use crate::sockets::{Addresses, BindError, Endpoints, Sockets};
@@ -49,13 +49,10 @@ struct Server<'a> {
     relay: Relay,
     relayed: [u8; 4],
     relayed6: Option<[u8; 16]>,
-    sockets: Sockets,
+    link: RecordedSockets<'a>,
     sides: Sides<'a>,
     users: UserList<'a>,
-    recording: Recording<'a>,
     rng: StdRng,
-    /// The transaction id for the next datagram that comes.
-    transaction_id: [u8; 12],
     moments: Moments,
     nonces: Timer,
     files: Timer,
@@ -110,15 +107,15 @@ impl<'a> Server<'a> {
     /// Replaces the nonce by one that is drawn, which is never refused.
     fn renew_nonce(&mut self) {
         let nonce = draw_nonce(&mut self.rng);
-        self.recording.record(&Event::Nonce(nonce.as_str()));
+        self.link.recording.record(&Event::Nonce(nonce.as_str()));
         let _ = self.relay.set_nonce(nonce.as_str());
     }
 
     /// Prints the lines that say where clients are served, and which addresses are relayed.
     /// See docs/DECISIONS.md, "The port that the system chooses".
     fn announce<R: Print>(&self, rt: &R) -> io::Result<()> {
-        let address = self.sockets.address()?;
-        let Ports { first, last, .. } = self.sockets.ports();
+        let address = self.link.sockets.address()?;
+        let Ports { first, last, .. } = self.link.sockets.ports();
         let relayed = Ipv4Addr::from(self.relayed);
         let mut out = io::writer(rt);
         writeln!(out, "listening {address}")?;
@@ -136,7 +133,7 @@ impl<'a> Server<'a> {
     /// Prints how large the buffers of sockets are, where the system gives less than was asked for. A failure to print is
     /// ignored.
     fn report_buffer<E: Write>(&self, err: &mut E, wanted: i32) {
-        if let Ok(bytes) = self.sockets.buffer()
+        if let Ok(bytes) = self.link.sockets.buffer()
             && bytes < wanted
         {
             let _ = writeln!(
@@ -156,7 +153,7 @@ impl<'a> Server<'a> {
         let now = self.moments.now(rt);
         if let Some(file) = &mut self.metrics {
             let port = file.first_port;
-            let metrics = metrics_of(rt, &self.relay, &mut self.sockets, port, now);
+            let metrics = metrics_of(rt, &self.relay, &mut self.link.sockets, port, now);
             file.begin(rt, &metrics)?;
         }
         self.announce(rt).map_err(|_| CommandError::Output)?;
@@ -172,7 +169,7 @@ impl<'a> Server<'a> {
                 return;
             }
             if self.sides.advance(&mut self.relay, err) {
-                self.recording.end(err, RecordEnd::Programs);
+                self.link.recording.end(err, RecordEnd::Programs);
             }
         }
     }
@@ -182,7 +179,7 @@ impl<'a> Server<'a> {
         let now = self.moments.now(rt);
         if let Some(file) = &mut self.metrics {
             let port = file.first_port;
-            let metrics = metrics_of(rt, &self.relay, &mut self.sockets, port, now);
+            let metrics = metrics_of(rt, &self.relay, &mut self.link.sockets, port, now);
             file.write(rt, err, &metrics);
         }
     }
@@ -198,17 +195,17 @@ impl<'a> Server<'a> {
         if self.files.is_due(now) {
             self.sides.look(rt, err);
             if self.users.look(rt, err, &mut self.relay) {
-                self.recording.end(err, RecordEnd::Users);
+                self.link.recording.end(err, RecordEnd::Users);
             }
         }
         self.verify(rt, err, now);
-        if self.sockets.has_faults() && self.faults.is_due(now) {
-            self.sockets.report_faults(err);
+        if self.link.sockets.has_faults() && self.faults.is_due(now) {
+            self.link.sockets.report_faults(err);
         }
         if let Some(stats) = &mut self.stats
             && stats.is_due(now)
         {
-            self.sockets.report(rt, err);
+            self.link.sockets.report(rt, err);
         }
         if let Some(file) = &mut self.metrics
             && file.is_due(now)
@@ -222,40 +219,35 @@ impl<'a> Server<'a> {
     fn longest_wait(&self) -> Option<Duration> {
         let has_files = self.sides.has_files() || self.users.has_file();
         let has_reports = self.stats.is_some() || self.metrics.is_some();
-        if has_files || has_reports || self.sockets.has_faults() {
+        if has_files || has_reports || self.link.sockets.has_faults() {
             Some(Duration::from_secs(PERIOD))
         } else {
             None
         }
     }
 
-    /// Serves one datagram at an endpoint, if one has come there, at a moment, and counts it. Returns whether one has come, or a
-    /// fault. A transaction id is drawn where the one before may have been used.
+    /// Serves one datagram at an endpoint, if one has come there, and counts it. Returns whether one has come, or a fault. A
+    /// transaction id is drawn where the one before may have been used.
     /// See docs/DECISIONS.md, "One function serves a datagram".
     #[inline(always)]
-    fn turn(&mut self, endpoint: Endpoint, now: u64) -> bool {
-        let transaction_id = self.transaction_id;
-        let mut link = RecordedLink {
-            link: &mut self.sockets,
-            recording: &mut self.recording,
-            now,
-            transaction_id,
-        };
-        match serve_once(&mut self.relay, &mut link, endpoint, now, transaction_id) {
+    fn turn(&mut self, endpoint: Endpoint) -> bool {
+        let (relay, link) = (&mut self.relay, &mut self.link);
+        let (now, transaction_id) = (link.now, link.transaction_id);
+        match serve_once(relay, link, endpoint, now, transaction_id) {
             Ok(None) => return false,
-            Ok(Some(disposition)) => self.sockets.count_turn(Ok(disposition)),
-            Err(fault) => self.sockets.count_turn(Err(fault)),
+            Ok(Some(disposition)) => link.sockets.count_turn(Ok(disposition)),
+            Err(fault) => link.sockets.count_turn(Err(fault)),
         }
-        self.rng.fill_bytes(&mut self.transaction_id);
+        self.link.draw_id(&mut self.rng);
         true
     }
 
     /// Tries one datagram at each socket: that of clients first, then those of the slots in order.
     fn round<R: Clock>(&mut self, rt: &R) {
-        let now = self.moments.now(rt);
-        for token in 0..self.sockets.count() {
-            let endpoint = self.sockets.choose(token);
-            self.turn(endpoint, now);
+        self.link.now = self.moments.now(rt);
+        for token in 0..self.link.sockets.count() {
+            let endpoint = self.link.sockets.choose(token);
+            self.turn(endpoint);
         }
     }
 
@@ -271,12 +263,12 @@ impl<'a> Server<'a> {
             self.round(rt);
             self.tend(rt, err);
         }
-        self.recording.flush(err);
-        if self.sockets.has_faults() {
-            self.sockets.report_faults(err);
+        self.link.recording.flush(err);
+        if self.link.sockets.has_faults() {
+            self.link.sockets.report_faults(err);
         }
         if self.stats.is_some() {
-            self.sockets.report(rt, err);
+            self.link.sockets.report(rt, err);
         }
         self.write_metrics(rt, err);
     }
@@ -284,9 +276,9 @@ impl<'a> Server<'a> {
     /// Serves an endpoint until nothing comes there, or for as many datagrams as it may have, all at one moment. Returns how many
     /// came.
     #[inline(always)]
-    fn turns(&mut self, endpoint: Endpoint, now: u64) -> usize {
+    fn turns(&mut self, endpoint: Endpoint) -> usize {
         for count in 0..TURNS {
-            if !self.turn(endpoint, now) {
+            if !self.turn(endpoint) {
                 return count;
             }
         }
@@ -299,14 +291,14 @@ impl<'a> Server<'a> {
     /// See docs/DECISIONS.md, "A busy server receives ahead".
     #[inline(never)]
     fn drain<R: Clock>(&mut self, rt: &R, token: usize) -> bool {
-        let now = self.moments.now(rt);
-        let endpoint = self.sockets.choose(token);
+        self.link.now = self.moments.now(rt);
+        let endpoint = self.link.sockets.choose(token);
         if self.is_busy {
-            self.sockets.receive_ahead(endpoint);
+            self.link.sockets.receive_ahead(endpoint);
         }
         let count = match endpoint {
-            Endpoint::Client => self.turns(Endpoint::Client, now),
-            Endpoint::Slot(slot) => self.turns(Endpoint::Slot(slot), now),
+            Endpoint::Client => self.turns(Endpoint::Client),
+            Endpoint::Slot(slot) => self.turns(Endpoint::Slot(slot)),
         };
         self.is_busy = count > 1;
         count == TURNS
@@ -346,7 +338,7 @@ impl<'a> Server<'a> {
             } else {
                 Some(Duration::ZERO)
             };
-            self.recording.flush(err);
+            self.link.recording.flush(err);
             waiting.wait(wait)?;
             self.tend(rt, err);
             waiting.schedule.begin();
@@ -370,7 +362,7 @@ impl<'a> Server<'a> {
                 Ok(())
             }
             None => {
-                let waiting = Waiting::new(rt, &mut self.sockets)?;
+                let waiting = Waiting::new(rt, &mut self.link.sockets)?;
                 self.begin(rt, err, options.buffer)?;
                 self.run(rt, err, waiting)
             }
@@ -506,12 +498,15 @@ fn start<'a, R: Files<File = File> + Net + Clock + RandomSource + AllocGlobal>(
         relay: set.relay,
         relayed: ip,
         relayed6: ip6,
-        sockets,
+        link: RecordedSockets {
+            sockets,
+            recording,
+            now: 0,
+            transaction_id,
+        },
         sides: Sides::new(options, set.programs),
         users: UserList::new(options, set.users),
-        recording,
         rng,
-        transaction_id,
         moments: Moments::starting_now(rt),
         nonces: Timer::new(now, Duration::from_secs(server_options.nonce_lifetime)),
         files: Timer::new(now, period),
