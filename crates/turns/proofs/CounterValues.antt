@@ -1,10 +1,10 @@
 -- Where the value of each counter is stored: no two share an index.
-use Rattle.std.specs.Prelude.{◌≡◌, ◌≢◌, ℕ, ◌+◌, ◌<◌, List, [], ◌∷◌, ◌++◌, length, get_or, set, replicate, refl}
-use Rattle.std.proofs.Common.{sym, ◌∙◌, ap, subst, zero, suc, arith, min}
+use Rattle.std.specs.Prelude.{◌≡◌, ℕ, ◌<◌, List, ◌∷◌, length, get_or, set, replicate, refl}
+use Rattle.std.proofs.Common.{sym, ◌∙◌, ap, subst, zero, suc}
 use Rattle.std.proofs.lemmas.List.{get_or-set_same, get_or-set_other}
-use Rattle.turns.specs.Counters.{HasRaised, HasCounted, arrival_counter, outcome_counter, discard_counters, raised}
-use Rattle.turns.specs.CounterValues.{counter_index, kind_index, reason_index, counter_value}
-use Rattle.turns.specs.declared.counters.TheConstants.{KINDS, REASONS}
+use Rattle.turns.specs.Counters.{HasRaised, discard_counters, raised}
+use Rattle.turns.specs.CounterValues.{counter_index, counter_value}
+use Rattle.turns.specs.declared.counters.TheConstants.{KINDS}
 use Rattle.turns.specs.declared.counters.Counters.{Counters}
 use Rattle.turns.specs.declared.counters.Counter.{Counter}
 use Rattle.turns.specs.declared.counters.Counter.TheVariants as counter

@@ -1,5 +1,5 @@
 -- Internal. Where the value of each counter is stored.
-use Rattle.std.specs.Prelude.{ℕ, ◌+◌, ◌*◌, List, slice_index}
+use Rattle.std.specs.Prelude.{ℕ, ◌+◌, ◌*◌, slice_index}
 use Rattle.turns.specs.declared.counters.Counters.{Counters}
 use Rattle.turns.specs.declared.counters.Counter.{Counter}
 use Rattle.turns.specs.declared.counters.Counter.TheVariants as counter

@@ -9,7 +9,6 @@ use Rattle.turns.specs.declared.counters.Kind.TheVariants.{ChannelData, Message,
 use Rattle.turns.specs.declared.counters.Outcome.{Outcome}
 use Rattle.turns.specs.declared.counters.Outcome.TheVariants as outcome
 use Rattle.credentials.specs.declared.checking.AuthError.TheVariants as auth
-use Rattle.rules.specs.declared.disposition.Discard.{Discard}
 use Rattle.rules.specs.declared.disposition.Disposition.TheVariants.{Relayed, Answered, Discarded}
 use Rattle.serving.specs.declared.link.Endpoint.{Endpoint}
 use Rattle.serving.specs.declared.link.Endpoint.TheVariants.{Client, Slot}
