@@ -24,6 +24,7 @@ PROMPT = re.compile(r"^\$ (?:\./)?relayd(.*)$", re.MULTILINE)
 JOIN = re.compile(r"^(?:\$ )?cat (.*) > (\S+)\n", re.MULTILINE)
 # the files that stand for those that a reader would have made, by the last part of the name
 STAND_INS = {".s": "relay/client.s", ".events": "session.events", "users": "users.txt"}
+SECRET = "a secret of a page"
 OPTIONS = {"--port": "0", "--listen": "127.0.0.1", "--metrics": "relayd.prom"}
 
 
@@ -44,6 +45,9 @@ def join(text, folder):
 def standing_in(word, folder):
     """Returns a word of a command, or the name of an example where it names a file that a reader would have made."""
     if (folder / word).exists():
+        return word
+    if word == "secret":
+        (folder / word).write_text(SECRET)
         return word
     if word.endswith(".bpf"):
         run(["assemble", "examples/relay/client.s", folder / word], cwd=folder)

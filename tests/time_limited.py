@@ -3,13 +3,15 @@
 """
 
 import contextlib
+import json
 import pathlib
+import subprocess
 import sys
 import tempfile
 import time
 
 import relaying
-from lib.program import build, finish
+from lib.program import TOP, build, finish
 from lib.rules import ALLOCATE, LIFETIME, REFRESH, password_of
 from lib.server import UDP, Client, Server, address_of, channel_data, code_of, put, udp_socket, wanted
 
@@ -55,6 +57,13 @@ def codes(client):
     return code_of(client.allocate())
 
 
+def of_the_example(secret):
+    """A name and its password, as `examples/credentials.py` gives them to a web page."""
+    words = [sys.executable, TOP / "examples" / "credentials.py", secret, "turn:relay.example.org:3478", "ann"]
+    [given] = json.loads(subprocess.run(words, stdout=subprocess.PIPE, text=True, check=True).stdout)
+    return given["username"], given["credential"]
+
+
 def sessions():
     """Yields what a server answers otherwise than said to names that expire, with no user listed."""
     with tempfile.TemporaryDirectory() as folder, contextlib.ExitStack() as stack:
@@ -64,6 +73,7 @@ def sessions():
         peer = stack.enter_context(udp_socket())
         name, password = expiring(600)
         rows = [
+            ("a name of the example", of_the_example(path), 0),
             ("a name with its password", (name, password), 0),
             ("a name alone", expiring(600, ""), 0),
             ("another password", (name, password_of(SECRET, b"1").decode()), 401),
