@@ -32,9 +32,11 @@ OUT_OF_MEMORY = (4, "", "out of memory\n")
 EVER = 10**9
 PORT = free_ports(5)
 SERVER = ["--port", str(PORT), "--first-port", str(PORT + 1)]
-# where metrics are written, and the file of a record, which is new in each run
+# where metrics are written, the file of a record, which is new in each run, and a secret
 FOLDER = tempfile.TemporaryDirectory()
 RECORD = pathlib.Path(FOLDER.name) / "record"
+SECRET = pathlib.Path(FOLDER.name) / "secret"
+SECRET.write_text("a secret of the test\n")
 # command lines, each with its status where no allocation is refused
 CASES = [
     (["verify", FOURTH_BYTE], 0),
@@ -59,6 +61,7 @@ CASES = [
     (["disassemble", BRANCHES_TEXT], 1),
     (["replay", "--user", "u:p", "--users", USERS, "--client", FOURTH_BYTE, "--peer", HEADER, "/dev/null"], 0),
     (["replay", "--user", "u:p", "--nonce", "a b", "/dev/null"], 1),
+    (["replay", "--secret", str(SECRET), "/dev/null"], 0),
     (["serve", *SERVER, "--user", "u:p", "--slots", "4", "--rounds", "1", "--stats", "1", "--metrics", f"{FOLDER.name}/metrics"], 0),
     (["serve", *SERVER, "--user", "u:p", "--slots", "1", "--rounds", "1", "--record", str(RECORD)], 0),
     (["verify", "no such file"], 3),
