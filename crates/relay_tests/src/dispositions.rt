@@ -4,14 +4,13 @@ use crate::story::{STORY, config};
 use attributes::Family;
 use control::{Grant, Response};
 use credentials::AuthError;
-use events::{Event, Parsed, parse, write_event};
+use events::{Parsed, parse};
 use loader::load;
 use programs::{CLIENT, PEER};
 use relay::{Discard, Disposition, Relay};
 use std::alloc::Global;
 use std::process::Abort;
 use std::test::Fail;
-use streams::Output;
 use stun::registry::ErrorCode;
 
 /// How many slots the relays have.
@@ -186,39 +185,18 @@ const PASSED_AFTER: [(&str, Disposition); 5] = [
     ),
 ];
 
-/// Returns the line of an event, with its line feed.
-fn line_of(alloc: Global, event: &Event<'_>) -> Result<Vec<u8>, Fail> {
-    let mut output = Output::new(Vec::new(alloc));
-    match write_event(&mut output, event) {
-        Ok(()) => Ok(output.into_inner()),
-        Err(_) => Err(Fail::new("no line")),
-    }
-}
-
-/// Compares what a relay says of the datagram of an event, a line, and the line that is written of it.
-fn check(
-    rt: &(impl Abort + AllocGlobal),
-    relay: &mut Relay,
-    event: &str,
-    wanted: Disposition,
-) -> Result<(), Fail> {
+/// Compares what a relay says of the datagram of an event, a line.
+fn check(rt: &impl Abort, relay: &mut Relay, event: &str, wanted: Disposition) -> Result<(), Fail> {
     let Some(Parsed::Datagram { meta, n }) = parse(event.as_bytes(), SLOTS, relay.area()) else {
         return Err(Fail::new("no datagram"));
     };
-    let bytes = &relay.area()[..n];
-    let line = line_of(rt.alloc(), &Event::Datagram { meta, bytes })?;
-    assert_eq!(rt; line.strip_suffix(b"\n".as_slice()), Some(event.as_bytes()));
     let found = relay.step(meta, n).disposition;
     assert_eq!(rt; found, wanted, "{event}");
     Ok(())
 }
 
 /// Compares what a relay says of some events.
-fn check_all(
-    rt: &(impl Abort + AllocGlobal),
-    relay: &mut Relay,
-    rows: &[(&str, Disposition)],
-) -> Result<(), Fail> {
+fn check_all(rt: &impl Abort, relay: &mut Relay, rows: &[(&str, Disposition)]) -> Result<(), Fail> {
     for &(event, wanted) in rows {
         check(rt, relay, event, wanted)?;
     }
@@ -234,14 +212,14 @@ fn relay_of(alloc: Global, client: &[u8], peer: &[u8]) -> Result<Relay, Fail> {
 }
 
 /// Allocates, and binds a channel, by events of the story.
-fn open(rt: &(impl Abort + AllocGlobal), relay: &mut Relay) -> Result<(), Fail> {
+fn open(rt: &impl Abort, relay: &mut Relay) -> Result<(), Fail> {
     check(rt, relay, STORY[3].0, ALLOCATED)?;
     check(rt, relay, STORY[4].0, BOUND)
 }
 
 /// Compares what a relay with the shipped programs says of the story.
-fn check_story(rt: &(impl Abort + AllocGlobal)) -> Result<(), Fail> {
-    let mut relay = relay_of(rt.alloc(), CLIENT, PEER)?;
+fn check_story(rt: &impl Abort, alloc: Global) -> Result<(), Fail> {
+    let mut relay = relay_of(alloc, CLIENT, PEER)?;
     for (&(event, _), wanted) in STORY.iter().zip(OF_STORY) {
         check(rt, &mut relay, event, wanted)?;
     }
@@ -249,8 +227,8 @@ fn check_story(rt: &(impl Abort + AllocGlobal)) -> Result<(), Fail> {
 }
 
 /// Compares what a relay with programs that pass all on says before and after an allocation.
-fn check_passed(rt: &(impl Abort + AllocGlobal)) -> Result<(), Fail> {
-    let mut relay = relay_of(rt.alloc(), &PASSES_ALL, &PASSES_ALL)?;
+fn check_passed(rt: &impl Abort, alloc: Global) -> Result<(), Fail> {
+    let mut relay = relay_of(alloc, &PASSES_ALL, &PASSES_ALL)?;
     check_all(rt, &mut relay, &PASSED_BEFORE)?;
     open(rt, &mut relay)?;
     check_all(rt, &mut relay, &PASSED_AFTER)
@@ -258,9 +236,9 @@ fn check_passed(rt: &(impl Abort + AllocGlobal)) -> Result<(), Fail> {
 
 #[test]
 fn each_step_says_what_it_did(rt: HostRuntime) -> Result<(), Fail> {
-    check_story(&rt)?;
+    check_story(&rt, rt.alloc())?;
     let mut relay = relay_of(rt.alloc(), CLIENT, PEER)?;
     open(&rt, &mut relay)?;
     check_all(&rt, &mut relay, &FURTHER)?;
-    check_passed(&rt)
+    check_passed(&rt, rt.alloc())
 }
