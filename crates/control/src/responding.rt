@@ -127,7 +127,12 @@ fn check_credentials(
         users: &config.users,
         time_limited: time_limited(config, tables, arrival.client, arrival.moment),
     };
-    authenticate(arrival.message, &config.realm, &directory, config.nonce.as_str())
+    authenticate(
+        arrival.message,
+        &config.realm,
+        &directory,
+        config.nonce.as_str(),
+    )
 }
 
 /// Answers a request of TURN, and returns what was written.

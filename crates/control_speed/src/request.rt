@@ -84,7 +84,10 @@ impl Request {
         builder.attr(USERNAME, NAME.as_bytes())?;
         builder.attr(REALM_TYPE, REALM.as_bytes())?;
         builder.attr(NONCE_TYPE, NONCE.as_bytes())?;
-        sign(&mut builder, &Key::of(NAME.as_bytes(), REALM, PASSWORD.as_bytes()))?;
+        sign(
+            &mut builder,
+            &Key::of(NAME.as_bytes(), REALM, PASSWORD.as_bytes()),
+        )?;
         Ok(builder.finish())
     }
 }
