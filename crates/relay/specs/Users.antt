@@ -6,7 +6,7 @@ use Rattle.control.specs.Users.{new_index}
 use Rattle.tables.specs.Users.{rows_of_users}
 use Rattle.relay.specs.Relays.{RelayContents}
 
--- It has these users, and of its allocations those of a user who is one of them, by name and password. Nothing else changes.
+-- It has these users, and of its allocations those of a user who is one of them, by name and password, or who was in no list.
 abbrev pub after_users : RelayContents → Vec User Global → RelayContents
 after_users r users = record r {
   config = record r.config { users = users };

@@ -201,7 +201,8 @@ impl Relay {
     }
 
     /// Replaces the users. The allocations of a user go on where one of the new users has the same name and the same password,
-    /// at whatever index, and end otherwise, with their permissions and channels. Nothing else changes.
+    /// at whatever index, and end otherwise, with their permissions and channels. Those of names with time-limited credentials,
+    /// which no list has, go on. Nothing else changes.
     /// See docs/DECISIONS.md, "Users that are replaced".
     ///
     /// # Errors
@@ -272,7 +273,8 @@ impl Relay {
         requires { n ≤ MAX_DATAGRAM }
         ensures stepped { HasStepped self.old self.new (outcome_of self.old meta.entry.now n) }
         ensures found { sending_of_found self.new meta.entry.now.from result ≡ (outcome_of self.old meta.entry.now n).answer }
-        ensures disposition { disposition_of_found self.new meta.entry.now.from result ≡ disposition_of_step self.old meta.entry.now n }
+        ensures disposition { disposition_of_found self.new meta.entry.now.from result
+            ≡ disposition_of_step self.old meta.entry.now n }
         ensures room { HasRoomFor result self.new.reply }
     {
         self.greatest = moment_of(self.greatest, meta.now);
