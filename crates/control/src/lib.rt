@@ -22,6 +22,7 @@ pub use config::{Config, Field, MAX_TEXT, MAX_USERS, are_users, is_nonce};
 pub use lifetime::{MAX_LIFETIME, MIN_LIFETIME};
 pub use numbers::law_all_numbers;
 pub use reply::{Grant, REPLY_BYTES};
+pub use request::{Request, TurnRequest};
 pub use responding::respond;
 pub use response::{Response, Written};
 pub use unknown::all_understood;

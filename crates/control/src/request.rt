@@ -52,7 +52,7 @@ impl Request {
     }
 
     /// Returns the request that a message is, if it is one that is answered.
-    pub(crate) fn of(message: &Message<'_>) -> Option<Request>
+    pub fn of(message: &Message<'_>) -> Option<Request>
         ensures found { IfSome result (λ r. kind_of r class.Request ≡ message.now.kind) }
         ensures only { (r : declared.Request) → kind_of r class.Request ≡ message.now.kind → result ≡ Some r }
     {
