@@ -12,13 +12,12 @@ import os
 import pathlib
 import re
 import struct
-import subprocess
 import sys
 import tempfile
 
 import refusals
 from memory import over_additions
-from lib.program import assembled, build, explained, finish, preloadable, shipped
+from lib.program import assembled, explained, preloadable, run_parts, shipped
 from lib.rules import BINDING, CREATE_PERMISSION, NONCE, REFRESH
 from lib.server import (
     BAD, DISCARD, Client, Server, address_of, channel_data, code_of, comes, counters, passed, put, samples_of,
@@ -70,7 +69,7 @@ class Clocks:
     """The clocks of a server: they stand still until they are set."""
 
     def __init__(self, folder):
-        self.library, path = preloadable(folder, "set_clocks"), folder / "clocks"
+        self.folder, self.library, path = folder, preloadable(folder, "set_clocks"), folder / "clocks"
         self.file = open(path, "wb")
         self.environment = {**os.environ, "LD_PRELOAD": str(self.library), "CLOCKS": str(path)}
         self.set(REAL, MONOTONIC)
@@ -299,8 +298,9 @@ def replacements(good, messages):
     ]
 
 
-def replaced_programs(clocks, folder):
+def replaced_programs(clocks):
     """Yields what happens otherwise than said where the files of programs are changed, each a second after the last."""
+    folder = clocks.folder
     messages = assembled(folder, "messages", MESSAGES).read_bytes()
     good = {side: shipped(folder, side).read_bytes() for side in ("client", "peer")}
     for number, (begun, steps) in enumerate(replacements(good, messages)):
@@ -335,8 +335,9 @@ def steps_of(clocks, server, client, peer, paths, steps):
     yield from wanted("lines", sorted(server.printed().splitlines(True)), sorted(lines))
 
 
-def refused_programs(clocks, folder):
+def refused_programs(clocks):
     """Yields the refusals of a program that a running server prints otherwise, or after which the old program doesn't go on."""
+    folder = clocks.folder
     path = folder / "refused"
     put(path, DISCARD)
     with clocks.serving("--peer", str(path)) as (server, client):
@@ -362,19 +363,9 @@ def refused_programs(clocks, folder):
 
 def main():
     """Runs every part, and returns the exit status."""
-    build()
-    failures = []
+    parts = [lifetimes, clocks_that_are_set, nonces, lines, counted, metrics, replaced_programs, refused_programs]
     with tempfile.TemporaryDirectory() as name:
-        folder = pathlib.Path(name)
-        clocks = Clocks(folder)
-        parts = [(lifetimes, []), (clocks_that_are_set, []), (nonces, []), (lines, []), (counted, []), (metrics, []),
-                 (replaced_programs, [folder]), (refused_programs, [folder])]
-        for part, given in parts:
-            try:
-                failures += [f"{part.__name__}: {failure}" for failure in part(clocks, *given)]
-            except (OSError, ValueError, AttributeError, RuntimeError, subprocess.TimeoutExpired) as error:
-                failures.append(f"{part.__name__}: {error!r}")
-    return finish(failures, f"clocks: {len(parts)} parts, {len(failures)} failures")
+        return run_parts("clocks", parts, Clocks(pathlib.Path(name)))
 
 
 if __name__ == "__main__":

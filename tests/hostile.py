@@ -15,7 +15,7 @@ import sys
 import tempfile
 import time
 
-from lib.program import PROGRAM, build, finish
+from lib.program import PROGRAM, run_parts
 from lib.rules import ALLOCATE, BINDING, CHANNEL_BIND, CHANNEL_NUMBER, CREATE_PERMISSION, message
 from lib.server import (
     CHANNEL, LOOPBACK, UDP, USER, Client, Server, address_of, channel_data, code_of, comes, counters, fault_line,
@@ -308,16 +308,9 @@ def shared_port():
 
 def main():
     """Runs every part, and returns the exit status."""
-    build()
     parts = [denied_peers, never_sent, loopback_behind_all_addresses, loops, unread_errors, few_fault_lines, odd_files, bursts,
              few_descriptors, shared_port]
-    failures = []
-    for part in parts:
-        try:
-            failures += [f"{part.__name__}: {failure}" for failure in part()]
-        except (OSError, ValueError, AttributeError, RuntimeError, subprocess.TimeoutExpired) as error:
-            failures.append(f"{part.__name__}: {error!r}")
-    return finish(failures, f"hostile: {len(parts)} parts, {len(failures)} failures")
+    return run_parts("hostile", parts)
 
 
 if __name__ == "__main__":

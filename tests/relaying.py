@@ -6,7 +6,8 @@ that pass and go back, and new nonces. One list has addresses of IPv4 alone, ano
 with the shipped programs, with a program of the client's side that passes every datagram on, with the programs of
 examples/relay/: those that relay more by themselves give the same answers, and those that discard give none where they say
 so; and with those of tests/ipv4_programs/, which were shipped before there were IPv6 allocations: they relay the same over
-IPv4, and nothing over IPv6 that they have to relay themselves.
+IPv4, and nothing over IPv6 that they have to relay themselves. With `--why` the reason of each answer is the model's: with
+programs that give the answers of the rules it is that of the rules, and else, where only the program discards, its exit.
 """
 
 import collections
@@ -19,7 +20,7 @@ from pathlib import Path
 from lib.program import assembled, build, finish, run
 from lib.rules import (
     ALLOCATE, BINDING, CHANNEL_BIND, CHANNEL_NUMBER, CREATE_PERMISSION, DATA, FAMILY, IPV4, LIFETIME, NONCE, REALM, REFRESH, SEND,
-    TRANSPORT, USERNAME, XOR_PEER_ADDRESS, Rules, address_value, answer_line, event_of, family_of, key_of, line_of, message)
+    TRANSPORT, USERNAME, XOR_PEER_ADDRESS, Discarded, Rules, address_value, answer_line, event_of, family_of, key_of, line_of, message)
 
 TOP = Path(__file__).resolve().parent.parent
 PROGRAMS = TOP / "examples" / "relay"
@@ -232,14 +233,17 @@ def kinds_of(pairs):
 
 
 class Discarding(Rules):
-    """The rules, where the program of the peers' side discards some datagrams before."""
+    """The rules, where the program of the peers' side discards some datagrams more, and exits there at a slot."""
 
-    def __init__(self, discards):
+    def __init__(self, discards, exit_slot=0):
         super().__init__(USERS, slots=SLOTS)
-        self.discards = discards
+        self.discards, self.exit_slot = discards, exit_slot
 
     def from_peer(self, transaction_id, slot, peer, data):
-        return None if self.discards(peer, data) else super().from_peer(transaction_id, slot, peer, data)
+        answer = super().from_peer(transaction_id, slot, peer, data)
+        if self.discards(peer, data):
+            raise Discarded(f"discarded by the program at slot {self.exit_slot}")
+        return answer
 
 
 class OverIpv4(Rules):
@@ -263,6 +267,11 @@ def discarding(pairs, discards):
     """The same events with the answers where some datagrams of peers are discarded."""
     rules = Discarding(discards)
     return [(line, answer_line(rules.answer(event_of(line)))) for line, _ in pairs]
+
+
+def explained(pairs, rules):
+    """The same events with the answers of rules, each with its reason."""
+    return [(line, f"{answer_line(rules.answer(event_of(line)))} ; {rules.why}") for line, _ in pairs]
 
 
 def program(folder, *sources):
@@ -339,6 +348,29 @@ def allocated():
         signed(ALLOCATE, [(TRANSPORT, bytes([17, 0, 0, 0]))]), signed(CREATE_PERMISSION, [peer]),
         signed(CHANNEL_BIND, [(CHANNEL_NUMBER, b"\x40\x01\0\0"), peer])]
     return [("c", 1000, bytes(12), CLIENTS[0], request) for request in requests]
+
+
+def of_network(peer, _):
+    """Whether `refuse_network` discards what comes from a peer."""
+    return peer[0][:3] == bytes([203, 0, 113])
+
+
+def is_long(_, data):
+    """Whether `at_most_1200_bytes` discards a datagram."""
+    return len(data) > 1200
+
+
+def reasons(folder, pairs, pairs6):
+    """Lists of events with the answers and their reasons, and their options. The exits are those of the texts."""
+    ip6 = ["--relay-ip6", IP6.hex()]
+    for kind, events in (("one after another", systematic()), ("seeded", pairs)):
+        yield f"{kind}, with reasons", explained(events, Rules(USERS, slots=SLOTS)), []
+        refuse, short = (["--peer", program(folder, name, "peer")] for name in ("refuse_network", "at_most_1200_bytes"))
+        yield f"{kind}, refuse_network with reasons", explained(events, Discarding(of_network, 5)), refuse
+        yield f"{kind}, at_most_1200_bytes with reasons", explained(events, Discarding(is_long, 3)), short
+    for kind, events in (("one after another over IPv6", systematic6()), ("seeded over both families", pairs6)):
+        for name, words in (("the shipped programs", []), ("a program that passes all on", ["--client", folder / "pass_all.bpf"])):
+            yield f"{kind}, {name} with reasons", explained(events, Rules(USERS, slots=SLOTS, ip6=IP6)), [*ip6, *words]
 
 
 def odd_programs(folder):
@@ -436,8 +468,8 @@ def main():
                 ("shipped programs", events, []),
                 ("a program that passes all on", events, ["--client", folder / "pass_all.bpf"]),
                 ("client_with_options", events, options),
-                ("refuse_network", discarding(events, lambda peer, _: peer[0][:3] == bytes([203, 0, 113])), refuse),
-                ("at_most_1200_bytes", discarding(events, lambda _, data: len(data) > 1200), short),
+                ("refuse_network", discarding(events, of_network), refuse),
+                ("at_most_1200_bytes", discarding(events, is_long), short),
             ):
                 failures += compare(folder, f"{kind}, {program_name}", wanted, words)
                 count += len(events)
@@ -455,6 +487,9 @@ def main():
                 count += len(events)
         for kind, events in (("one after another", systematic()), ("seeded", pairs)):
             failures += compare(folder, f"{kind}, the programs of before", events, before)
+            count += len(events)
+        for name, events, words in reasons(folder, pairs, pairs6):
+            failures += compare(folder, name, events, [*words, "--why"])
             count += len(events)
         deny = ["--client", program(folder, "deny_private", "client")]
         for events, words in denied():

@@ -11,7 +11,7 @@ import tempfile
 import time
 
 import relaying
-from lib.program import TOP, build, finish
+from lib.program import TOP, run_parts
 from lib.rules import ALLOCATE, LIFETIME, REFRESH, password_of
 from lib.server import UDP, Client, Server, address_of, channel_data, code_of, put, udp_socket, wanted
 
@@ -125,10 +125,7 @@ def listed():
 
 def main():
     """Runs every part, and returns the exit status."""
-    build()
-    parts = [drawn_events, sessions, listed]
-    failures = [f"{part.__name__}: {failure}" for part in parts for failure in part()]
-    return finish(failures, f"time-limited credentials: {2 * EVENTS:,} events, {len(parts)} parts, {len(failures)} failures")
+    return run_parts("time-limited credentials", [drawn_events, sessions, listed], summary=f"{2 * EVENTS:,} events, ")
 
 
 if __name__ == "__main__":

@@ -10,6 +10,8 @@ TOP = pathlib.Path(__file__).resolve().parents[2]
 SCRIPT = TOP / "relayd"
 # the program itself, for a test that restricts the process
 PROGRAM = TOP / "crates" / "relayd" / "out" / "relayd"
+# what can't be tried here, each with its reason
+PASSED_OVER = []
 
 
 @functools.cache
@@ -56,6 +58,20 @@ def preloadable(folder, name):
 def explained(path):
     """Returns the line that names the command which explains why the program in a file is refused."""
     return f"relayd explain {path} shows why\n"
+
+
+def run_parts(name, parts, *given, summary=""):
+    """Runs the parts of a test, each of which yields what is wrong, prints that and a line that sums it up, and returns the exit
+    status. A part that ends by an error has failed."""
+    build()
+    failures = []
+    for part in parts:
+        try:
+            failures += [f"{part.__name__}: {failure}" for failure in part(*given)]
+        except (OSError, ValueError, AttributeError, RuntimeError, subprocess.TimeoutExpired) as error:
+            failures.append(f"{part.__name__}: {error!r}")
+    passed_over = f"; passed over: {', '.join(PASSED_OVER)}" if PASSED_OVER else ""
+    return finish(failures, f"{name}: {summary}{len(parts)} parts, {len(failures)} failures{passed_over}")
 
 
 def finish(failures, summary):
