@@ -32,6 +32,7 @@ pub(crate) fn reason_name(reason: Discard) -> &'static str {
         Discard::Incomplete => "incomplete",
         Discard::NoPermission => "no_permission",
         Discard::OtherFamily => "other_family",
+        Discard::TooLong => "too_long",
     }
 }
 

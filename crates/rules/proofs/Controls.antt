@@ -1,6 +1,6 @@
 -- What `respond` promises is the answer of the rules.
-use Rattle.std.proofs.Common.{◌≡◌, ◌≢◌, ℕ, ◌<◌, ◌≤◌, length, take, arith, length-take-le, ◌⊎◌, true, false, List, [], ◌∷◌, refl, sym, ap, subst, ◌∙◌, inl, inr, eqb-true, eq-eqb}
-use Rattle.std.specs.Prelude.{◌==◌, Option, None, Some, Result, IsSomeAnd, string_bytes}
+use Rattle.std.proofs.Common.{◌≡◌, ℕ, ◌⊎◌, true, List, [], ◌∷◌, refl, sym, ap, subst, ◌∙◌, inl, inr, eqb-true, eq-eqb}
+use Rattle.std.specs.Prelude.{◌==◌, Option, None, Some, Result, IfSome, IsSomeAnd, string_bytes}
 use Rattle.std.proofs.lemmas.Bool.{cases_Bool, cond-true, cond-false, both_ways}
 use Rattle.std.proofs.lemmas.Option.{same_Some}
 use Rattle.stun.specs.Messages.{Parts}
@@ -114,3 +114,15 @@ module _ (are_checked : AreChecked) (config : Config) (now : ℕ) (client : Addr
 
   pub response_is : is_ipv4 client ≡ true → Responds config now client p old new written says → disposition_of_response says ≡ disposition_of_request config now client p old (request_of p.kind)
   response_is ipv4 responds = says_by_request ipv4 responds (request_of p.kind) refl
+
+-- ---- the request that is found
+
+-- what is found for a message is the request of its type
+pub request_is : (kind : ℕ) (o : Option Request) → IfSome o (λ r. kind_of r class.Request ≡ kind) → ((r : Request) → kind_of r class.Request ≡ kind → o ≡ Some r) → o ≡ request_of kind
+request_is kind o found only = of (request_of kind) refl where
+  of : (answer : Option Request) → request_of kind ≡ answer → o ≡ answer
+  of (Some r) e = only r (found_among kind requests r e)
+  of None e = none o found where
+    none : (o : Option Request) → IfSome o (λ r. kind_of r class.Request ≡ kind) → o ≡ None
+    none None is = refl
+    none (Some r) is = absurd (none_among kind requests r (all_requests r) is e)

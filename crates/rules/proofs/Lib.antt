@@ -1,2 +1,3 @@
 -- Internal. The modules of this folder.
 mod Controls
+mod Lengths

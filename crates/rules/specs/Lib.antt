@@ -1,6 +1,7 @@
 -- Internal. The modules of this folder.
 pub mod Answers
 pub mod ByRules
+pub mod Discards
 pub mod Dispositions
 pub mod laws
 pub mod FastPart

@@ -1,2 +1,3 @@
 -- Interface. The laws of the definitions, which are proved, so that nobody has to believe them.
 pub mod Client
+pub mod Discards

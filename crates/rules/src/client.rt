@@ -18,7 +18,7 @@ use stun::registry::{Class, MessageType, Method};
 use tables::Tables;
 
 /// The type of a Send indication.
-const SEND: MessageType = MessageType {
+pub(crate) const SEND: MessageType = MessageType {
     method: Method::Send,
     class: Class::Indication,
 };

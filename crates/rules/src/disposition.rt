@@ -13,7 +13,7 @@ pub enum Discard {
     Malformed,
     /// It is a STUN message, but no request that is answered.
     NoRequest,
-    /// The client has no allocation.
+    /// The client has no allocation, or the slot that a peer sent to has none.
     NoAllocation,
     /// The number of the ChannelData is bound to no peer.
     NoChannel,
@@ -21,10 +21,13 @@ pub enum Discard {
     UnknownAttribute,
     /// The Send indication has no address, or no data.
     Incomplete,
-    /// The peer of the Send indication has no permission.
+    /// The peer has no permission.
     NoPermission,
     /// The peer's address isn't of the allocation's family.
     OtherFamily,
+    /// What would carry the peer's data is longer than a datagram may be. No step reports this, since a peer's datagram is decided
+    /// by its program; [`discard_by_rules`](crate::discard_by_rules) finds it.
+    TooLong,
 }
 
 /// What is done with a datagram. See docs/DECISIONS.md, "What a step reports".

@@ -22,17 +22,18 @@ each_kind P a b c d Other = c
 each_kind P a b c d FromPeer = d
 
 pub each_reason : (P : Discard → Type 0) → P discard.NotServed → P discard.ByProgram → P discard.Malformed → P discard.NoRequest → P discard.NoAllocation
-    → P discard.NoChannel → P discard.UnknownAttribute → P discard.Incomplete → P discard.NoPermission → P discard.OtherFamily → (reason : Discard) → P reason
-each_reason P a b c d e f g h i j discard.NotServed = a
-each_reason P a b c d e f g h i j discard.ByProgram = b
-each_reason P a b c d e f g h i j discard.Malformed = c
-each_reason P a b c d e f g h i j discard.NoRequest = d
-each_reason P a b c d e f g h i j discard.NoAllocation = e
-each_reason P a b c d e f g h i j discard.NoChannel = f
-each_reason P a b c d e f g h i j discard.UnknownAttribute = g
-each_reason P a b c d e f g h i j discard.Incomplete = h
-each_reason P a b c d e f g h i j discard.NoPermission = i
-each_reason P a b c d e f g h i j discard.OtherFamily = j
+    → P discard.NoChannel → P discard.UnknownAttribute → P discard.Incomplete → P discard.NoPermission → P discard.OtherFamily → P discard.TooLong → (reason : Discard) → P reason
+each_reason P a b c d e f g h i j k discard.NotServed = a
+each_reason P a b c d e f g h i j k discard.ByProgram = b
+each_reason P a b c d e f g h i j k discard.Malformed = c
+each_reason P a b c d e f g h i j k discard.NoRequest = d
+each_reason P a b c d e f g h i j k discard.NoAllocation = e
+each_reason P a b c d e f g h i j k discard.NoChannel = f
+each_reason P a b c d e f g h i j k discard.UnknownAttribute = g
+each_reason P a b c d e f g h i j k discard.Incomplete = h
+each_reason P a b c d e f g h i j k discard.NoPermission = i
+each_reason P a b c d e f g h i j k discard.OtherFamily = j
+each_reason P a b c d e f g h i j k discard.TooLong = k
 
 -- ---- the counter of an index
 
@@ -48,10 +49,10 @@ IsInOrder c = counter_at (counter_index c) ≡ c
 
 discard_at : (kind : Kind) (reason : Discard) → IsInOrder (counter.Discarded kind reason)
 discard_at kind reason = each_kind (λ k. IsInOrder (counter.Discarded k reason))
-    (each_reason (λ r. IsInOrder (counter.Discarded ChannelData r)) refl refl refl refl refl refl refl refl refl refl reason)
-    (each_reason (λ r. IsInOrder (counter.Discarded Message r)) refl refl refl refl refl refl refl refl refl refl reason)
-    (each_reason (λ r. IsInOrder (counter.Discarded Other r)) refl refl refl refl refl refl refl refl refl refl reason)
-    (each_reason (λ r. IsInOrder (counter.Discarded FromPeer r)) refl refl refl refl refl refl refl refl refl refl reason)
+    (each_reason (λ r. IsInOrder (counter.Discarded ChannelData r)) refl refl refl refl refl refl refl refl refl refl refl reason)
+    (each_reason (λ r. IsInOrder (counter.Discarded Message r)) refl refl refl refl refl refl refl refl refl refl refl reason)
+    (each_reason (λ r. IsInOrder (counter.Discarded Other r)) refl refl refl refl refl refl refl refl refl refl refl reason)
+    (each_reason (λ r. IsInOrder (counter.Discarded FromPeer r)) refl refl refl refl refl refl refl refl refl refl refl reason)
     kind
 
 at_index : (c : Counter) → IsInOrder c

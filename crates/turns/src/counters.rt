@@ -63,10 +63,10 @@ pub enum Counter {
 }
 
 /// The number of reasons to discard a datagram.
-const REASON_COUNT: usize = 10;
+const REASON_COUNT: usize = 11;
 
 /// The number of counters.
-const COUNTER_COUNT: usize = 51;
+const COUNTER_COUNT: usize = 55;
 
 /// All kinds of datagrams.
 pub const KINDS: [Kind; 4] = [
@@ -88,6 +88,7 @@ pub const REASONS: [Discard; REASON_COUNT] = [
     Discard::Incomplete,
     Discard::NoPermission,
     Discard::OtherFamily,
+    Discard::TooLong,
 ];
 
 /// The counters of a server, which stay at [`u64::MAX`] once they are there.
@@ -188,6 +189,7 @@ fn reason_index(reason: Discard) -> usize
         Discard::Incomplete => 7,
         Discard::NoPermission => 8,
         Discard::OtherFamily => 9,
+        Discard::TooLong => 10,
     }
 }
 
