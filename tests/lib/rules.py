@@ -21,11 +21,19 @@ PHRASES = {
 
 
 class Refused(Exception):
-    """A request is answered by an error response with this code."""
+    """A request is answered by an error response with this code, for this reason."""
 
-    def __init__(self, code):
+    def __init__(self, code, why=None):
         super().__init__(code)
-        self.code = code
+        self.code, self.why = code, why or f"refused {code} {PHRASES[code]}"
+
+
+class Discarded(Exception):
+    """A datagram is answered by nothing, for this reason."""
+
+    def __init__(self, why):
+        super().__init__(why)
+        self.why = why
 
 
 def xor(data, mask):
@@ -129,7 +137,7 @@ class Allocation:
 
 
 class Rules:
-    """The rules, over a state: allocations by slot, the greatest moment, and the nonce."""
+    """The rules, over a state: allocations by slot, the greatest moment, and the nonce. `why` is why the last answer is so."""
 
     def __init__(self, users, realm="relay", nonce="n1", slots=16, ip=bytes([127, 0, 0, 1]), ip6=None, first_port=49152, secret=None):
         self.users, self.realm, self.nonce, self.secret = users, realm, nonce.encode(), secret
@@ -155,18 +163,24 @@ class Rules:
     def answer(self, event):
         """The answer to an event: None, ("c", client, bytes) or ("p", slot, peer, bytes)."""
         if event[0] == "n":
-            self.nonce = event[1]
+            self.nonce, self.why = event[1], "nonce set"
             return None
         side, now, transaction_id = event[:3]
-        self.now = max(self.now, min(now, LATEST))
-        if side == "p":
-            return self.from_peer(transaction_id, *event[3:])
-        return self.from_client(*event[3:])
+        self.now, self.why = max(self.now, min(now, LATEST)), "relayed"
+        try:
+            if side == "p":
+                return self.from_peer(transaction_id, *event[3:])
+            return self.from_client(*event[3:])
+        except Discarded as discarded:
+            self.why = discarded.why
+            return None
 
     def from_peer(self, transaction_id, slot, peer, data):
         a = self.at(slot)
-        if a is None or peer[0] not in a.permissions:
-            return None
+        if a is None:
+            raise Discarded("no allocation")
+        if peer[0] not in a.permissions:
+            raise Discarded("no permission")
         for number, (bound, _) in a.channels.items():
             if bound == peer:
                 out = struct.pack(">HH", number, len(data)) + data
@@ -174,38 +188,46 @@ class Rules:
         else:
             given = [(XOR_PEER_ADDRESS, address_value(peer, transaction_id)), (DATA, data)]
             if 20 + sum(len(attribute(*a)) for a in given) > LONGEST:
-                return None
+                raise Discarded("too long")
             out = message(DATA_INDICATION, transaction_id, given)
-        return ("c", a.client, out) if len(out) <= LONGEST else None
+        if len(out) > LONGEST:
+            raise Discarded("too long")
+        return ("c", a.client, out)
 
     def from_client(self, client, data):
         if family_of(client[0]) == IPV6:
-            return None
+            raise Discarded("not served")
         if not data or data[0] >= 0x40:
             return self.channel_data(client, data)
         m = read(data)
         if m is None:
-            return None
+            raise Discarded("malformed")
         if m.kind == SEND:
             return self.send(client, m)
         return self.request(client, m)
 
     def channel_data(self, client, data):
         a = self.of(client)
-        if a is None or len(data) < 4:
-            return None
-        number, length = struct.unpack(">HH", data[:4])
-        if length > len(data) - 4 or number not in a.channels:
-            return None
+        if a is None:
+            raise Discarded("no allocation")
+        number, length = struct.unpack(">HH", data[:4].ljust(4, b"\0"))
+        if len(data) < 4 or not 0x4000 <= number <= 0x7FFF or length > len(data) - 4:
+            raise Discarded("malformed")
+        if number not in a.channels:
+            raise Discarded("no channel")
         return ("p", a.slot, a.channels[number][0], data[4:4 + length])
 
     def send(self, client, m):
         a, value, data = self.of(client), m.first(XOR_PEER_ADDRESS), m.first(DATA)
-        if a is None or m.unknown() or value is None or data is None:
-            return None
-        peer = address_in(value, m.transaction_id)
-        if peer is None or peer[0] not in a.permissions:
-            return None
+        if a is None:
+            raise Discarded("no allocation")
+        if m.unknown():
+            raise Discarded("unknown attribute")
+        peer = None if value is None else address_in(value, m.transaction_id)
+        if peer is None or data is None:
+            raise Discarded("incomplete")
+        if peer[0] not in a.permissions:
+            raise Discarded("no permission")
         return ("p", a.slot, peer, data)
 
     # ---- requests
@@ -214,7 +236,7 @@ class Rules:
         serve = {BINDING: None, ALLOCATE: self.allocate, REFRESH: self.refresh,
                  CREATE_PERMISSION: self.create_permission, CHANNEL_BIND: self.channel_bind}
         if m.kind not in serve:
-            return None
+            raise Discarded("no request")
         key = None
         try:
             user = None
@@ -223,12 +245,13 @@ class Rules:
             if m.unknown():
                 raise Refused(420)
             if m.kind == BINDING:
-                given = [(XOR_MAPPED_ADDRESS, address_value(client, m.transaction_id))]
+                given, self.why = [(XOR_MAPPED_ADDRESS, address_value(client, m.transaction_id))], "granted an address"
             else:
+                self.why = "granted"
                 given = serve[m.kind](client, user, m)
             return ("c", client, message(m.kind | 0x100, m.transaction_id, given, key))
         except Refused as refused:
-            code = refused.code
+            code, self.why = refused.code, refused.why
             given = [(ERROR_CODE, bytes([0, 0, code // 100, code % 100]) + PHRASES[code].encode())]
             if code in (401, 438):
                 given += [(REALM, self.realm.encode()), (NONCE, self.nonce)]
@@ -253,18 +276,18 @@ class Rules:
         """The user of a request of a client, and the key."""
         code, name = m.first(INTEGRITY), m.first(USERNAME)
         if code is None:
-            raise Refused(401)
+            raise Refused(401, "no credentials")
         if name is None or m.first(REALM) is None or m.first(NONCE) is None:
-            raise Refused(400)
+            raise Refused(400, "incomplete credentials")
         if m.first(NONCE) != self.nonce:
-            raise Refused(438)
+            raise Refused(438, "stale nonce")
         account = self.account(client, name)
         if account is None:
-            raise Refused(401)
+            raise Refused(401, "unknown user")
         user, password = account
         key = hashlib.md5(b":".join([name, self.realm.encode(), password])).digest()
         if hmac.new(key, m.covered, hashlib.sha1).digest() != code:
-            raise Refused(401)
+            raise Refused(401, "wrong password")
         return user, key
 
     @staticmethod
@@ -308,6 +331,7 @@ class Rules:
                 raise Refused(508)
             a = Allocation(free[0], client, user, m.transaction_id, family, lifetime, self.now + lifetime)
             self.slots[a.slot] = a
+        self.why = f"allocated slot {a.slot} for {a.lifetime} seconds"
         relayed = self.ips[a.family], self.first_port + a.slot
         return [(XOR_RELAYED_ADDRESS, address_value(relayed, m.transaction_id)), (LIFETIME, struct.pack(">I", a.lifetime)),
                 (XOR_MAPPED_ADDRESS, address_value(client, m.transaction_id))]
@@ -319,6 +343,7 @@ class Rules:
         requested = self.number(m, LIFETIME, 4)
         lifetime = 0 if requested == 0 else self.lifetime(requested)
         a.end = self.now + lifetime
+        self.why = f"refreshed for {lifetime} seconds" if lifetime else "ended"
         return [(LIFETIME, struct.pack(">I", lifetime))]
 
     def create_permission(self, client, user, m):

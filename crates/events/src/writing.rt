@@ -73,43 +73,49 @@ fn write_field<W: Write>(output: &mut Output<W>, field: Field<'_>) -> Result<(),
     }
 }
 
-/// Writes a line: what precedes its last field, that field, and a line feed.
+/// Writes a line: what precedes its last field, that field, and what ends the line.
 fn write_line<W: Write>(
     output: &mut Output<W>,
     front: &[u8],
     field: Field<'_>,
+    ending: &[u8],
 ) -> Result<(), Failed>
     requires { output.old.failed ≡ false }
     ensures ok { OnOk result (Appends output.old.contents output.new.contents
-        (front.now ++ field_text field.entry ++ 10 ∷ [])) }
+        (front.now ++ field_text field.entry ++ ending.now)) }
     ensures err { OnErr result (AppendsBeginning output.old.contents output.new.contents
-        (front.now ++ field_text field.entry ++ 10 ∷ [])) }
+        (front.now ++ field_text field.entry ++ ending.now)) }
     ensures failed { output.new.failed ≡ is_err result }
 {
     output.write_all(front)?;
     write_field(output, field)?;
-    output.write_all(b"\n")
+    output.write_all(ending)
 }
 
-/// Writes the line of what a step sends, with its line feed.
+/// Writes the line of what a step sends, and then `ending`, which is or ends in a line feed.
 ///
 /// # Errors
 /// Where the output fails; a beginning of the line was written.
-pub fn write_answer<W: Write>(output: &mut Output<W>, action: &Action<'_>) -> Result<(), Failed>
+pub fn write_answer<W: Write>(
+    output: &mut Output<W>,
+    action: &Action<'_>,
+    ending: &[u8],
+) -> Result<(), Failed>
     requires { output.old.failed ≡ false }
     ensures ok { OnOk result (Appends output.old.contents output.new.contents
-        (answer_line (sending_of action.now) ++ 10 ∷ [])) }
+        (answer_line (sending_of action.now) ++ ending.now)) }
     ensures err { OnErr result (AppendsBeginning output.old.contents output.new.contents
-        (answer_line (sending_of action.now) ++ 10 ∷ [])) }
+        (answer_line (sending_of action.now) ++ ending.now)) }
     ensures failed { output.new.failed ≡ is_err result }
 {
     match action {
-        Action::Nothing => output.write_all(b"-\n"),
+        Action::Nothing => write_line(output, b"", Field::Text("-"), ending),
         Action::ToPeer { slot, peer, bytes } => {
             write_line(
                 output,
                 peer_front(*slot, peer).as_slice(),
                 Field::Digits(bytes),
+                ending,
             )
         }
         Action::ToClient { client, bytes } => {
@@ -117,6 +123,7 @@ pub fn write_answer<W: Write>(output: &mut Output<W>, action: &Action<'_>) -> Re
                 output,
                 client_front(client).as_slice(),
                 Field::Digits(bytes),
+                ending,
             )
         }
     }
@@ -141,8 +148,9 @@ pub fn write_event<W: Write>(output: &mut Output<W>, event: &Event<'_>) -> Resul
                 output,
                 datagram_front(meta).as_slice(),
                 Field::Digits(bytes),
+                b"\n",
             )
         }
-        Event::Nonce(text) => write_line(output, b"n ", Field::Text(text)),
+        Event::Nonce(text) => write_line(output, b"n ", Field::Text(text), b"\n"),
     }
 }

@@ -1,19 +1,28 @@
 -- A frame that was started, and then run.
-use Rattle.std.proofs.Common.{◌≡◌, ℕ, ◌≤◌, List, length, take, sym, subst, ◌∙◌}
+use Rattle.std.proofs.Common.{◌≡◌, ℕ, ◌≤◌, List, [], ◌∷◌, length, take, sym, subst, ap, ◌∙◌}
 use Rattle.insn.specs.declared.instruction.Insn.{Insn}
 use Rattle.semantics.specs.Access.{part}
 use Rattle.semantics.specs.Runs.{Run}
+use Rattle.semantics.specs.declared.fetching.Visit.{Visit}
 use Rattle.semantics.specs.declared.limits.TheConstants.{HEADROOM, MAX_DATAGRAM}
 use Rattle.machine.specs.Contents.{Contents, room_of, datagram_of, IsStartedOver}
 use Rattle.machine.specs.Contexts.{HelperAnswers, environment_around, context_of}
 use Rattle.machine.specs.laws.Frame.{datagram_started}
-use Rattle.machine.specs.Tracing.{IsOutcome, Shows, run_of, run_over, safe_run_of}
+use Rattle.machine.specs.Tracing.{IsOutcome, Reports, Shows, run_of, run_over, safe_run_of}
 use Rattle.machine.specs.declared.context.Context.{Context}
 use Rattle.machine.specs.declared.outcome.Outcome.{Outcome}
 use Rattle.programs.specs.Runs.{window_in}
 use Rattle.relay.specs.Found.{HasRun}
+use Rattle.relay.specs.Reasons.{last_slot_of}
 
-module _ (code : List Insn) (answers : HelperAnswers) (old started after : Contents) (given : Context) (n : ℕ) (o : Outcome)
+-- what a sink keeps, to which the steps of a path were reported, is the slot of the last one
+last_reported : (path : List Visit) (old new : ℕ) → Reports (λ (old : ℕ) (v : Visit) (new : ℕ). new ≡ v.slot) old path new
+    → new ≡ last_slot_of old path
+last_reported [] old new is = sym is
+last_reported (v ∷ path) old new (between, here, rest) = last_reported path between new rest
+    ∙ ap (λ (slot : ℕ). last_slot_of slot path) here
+
+module _ (code : List Insn) (answers : HelperAnswers) (old started : Contents) (given : Context) (n : ℕ)
     (room : length (room_of old) ≡ MAX_DATAGRAM) (few : n ≤ MAX_DATAGRAM) (start : IsStartedOver old started given n) where
   datagram_is : datagram_of started ≡ take n (room_of old)
   datagram_is = datagram_started old started given n room few start
@@ -24,12 +33,20 @@ module _ (code : List Insn) (answers : HelperAnswers) (old started after : Conte
   run_is : run_of code started answers ≡ run_wanted
   run_is = λ i. run_over (environment_around (context_of (start.context i)) answers) code (datagram_is i)
 
-  pub has_run : IsOutcome o (safe_run_of code started answers) → run_of code started answers ≡ safe_run_of code started answers
-      → Shows after (length (datagram_of started)) (safe_run_of code started answers) → HasRun (length (take n (room_of old))) o after run_wanted
-  has_run outcome whole shows =
+  pub has_run : (o : Outcome) (after : Contents) → IsOutcome o (safe_run_of code started answers)
+      → run_of code started answers ≡ safe_run_of code started answers
+      → Shows after (length (datagram_of started)) (safe_run_of code started answers)
+      → HasRun (length (take n (room_of old))) o after run_wanted
+  has_run o after outcome whole shows =
       let same : safe_run_of code started answers ≡ run_wanted = sym whole ∙ run_is in
       record {
         outcome = subst (IsOutcome o) same outcome;
         datagram = shows.datagram ∙ (λ i. part (length (datagram_is i)) HEADROOM (same i).state.memory.bytes);
         window = shows.window ∙ (λ i. window_in (same i).state);
       }
+
+  pub last_slot_is : (last : ℕ)
+      → Reports (λ (old : ℕ) (v : Visit) (new : ℕ). new ≡ v.slot) 0 (run_of code started answers).path last
+      → last ≡ last_slot_of 0 run_wanted.path
+  last_slot_is last reported = last_reported (run_of code started answers).path 0 last reported
+      ∙ ap (λ (r : Run). last_slot_of 0 r.path) run_is

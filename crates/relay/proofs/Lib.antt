@@ -6,7 +6,9 @@ mod LineLengths
 mod NewUsers
 mod Played
 mod Plays
+mod Pushes
 mod ReadLines
 mod SameNonce
+mod ShippedReasons
 mod ShippedRules
 mod ShippedRuns

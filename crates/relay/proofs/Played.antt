@@ -1,5 +1,5 @@
 -- One more event that was read, and answered.
-use Rattle.std.proofs.Common.{◌≡◌, ◌≢◌, ℕ, suc, ◌+◌, ◌<◌, ◌≤◌, ◌^◌, ◌⊎◌, true, false, List, [], ◌∷◌, ◌++◌, length, length-append, take, refl, sym, ap, ◌∙◌, inl, inr, arith, subst, append_assoc, append-nil}
+use Rattle.std.proofs.Common.{◌≡◌, ◌≢◌, ℕ, suc, ◌+◌, ◌<◌, ◌≤◌, ◌^◌, ◌⊎◌, Bool, true, false, List, [], ◌∷◌, ◌++◌, length, length-append, take, refl, sym, ap, ◌∙◌, inl, inr, arith, subst, append_assoc, append-nil}
 use Rattle.std.specs.Prelude.{Option, None, Some, IfSome, Result, Ok, Err, IfErr, is_some}
 use Rattle.std.proofs.lemmas.List.Elements.{All-nil, All-push}
 use Rattle.std.proofs.lemmas.Option.{same_Some, none-some}
@@ -8,9 +8,10 @@ use Rattle.std.specs.Io.BufRead.{first_piece, drop_through, DropsThrough}
 use Rattle.std.proofs.KnownBytes.{Appends-nil, Appends-trans, Consumes-nil}
 use Rattle.control.specs.declared.config.Config.{Config}
 use Rattle.events.specs.Events.{Event, Datagram, Nonce}
-use Rattle.events.specs.Lines.{line_of, answer_line, IsEvent}
+use Rattle.events.specs.Lines.{line_of, IsEvent}
 use Rattle.events.specs.Reading.{event_in}
 use Rattle.events.specs.laws.Reading.{event_in-line_of, event_in-is}
+use Rattle.relay.specs.ByPrograms.{Programs, by_programs}
 use Rattle.relay.specs.ReadLines.{IsLine}
 use Rattle.relay.specs.Relays.{RelayContents, state_of}
 use Rattle.relay.specs.Replays.{text_of_events, IsText, answer_text, answers_text, after_line, answer_to, system_of, IsSameRelay, HasPlayed, HasPlayedAll, answers_of_events, IsCut, StopsAtLine, StopsBefore, StopsWriting}
@@ -34,7 +35,10 @@ text_of-push : (events : List Event) (e : Event) → text_of_events (events ++ e
 text_of-push [] e = refl
 text_of-push (d ∷ events) e = ap (λ l. line_of d ++ 10 ∷ l) (text_of-push events e) ∙ sym (append_assoc (line_of d) (10 ∷ text_of_events events) (line_of e ++ 10 ∷ []))
 
-module _ (system : System) (config : Config) where
+module _ (programs : Programs) (config : Config) where
+  abbrev system : System
+  system = by_programs programs
+
   abbrev next : SystemState → Event → SystemState
   next s e = (system_step system config s e).state
 
@@ -42,12 +46,12 @@ module _ (system : System) (config : Config) where
   after-push s [] e = refl
   after-push s (d ∷ events) e = after-push (next s d) events e
 
-  answers-push : (s : SystemState) (events : List Event) (e : Event)
-      → answers_text system config s (events ++ e ∷ []) ≡ answers_text system config s events ++ answer_text system config (state_after_events system config s events) e
-  answers-push s [] e = append-nil (answer_text system config s e)
-  answers-push s (d ∷ events) e =
-      ap (λ l. answer_text system config s d ++ l) (answers-push (next s d) events e)
-      ∙ sym (append_assoc (answer_text system config s d) (answers_text system config (next s d) events) (answer_text system config (state_after_events system config (next s d) events) e))
+  answers-push : (explains : Bool) (s : SystemState) (events : List Event) (e : Event)
+      → answers_text explains programs config s (events ++ e ∷ []) ≡ answers_text explains programs config s events ++ answer_text explains programs config (state_after_events system config s events) e
+  answers-push explains s [] e = append-nil (answer_text explains programs config s e)
+  answers-push explains s (d ∷ events) e =
+      ap (λ l. answer_text explains programs config s d ++ l) (answers-push explains (next s d) events e)
+      ∙ sym (append_assoc (answer_text explains programs config s d) (answers_text explains programs config (next s d) events) (answer_text explains programs config (state_after_events system config (next s d) events) e))
 
 take_past : (front most : List ℕ) (n : ℕ) → take (length front + n) (front ++ most) ≡ front ++ take n most
 take_past [] most n = let none : 0 + n ≡ n = omega arith in ap (λ k. take k most) none
@@ -100,15 +104,15 @@ begins (Some x) b events (inr h) = ([], h.1 ∙ sym (append-nil (text_of_events 
 -- ---- under way
 
 -- the events of `count` lines were read and answered
-pub record IsUnderWay (count : ℕ) (read left : Option (List ℕ)) (old new : RelayContents) (held holds : Option (List ℕ)) : Type 0 where
+pub record IsUnderWay (explains : Bool) (count : ℕ) (read left : Option (List ℕ)) (old new : RelayContents) (held holds : Option (List ℕ)) : Type 0 where
   pub events : List Event
   pub number : length events ≡ count
   pub played : HasPlayed events old new
   pub has_read : HasRead events read left
-  pub written : Appends held holds (answers_of_events old events)
+  pub written : Appends held holds (answers_of_events explains old events)
 
-pub starts : (read : Option (List ℕ)) (old : RelayContents) (held : Option (List ℕ)) → IsUnderWay 0 read read old old held held
-starts read old held = record {
+pub starts : (explains : Bool) (read : Option (List ℕ)) (old : RelayContents) (held : Option (List ℕ)) → IsUnderWay explains 0 read read old old held held
+starts explains read old held = record {
   events = [];
   number = refl;
   played = record { are_events = All-nil (IsEvent old.config.slots); state = refl; same = record { programs = refl; config = refl } };
@@ -120,6 +124,11 @@ starts read old held = record {
 same_step : (old now : RelayContents) (s : SystemState) (e : Event) → IsSameRelay old now → system_step (system_of now) now.config s e ≡ system_step (system_of old) old.config s e
 same_step old now s (Datagram given bytes) same = λ i. system_step (system_of (record now { programs = same.programs i })) (same.config i) s (Datagram given bytes)
 same_step old now s (Nonce text) same = refl
+
+-- and so is the line of its answer
+same_text : (explains : Bool) (old now : RelayContents) (s : SystemState) (e : Event) → IsSameRelay old now → answer_text explains now.programs now.config s e ≡ answer_text explains old.programs old.config s e
+same_text explains old now s (Datagram given bytes) same = λ i. answer_text explains (same.programs i) (same.config i) s (Datagram given bytes)
+same_text explains old now s (Nonce text) same = refl
 
 trans_same : (a b c : RelayContents) → IsSameRelay a b → IsSameRelay b c → IsSameRelay a c
 trans_same a b c x y = record { programs = y.programs ∙ x.programs; config = y.config ∙ (λ i. record (x.config i) { nonce = c.config.nonce }) }
@@ -133,9 +142,9 @@ none_value None h = refl
 none_value (Some e) h = absurd cc
 
 -- all events were read
-pub ends : (count : ℕ) (read left left' : Option (List ℕ)) (old now : RelayContents) (held holds : Option (List ℕ)) → IsUnderWay count read left old now held holds
-    → IsAtEnd left → DropsThrough left left' 10 → HasPlayedAll read left' old now held holds
-ends count read left left' old now held holds so_far ended drops = record {
+pub ends : (explains : Bool) (count : ℕ) (read left left' : Option (List ℕ)) (old now : RelayContents) (held holds : Option (List ℕ)) → IsUnderWay explains count read left old now held holds
+    → IsAtEnd left → DropsThrough left left' 10 → HasPlayedAll explains read left' old now held holds
+ends explains count read left left' old now held holds so_far ended drops = record {
   events = so_far.events;
   played = so_far.played;
   is_text = all_read read left so_far.events so_far.has_read ended;
@@ -143,7 +152,7 @@ ends count read left left' old now held holds so_far ended drops = record {
   written = so_far.written;
 }
 
-module _ (count : ℕ) (read left : Option (List ℕ)) (old now : RelayContents) (held holds : Option (List ℕ)) (so_far : IsUnderWay count read left old now held holds) where
+module _ (explains : Bool) (count : ℕ) (read left : Option (List ℕ)) (old now : RelayContents) (held holds : Option (List ℕ)) (so_far : IsUnderWay explains count read left old now held holds) where
   -- what one more event makes
   played_more : (new : RelayContents) (e : Event) → IsEvent old.config.slots e → state_of new ≡ (system_step (system_of now) now.config (state_of now) e).state → IsSameRelay now new → HasPlayed (so_far.events ++ e ∷ []) old new
   played_more new e event stepped same = record {
@@ -152,12 +161,12 @@ module _ (count : ℕ) (read left : Option (List ℕ)) (old now : RelayContents)
         stepped
         ∙ ap (λ (o : SystemOutcome). o.state) (same_step old now (state_of now) e so_far.played.same)
         ∙ ap (λ (s : SystemState). (system_step (system_of old) old.config s e).state) so_far.played.state
-        ∙ sym (after-push (system_of old) old.config (state_of old) so_far.events e);
+        ∙ sym (after-push old.programs old.config (state_of old) so_far.events e);
     same = trans_same old now new so_far.played.same same;
   }
 
-  answer_is : (e : Event) → answer_text (system_of now) now.config (state_of now) e ≡ answer_text (system_of old) old.config (state_after_events (system_of old) old.config (state_of old) so_far.events) e
-  answer_is e = ap (λ (o : SystemOutcome). answer_line o.answer ++ 10 ∷ []) (same_step old now (state_of now) e so_far.played.same) ∙ ap (λ (s : SystemState). answer_text (system_of old) old.config s e) so_far.played.state
+  answer_is : (e : Event) → answer_text explains now.programs now.config (state_of now) e ≡ answer_text explains old.programs old.config (state_after_events (system_of old) old.config (state_of old) so_far.events) e
+  answer_is e = same_text explains old now (state_of now) e so_far.played.same ∙ ap (λ (s : SystemState). answer_text explains old.programs old.config s e) so_far.played.state
 
   slots_same : now.config.slots ≡ old.config.slots
   slots_same = ap (λ (c : Config). c.slots) so_far.played.same.config
@@ -179,21 +188,21 @@ module _ (count : ℕ) (read left : Option (List ℕ)) (old now : RelayContents)
       of (Some xs) h = (h.0, elim h.1 [ inl same ↦ same | inr long ↦ absurd (omega (arith, short e found, long.0)) ])
 
     pub goes_on : (holds' : Option (List ℕ)) → is_some (event_in now.config.slots line) ≡ true
-        → Appends holds holds' (answer_to (system_of now) now.config (state_of now) (event_in now.config.slots line))
-        → IsUnderWay (count + 1) read left' old new held holds'
+        → Appends holds holds' (answer_to explains now.programs now.config (state_of now) (event_in now.config.slots line))
+        → IsUnderWay explains (count + 1) read left' old new held holds'
     goes_on holds' known wrote =
         let found = some_value (event_in now.config.slots line) known in
         let e : Event = found.0 in
         let is = event_in-is now.config.slots line e found.1 in
         let event : IsEvent old.config.slots e = subst (λ n. IsEvent n e) slots_same is.0 in
-        let text = ap (answer_to (system_of now) now.config (state_of now)) found.1 ∙ answer_is e in
+        let text = ap (answer_to explains now.programs now.config (state_of now)) found.1 ∙ answer_is e in
         record {
           events = so_far.events ++ e ∷ [];
           number = omega (arith, length-append so_far.events (e ∷ []), so_far.number);
           played = played_more new e event (stepped ∙ ap (after_line (system_of now) now.config (state_of now)) found.1) same;
           has_read = read_more read left left' so_far.events line e so_far.has_read (whole_line e found.1) (drops (short e found.1)) is.1;
-          written = subst (Appends held holds') (sym (answers-push (system_of old) old.config (state_of old) so_far.events e))
-              (Appends-trans held holds holds' (answers_of_events old so_far.events) _ so_far.written (subst (Appends holds holds') text wrote));
+          written = subst (Appends held holds') (sym (answers-push old.programs old.config explains (state_of old) so_far.events e))
+              (Appends-trans held holds holds' (answers_of_events explains old so_far.events) _ so_far.written (subst (Appends holds holds') text wrote));
         }
 
     -- no event: nothing was played
@@ -220,37 +229,37 @@ module _ (count : ℕ) (read left : Option (List ℕ)) (old now : RelayContents)
     not_the_end (Some x) (Some y) events (inr h) more bad = absurd (more.0 (same_Some y [] h.0))
 
     pub stops_at : (holds' : Option (List ℕ)) → event_in now.config.slots line ≡ None
-        → Appends holds holds' (answer_to (system_of now) now.config (state_of now) (event_in now.config.slots line))
-        → (n : ℕ) → error.Line (count + 1) ≡ error.Line n → StopsAtLine n read old new held holds'
+        → Appends holds holds' (answer_to explains now.programs now.config (state_of now) (event_in now.config.slots line))
+        → (n : ℕ) → error.Line (count + 1) ≡ error.Line n → StopsAtLine explains n read old new held holds'
     stops_at holds' none wrote n is = record {
       events = so_far.events;
       played = unplayed none;
       number = let same : count + 1 ≡ n = ap number_of_line is in omega (arith, so_far.number, same);
       text = not_the_end read left so_far.events so_far.has_read more
           (λ e is is_line. none-some e (sym none ∙ ap (λ (n : ℕ). event_in n line) slots_same ∙ ap (event_in old.config.slots) is_line ∙ event_in-line_of old.config.slots e (subst (λ (n : ℕ). n < 2 ^ 64) slots_same few) is));
-      written = subst (Appends held holds') (append-nil (answers_of_events old so_far.events))
-          (Appends-trans held holds holds' (answers_of_events old so_far.events) [] so_far.written (subst (λ o. Appends holds holds' (answer_to (system_of now) now.config (state_of now) o)) none wrote));
+      written = subst (Appends held holds') (append-nil (answers_of_events explains old so_far.events))
+          (Appends-trans held holds holds' (answers_of_events explains old so_far.events) [] so_far.written (subst (λ o. Appends holds holds' (answer_to explains now.programs now.config (state_of now) o)) none wrote));
     }
 
     -- all answers so far were written, and the last event's in part
-    pub stops_in : (holds' : Option (List ℕ)) → IsCut holds holds' (system_of now) now.config (state_of now) (event_in now.config.slots line) → StopsWriting read old new held holds'
+    pub stops_in : (holds' : Option (List ℕ)) → IsCut explains holds holds' now.programs now.config (state_of now) (event_in now.config.slots line) → StopsWriting explains read old new held holds'
     stops_in holds' part =
         let found = some_value (event_in now.config.slots line) part.known in
         let e : Event = found.0 in
         let is = event_in-is now.config.slots line e found.1 in
         let event : IsEvent old.config.slots e = subst (λ n. IsEvent n e) slots_same is.0 in
-        let text = ap (answer_to (system_of now) now.config (state_of now)) found.1 ∙ answer_is e in
+        let text = ap (answer_to explains now.programs now.config (state_of now)) found.1 ∙ answer_is e in
         record {
           events = so_far.events;
           last = e;
           played = played_more new e event (stepped ∙ ap (after_line (system_of now) now.config (state_of now)) found.1) same;
           text = begins read left' (so_far.events ++ e ∷ []) (read_more read left left' so_far.events line e so_far.has_read (whole_line e found.1) (drops (short e found.1)) is.1);
           count = part.written.0;
-          written = Appends-trans held holds holds' (answers_of_events old so_far.events) _ so_far.written (subst (λ l. Appends holds holds' (take part.written.0 l)) text part.written.1);
+          written = Appends-trans held holds holds' (answers_of_events explains old so_far.events) _ so_far.written (subst (λ l. Appends holds holds' (take part.written.0 l)) text part.written.1);
         }
 
   -- all answers so far were written
-  pub stops_before : StopsBefore read old now held holds
+  pub stops_before : StopsBefore explains read old now held holds
   stops_before = record {
     events = so_far.events;
     played = so_far.played;

@@ -1,5 +1,5 @@
 -- Of a nonce, what is answered depends on its bytes alone.
-use Rattle.std.proofs.Common.{◌≡◌, ℕ, List, refl, ap, ◌∙◌}
+use Rattle.std.proofs.Common.{◌≡◌, ℕ, List, length, refl, ap, ◌∙◌}
 use Rattle.std.specs.Prelude.{◌==◌, Option, None, Some, Result, Ok, Err, if◌then◌else◌}
 use Rattle.stun.specs.Datagrams.{message_in}
 use Rattle.stun.specs.Messages.{Parts, parts_bytes}
@@ -10,7 +10,7 @@ use Rattle.credentials.specs.Checks.{user_in}
 use Rattle.credentials.specs.declared.checking.AuthError.{AuthError}
 use Rattle.control.specs.Control.{Decision, grant_of, rows_of, decision, binding}
 use Rattle.control.specs.Replies.{reply_to}
-use Rattle.control.specs.Responding.{key_for}
+use Rattle.control.specs.Responding.{key_for, response_of}
 use Rattle.control.specs.declared.config.Config.{Config}
 use Rattle.control.specs.declared.reply.Grant.{Grant}
 use Rattle.control.specs.declared.reply.Grant.TheVariants as grant
@@ -20,10 +20,18 @@ use Rattle.control.specs.declared.request.TurnRequest.{TurnRequest}
 use Rattle.control.specs.declared.request.TurnRequest.TheVariants as turn
 use Rattle.tables.specs.Rows.{Rows, rows_at}
 use Rattle.events.specs.Events.{ToClient}
+use Rattle.events.specs.declared.meta.Source.{Source}
+use Rattle.semantics.specs.Runs.{Run}
+use Rattle.programs.specs.Runs.{run_for}
+use Rattle.relay.specs.ByPrograms.{Programs, program_for, of_run, is_there, relayed_where_sent, disposition_by_run, disposition_of_datagram}
 use Rattle.rules.specs.FastPart.{begins_as_stun}
 use Rattle.rules.specs.Rules.{send_indication, send_from, channel_data_from}
 use Rattle.rules.specs.ByRules.{check_of, reply_with, reply_to_request, message, from_client, request_of}
-use Rattle.rules.specs.Systems.{SystemReply, reply_of_relaying, with_nonce}
+use Rattle.rules.specs.Dispositions.{channel_data_test, client_disposition, disposition_of_message, disposition_of_request, relayed_if, send_test}
+use Rattle.rules.specs.Systems.{SystemReply, is_served, reply_of_relaying, with_nonce}
+use Rattle.rules.specs.declared.disposition.Discard.TheVariants.{NotServed}
+use Rattle.rules.specs.declared.disposition.Disposition.{Disposition}
+use Rattle.rules.specs.declared.disposition.Disposition.TheVariants.{Answered, Discarded}
 
 module _ (c : Config) where
   abbrev d : Config
@@ -69,3 +77,28 @@ module _ (c : Config) where
 
     pub from_client_same : (bytes : List ℕ) → from_client d now client rows bytes ≡ from_client c now client rows bytes
     from_client_same bytes = ap (λ (reply : SystemReply). if begins_as_stun bytes then reply else reply_of_relaying rows (channel_data_from client (rows_at now rows) bytes)) (message_same (message_in bytes))
+
+    -- ---- what is done with a datagram
+
+    response_same : (p : Parts) (r : Option Request) → disposition_of_request d now client p rows r ≡ disposition_of_request c now client p rows r
+    response_same p None = refl
+    response_same p (Some request.Binding) = refl
+    response_same p (Some (request.Turn t)) =
+        let checked = check_of c now client p rows in
+        ap (λ (x : Decision). Answered (response_of (user_in checked) x)) (decision_same t (user_in checked) p)
+
+    of_message_same : (m : Option Parts) → disposition_of_message d now client rows m ≡ disposition_of_message c now client rows m
+    of_message_same None = refl
+    of_message_same (Some p) = ap (λ (done : Disposition). if p.kind == send_indication then relayed_if (send_test client (rows_at now rows) p) else done) (response_same p (request_of p.kind))
+
+    client_disposition_same : (bytes : List ℕ) → client_disposition d now client rows bytes ≡ client_disposition c now client rows bytes
+    client_disposition_same bytes = ap (λ (done : Disposition). if begins_as_stun bytes then done else relayed_if (channel_data_test client (rows_at now rows) bytes)) (of_message_same (message_in bytes))
+
+  by_run_same : (now : ℕ) (from : Source) (rows : Rows) (size : ℕ) (r : Run) → disposition_by_run d now from rows size r ≡ disposition_by_run c now from rows size r
+  by_run_same now from rows size r = λ i. of_run (λ client bytes. client_disposition_same now client rows bytes i) relayed_where_sent from (rows_at now rows) size r
+
+  pub disposition_of_datagram_same : (programs : Programs) (now : ℕ) (transaction_id : List ℕ) (from : Source) (rows : Rows) (bytes : List ℕ)
+      → disposition_of_datagram programs d now transaction_id from rows bytes ≡ disposition_of_datagram programs c now transaction_id from rows bytes
+  disposition_of_datagram_same programs now transaction_id from rows bytes =
+      ap (λ (done : Disposition). if is_served from then (if is_there from rows then done else Discarded NotServed) else Discarded NotServed)
+      (by_run_same now from rows (length bytes) (run_for (program_for programs from) transaction_id from (rows_at now rows) bytes))

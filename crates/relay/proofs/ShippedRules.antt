@@ -37,25 +37,20 @@ use Rattle.programs.specs.Runs.{run_for}
 use Rattle.programs.specs.declared.client.TheConstants.{CLIENT}
 use Rattle.programs.specs.declared.peer.TheConstants.{PEER}
 use Rattle.programs.specs.declared.verdict.TheConstants.{PASSES}
-use Rattle.relay.specs.ByPrograms.{Programs, by_programs, by_run, of_ending, is_there}
+use Rattle.relay.specs.ByPrograms.{Programs, by_programs, of_run, of_ending, is_there}
 use Rattle.rules.specs.ByRules.{by_rules, from_client}
 use Rattle.relay.specs.Shipped.{AreShipped}
 use Rattle.rules.specs.Systems.{SystemReply, no_answer, reply_of_relaying, address_of_source, is_served, if_served}
 use Rattle.rules.specs.laws.Client.{is_relayed, is_sent}
 
-module _ (config : Config) (now : ℕ) (transaction_id : List ℕ) (rows : Rows) (datagram : List ℕ) (code : List Insn) where
-  abbrev live : Rows
-  live = rows_at now rows
+-- ---- what follows from a run, by what follows from a datagram that is passed on, and from what is sent else
 
+module _ {X : Type 0} (passes : Addr → List ℕ → X) (sending : Option Sending → X) (transaction_id : List ℕ) (live : Rows) (datagram : List ℕ) (code : List Insn) where
   abbrev run_from : Source → Run
   run_from from = run_for code transaction_id from live datagram
 
-  -- what the run of the code gives
-  abbrev pub given : Source → SystemReply
-  given from = by_run config now from rows (length datagram) (run_from from)
-
-  abbrev passes : Addr → List ℕ → SystemReply
-  passes client bytes = from_client config now client rows bytes
+  abbrev pub end : Source → X
+  end from = of_run passes sending from live (length datagram) (run_from from)
 
   differs : (verdict : ℕ) → verdict ≢ PASSES → (verdict == PASSES) ≡ false
   differs verdict other = elim (cases_Bool (verdict == PASSES)) [
@@ -64,17 +59,35 @@ module _ (config : Config) (now : ℕ) (transaction_id : List ℕ) (rows : Rows)
   ]
 
   -- what is relayed by the program alone
-  gives_relayed : (from : Source) (sends : Option Sending) → Relays code transaction_id from live datagram sends → given from ≡ reply_of_relaying rows sends
-  gives_relayed from sends is =
-      ap (λ (e : Ending). of_ending passes (reply_of_relaying rows) from live (length datagram) (run_from from) e) is.exits
+  pub ends_relayed : (from : Source) (sends : Option Sending) → Relays code transaction_id from live datagram sends → end from ≡ sending sends
+  ends_relayed from sends is =
+      ap (λ (e : Ending). of_ending passes sending from live (length datagram) (run_from from) e) is.exits
       ∙ cond-false (is.verdict == PASSES) _ _ (differs is.verdict is.alone)
-      ∙ ap (reply_of_relaying rows) is.sent
+      ∙ ap sending is.sent
+
+  -- what is passed on as it came
+  pub ends_passed : (client : Addr) → PassesOn code transaction_id (Client client) live datagram → end (Client client) ≡ passes client datagram
+  ends_passed client is =
+      ap (λ (e : Ending). of_ending passes sending (Client client) live (length datagram) (run_from (Client client)) e) is.exits
+      ∙ ap (passes client) is.unchanged
+
+module _ (config : Config) (now : ℕ) (transaction_id : List ℕ) (rows : Rows) (datagram : List ℕ) (code : List Insn) where
+  abbrev live : Rows
+  live = rows_at now rows
+
+  abbrev passes : Addr → List ℕ → SystemReply
+  passes client bytes = from_client config now client rows bytes
+
+  -- what the run of the code gives
+  abbrev pub given : Source → SystemReply
+  given from = end passes (reply_of_relaying rows) transaction_id live datagram code from
+
+  gives_relayed : (from : Source) (sends : Option Sending) → Relays code transaction_id from live datagram sends → given from ≡ reply_of_relaying rows sends
+  gives_relayed = ends_relayed passes (reply_of_relaying rows) transaction_id live datagram code
 
   -- what is passed on as it came goes by the rules
   gives_passed : (client : Addr) → PassesOn code transaction_id (Client client) live datagram → given (Client client) ≡ from_client config now client rows datagram
-  gives_passed client is =
-      ap (λ (e : Ending). of_ending passes (reply_of_relaying rows) (Client client) live (length datagram) (run_from (Client client)) e) is.exits
-      ∙ ap (λ (d : List ℕ). from_client config now client rows d) is.unchanged
+  gives_passed = ends_passed passes (reply_of_relaying rows) transaction_id live datagram code
 
   -- ---- what begins neither as STUN nor as ChannelData does
 
@@ -86,7 +99,7 @@ module _ (config : Config) (now : ℕ) (transaction_id : List ℕ) (rows : Rows)
   beside : (b c n : ℕ) → n ≡ b * 256 + c → c < 256 → is_between 0x40 0x7f b ≡ false → is_between 0x4000 0x7fff n ≡ false
   beside b c n is small other = grind (arith, nat_tests)
 
-  no_channel_data : (d : List ℕ) → All (λ b. b < 256) d → begins_as_channel_data d ≡ false → channel_in d ≡ None
+  pub no_channel_data : (d : List ℕ) → All (λ b. b < 256) d → begins_as_channel_data d ≡ false → channel_in d ≡ None
   no_channel_data [] fit other = refl
   no_channel_data (b ∷ []) fit other = refl
   no_channel_data (b ∷ c ∷ rest) fit other =
@@ -94,7 +107,7 @@ module _ (config : Config) (now : ℕ) (transaction_id : List ℕ) (rows : Rows)
       no_message _ (nat_le 4 (length d)) (is_between 0x4000 0x7fff (number_at 2 0 d)) _
       (beside b c (number_at 2 0 d) (omega arith) (All-head (λ x. x < 256) c rest (All-tail (λ x. x < 256) b (c ∷ rest) fit)) other)
 
-  not_relayed : (client : Addr) → channel_in datagram ≡ None → channel_data_from client live datagram ≡ None
+  pub not_relayed : (client : Addr) → channel_in datagram ≡ None → channel_data_from client live datagram ≡ None
   not_relayed client none = of (allocation_of client live) where
     of : (own : Option Allocation) → (own >>= λ at. channel_data (λ number. peer_of at.slot number live) datagram >>= λ pair. to_peer at pair) ≡ None
     of None = refl

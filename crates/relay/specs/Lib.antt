@@ -2,7 +2,10 @@
 pub mod ByPrograms
 pub mod Errors
 pub mod Found
+pub mod Grounds
 pub mod ReadLines
+pub mod ReasonTexts
+pub mod Reasons
 pub mod Relays
 pub mod Replays
 pub mod Shipped

@@ -1,16 +1,19 @@
 -- Meaning. What a replay has read, done and written: the text of events, and the text of their answers.
-use Rattle.std.specs.Prelude.{◌≡◌, ◌≢◌, ℕ, ◌+◌, ◌⊎◌, Bool, true, false, List, [], ◌∷◌, ◌++◌, All, length, take, Option, None, Some, IfSome, is_some, Result, Ok, Err}
+use Rattle.std.specs.Prelude.{◌≡◌, ◌≢◌, ℕ, ◌+◌, ◌⊎◌, Bool, true, false, List, [], ◌∷◌, ◌++◌, All, length, take, Option, None, Some, IfSome, is_some, Result, Ok, Err, if◌then◌else◌}
 use Rattle.std.specs.Io.BufRead.{first_piece}
 use Rattle.std.specs.Io.KnownBytes.{Appends}
 use Rattle.control.specs.declared.config.Config.{Config}
-use Rattle.events.specs.Events.{Event, Sending}
+use Rattle.events.specs.Events.{Event}
 use Rattle.streams.specs.Outputs.{AppendsBeginning}
 use Rattle.events.specs.Lines.{line_of, answer_line, IsEvent}
-use Rattle.relay.specs.ByPrograms.{by_programs}
+use Rattle.relay.specs.ByPrograms.{Programs, by_programs}
+use Rattle.relay.specs.Reasons.{reason_of_event}
+use Rattle.relay.specs.ReasonTexts.{line_ending}
+use Rattle.relay.specs.declared.reason.Reason.{Reason}
 use Rattle.relay.specs.Relays.{RelayContents, state_of}
 use Rattle.relay.specs.declared.replaying.ReplayError.{ReplayError}
 use Rattle.relay.specs.declared.replaying.ReplayError.TheVariants as error
-use Rattle.rules.specs.Systems.{SystemState, System, system_step, answers, state_after_events}
+use Rattle.rules.specs.Systems.{SystemState, System, system_step, state_after_events}
 
 -- ---- texts
 
@@ -23,20 +26,22 @@ text_of_events (e ∷ events) = line_of e ++ 10 ∷ text_of_events events
 abbrev pub IsText : List ℕ → List Event → Type 0
 IsText text events = (text ≡ text_of_events events) ⊎ (text ++ 10 ∷ [] ≡ text_of_events events)
 
--- the line of an answer, ended by a line feed
-abbrev pub line_text : Option Sending → List ℕ
-line_text answer = answer_line answer ++ 10 ∷ []
+-- why the answer to an event is so, where reasons are wanted
+abbrev pub reason_wanted : Bool → Programs → Config → SystemState → Event → Option Reason
+reason_wanted explains programs config s e = if explains then Some (reason_of_event programs config s e) else None
 
-abbrev pub answer_lines : List (Option Sending) → List ℕ
-answer_lines [] = []
-answer_lines (answer ∷ rest) = line_text answer ++ answer_lines rest
+-- the line of the answer of some programs to an event: the answer, the reason, if it is wanted, and a line feed
+abbrev pub answer_text : Bool → Programs → Config → SystemState → Event → List ℕ
+answer_text explains programs config s e =
+    answer_line (system_step (by_programs programs) config s e).answer
+    ++ line_ending (reason_wanted explains programs config s e)
 
--- the line of the answer to an event, and those of the answers to some events
-abbrev pub answer_text : System → Config → SystemState → Event → List ℕ
-answer_text system config s e = line_text (system_step system config s e).answer
-
-abbrev pub answers_text : System → Config → SystemState → List Event → List ℕ
-answers_text system config s events = answer_lines (answers system config s events)
+-- the lines of the answers to some events
+abbrev pub answers_text : Bool → Programs → Config → SystemState → List Event → List ℕ
+answers_text explains programs config s [] = []
+answers_text explains programs config s (e ∷ events) =
+    answer_text explains programs config s e
+    ++ answers_text explains programs config (system_step (by_programs programs) config s e).state events
 
 -- ---- one line
 
@@ -45,14 +50,14 @@ abbrev pub after_line : System → Config → SystemState → Option Event → S
 after_line system config s None = s
 after_line system config s (Some e) = (system_step system config s e).state
 
-abbrev pub answer_to : System → Config → SystemState → Option Event → List ℕ
-answer_to system config s None = []
-answer_to system config s (Some e) = answer_text system config s e
+abbrev pub answer_to : Bool → Programs → Config → SystemState → Option Event → List ℕ
+answer_to explains programs config s None = []
+answer_to explains programs config s (Some e) = answer_text explains programs config s e
 
 -- a beginning of the line of the answer to the event of a line was written
-pub record IsCut (held holds : Option (List ℕ)) (system : System) (config : Config) (s : SystemState) (e : Option Event) : Type 0 where
+pub record IsCut (explains : Bool) (held holds : Option (List ℕ)) (programs : Programs) (config : Config) (s : SystemState) (e : Option Event) : Type 0 where
   pub known : is_some e ≡ true
-  pub written : AppendsBeginning held holds (answer_to system config s e)
+  pub written : AppendsBeginning held holds (answer_to explains programs config s e)
 
 -- ---- replays
 
@@ -71,42 +76,42 @@ pub record HasPlayed (events : List Event) (old new : RelayContents) : Type 0 wh
   pub state : state_of new ≡ state_after_events (system_of old) old.config (state_of old) events
   pub same : IsSameRelay old new
 
--- the answers of a relay's programs to some events
-abbrev pub answers_of_events : RelayContents → List Event → List ℕ
-answers_of_events r events = answers_text (system_of r) r.config (state_of r) events
+-- the answers of a relay's programs to some events, with reasons where they are wanted
+abbrev pub answers_of_events : Bool → RelayContents → List Event → List ℕ
+answers_of_events explains r events = answers_text explains r.programs r.config (state_of r) events
 
 -- the reader was read to its end, its bytes are the lines of events, and the lines of all their answers were written
-pub record HasPlayedAll (read left : Option (List ℕ)) (old new : RelayContents) (held holds : Option (List ℕ)) : Type 0 where
+pub record HasPlayedAll (explains : Bool) (read left : Option (List ℕ)) (old new : RelayContents) (held holds : Option (List ℕ)) : Type 0 where
   pub events : List Event
   pub played : HasPlayed events old new
   pub is_text : IfSome read (λ text. IsText text events)
   pub at_end : IfSome read (λ _. left ≡ Some [])
-  pub written : Appends held holds (answers_of_events old events)
+  pub written : Appends held holds (answers_of_events explains old events)
 
 -- the line after those of some events is no event's, and the answers to these were written
-pub record StopsAtLine (n : ℕ) (read : Option (List ℕ)) (old new : RelayContents) (held holds : Option (List ℕ)) : Type 0 where
+pub record StopsAtLine (explains : Bool) (n : ℕ) (read : Option (List ℕ)) (old new : RelayContents) (held holds : Option (List ℕ)) : Type 0 where
   pub events : List Event
   pub played : HasPlayed events old new
   pub number : length events + 1 ≡ n
   pub text : IfSome read (λ text. (rest : List ℕ) × (text ≡ text_of_events events ++ rest) × (rest ≢ [])
       × ((e : Event) → IsEvent old.config.slots e → first_piece 10 rest ≢ line_of e))
-  pub written : Appends held holds (answers_of_events old events)
+  pub written : Appends held holds (answers_of_events explains old events)
 
 -- stopped before the next line: some events were read whole, and the lines of all their answers were written
-pub record StopsBefore (read : Option (List ℕ)) (old new : RelayContents) (held holds : Option (List ℕ)) : Type 0 where
+pub record StopsBefore (explains : Bool) (read : Option (List ℕ)) (old new : RelayContents) (held holds : Option (List ℕ)) : Type 0 where
   pub events : List Event
   pub played : HasPlayed events old new
   pub text : IfSome read (λ text. (rest : List ℕ) × (text ++ 10 ∷ [] ≡ text_of_events events ++ rest))
-  pub written : Appends held holds (answers_of_events old events)
+  pub written : Appends held holds (answers_of_events explains old events)
 
 -- stopped by the writer: of the line of the answer to the last event that was read, a beginning was written
-pub record StopsWriting (read : Option (List ℕ)) (old new : RelayContents) (held holds : Option (List ℕ)) : Type 0 where
+pub record StopsWriting (explains : Bool) (read : Option (List ℕ)) (old new : RelayContents) (held holds : Option (List ℕ)) : Type 0 where
   pub events : List Event
   pub last : Event
   pub played : HasPlayed (events ++ last ∷ []) old new
   pub text : IfSome read (λ text. (rest : List ℕ) × (text ++ 10 ∷ [] ≡ text_of_events (events ++ last ∷ []) ++ rest))
   pub count : ℕ
-  pub written : Appends held holds (answers_of_events old events ++ take count (answer_text (system_of old) old.config (state_after_events (system_of old) old.config (state_of old) events) last))
+  pub written : Appends held holds (answers_of_events explains old events ++ take count (answer_text explains old.programs old.config (state_after_events (system_of old) old.config (state_of old) events) last))
 
 -- ---- failures
 

@@ -6,8 +6,9 @@ ghost use Rattle.rules.specs.Systems.{is_served};
 ghost use Rattle.relay.specs.ByPrograms.{is_there};
 
 use crate::error::RelayError;
+use crate::explaining::Grounds;
 use crate::found::{Found, window_found, window_to_client, window_to_peer};
-use crate::running::{context_for, own_for, program_for, run_over, slot_for};
+use crate::running::{context_for, last_slot_over, own_for, program_for, run_over, slot_for};
 use crate::step::{Step, discarded, relayed};
 use arrayvec::ArrayString;
 use attributes::Addr;
@@ -18,7 +19,7 @@ use helpers::Lookup;
 use loader::Loaded;
 use machine::{Frame, Outcome};
 use programs::{PASSES, SENDS};
-use rules::{Answer, Discard, answer_client};
+use rules::{Answer, Discard, answer_client, discard_by_rules};
 use std::alloc::Global;
 use std::marker::Model;
 use tables::{Tables, is_ipv4, moment_of};
@@ -73,6 +74,7 @@ impl Relay {
     ghost use Rattle.std.specs.Prelude.{◌≡◌, ◌≤◌, ◌↔◌, IsOk, IsTrue, is_some, IfOk, IfErr, OnOk, OnErr, length, true, unwrap_or};
     ghost use Rattle.std.specs.Borrow.{sem};
     ghost use Rattle.control.specs.Configs.{fault, is_nonce, are_users};
+    ghost use Rattle.control.specs.declared.config.Config.{Config};
     ghost use Rattle.control.specs.declared.config.Field.TheVariants.{Nonce, Users};
     ghost use Rattle.machine.specs.Contents.{room_of};
     ghost use Rattle.tables.specs.Addresses.{is_ipv4};
@@ -84,6 +86,7 @@ impl Relay {
     ghost use Rattle.machine.specs.Contents.{datagram_of};
     ghost use Rattle.rules.specs.Answers.{sending_of_answer, LiesInRoom};
     ghost use Rattle.relay.specs.Found.{disposition_of_found, disposition_of_passing, sending_of_found, run_at, reply_of_passing, HasRun, HasRoomFor};
+    ghost use Rattle.relay.specs.Grounds.{grounds_of};
     ghost use Rattle.relay.specs.Relays.{state_of, datagram_at};
     ghost use Rattle.relay.specs.Shipped.{AreShipped};
     ghost use Rattle.rules.specs.Dispositions.{disposition_of};
@@ -311,6 +314,22 @@ impl Relay {
             &context_for(meta.transaction_id, meta.from),
             n,
         )
+    }
+
+    /// Finds what explains the step of a datagram, the first `n` bytes of the room, and runs its program over the room.
+    pub(crate) fn grounds(&mut self, meta: &Meta, n: usize) -> Grounds
+        requires { n ≤ MAX_DATAGRAM }
+        ensures grounds { (config : Config) → result ≡ grounds_of config self.old meta.entry.now (datagram_at self.old n) }
+        ensures rest { self.new ≡ record self.old { frame = self.new.frame } }
+    {
+        let moment = moment_of(self.greatest, meta.now);
+        let ruled = discard_by_rules(&self.tables, moment, meta, &self.frame.room()[..n]);
+        let own = own_for(&self.tables, moment, meta.from);
+        let helpers = Lookup::new(&self.tables, moment, slot_for(meta.from, own));
+        let program = program_for(&self.client, &self.peer, meta.from);
+        let context = context_for(meta.transaction_id, meta.from);
+        let slot = last_slot_over(program, &mut self.frame, &helpers, &context, n);
+        Grounds { ruled, slot }
     }
 
     /// Answers by the rules what a client's program passed on, as it is in the frame.

@@ -11,11 +11,13 @@ ghost use Rattle.programs.specs.Runs.{context_for, slot_for};
 ghost use Rattle.relay.specs.Found.{own_for};
 ghost use Rattle.relay.specs.ByPrograms.{program_for};
 ghost use Rattle.relay.specs.Found.{HasRun, answers_of_look_up};
+ghost use Rattle.relay.specs.Reasons.{last_slot_of};
 
+use crate::explaining::LastSlot;
 use events::{Meta, Source};
 use helpers::Lookup;
 use loader::Loaded;
-use machine::{Context, Frame, Outcome, Side, run};
+use machine::{Context, Frame, Outcome, Side, run, trace};
 use tables::{Allocation, Tables};
 use verifier::Verified;
 
@@ -85,4 +87,23 @@ pub(crate) fn run_over(
     frame.law_room();
     frame.start(context, n);
     run(program, frame, helpers)
+}
+
+/// Returns the slot of the last step of a program's run over the first `n` bytes of a frame's room.
+pub(crate) fn last_slot_over(
+    program: &Verified,
+    frame: &mut Frame,
+    helpers: &Lookup<'_>,
+    context: &Context,
+    n: usize,
+) -> usize
+    requires { n ≤ MAX_DATAGRAM }
+    ensures { let environment = environment_around (context_of context.now) (answers_of_look_up helpers.now) in
+        result ≡ last_slot_of 0 (run_over environment program.now (take n (room_of frame.old))).path }
+{
+    frame.law_room();
+    frame.start(context, n);
+    let mut sink = LastSlot { slot: 0 };
+    let _ = trace(program.code(), frame, helpers, &mut sink);
+    sink.slot
 }

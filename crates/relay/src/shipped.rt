@@ -1,6 +1,6 @@
 //! The shipped programs are the rules.
 
-ghost use Rattle.std.specs.Prelude.{◌≡◌, ◌<◌, ℕ, List, None, All, ◌≤◌};
+ghost use Rattle.std.specs.Prelude.{◌≡◌, ◌<◌, ℕ, List, None, All, ◌≤◌, true};
 ghost use Rattle.attributes.specs.Addresses.{IsAddress};
 ghost use Rattle.control.specs.Configs.{fault};
 ghost use Rattle.control.specs.declared.config.Config.{Config};
@@ -8,10 +8,16 @@ ghost use Rattle.semantics.specs.Machine.{AreBytes};
 ghost use Rattle.semantics.specs.declared.limits.TheConstants.{MAX_DATAGRAM};
 ghost use Rattle.events.specs.Events.{Event};
 ghost use Rattle.events.specs.Lines.{IsEvent};
-ghost use Rattle.relay.specs.ByPrograms.{Programs, by_programs};
+ghost use Rattle.events.specs.declared.meta.Source.{Source};
+ghost use Rattle.programs.specs.Relaying.{IsRelayStart};
+ghost use Rattle.relay.specs.ByPrograms.{Programs, by_programs, is_there};
+ghost use Rattle.relay.specs.Reasons.{reason_of_datagram};
+ghost use Rattle.relay.specs.declared.reason.Reason.TheVariants.{Done};
+ghost use Rattle.tables.specs.Rows.{Rows};
 ghost use Rattle.rules.specs.ByRules.{by_rules};
+ghost use Rattle.rules.specs.Discards.{ruled_disposition};
 ghost use Rattle.relay.specs.Shipped.{AreShipped, AnswerAlike};
-ghost use Rattle.rules.specs.Systems.{first, address_of_source};
+ghost use Rattle.rules.specs.Systems.{first, address_of_source, is_served};
 
 use crate::relay::Relay;
 use attributes::law_is_address;
@@ -25,6 +31,21 @@ pub fn law_shipped_programs_are_the_rules()
         → (config : Config) → fault config ≡ None
         → (events : List Event) → All (IsEvent config.slots) events
         → AnswerAlike (by_programs programs) by_rules config (first config) events }
+{
+    law_client_serves();
+    law_peer_serves();
+}
+
+/// States that with [`CLIENT`](programs::CLIENT) and [`PEER`](programs::PEER) the reason of each datagram that is served is what
+/// the rules do with it: a replay never says that a program discarded it.
+/// See docs/DECISIONS.md, "Why a replay answers so".
+pub fn law_shipped_reasons_are_the_rules()
+    ensures { (programs : Programs) → AreShipped programs
+        → (config : Config) (now : ℕ) (transaction_id : List ℕ) (from : Source) (rows : Rows) (bytes : List ℕ)
+        → IsRelayStart (address_of_source from) transaction_id rows bytes
+        → is_served from ≡ true → is_there from rows ≡ true
+        → reason_of_datagram programs config now transaction_id from rows bytes
+        ≡ Done (ruled_disposition config now transaction_id from rows bytes) }
 {
     law_client_serves();
     law_peer_serves();

@@ -52,7 +52,7 @@ fn play<R: Print + AllocGlobal>(rt: &R, slots: usize, events: &str, count: u64) 
     let mut relay = shipped(rt.alloc(), slots)?;
     let mut input = streams::Input::new(setup.as_bytes());
     let mut output = Output::new(io::writer(rt));
-    relay.replay(rt.alloc(), &mut input, &mut output)?;
+    relay.replay(rt.alloc(), &mut input, &mut output, false)?;
     repeat(rt.alloc(), &mut relay, slots, line.as_bytes(), count)
 }
 

@@ -1,5 +1,6 @@
 //! What a step says of its datagram. The rows are worked by hand.
 
+use crate::reasons::check_reasons;
 use crate::story::{STORY, config};
 use attributes::Family;
 use control::{Grant, Response};
@@ -17,7 +18,7 @@ use stun::registry::ErrorCode;
 const SLOTS: usize = 2;
 
 /// `mov r0, 1` and `exit`: every datagram is passed on.
-const PASSES_ALL: [u8; 16] = [
+pub(crate) const PASSES_ALL: [u8; 16] = [
     0xb7, 0x00, 0x00, 0x00, 0x01, 0x00, 0x00, 0x00, 0x95, 0x00, 0x00, 0x00, 0x00, 0x00, 0x00, 0x00,
 ];
 
@@ -204,7 +205,7 @@ fn check_all(rt: &impl Abort, relay: &mut Relay, rows: &[(&str, Disposition)]) -
 }
 
 /// Makes a relay of two programs, of clients and of peers, by their bytes.
-fn relay_of(alloc: Global, client: &[u8], peer: &[u8]) -> Result<Relay, Fail> {
+pub(crate) fn relay_of(alloc: Global, client: &[u8], peer: &[u8]) -> Result<Relay, Fail> {
     let client = load(alloc, client)?;
     let peer = load(alloc, peer)?;
     let relay = Relay::new(alloc, config(alloc)?, client, peer)?;
@@ -240,5 +241,6 @@ fn each_step_says_what_it_did(rt: HostRuntime) -> Result<(), Fail> {
     let mut relay = relay_of(rt.alloc(), CLIENT, PEER)?;
     open(&rt, &mut relay)?;
     check_all(&rt, &mut relay, &FURTHER)?;
-    check_passed(&rt, rt.alloc())
+    check_passed(&rt, rt.alloc())?;
+    check_reasons(&rt, rt.alloc())
 }

@@ -6,6 +6,8 @@ mod dispositions;
 #[cfg(test)]
 mod links;
 #[cfg(test)]
+mod reasons;
+#[cfg(test)]
 mod sockets;
 #[cfg(test)]
 mod story;

@@ -149,12 +149,17 @@ pub(crate) fn shipped(alloc: Global) -> Result<Relay, Fail> {
 }
 
 /// Returns what a relay answers to an event, a line.
-fn answer(alloc: Global, relay: &mut Relay, event: &str) -> Result<Vec<u8>, Fail> {
+pub(crate) fn answer(
+    alloc: Global,
+    relay: &mut Relay,
+    event: &str,
+    explains: bool,
+) -> Result<Vec<u8>, Fail> {
     let mut line = String::from_str(alloc, event)?;
     line.push_str("\n")?;
     let mut input = Input::new(line.as_bytes());
     let mut output = Output::new(Vec::new(alloc));
-    relay.replay(alloc, &mut input, &mut output)?;
+    relay.replay(alloc, &mut input, &mut output, explains)?;
     Ok(output.into_inner())
 }
 
@@ -165,7 +170,7 @@ fn check_answer(
     relay: &mut Relay,
     (event, wanted): (&str, &str),
 ) -> Result<(), Fail> {
-    let found = answer(alloc, relay, event)?;
+    let found = answer(alloc, relay, event, false)?;
     assert!(rt;
         found.strip_suffix(b"\n") == Some(wanted.as_bytes()),
         "{event}"
@@ -196,12 +201,12 @@ fn each_event_has_its_answer(rt: HostRuntime) -> Result<(), Fail> {
     let mut relay = shipped(rt.alloc())?;
     let mut input = Input::new(events.as_bytes());
     let mut output = Output::new(Vec::new(rt.alloc()));
-    relay.replay(rt.alloc(), &mut input, &mut output)?;
+    relay.replay(rt.alloc(), &mut input, &mut output, false)?;
     let written = output.into_inner();
     assert_eq!(rt; written.as_slice(), answers.as_bytes());
     let mut input = Input::new("c 1000\n".as_bytes());
     let mut output = Output::new(Vec::new(rt.alloc()));
-    let refused = relay.replay(rt.alloc(), &mut input, &mut output);
+    let refused = relay.replay(rt.alloc(), &mut input, &mut output, false);
     assert!(rt; refused == Err(ReplayError::Line(1)));
     Ok(())
 }

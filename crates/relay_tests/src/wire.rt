@@ -132,7 +132,7 @@ impl Wire<'_> {
             },
         };
         let mut output = Output::new(&mut *self.log);
-        write_answer(&mut output, &action).map_err(|_| LinkError)
+        write_answer(&mut output, &action, b"\n").map_err(|_| LinkError)
     }
 }
 

@@ -44,11 +44,12 @@ fn config(alloc: Global) -> Result<Config, AllocError> {
 fn play(alloc: Global, relay: &mut Relay, line: &[u8], answer: &mut Vec<u8>) -> Result<()> {
     answer.clear();
     let mut output = Output::new(answer);
-    match relay.replay(alloc, &mut streams::Input::new(line), &mut output) {
+    match relay.replay(alloc, &mut streams::Input::new(line), &mut output, false) {
         Err(ReplayError::Memory) => relay.replay(
             alloc,
             &mut streams::Input::new(line),
             &mut output,
+            false,
         )?,
         first => first?,
     }

@@ -1,34 +1,65 @@
-use Rattle.std.proofs.Common.{length, rules, sym, subst, ap, ◌∙◌}
-use Rattle.std.specs.Prelude.{Some}
+use Rattle.std.proofs.Common.{◌++◌, length, rules, sym, subst, ap, ◌∙◌}
+use Rattle.std.specs.Prelude.{Option}
 use Rattle.std.specs.Io.KnownBytes.{Appends}
 use Rattle.events.specs.Actions.{sending_of}
-use Rattle.events.specs.Parsing.{event_of}
+use Rattle.events.specs.Lines.{answer_line}
 use Rattle.events.specs.Reading.{event_in}
+use Rattle.streams.specs.Outputs.{AppendsBeginning}
+use Rattle.relay.specs.ReasonTexts.{line_ending}
+use Rattle.relay.specs.declared.reason.Reason.{Reason}
+use Rattle.rules.specs.Systems.{with_nonce}
 use Rattle.relay.proofs.Played.{for_err}
-use Rattle.relay.proofs.Plays.{state_is, answer_is, cut_is}
+use Rattle.relay.proofs.Plays.{state_is, answer_is, cut_is, read_is}
 use Rattle.relay.proofs.relay.Relay.play.Goals as goal
 
-pub returns-in_err-write_answer-in-Some-Datagram-clause-state : goal.returns-in_err-write_answer-in-Some-Datagram-clause-state
-returns-in_err-write_answer-in-Some-Datagram-clause-state g c =
-    state_is c.args.self.now c.parse.new.room c.in-Some-Datagram.meta c.in-Some-Datagram.n (event_in c.args.self.now.config.slots c.args.line.now)
-    (ap length (sym c.area.ensures.value) ∙ c.area.ensures.len) (search rules) ((λ i. Some (event_of c.parse.new.room (sym c.in-Some-Datagram.field-0-is i))) ∙ c.in-Some-Datagram.ensures.reads ∙ ap (λ s. event_in s c.args.line.now) c.slots-slots.ensures)
-    c.step.follows.lender-at-none c.step.follows.holds-at-none
+pub returns-in_err-write_with-in-Some-Datagram-clause-state : goal.returns-in_err-write_with-in-Some-Datagram-clause-state
+returns-in_err-write_with-in-Some-Datagram-clause-state g c =
+    state_is c.args.self.now c.grounds_of_line-grounds.new.self c.parse.new.room c.in-Some-Datagram.meta c.in-Some-Datagram.n
+    (event_in c.args.self.now.config.slots c.args.line.now) c.grounds_of_line-grounds.ensures.rest
+    (ap length (sym c.area.ensures.value) ∙ c.area.ensures.len) (search rules)
+    (read_is c.args.self.now c.grounds_of_line-grounds.new.self c.args.line.now c.parse.new.room _ _
+    c.in-Some-Datagram.meta c.in-Some-Datagram.n c.in-Some-Datagram.field-0-is c.in-Some-Datagram.ensures.reads
+    c.slots-slots.ensures c.grounds_of_line-grounds.ensures.rest) c.step.follows.lender-at-none c.step.follows.holds-at-none
 
-pub returns-in_ok-write_answer-in-Some-Datagram-clause-state : goal.returns-in_ok-write_answer-in-Some-Datagram-clause-state
-returns-in_ok-write_answer-in-Some-Datagram-clause-state g c =
-    state_is c.args.self.now c.parse.new.room c.in-Some-Datagram.meta c.in-Some-Datagram.n (event_in c.args.self.now.config.slots c.args.line.now)
-    (ap length (sym c.area.ensures.value) ∙ c.area.ensures.len) (search rules) ((λ i. Some (event_of c.parse.new.room (sym c.in-Some-Datagram.field-0-is i))) ∙ c.in-Some-Datagram.ensures.reads ∙ ap (λ s. event_in s c.args.line.now) c.slots-slots.ensures)
-    c.step.follows.lender-at-none c.step.follows.holds-at-none
+pub returns-in_ok-write_with-in-Some-Datagram-clause-state : goal.returns-in_ok-write_with-in-Some-Datagram-clause-state
+returns-in_ok-write_with-in-Some-Datagram-clause-state g c =
+    state_is c.args.self.now c.grounds_of_line-grounds.new.self c.parse.new.room c.in-Some-Datagram.meta c.in-Some-Datagram.n
+    (event_in c.args.self.now.config.slots c.args.line.now) c.grounds_of_line-grounds.ensures.rest
+    (ap length (sym c.area.ensures.value) ∙ c.area.ensures.len) (search rules)
+    (read_is c.args.self.now c.grounds_of_line-grounds.new.self c.args.line.now c.parse.new.room _ _
+    c.in-Some-Datagram.meta c.in-Some-Datagram.n c.in-Some-Datagram.field-0-is c.in-Some-Datagram.ensures.reads
+    c.slots-slots.ensures c.grounds_of_line-grounds.ensures.rest) c.step.follows.lender-at-none c.step.follows.holds-at-none
 
-pub returns-in_err-write_answer-in-Some-Datagram-clause-cut : goal.returns-in_err-write_answer-in-Some-Datagram-clause-cut
-returns-in_err-write_answer-in-Some-Datagram-clause-cut g c =
-    for_err c.from_residual-in_err-write_answer-in-Some-Datagram.result (λ e. cut_is c.args.self.now c.parse.new.room c.in-Some-Datagram.meta c.in-Some-Datagram.n (event_in c.args.self.now.config.slots c.args.line.now)
-    (ap length (sym c.area.ensures.value) ∙ c.area.ensures.len) (search rules) ((λ i. Some (event_of c.parse.new.room (sym c.in-Some-Datagram.field-0-is i))) ∙ c.in-Some-Datagram.ensures.reads ∙ ap (λ s. event_in s c.args.line.now) c.slots-slots.ensures)
-    (sending_of c.step.result.action) c.step.ensures.answer c.args.output.now.contents c.write_answer-in-Some-Datagram.new.output.contents c.in_err-write_answer-in-Some-Datagram.ensures.err)
+pub returns-in_err-write_with-in-Some-Datagram-clause-cut : goal.returns-in_err-write_with-in-Some-Datagram-clause-cut
+returns-in_err-write_with-in-Some-Datagram-clause-cut g c =
+    let old = c.args.self.now in
+    let sent = sending_of c.step.result.action in
+    let P : Option Reason → Type 0 = λ reason. AppendsBeginning c.args.output.now.contents
+    c.write_with-in-Some-Datagram.new.output.contents (answer_line sent ++ line_ending reason) in
+    for_err c.from_residual-in_err-write_with-in-Some-Datagram.result (λ e.
+    cut_is old c.grounds_of_line-grounds.new.self c.parse.new.room c.in-Some-Datagram.meta c.in-Some-Datagram.n
+    (event_in old.config.slots c.args.line.now) c.grounds_of_line-grounds.ensures.rest
+    (ap length (sym c.area.ensures.value) ∙ c.area.ensures.len) (search rules)
+    (read_is c.args.self.now c.grounds_of_line-grounds.new.self c.args.line.now c.parse.new.room _ _
+    c.in-Some-Datagram.meta c.in-Some-Datagram.n c.in-Some-Datagram.field-0-is c.in-Some-Datagram.ensures.reads
+    c.slots-slots.ensures c.grounds_of_line-grounds.ensures.rest) c.args.explains sent c.step.result.disposition
+    c.grounds_of_line-grounds.result c.step.ensures.answer
+    c.step.ensures.disposition (c.grounds_of_line-grounds.ensures.grounds (with_nonce old.config old.config.nonce.bytes))
+    c.args.output.now.contents c.write_with-in-Some-Datagram.new.output.contents
+    (subst P c.reason_by.ensures c.in_err-write_with-in-Some-Datagram.ensures.err))
 
-pub returns-in_ok-write_answer-in-Some-Datagram-clause-written : goal.returns-in_ok-write_answer-in-Some-Datagram-clause-written
-returns-in_ok-write_answer-in-Some-Datagram-clause-written g c =
-    subst (Appends c.args.output.now.contents c.write_answer-in-Some-Datagram.new.output.contents)
-    (answer_is c.args.self.now c.parse.new.room c.in-Some-Datagram.meta c.in-Some-Datagram.n (event_in c.args.self.now.config.slots c.args.line.now)
-    (ap length (sym c.area.ensures.value) ∙ c.area.ensures.len) (search rules) ((λ i. Some (event_of c.parse.new.room (sym c.in-Some-Datagram.field-0-is i))) ∙ c.in-Some-Datagram.ensures.reads ∙ ap (λ s. event_in s c.args.line.now) c.slots-slots.ensures)
-    (sending_of c.step.result.action) c.step.ensures.answer) c.in_ok-write_answer-in-Some-Datagram.ensures.ok
+pub returns-in_ok-write_with-in-Some-Datagram-clause-written : goal.returns-in_ok-write_with-in-Some-Datagram-clause-written
+returns-in_ok-write_with-in-Some-Datagram-clause-written g c =
+    let old = c.args.self.now in
+    let sent = sending_of c.step.result.action in
+    subst (Appends c.args.output.now.contents c.write_with-in-Some-Datagram.new.output.contents)
+    (ap (λ (reason : Option Reason). answer_line sent ++ line_ending reason) c.reason_by.ensures
+    ∙ answer_is old c.grounds_of_line-grounds.new.self c.parse.new.room c.in-Some-Datagram.meta c.in-Some-Datagram.n
+    (event_in old.config.slots c.args.line.now) c.grounds_of_line-grounds.ensures.rest
+    (ap length (sym c.area.ensures.value) ∙ c.area.ensures.len) (search rules)
+    (read_is c.args.self.now c.grounds_of_line-grounds.new.self c.args.line.now c.parse.new.room _ _
+    c.in-Some-Datagram.meta c.in-Some-Datagram.n c.in-Some-Datagram.field-0-is c.in-Some-Datagram.ensures.reads
+    c.slots-slots.ensures c.grounds_of_line-grounds.ensures.rest) c.args.explains sent c.step.result.disposition
+    c.grounds_of_line-grounds.result c.step.ensures.answer
+    c.step.ensures.disposition (c.grounds_of_line-grounds.ensures.grounds (with_nonce old.config old.config.nonce.bytes)))
+    c.in_ok-write_with-in-Some-Datagram.ensures.ok

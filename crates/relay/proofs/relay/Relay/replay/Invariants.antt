@@ -5,7 +5,7 @@ use Rattle.relay.proofs.relay.Relay.replay.Given as goal
 
 abbrev pub invariant-lines : goal.invariant-lines
 invariant-lines g l =
-    IsUnderWay l.count l.fn.input.remaining l.input.remaining l.fn.self l.self l.fn.output.contents l.output.contents
+    IsUnderWay l.fn.explains l.count l.fn.input.remaining l.input.remaining l.fn.self l.self l.fn.output.contents l.output.contents
     × (l.count ≤ l.input.calls)
     × (l.input.failed ≡ false)
     × (l.output.failed ≡ false)

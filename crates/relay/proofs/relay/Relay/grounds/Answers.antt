@@ -1,0 +1,39 @@
+use Rattle.std.proofs.Common.{◌≡◌, take, ◌∙◌}
+use Rattle.machine.specs.Contents.{room_of}
+use Rattle.machine.specs.Contexts.{environment_around, context_of}
+use Rattle.machine.specs.Tracing.{run_over}
+use Rattle.helpers.specs.LookUps.{look_up_answer}
+use Rattle.tables.specs.Rows.{rows_at}
+use Rattle.rules.specs.Discards.{discard_in, ruled_disposition}
+use Rattle.relay.specs.Grounds.{grounds_of}
+use Rattle.relay.specs.Reasons.{exit_slot, last_slot_of}
+use Rattle.relay.specs.Relays.{datagram_at}
+use Rattle.relay.proofs.relay.Relay.grounds.Goals as goal
+
+-- the slot, at the moment of the step
+slot_is : (c : goal.After-last_slot_over-slot) → c.last_slot_over-slot.result
+    ≡ exit_slot (record { client = c.self.inside.client; peer = c.self.inside.peer }) c.args.meta.now.transaction_id
+    c.args.meta.now.from
+    (rows_at c.moment_of-moment.result c.self.inside.tables) (take c.args.n (room_of c.self.inside.frame))
+slot_is c =
+    let found = c.new-helpers.ensures in
+    let slot = found.slot ∙ c.slot_for.ensures (rows_at c.moment_of-moment.result c.self.inside.tables) c.own_for-own.ensures in
+    c.last_slot_over-slot.ensures
+    ∙ (λ i. last_slot_of 0 (run_over
+    (environment_around (context_of (c.context_for-context.ensures i))
+    (look_up_answer (slot i) (rows_at (found.moment i) (found.tables i)))) (c.program_for-program.ensures i)
+    (take c.args.n (room_of c.self.inside.frame))).path)
+
+pub returns-clause-grounds : goal.returns-clause-grounds
+returns-clause-grounds c = λ config.
+    let given = c.args.meta.now in
+    (λ i. record {
+      ruled = (c.discard_by_rules-ruled.ensures config
+          ∙ (λ j. discard_in (ruled_disposition config (c.moment_of-moment.ensures j) given.transaction_id given.from
+          c.self.inside.tables (take c.args.n (c.room.ensures.value j))))) i;
+      slot = (slot_is c
+          ∙ (λ j. exit_slot (record { client = c.self.inside.client; peer = c.self.inside.peer }) given.transaction_id
+          given.from
+          (rows_at (c.moment_of-moment.ensures j) c.self.inside.tables) (take c.args.n (room_of c.self.inside.frame)))) i;
+    })
+    ∙ (λ i. grounds_of config (c.self.view_is i) given (datagram_at (c.self.view_is i) c.args.n))

@@ -1,0 +1,31 @@
+-- Internal. What explains the step of a datagram, as it is found before the step.
+use Rattle.std.specs.Prelude.{ℕ, Bool, List, Option, None, Some, if◌then◌else◌, option_map}
+use Rattle.control.specs.declared.config.Config.{Config}
+use Rattle.tables.specs.Moments.{moment_of}
+use Rattle.tables.specs.Rows.{rows_at}
+use Rattle.events.specs.Events.{Event, Datagram, Nonce}
+use Rattle.events.specs.declared.meta.Meta.{Meta}
+use Rattle.rules.specs.Discards.{discard_in, ruled_disposition}
+use Rattle.rules.specs.declared.disposition.Disposition.{Disposition}
+use Rattle.relay.specs.Reasons.{exit_slot, reason_of}
+use Rattle.relay.specs.Relays.{RelayContents}
+use Rattle.relay.specs.declared.explaining.Grounds.{Grounds}
+use Rattle.relay.specs.declared.reason.Reason.{Reason}
+
+-- of the bytes of a datagram, under a configuration
+abbrev pub grounds_of : Config → RelayContents → Meta → List ℕ → Grounds
+grounds_of config r given bytes = record {
+  ruled = discard_in (ruled_disposition config (moment_of r.greatest given.now) given.transaction_id given.from r.rows bytes);
+  slot = exit_slot r.programs given.transaction_id given.from (rows_at (moment_of r.greatest given.now) r.rows) bytes;
+}
+
+-- where reasons are wanted, and the event of a line is a datagram
+abbrev pub grounds_of_line : Bool → Config → RelayContents → Option Event → Option Grounds
+grounds_of_line explains config r None = None
+grounds_of_line explains config r (Some (Nonce text)) = None
+grounds_of_line explains config r (Some (Datagram given bytes)) =
+    if explains then Some (grounds_of config r given bytes) else None
+
+-- the reason of a step that did this, where there are grounds
+abbrev pub reason_by : Disposition → Option Grounds → Option Reason
+reason_by done grounds = option_map (λ g. reason_of done g.ruled g.slot) grounds

@@ -1,0 +1,181 @@
+//! Why a step sent what it did, and its text.
+
+ghost use Rattle.std.specs.Prelude.{◌≡◌, ◌+◌, ◌≤◌, ◌++◌, Some, length};
+ghost use Rattle.arrayvec.specs.ArrayVec.{array_vec_len};
+ghost use Rattle.control.specs.declared.response.Response.TheVariants as response;
+ghost use Rattle.relay.specs.Reasons.{reason_of, reason_of_exit};
+ghost use Rattle.relay.specs.ReasonTexts.{credentials_text, discard_text, disposition_text, explanation_text, grant_text, line_ending, response_text};
+ghost use Rattle.relay.specs.declared.reason.TheConstants.{ENDING, LONGEST};
+
+use arrayvec::ArrayVec;
+use control::{Grant, Response};
+use credentials::AuthError;
+use itoa::{Buffer, Integer};
+use rules::{Discard, Disposition};
+use stun::registry::{ErrorCode, law_phrases_are_short};
+
+/// Why a step sent what it did, as a replay explains it.
+#[derive(Clone, Copy, Debug, PartialEq, Eq)]
+pub enum Reason {
+    /// The event was a nonce, which was set.
+    NonceSet,
+    /// This was done with the datagram. Where a program sends nothing and the rules would neither, it is why they wouldn't.
+    Done(Disposition),
+    /// The program of the datagram's side sends nothing where the rules would: its run exits at this slot.
+    Program { slot: usize },
+}
+
+/// A bound on the length of the text of a reason, in bytes.
+const LONGEST: usize = 60;
+
+/// Room for what ends a line: three bytes, the text of a reason, and a line feed.
+const ENDING: usize = LONGEST + 4;
+
+/// Returns the reason of a step that did this, where the rules send nothing for that reason, if they do, and the run of the
+/// program exits at a slot.
+pub(crate) fn reason_of(done: Disposition, ruled: Option<Discard>, slot: usize) -> Reason
+    ensures { result ≡ reason_of done ruled slot }
+{
+    match (done, ruled) {
+        (Disposition::Discarded(Discard::ByProgram), Some(reason)) => {
+            Reason::Done(Disposition::Discarded(reason))
+        }
+        (Disposition::Discarded(Discard::ByProgram), None) => Reason::Program { slot },
+        _ => Reason::Done(done),
+    }
+}
+
+/// Appends bytes, for which there is room.
+fn push(text: &mut ArrayVec<u8, ENDING>, bytes: &[u8])
+    requires { array_vec_len text.old + length bytes.now ≤ ENDING }
+    ensures bytes { text.new.items ≡ text.old.items ++ bytes.now }
+    ensures len { array_vec_len text.new ≡ array_vec_len text.old + length bytes.now }
+{
+    let Ok(()) = text.try_extend_from_slice(bytes) else {
+        unreachable!();
+    };
+}
+
+/// Appends a number in decimal digits, where there is room for the longest one of its type.
+fn push_number<N: Integer>(text: &mut ArrayVec<u8, ENDING>, number: N)
+    requires { array_vec_len text.old + N.MAX_STR_LEN ≤ ENDING }
+    ensures bytes { text.new.items ≡ text.old.items ++ N.text number }
+    ensures len { array_vec_len text.new ≤ array_vec_len text.old + N.MAX_STR_LEN }
+{
+    let mut buffer = Buffer::new();
+    push(text, buffer.format(number).as_bytes());
+}
+
+/// Appends what a grant says.
+fn push_grant(text: &mut ArrayVec<u8, ENDING>, grant: Grant)
+    requires { array_vec_len text.old + LONGEST ≤ ENDING }
+    ensures bytes { text.new.items ≡ text.old.items ++ grant_text grant }
+    ensures len { array_vec_len text.new ≤ array_vec_len text.old + LONGEST }
+{
+    match grant {
+        Grant::Mapped => push(text, b"granted an address"),
+        Grant::Allocated { slot, lifetime, .. } => {
+            push(text, b"allocated slot ");
+            push_number(text, slot);
+            push(text, b" for ");
+            push_number(text, lifetime);
+            push(text, b" seconds");
+        }
+        Grant::Refreshed { lifetime: 0 } => push(text, b"ended"),
+        Grant::Refreshed { lifetime } => {
+            push(text, b"refreshed for ");
+            push_number(text, lifetime);
+            push(text, b" seconds");
+        }
+        Grant::Done => push(text, b"granted"),
+    }
+}
+
+/// Returns which test the credentials failed, in at most 22 bytes.
+fn credentials_text(error: AuthError) -> &'static [u8]
+    ensures text { result.now ≡ credentials_text error }
+    ensures short { length result.now ≤ 22 }
+{
+    match error {
+        AuthError::Missing => b"no credentials",
+        AuthError::Incomplete => b"incomplete credentials",
+        AuthError::StaleNonce => b"stale nonce",
+        AuthError::UnknownUser => b"unknown user",
+        AuthError::WrongCode => b"wrong password",
+    }
+}
+
+/// Appends a refusal, with the code and the phrase of its error.
+fn push_refusal(text: &mut ArrayVec<u8, ENDING>, error: ErrorCode)
+    requires { array_vec_len text.old + LONGEST ≤ ENDING }
+    ensures bytes { text.new.items ≡ text.old.items ++ response_text (response.Refused error) }
+    ensures len { array_vec_len text.new ≤ array_vec_len text.old + LONGEST }
+{
+    law_phrases_are_short();
+    push(text, b"refused ");
+    push_number(text, error.code());
+    push(text, b" ");
+    push(text, error.phrase().as_bytes());
+}
+
+/// Appends what a response says.
+fn push_response(text: &mut ArrayVec<u8, ENDING>, response: Response)
+    requires { array_vec_len text.old + LONGEST ≤ ENDING }
+    ensures bytes { text.new.items ≡ text.old.items ++ response_text response }
+    ensures len { array_vec_len text.new ≤ array_vec_len text.old + LONGEST }
+{
+    match response {
+        Response::Granted(grant) => push_grant(text, grant),
+        Response::Unauthenticated(error) => push(text, credentials_text(error)),
+        Response::Refused(error) => push_refusal(text, error),
+    }
+}
+
+/// Returns why a datagram is discarded, in at most 17 bytes.
+fn discard_text(reason: Discard) -> &'static [u8]
+    ensures text { result.now ≡ discard_text reason }
+    ensures short { length result.now ≤ 17 }
+{
+    match reason {
+        Discard::NotServed => b"not served",
+        Discard::ByProgram => b"by the program",
+        Discard::Malformed => b"malformed",
+        Discard::NoRequest => b"no request",
+        Discard::NoAllocation => b"no allocation",
+        Discard::NoChannel => b"no channel",
+        Discard::UnknownAttribute => b"unknown attribute",
+        Discard::Incomplete => b"incomplete",
+        Discard::NoPermission => b"no permission",
+        Discard::OtherFamily => b"other family",
+        Discard::TooLong => b"too long",
+    }
+}
+
+/// Appends the text of a reason.
+fn push_reason(text: &mut ArrayVec<u8, ENDING>, reason: Reason)
+    requires { array_vec_len text.old + LONGEST ≤ ENDING }
+    ensures bytes { text.new.items ≡ text.old.items ++ explanation_text reason }
+    ensures len { array_vec_len text.new ≤ array_vec_len text.old + LONGEST }
+{
+    match reason {
+        Reason::NonceSet => push(text, b"nonce set"),
+        Reason::Done(Disposition::Relayed) => push(text, b"relayed"),
+        Reason::Done(Disposition::Answered(response)) => push_response(text, response),
+        Reason::Done(Disposition::Discarded(reason)) => push(text, discard_text(reason)),
+        Reason::Program { slot } => {
+            push(text, b"discarded by the program at slot ");
+            push_number(text, slot);
+        }
+    }
+}
+
+/// Returns what ends the line of an answer with this reason, line feed included.
+pub(crate) fn ending(reason: Reason) -> ArrayVec<u8, ENDING>
+    ensures { result.items ≡ line_ending (Some reason) }
+{
+    let mut text = ArrayVec::new();
+    push(&mut text, b" ; ");
+    push_reason(&mut text, reason);
+    push(&mut text, b"\n");
+    text
+}
