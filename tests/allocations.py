@@ -1,4 +1,4 @@
-"""Counts the allocations of memory by the built relayd while it serves, records and writes metrics: none, once it listens.
+"""Counts the allocations of memory by the built relayd while it serves, records, logs and writes metrics: none, once it listens.
 
 Sessions over sockets, with each kind of request, datagrams both ways by channel and by permission, requests that are
 refused, and datagrams that are discarded: 172 datagrams in a session come to the server. After each session a line of counters
@@ -54,7 +54,7 @@ def failures_of_sessions(folder):
     preloaded = f"{preloadable(folder, 'refuse_malloc')}:{clocks.library}"
     environment = {**clocks.environment, "LD_PRELOAD": preloaded, "COUNT_FILE": str(count)}
     sockets = udp_socket(), udp_socket(address="127.0.0.2")
-    words = "--stats", "1", "--metrics", str(metrics), "--record", str(folder / "record")
+    words = "--stats", "1", "--metrics", str(metrics), "--record", str(folder / "record"), "--log"
     with Server(*words, env=environment) as server, Client(server) as client, sockets[0] as peer, sockets[1] as stranger:
         before = int.from_bytes(count.read_bytes(), "little")
         for _ in range(SESSIONS):
@@ -63,6 +63,8 @@ def failures_of_sessions(folder):
         client.ask(BINDING, [])
         written = samples_of(metrics)['relayd_datagrams_relayed_total{to="peers"}'], server.printed().count("received from")
         yield from wanted("data in metrics, and lines of counters", written, (SESSIONS * (BATCHES * BATCH + 1), SESSIONS))
+        logged = [server.printed().count(f"allocation {what}: ") for what in ("made", "ended")]
+        yield from wanted("allocations in the log", logged, [SESSIONS] * 2)
         made = int.from_bytes(count.read_bytes(), "little") - before
         yield from wanted("allocations before the server listens are counted", before > 0, True)
         yield from wanted("allocations afterwards", made, 0)

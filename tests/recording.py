@@ -13,17 +13,16 @@ import resource
 import shutil
 import signal
 import stat
-import subprocess
 import sys
 import tempfile
 import time
 
-from lib.program import build, finish, preloadable, shipped
+from lib.program import PASSED_OVER, preloadable, run_parts, shipped
 from lib.rules import BINDING, CREATE_PERMISSION, LIFETIME, NONCE, REFRESH, message
 from lib.server import (
     BAD, DISCARD, LOOPBACK6, PERIOD, Client, Server, address_of, channel_data, code_of, fault_line, put, replayed, sends,
     udp_socket, wanted)
-from serve import FAMILY6, PASSED_OVER, preloading
+from serve import FAMILY6, preloading
 
 # the bytes that a record may have until a write fails, the system's error then (EFBIG), and the datagrams that are sent
 MOST_BYTES, TOO_LARGE, DATAGRAMS = 20_000, 27, 40
@@ -318,16 +317,8 @@ def users():
 
 def main():
     """Runs every part, and returns the exit status."""
-    build()
     parts = [session, batches, datagrams_sent, failed_receives, not_sent, full_file, programs, users]
-    failures = []
-    for part in parts:
-        try:
-            failures += [f"{part.__name__}: {failure}" for failure in part()]
-        except (OSError, ValueError, AttributeError, RuntimeError, subprocess.TimeoutExpired) as error:
-            failures.append(f"{part.__name__}: {error!r}")
-    passed_over = f"; passed over: {', '.join(PASSED_OVER)}" if PASSED_OVER else ""
-    return finish(failures, f"recording: {len(parts)} parts, {len(failures)} failures{passed_over}")
+    return run_parts("recording", parts)
 
 
 if __name__ == "__main__":

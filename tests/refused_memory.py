@@ -63,7 +63,7 @@ CASES = [
     (["replay", "--user", "u:p", "--nonce", "a b", "/dev/null"], 1),
     (["replay", "--secret", str(SECRET), "/dev/null"], 0),
     (["serve", *SERVER, "--user", "u:p", "--slots", "4", "--rounds", "1", "--stats", "1", "--metrics", f"{FOLDER.name}/metrics"], 0),
-    (["serve", *SERVER, "--user", "u:p", "--slots", "1", "--rounds", "1", "--record", str(RECORD)], 0),
+    (["serve", *SERVER, "--user", "u:p", "--slots", "1", "--rounds", "1", "--record", str(RECORD), "--log"], 0),
     (["verify", "no such file"], 3),
     (["verify"], 2),
     (["load"], 2),

@@ -6,6 +6,7 @@ that relayd has to print to each stream.
 """
 
 import pathlib
+import re
 import sys
 import tempfile
 
@@ -363,13 +364,17 @@ def differences(name, got, wanted):
 
 
 def failures_of_example(_):
-    """Yields what is wrong with the session of examples/: its files, and its answers."""
+    """Yields what is wrong with the session of examples/: its files, its answers, and the reasons that docs/EVENTS.md says."""
     description = (EXAMPLES / "session.txt").read_text(encoding="utf-8")
     stored = [(EXAMPLES / f"session.{kind}").read_text(encoding="utf-8") for kind in ("events", "expected")]
     if events.lines_of(description) != tuple(stored):
         yield "examples/session.events and session.expected are not those of session.txt"
     words = ["--users", str(EXAMPLES / "users.txt"), "--relay-ip", "203.0.113.1", str(EXAMPLES / "session.events")]
     yield from differences("the session of examples/", run(["replay", *words]), (0, stored[1], ""))
+    page = (TOP / "docs" / "EVENTS.md").read_text(encoding="utf-8")
+    reasons = re.findall(r"^\| \d+ \| \d+ \|.*\| `([^`]+)` \|$", page, re.MULTILINE)
+    explained_lines = "".join(f"{line} ; {reason}\n" for line, reason in zip(stored[1].splitlines(), reasons, strict=True))
+    yield from differences("the session of examples/ --why", run(["replay", *words, "--why"]), (0, explained_lines, ""))
 
 
 def failures_of_chromium(folder):

@@ -22,7 +22,7 @@ import sys
 import tempfile
 import time
 
-from lib.program import PROGRAM, TOP, assembled, build, explained, finish, preloadable, shipped
+from lib.program import PASSED_OVER, PROGRAM, TOP, assembled, explained, preloadable, run_parts, shipped
 from lib.rules import (
     ALLOCATE, BINDING, CREATE_PERMISSION, DATA, DATA_INDICATION, FAMILY, LIFETIME, NONCE, REALM, REFRESH, SEND, XOR_MAPPED_ADDRESS,
     XOR_PEER_ADDRESS, XOR_RELAYED_ADDRESS, address_in, address_value, key_of, message, read)
@@ -64,8 +64,6 @@ REFUSED_USERS = [
 MOST_SLOTS, USED_SLOTS = 256, (0, 69, 254, 255)
 # what a line of counters says of datagrams: those of clients and of peers that came, and those to peers and to clients that were sent
 RELAYED = re.compile(r"received from clients (\d+) peers (\d+), relayed to peers (\d+) clients (\d+)")
-# what can't be tried here, each with its reason
-PASSED_OVER = []
 
 
 # ---- command lines and sockets
@@ -843,18 +841,10 @@ def many():
 
 def main():
     """Runs every part, and returns the exit status."""
-    build()
     parts = [refused_lines, rounds, metrics_of_rounds, addresses, addresses6, default_ports, default_slots, counted_rounds, receives_of_rounds,
              session, session6, no_family6, transactions, many_slots, faults, failed_receives, idle, idle_files, nonces,
              replaced_programs, slow_programs, withdrawn_programs, users_that_come_and_go, turns, ahead, many]
-    failures = []
-    for part in parts:
-        try:
-            failures += [f"{part.__name__}: {failure}" for failure in part()]
-        except (OSError, ValueError, AttributeError, RuntimeError, subprocess.TimeoutExpired) as error:
-            failures.append(f"{part.__name__}: {error!r}")
-    passed_over = f"; passed over: {', '.join(PASSED_OVER)}" if PASSED_OVER else ""
-    return finish(failures, f"serve: {len(parts)} parts, {len(failures)} failures{passed_over}")
+    return run_parts("serve", parts)
 
 
 if __name__ == "__main__":

@@ -1,4 +1,5 @@
-"""Prints how many round trips a second `relayd serve` relays over a channel, beside a forwarder in C, coturn, and no relay.
+"""Prints how many round trips a second `relayd serve` relays over a channel, beside one that reports all that it can (`--log`,
+`--metrics`, `--stats`), a forwarder in C, coturn, and no relay.
 
     tests/serve_speed.py [ROUNDS]
 
@@ -129,8 +130,10 @@ def subjects(tool, folder, stack):
     echo = stack.enter_context(Process(tool, "echo"))
     forwarder = stack.enter_context(Process(tool, "forward", str(echo.port)))
     server = stack.enter_context(Server())
+    reporting = stack.enter_context(Server("--log", "--metrics", f"{folder}/relayd.prom", "--stats", "1"))
     found = {
         "relayd": session(server, server.process.pid, echo.port, stack),
+        "reporting": session(reporting, reporting.process.pid, echo.port, stack),
         "forwarder": Subject(plain(forwarder.port, stack), forwarder.process.pid),
         "no relay": Subject(plain(echo.port, stack), echo.process.pid),
     }

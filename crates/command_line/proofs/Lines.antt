@@ -3,7 +3,7 @@ use Rattle.std.proofs.Common.{◌≡◌, ◌∙◌, ap, ◌++◌, arith, ℕ, Bo
 use Rattle.std.specs.Prelude.{◌^◌, option_map, unwrap_or}
 use Rattle.std.proofs.lemmas.Option.{none-some, same_Some}
 use Rattle.clap.specs.Kinds.{Kinds}
-use Rattle.clap.specs.Words.{FailsBy, HasKind, App, HasMatchesOf, Text, Row, fault_of, first_of, is_simple_and_free, kind_of, one_of, subcommand_rows_of}
+use Rattle.clap.specs.Words.{FailsBy, HasKind, App, HasMatchesOf, Text, Row, fault_of, first_of, is_simple_and_free, kind_of, subcommand_rows_of}
 use Rattle.clap.specs.Walk.{Held}
 use Rattle.clap.specs.declared.error.Error.{Error}
 use Rattle.clap.specs.declared.error.kind.ErrorKind.TheVariants.{OutOfMemory}
@@ -11,8 +11,8 @@ use Rattle.clap.specs.declared.parser.matches.ArgMatches.{ArgMatches}
 use Rattle.clap.proofs.OnLiterals.{clap_on_literals}
 use Rattle.command_line.proofs.Operands.{HasTexts, IsOptions, IsServing, all_held, all_options, all_serve, all_words, every_held, every_options, every_texts, every_words, last_operand, last_rows, options_rows, port_held, port_serves, port_words, replay_faults, replay_rows, replay_shape, serve_faults, serve_rows, serve_shape, user_held, user_options, user_texts}
 use Rattle.command_line.specs.Commands.{faults_of, relayd_command, subcommand_in}
-use Rattle.command_line.specs.Lines.{GivenOptions, IsOperand, IsLineOf, IsParsedAs, IsReplayLine, IsServeLine, IsExplainLine, IsSlotsLine, IsTraceLine, options_before, every_option, every_server_option, only_port, only_user, only_users_file}
-use Rattle.command_line.specs.Subcommands.{HaveServerValues, HaveValues, IsFlag, IsSubcommand, ServerTexts, Texts, flag_of, server_texts_in, texts_in, argument_value}
+use Rattle.command_line.specs.Lines.{GivenOptions, IsOperand, IsLineOf, IsParsedAs, IsReplayLine, IsServeLine, IsExplainLine, IsSlotsLine, IsTraceLine, options_before, every_option, every_replay_option, every_server_option, no_replay_option, only_port, only_user, only_users_file}
+use Rattle.command_line.specs.Subcommands.{HaveReplayValues, HaveServerValues, HaveValues, IsFlag, IsSubcommand, ReplayTexts, ServerTexts, Texts, flag_of, replay_texts_in, server_texts_in, texts_in, argument_value}
 use Rattle.command_line.specs.Values.{HasValue, IsDecimal}
 use Rattle.command_line.specs.declared.Options.{Options}
 use Rattle.command_line.specs.declared.ServerOptions.{ServerOptions}
@@ -126,55 +126,52 @@ data_first name (x ∷ xs) [] e h = record { good = simp e refl; name_is = refl;
 data_first name [] (y ∷ ys) e h = record { good = simp h refl; name_is = refl; file_is = simp h refl; value_is = simp h refl }
 data_first name (x ∷ xs) (y ∷ ys) e h = record { good = simp (e, h) refl; name_is = refl; file_is = simp (e, h) refl; value_is = simp (e, h) refl }
 
--- the line has no fault, and its subcommand is replay with these events, nonce and options
-pub record ReadsEvents (words : List Text) (events : Text) (nonce : Option Text) (texts : Texts) : Type 0 where
+-- the line has no fault, and its subcommand is replay with these events and texts
+pub record ReadsEvents (words : List Text) (events : Text) (own : ReplayTexts) (texts : Texts) : Type 0 where
   pub good : faults_of words ≡ []
   pub name_is : option_map (λ p. p.0) (subcommand_in words) ≡ Some (codes "replay")
   pub events_is : option_map (λ p. argument_value p (codes "events")) (subcommand_in words) ≡ Some (Some events)
-  pub nonce_is : option_map (λ p. argument_value p (codes "nonce")) (subcommand_in words) ≡ Some nonce
+  pub own_is : option_map (λ p. replay_texts_in p.1) (subcommand_in words) ≡ Some own
   pub texts_is : option_map (λ p. texts_in p.1) (subcommand_in words) ≡ Some texts
 
 -- what clap makes of options, and of EVENTS after them
-replay_made_of : (name events : Text) (given : Option Text) (options : List Text) (texts : Texts) (h : Held) → IsOperand events → IsOptions options h
-    → HasTexts h events given texts → ReadsEvents (name ∷ codes "replay" ∷ (options ++ events ∷ [])) events given texts
-replay_made_of name events given options texts h e o t = record {
+replay_made_of : (name events : Text) (own : ReplayTexts) (options : List Text) (texts : Texts) (h : Held) → IsOperand events → IsOptions options h
+    → HasTexts h events own texts → ReadsEvents (name ∷ codes "replay" ∷ (options ++ events ∷ [])) events own texts
+replay_made_of name events own options texts h e o t = record {
   good = replay_faults name (options ++ events ∷ []) ∙ (last_operand replay_shape options h events e o.walks o.passes ∙ t.good);
   name_is = ap (option_map (λ p. p.0)) (replay_rows name (options ++ events ∷ []));
   events_is = ap (option_map (λ p. argument_value p (codes "events"))) (replay_rows name (options ++ events ∷ []))
       ∙ ap (λ rows. Some (first_of (codes "events") rows)) (last_rows replay_shape options h events e o.walks) ∙ ap Some t.events_is;
-  nonce_is = ap (option_map (λ p. argument_value p (codes "nonce"))) (replay_rows name (options ++ events ∷ []))
-      ∙ ap (λ rows. Some (first_of (codes "nonce") rows)) (last_rows replay_shape options h events e o.walks) ∙ ap Some t.nonce_is;
+  own_is = ap (option_map (λ p. replay_texts_in p.1)) (replay_rows name (options ++ events ∷ []))
+      ∙ ap (λ rows. Some (replay_texts_in rows)) (last_rows replay_shape options h events e o.walks) ∙ ap Some t.own_is;
   texts_is = ap (option_map (λ p. texts_in p.1)) (replay_rows name (options ++ events ∷ []))
       ∙ ap (λ rows. Some (texts_in rows)) (last_rows replay_shape options h events e o.walks) ∙ ap Some t.texts_is;
 }
 
 user_read : (name events user : Text) → IsOperand events → IsOperand user
-    → ReadsEvents (name ∷ codes "replay" ∷ codes "--user" ∷ user ∷ events ∷ []) events None (only_user user)
-user_read name events user e h = replay_made_of name events None (codes "--user" ∷ user ∷ []) (only_user user) (user_held user) e (user_options user h) (user_texts events user)
+    → ReadsEvents (name ∷ codes "replay" ∷ codes "--user" ∷ user ∷ events ∷ []) events no_replay_option (only_user user)
+user_read name events user e h = replay_made_of name events no_replay_option (codes "--user" ∷ user ∷ []) (only_user user) (user_held user) e (user_options user h) (user_texts events user)
 
 every_read : (name events : Text) (g : GivenOptions) (nonce : Text) → IsOperand events
-    → ReadsEvents (name ∷ codes "replay" ∷ options_before g ((codes "--nonce=" ++ nonce) ∷ events ∷ [])) events (Some nonce) (every_option g)
+    → ReadsEvents (name ∷ codes "replay" ∷ options_before g ((codes "--nonce=" ++ nonce) ∷ codes "--why" ∷ events ∷ [])) events (every_replay_option nonce) (every_option g)
 every_read name events g nonce e =
-    replay_made_of name events (Some nonce) (every_words g nonce) (every_option g) (every_held g nonce) e (every_options g nonce) (every_texts events g nonce)
+    replay_made_of name events (every_replay_option nonce) (every_words g nonce) (every_option g) (every_held g nonce) e (every_options g nonce) (every_texts events g nonce)
 
--- the line has no fault, and its subcommand is serve with these texts and this value of the flag
-pub record ReadsServer (words : List Text) (server : ServerTexts) (reuse_port : Text) (texts : Texts) : Type 0 where
+-- the line has no fault, and its subcommand is serve with these texts
+pub record ReadsServer (words : List Text) (server : ServerTexts) (texts : Texts) : Type 0 where
   pub good : faults_of words ≡ []
   pub name_is : option_map (λ p. p.0) (subcommand_in words) ≡ Some (codes "serve")
   pub server_is : option_map (λ p. server_texts_in p.1) (subcommand_in words) ≡ Some server
-  pub flag_is : option_map (λ p. flag_of p (codes "reuse-port")) (subcommand_in words) ≡ Some (Some reuse_port)
   pub texts_is : option_map (λ p. texts_in p.1) (subcommand_in words) ≡ Some texts
 
 -- what clap makes of the options of a server
-serve_made_of : (name : Text) (words : List Text) (server : ServerTexts) (reuse_port : Text) (texts : Texts) (h : Held)
-    → IsServing words h server reuse_port texts → ReadsServer (name ∷ codes "serve" ∷ words) server reuse_port texts
-serve_made_of name words server reuse_port texts h o = record {
+serve_made_of : (name : Text) (words : List Text) (server : ServerTexts) (texts : Texts) (h : Held)
+    → IsServing words h server texts → ReadsServer (name ∷ codes "serve" ∷ words) server texts
+serve_made_of name words server texts h o = record {
   good = serve_faults name words ∙ (all_options serve_shape words h o.walks o.passes ∙ o.good);
   name_is = ap (option_map (λ p. p.0)) (serve_rows name words);
   server_is = ap (option_map (λ p. server_texts_in p.1)) (serve_rows name words)
       ∙ ap (λ rows. Some (server_texts_in rows)) (options_rows serve_shape words h o.walks) ∙ ap Some o.server_is;
-  flag_is = ap (option_map (λ p. flag_of p (codes "reuse-port"))) (serve_rows name words)
-      ∙ ap (λ rows. Some (one_of (codes "reuse-port") rows)) (options_rows serve_shape words h o.walks) ∙ ap Some o.flag_is;
   texts_is = ap (option_map (λ p. texts_in p.1)) (serve_rows name words)
       ∙ ap (λ rows. Some (texts_in rows)) (options_rows serve_shape words h o.walks) ∙ ap Some o.texts_is;
 }
@@ -186,27 +183,25 @@ Has name id file value p = (p.0 ≡ name) × (argument_value p (codes "file") �
 abbrev HasFiles : Text → Text → Text → Text × List Row → Type 0
 HasFiles name input output p = (p.0 ≡ name) × (argument_value p (codes "in") ≡ Some input) × (argument_value p (codes "out") ≡ Some output)
 
-abbrev HasEvents : Text → Option Text → Texts → Text × List Row → Type 0
-HasEvents events nonce texts p = (p.0 ≡ codes "replay") × (argument_value p (codes "events") ≡ Some events) × (argument_value p (codes "nonce") ≡ nonce)
+abbrev HasEvents : Text → ReplayTexts → Texts → Text × List Row → Type 0
+HasEvents events own texts p = (p.0 ≡ codes "replay") × (argument_value p (codes "events") ≡ Some events) × (replay_texts_in p.1 ≡ own)
     × (texts_in p.1 ≡ texts)
 
-events_collected : (o : Option (Text × List Row)) (events : Text) (given : Option Text) (texts : Texts) → option_map (λ p. p.0) o ≡ Some (codes "replay")
-    → option_map (λ p. argument_value p (codes "events")) o ≡ Some (Some events) → option_map (λ p. argument_value p (codes "nonce")) o ≡ Some given
-    → option_map (λ p. texts_in p.1) o ≡ Some texts → IsSomeAnd o (HasEvents events given texts)
-events_collected None events given texts n f g d = absurd (none-some (codes "replay") n)
-events_collected (Some p) events given texts n f g d = (same_Some _ _ n, same_Some _ _ f, same_Some _ _ g, same_Some _ _ d)
+events_collected : (o : Option (Text × List Row)) (events : Text) (own : ReplayTexts) (texts : Texts) → option_map (λ p. p.0) o ≡ Some (codes "replay")
+    → option_map (λ p. argument_value p (codes "events")) o ≡ Some (Some events) → option_map (λ p. replay_texts_in p.1) o ≡ Some own
+    → option_map (λ p. texts_in p.1) o ≡ Some texts → IsSomeAnd o (HasEvents events own texts)
+events_collected None events own texts n f g d = absurd (none-some (codes "replay") n)
+events_collected (Some p) events own texts n f g d = (same_Some _ _ n, same_Some _ _ f, same_Some _ _ g, same_Some _ _ d)
 
-abbrev HasServer : ServerTexts → Text → Texts → Text × List Row → Type 0
-HasServer server reuse_port texts p = (p.0 ≡ codes "serve") × (server_texts_in p.1 ≡ server)
-    × (flag_of p (codes "reuse-port") ≡ Some reuse_port) × (texts_in p.1 ≡ texts)
+abbrev HasServer : ServerTexts → Texts → Text × List Row → Type 0
+HasServer server texts p = (p.0 ≡ codes "serve") × (server_texts_in p.1 ≡ server) × (texts_in p.1 ≡ texts)
 
-server_collected : (words : List Text) (server : ServerTexts) (reuse_port : Text) (texts : Texts) (o : Option (Text × List Row)) → o ≡ subcommand_in words
-    → ReadsServer words server reuse_port texts → IsSomeAnd o (HasServer server reuse_port texts)
-server_collected words server reuse_port texts None same r = absurd (none-some (codes "serve") (ap (option_map (λ p. p.0)) same ∙ r.name_is))
-server_collected words server reuse_port texts (Some p) same r = (
+server_collected : (words : List Text) (server : ServerTexts) (texts : Texts) (o : Option (Text × List Row)) → o ≡ subcommand_in words
+    → ReadsServer words server texts → IsSomeAnd o (HasServer server texts)
+server_collected words server texts None same r = absurd (none-some (codes "serve") (ap (option_map (λ p. p.0)) same ∙ r.name_is))
+server_collected words server texts (Some p) same r = (
   same_Some _ _ (ap (option_map (λ p. p.0)) same ∙ r.name_is),
   same_Some _ _ (ap (option_map (λ p. server_texts_in p.1)) same ∙ r.server_is),
-  same_Some _ _ (ap (option_map (λ p. flag_of p (codes "reuse-port"))) same ∙ r.flag_is),
   same_Some _ _ (ap (option_map (λ p. texts_in p.1)) same ∙ r.texts_is),
 )
 
@@ -283,41 +278,41 @@ trace_made words file hex r = record {
   subcommand = collected (subcommand_in words) (codes "trace") (codes "data") file.now (option_map (λ s. s.now) hex) r.name_is r.file_is r.value_is;
 }
 
-replay_made : (words : List Text) (events nonce : Bor Text) (options : Options) (given : Option Text) (texts : Texts)
-    → nonce.now ≡ unwrap_or given (codes "n1") → HaveValues texts options → ReadsEvents words events.now given texts → Makes words (Replay events nonce options)
-replay_made words events nonce options given texts is values r = record {
+replay_made : (words : List Text) (events nonce : Bor Text) (why : Bool) (options : Options) (own : ReplayTexts) (texts : Texts)
+    → HaveReplayValues own nonce.now why → HaveValues texts options → ReadsEvents words events.now own texts
+    → Makes words (Replay events nonce why options)
+replay_made words events nonce why options own texts own_values values r = record {
   good = r.good;
-  subcommand = weaker (subcommand_in words) (HasEvents events.now given texts) (λ p. IsSubcommand p (Replay events nonce options))
-      (λ p h. (h.0, h.1, is ∙ ap (λ o. unwrap_or o (codes "n1")) (sym h.2), subst (λ t. HaveValues t options) (sym h.3) values))
-      (events_collected (subcommand_in words) events.now given texts r.name_is r.events_is r.nonce_is r.texts_is);
+  subcommand = weaker (subcommand_in words) (HasEvents events.now own texts) (λ p. IsSubcommand p (Replay events nonce why options))
+      (λ p h. (h.0, h.1, subst (λ t. HaveReplayValues t nonce.now why) (sym h.2) own_values, subst (λ t. HaveValues t options) (sym h.3) values))
+      (events_collected (subcommand_in words) events.now own texts r.name_is r.events_is r.own_is r.texts_is);
 }
 
-serve_made : (words : List Text) (server : ServerOptions) (options : Options) (own : ServerTexts) (texts : Texts) (value : Text)
-    → HaveServerValues own server → HaveValues texts options → IsFlag (Some value) server.reuse_port
-    → ReadsServer words own value texts → Makes words (Serve server options)
-serve_made words server options own texts value own_values values says r = record {
+serve_made : (words : List Text) (server : ServerOptions) (options : Options) (own : ServerTexts) (texts : Texts)
+    → HaveServerValues own server → HaveValues texts options → ReadsServer words own texts → Makes words (Serve server options)
+serve_made words server options own texts own_values values r = record {
   good = r.good;
-  subcommand = weaker (subcommand_in words) (HasServer own value texts) (λ p. IsSubcommand p (Serve server options))
+  subcommand = weaker (subcommand_in words) (HasServer own texts) (λ p. IsSubcommand p (Serve server options))
       (λ p h. (
         h.0,
         subst (λ t. HaveServerValues t server) (sym h.1) own_values,
-        subst (λ o. IsFlag o server.reuse_port) (sym h.2) says,
-        subst (λ t. HaveValues t options) (sym h.3) values,
+        subst (λ t. HaveValues t options) (sym h.2) values,
       ))
-      (server_collected words own value texts (subcommand_in words) refl r);
+      (server_collected words own texts (subcommand_in words) refl r);
 }
 
-with_events : (events : Text) (nonce : Option Text) (texts : Texts) (words : List Text) → IsOperand events → IsReplayLine events nonce texts words
-    → ReadsEvents words events nonce texts
-with_events events nonce texts words o (name, inl (user, (u, (n, (t, w))))) =
-    subst (λ w. ReadsEvents w events nonce texts) (sym w)
-    (subst (λ t. ReadsEvents (name ∷ codes "replay" ∷ codes "--user" ∷ user ∷ events ∷ []) events nonce t) (sym t)
+with_events : (events : Text) (own : ReplayTexts) (texts : Texts) (words : List Text) → IsOperand events → IsReplayLine events own texts words
+    → ReadsEvents words events own texts
+with_events events own texts words o (name, inl (user, (u, (n, (t, w))))) =
+    subst (λ w. ReadsEvents w events own texts) (sym w)
+    (subst (λ t. ReadsEvents (name ∷ codes "replay" ∷ codes "--user" ∷ user ∷ events ∷ []) events own t) (sym t)
     (subst (λ n. ReadsEvents (name ∷ codes "replay" ∷ codes "--user" ∷ user ∷ events ∷ []) events n (only_user user)) (sym n)
     (user_read name events user o u)))
-with_events events nonce texts words o (name, inr (g, (given, (n, (t, w))))) =
-    subst (λ w. ReadsEvents w events nonce texts) (sym w)
-    (subst (λ t. ReadsEvents (name ∷ codes "replay" ∷ options_before g ((codes "--nonce=" ++ given) ∷ events ∷ [])) events nonce t) (sym t)
-    (subst (λ n. ReadsEvents (name ∷ codes "replay" ∷ options_before g ((codes "--nonce=" ++ given) ∷ events ∷ [])) events n (every_option g)) (sym n)
+with_events events own texts words o (name, inr (g, (given, (n, (t, w))))) =
+    let line = name ∷ codes "replay" ∷ options_before g ((codes "--nonce=" ++ given) ∷ codes "--why" ∷ events ∷ []) in
+    subst (λ w. ReadsEvents w events own texts) (sym w)
+    (subst (λ t. ReadsEvents line events own t) (sym t)
+    (subst (λ n. ReadsEvents line events n (every_option g)) (sym n)
     (every_read name events g given o)))
 
 with_data : (file hex : Bor Text) (words : List Text) → IsOperand file.now → IsTraceLine file.now hex.now words → Reads words (codes "trace") (codes "data") file.now (Some hex.now)
@@ -356,19 +351,19 @@ says_true = record {
 }
 
 with_server : (server : ServerOptions) (options : Options) (own : ServerTexts) (texts : Texts) (words : List Text)
-    → HaveServerValues own server → HaveValues texts options → IsServeLine own server.reuse_port texts words → Makes words (Serve server options)
-with_server server options own texts words sv v (name, inl (port, (file, (s, (r, (t, w)))))) =
-    serve_made words server options own texts (codes "false") sv v (subst (IsFlag (Some (codes "false"))) (sym r) says_false)
-    (subst (λ w. ReadsServer w own (codes "false") texts) (sym w)
-    (subst (λ t. ReadsServer (name ∷ codes "serve" ∷ port_words port file) own (codes "false") t) (sym t)
-    (subst (λ s. ReadsServer (name ∷ codes "serve" ∷ port_words port file) s (codes "false") (only_users_file file)) (sym s)
-    (serve_made_of name (port_words port file) (only_port port) (codes "false") (only_users_file file) (port_held port file) (port_serves port file)))))
-with_server server options own texts words sv v (name, inr (given, (g, (s, (r, (t, w)))))) =
-    serve_made words server options own texts (codes "true") sv v (subst (IsFlag (Some (codes "true"))) (sym r) says_true)
-    (subst (λ w. ReadsServer w own (codes "true") texts) (sym w)
-    (subst (λ t. ReadsServer (name ∷ codes "serve" ∷ all_words given g) own (codes "true") t) (sym t)
-    (subst (λ s. ReadsServer (name ∷ codes "serve" ∷ all_words given g) s (codes "true") (every_option g)) (sym s)
-    (serve_made_of name (all_words given g) (every_server_option given) (codes "true") (every_option g) (all_held given g) (all_serve given g)))))
+    → HaveServerValues own server → HaveValues texts options → IsServeLine own texts words → Makes words (Serve server options)
+with_server server options own texts words sv v (name, inl (port, (file, (s, (t, w))))) =
+    serve_made words server options own texts sv v
+    (subst (λ w. ReadsServer w own texts) (sym w)
+    (subst (λ t. ReadsServer (name ∷ codes "serve" ∷ port_words port file) own t) (sym t)
+    (subst (λ s. ReadsServer (name ∷ codes "serve" ∷ port_words port file) s (only_users_file file)) (sym s)
+    (serve_made_of name (port_words port file) (only_port port) (only_users_file file) (port_held port file) (port_serves port file)))))
+with_server server options own texts words sv v (name, inr (given, (g, (s, (t, w))))) =
+    serve_made words server options own texts sv v
+    (subst (λ w. ReadsServer w own texts) (sym w)
+    (subst (λ t. ReadsServer (name ∷ codes "serve" ∷ all_words given g) own t) (sym t)
+    (subst (λ s. ReadsServer (name ∷ codes "serve" ∷ all_words given g) s (every_option g)) (sym s)
+    (serve_made_of name (all_words given g) (every_server_option given) (every_option g) (all_held given g) (all_serve given g)))))
 
 made : (r : Subcommand) (words : List Text) → IsLineOf r words → Makes words r
 made (Verify file) words (o, (name, l)) = verify_made words file (subst (λ w. Reads w (codes "verify") (codes "data") file.now None) (sym l) (verify_read name file.now o))
@@ -384,8 +379,8 @@ made (Explain file None) words (o, (name, l)) =
 made (Explain file (Some slot)) words (o, (text, (spells, l))) = explain_made words file (Some text) (Some slot) spells (with_slot file text words o l)
 made (Trace file None) words (o, (name, l)) = trace_made words file None (subst (λ w. Reads w (codes "trace") (codes "data") file.now None) (sym l) (trace_read name file.now o))
 made (Trace file (Some hex)) words (o, l) = trace_made words file (Some hex) (with_data file hex words o l)
-made (Replay events nonce options) words (o, (given, (texts, (is, (values, l))))) =
-    replay_made words events nonce options given texts is values (with_events events.now given texts words o l)
+made (Replay events nonce why options) words (o, (own, (texts, (own_values, (values, l))))) =
+    replay_made words events nonce why options own texts own_values values (with_events events.now own texts words o l)
 made (Serve server options) words (own, (texts, (sv, (v, l)))) = with_server server options own texts words sv v l
 
 no_kind : (kinds : Kinds) (e : Error) → kinds ≡ [] → HasKind kinds e → kind_of e ≡ OutOfMemory

@@ -5,13 +5,13 @@ use Rattle.std.specs.List.{fold}
 use Rattle.clap.specs.Faults.{check_fault, entered_fault, defaults_fault, level_fault, settle_fault, step_fault, turn_fault, walk_fault}
 use Rattle.clap.specs.Kinds.{Kinds, or_else}
 use Rattle.clap.specs.Simple.{Shape, built, built_leaf, entered, inherited, names_of}
-use Rattle.clap.specs.Walk.{Held, Names, Rule, Text, Walk, arg_by_id, arg_by_index, finished, first_of, nothing_held, one_of, option, option_word, rows_after, settled, to_positional, value, walk, walk_from, walked}
+use Rattle.clap.specs.Walk.{Held, Names, Rule, Text, Walk, arg_by_id, arg_by_index, finished, first_of, nothing_held, option, option_word, rows_after, settled, to_positional, value, walk, walk_from, walked}
 use Rattle.clap.proofs.FaultLemmas.{stopped_fault}
 use Rattle.clap.proofs.OnLiterals.{clap_on_literals}
 use Rattle.clap.proofs.WalkLemmas.{walk_stopped}
 use Rattle.command_line.specs.Commands.{faults_of, relayd_command, replay_command, serve_command, subcommand_in}
-use Rattle.command_line.specs.Lines.{GivenOptions, GivenServer, IsOperand, options_before, every_option, every_server_option, only_port, only_user, only_users_file, server_before}
-use Rattle.command_line.specs.Subcommands.{ServerTexts, Texts, server_texts_in, texts_in}
+use Rattle.command_line.specs.Lines.{GivenOptions, GivenServer, IsOperand, options_before, every_option, every_replay_option, every_server_option, no_replay_option, only_port, only_user, only_users_file, server_before}
+use Rattle.command_line.specs.Subcommands.{ReplayTexts, ServerTexts, Texts, replay_texts_in, server_texts_in, texts_in}
 
 or_else_nil : (ks : Kinds) → or_else ks [] ≡ ks
 or_else_nil [] = refl
@@ -188,10 +188,10 @@ pub record IsOptions (options : List Text) (h : Held) : Type 0 where
   pub passes : walk_fault replay_shape [] (walk_from nothing_held) options ≡ []
 
 -- with EVENTS after them they have no fault and these texts
-pub record HasTexts (h : Held) (events : Text) (nonce : Option Text) (texts : Texts) : Type 0 where
+pub record HasTexts (h : Held) (events : Text) (own : ReplayTexts) (texts : Texts) : Type 0 where
   pub good : end_fault replay_shape h events ≡ []
   pub events_is : first_of (codes "events") (finished replay_shape.rules (end_held replay_shape h events)) ≡ Some events
-  pub nonce_is : first_of (codes "nonce") (finished replay_shape.rules (end_held replay_shape h events)) ≡ nonce
+  pub own_is : replay_texts_in (finished replay_shape.rules (end_held replay_shape h events)) ≡ own
   pub texts_is : texts_in (finished replay_shape.rules (end_held replay_shape h events)) ≡ texts
 
 abbrev pub user_held : Text → Held
@@ -215,12 +215,12 @@ user_options user h = record {
   passes = user_passed user ∙ ap (λ ks. or_else ks []) (operand_passes replay_shape (codes "user") user_waits user h);
 }
 
-pub user_texts : (events user : Text) → HasTexts (user_held user) events None (only_user user)
+pub user_texts : (events user : Text) → HasTexts (user_held user) events no_replay_option (only_user user)
 unfolding clap_on_literals
-user_texts events user = record { good = refl; events_is = refl; nonce_is = refl; texts_is = refl }
+user_texts events user = record { good = refl; events_is = refl; own_is = refl; texts_is = refl }
 
 abbrev pub every_words : GivenOptions → Text → List Text
-every_words g nonce = options_before g ((codes "--nonce=" ++ nonce) ∷ [])
+every_words g nonce = options_before g ((codes "--nonce=" ++ nonce) ∷ codes "--why" ∷ [])
 
 abbrev pub every_held : GivenOptions → Text → Held
 every_held g nonce = (fold (walked replay_shape.rules []) (walk_from nothing_held) (every_words g nonce)).held
@@ -229,19 +229,18 @@ pub every_options : (g : GivenOptions) (nonce : Text) → IsOptions (every_words
 unfolding clap_on_literals
 every_options g nonce = record { walks = refl; passes = refl }
 
-pub every_texts : (events : Text) (g : GivenOptions) (nonce : Text) → HasTexts (every_held g nonce) events (Some nonce) (every_option g)
+pub every_texts : (events : Text) (g : GivenOptions) (nonce : Text) → HasTexts (every_held g nonce) events (every_replay_option nonce) (every_option g)
 unfolding clap_on_literals
-every_texts events g nonce = record { good = refl; events_is = refl; nonce_is = refl; texts_is = refl }
+every_texts events g nonce = record { good = refl; events_is = refl; own_is = refl; texts_is = refl }
 
 -- ---- the options of `serve`
 
--- the words have no fault, these texts, and this value of the flag
-pub record IsServing (words : List Text) (h : Held) (server : ServerTexts) (reuse_port : Text) (texts : Texts) : Type 0 where
+-- the words have no fault, and these texts
+pub record IsServing (words : List Text) (h : Held) (server : ServerTexts) (texts : Texts) : Type 0 where
   pub walks : fold (walked serve_shape.rules []) (walk_from nothing_held) words ≡ walk_from h
   pub passes : walk_fault serve_shape [] (walk_from nothing_held) words ≡ []
   pub good : rest_fault serve_shape h ≡ []
   pub server_is : server_texts_in (finished serve_shape.rules h) ≡ server
-  pub flag_is : one_of (codes "reuse-port") (finished serve_shape.rules h) ≡ Some reuse_port
   pub texts_is : texts_in (finished serve_shape.rules h) ≡ texts
 
 abbrev pub port_words : Text → Text → List Text
@@ -250,9 +249,9 @@ port_words port file = (codes "--port=" ++ port) ∷ (codes "--users=" ++ file) 
 abbrev pub port_held : Text → Text → Held
 port_held port file = (fold (walked serve_shape.rules []) (walk_from nothing_held) (port_words port file)).held
 
-pub port_serves : (port file : Text) → IsServing (port_words port file) (port_held port file) (only_port port) (codes "false") (only_users_file file)
+pub port_serves : (port file : Text) → IsServing (port_words port file) (port_held port file) (only_port port) (only_users_file file)
 unfolding clap_on_literals
-port_serves port file = record { walks = refl; passes = refl; good = refl; server_is = refl; flag_is = refl; texts_is = refl }
+port_serves port file = record { walks = refl; passes = refl; good = refl; server_is = refl; texts_is = refl }
 
 abbrev pub all_words : GivenServer → GivenOptions → List Text
 all_words s g = server_before s (options_before g [])
@@ -260,6 +259,6 @@ all_words s g = server_before s (options_before g [])
 abbrev pub all_held : GivenServer → GivenOptions → Held
 all_held s g = (fold (walked serve_shape.rules []) (walk_from nothing_held) (all_words s g)).held
 
-pub all_serve : (s : GivenServer) (g : GivenOptions) → IsServing (all_words s g) (all_held s g) (every_server_option s) (codes "true") (every_option g)
+pub all_serve : (s : GivenServer) (g : GivenOptions) → IsServing (all_words s g) (all_held s g) (every_server_option s) (every_option g)
 unfolding clap_on_literals
-all_serve s g = record { walks = refl; passes = refl; good = refl; server_is = refl; flag_is = refl; texts_is = refl }
+all_serve s g = record { walks = refl; passes = refl; good = refl; server_is = refl; texts_is = refl }

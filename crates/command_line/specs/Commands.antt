@@ -73,16 +73,16 @@ with_programs app = with_rule (with_rule app (option (codes "client"))) (option 
 abbrev pub with_options : App → App
 with_options app = with_programs (with_addresses (with_users app))
 
--- replay EVENTS, with the options that set up a relay, and the nonce
+-- replay EVENTS, with the options that set up a relay, the nonce, and whether reasons are printed
 abbrev pub replay_command : App
-replay_command = with_rule (with_options (with_rule (new_app (codes "replay")) events_argument)) (option (codes "nonce"))
+replay_command = with_rule (with_rule (with_options (with_rule (new_app (codes "replay")) events_argument)) (option (codes "nonce"))) (flag (codes "why"))
 
 -- --port P: required, one value
 abbrev pub port_option : Rule
 port_option = record (option (codes "port")) { required = true }
 
 -- the command with the options of sockets, with those of the peers that are sent to, with those of time and of what is reported,
--- and with that of the record
+-- and with those of what is written of single events
 abbrev pub with_sockets : App → App
 with_sockets app = with_rule (with_rule (with_rule (with_rule app (option (codes "listen"))) (option (codes "listen6"))) (option (codes "buffer")))
     (flag (codes "reuse-port"))
@@ -95,7 +95,7 @@ with_times app = with_rule (with_rule (with_rule (with_rule app (option (codes "
     (option (codes "metrics"))
 
 abbrev pub with_record : App → App
-with_record app = with_rule app (option (codes "record"))
+with_record app = with_rule (with_rule app (option (codes "record"))) (flag (codes "log"))
 
 -- serve --port P, with the options of a server, and those that set up a relay
 abbrev pub serve_command : App

@@ -1,10 +1,10 @@
 -- Meaning. Good command lines, spelled out word by word.
-use Rattle.std.specs.Prelude.{◌≡◌, ◌⊎◌, ◌^◌, ◌==◌, unwrap_or, Bool, true, false, List, [], ◌∷◌, ◌++◌, Option, Some, None, codes, Result, MatchResult, IsSomeAnd}
+use Rattle.std.specs.Prelude.{◌≡◌, ◌⊎◌, ◌^◌, ◌==◌, Bool, true, false, List, [], ◌∷◌, ◌++◌, Option, Some, None, codes, Result, MatchResult, IsSomeAnd}
 use Rattle.clap.specs.Words.{Text, kind_of, subcommand_rows_of}
 use Rattle.clap.specs.declared.error.Error.{Error}
 use Rattle.clap.specs.declared.error.kind.ErrorKind.TheVariants.{OutOfMemory}
 use Rattle.clap.specs.declared.parser.matches.ArgMatches.{ArgMatches}
-use Rattle.command_line.specs.Subcommands.{HaveServerValues, HaveValues, IsSubcommand, ServerTexts, Texts}
+use Rattle.command_line.specs.Subcommands.{HaveReplayValues, HaveServerValues, HaveValues, IsSubcommand, ReplayTexts, ServerTexts, Texts}
 use Rattle.command_line.specs.Values.{IsDecimal}
 use Rattle.command_line.specs.declared.Subcommand.{Subcommand}
 use Rattle.command_line.specs.declared.Subcommand.TheVariants.{Verify, Explain, Trace, Assemble, Order, Disassemble, Replay, Serve}
@@ -104,13 +104,20 @@ options_before g rest =
     ∷ (codes "--relay-ip6=" ++ g.relay_ip6) ∷ (codes "--first-port=" ++ g.first_port)
     ∷ (codes "--client=" ++ g.client) ∷ (codes "--peer=" ++ g.peer) ∷ rest
 
+-- the texts of a replay without options of its own, and with both; a flag that is not given has clap's default
+abbrev pub no_replay_option : ReplayTexts
+no_replay_option = record { nonce = None; why = Some (codes "false") }
+
+abbrev pub every_replay_option : Text → ReplayTexts
+every_replay_option nonce = record { nonce = Some nonce; why = Some (codes "true") }
+
 -- a program's name, `replay`, and EVENTS after --user NAME:PASSWORD, or after every option
-abbrev pub IsReplayLine : Text → Option Text → Texts → List Text → Type 0
-IsReplayLine events nonce texts words = (name : Text) × (
-    ((user : Text) × (IsOperand user × ((nonce ≡ None) × ((texts ≡ only_user user)
+abbrev pub IsReplayLine : Text → ReplayTexts → Texts → List Text → Type 0
+IsReplayLine events own texts words = (name : Text) × (
+    ((user : Text) × (IsOperand user × ((own ≡ no_replay_option) × ((texts ≡ only_user user)
     × (words ≡ name ∷ codes "replay" ∷ codes "--user" ∷ user ∷ events ∷ [])))))
-    ⊎ ((g : GivenOptions) × ((given : Text) × ((nonce ≡ Some given) × ((texts ≡ every_option g)
-    × (words ≡ name ∷ codes "replay" ∷ options_before g ((codes "--nonce=" ++ given) ∷ events ∷ [])))))))
+    ⊎ ((g : GivenOptions) × ((given : Text) × ((own ≡ every_replay_option given) × ((texts ≡ every_option g)
+    × (words ≡ name ∷ codes "replay" ∷ options_before g ((codes "--nonce=" ++ given) ∷ codes "--why" ∷ events ∷ [])))))))
 
 -- a text for each option of a server
 pub record GivenServer : Type 0 where
@@ -134,12 +141,14 @@ only_port port = record {
   listen = None;
   listen6 = None;
   buffer = None;
+  reuse_port = Some (codes "false");
   deny = None;
   allow = None;
   nonce_lifetime = None;
   stats = None;
   metrics = None;
   «record» = None;
+  log = Some (codes "false");
 }
 
 abbrev pub every_server_option : GivenServer → ServerTexts
@@ -149,30 +158,32 @@ every_server_option s = record {
   listen = Some s.listen;
   listen6 = Some s.listen6;
   buffer = Some s.buffer;
+  reuse_port = Some (codes "true");
   deny = Some (s.deny ∷ s.further_deny ∷ []);
   allow = Some (s.allow ∷ []);
   nonce_lifetime = Some s.nonce_lifetime;
   stats = Some s.stats;
   metrics = Some s.metrics;
   «record» = Some s.«record»;
+  log = Some (codes "true");
 }
 
--- the options of a server, each with its text after an equals sign, its flag, and the words after them
+-- the options of a server, each with its text after an equals sign, its flags, and the words after them
 abbrev pub server_before : GivenServer → List Text → List Text
 server_before s rest =
     (codes "--port=" ++ s.port) ∷ (codes "--rounds=" ++ s.rounds) ∷ (codes "--listen=" ++ s.listen)
     ∷ (codes "--listen6=" ++ s.listen6) ∷ (codes "--buffer=" ++ s.buffer) ∷ codes "--reuse-port"
     ∷ (codes "--deny=" ++ s.deny) ∷ (codes "--deny=" ++ s.further_deny) ∷ (codes "--allow=" ++ s.allow)
     ∷ (codes "--nonce-lifetime=" ++ s.nonce_lifetime) ∷ (codes "--stats=" ++ s.stats)
-    ∷ (codes "--metrics=" ++ s.metrics) ∷ (codes "--record=" ++ s.«record») ∷ rest
+    ∷ (codes "--metrics=" ++ s.metrics) ∷ (codes "--record=" ++ s.«record») ∷ codes "--log" ∷ rest
 
 -- a program's name, `serve`, and --port=P with --users=FILE, or with every option
-abbrev pub IsServeLine : ServerTexts → Bool → Texts → List Text → Type 0
-IsServeLine server reuse_port texts words = (name : Text) × (
-    ((port : Text) × ((file : Text) × ((server ≡ only_port port) × ((reuse_port ≡ false) × ((texts ≡ only_users_file file)
-    × (words ≡ name ∷ codes "serve" ∷ (codes "--port=" ++ port) ∷ (codes "--users=" ++ file) ∷ []))))))
-    ⊎ ((s : GivenServer) × ((g : GivenOptions) × ((server ≡ every_server_option s) × ((reuse_port ≡ true) × ((texts ≡ every_option g)
-    × (words ≡ name ∷ codes "serve" ∷ server_before s (options_before g []))))))))
+abbrev pub IsServeLine : ServerTexts → Texts → List Text → Type 0
+IsServeLine server texts words = (name : Text) × (
+    ((port : Text) × ((file : Text) × ((server ≡ only_port port) × ((texts ≡ only_users_file file)
+    × (words ≡ name ∷ codes "serve" ∷ (codes "--port=" ++ port) ∷ (codes "--users=" ++ file) ∷ [])))))
+    ⊎ ((s : GivenServer) × ((g : GivenOptions) × ((server ≡ every_server_option s) × ((texts ≡ every_option g)
+    × (words ≡ name ∷ codes "serve" ∷ server_before s (options_before g [])))))))
 
 -- the words are one of the usual lines of the subcommand, in which the files are operands, and the texts of options spell its values
 abbrev pub IsLineOf : Subcommand → List Text → Type 0
@@ -189,11 +200,11 @@ IsLineOf (Order input output) words = (IsOperand input.now × IsOperand output.n
 IsLineOf (Disassemble file false) words = IsOperand file.now
     × ((name : Text) × (words ≡ name ∷ codes "disassemble" ∷ file.now ∷ []))
 IsLineOf (Disassemble file true) words = IsOperand file.now × IsSlotsLine file.now words
-IsLineOf (Replay events nonce options) words = IsOperand events.now
-    × ((given : Option Text) × ((texts : Texts) × ((nonce.now ≡ unwrap_or given (codes "n1"))
-    × (HaveValues texts options × IsReplayLine events.now given texts words))))
+IsLineOf (Replay events nonce why options) words = IsOperand events.now
+    × ((own : ReplayTexts) × ((texts : Texts) × (HaveReplayValues own nonce.now why
+    × (HaveValues texts options × IsReplayLine events.now own texts words))))
 IsLineOf (Serve server options) words = (own : ServerTexts) × ((texts : Texts)
-    × (HaveServerValues own server × (HaveValues texts options × IsServeLine own server.reuse_port texts words)))
+    × (HaveServerValues own server × (HaveValues texts options × IsServeLine own texts words)))
 
 -- the matches are those of this subcommand, or memory ran out
 abbrev pub IsParsedAs : Subcommand → Result ArgMatches Error → Type 0

@@ -80,19 +80,34 @@ IsFirstFault texts =
     (IsFirst (codes "--relay-ip <A>") IsIpv4Text texts.relay_ip
     (IsRefusedValue (codes "--first-port <P>") (IsDecimal (2 ^ 16)) texts.first_port)))
 
--- the texts of the options of a server alone
+-- the texts of the options of a replay alone, of which `why` is a flag
+pub record ReplayTexts : Type 0 where
+  pub nonce : Option Text
+  pub why : Option Text
+
+abbrev pub replay_texts_in : List Row → ReplayTexts
+replay_texts_in rows = record { nonce = first_of (codes "nonce") rows; why = one_of (codes "why") rows }
+
+-- the nonce and the flag of a replay have the values that these texts spell
+pub record HaveReplayValues (texts : ReplayTexts) (nonce : Text) (why : Bool) : Type 0 where
+  pub nonce_is : nonce ≡ unwrap_or texts.nonce (codes "n1")
+  pub why_is : IsFlag texts.why why
+
+-- the texts of the options of a server alone, of which `reuse_port` and `log` are flags
 pub record ServerTexts : Type 0 where
   pub port : Option Text
   pub rounds : Option Text
   pub listen : Option Text
   pub listen6 : Option Text
   pub buffer : Option Text
+  pub reuse_port : Option Text
   pub deny : Option (List Text)
   pub allow : Option (List Text)
   pub nonce_lifetime : Option Text
   pub stats : Option Text
   pub metrics : Option Text
   pub «record» : Option Text
+  pub log : Option Text
 
 abbrev pub server_texts_in : List Row → ServerTexts
 server_texts_in rows = record {
@@ -101,12 +116,14 @@ server_texts_in rows = record {
   listen = first_of (codes "listen") rows;
   listen6 = first_of (codes "listen6") rows;
   buffer = first_of (codes "buffer") rows;
+  reuse_port = one_of (codes "reuse-port") rows;
   deny = all_of (codes "deny") rows;
   allow = all_of (codes "allow") rows;
   nonce_lifetime = first_of (codes "nonce-lifetime") rows;
   stats = first_of (codes "stats") rows;
   metrics = first_of (codes "metrics") rows;
   «record» = first_of (codes "record") rows;
+  log = one_of (codes "log") rows;
 }
 
 -- 127.0.0.1
@@ -120,12 +137,14 @@ pub record HaveServerValues (texts : ServerTexts) (s : ServerOptions) : Type 0 w
   pub listen : HasValueOr localhost IsIpv4Text texts.listen s.listen
   pub listen6 : HasValue IsIpv6Text texts.listen6 s.listen6
   pub buffer : HasValueOr (pos 4194304) IsBuffer texts.buffer s.buffer
+  pub reuse_port : IsFlag texts.reuse_port s.reuse_port
   pub deny : texts.deny ≡ list_of s.deny
   pub allow : texts.allow ≡ list_of s.allow
   pub nonce_lifetime : HasValueOr 3600 IsSeconds texts.nonce_lifetime s.nonce_lifetime
   pub stats : HasValue IsSeconds texts.stats s.stats
   pub metrics : texts.metrics ≡ text_of s.metrics
   pub «record» : texts.«record» ≡ text_of s.«record»
+  pub log : IsFlag texts.log s.log
 
 -- the first of the texts that spells no value of its option, those of a server before those that set up a relay
 abbrev pub IsFirstServerFault : ServerTexts → Texts → ValueError → Type 0
@@ -152,11 +171,10 @@ IsSubcommand p (Order input output) = (p.0 ≡ codes "order") × (argument_value
     × (argument_value p (codes "out") ≡ Some output.now)
 IsSubcommand p (Disassemble file slots) = (p.0 ≡ codes "disassemble") × (argument_value p (codes "file") ≡ Some file.now)
     × IsFlag (flag_of p (codes "slots")) slots
-IsSubcommand p (Replay events nonce options) = (p.0 ≡ codes "replay") × (argument_value p (codes "events") ≡ Some events.now)
-    × (nonce.now ≡ unwrap_or (argument_value p (codes "nonce")) (codes "n1")) × HaveValues (texts_in p.1) options
+IsSubcommand p (Replay events nonce why options) = (p.0 ≡ codes "replay") × (argument_value p (codes "events") ≡ Some events.now)
+    × HaveReplayValues (replay_texts_in p.1) nonce.now why × HaveValues (texts_in p.1) options
 IsSubcommand p (Serve server options) = (p.0 ≡ codes "serve")
-    × HaveServerValues (server_texts_in p.1) server × IsFlag (flag_of p (codes "reuse-port")) server.reuse_port
-    × HaveValues (texts_in p.1) options
+    × HaveServerValues (server_texts_in p.1) server × HaveValues (texts_in p.1) options
 
 -- the subcommand is one that takes FILE
 abbrev pub TakesFile : Text → Type 0

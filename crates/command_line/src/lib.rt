@@ -82,6 +82,8 @@ pub struct ServerOptions<'a> {
     pub metrics: Option<&'a str>,
     /// The file that is made of the server's events; `None` is to record none.
     pub record: Option<&'a str>,
+    /// Whether allocations and refused credentials are printed.
+    pub log: bool,
 }
 
 /// A subcommand of relayd, with the values of its arguments.
@@ -118,11 +120,12 @@ pub enum Subcommand<'a> {
         file: &'a str,
         slots: bool,
     },
-    /// Replay the events in a file through a relay, and print each answer. The file `-` is standard input. The nonce is
-    /// `n1` by default.
+    /// Replay the events in a file through a relay, and print each answer, with its reason where `why` says so. The file `-`
+    /// is standard input. The nonce is `n1` by default.
     Replay {
         events: &'a str,
         nonce: &'a str,
+        why: bool,
         options: Options<'a>,
     },
     /// Serve clients and peers over UDP sockets.
@@ -390,7 +393,13 @@ fn replay<'a>(alloc: Global) -> Result<Command<'a>, AllocError>
     let command = Command::new(alloc, "replay")
         .about("Replay events through a relay, and print the answer to each")
         .arg(events(alloc))?;
-    with_options(alloc, command)?.arg(option(alloc, "nonce", "TEXT", "The nonce; n1 by default"))
+    with_options(alloc, command)?
+        .arg(option(alloc, "nonce", "TEXT", "The nonce; n1 by default"))?
+        .arg(flag(
+            alloc,
+            "why",
+            "Print after each answer what was granted, or which test failed",
+        ))
 }
 
 /// Returns the option `--port P`.
@@ -487,16 +496,22 @@ fn with_times<'a>(alloc: Global, command: Command<'a>) -> Result<Command<'a>, Al
         ))
 }
 
-/// Adds the option of the record.
+/// Adds the options of what is written of single events.
 fn with_record<'a>(alloc: Global, command: Command<'a>) -> Result<Command<'a>, AllocError>
     ensures { IfOk result (HasAdded with_record command.entry) }
 {
-    command.arg(option(
-        alloc,
-        "record",
-        "FILE",
-        "Write each event to a new file, as replay reads it: what users send is in it",
-    ))
+    command
+        .arg(option(
+            alloc,
+            "record",
+            "FILE",
+            "Write each event to a new file, as replay reads it: what users send is in it",
+        ))?
+        .arg(flag(
+            alloc,
+            "log",
+            "Print allocations and refused credentials to standard error, at most 100 lines a second",
+        ))
 }
 
 /// Returns the subcommand `serve`.

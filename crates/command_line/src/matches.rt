@@ -138,9 +138,11 @@ fn replay_of<'a>(matches: &'a ArgMatches<'_>) -> Result<Option<Subcommand<'a>>, 
     };
     let options = options_of(matches)?;
     let nonce = text_or(matches, "nonce", NONCE);
+    let why = is_given(matches, "why");
     Ok(Some(Subcommand::Replay {
         events,
         nonce,
+        why,
         options,
     }))
 }
@@ -176,6 +178,7 @@ fn serve_of<'a>(matches: &'a ArgMatches<'_>) -> Result<Option<Subcommand<'a>>, V
         stats,
         metrics: text(matches, "metrics"),
         record: text(matches, "record"),
+        log: is_given(matches, "log"),
     };
     Ok(Some(Subcommand::Serve { server, options }))
 }

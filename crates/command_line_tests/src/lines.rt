@@ -112,12 +112,12 @@ const GOOD: [Good; 30] = [
     // standard input, without an option
     Good {
         words: &["relayd", "replay", "-"],
-        subcommand: r#"Replay { events: "-", nonce: "n1", options: Options { realm: "relay", users: None, users_file: None, secret_file: None, slots: 16, relay_ip: None, relay_ip6: None, first_port: 49152, client: None, peer: None } }"#,
+        subcommand: r#"Replay { events: "-", nonce: "n1", why: false, options: Options { realm: "relay", users: None, users_file: None, secret_file: None, slots: 16, relay_ip: None, relay_ip6: None, first_port: 49152, client: None, peer: None } }"#,
     },
     // users in the order in which they are given, and no value is parted at a comma
     Good {
         words: &["relayd", "replay", "--user", "v:q,r", "a", "--user=u:p"],
-        subcommand: r#"Replay { events: "a", nonce: "n1", options: Options { realm: "relay", users: Some(["v:q,r", "u:p"]), users_file: None, secret_file: None, slots: 16, relay_ip: None, relay_ip6: None, first_port: 49152, client: None, peer: None } }"#,
+        subcommand: r#"Replay { events: "a", nonce: "n1", why: false, options: Options { realm: "relay", users: Some(["v:q,r", "u:p"]), users_file: None, secret_file: None, slots: 16, relay_ip: None, relay_ip6: None, first_port: 49152, client: None, peer: None } }"#,
     },
     // every option
     Good {
@@ -126,6 +126,7 @@ const GOOD: [Good; 30] = [
             "replay",
             "--nonce",
             "n",
+            "--why",
             "--peer",
             "p",
             "--client",
@@ -148,12 +149,12 @@ const GOOD: [Good; 30] = [
             "r",
             "a",
         ],
-        subcommand: r#"Replay { events: "a", nonce: "n", options: Options { realm: "r", users: Some(["u"]), users_file: Some("f"), secret_file: Some("s"), slots: 2, relay_ip: Some(203.0.113.1), relay_ip6: Some([32, 1, 13, 184, 0, 0, 0, 0, 0, 0, 0, 0, 0, 0, 0, 171]), first_port: 1, client: Some("c"), peer: Some("p") } }"#,
+        subcommand: r#"Replay { events: "a", nonce: "n", why: true, options: Options { realm: "r", users: Some(["u"]), users_file: Some("f"), secret_file: Some("s"), slots: 2, relay_ip: Some(203.0.113.1), relay_ip6: Some([32, 1, 13, 184, 0, 0, 0, 0, 0, 0, 0, 0, 0, 0, 0, 171]), first_port: 1, client: Some("c"), peer: Some("p") } }"#,
     },
     // a server with its port alone, and with every option
     Good {
         words: &["relayd", "serve", "--port", "3478"],
-        subcommand: r#"Serve { server: ServerOptions { port: 3478, rounds: None, listen: 127.0.0.1, listen6: None, buffer: 4194304, reuse_port: false, deny: None, allow: None, nonce_lifetime: 3600, stats: None, metrics: None, record: None }, options: Options { realm: "relay", users: None, users_file: None, secret_file: None, slots: 16, relay_ip: None, relay_ip6: None, first_port: 49152, client: None, peer: None } }"#,
+        subcommand: r#"Serve { server: ServerOptions { port: 3478, rounds: None, listen: 127.0.0.1, listen6: None, buffer: 4194304, reuse_port: false, deny: None, allow: None, nonce_lifetime: 3600, stats: None, metrics: None, record: None, log: false }, options: Options { realm: "relay", users: None, users_file: None, secret_file: None, slots: 16, relay_ip: None, relay_ip6: None, first_port: 49152, client: None, peer: None } }"#,
     },
     Good {
         words: &[
@@ -184,6 +185,7 @@ const GOOD: [Good; 30] = [
             "60",
             "--record",
             "e",
+            "--log",
             "--listen=192.0.2.10",
             "--listen6=2001:db8::10",
             "--deny=d",
@@ -201,7 +203,7 @@ const GOOD: [Good; 30] = [
             "--port",
             "3478",
         ],
-        subcommand: r#"Serve { server: ServerOptions { port: 3478, rounds: Some(0), listen: 192.0.2.10, listen6: Some(2001:db8::10), buffer: 1073741823, reuse_port: true, deny: Some(["d", "e"]), allow: Some(["f"]), nonce_lifetime: 60, stats: Some(5), metrics: Some("m"), record: Some("e") }, options: Options { realm: "r", users: Some(["u", "v"]), users_file: Some("f"), secret_file: Some("s"), slots: 2, relay_ip: Some(203.0.113.1), relay_ip6: Some([32, 1, 13, 184, 0, 0, 0, 0, 0, 0, 0, 0, 0, 0, 0, 171]), first_port: 1, client: Some("c"), peer: Some("p") } }"#,
+        subcommand: r#"Serve { server: ServerOptions { port: 3478, rounds: Some(0), listen: 192.0.2.10, listen6: Some(2001:db8::10), buffer: 1073741823, reuse_port: true, deny: Some(["d", "e"]), allow: Some(["f"]), nonce_lifetime: 60, stats: Some(5), metrics: Some("m"), record: Some("e"), log: true }, options: Options { realm: "r", users: Some(["u", "v"]), users_file: Some("f"), secret_file: Some("s"), slots: 2, relay_ip: Some(203.0.113.1), relay_ip6: Some([32, 1, 13, 184, 0, 0, 0, 0, 0, 0, 0, 0, 0, 0, 0, 171]), first_port: 1, client: Some("c"), peer: Some("p") } }"#,
     },
     // the program may have any name
     Good {
@@ -566,6 +568,8 @@ const REFUSED: [Refused; 54] = [
             "Replay events through a relay, and print the answer to each",
             "<EVENTS>",
             "The events, one a line, as docs/EVENTS.md says; - reads standard input",
+            "--why",
+            "Print after each answer what was granted, or which test failed",
             "--realm <R>",
             "The realm; relay by default",
             "--user <NAME:PASSWORD>",
@@ -628,6 +632,8 @@ const REFUSED: [Refused; 54] = [
             "Write the counters to a file each 15 seconds, in the text format of Prometheus",
             "--record <FILE>",
             "Write each event to a new file, as replay reads it: what users send is in it",
+            "--log",
+            "Print allocations and refused credentials to standard error, at most 100 lines a second",
             "--realm <R>",
             "The realm; relay by default",
             "--user <NAME:PASSWORD>",

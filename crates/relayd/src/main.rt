@@ -16,11 +16,12 @@ mod replacing;
 mod replacing_users;
 mod replay_command;
 mod server;
+mod server_log;
 mod sockets;
 mod udp;
 
 use crate::explanations::explain;
-use crate::replay_command::replay;
+use crate::replay_command::{ReplayOptions, replay};
 use crate::server::serve;
 use asm::{AsmError, assemble};
 use clap::ArgMatches;
@@ -227,8 +228,9 @@ fn run_subcommand<
         Subcommand::Replay {
             events,
             nonce,
+            why,
             options,
-        } => replay(rt, err, events, nonce, &options),
+        } => replay(rt, err, ReplayOptions { events, nonce, why }, &options),
         Subcommand::Serve { server, options } => serve(rt, err, &server, &options),
     }
 }

@@ -82,7 +82,15 @@ pub(crate) struct RecordedSockets<'a> {
     pub(crate) now: u64,
     /// The transaction id for an indication about it.
     pub(crate) transaction_id: [u8; 12],
+    /// The source of the last datagram.
+    pub(crate) from: Addr,
 }
+
+/// The source where no datagram has come.
+pub(crate) const NOWHERE: Addr = Addr::V4 {
+    ip: [0; 4],
+    port: 0,
+};
 
 impl From<io::Error> for RecordErrorKind {
     fn from(error: io::Error) -> RecordErrorKind {
@@ -205,6 +213,9 @@ impl Link for RecordedSockets<'_> {
     #[inline(always)]
     fn receive(&mut self, endpoint: Endpoint, into: &mut [u8]) -> Result<Receipt, LinkError> {
         let received = self.sockets.receive(endpoint, into)?;
+        if let Some((_, from)) = received {
+            self.from = from;
+        }
         if let Some(recorder) = &mut self.recording.recorder
             && let Some((n, from)) = received
             && let Some(bytes) = into.get(..n)

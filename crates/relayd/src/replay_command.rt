@@ -8,26 +8,38 @@ use std::io::{self, BufRead, BufReader, BufWriter, Write};
 use std::rt::Files;
 use streams::Output;
 
+/// What is replayed.
+#[derive(Clone, Copy)]
+pub(crate) struct ReplayOptions<'a> {
+    /// The file of the events; `-` is standard input.
+    pub(crate) events: &'a str,
+    /// The first nonce.
+    pub(crate) nonce: &'a str,
+    /// Whether the reason of each answer is printed.
+    pub(crate) why: bool,
+}
+
 /// Replays the events of a reader, prints the answers and flushes them.
 /// See docs/DECISIONS.md, "Answers before a fault".
 fn play<'a, R: Print + AllocGlobal, B: BufRead + Drop>(
     rt: &R,
     relay: &mut Relay,
     reader: B,
-    path: &'a str,
+    replay: ReplayOptions<'a>,
 ) -> Result<(), CommandError<'a>> {
     let Ok(writer) = BufWriter::new(rt.alloc(), io::writer(rt)) else {
         return Err(CommandError::Memory);
     };
     let mut output = Output::new(writer);
-    let played = relay.replay(rt.alloc(), &mut streams::Input::new(reader), &mut output);
+    let mut input = streams::Input::new(reader);
+    let played = relay.replay(rt.alloc(), &mut input, &mut output, replay.why);
     if output.has_failed() || output.flush().is_err() {
         return Err(CommandError::Output);
     }
     match played {
         Ok(()) => Ok(()),
         Err(ReplayError::Line(number)) => Err(CommandError::Line(number)),
-        Err(ReplayError::Read) => Err(CommandError::File(path)),
+        Err(ReplayError::Read) => Err(CommandError::File(replay.events)),
         Err(ReplayError::Write) => Err(CommandError::Output),
         Err(ReplayError::Memory) => Err(CommandError::Memory),
     }
@@ -37,10 +49,10 @@ fn play<'a, R: Print + AllocGlobal, B: BufRead + Drop>(
 /// See docs/DECISIONS.md, "Events from standard input".
 fn replay_events<'a, R: Files + Input + Print + AllocGlobal>(
     rt: &R,
-    events: &'a str,
-    nonce: &'a str,
+    replay: ReplayOptions<'a>,
     options: &Options<'a>,
 ) -> Result<(), CommandError<'a>> {
+    let ReplayOptions { events, nonce, .. } = replay;
     let relayed = Relayed {
         ip: options.relay_ip.unwrap_or(defaults::RELAY_IP).octets(),
         ip6: options.relay_ip6,
@@ -48,7 +60,7 @@ fn replay_events<'a, R: Files + Input + Print + AllocGlobal>(
     let mut relay = set_up(rt, options, nonce, relayed)?.relay;
     if events == "-" {
         return match BufReader::new(rt.alloc(), rt.reader()) {
-            Ok(reader) => play(rt, &mut relay, reader, events),
+            Ok(reader) => play(rt, &mut relay, reader, replay),
             Err(_) => Err(CommandError::Memory),
         };
     }
@@ -57,7 +69,7 @@ fn replay_events<'a, R: Files + Input + Print + AllocGlobal>(
         Err(error) => return Err(unread(&error, events)),
     };
     match BufReader::new(rt.alloc(), file) {
-        Ok(reader) => play(rt, &mut relay, reader, events),
+        Ok(reader) => play(rt, &mut relay, reader, replay),
         Err(_) => Err(CommandError::Memory),
     }
 }
@@ -66,11 +78,10 @@ fn replay_events<'a, R: Files + Input + Print + AllocGlobal>(
 pub(crate) fn replay<R: Files + Input + Print + AllocGlobal, E: Write>(
     rt: &R,
     err: &mut E,
-    events: &str,
-    nonce: &str,
+    replay: ReplayOptions<'_>,
     options: &Options<'_>,
 ) -> u8 {
-    match replay_events(rt, events, nonce, options) {
+    match replay_events(rt, replay, options) {
         Ok(()) => 0,
         Err(fault) => {
             let _ = writeln!(err, "{fault}");

@@ -6,9 +6,10 @@ use crate::error_lines::ErrorLines;
 use crate::filters::{filter_of, rules_of};
 use crate::metrics::{Metrics, MetricsFile};
 use crate::options::{CommandError, Relayed, set_up};
-use crate::recording::{RecordEnd, RecordedSockets, Recording};
+use crate::recording::{NOWHERE, RecordEnd, RecordedSockets, Recording};
 use crate::replacing::Sides;
 use crate::replacing_users::UserList;
+use crate::server_log::{EndReason, Sender, ServerLog};
 use crate::sockets::{Addresses, BindError, Endpoints, Sockets};
 use crate::udp::SocketOptions;
 use command_line::{Options, ServerOptions, defaults, relayed_ip, relayed_ip6};
@@ -18,7 +19,7 @@ use peer_filter::Rule;
 use rand::make_rng;
 use rand::rngs::StdRng;
 use rand_core::Rng;
-use relay::Relay;
+use relay::{Disposition, Relay};
 use serving::{Endpoint, draw_nonce, serve_once};
 use std::alloc::Global;
 use std::fs::File;
@@ -60,6 +61,7 @@ struct Server<'a> {
     faults: Timer,
     stats: Option<Timer>,
     metrics: Option<MetricsFile<'a>>,
+    log: Option<ServerLog>,
     /// Whether several datagrams had come at the endpoint that was served last.
     is_busy: bool,
 }
@@ -174,6 +176,60 @@ impl<'a> Server<'a> {
         }
     }
 
+    /// Looks for other programs and users.
+    fn look_at_files<R: Files + Clock + AllocGlobal, E: Write>(&mut self, rt: &R, err: &mut E) {
+        self.sides.look(rt, err);
+        self.log_ends(rt, EndReason::Expired);
+        if self.users.look(rt, err, &mut self.relay) {
+            self.log_ends(rt, EndReason::Users);
+            self.link.recording.end(err, RecordEnd::Users);
+        }
+    }
+
+    /// Logs the allocations that have ended for a reason, if there is a log.
+    fn log_ends<R: Clock>(&mut self, rt: &R, reason: EndReason) {
+        let now = self.moments.now(rt);
+        if let Some(log) = &mut self.log {
+            log.look(self.relay.tables(), now, reason);
+        }
+    }
+
+    /// Logs what the response to a client's request says, if there is one.
+    fn log_response(&mut self, disposition: Disposition) {
+        let now = self.link.now;
+        if let Some(log) = &mut self.log
+            && let Disposition::Answered(response) = disposition
+        {
+            let sender = Sender::of(self.link.from, self.relay.area());
+            log.answered(response, sender, self.relay.tables(), now);
+        }
+    }
+
+    /// Prints the log, if there is one; once a period the allocations that have ended too, and how many lines were left out.
+    fn tend_log<R: Clock, E: Write>(&mut self, rt: &R, err: &mut E, now: Duration) {
+        let is_due = match &mut self.log {
+            Some(log) => log.is_due(now),
+            None => false,
+        };
+        if is_due {
+            self.log_ends(rt, EndReason::Expired);
+        }
+        if let Some(log) = &mut self.log {
+            log.print(err);
+            if is_due {
+                log.begin(err);
+            }
+        }
+    }
+
+    /// Writes what was recorded, and prints what was logged.
+    fn flush<E: Write>(&mut self, err: &mut E) {
+        self.link.recording.flush(err);
+        if let Some(log) = &mut self.log {
+            log.print(err);
+        }
+    }
+
     /// Writes the metrics, if they are wanted.
     fn write_metrics<R: Files + Clock, E: Write>(&mut self, rt: &R, err: &mut E) {
         let now = self.moments.now(rt);
@@ -192,11 +248,9 @@ impl<'a> Server<'a> {
         if self.nonces.is_due(now) {
             self.renew_nonce();
         }
+        self.tend_log(rt, err, now);
         if self.files.is_due(now) {
-            self.sides.look(rt, err);
-            if self.users.look(rt, err, &mut self.relay) {
-                self.link.recording.end(err, RecordEnd::Users);
-            }
+            self.look_at_files(rt, err);
         }
         self.verify(rt, err, now);
         if self.link.sockets.has_faults() && self.faults.is_due(now) {
@@ -219,7 +273,11 @@ impl<'a> Server<'a> {
     fn longest_wait(&self) -> Option<Duration> {
         let has_files = self.sides.has_files() || self.users.has_file();
         let has_reports = self.stats.is_some() || self.metrics.is_some();
-        if has_files || has_reports || self.link.sockets.has_faults() {
+        let is_logging = match &self.log {
+            Some(log) => log.is_waiting(),
+            None => false,
+        };
+        if has_files || has_reports || is_logging || self.link.sockets.has_faults() {
             Some(Duration::from_secs(PERIOD))
         } else {
             None
@@ -235,7 +293,10 @@ impl<'a> Server<'a> {
         let (now, transaction_id) = (link.now, link.transaction_id);
         match serve_once(relay, link, endpoint, now, transaction_id) {
             Ok(None) => return false,
-            Ok(Some(disposition)) => link.sockets.count_turn(Ok(disposition)),
+            Ok(Some(disposition)) => {
+                link.sockets.count_turn(Ok(disposition));
+                self.log_response(disposition);
+            }
             Err(fault) => link.sockets.count_turn(Err(fault)),
         }
         self.link.draw_id(&mut self.rng);
@@ -263,7 +324,7 @@ impl<'a> Server<'a> {
             self.round(rt);
             self.tend(rt, err);
         }
-        self.link.recording.flush(err);
+        self.flush(err);
         if self.link.sockets.has_faults() {
             self.link.sockets.report_faults(err);
         }
@@ -338,7 +399,7 @@ impl<'a> Server<'a> {
             } else {
                 Some(Duration::ZERO)
             };
-            self.link.recording.flush(err);
+            self.flush(err);
             waiting.wait(wait)?;
             self.tend(rt, err);
             waiting.schedule.begin();
@@ -475,6 +536,45 @@ fn metrics_file<'a>(
     }
 }
 
+/// Returns the log, if one is wanted.
+fn log_of(
+    alloc: Global,
+    server_options: &ServerOptions<'_>,
+    options: &Options<'_>,
+    now: Duration,
+) -> Result<Option<ServerLog>, CommandError<'static>> {
+    if !server_options.log {
+        return Ok(None);
+    }
+    match ServerLog::new(alloc, options.slots, options.first_port, now) {
+        Ok(log) => Ok(Some(log)),
+        Err(_) => Err(CommandError::Memory),
+    }
+}
+
+/// Binds the sockets of a server, seeds its generator, and begins its recording, in this order.
+fn link_of<'a, R: Files<File = File> + Net + RandomSource + AllocGlobal>(
+    rt: &R,
+    server_options: &ServerOptions<'a>,
+    options: &Options<'_>,
+    relayed: [u8; 4],
+    rules: &[Rule],
+) -> Result<(RecordedSockets<'a>, StdRng), CommandError<'a>> {
+    let addresses = addresses_of(server_options, options);
+    let sockets = bind_sockets(rt, addresses, relayed, rules)?;
+    let mut rng: StdRng = make_rng(rt).map_err(|_| CommandError::Random)?;
+    let mut transaction_id = [0; 12];
+    rng.fill_bytes(&mut transaction_id);
+    let link = RecordedSockets {
+        sockets,
+        recording: Recording::begin(rt, server_options.record)?,
+        now: 0,
+        transaction_id,
+        from: NOWHERE,
+    };
+    Ok((link, rng))
+}
+
 /// Sets up a server: its relay, and then its sockets, all of which are bound.
 fn start<'a, R: Files<File = File> + Net + Clock + RandomSource + AllocGlobal>(
     rt: &R,
@@ -486,24 +586,16 @@ fn start<'a, R: Files<File = File> + Net + Clock + RandomSource + AllocGlobal>(
     let Relayed { ip, ip6 } = relayed;
     let set = set_up(rt, options, defaults::NONCE, relayed)?;
     check_reachable(ip, ip6)?;
-    let sockets = bind_sockets(rt, addresses_of(server_options, options), ip, rules)?;
-    let mut rng: StdRng = make_rng(rt).map_err(|_| CommandError::Random)?;
-    let mut transaction_id = [0; 12];
-    rng.fill_bytes(&mut transaction_id);
-    let recording = Recording::begin(rt, server_options.record)?;
+    let (link, rng) = link_of(rt, server_options, options, ip, rules)?;
     let now = elapsed(rt);
     let period = Duration::from_secs(PERIOD);
     let metrics = metrics_file(rt.alloc(), server_options, options, now)?;
+    let log = log_of(rt.alloc(), server_options, options, now)?;
     let mut server = Server {
         relay: set.relay,
         relayed: ip,
         relayed6: ip6,
-        link: RecordedSockets {
-            sockets,
-            recording,
-            now: 0,
-            transaction_id,
-        },
+        link,
         sides: Sides::new(options, set.programs),
         users: UserList::new(options, set.users),
         rng,
@@ -515,6 +607,7 @@ fn start<'a, R: Files<File = File> + Net + Clock + RandomSource + AllocGlobal>(
             .stats
             .map(|seconds| Timer::new(now, Duration::from_secs(seconds))),
         metrics,
+        log,
         is_busy: false,
     };
     server.renew_nonce();

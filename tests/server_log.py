@@ -1,0 +1,190 @@
+"""Runs the built relayd's `serve --log`: what it prints of allocations that are made and that end, and of refused credentials.
+
+Lines of sessions, of names that are no plain text, of users that are replaced, of lifetimes that pass (by clocks that are set, which
+needs gcc), and of more than a second may have.
+"""
+
+import contextlib
+import pathlib
+import random
+import shutil
+import sys
+import tempfile
+import time
+
+from clock import MONOTONIC, REAL, SECOND, WHOLE, Clocks
+from lib.program import PASSED_OVER, run_parts
+from lib.rules import ALLOCATE, LIFETIME, NONCE, REALM, REFRESH, USERNAME, message
+from lib.server import PERIOD, UDP, Client, Server, code_of, put, wanted
+
+# the lines that a second may have, and the requests of a burst
+MOST, BURST = 100, 160
+# a name, and how it is shown
+NAMES = [
+    ("ann", '"ann"'),
+    ('a "b" \\c\'', '"a \\"b\\" \\\\c\\\'"'),
+    ("a\nb\x1b[0m\x7f", '"a\\nb\\x1b[0m\\x7f"'),
+    ("é", '"\\xc3\\xa9"'),
+    ("x" * 130, f'"{"x" * 128}"'),
+]
+
+
+def port_of(client):
+    return client.socket.getsockname()[1]
+
+
+def made(server, client, name="u", slot=0, lifetime=600):
+    """The line of an allocation that is made."""
+    return (f'allocation made: client 127.0.0.1:{port_of(client)}, user "{name}", slot {slot}, port {server.first_port + slot}, '
+            f"lifetime {lifetime}\n")
+
+
+def ended(server, client, reason, name="u", slot=0):
+    """The line of an allocation that ends."""
+    return (f'allocation ended: client 127.0.0.1:{port_of(client)}, user "{name}", slot {slot}, port {server.first_port + slot}, '
+            f"{reason}\n")
+
+
+def refused(client, shown, reason):
+    """The line of credentials that are refused."""
+    return f"credentials refused: client 127.0.0.1:{port_of(client)}, user {shown}, {reason}\n"
+
+
+def printed_is(server, what, lines):
+    """Yields what was printed, once it has as many lines, in place of these."""
+    text = "".join(lines)
+    server.awaited("\n", text.count("\n"))
+    yield from wanted(what, server.printed(), text)
+
+
+# ---- sessions
+
+def sessions():
+    """Yields what is otherwise in the lines of sessions."""
+    users = ["--user", "u:p", "--user", "v:q"]
+    with Server("--log", users=users) as server, Client(server) as client, Client(server, "v", "q") as other:
+        lines = []
+        client.challenge()
+        transaction_id = random.randbytes(12)
+        request = message(ALLOCATE, transaction_id, [UDP, (USERNAME, b"u"), (REALM, b"relay"), (NONCE, client.nonce)], client.key)
+        # a request that comes twice is granted twice, for one allocation
+        for _ in range(2):
+            client.send(request)
+            client.receive()
+        other.allocate((LIFETIME, bytes([0, 0, 8, 0])))
+        lines += [made(server, client), made(server, other, "v", 1, 2048)]
+        # one that is refreshed goes on, and a second one of its client is refused
+        yield from wanted("a refresh", code_of(client.signed(REFRESH, [])), 0)
+        yield from wanted("a second allocation", code_of(client.signed(ALLOCATE, [UDP])), 437)
+        yield from wanted("the end", code_of(client.signed(REFRESH, [(LIFETIME, bytes(4))])), 0)
+        lines.append(ended(server, client, "refreshed to 0"))
+        yield from wanted("the end of none", code_of(client.signed(REFRESH, [(LIFETIME, bytes(4))])), 437)
+        yield from wanted("another allocation", code_of(client.allocate()), 0)
+        lines.append(made(server, client))
+        yield from printed_is(server, "the lines of sessions", lines)
+    with Server(users=users) as server, Client(server) as client:
+        client.allocate()
+        client.signed(REFRESH, [(LIFETIME, bytes(4))])
+        client.name = b"w"
+        client.signed(REFRESH, [])
+        yield from wanted("without --log", server.printed(), "")
+
+
+def credentials():
+    """Yields what is otherwise in the lines of credentials that are refused."""
+    with Server("--log", "--user", "v:q") as server, Client(server) as client, Client(server, "u", "wrong") as guesser:
+        lines = []
+        # what a session begins with isn't refused: a request without credentials, and one with an old nonce
+        client.challenge()
+        nonce, client.nonce = client.nonce, b"old"
+        yield from wanted("an old nonce", code_of(client.signed(ALLOCATE, [UDP])), 438)
+        client.nonce = nonce
+        guesser.challenge()
+        yield from wanted("a wrong password", code_of(guesser.signed(ALLOCATE, [UDP])), 401)
+        lines.append(refused(guesser, '"u"', "wrong password"))
+        yield from wanted("no nonce", code_of(client.ask(ALLOCATE, [UDP, (USERNAME, b"u"), (REALM, b"relay")], client.key)), 400)
+        lines.append(refused(client, '"u"', "incomplete credentials"))
+        yield from wanted("an allocation", code_of(client.allocate()), 0)
+        lines.append(made(server, client))
+        with Client(server, "v", "q") as other:
+            other.socket.close()
+            other.socket, other.nonce = client.socket.dup(), client.nonce
+            yield from wanted("another user", code_of(other.signed(REFRESH, [])), 441)
+            lines.append(refused(client, '"v"', "another user's allocation"))
+        for name, shown in NAMES:
+            with Client(server, name, "p") as stranger:
+                stranger.challenge()
+                yield from wanted(f"the user {name!r}", code_of(stranger.signed(ALLOCATE, [UDP])), 401)
+                lines.append(refused(stranger, shown, "unknown user"))
+        yield from printed_is(server, "the lines of refused credentials", lines)
+
+
+def replaced_users():
+    """Yields what is otherwise where users are replaced: the allocations of those that are gone end."""
+    with tempfile.TemporaryDirectory() as folder, contextlib.ExitStack() as stack:
+        users = pathlib.Path(folder) / "users"
+        put(users, b"ann:a\nbob:b\n")
+        server = stack.enter_context(Server("--users", str(users), "--log", users=()))
+        ann, bob = (stack.enter_context(Client(server, name, name[0])) for name in ("ann", "bob"))
+        lines = []
+        for slot, client in enumerate((ann, bob)):
+            client.allocate()
+            lines.append(made(server, client, client.name.decode(), slot))
+        put(users, b"bob:b\ncarl:c\n")
+        lines += ["users replaced, 2 users\n", ended(server, ann, "its user was replaced", "ann")]
+        yield from printed_is(server, "the lines of replaced users", lines)
+
+
+def lifetimes():
+    """Yields what is otherwise where a lifetime passes."""
+    if not shutil.which("gcc"):
+        PASSED_OVER.append("lifetimes that pass (no gcc)")
+        return
+    with tempfile.TemporaryDirectory() as name:
+        clocks = Clocks(pathlib.Path(name))
+        clocks.set(REAL, MONOTONIC)
+        with Server("--log", env=clocks.environment) as server, Client(server) as client:
+            client.allocate()
+            # a server waits no longer than a second while an allocation may end, and looks once a second
+            clocks.become(server, WHOLE + 599 * SECOND)
+            time.sleep(1.5 * PERIOD)
+            yield from printed_is(server, "before the end of a lifetime", [made(server, client)])
+            clocks.become(server, WHOLE + 600 * SECOND)
+            yield from printed_is(server, "after the end of a lifetime", [made(server, client), ended(server, client, "expired")])
+            # one that ended unseen, since the next request came first, ends before that of the request is made
+            client.allocate()
+            clocks.become(server, WHOLE + 1200 * SECOND)
+            client.allocate()
+            again = [made(server, client), ended(server, client, "expired")] * 2 + [made(server, client)]
+            yield from printed_is(server, "after another one", again)
+
+
+# ---- many lines
+
+def bursts():
+    """Yields what is otherwise where a second has more lines than it may: the others are counted."""
+    with Server("--log", slots=1) as server, Client(server, "u", "wrong") as client:
+        client.challenge()
+        with server.stopped():
+            for _ in range(BURST):
+                given = [UDP, (USERNAME, b"u"), (REALM, b"relay"), (NONCE, client.nonce)]
+                client.send(message(ALLOCATE, random.randbytes(12), given, client.key))
+        for _ in range(BURST):
+            client.receive()
+        end = f"{BURST - MOST} lines of the log left out\n"
+        server.awaited(end)
+        line = refused(client, '"u"', "wrong password")
+        yield from wanted("a burst", server.printed(), line * MOST + end)
+        # the next second has as many again
+        client.signed(ALLOCATE, [UDP])
+        server.awaited("wrong password", MOST + 1)
+        yield from wanted("after a burst", server.printed(), line * MOST + end + line)
+
+
+def main():
+    """Runs every part, and returns the exit status."""
+    return run_parts("the log of a server", [sessions, credentials, replaced_users, lifetimes, bursts])
+
+
+if __name__ == "__main__":
+    sys.exit(main())
