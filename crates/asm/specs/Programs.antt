@@ -1,10 +1,10 @@
 -- Meaning. The instructions that a text names, and why a text names none, with the texts of these refusals.
-use Rattle.std.specs.Prelude.{◌≡◌, ℕ, ◌+◌, ◌≤◌, ◌<◌, true, ◌⊎◌, ℤ, pos, ◌-ℤ◌, List, [], ◌∷◌, ◌++◌, length, codes, decimal, bytes_eq, Option, Some, None, is_some, option_map, option_and_then, if◌then◌else◌}
+use Rattle.std.specs.Prelude.{◌≡◌, ℕ, ◌+◌, ◌≤◌, ◌<◌, true, ◌⊎◌, pos, ◌-ℤ◌, List, [], ◌∷◌, ◌++◌, length, codes, decimal, bytes_eq, Option, Some, None, is_some, option_map, option_and_then, if◌then◌else◌}
 use Rattle.std.specs.List.{AllZip, AllByRecursion}
 use Rattle.insn.specs.Encoding.{slots_of, Fits, slot_count, encodings}
+use Rattle.insn.specs.Jumps.{with_distance}
 use Rattle.insn.specs.declared.decoding.TheConstants.{MAX_SLOTS}
 use Rattle.insn.specs.declared.instruction.Insn.{Insn}
-use Rattle.insn.specs.declared.instruction.Insn.TheVariants.{Jump, LongJump, JumpIf}
 use Rattle.asm.specs.Lines.{Token, lines_of, HasTokens}
 use Rattle.asm.specs.Statements.{Name, Statement, Labelled, Instruction, Says}
 use Rattle.asm.specs.declared.refusal.AsmError.{AsmError}
@@ -62,13 +62,6 @@ slot_from slot (Some (Instruction i target) ∷ more) name = slot_from (slot + s
 
 abbrev pub slot_of_label : List (Option Statement) → Name → Option ℕ
 slot_of_label said name = slot_from 0 said name
-
--- a jump with its distance
-abbrev pub with_distance : Insn → ℤ → Insn
-with_distance (Jump d) distance = Jump distance
-with_distance (LongJump d) distance = LongJump distance
-with_distance (JumpIf width c dst o d) distance = JumpIf width c dst o distance
-with_distance i distance = i
 
 -- a distance counts from the slot after the jump
 abbrev pub linked_one : (Name → Option ℕ) → ℕ → Insn → Option Name → Option Insn

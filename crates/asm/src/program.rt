@@ -3,7 +3,7 @@
 ghost use Rattle.std.specs.Prelude.{◌≡◌, ◌∷◌, ◌≤◌, ◌⊎◌, List, ℕ, Option, option_map, length, IfOk, IfErr, MatchResult, IsErrAnd};
 ghost use Rattle.asm.specs.Lines.{lines_of};
 ghost use Rattle.asm.specs.Statements.{Statement};
-ghost use Rattle.asm.specs.Programs.{slots_in, slot_of_label, with_distance, linked_one, Names, IsAssembled, IsRefusedText};
+ghost use Rattle.asm.specs.Programs.{slots_in, slot_of_label, linked_one, Names, IsAssembled, IsRefusedText};
 ghost use Rattle.asm.specs.declared.refusal.AsmError.TheVariants.{Memory};
 ghost use Rattle.insn.specs.Encoding.{slot_count, encodings, AllFit};
 ghost use Rattle.insn.specs.Spelling.{listing};
@@ -65,32 +65,6 @@ fn labels<'a>(alloc: Global, text: &'a str) -> Result<Table<'a>, AsmError>
     Ok(table)
 }
 
-/// Returns a jump with this distance in place of its own. Any other instruction stays as it is.
-fn with_distance(insn: Insn, distance: i16) -> Insn
-    ensures { result ≡ with_distance insn distance }
-{
-    match insn {
-        Insn::Jump { .. } => Insn::Jump { offset: distance },
-        Insn::LongJump { .. } => Insn::LongJump {
-            offset: i32::from(distance),
-        },
-        Insn::JumpIf {
-            width,
-            condition,
-            dst,
-            operand,
-            ..
-        } => Insn::JumpIf {
-            width,
-            condition,
-            dst,
-            operand,
-            offset: distance,
-        },
-        other => other,
-    }
-}
-
 /// Returns the instruction at a slot with the distance to its label, if it names one; `None` where the table lacks
 /// the label.
 fn linked(table: &Table<'_>, insn: Insn, label: Option<&[u8]>, slot: usize) -> Option<Insn>
@@ -103,7 +77,7 @@ fn linked(table: &Table<'_>, insn: Insn, label: Option<&[u8]>, slot: usize) -> O
         return Some(insn);
     };
     let target = *table.label_slots.get(name)?;
-    Some(with_distance(insn, target as i16 - (slot + 1) as i16))
+    Some(insn.with_distance(target as i16 - (slot + 1) as i16))
 }
 
 /// Returns the instructions of a text whose lines have no fault, with the distances of the jumps to labels.

@@ -4,6 +4,7 @@ pub mod Codes
 pub mod Opcode
 pub mod Fields
 pub mod Encoding
+pub mod Jumps
 pub mod Spelling
 pub mod Refusal
 pub mod Forms

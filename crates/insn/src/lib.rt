@@ -6,6 +6,7 @@ mod decoding;
 mod encoding;
 mod fields;
 mod instruction;
+mod jump;
 mod opcode;
 mod operator;
 mod refusal;

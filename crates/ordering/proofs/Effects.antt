@@ -2,6 +2,7 @@
 use Rattle.std.proofs.Common.{◌≡◌, Bool, true, false, ℤ, List, Some, None, Result, Ok, Err, refl, inl, inr}
 use Rattle.std.specs.Prelude.{IfOk, if◌then◌else◌}
 use Rattle.std.specs.Option.{ok_or}
+use Rattle.insn.specs.Jumps.{with_distance}
 use Rattle.insn.specs.Words.{target_of}
 use Rattle.insn.specs.declared.instruction.Insn.{Insn}
 use Rattle.insn.specs.declared.instruction.Insn.TheVariants as insn
@@ -37,7 +38,6 @@ use Rattle.semantics.specs.declared.value.Value.{Value}
 use Rattle.semantics.specs.declared.value.Value.TheVariants as value
 use Rattle.std.specs.Prelude.{◌+ℤ◌, pos}
 use Rattle.ordering.specs.Orders.{IsOneOf}
-use Rattle.ordering.specs.Tails.{redirected}
 
 -- ---- an effect is that of a branch
 
@@ -137,7 +137,7 @@ other_branch : (taken : Bool) (offset d : ℤ) → ◌≡◌ {A = Result Effect 
 other_branch true offset d = refl
 other_branch false offset d = refl
 
-pub moved_effect : (context : Context) (m : Memory) (registers : List Value) (i : Insn) (d : ℤ) → effect context m registers (redirected i d) ≡ redistanced d (effect context m registers i)
+pub moved_effect : (context : Context) (m : Memory) (registers : List Value) (i : Insn) (d : ℤ) → effect context m registers (with_distance i d) ≡ redistanced d (effect context m registers i)
 moved_effect context m registers (insn.Jump offset) d = refl
 moved_effect context m registers (insn.LongJump offset) d = refl
 moved_effect context m registers (insn.JumpIf w condition dst o offset) d =

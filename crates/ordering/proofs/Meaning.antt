@@ -2,6 +2,7 @@
 use Rattle.std.proofs.Common.{◌≡◌, ℕ, ◌+◌, ◌-◌, ℤ, pos, List, [], ◌∷◌, Option, Some, None, Result, Ok, Err, refl, sym, ap, ◌∙◌, subst, inl, inr, arith}
 use Rattle.std.specs.Prelude.{IfOk}
 use Rattle.insn.specs.Encoding.{slots_of, slot_count}
+use Rattle.insn.specs.Jumps.{with_distance}
 use Rattle.insn.specs.declared.instruction.Insn.{Insn}
 use Rattle.insn.specs.declared.instruction.Insn.TheVariants as insn
 use Rattle.insn.specs.Codes.{byte_count}
@@ -21,7 +22,7 @@ use Rattle.semantics.specs.declared.fetching.Fetched.TheVariants.{Begins, Inside
 use Rattle.semantics.specs.declared.fetching.Branch.{Branch}
 use Rattle.semantics.specs.declared.fetching.Branch.TheVariants.{NotTaken, Taken}
 use Rattle.ordering.specs.Orders.{any_target, next_landing, any_flow_slot, IsOneOf, LeadsBy, IsPath, FallsTo, IsEntered, free_step_by_effect, free_step_of_fetched, free_step, moved, GoesTo, GoesOverJump, KeepsStep, KeepsMeaning}
-use Rattle.ordering.specs.Tails.{BeginsBack, redirected}
+use Rattle.ordering.specs.Tails.{BeginsBack}
 use Rattle.ordering.specs.Searches.{mark_at, LeadsToPlace, JumpsTo, IsPlaced, IsOrdered}
 use Rattle.ordering.specs.declared.search.Mark.{Mark}
 use Rattle.ordering.specs.declared.search.Mark.TheVariants.{Unseen, Open, Placed}
@@ -123,7 +124,7 @@ module _ (code new : List Insn) (marks : List Mark) (ordered : IsOrdered code ma
     there = moved place s
 
     abbrev with_other : Insn
-    with_other = redirected p.insn p.distance
+    with_other = with_distance p.insn p.distance
 
     abbrev Kept : StepResult → Type 0
     Kept (Goes next) = GoesTo w new there (moved place next)

@@ -3,6 +3,7 @@ use Rattle.std.proofs.Common.{◌≡◌, ℕ, ◌+◌, ◌-◌, ◌≤◌, Bool,
 use Rattle.std.specs.Prelude.{◌==◌, if◌then◌else◌}
 use Rattle.std.proofs.lemmas.Bool.{eqb-true}
 use Rattle.insn.specs.Encoding.{slots_of, slot_count}
+use Rattle.insn.specs.Jumps.{with_distance}
 use Rattle.insn.specs.declared.instruction.Insn.{Insn}
 use Rattle.insn.specs.declared.instruction.Insn.TheVariants as insn
 use Rattle.semantics.specs.Flow.{Flow, Straight, Jumps, Forks, flow_of, flow_distance, flow_branches, branches}
@@ -13,7 +14,7 @@ use Rattle.semantics.specs.declared.fetching.Branch.TheVariants.{NotTaken, Taken
 use Rattle.semantics.specs.declared.fetching.Visit.{Visit}
 use Rattle.ordering.specs.Orders.{IsOneOf}
 use Rattle.ordering.specs.BranchTargets.{IsVisit}
-use Rattle.ordering.specs.Tails.{fetch_back, BeginsBack, redirected, bridged, jump_to, put_before, BeginsAt, HasPlace}
+use Rattle.ordering.specs.Tails.{fetch_back, BeginsBack, bridged, jump_to, put_before, BeginsAt, HasPlace}
 use Rattle.ordering.specs.Searches.{mark_at, LeadsToPlace, JumpsTo, ArrivesAt, TakesTo, FallsOnTo, IsPlaced, ArePlaced, LooksAt}
 use Rattle.ordering.specs.declared.search.Mark.{Mark}
 use Rattle.ordering.specs.declared.search.Mark.TheVariants.{Placed}
@@ -66,7 +67,7 @@ module _ (code : List Insn) (marks new_marks : List Mark) (keeps : Keeps marks n
 
 -- an instruction begins at a place
 pub placed_begins : (code : List Insn) (marks : List Mark) (rest : List Insn) (slot n : ℕ) → IsPlaced code marks rest slot n → BeginsBack rest n
-placed_begins code marks rest slot n p = record { inside = p.inside; insn = redirected p.insn p.distance; begins = p.there }
+placed_begins code marks rest slot n p = record { inside = p.inside; insn = with_distance p.insn p.distance; begins = p.there }
 
 no_distance : (f : Flow) → (IsOneOf (flow_branches f) Taken → ⊥) → flow_distance f ≡ None
 no_distance Straight h = refl
@@ -130,13 +131,13 @@ distance_by mid (Some place) = pos (slot_count mid - place)
 distance_is_not_none : (d : ℤ) → ◌≡◌ {A = Option ℤ} (Some d) None → ⊥
 distance_is_not_none d e = absurd cc
 
-pub no_jump_same : (i : Insn) (d : ℤ) → flow_distance (flow_of i) ≡ None → redirected i d ≡ i
+pub no_jump_same : (i : Insn) (d : ℤ) → flow_distance (flow_of i) ≡ None → with_distance i d ≡ i
 no_jump_same (insn.Jump offset) d e = absurd (distance_is_not_none offset e)
 no_jump_same (insn.LongJump offset) d e = absurd (distance_is_not_none offset e)
 no_jump_same (insn.JumpIf w c dst o offset) d e = absurd (distance_is_not_none offset e)
 no_jump_same i d e = refl
 
-pub same_slots : (i : Insn) (d : ℤ) → slots_of (redirected i d) ≡ slots_of i
+pub same_slots : (i : Insn) (d : ℤ) → slots_of (with_distance i d) ≡ slots_of i
 same_slots (insn.LoadImm dst n) d = refl
 same_slots i d = refl
 
@@ -152,7 +153,7 @@ pub taken_slots : (i : Insn) → IsOneOf (branches i) Taken → slots_of i ≡ 1
 taken_slots i b = let jump = taken_distance (flow_of i) b in jump_slots i jump.0 jump.1
 
 module _ (code : List Insn) (marks new_marks : List Mark) (rest : List Insn) (at : Visit) (keeps : Keeps marks new_marks) (placed : ArePlaced code marks rest) where
-  moved_is : (mid : List Insn) (taken : Option ℕ) → LooksAt code marks at Taken (Known taken) → jump_to mid at.insn taken ≡ redirected at.insn (distance_by mid taken)
+  moved_is : (mid : List Insn) (taken : Option ℕ) → LooksAt code marks at Taken (Known taken) → jump_to mid at.insn taken ≡ with_distance at.insn (distance_by mid taken)
   unfolding distance_by
   moved_is mid None h = sym (no_jump_same at.insn (pos 0) (no_distance (flow_of at.insn) h))
   moved_is mid (Some place) l = refl
@@ -189,7 +190,7 @@ module _ (code : List Insn) (marks new_marks : List Mark) (rest : List Insn) (at
       let mid : List Insn = bridged rest next in
       let moved : Insn = jump_to mid at.insn taken in
       let bridge : Bridges rest mid next = bridges rest next (next_place code marks rest at placed next look_next) in
-      let is : moved ≡ redirected at.insn (distance_by mid taken) = moved_is mid taken look in
+      let is : moved ≡ with_distance at.insn (distance_by mid taken) = moved_is mid taken look in
       let count : slots_of moved + slot_count mid ≡ slots_of at.insn + slot_count mid = ap (λ (i : Insn). slots_of i + slot_count mid) is ∙ ap (λ (k : ℕ). k + slot_count mid) (same_slots at.insn (distance_by mid taken)) in
       record {
         insn = at.insn;

@@ -2,6 +2,7 @@
 use Rattle.std.specs.Prelude.{◌≡◌, ℕ, ◌+◌, ◌≤◌, ℤ, pos, ◌⊎◌, List, [], ◌∷◌, length, Some, None, Ok, slice_index_or, reverse}
 use Rattle.std.specs.List.{sum_by}
 use Rattle.insn.specs.Encoding.{slots_of, slot_count}
+use Rattle.insn.specs.Jumps.{with_distance}
 use Rattle.insn.specs.declared.decoding.TheConstants.{MAX_SLOTS}
 use Rattle.insn.specs.declared.instruction.Insn.{Insn}
 use Rattle.insn.specs.declared.instruction.Insn.TheVariants as insn
@@ -14,7 +15,7 @@ use Rattle.semantics.specs.declared.fetching.Branch.TheVariants.{NotTaken, Taken
 use Rattle.semantics.specs.declared.fetching.Visit.{Visit}
 use Rattle.ordering.specs.Orders.{IsOneOf, LeadsBy, Leads}
 use Rattle.ordering.specs.BranchTargets.{IsVisit}
-use Rattle.ordering.specs.Tails.{tail_list, fetch_back, redirected, IsTail}
+use Rattle.ordering.specs.Tails.{tail_list, fetch_back, IsTail}
 use Rattle.ordering.specs.declared.search.Mark.{Mark}
 use Rattle.ordering.specs.declared.search.Mark.TheVariants.{Unseen, Open, Placed}
 use Rattle.ordering.specs.declared.search.Look.{Look}
@@ -66,7 +67,7 @@ pub record IsPlaced (code : List Insn) (marks : List Mark) (rest : List Insn) (s
   pub here : fetch code slot ≡ Begins insn
   pub inside : n ≤ slot_count rest
   pub distance : ℤ
-  pub there : fetch_back rest n ≡ Begins (redirected insn distance)
+  pub there : fetch_back rest n ≡ Begins (with_distance insn distance)
   pub taken : IsOneOf (branches insn) Taken → TakesTo code marks slot insn n distance
   pub next : IsOneOf (branches insn) NotTaken → FallsOnTo code marks rest slot insn n
 

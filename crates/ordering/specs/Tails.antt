@@ -1,6 +1,7 @@
 -- Internal. The instructions that were placed so far: the last ones of the new program.
 use Rattle.std.specs.Prelude.{◌≡◌, ◌==◌, ℕ, ◌+◌, ◌-◌, ◌<◌, ◌≤◌, ℤ, pos, List, ◌∷◌, Option, Some, None, if◌then◌else◌, reverse}
 use Rattle.insn.specs.Encoding.{slot_count, AllFit}
+use Rattle.insn.specs.Jumps.{with_distance}
 use Rattle.insn.specs.declared.decoding.TheConstants.{MAX_SLOTS}
 use Rattle.insn.specs.declared.instruction.Insn.{Insn}
 use Rattle.insn.specs.declared.instruction.Insn.TheVariants as insn
@@ -55,13 +56,6 @@ IsNoRoom needed errors.Memory = Unit {0}
 abbrev pub LandsBefore : List Insn → Insn → Type 0
 LandsBefore rest i = (distance : ℤ) → flow_distance (flow_of i) ≡ Some distance → LandsBack rest (slot_count rest + 1) distance
 
--- an instruction, with a distance in place of its own if it is a jump
-abbrev pub redirected : Insn → ℤ → Insn
-redirected (insn.Jump offset) distance = insn.Jump distance
-redirected (insn.LongJump offset) distance = insn.LongJump distance
-redirected (insn.JumpIf w c dst o offset) distance = insn.JumpIf w c dst o distance
-redirected i distance = i
-
 -- a jump to a place, unless the place is the first one
 abbrev pub bridge_to : List Insn → ℕ → List Insn
 bridge_to rest place = if place == slot_count rest then rest else (insn.Jump (pos (slot_count rest - place)) ∷ rest)
@@ -72,7 +66,7 @@ bridged rest (Some place) = bridge_to rest place
 
 abbrev pub jump_to : List Insn → Insn → Option ℕ → Insn
 jump_to rest i None = i
-jump_to rest i (Some place) = redirected i (pos (slot_count rest - place))
+jump_to rest i (Some place) = with_distance i (pos (slot_count rest - place))
 
 -- an instruction whose taken branch and whose fall-through lead to places, if it has them
 abbrev pub put_before : List Insn → Insn → Option ℕ → Option ℕ → List Insn

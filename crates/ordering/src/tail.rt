@@ -2,7 +2,7 @@
 
 ghost use Rattle.std.specs.Prelude.{◌≡◌, ◌+◌, ◌∷◌, [], OnOk, IfOk, IfErr};
 ghost use Rattle.insn.specs.Encoding.{Fits, slots_of, slot_count};
-ghost use Rattle.ordering.specs.Tails.{tail_list, IsTail, IsNoRoom, LandsBefore, BeginsBack, BeginsAt, HasPlace, redirected, bridge_to, bridged, jump_to, put_before};
+ghost use Rattle.ordering.specs.Tails.{tail_list, IsTail, IsNoRoom, LandsBefore, BeginsBack, BeginsAt, HasPlace, bridge_to, bridged, jump_to, put_before};
 
 use crate::error::OrderError;
 use insn::{Insn, MAX_SLOTS};
@@ -14,33 +14,6 @@ use std::alloc::Global;
 pub(crate) struct Tail {
     back: Vec<Insn>,
     slots: usize,
-}
-
-/// Returns an instruction, with another distance if it is a jump.
-fn redirected(insn: Insn, distance: i16) -> Insn
-    ensures value { result ≡ redirected insn distance }
-    ensures fits { Fits insn → Fits result }
-{
-    match insn {
-        Insn::Jump { .. } => Insn::Jump { offset: distance },
-        Insn::LongJump { .. } => Insn::LongJump {
-            offset: i32::from(distance),
-        },
-        Insn::JumpIf {
-            width,
-            condition,
-            dst,
-            operand,
-            ..
-        } => Insn::JumpIf {
-            width,
-            condition,
-            dst,
-            operand,
-            offset: distance,
-        },
-        _ => insn,
-    }
 }
 
 impl Tail {
@@ -124,7 +97,7 @@ impl Tail {
         ensures err { IfErr result (IsNoRoom (slot_count (tail_list self.old) + slots_of insn)) }
     {
         match taken {
-            Some(place) => self.prepend(redirected(insn, (self.slots - place) as i16)),
+            Some(place) => self.prepend(insn.with_distance((self.slots - place) as i16)),
             None => self.prepend(insn),
         }
     }
