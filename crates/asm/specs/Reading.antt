@@ -288,12 +288,15 @@ jump_if width c ts = do
   Some (Instruction (insn.JumpIf width c dst.value o.value t.distance) t.label)
 
 -- a register and an address
-abbrev pub load_statement : (Reg → Reg → ℤ → Insn) → List Token → Option Statement
-load_statement make ts = do
+abbrev pub load_arguments : List Token → Option (Reg × MemoryOperand)
+load_arguments ts = do
   dst ← dst_comma ts
   at ← address dst.rest
   done ← end at.rest
-  Some (Instruction (make dst.value at.value.base at.value.displacement) None)
+  Some (dst.value, at.value)
+
+abbrev pub load_statement : (Reg → Reg → ℤ → Insn) → List Token → Option Statement
+load_statement make ts = option_map (λ a. Instruction (make a.0 a.1.base a.1.displacement) None) (load_arguments ts)
 
 abbrev pub store_imm : Size → List Token → Option Statement
 store_imm size ts = do

@@ -6,10 +6,10 @@ ghost use Rattle.insn.specs.Encoding.{OperandFits};
 ghost use Rattle.insn.specs.declared.instruction.Insn.TheVariants.{Alu, Mov, Load, LoadSigned};
 ghost use Rattle.asm.specs.Reading as reading;
 ghost use Rattle.asm.specs.Reading.{line_statement};
-ghost use Rattle.asm.specs.Parsing.{tokens_ahead, parsed_operand, target_value, link_value, Converts, Reads, ReadsAll, Understands, UnderstandsLine};
+ghost use Rattle.asm.specs.Parsing.{tokens_ahead, parsed_operand, parsed_address, target_value, link_value, Converts, Reads, ReadsAll, Understands, UnderstandsLine};
 
 use crate::mnemonic::Mnemonic;
-use crate::parser::{Parser, Written, WrittenTarget, is_name};
+use crate::parser::{Address, Parser, Written, WrittenTarget, is_name};
 use crate::refusal::LineError;
 use insn::{AluOp, Condition, Extension, Insn, Operand, Reg, SignedSize, Size, Width};
 
@@ -168,12 +168,20 @@ impl<'a> Parser<'a> {
         ))
     }
 
-    fn load(mut self, size: Size) -> Result<Line<'a>, LineError>
-        ensures { Understands (reading.load_statement (Load size) (tokens_ahead self.entry)) result }
+    /// Reads the register and the address of a load, up to the end of the line.
+    fn load_arguments(mut self) -> Result<(Reg, Address<'a>), LineError>
+        ensures { ReadsAll reading.load_arguments (λ a. (a.0, parsed_address a.1)) (tokens_ahead self.entry) result }
     {
         let dst = self.dst()?;
         let address = self.address()?;
         self.end()?;
+        Ok((dst, address))
+    }
+
+    fn load(self, size: Size) -> Result<Line<'a>, LineError>
+        ensures { Understands (reading.load_statement (Load size) (tokens_ahead self.entry)) result }
+    {
+        let (dst, address) = self.load_arguments()?;
         let base = address.base;
         let offset = address.displacement.offset()?;
         Ok(Line::Insn(
@@ -187,12 +195,10 @@ impl<'a> Parser<'a> {
         ))
     }
 
-    fn load_signed(mut self, size: SignedSize) -> Result<Line<'a>, LineError>
+    fn load_signed(self, size: SignedSize) -> Result<Line<'a>, LineError>
         ensures { Understands (reading.load_statement (LoadSigned size) (tokens_ahead self.entry)) result }
     {
-        let dst = self.dst()?;
-        let address = self.address()?;
-        self.end()?;
+        let (dst, address) = self.load_arguments()?;
         let base = address.base;
         let offset = address.displacement.offset()?;
         Ok(Line::Insn(

@@ -1,7 +1,7 @@
 -- Internal. Instructions: the reader of a mnemonic reads an instruction from the tokens of its arguments, and from no
 -- others.
 use Rattle.std.proofs.Common.{◌≡◌, ℕ, ℤ, pos, List, [], ◌∷◌, ◌++◌, map, Option, Some, None, refl, sym, ap, ◌∙◌, subst}
-use Rattle.std.specs.Prelude.{codes, IfSome}
+use Rattle.std.specs.Prelude.{codes, option_map, IfSome}
 use Rattle.std.proofs.lemmas.Option.{same_Some}
 use Rattle.insn.specs.Spelling.{Register, Distance, argument_of, mnemonic, arguments}
 use Rattle.insn.specs.declared.width.Width.{Width}
@@ -17,7 +17,7 @@ use Rattle.asm.specs.declared.mnemonic.Mnemonic.TheVariants.{Alu, Mov, Neg, Sign
 use Rattle.asm.specs.Lines.{Token}
 use Rattle.asm.specs.Statements.{Name, WrittenArgument, Plain, AreWritten, spelling_of, IsUnlinked, Statement, Instruction}
 use Rattle.fallible.specs.Options.{◌>>=◌}
-use Rattle.asm.specs.Reading.{Parse, end, register_in, number, integer, operand_in, Target, jump_target, MemoryOperand, address, name_of, only_target, one, jump, jump_if, store_imm, store_register, exit, instruction}
+use Rattle.asm.specs.Reading.{Parse, end, register_in, number, integer, operand_in, Target, jump_target, MemoryOperand, address, name_of, only_target, one, jump, jump_if, load_statement, store_imm, store_register, exit, instruction}
 use Rattle.asm.specs.laws.Grammar.Steps.{bound, onward}
 use Rattle.asm.specs.laws.Grammar.Arguments.{register_reads, number_reads, integer_reads, operand_reads, target_reads, address_reads, SpellsTarget}
 use Rattle.asm.specs.laws.Grammar.Shapes.{last, last_taken, last_given, pair, pair_taken, pair_given, with_comma, comma_taken, comma_given, comma_first, made_last, no_more}
@@ -100,11 +100,24 @@ jump_if_of width c dst o t = Instruction (insn.JumpIf width c dst o t.distance) 
 
 -- one register ends the tokens
 one_is : (make : Reg → Insn) (ts : List Token) → one make ts ≡ last register_in (one_of make) ts
-one_is make ts = made_last (register_in ts) (one_of make)
+one_is make ts = made_last (register_in ts) (λ dst. dst) (one_of make)
 
 -- the target of a jump ends the tokens
 jump_is : (make : ℤ → Insn) (ts : List Token) → jump make ts ≡ last jump_target (jump_of make) ts
-jump_is make ts = made_last (jump_target ts) (jump_of make)
+jump_is make ts = made_last (jump_target ts) (λ t. t) (jump_of make)
+
+-- a load is a register and an address
+load_is : (make : Reg → Reg → ℤ → Insn) (ts : List Token)
+    → load_statement make ts ≡ pair register_in address (load_of make) ts
+load_is make ts = go (with_comma register_in ts)
+  where
+    arguments_after : Parse Reg → Option (Reg × MemoryOperand)
+    arguments_after dst = address dst.rest >>= (λ at. end at.rest >>= (λ done. Some (dst.value, at.value)))
+
+    go : (o : Option (Parse Reg)) → option_map (λ a. load_of make a.0 a.1) (o >>= arguments_after)
+        ≡ (o >>= (λ dst. last address (load_of make dst.value) dst.rest))
+    go None = refl
+    go (Some dst) = made_last (address dst.rest) (λ at. (dst.value, at)) (λ a. load_of make a.0 a.1)
 
 -- a store is an address and a number
 store_imm_is : (size : Size) (ts : List Token) → store_imm size ts ≡ pair address integer (store_imm_of size) ts
@@ -221,10 +234,10 @@ instruction_taken LongJump ts s e =
     (insn.LongJump f.0.distance, f.0.label, f.2, refl, f.1)
 instruction_taken (JumpIf width c) ts s e = jump_if_taken width c ts s e
 instruction_taken (Load size) ts s e =
-    let f = pair_taken register_in address register_reads address_reads (load_of (insn.Load size)) ts s e in
+    let f = pair_taken register_in address register_reads address_reads _ ts s (sym (load_is (insn.Load size) ts) ∙ e) in
     (insn.Load size f.0 f.1.base f.1.displacement, None, f.3, refl, (tt, f.2))
 instruction_taken (LoadSigned size) ts s e =
-    let f = pair_taken register_in address register_reads address_reads (load_of (insn.LoadSigned size)) ts s e in
+    let f = pair_taken register_in address register_reads address_reads _ ts s (sym (load_is (insn.LoadSigned size) ts) ∙ e) in
     (insn.LoadSigned size f.0 f.1.base f.1.displacement, None, f.3, refl, (tt, f.2))
 instruction_taken (StoreImm size) ts s e =
     let f = pair_taken address integer address_reads integer_reads _ ts s (sym (store_imm_is size ts) ∙ e) in
@@ -271,10 +284,12 @@ instruction_given (insn.Swap op size dst) None ts h =
     one_is (insn.Swap op size) ts ∙ last_given register_in register_reads (one_of (insn.Swap op size)) dst ts h.1
 instruction_given (insn.Load size dst base displacement) None ts h =
     let at = memory_operand base displacement in
-    pair_given register_in address register_reads address_reads (load_of (insn.Load size)) dst at ts h.1
+    load_is (insn.Load size) ts
+    ∙ pair_given register_in address register_reads address_reads (load_of (insn.Load size)) dst at ts h.1
 instruction_given (insn.LoadSigned size dst base displacement) None ts h =
     let at = memory_operand base displacement in
-    pair_given register_in address register_reads address_reads (load_of (insn.LoadSigned size)) dst at ts h.1
+    load_is (insn.LoadSigned size) ts
+    ∙ pair_given register_in address register_reads address_reads (load_of (insn.LoadSigned size)) dst at ts h.1
 instruction_given (insn.Store size base (operand.Imm n) displacement) None ts h =
     let at = memory_operand base displacement in
     store_imm_is size ts ∙ pair_given address integer address_reads integer_reads (store_imm_of size) at n ts h.1

@@ -80,14 +80,15 @@ module _ {X : Type 0} (reader : Reader X) {A : X → List Token → Type 0} (rea
       (reads.gives x front (codes "," ∷ rest) a) refl
 
 -- what is made of the last value afterwards
-pub made_last : {X Z : Type 0} (o : Option (Parse X)) (made : X → Z)
-    → option_map made (o >>= (λ x. end x.rest >>= (λ done. Some x.value)))
-    ≡ (o >>= (λ x. end x.rest >>= (λ done. Some (made x.value))))
-made_last None made = refl
-made_last (Some x) made = go (end x.rest)
+pub made_last : {X Y Z : Type 0} (o : Option (Parse X)) (value : X → Y) (made : Y → Z)
+    → option_map made (o >>= (λ x. end x.rest >>= (λ done. Some (value x.value))))
+    ≡ (o >>= (λ x. end x.rest >>= (λ done. Some (made (value x.value)))))
+made_last None value made = refl
+made_last (Some x) value made = go (end x.rest)
   where
     go : (option : Option (Unit {0}))
-        → option_map made (option >>= (λ done. Some x.value)) ≡ (option >>= (λ done. Some (made x.value)))
+        → option_map made (option >>= (λ done. Some (value x.value)))
+        ≡ (option >>= (λ done. Some (made (value x.value))))
     go None = refl
     go (Some done) = refl
 
