@@ -1,10 +1,12 @@
 -- Meaning. The answers of the helpers that look up, from the live rows.
-use Rattle.std.specs.Prelude.{ℕ, Bool, ◌==◌, ◌&&◌, Option, Some, None, if◌then◌else◌}
+use Rattle.std.specs.Prelude.{ℕ, Bool, ◌==◌, ◌&&◌, Option, Some, None, is_some, if◌then◌else◌}
+use Rattle.std.specs.Option.{option_and_then}
 use Rattle.semantics.specs.Calls.{is_valid, no_address}
 use Rattle.semantics.specs.Machine.{AddressRecord}
 use Rattle.attributes.specs.declared.address.Addr.{Addr}
 use Rattle.tables.specs.Rows.{Rows}
-use Rattle.tables.specs.LookUps.{peer_of, channel_of, has_permission}
+use Rattle.tables.specs.declared.held.Held.{Held}
+use Rattle.tables.specs.LookUps.{held_in, bound_peer, bound_channel, permission_of}
 use Rattle.attributes.specs.declared.address.Addr.TheVariants.{V4, V6}
 use Rattle.semantics.specs.declared.helper.RecordForm.{RecordForm}
 use Rattle.semantics.specs.declared.helper.RecordForm.TheVariants.{Narrow, Wide}
@@ -28,24 +30,24 @@ abbrev pub test_answer : Bool → ℕ × AddressRecord
 test_answer holds = ((if holds then 1 else 0), no_address)
 
 -- of a record that isn't valid nothing is found
-abbrev pub channel_answer : RecordForm → ℕ → Rows → AddressRecord → ℕ × AddressRecord
-channel_answer form slot rows address = number_answer (if is_valid form address then channel_of slot (address_of address) rows else None)
+abbrev pub channel_answer : RecordForm → Option Held → AddressRecord → ℕ × AddressRecord
+channel_answer form slot address = number_answer (if is_valid form address then option_and_then (bound_channel (address_of address)) slot else None)
 
-abbrev pub permission_answer : RecordForm → ℕ → Rows → AddressRecord → ℕ × AddressRecord
-permission_answer form slot rows address = test_answer (is_valid form address && has_permission slot (address_of address) rows)
+abbrev pub permission_answer : RecordForm → Option Held → AddressRecord → ℕ × AddressRecord
+permission_answer form slot address = test_answer (is_valid form address && is_some (option_and_then (permission_of (address_of address)) slot))
 
--- in a slot of the rows
-abbrev pub slot_answer : ℕ → Rows → ℕ → ℕ → AddressRecord → ℕ × AddressRecord
-slot_answer slot rows id number address =
-    if id == 1 then peer_answer Narrow (peer_of slot number rows)
-    else (if id == 2 then channel_answer Narrow slot rows address
-    else (if id == 3 then permission_answer Narrow slot rows address
-    else (if id == 6 then peer_answer Wide (peer_of slot number rows)
-    else (if id == 7 then channel_answer Wide slot rows address
-    else (if id == 8 then permission_answer Wide slot rows address
+-- in what a slot holds
+abbrev pub held_answer : Option Held → ℕ → ℕ → AddressRecord → ℕ × AddressRecord
+held_answer slot id number address =
+    if id == 1 then peer_answer Narrow (option_and_then (bound_peer number) slot)
+    else (if id == 2 then channel_answer Narrow slot address
+    else (if id == 3 then permission_answer Narrow slot address
+    else (if id == 6 then peer_answer Wide (option_and_then (bound_peer number) slot)
+    else (if id == 7 then channel_answer Wide slot address
+    else (if id == 8 then permission_answer Wide slot address
     else empty_answer id number address)))))
 
--- in a slot, if there is one
+-- in a slot of the rows, if there is one
 abbrev pub look_up_answer : Option ℕ → Rows → ℕ → ℕ → AddressRecord → ℕ × AddressRecord
 look_up_answer None rows = empty_answer
-look_up_answer (Some slot) rows = slot_answer slot rows
+look_up_answer (Some slot) rows = held_answer (held_in rows slot)

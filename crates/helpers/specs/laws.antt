@@ -1,3 +1,4 @@
 -- Interface. The laws of the definitions, which are proved, so that nobody has to believe them.
 pub mod Nothing
 pub mod Lawful
+pub mod LookUps

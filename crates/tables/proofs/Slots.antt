@@ -1,5 +1,5 @@
 -- The slots as they are stored, and the live rows.
-use Rattle.std.proofs.Common.{◌≡◌, ℕ, zero, suc, ◌+◌, ◌<◌, ◌≤◌, true, false, cond, List, ◌∷◌, length, take, get_or, set, find, replicate, slice_get, nat_lt, Option, Some, None, is_some, is_none, IfSome, option_and_then, option_copied, sym, refl, ap, ◌∙◌, Bor, take_all, arith}
+use Rattle.std.proofs.Common.{◌≡◌, ℕ, zero, suc, ◌+◌, ◌<◌, ◌≤◌, true, false, cond, List, ◌∷◌, length, take, get_or, set, find, replicate, slice_get, nat_lt, Option, Some, None, is_some, is_none, option_and_then, sym, refl, ap, ◌∙◌, take_all, arith}
 use Rattle.std.specs.List.{position_or_len, count_by}
 use Rattle.std.specs.Option.{option_flatten}
 use Rattle.std.proofs.lemmas.Bool.{cond-true, cond-false, ltb-true, lt-ltb, le-ltb, both_ways}
@@ -12,7 +12,7 @@ use Rattle.tables.specs.Rows.{Rows, held_at, slots_at, live_rows}
 use Rattle.tables.specs.LookUps.{held_in, held_by, is_of}
 use Rattle.tables.specs.Counts.{allocation_count}
 use Rattle.tables.specs.Changes.{with_held, first_free}
-use Rattle.tables.specs.laws.Row.{live_again, held_in-live, held_at-live}
+use Rattle.tables.specs.laws.Row.{live_again, held_in-live}
 use Rattle.tables.specs.declared.held.Held.{Held}
 
 -- `now` is the rows of what is stored
@@ -75,20 +75,16 @@ free_slot rows slot is =
     let r = position-Some is_none rows.slots slot None is in
     get_flat rows.slots slot None r.0 ∙ none_is (get_or rows.slots slot None) r.1
 
--- what is held, by what a look-up gave
-pub held_none : (t : ℕ) (r : Option (Bor Held)) (o : Option Held) → option_and_then (held_at t) (option_copied r) ≡ o → is_some r ≡ false → o ≡ None
-held_none t None o e h = sym e
-held_none t (Some held) o e h = absurd (both_ways true h refl)
+-- whether something is held
+pub holds_none : (o : Option Held) → is_some o ≡ false → o ≡ None
+holds_none None h = refl
+holds_none (Some held) h = absurd (both_ways true h refl)
 
-pub held_some : (t : ℕ) (r : Option (Bor Held)) (o : Option Held) → option_and_then (held_at t) (option_copied r) ≡ o → IfSome r (λ held. t < held.now.allocation.end) → is_some r ≡ true → is_none o ≡ false
-held_some t None o e counts h = absurd (both_ways false refl h)
-held_some t (Some held) o e counts h = ap is_none (sym e) ∙ ap is_none (held_at-live t held.now (lt-ltb t held.now.allocation.end counts))
+pub holds_some : (o : Option Held) → is_some o ≡ true → is_none o ≡ false
+holds_some None h = absurd (both_ways false refl h)
+holds_some (Some held) h = refl
 
 -- ---- how many slots hold an allocation
-
-pub held_is : (t : ℕ) (r : Option (Bor Held)) (o : Option Held) → option_and_then (held_at t) (option_copied r) ≡ o → IfSome r (λ held. t < held.now.allocation.end) → is_some o ≡ is_some r
-held_is t None o e counts = ap is_some (sym e)
-held_is t (Some held) o e counts = ap is_some (sym e) ∙ ap is_some (held_at-live t held.now (lt-ltb t held.now.allocation.end counts))
 
 pub counted_one : (rows : Rows) (i n : ℕ) → i < length rows.slots → n ≡ count_by is_some (take i rows.slots) → is_some (held_in rows i) ≡ true → n + 1 ≡ count_by is_some (take (i + 1) rows.slots)
 counted_one rows i n l before here =

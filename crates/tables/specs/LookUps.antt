@@ -23,6 +23,22 @@ is_of client (Some held) = is_same_address client held.allocation.client
 abbrev pub held_by : Addr → Rows → Option Held
 held_by client rows = option_flatten (find (is_of client) rows.slots)
 
+-- ---- in what a slot holds
+
+-- the peer that a channel is bound to
+abbrev pub bound_peer : ℕ → Held → Option Addr
+bound_peer number held = option_map (λ b. b.peer) (get held.channels number)
+
+-- the channel that is bound to a peer
+abbrev pub bound_channel : Addr → Held → Option ℕ
+bound_channel peer held = number_to peer held.channels
+
+-- the end of the permission of an IP address
+abbrev pub permission_of : Addr → Held → Option ℕ
+permission_of ip held = get held.permissions (ip_of ip)
+
+-- ---- in the rows
+
 -- the allocation of a client
 abbrev pub allocation_of : Addr → Rows → Option Allocation
 allocation_of client rows = option_map (λ held. held.allocation) (held_by client rows)
@@ -33,15 +49,15 @@ allocation_at slot rows = option_map (λ held. held.allocation) (held_in rows sl
 
 -- the peer that a channel of a slot is bound to
 abbrev pub peer_of : ℕ → ℕ → Rows → Option Addr
-peer_of slot number rows = option_and_then (λ held. option_map (λ b. b.peer) (get held.channels number)) (held_in rows slot)
+peer_of slot number rows = option_and_then (bound_peer number) (held_in rows slot)
 
 -- the channel of a slot that is bound to a peer
 abbrev pub channel_of : ℕ → Addr → Rows → Option ℕ
-channel_of slot peer rows = option_and_then (λ held. number_to peer held.channels) (held_in rows slot)
+channel_of slot peer rows = option_and_then (bound_channel peer) (held_in rows slot)
 
 -- whether an IP address has a permission at a slot
 abbrev pub has_permission : ℕ → Addr → Rows → Bool
-has_permission slot ip rows = is_some (option_and_then (λ held. get held.permissions (ip_of ip)) (held_in rows slot))
+has_permission slot ip rows = is_some (option_and_then (permission_of ip) (held_in rows slot))
 
 -- the permissions and the channels of what a slot holds
 abbrev pub permissions_held : Option Held → PermissionMap

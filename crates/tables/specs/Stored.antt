@@ -1,6 +1,6 @@
 -- Internal. What is stored: slots, the clients that have one in ascending order of their addresses, and the changes of what a
 -- slot holds.
-use Rattle.std.specs.Prelude.{◌≡◌, ◌≢◌, ℕ, ◌+◌, List, slice_get, Option, None, Some, Result, Ok, Err, All, AllPairs, nat_lt, nat_le, if◌then◌else◌}
+use Rattle.std.specs.Prelude.{◌≡◌, ◌≢◌, ℕ, ◌+◌, ◌<◌, List, slice_get, Option, None, Some, Result, Ok, Err, All, AllPairs, nat_lt, nat_le, if◌then◌else◌}
 use Rattle.std.specs.Option.{option_map, option_flatten}
 use Rattle.std.specs.FinMap.{insert, len}
 use Rattle.std.specs.List.{list_all}
@@ -12,7 +12,7 @@ use Rattle.attributes.specs.AddressOrder.{order_by_parts}
 use Rattle.tables.specs.Channels.{may_bind}
 use Rattle.tables.specs.Permissions.{with_all}
 use Rattle.tables.specs.Rows.{held_at}
-use Rattle.tables.specs.WellFormed.{AreWellFormed}
+use Rattle.tables.specs.WellFormed.{AreWellFormed, IsHeldAt}
 use Rattle.tables.specs.declared.channels.TheConstants.{CHANNEL_LIFETIME, MAX_CHANNELS}
 use Rattle.tables.specs.declared.clients.Client.{Client}
 use Rattle.tables.specs.declared.held.Held.{Held}
@@ -36,6 +36,11 @@ pub record AreClients (slots : List (Option Held)) (clients : List Client) : Typ
 pub record AreStored (moment : ℕ) (slots : List (Option Held)) (clients : List Client) : Type 0 where
   pub rows : AreWellFormed (record { moment = moment; slots = slots })
   pub listed : AreClients slots clients
+
+-- what a slot holds whose allocation is live at a moment; of the permissions and channels some may have ended
+pub record IsLiveSlot (moment : ℕ) (held : Held) : Type 0 where
+  pub live : moment < held.allocation.end
+  pub held_at : IsHeldAt held.allocation.slot held
 
 -- what a slot holds, unless its allocation has ended
 abbrev pub left_at : ℕ → Option Held → Option Held

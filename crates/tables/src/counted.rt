@@ -23,8 +23,8 @@ pub fn allocation_of<'a, L: Ledger>(
     ensures inside { IfSome result (λ a. a.now.slot < length tables.now.slots) }
     ensures keys { steps.new ≤ steps.old + 9 }
 {
-    let held = tables.held_by(&client, tables.moment_at(now), steps)?;
-    Some(&held.allocation)
+    let live = tables.live_by(&client, tables.moment_at(now), steps)?;
+    Some(live.allocation())
 }
 
 /// As [`Tables::allocation_at`]. No key is compared.
@@ -37,8 +37,8 @@ pub fn allocation_at<'a, L: Ledger>(
     ensures allocation { option_copied result ≡ allocation_at slot (rows_at now tables.now) }
     ensures keys { steps.new ≡ steps.old }
 {
-    let held = tables.held(slot, tables.moment_at(now))?;
-    Some(&held.allocation)
+    let live = tables.live_at(slot, now)?;
+    Some(live.allocation())
 }
 
 /// As [`Tables::peer_of`]. At most 7 of the slot's channels are compared.
@@ -52,14 +52,8 @@ pub fn peer_of<L: Ledger>(
     ensures peer { result ≡ peer_of slot number (rows_at now tables.now) }
     ensures keys { steps.new ≤ steps.old + 7 }
 {
-    let moment = tables.moment_at(now);
-    let held = tables.held(slot, moment)?;
-    let binding = held.channels.binding_of(number, steps)?;
-    if moment < binding.end {
-        Some(binding.peer)
-    } else {
-        None
-    }
+    let live = tables.live_at(slot, now)?;
+    live.counted_peer_of(number, steps)
 }
 
 /// As [`Tables::channel_of`]. At most 7 of the slot's peers are compared.
@@ -74,9 +68,8 @@ pub fn channel_of<L: Ledger>(
     ensures range { IfSome result IsChannelNumber }
     ensures keys { steps.new ≤ steps.old + 7 }
 {
-    let moment = tables.moment_at(now);
-    let held = tables.held(slot, moment)?;
-    held.channels.number_at(&peer, moment, steps)
+    let live = tables.live_at(slot, now)?;
+    live.counted_channel_of(peer, steps)
 }
 
 /// As [`Tables::permitted`]. At most 7 of the slot's addresses are compared.
@@ -90,12 +83,8 @@ pub fn permitted<L: Ledger>(
     ensures permitted { result ≡ has_permission slot ip (rows_at now tables.now) }
     ensures keys { steps.new ≤ steps.old + 7 }
 {
-    let moment = tables.moment_at(now);
-    let Some(held) = tables.held(slot, moment) else {
-        return false;
-    };
-    match held.permissions.end_of(&ip, steps) {
-        Some(end) => moment < end,
+    match tables.live_at(slot, now) {
+        Some(live) => live.counted_permitted(ip, steps),
         None => false,
     }
 }

@@ -17,11 +17,10 @@ impl Tables {
         ensures permissions { permissions_of result.items ≡ permissions_at_slot slot (rows_at now self.now) }
         ensures distinct { ArePermissions result.items }
     {
-        let moment = self.moment_at(now);
-        let Some(held) = self.held(slot, moment) else {
-            return ArrayVec::new();
-        };
-        held.permissions.at(moment).into_rows()
+        match self.live_at(slot, now) {
+            Some(live) => live.permissions(),
+            None => ArrayVec::new(),
+        }
     }
 
     /// Returns the channels at a slot that are live at a moment, in the order of their numbers. A slot without an allocation has
@@ -30,10 +29,9 @@ impl Tables {
         ensures channels { channels_of result.items ≡ channels_at_slot slot (rows_at now self.now) }
         ensures distinct { AreChannels result.items }
     {
-        let moment = self.moment_at(now);
-        let Some(held) = self.held(slot, moment) else {
-            return ArrayVec::new();
-        };
-        held.channels.at(moment).into_rows()
+        match self.live_at(slot, now) {
+            Some(live) => live.channels(),
+            None => ArrayVec::new(),
+        }
     }
 }

@@ -4,6 +4,7 @@ ghost use Rattle.std.specs.Prelude.{◌≡◌};
 
 use crate::clients::{Client, sweep, with_slots};
 use crate::held::Held;
+use crate::live_slot::LiveSlot;
 use crate::moment::moment_of;
 use crate::search::{place_of, put_at, search};
 use crate::users::replace_each_user;
@@ -46,10 +47,9 @@ impl Model for Tables {
 }
 
 impl Tables {
-    ghost use Rattle.std.specs.Prelude.{◌≡◌, ◌+◌, ◌≤◌, ◌<◌, IfOk, IfSome, None, Some, is_some, length, option_and_then};
-    ghost use Rattle.std.specs.Option.{option_copied};
+    ghost use Rattle.std.specs.Prelude.{◌≡◌, ◌+◌, ◌≤◌, ◌<◌, IfOk, IfSome, None, Some, is_some, length};
     ghost use Rattle.tables.specs.Moments.{moment_of};
-    ghost use Rattle.tables.specs.Rows.{no_rows, live_rows, rows_at, held_at};
+    ghost use Rattle.tables.specs.Rows.{no_rows, live_rows, rows_at};
     ghost use Rattle.tables.specs.Counts.{allocation_count};
     ghost use Rattle.tables.specs.LookUps.{held_in, held_by};
     ghost use Rattle.tables.specs.Changes.{first_free, with_held};
@@ -102,13 +102,11 @@ impl Tables {
         moment_of(self.moment, now)
     }
 
-    /// Returns what a slot holds, if its allocation is live at a moment. Of the permissions and channels some may have ended.
-    pub(crate) fn held(&self, slot: usize, moment: u64) -> Option<&Held>
+    /// Returns what a slot holds, if its allocation is live at a moment.
+    pub(crate) fn live(&self, slot: usize, moment: u64) -> Option<LiveSlot<'_>>
         requires later { self.now.moment ≤ moment }
-        ensures held { option_and_then (held_at moment) (option_copied result)
-            ≡ held_in (live_rows moment self.now) slot }
-        ensures counts { IfSome result (λ held. moment < held.now.allocation.end) }
-        ensures held_at { IfSome result (λ held. IsHeldAt slot held.now) }
+        ensures live { result ≡ held_in (live_rows moment self.now) slot }
+        ensures at_slot { IfSome result (λ l. l.allocation.slot ≡ slot) }
         ensures inside { IfSome result (λ _. slot < length self.now.slots) }
     {
         let Some(slot) = self.slots.get(slot) else {
@@ -118,29 +116,28 @@ impl Tables {
             return None;
         };
         if moment < held.allocation.end {
-            Some(held)
+            Some(LiveSlot::new(held, moment))
         } else {
             None
         }
     }
 
     /// Returns what a client's slot holds, if its allocation is live at a moment.
-    pub(crate) fn held_by<L: Ledger>(
+    pub(crate) fn live_by<L: Ledger>(
         &self,
         client: &Addr,
         moment: u64,
         steps: &mut Steps<L>,
-    ) -> Option<&Held>
+    ) -> Option<LiveSlot<'_>>
         requires later { self.now.moment ≤ moment }
-        ensures held { option_and_then (held_at moment) (option_copied result)
-            ≡ held_by client.now (live_rows moment self.now) }
-        ensures counts { IfSome result (λ held. moment < held.now.allocation.end) }
-        ensures placed { IfSome result (λ held. held.now.allocation.slot < length self.now.slots) }
+        ensures live { result ≡ held_by client.now (live_rows moment self.now) }
+        ensures at_slot { IfSome result (λ l. held_in (live_rows moment self.now) l.allocation.slot ≡ Some l) }
+        ensures inside { IfSome result (λ l. l.allocation.slot < length self.now.slots) }
         ensures keys { steps.new ≤ steps.old + 9 }
     {
         let clients = self.clients.as_slice();
         match search(clients, client, steps) {
-            Ok(index) => self.held(clients[index].slot, moment),
+            Ok(index) => self.live(clients[index].slot, moment),
             Err(_) => None,
         }
     }
@@ -151,7 +148,7 @@ impl Tables {
         ensures { result ≡ first_free (live_rows moment self.now) }
     {
         for slot in 0..self.slots.len() {
-            if self.held(slot, moment).is_none() {
+            if self.live(slot, moment).is_none() {
                 return Some(slot);
             }
         }
@@ -165,7 +162,7 @@ impl Tables {
         let moment = self.moment_at(now);
         let mut count = 0;
         for slot in 0..self.slots.len() {
-            if self.held(slot, moment).is_some() {
+            if self.live(slot, moment).is_some() {
                 count += 1;
             }
         }

@@ -18,8 +18,8 @@ use Rattle.attributes.specs.declared.address.Addr.{Addr}
 use Rattle.attributes.specs.declared.address.Addr.TheVariants.{V4, V6}
 use Rattle.tables.specs.Addresses.{is_ipv4}
 use Rattle.tables.specs.Changes.{Change, Follows, with_held, fresh, first_free, allocation_change, refresh_change, permit_change, bind_change, permission_end, with_peer}
-use Rattle.tables.specs.Channels.{ChannelMap, IsChannelNumber, may_bind, number_to}
-use Rattle.tables.specs.LookUps.{held_in, is_of, allocation_of, allocation_at, peer_of, channel_of}
+use Rattle.tables.specs.Channels.{ChannelMap, IsChannelNumber, may_bind}
+use Rattle.tables.specs.LookUps.{held_in, held_by, is_of, allocation_of, allocation_at, peer_of, channel_of, bound_peer, bound_channel}
 use Rattle.tables.specs.laws.Map.{entry_found}
 use Rattle.tables.specs.laws.Moment.{moment_of-latest}
 use Rattle.tables.specs.Moments.{moment_of, is_live_at}
@@ -278,18 +278,27 @@ slot_found p (x ∷ xs) o e = elim (cases_Bool (p x)) [
   | inr f ↦ let rest = slot_found p xs o (sym (cond-false (p x) (Some x) (find p xs) f) ∙ e) in (suc rest.0, rest.1)
 ]
 
+-- the slot of a client is the one that its allocation names
+pub held_by-at_slot : (client : Addr) (rows : Rows) (held : Held) → AreWellFormed rows → held_by client rows ≡ Some held → held_in rows held.allocation.slot ≡ Some held
+held_by-at_slot client rows held are =
+    elim (find (is_of client) rows.slots) as (λ o. find (is_of client) rows.slots ≡ o → option_flatten o ≡ Some held → held_in rows held.allocation.slot ≡ Some held) [
+      | None ↦ λ is there. absurd (none-some held there)
+      | Some None ↦ λ is there. absurd (none-some held there)
+      | Some (Some found) ↦ λ is there.
+          let at = slot_found (is_of client) rows.slots (Some found) is in
+          let holds : held_in rows at.0 ≡ Some held = ap option_flatten at.1 ∙ there in
+          ap (held_in rows) (are.held at.0 held holds).at_slot ∙ holds
+    ] refl
+
 -- the allocation of a client is that at its slot
 pub allocation_of-at_slot : (client : Addr) (rows : Rows) (a : Allocation) → AreWellFormed rows → allocation_of client rows ≡ Some a → allocation_at a.slot rows ≡ Some a
 allocation_of-at_slot client rows a are =
-    elim (find (is_of client) rows.slots) as (λ o. find (is_of client) rows.slots ≡ o → option_map (λ held. held.allocation) (option_flatten o) ≡ Some a → allocation_at a.slot rows ≡ Some a) [
+    elim (held_by client rows) as (λ o. held_by client rows ≡ o → option_map (λ held. held.allocation) o ≡ Some a → allocation_at a.slot rows ≡ Some a) [
       | None ↦ λ is there. absurd (none-some a there)
-      | Some None ↦ λ is there. absurd (none-some a there)
-      | Some (Some held) ↦ λ is there.
-          let found = slot_found (is_of client) rows.slots (Some held) is in
-          let holds : held_in rows found.0 ≡ Some held = ap option_flatten found.1 in
-          let one : held.allocation ≡ a = same_Some _ _ there in
-          let at : a.slot ≡ found.0 = subst (λ (a : Allocation). a.slot ≡ found.0) one (are.held found.0 held holds).at_slot in
-          ap (λ n. allocation_at n rows) at ∙ ap (λ o. option_map (λ held. held.allocation) o) holds ∙ there
+      | Some held ↦ λ is there.
+          ap (λ (a : Allocation). allocation_at a.slot rows) (sym (same_Some _ _ there))
+          ∙ ap (option_map (λ held. held.allocation)) (held_by-at_slot client rows held are is)
+          ∙ there
     ] refl
 
 peer_bound : (slot number : ℕ) (held : Held) (peer : Addr) (option : Option Binding) → IsHeldAt slot held → get held.channels number ≡ option → option_map (λ b. b.peer) option ≡ Some peer → IsAddress peer
@@ -297,11 +306,14 @@ peer_bound slot number held peer None is at there = absurd (none-some peer there
 peer_bound slot number held peer (Some binding) is at there = subst IsAddress (same_Some _ _ there) (is.channels number binding at).peer
 
 -- the peer of a channel is an address
+pub bound_peer-address : (slot number : ℕ) (held : Held) (peer : Addr) → IsHeldAt slot held → bound_peer number held ≡ Some peer → IsAddress peer
+bound_peer-address slot number held peer is there = peer_bound slot number held peer (get held.channels number) is refl there
+
 pub peer_of-address : (slot number : ℕ) (rows : Rows) (peer : Addr) → AreWellFormed rows → peer_of slot number rows ≡ Some peer → IsAddress peer
 peer_of-address slot number rows peer are =
-    elim (held_in rows slot) as (λ o. held_in rows slot ≡ o → option_and_then (λ held. option_map (λ b. b.peer) (get held.channels number)) o ≡ Some peer → IsAddress peer) [
+    elim (held_in rows slot) as (λ o. held_in rows slot ≡ o → option_and_then (bound_peer number) o ≡ Some peer → IsAddress peer) [
       | None ↦ λ is there. absurd (none-some peer there)
-      | Some held ↦ λ is there. peer_bound slot number held peer (get held.channels number) (are.held slot held is) refl there
+      | Some held ↦ λ is there. bound_peer-address slot number held peer (are.held slot held is) there
     ] refl
 
 number_bound : (slot number : ℕ) (held : Held) (peer : Addr) (l : Option (ℕ × Binding)) → IsHeldAt slot held → find (λ e. is_same_address peer e.1.peer) (entries held.channels) ≡ l
@@ -312,11 +324,14 @@ number_bound slot number held peer (Some e) is at there =
     subst IsChannelNumber (same_Some e.0 number there) (is.channels e.0 e.1 bound).in_range
 
 -- the channel of a peer has one of the numbers of channels
+pub bound_channel-number : (slot : ℕ) (peer : Addr) (held : Held) (number : ℕ) → IsHeldAt slot held → bound_channel peer held ≡ Some number → IsChannelNumber number
+bound_channel-number slot peer held number is there = number_bound slot number held peer (find (λ e. is_same_address peer e.1.peer) (entries held.channels)) is refl there
+
 pub channel_of-number : (slot : ℕ) (peer : Addr) (rows : Rows) (number : ℕ) → AreWellFormed rows → channel_of slot peer rows ≡ Some number → IsChannelNumber number
 channel_of-number slot peer rows number are =
-    elim (held_in rows slot) as (λ o. held_in rows slot ≡ o → option_and_then (λ held. number_to peer held.channels) o ≡ Some number → IsChannelNumber number) [
+    elim (held_in rows slot) as (λ o. held_in rows slot ≡ o → option_and_then (bound_channel peer) o ≡ Some number → IsChannelNumber number) [
       | None ↦ λ is there. absurd (none-some number there)
-      | Some held ↦ λ is there. number_bound slot number held peer (find (λ e. is_same_address peer e.1.peer) (entries held.channels)) (are.held slot held is) refl there
+      | Some held ↦ λ is there. bound_channel-number slot peer held number (are.held slot held is) there
     ] refl
 
 number_of_bound : (slot number : ℕ) (held : Held) (peer : Addr) (option : Option Binding) → IsHeldAt slot held → get held.channels number ≡ option → option_map (λ b. b.peer) option ≡ Some peer → IsChannelNumber number
@@ -324,9 +339,5 @@ number_of_bound slot number held peer None is at there = absurd (none-some peer 
 number_of_bound slot number held peer (Some binding) is at there = (is.channels number binding at).in_range
 
 -- a number that is bound is one of the numbers of channels
-pub peer_of-number : (slot number : ℕ) (rows : Rows) (peer : Addr) → AreWellFormed rows → peer_of slot number rows ≡ Some peer → IsChannelNumber number
-peer_of-number slot number rows peer are =
-    elim (held_in rows slot) as (λ o. held_in rows slot ≡ o → option_and_then (λ held. option_map (λ b. b.peer) (get held.channels number)) o ≡ Some peer → IsChannelNumber number) [
-      | None ↦ λ is there. absurd (none-some peer there)
-      | Some held ↦ λ is there. number_of_bound slot number held peer (get held.channels number) (are.held slot held is) refl there
-    ] refl
+pub bound_peer-number : (slot number : ℕ) (held : Held) (peer : Addr) → IsHeldAt slot held → bound_peer number held ≡ Some peer → IsChannelNumber number
+bound_peer-number slot number held peer is there = number_of_bound slot number held peer (get held.channels number) is refl there

@@ -1,8 +1,8 @@
-use Rattle.std.proofs.Common.{◌<◌, ◌≤◌, length, sym, ap, ◌∙◌, arith}
+use Rattle.std.proofs.Common.{◌≡◌, ◌<◌, ◌≤◌, length, is_some, sym, ap, ◌∙◌, arith}
 use Rattle.tables.specs.Rows.{live_rows}
 use Rattle.tables.specs.Counts.{allocation_count}
 use Rattle.tables.specs.LookUps.{held_in}
-use Rattle.tables.proofs.Slots.{length-stored, held_is, counted_one, counted_none, counted_all}
+use Rattle.tables.proofs.Slots.{length-stored, counted_one, counted_none, counted_all}
 use Rattle.tables.proofs.storage.Tables.allocation_count.Goals as goal
 use Rattle.tables.proofs.storage.Tables.allocation_count.Goals.{then-is_some, else-is_some}
 
@@ -13,7 +13,7 @@ loop-slot-preserved c =
     let rows = live_rows t c.args.self.now in
     let long = length-stored c.self.inside.moment c.self.inside.slots.items c.args.self.now c.self.view_is t c.moment_at-moment.ensures.later in
     let within : slot < length rows.slots = omega (arith, long, c.loop-slot-test.true, c.len-slot-end.ensures, c.self.inside.slots.ok.0) in
-    let held = held_is t c.held.result (held_in rows slot) c.held.ensures.held c.held.ensures.counts ∙ sym c.is_some.ensures in
+    let held : is_some (held_in rows slot) ≡ c.is_some.result = ap is_some (sym c.live.ensures.live) ∙ sym c.is_some.ensures in
     elim c.if-is_some.branch [
       | then-is_some w ↦ w.count-is ∙ counted_one rows slot c.loop-slot.count within c.loop-slot.invariant (held ∙ w.if-is_some.true)
       | else-is_some w ↦ w.count-is ∙ counted_none rows slot c.loop-slot.count within c.loop-slot.invariant (held ∙ w.if-is_some.false)

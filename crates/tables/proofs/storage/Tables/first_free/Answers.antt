@@ -1,7 +1,6 @@
-use Rattle.std.proofs.Common.{◌<◌, ◌≤◌, length, not, ap, ◌∙◌, sym, arith, below_more}
+use Rattle.std.proofs.Common.{◌<◌, ◌≤◌, length, is_none, not, ap, ◌∙◌, sym, arith, below_more}
 use Rattle.tables.specs.Rows.{live_rows}
-use Rattle.tables.specs.LookUps.{held_in}
-use Rattle.tables.proofs.Slots.{length-stored, free_at, free_none, held_none, held_some}
+use Rattle.tables.proofs.Slots.{length-stored, free_at, free_none, holds_none, holds_some}
 use Rattle.tables.proofs.storage.Tables.first_free.Goals as goal
 
 pub returns-then-is_none : goal.returns-then-is_none
@@ -11,14 +10,14 @@ returns-then-is_none c =
     let rows = live_rows t c.args.self.now in
     let long = length-stored c.self.inside.moment c.self.inside.slots.items c.args.self.now c.self.view_is t c.requires.later in
     let within : slot < length rows.slots = omega (arith, long, c.loop-slot-test.true, c.len-slot-end.ensures, c.self.inside.slots.ok.0) in
-    let none = held_none t c.held.result (held_in rows slot) c.held.ensures.held (c.is_none.ensures ∙ ap not c.if-is_none.true) in
+    let none = sym c.live.ensures.live ∙ holds_none c.live.result (c.is_none.ensures ∙ ap not c.if-is_none.true) in
     sym (free_at rows slot within c.loop-slot.invariant none)
 
 pub loop-slot-preserved : goal.loop-slot-preserved
 loop-slot-preserved c =
     let t = c.args.moment in
     let slot = c.loop-slot.slot in
-    below_more _ slot c.loop-slot.invariant (held_some t c.held.result (held_in (live_rows t c.args.self.now) slot) c.held.ensures.held c.held.ensures.counts (c.is_none.ensures ∙ ap not c.if-is_none.false))
+    below_more _ slot c.loop-slot.invariant (ap is_none (sym c.live.ensures.live) ∙ holds_some c.live.result (c.is_none.ensures ∙ ap not c.if-is_none.false))
 
 pub returns : goal.returns
 returns c =
