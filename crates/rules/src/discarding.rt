@@ -98,13 +98,13 @@ fn discard_of_peer(
     ensures { (transaction_id : List ℕ) → length transaction_id ≡ 12
         → result ≡ discard_in (relayed_if (peer_test slot peer transaction_id (rows_at moment tables.now) datagram.now)) }
 {
-    if tables.allocation_at(slot, moment).is_none() {
+    let Some(live) = tables.live_at(slot, moment) else {
         return Some(Discard::NoAllocation);
-    }
-    if !tables.permitted(slot, peer, moment) {
+    };
+    if !live.permitted(peer) {
         return Some(Discard::NoPermission);
     }
-    let number = tables.channel_of(slot, peer, moment);
+    let number = live.channel_of(peer);
     if length_to_client(number, &peer, datagram.len()) > MAX_DATAGRAM {
         return Some(Discard::TooLong);
     }

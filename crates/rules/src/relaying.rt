@@ -33,20 +33,23 @@ pub(crate) fn channel_data(tables: &Tables, moment: u64, client: Addr, datagram:
     ensures disposition { disposition_of result ≡ relayed_if (channel_data_test client (rows_at moment tables.now) datagram.now) }
     ensures room { (reply : List ℕ) → LiesInRoom result reply }
 {
-    let Some(own) = tables.allocation_of(client, moment) else {
+    let Some(live) = tables.live_of(client, moment) else {
         return Answer::Nothing(Discard::NoAllocation);
     };
     let Some(message) = read_channel(datagram) else {
         return Answer::Nothing(Discard::Malformed);
     };
-    let slot = own.slot;
-    let Some(peer) = tables.peer_of(slot, message.number, moment) else {
+    let Some(peer) = live.peer_of(message.number) else {
         return Answer::Nothing(Discard::NoChannel);
     };
+    let own = live.allocation();
     if !peer.is_of_family(own.family) {
         return Answer::Nothing(Discard::OtherFamily);
     }
-    Answer::ChannelData { slot, peer }
+    Answer::ChannelData {
+        slot: own.slot,
+        peer,
+    }
 }
 
 /// Relays a Send indication: its data goes to its address, if that has a permission (RFC 8656, section 11.2).
@@ -56,7 +59,7 @@ pub(crate) fn send(tables: &Tables, moment: u64, client: Addr, message: &Message
     ensures disposition { disposition_of result ≡ relayed_if (send_test client (rows_at moment tables.now) message.now) }
     ensures room { (reply : List ℕ) → LiesInRoom result reply }
 {
-    let Some(own) = tables.allocation_of(client, moment) else {
+    let Some(live) = tables.live_of(client, moment) else {
         return Answer::Nothing(Discard::NoAllocation);
     };
     if !all_understood(message) {
@@ -71,12 +74,15 @@ pub(crate) fn send(tables: &Tables, moment: u64, client: Addr, message: &Message
     let Ok(peer) = read_xor_addr(value, &message.transaction_id()) else {
         return Answer::Nothing(Discard::Incomplete);
     };
-    let slot = own.slot;
-    if !tables.permitted(slot, peer, moment) {
+    if !live.permitted(peer) {
         return Answer::Nothing(Discard::NoPermission);
     }
+    let own = live.allocation();
     if !peer.is_of_family(own.family) {
         return Answer::Nothing(Discard::OtherFamily);
     }
-    Answer::Send { slot, peer }
+    Answer::Send {
+        slot: own.slot,
+        peer,
+    }
 }
