@@ -3,6 +3,7 @@ mod FirstLines
 mod Frames
 mod KeptRows
 mod LineLengths
+mod LiveSlots
 mod NewUsers
 mod Played
 mod Plays

@@ -1,5 +1,5 @@
 -- The rows of a relay whose users are replaced.
-use Rattle.std.proofs.Common.{◌≡◌, ℕ, List, map, slice_get, Option, Some, ap}
+use Rattle.std.proofs.Common.{◌≡◌, ℕ, List, map, Option, Some, ap}
 use Rattle.std.specs.Prelude.{unwrap_or}
 use Rattle.std.proofs.lemmas.Option.{slice_get-map}
 use Rattle.credentials.specs.declared.checking.User.{User}

@@ -1,11 +1,11 @@
 -- Internal. What is to be sent for what was found.
-use Rattle.std.specs.Prelude.{◌≡◌, ℕ, List, Option, None, Some, option_map}
+use Rattle.std.specs.Prelude.{◌≡◌, ℕ, List, Option, None, option_map}
 use Rattle.attributes.specs.declared.address.Addr.{Addr}
 use Rattle.machine.specs.Contents as machine
 use Rattle.machine.specs.Contents.{datagram_of, window_of}
 use Rattle.machine.specs.Tracing.{IsOutcome}
 use Rattle.machine.specs.declared.outcome.Outcome.{Outcome}
-use Rattle.helpers.specs.LookUps.{look_up_answer}
+use Rattle.helpers.specs.LookUps.{held_answer}
 use Rattle.helpers.specs.declared.tables_lookup.Lookup.{Lookup}
 use Rattle.machine.specs.Contexts.{HelperAnswers}
 use Rattle.tables.specs.Rows.{Rows, rows_at}
@@ -14,8 +14,8 @@ use Rattle.programs.specs.Runs.{run_for, datagram_in, window_in}
 use Rattle.events.specs.declared.meta.Meta.{Meta}
 use Rattle.events.specs.declared.meta.Source.{Source}
 use Rattle.events.specs.declared.meta.Source.TheVariants.{Client, Peer}
-use Rattle.tables.specs.LookUps.{allocation_of}
-use Rattle.tables.specs.declared.allocation.Allocation.{Allocation}
+use Rattle.tables.specs.LookUps.{held_by, held_in}
+use Rattle.tables.specs.declared.held.Held.{Held}
 use Rattle.semantics.specs.Runs.{Run}
 use Rattle.relay.specs.ByPrograms.{program_for, relayed_where_sent}
 use Rattle.rules.specs.Answers.{sending_of_answer, LiesInRoom}
@@ -24,8 +24,6 @@ use Rattle.rules.specs.Dispositions.{client_disposition, disposition_of}
 use Rattle.rules.specs.declared.disposition.Discard.TheVariants.{ByProgram}
 use Rattle.rules.specs.declared.disposition.Disposition.{Disposition}
 use Rattle.rules.specs.declared.disposition.Disposition.TheVariants.{Discarded}
-use Rattle.rules.specs.Rules.{client_at}
-use Rattle.fallible.specs.Options.{◌>>=◌}
 use Rattle.rules.specs.Systems.{SystemReply}
 use Rattle.relay.specs.Relays.{RelayContents, datagram_at}
 use Rattle.relay.specs.declared.found.Found.{Found}
@@ -33,7 +31,7 @@ use Rattle.relay.specs.declared.found.Found.TheVariants as found
 
 -- the answers of look-ups
 abbrev pub answers_of_look_up : Lookup → HelperAnswers
-answers_of_look_up l = look_up_answer l.slot (rows_at l.moment l.tables.now)
+answers_of_look_up l = held_answer l.live
 
 -- what a frame shows of its window
 abbrev pub window_shown : machine.Contents → Option (List ℕ)
@@ -57,23 +55,16 @@ reply_of_passing r client = from_client r.config r.greatest client r.rows (datag
 abbrev pub disposition_of_passing : RelayContents → Addr → Disposition
 disposition_of_passing r client = client_disposition r.config r.greatest client r.rows (datagram_of r.frame)
 
--- the allocation of a client
-abbrev pub own_for : Source → Rows → Option Allocation
-own_for (Client client) rows = allocation_of client rows
-own_for (Peer slot peer) rows = None
-
--- a window, if there is one, to the client of the allocation at a slot
-abbrev pub window_to_client : ℕ → Rows → Option (List ℕ) → Option Sending
-window_to_client slot rows window = do
-  bytes ← window
-  client ← client_at slot rows
-  Some (ToClient client bytes)
+-- what the slot holds in which helpers look up
+abbrev pub held_for : Source → Rows → Option Held
+held_for (Client client) rows = held_by client rows
+held_for (Peer slot peer) rows = held_in rows slot
 
 -- for a datagram of a source
 abbrev pub sending_of_found : RelayContents → Source → Found → Option Sending
 sending_of_found r from (found.Nothing reason) = None
 sending_of_found r from (found.WindowToPeer slot peer) = option_map (ToPeer slot peer) (window_shown r.frame)
-sending_of_found r from (found.WindowToClient slot) = window_to_client slot (rows_at r.greatest r.rows) (window_shown r.frame)
+sending_of_found r from (found.WindowToClient client) = option_map (ToClient client) (window_shown r.frame)
 sending_of_found r (Client client) (found.Answer answer) = sending_of_answer client (datagram_of r.frame) r.reply answer
 sending_of_found r (Peer slot peer) (found.Answer answer) = None
 
@@ -81,7 +72,7 @@ sending_of_found r (Peer slot peer) (found.Answer answer) = None
 abbrev pub disposition_of_found : RelayContents → Source → Found → Disposition
 disposition_of_found r from (found.Nothing reason) = Discarded reason
 disposition_of_found r from (found.WindowToPeer slot peer) = relayed_where_sent (sending_of_found r from (found.WindowToPeer slot peer))
-disposition_of_found r from (found.WindowToClient slot) = relayed_where_sent (sending_of_found r from (found.WindowToClient slot))
+disposition_of_found r from (found.WindowToClient client) = relayed_where_sent (sending_of_found r from (found.WindowToClient client))
 disposition_of_found r (Client client) (found.Answer answer) = disposition_of answer
 disposition_of_found r (Peer slot peer) (found.Answer answer) = Discarded ByProgram
 
@@ -89,5 +80,5 @@ disposition_of_found r (Peer slot peer) (found.Answer answer) = Discarded ByProg
 abbrev pub HasRoomFor : Found → List ℕ → Type 0
 HasRoomFor (found.Nothing reason) reply = Unit {0}
 HasRoomFor (found.WindowToPeer slot peer) reply = Unit {0}
-HasRoomFor (found.WindowToClient slot) reply = Unit {0}
+HasRoomFor (found.WindowToClient client) reply = Unit {0}
 HasRoomFor (found.Answer answer) reply = LiesInRoom answer reply

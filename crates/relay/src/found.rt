@@ -3,16 +3,16 @@
 ghost use Rattle.std.specs.Prelude.{◌≡◌, ℕ, List, option_map, option_copied};
 ghost use Rattle.tables.specs.Rows.{rows_at};
 ghost use Rattle.events.specs.Actions.{sending_of};
-ghost use Rattle.events.specs.Events.{ToPeer};
+ghost use Rattle.events.specs.Events.{ToClient, ToPeer};
 ghost use Rattle.programs.specs.Runs.{planned_sending};
 ghost use Rattle.relay.specs.ByPrograms.{relayed_where_sent};
-ghost use Rattle.relay.specs.Found.{disposition_of_found, sending_of_found, own_for, window_shown, window_to_client, HasRoomFor};
+ghost use Rattle.relay.specs.Found.{disposition_of_found, sending_of_found, held_for, window_shown, HasRoomFor};
 ghost use Rattle.relay.specs.Relays.{RelayContents};
 
 use attributes::Addr;
 use events::{Action, Source};
 use rules::{Answer, Discard};
-use tables::{Allocation, Tables};
+use tables::LiveSlot;
 
 /// What is to be sent, as a step finds it.
 #[derive(Clone, Copy)]
@@ -21,30 +21,34 @@ pub(crate) enum Found {
     Nothing(Discard),
     /// The window, from a slot to a peer.
     WindowToPeer { slot: usize, peer: Addr },
-    /// The window, to the client of the allocation at a slot.
-    WindowToClient { slot: usize },
+    /// The window, to a client.
+    WindowToClient { client: Addr },
     /// What the rules answer to a client's datagram.
     Answer(Answer),
 }
 
-/// Returns the finding of what verdict 2 sends, by the client's allocation, or by the slot that a peer's datagram
-/// came to. Nothing goes to an address that isn't of the allocation's family.
+/// Returns the finding of what verdict 2 sends, by what is live in the slot in which helpers look up. Nothing goes to an
+/// address that isn't of the allocation's family.
 /// See docs/DECISIONS.md, "One family".
 pub(crate) fn window_found(
     from: Source,
-    own: Option<Allocation>,
+    live: &Option<LiveSlot<'_>>,
     destination: Option<Addr>,
 ) -> Found
-    ensures sends { (r : RelayContents) → own ≡ own_for from (rows_at r.greatest r.rows)
+    ensures sends { (r : RelayContents) → live.now ≡ held_for from (rows_at r.greatest r.rows)
         → sending_of_found r from result ≡ planned_sending from (rows_at r.greatest r.rows) destination (window_shown r.frame) }
-    ensures disposition { (r : RelayContents) → own ≡ own_for from (rows_at r.greatest r.rows)
+    ensures disposition { (r : RelayContents) → live.now ≡ held_for from (rows_at r.greatest r.rows)
         → disposition_of_found r from result
         ≡ relayed_where_sent (planned_sending from (rows_at r.greatest r.rows) destination (window_shown r.frame)) }
     ensures room { (reply : List ℕ) → HasRoomFor result reply }
 {
+    let Some(live) = live else {
+        return Found::Nothing(Discard::ByProgram);
+    };
+    let allocation = live.allocation();
     match from {
         Source::Client(_) => {
-            let (Some(allocation), Some(peer)) = (own, destination) else {
+            let Some(peer) = destination else {
                 return Found::Nothing(Discard::ByProgram);
             };
             if !peer.is_of_family(allocation.family) {
@@ -55,7 +59,9 @@ pub(crate) fn window_found(
                 peer,
             }
         }
-        Source::Peer { slot, .. } => Found::WindowToClient { slot },
+        Source::Peer { .. } => Found::WindowToClient {
+            client: allocation.client,
+        },
     }
 }
 
@@ -69,23 +75,12 @@ pub(crate) fn window_to_peer(slot: usize, peer: Addr, window: Option<&[u8]>) -> 
     }
 }
 
-/// Sends a window to the client of the allocation at a slot.
-pub(crate) fn window_to_client<'a>(
-    tables: &Tables,
-    moment: u64,
-    slot: usize,
-    window: Option<&'a [u8]>,
-) -> Action<'a>
-    ensures { sending_of result ≡ window_to_client slot (rows_at moment tables.now) (option_copied window.entry) }
+/// Sends a window to a client.
+pub(crate) fn window_to_client(client: Addr, window: Option<&[u8]>) -> Action<'_>
+    ensures { sending_of result ≡ option_map (ToClient client) (option_copied window.entry) }
 {
-    let Some(bytes) = window else {
-        return Action::Nothing;
-    };
-    match tables.allocation_at(slot, moment) {
-        Some(allocation) => Action::ToClient {
-            client: allocation.client,
-            bytes,
-        },
+    match window {
+        Some(bytes) => Action::ToClient { client, bytes },
         None => Action::Nothing,
     }
 }

@@ -8,7 +8,7 @@ ghost use Rattle.relay.specs.ByPrograms.{is_there};
 use crate::error::RelayError;
 use crate::explaining::Grounds;
 use crate::found::{Found, window_found, window_to_client, window_to_peer};
-use crate::running::{context_for, last_slot_over, own_for, program_for, run_over, slot_for};
+use crate::running::{context_for, last_slot_over, live_for, program_for, run_over};
 use crate::step::{Step, discarded, relayed};
 use arrayvec::ArrayString;
 use attributes::Addr;
@@ -17,7 +17,7 @@ use credentials::User;
 use events::{Meta, Source};
 use helpers::Lookup;
 use loader::Loaded;
-use machine::{Frame, Outcome};
+use machine::Frame;
 use programs::{PASSES, SENDS};
 use rules::{Answer, Discard, answer_client, discard_by_rules};
 use std::alloc::Global;
@@ -78,14 +78,12 @@ impl Relay {
     ghost use Rattle.control.specs.declared.config.Field.TheVariants.{Nonce, Users};
     ghost use Rattle.machine.specs.Contents.{room_of};
     ghost use Rattle.tables.specs.Addresses.{is_ipv4};
-    ghost use Rattle.tables.specs.Rows.{rows_at};
-    ghost use Rattle.programs.specs.Runs.{slot_for};
     ghost use Rattle.semantics.specs.declared.limits.TheConstants.{MAX_DATAGRAM};
     ghost use Rattle.events.specs.Actions.{sending_of};
     ghost use Rattle.relay.specs.Errors.{IsFault};
     ghost use Rattle.machine.specs.Contents.{datagram_of};
     ghost use Rattle.rules.specs.Answers.{sending_of_answer, LiesInRoom};
-    ghost use Rattle.relay.specs.Found.{disposition_of_found, disposition_of_passing, sending_of_found, run_at, reply_of_passing, HasRun, HasRoomFor};
+    ghost use Rattle.relay.specs.Found.{disposition_of_found, disposition_of_passing, sending_of_found, reply_of_passing, HasRoomFor};
     ghost use Rattle.relay.specs.Grounds.{grounds_of};
     ghost use Rattle.relay.specs.Relays.{state_of, datagram_at};
     ghost use Rattle.relay.specs.Shipped.{AreShipped};
@@ -256,9 +254,8 @@ impl Relay {
             Found::WindowToPeer { slot, peer } => {
                 relayed(window_to_peer(slot, peer, self.frame.window()))
             }
-            Found::WindowToClient { slot } => {
-                let window = self.frame.window();
-                relayed(window_to_client(&self.tables, self.greatest, slot, window))
+            Found::WindowToClient { client } => {
+                relayed(window_to_client(client, self.frame.window()))
             }
             Found::Answer(answer) => match from {
                 Source::Client(client) => Step {
@@ -284,36 +281,19 @@ impl Relay {
         if !is_served(meta.from, &self.tables) {
             return Found::Nothing(Discard::NotServed);
         }
-        let own = own_for(&self.tables, self.greatest, meta.from);
-        let slot = slot_for(meta.from, own);
-        let outcome = self.run(meta, n, slot);
+        self.tables.law_are_well_formed();
+        let helpers = Lookup::new(live_for(&self.tables, self.greatest, meta.from));
+        let program = program_for(&self.client, &self.peer, meta.from);
+        let context = context_for(meta.transaction_id, meta.from);
+        let outcome = run_over(program, &mut self.frame, &helpers, &context, n);
         match outcome.verdict {
             PASSES => match meta.from {
                 Source::Client(client) => Found::Answer(self.pass_on(client)),
                 Source::Peer { .. } => Found::Nothing(Discard::ByProgram),
             },
-            SENDS => window_found(meta.from, own, outcome.destination),
+            SENDS => window_found(meta.from, &helpers.live, outcome.destination),
             _ => Found::Nothing(Discard::ByProgram),
         }
-    }
-
-    /// Runs the program of a datagram's side over the first `n` bytes of the room; its helpers look up in a slot.
-    #[inline(always)]
-    fn run(&mut self, meta: &Meta, n: usize, slot: Option<usize>) -> Outcome
-        requires short { n ≤ MAX_DATAGRAM }
-        requires slot { slot ≡ slot_for meta.now.from (rows_at self.old.greatest self.old.rows) }
-        ensures run { HasRun (length (datagram_at self.old n)) result self.new.frame (run_at self.old meta.entry.now n) }
-        ensures rest { self.new ≡ record self.old { frame = self.new.frame } }
-    {
-        let helpers = Lookup::new(&self.tables, self.greatest, slot);
-        let program = program_for(&self.client, &self.peer, meta.from);
-        run_over(
-            program,
-            &mut self.frame,
-            &helpers,
-            &context_for(meta.transaction_id, meta.from),
-            n,
-        )
     }
 
     /// Finds what explains the step of a datagram, the first `n` bytes of the room, and runs its program over the room.
@@ -324,8 +304,8 @@ impl Relay {
     {
         let moment = moment_of(self.greatest, meta.now);
         let ruled = discard_by_rules(&self.tables, moment, meta, &self.frame.room()[..n]);
-        let own = own_for(&self.tables, moment, meta.from);
-        let helpers = Lookup::new(&self.tables, moment, slot_for(meta.from, own));
+        self.tables.law_are_well_formed();
+        let helpers = Lookup::new(live_for(&self.tables, moment, meta.from));
         let program = program_for(&self.client, &self.peer, meta.from);
         let context = context_for(meta.transaction_id, meta.from);
         let slot = last_slot_over(program, &mut self.frame, &helpers, &context, n);

@@ -6,11 +6,9 @@ ghost use Rattle.machine.specs.Contents.{room_of};
 ghost use Rattle.machine.specs.Contexts.{environment_around, context_of};
 ghost use Rattle.machine.specs.Tracing.{run_over};
 ghost use Rattle.tables.specs.Rows.{rows_at};
-ghost use Rattle.tables.specs.Rows.{Rows};
-ghost use Rattle.programs.specs.Runs.{context_for, slot_for};
-ghost use Rattle.relay.specs.Found.{own_for};
+ghost use Rattle.programs.specs.Runs.{context_for};
 ghost use Rattle.relay.specs.ByPrograms.{program_for};
-ghost use Rattle.relay.specs.Found.{HasRun, answers_of_look_up};
+ghost use Rattle.relay.specs.Found.{HasRun, answers_of_look_up, held_for};
 ghost use Rattle.relay.specs.Reasons.{last_slot_of};
 
 use crate::explaining::LastSlot;
@@ -18,7 +16,7 @@ use events::{Meta, Source};
 use helpers::Lookup;
 use loader::Loaded;
 use machine::{Context, Frame, Outcome, Side, run, trace};
-use tables::{Allocation, Tables};
+use tables::{LiveSlot, Tables};
 use verifier::Verified;
 
 /// Returns the context of a datagram.
@@ -39,26 +37,15 @@ pub(crate) fn context_for(transaction_id: [u8; 12], from: Source) -> Context
     }
 }
 
-/// Returns the allocation of a client.
-pub(crate) fn own_for(tables: &Tables, moment: u64, from: Source) -> Option<Allocation>
-    ensures { result ≡ own_for from (rows_at moment tables.now) }
+/// Returns what the slot holds in which helpers look up, if its allocation is live at a moment: the slot of a client's
+/// allocation, or the one that a peer's datagram came to.
+#[inline(always)]
+pub(crate) fn live_for(tables: &Tables, moment: u64, from: Source) -> Option<LiveSlot<'_>>
+    ensures { result ≡ held_for from (rows_at moment tables.now) }
 {
     match from {
-        Source::Client(client) => tables.allocation_of(client, moment),
-        Source::Peer { .. } => None,
-    }
-}
-
-/// Returns the slot in which helpers look up, where a client has this allocation.
-pub(crate) fn slot_for(from: Source, own: Option<Allocation>) -> Option<usize>
-    ensures { (rows : Rows) → own ≡ own_for from rows → result ≡ slot_for from rows }
-{
-    match from {
-        Source::Client(_) => {
-            let allocation = own?;
-            Some(allocation.slot)
-        }
-        Source::Peer { slot, .. } => Some(slot),
+        Source::Client(client) => tables.live_of(client, moment),
+        Source::Peer { slot, .. } => tables.live_at(slot, moment),
     }
 }
 

@@ -114,12 +114,12 @@ impl Comparison {
         match self.random.below(8) {
             0 => difference(program, ran, traced, &NoAllocation),
             1 | 2 => difference(program, ran, traced, &Drawn::new(&mut self.random)),
-            3 => difference(program, ran, traced, &Lookup::new(&self.tables, NOW, None)),
+            3 => difference(program, ran, traced, &Lookup::new(None)),
             _ => difference(
                 program,
                 ran,
                 traced,
-                &Lookup::new(&self.tables, NOW, Some(0)),
+                &Lookup::new(self.tables.live_at(0, NOW)),
             ),
         }
     }
@@ -129,7 +129,7 @@ impl Comparison {
         let (ran, traced) = (&mut self.ran, &mut self.traced);
         let length = write_worked(worked, ran.area());
         start_both(&worked_context(worked.0), length, ran, traced);
-        let helpers = Lookup::new(&self.worked_tables, NOW, Some(0));
+        let helpers = Lookup::new(self.worked_tables.live_at(0, NOW));
         difference(program, ran, traced, &helpers)
     }
 

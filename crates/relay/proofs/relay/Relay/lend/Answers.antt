@@ -1,15 +1,15 @@
-use Rattle.std.proofs.Common.{◌≡◌, sym, ap, ◌∙◌}
-use Rattle.tables.specs.Rows.{rows_at}
+use Rattle.std.proofs.Common.{◌≡◌, option_map, sym, ap, ◌∙◌}
 use Rattle.events.specs.Actions.{sending_of}
+use Rattle.events.specs.Events.{ToClient}
 use Rattle.relay.specs.ByPrograms.{relayed_where_sent}
-use Rattle.relay.specs.Found.{sending_of_found, disposition_of_found, window_to_client}
+use Rattle.relay.specs.Found.{sending_of_found, disposition_of_found}
 use Rattle.relay.proofs.relay.Relay.lend.Goals as goal
 
--- what is sent to the client of the slot
+-- what is sent to the client
 sent : (c : goal.After-relayed-in-WindowToClient) → sending_of c.window_to_client.result ≡ sending_of_found c.args.self.now c.args.from c.args.found
 sent c =
     c.window_to_client.ensures
-    ∙ ap (λ window. window_to_client c.in-WindowToClient.slot (rows_at c.self.inside.greatest c.self.inside.tables) window) c.window-window.ensures
+    ∙ ap (option_map (ToClient c.in-WindowToClient.client)) c.window-in-WindowToClient.ensures
     ∙ (λ i. sending_of_found (c.self.view_is i) c.args.from (sym c.in-WindowToClient.is i))
 
 pub returns-in-WindowToClient-clause-answer : goal.returns-in-WindowToClient-clause-answer
