@@ -99,7 +99,7 @@ class Session:
         self.request = bytes(12)
 
     def credentials(self):
-        """Returns the attributes of a signed request, but for MESSAGE-INTEGRITY."""
+        """Returns the attributes of a signed request, except MESSAGE-INTEGRITY."""
         name = self.settings["user"].split(":", 1)[0]
         values = {"USERNAME": name, "REALM": self.settings["realm"], "NONCE": self.settings["nonce"]}
         return b"".join(attribute(kind, text.encode()) for kind, text in values.items())

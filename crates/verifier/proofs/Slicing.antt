@@ -8,7 +8,7 @@ use Rattle.interval.specs.Domains.{Operations, AreSound, ArePrecise}
 use Rattle.absstate.specs.Covers.{covers}
 use Rattle.absstate.specs.MemberSteps.{state_after}
 use Rattle.absstate.specs.declared.abstract_state.AbsState.{AbsState}
-use Rattle.semantics.specs.LooseRuns.{beginnings}
+use Rattle.semantics.specs.LooseRuns.{path_prefixes}
 use Rattle.semantics.specs.Runs.{IsSafe}
 use Rattle.semantics.specs.declared.fetching.Branch.TheVariants.{Taken}
 use Rattle.semantics.specs.declared.reason.Reason.{Reason}
@@ -140,7 +140,7 @@ module _ {D : Type 0} (ops : Operations D) (Member : D → ℕ → Type 0) (soun
       real ops Member sound code budget end.0.before comes.here comes.pending (kept_at comes.kept) (refusal.Stuck reason slot) laid_out
       (walking_of end.0.before (comes.pending ++ comes.here ∷ []) comes.kept comes.walks) (comes.slot_is, end.1)
   refused_verdict budget made (refusal.Budget slot) all comes =
-      let more : made < length (beginnings code) = more_paths ops Member sound code made comes.here comes.pending (kept_at comes.kept) (walking_of made (comes.pending ++ comes.here ∷ []) comes.kept comes.walks) in
+      let more : made < length (path_prefixes code) = more_paths ops Member sound code made comes.here comes.pending (kept_at comes.kept) (walking_of made (comes.pending ++ comes.here ∷ []) comes.kept comes.walks) in
       (laid_out, comes_inside made slot comes, omega (arith, more, all))
   refused_verdict budget made (refusal.Memory slot) all (inl start) = (laid_out, subst (StartsAt code) (sym start.1) (first_begins code laid_out.exit))
   refused_verdict budget made (refusal.Memory slot) all (inr last) = (laid_out, comes_inside last.before slot last.comes)

@@ -11,7 +11,7 @@ use Rattle.semantics.specs.Slots.{fetch, instructions_ahead}
 use Rattle.semantics.specs.laws.Slot.{ahead_start}
 use Rattle.semantics.specs.Machine.{start}
 use Rattle.semantics.specs.Runs.{IsSafe, run}
-use Rattle.semantics.specs.LooseRuns.{beginnings, beginnings_from}
+use Rattle.semantics.specs.LooseRuns.{path_prefixes, path_prefixes_from}
 use Rattle.semantics.specs.declared.reason.Reason.{Reason}
 use Rattle.semantics.specs.declared.fetching.Fetched.TheVariants.{Begins}
 use Rattle.semantics.specs.declared.fetching.Branch.{Branch}
@@ -29,7 +29,7 @@ use Rattle.absstate.specs.declared.abstract_step.Next.{Next}
 use Rattle.verifier.specs.Keeping.{kept_at, keeps_at, states_with, kept_with}
 use Rattle.verifier.specs.Layout.{IsLaidOut, StartsAt}
 use Rattle.verifier.specs.declared.kept.Kept.{Kept}
-use Rattle.verifier.specs.PendingStates.{AllRunsExit, IsReached, count_of_beginnings, counts_from}
+use Rattle.verifier.specs.PendingStates.{AllRunsExit, IsReached, count_of_prefixes, counts_from}
 use Rattle.verifier.specs.Refusing.{IsReal, MayRefuseOver}
 use Rattle.verifier.specs.Walk.{first_pending, BeginsInside, LeadsTo, IsNext, IsLeft, GoesOn, Advances, IsStepRefusal, IsCovered, Skips, IsWalkStep, waiting_states}
 use Rattle.verifier.specs.declared.refusal.Refusal.{Refusal}
@@ -89,12 +89,12 @@ module _ {D : Type 0} (P : Pending D → Type 0) where
 
 waiting_count : {D : Type 0} (code : List Insn) (on : Option (Pending D)) (pending : List (Pending D)) → counts_from code (waiting_states on pending) ≡ count_next code on + counts_from code pending
 waiting_count code None pending = omega arith
-waiting_count code (Some p) pending = omega (arith, sum_by_push (count_of_beginnings code) pending p)
+waiting_count code (Some p) pending = omega (arith, sum_by_push (count_of_prefixes code) pending p)
 
-some_begins : {D : Type 0} (code : List Insn) (here : Pending D) → BeginsInside code here → 1 ≤ count_of_beginnings code here
+some_begins : {D : Type 0} (code : List Insn) (here : Pending D) → BeginsInside code here → 1 ≤ count_of_prefixes code here
 some_begins code here inside =
     let i : Insn = inside.0 in
-    let fuel : count_of_beginnings code here ≡ length (beginnings_from code (suc (instructions_ahead code here.slot - 1)) here.slot) = ap (λ (k : ℕ). length (beginnings_from code k here.slot)) (fuel_is code here.slot i inside.1) in
+    let fuel : count_of_prefixes code here ≡ length (path_prefixes_from code (suc (instructions_ahead code here.slot - 1)) here.slot) = ap (λ (k : ℕ). length (path_prefixes_from code k here.slot)) (fuel_is code here.slot i inside.1) in
     omega (arith, fuel, counted_at code here.slot (instructions_ahead code here.slot - 1) i inside.1)
 
 -- ---- the states after a step
@@ -167,7 +167,7 @@ module _ {D : Type 0} (ops : Operations D) (Member : D → ℕ → Type 0) (soun
     pub inside : All (BeginsInside code) waits
     pub good : All (AllRunsExit Member code) waits → AllRunsExit Member code first_pending
     pub reached : ArePrecise ops Member → All (IsReached Member code) waits
-    pub counted : made + counts_from code waits ≤ length (beginnings code)
+    pub counted : made + counts_from code waits ≤ length (path_prefixes code)
     pub kept : AreKept waits states
 
   pub begins : (pending : List (Pending D)) (states : ℕ → List (AbsState D)) → IsLaidOut code → pending ≡ [] → ((n : ℕ) → states n ≡ []) → IsWalking 0 (pending ++ first_pending ∷ []) states
@@ -177,8 +177,8 @@ module _ {D : Type 0} (ops : Operations D) (Member : D → ℕ → Type 0) (soun
     reached = λ precise. one (IsReached Member code) (first_reached ops Member sound code);
     counted =
         let zero_pending : counts_from code pending ≡ 0 = ap (counts_from code) none in
-        let all : count_of_beginnings code (first_pending {D = D}) ≡ length (beginnings code) = ap (λ (k : ℕ). length (beginnings_from code k 0)) (ahead_start code) in
-        omega (arith, zero_pending, all, sum_by_push (count_of_beginnings code) pending first_pending);
+        let all : count_of_prefixes code (first_pending {D = D}) ≡ length (path_prefixes code) = ap (λ (k : ℕ). length (path_prefixes_from code k 0)) (ahead_start code) in
+        omega (arith, zero_pending, all, sum_by_push (count_of_prefixes code) pending first_pending);
     kept = λ n. subst (All (IsKept (pending ++ first_pending ∷ []) n)) (sym (nothing n)) (All-nil (IsKept (pending ++ first_pending ∷ []) n));
   } where
     one : (P : Pending D → Type 0) → P first_pending → All P (pending ++ first_pending ∷ [])
@@ -231,14 +231,14 @@ module _ {D : Type 0} (ops : Operations D) (Member : D → ℕ → Type 0) (soun
     stepped =
         let inside = goes_inside code here laid_out adv.insn adv.begins adv.accepted successors_are on adv.left adv.goes_on in
         let counts = counts_before code here adv.insn adv.begins adv.accepted successors_are on adv.left adv.goes_on in
-        let sums : counts_from code new ≡ counts_from code old + counts_from code adv.left = ap (counts_from code) adv.new_is ∙ sum_by-append (count_of_beginnings code) old adv.left in
+        let sums : counts_from code new ≡ counts_from code old + counts_from code adv.left = ap (counts_from code) adv.new_is ∙ sum_by-append (count_of_prefixes code) old adv.left in
         record {
           inside = all_new (BeginsInside code) (firsts (BeginsInside code) old (here ∷ []) walking.inside) inside.0 inside.1;
           good = good_first;
           reached = λ precise.
               let reached = reached_after ops Member sound precise code laid_out.jumps here adv.insn adv.begins adv.fits adv.accepted adv.step_is (last_of (IsReached Member code) old here (walking.reached precise)) on adv.left adv.goes_on in
               all_new (IsReached Member code) (firsts (IsReached Member code) old (here ∷ []) (walking.reached precise)) reached.0 reached.1;
-          counted = omega (arith, walking.counted, counts, sums, waiting_count code on new, sum_by_push (count_of_beginnings code) old here);
+          counted = omega (arith, walking.counted, counts, sums, waiting_count code on new, sum_by_push (count_of_prefixes code) old here);
           kept = λ n. subst (All (IsKept (waiting_states on new) n)) (sym (kept_is n)) (all_kept n (keeps && (n == here.slot)) (same_slots keeps n here.slot));
         }
 
@@ -260,7 +260,7 @@ module _ {D : Type 0} (ops : Operations D) (Member : D → ℕ → Type 0) (soun
       inside = firsts (BeginsInside code) rest (p ∷ []) walking.inside;
       good = λ goods. walking.good (All-push (AllRunsExit Member code) rest p goods (skipped (All-weaker (AllRunsExit Member code) (IsGoodAbove p.slot) (λ q h high. h) rest goods)));
       reached = λ precise. firsts (IsReached Member code) rest (p ∷ []) (walking.reached precise);
-      counted = omega (arith, walking.counted, sum_by_push (count_of_beginnings code) rest p);
+      counted = omega (arith, walking.counted, sum_by_push (count_of_prefixes code) rest p);
       kept = λ n. All-weaker (IsKept (rest ++ p ∷ []) n) (IsKept rest n) (λ k kept goods. kept (All-push (IsGoodAbove n) rest p goods (λ high. skipped (above n (omega (arith, high)) goods)))) (states n) (walking.kept n);
     }
 
@@ -299,5 +299,5 @@ module _ {D : Type 0} (ops : Operations D) (Member : D → ℕ → Type 0) (soun
   real code budget made here pending states (refusal.Memory slot) laid_out walking refused = (laid_out, subst (StartsAt code) (sym refused) (last_of (BeginsInside code) pending here walking.inside))
 
   -- after the budget's steps there is a beginning of a path more than they
-  pub more_paths : (code : List Insn) (made : ℕ) (here : Pending D) (pending : List (Pending D)) (states : ℕ → List (AbsState D)) → IsWalking ops Member sound code made (pending ++ here ∷ []) states → made < length (beginnings code)
-  more_paths code made here pending states walking = omega (arith, walking.counted, sum_by_push (count_of_beginnings code) pending here, some_begins code here (last_of (BeginsInside code) pending here walking.inside))
+  pub more_paths : (code : List Insn) (made : ℕ) (here : Pending D) (pending : List (Pending D)) (states : ℕ → List (AbsState D)) → IsWalking ops Member sound code made (pending ++ here ∷ []) states → made < length (path_prefixes code)
+  more_paths code made here pending states walking = omega (arith, walking.counted, sum_by_push (count_of_prefixes code) pending here, some_begins code here (last_of (BeginsInside code) pending here walking.inside))

@@ -7,7 +7,7 @@ use Rattle.semantics.specs.Machine.{State, Environment, start}
 use Rattle.semantics.specs.Slots.{instructions_ahead}
 use Rattle.semantics.specs.Runs.{Exited, run, IsPossible, IsSafe}
 use Rattle.semantics.specs.declared.limits.TheConstants.{MAX_DATAGRAM}
-use Rattle.semantics.specs.LooseRuns.{Loosens, LooselyReaches, beginnings_from}
+use Rattle.semantics.specs.LooseRuns.{Loosens, LooselyReaches, path_prefixes_from}
 use Rattle.absstate.specs.Membership.{Loose, Strict, IsMember}
 use Rattle.absstate.specs.laws.Step.Anchors.{NameNoMadeAnchor, reach_of}
 use Rattle.verifier.specs.Refusing.{HasNoSums}
@@ -61,11 +61,11 @@ pub record IsReached {D : Type 0} (Member : D → ℕ → Type 0) (code : List I
   pub over : (n : ℕ) → floor ≤ℤ pos n → IsReachedOver Member code p n
   pub plain : HasNoSums code → NameNoMadeAnchor p.state.registers × (floor ≤ℤ p.state.proved)
 
--- ---- beginnings of paths
+-- ---- path prefixes
 
--- the number of the beginnings of paths from a pending state on
-abbrev pub count_of_beginnings : {D : Type 0} → List Insn → Pending D → ℕ
-count_of_beginnings code p = length (beginnings_from code (instructions_ahead code p.slot) p.slot)
+-- the number of path prefixes from a pending state on
+abbrev pub count_of_prefixes : {D : Type 0} → List Insn → Pending D → ℕ
+count_of_prefixes code p = length (path_prefixes_from code (instructions_ahead code p.slot) p.slot)
 
 abbrev pub counts_from : {D : Type 0} → List Insn → List (Pending D) → ℕ
-counts_from code pending = sum_by (count_of_beginnings code) pending
+counts_from code pending = sum_by (count_of_prefixes code) pending

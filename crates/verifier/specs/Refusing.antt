@@ -4,7 +4,7 @@ use Rattle.insn.specs.declared.instruction.Insn.{Insn}
 use Rattle.semantics.specs.Slots.{fetch}
 use Rattle.semantics.specs.Runs.{IsSafe}
 use Rattle.semantics.specs.declared.fetching.Fetched.TheVariants.{Begins}
-use Rattle.semantics.specs.LooseRuns.{IsLooselyStuck, beginnings}
+use Rattle.semantics.specs.LooseRuns.{IsLooselyStuck, path_prefixes}
 use Rattle.semantics.specs.Reasons.{reason_at}
 use Rattle.semantics.specs.declared.reason.Reason.{Reason}
 use Rattle.interval.specs.Domains.{Operations, ArePrecise}
@@ -24,15 +24,15 @@ abbrev pub HasNoSums : List Insn → Type 0
 HasNoSums code = (slot : ℕ) (i : Insn) → fetch code slot ≡ Begins i → IsRegisterSum i → ⊥
 
 -- The cause that a refusal of code has. A reason with a slot is the first fault of the layout, or else, in code that is laid
--- out, a step that is really stuck there. The budget is refused where the code has more beginnings of paths than it allows,
+-- out, a step that is really stuck there. The budget is refused where the code has more path prefixes than it allows,
 -- and memory where an allocation failed, both at an instruction.
 abbrev pub MayRefuseWhere : (Reason → ℕ → Type 0) → List Insn → ℕ → Refusal → Type 0
 MayRefuseWhere Real code budget (refusal.Stuck reason slot) = IsLayoutFault code reason slot ⊎ (IsLaidOut code × IsStepReason reason × Real reason slot)
-MayRefuseWhere Real code budget (refusal.Budget slot) = IsLaidOut code × StartsAt code slot × (budget < length (beginnings code))
+MayRefuseWhere Real code budget (refusal.Budget slot) = IsLaidOut code × StartsAt code slot × (budget < length (path_prefixes code))
 MayRefuseWhere Real code budget (refusal.Memory slot) = IsLaidOut code × StartsAt code slot
 
 -- A refusal of a step is real where a loose run is stuck there for that reason. A refusal that speaks of the places of
--- pointers, by the reason and the instruction at that slot, is real in code without sums of registers.
+-- pointers, by the reason and the instruction at that slot, is real in code that adds and subtracts no two registers.
 abbrev pub IsReal : List Insn → Reason → ℕ → Type 0
 IsReal code reason slot = ((i : Insn) → fetch code slot ≡ Begins i → IsAboutPlaces reason i → HasNoSums code) → IsLooselyStuck code reason slot
 

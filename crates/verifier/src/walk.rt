@@ -250,8 +250,8 @@ pub fn verify_with<D: Domain, L: Ledger>(
 /// A fault of the layout: the first faulty jump (V1 to V3), or a last instruction that is no exit (V4). Else the
 /// first refusal on the paths (V5 to V16, V18, V20), each a step at which a loose run is stuck; V17 at the instruction
 /// whose step would pass the budget; V19 where memory runs out, at the instruction in hand, or at slot 0 before the first
-/// step. In code with sums of registers, V10 and V11 at a sum with a constant may come where no run is stuck: see
-/// docs/DECISIONS.md, "Refusals are stuck runs".
+/// step. In code that adds or subtracts two registers, V10 and V11 at a sum with a constant may come where no run is stuck:
+/// see docs/DECISIONS.md, "Refusals are stuck runs".
 pub fn verify<L: Ledger>(
     alloc: Global,
     code: &[Insn],

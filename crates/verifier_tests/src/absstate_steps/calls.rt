@@ -78,7 +78,7 @@ pub static REFUSED: [Refused; 44] = [
         "V15 argument 2",
     ),
     ("mov r2, r10\nadd r2, -513", "call 9", "V15 argument 2"),
-    // a record that is not set, or but for its first byte or its last one
+    // a record that is not set, or is set except for its first byte or its last one
     ("mov r2, r10\nadd r2, -512", "call 7", "V6"),
     (
         "stdw [r10-24], 0\nstdw [r10-16], 0\nstw [r10-8], 0\nmov r2, r10\nadd r2, -25",

@@ -1,4 +1,4 @@
--- Interface. In code without sums of registers, on 64 bits, no register comes to name an anchor that was made.
+-- Interface. In code that adds and subtracts no two registers, on 64 bits, no register comes to name an anchor that was made.
 use Rattle.std.proofs.Common.{◌≡◌, ℕ, zero, suc, ◌<◌, ◌^◌, Bool, true, false, ℤ, ◌+ℤ◌, ◌-ℤ◌, List, [], ◌∷◌, Option, Some, None, Result, Ok, Err, refl, sym, ap, subst, pos}
 use Rattle.std.specs.Prelude.{◌==◌, IfOk, slice_set, if◌then◌else◌}
 use Rattle.std.specs.Option.{ok_or, option_map}
