@@ -1,4 +1,4 @@
--- Interface. That a buffer begins with a message has at most one proof, as an invariant wants.
+-- Interface. That a buffer begins with a message has at most one proof, as an invariant needs.
 use Rattle.std.specs.Prelude.{ℕ, List}
 use Rattle.std.specs.List.{AllByRecursion-prop}
 use Rattle.std.specs.Coded.{Coded-set, coded_ℕ, coded_list, le_prop}
