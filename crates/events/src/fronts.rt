@@ -9,33 +9,12 @@ ghost use Rattle.events.specs.Lines.{side_text, source_text};
 ghost use Rattle.events.specs.declared.fronts.TheConstants.{FRONT};
 
 use crate::meta::{Meta, Source};
+use crate::room::{push_bytes, push_number};
 use arrayvec::ArrayVec;
 use attributes::Addr;
-use itoa::{Buffer, Integer};
 
 /// Room for what precedes the bytes of a line.
 const FRONT: usize = 112;
-
-/// Appends bytes, for which there is room.
-fn push(front: &mut ArrayVec<u8, FRONT>, bytes: &[u8])
-    requires { array_vec_len front.old + length bytes.now ≤ FRONT }
-    ensures bytes { front.new.items ≡ front.old.items ++ bytes.now }
-    ensures len { array_vec_len front.new ≡ array_vec_len front.old + length bytes.now }
-{
-    let Ok(()) = front.try_extend_from_slice(bytes) else {
-        unreachable!();
-    };
-}
-
-/// Appends a number in decimal digits, where there is room for the longest one of its type.
-fn push_number<N: Integer>(front: &mut ArrayVec<u8, FRONT>, number: N)
-    requires { array_vec_len front.old + N.MAX_STR_LEN ≤ FRONT }
-    ensures bytes { front.new.items ≡ front.old.items ++ N.text number }
-    ensures len { array_vec_len front.new ≤ array_vec_len front.old + N.MAX_STR_LEN }
-{
-    let mut buffer = Buffer::new();
-    push(front, buffer.format(number).as_bytes());
-}
 
 /// Appends four bytes in decimal digits, with points between them.
 fn push_dotted(front: &mut ArrayVec<u8, FRONT>, ip: [u8; 4])
@@ -45,11 +24,11 @@ fn push_dotted(front: &mut ArrayVec<u8, FRONT>, ip: [u8; 4])
 {
     let [a, b, c, d] = ip;
     push_number(front, a);
-    push(front, b".");
+    push_bytes(front, b".");
     push_number(front, b);
-    push(front, b".");
+    push_bytes(front, b".");
     push_number(front, c);
-    push(front, b".");
+    push_bytes(front, b".");
     push_number(front, d);
 }
 
@@ -66,7 +45,7 @@ fn push_digits<const N: usize>(front: &mut ArrayVec<u8, FRONT>, bytes: [u8; N])
     let Ok(()) = hex::encode_to_slice(bytes, digits) else {
         unreachable!();
     };
-    push(front, digits);
+    push_bytes(front, digits);
 }
 
 /// Appends the text of an address.
@@ -78,13 +57,13 @@ fn push_address(front: &mut ArrayVec<u8, FRONT>, address: &Addr)
     match *address {
         Addr::V4 { ip, port } => {
             push_dotted(front, ip);
-            push(front, b":");
+            push_bytes(front, b":");
             push_number(front, port);
         }
         Addr::V6 { ip, port } => {
-            push(front, b"[");
+            push_bytes(front, b"[");
             push_digits(front, ip);
-            push(front, b"]:");
+            push_bytes(front, b"]:");
             push_number(front, port);
         }
     }
@@ -97,7 +76,7 @@ fn push_peer(front: &mut ArrayVec<u8, FRONT>, slot: usize, peer: &Addr)
     ensures len { array_vec_len front.new ≤ array_vec_len front.old + 61 }
 {
     push_number(front, slot);
-    push(front, b" ");
+    push_bytes(front, b" ");
     push_address(front, peer);
 }
 
@@ -128,14 +107,14 @@ pub(crate) fn datagram_front(meta: &Meta) -> ArrayVec<u8, FRONT>
     ensures { result.items ≡ side_text meta.entry.now.from ++ 0x20 ∷ (decimal meta.entry.now.now ++ 0x20 ∷ (encode_lower meta.entry.now.transaction_id ++ 0x20 ∷ (source_text meta.entry.now.from ++ 0x20 ∷ []))) }
 {
     let mut front = ArrayVec::new();
-    push(&mut front, side(&meta.from));
-    push(&mut front, b" ");
+    push_bytes(&mut front, side(&meta.from));
+    push_bytes(&mut front, b" ");
     push_number(&mut front, meta.now);
-    push(&mut front, b" ");
+    push_bytes(&mut front, b" ");
     push_digits(&mut front, meta.transaction_id);
-    push(&mut front, b" ");
+    push_bytes(&mut front, b" ");
     push_source(&mut front, &meta.from);
-    push(&mut front, b" ");
+    push_bytes(&mut front, b" ");
     front
 }
 
@@ -144,9 +123,9 @@ pub(crate) fn peer_front(slot: usize, peer: &Addr) -> ArrayVec<u8, FRONT>
     ensures { result.items ≡ codes "p" ++ 0x20 ∷ (decimal slot ++ 0x20 ∷ (address_text peer.now ++ 0x20 ∷ [])) }
 {
     let mut front = ArrayVec::new();
-    push(&mut front, b"p ");
+    push_bytes(&mut front, b"p ");
     push_peer(&mut front, slot, peer);
-    push(&mut front, b" ");
+    push_bytes(&mut front, b" ");
     front
 }
 
@@ -155,8 +134,8 @@ pub(crate) fn client_front(client: &Addr) -> ArrayVec<u8, FRONT>
     ensures { result.items ≡ codes "c" ++ 0x20 ∷ (address_text client.now ++ 0x20 ∷ []) }
 {
     let mut front = ArrayVec::new();
-    push(&mut front, b"c ");
+    push_bytes(&mut front, b"c ");
     push_address(&mut front, client);
-    push(&mut front, b" ");
+    push_bytes(&mut front, b" ");
     front
 }

@@ -7,10 +7,12 @@ mod event;
 mod fronts;
 mod meta;
 mod parsing;
+mod room;
 mod writing;
 
 pub use action::Action;
 pub use event::Event;
 pub use meta::{Meta, Source};
 pub use parsing::{Parsed, parse};
+pub use room::{push_bytes, push_number};
 pub use writing::{write_answer, write_event};

@@ -10,7 +10,7 @@ ghost use Rattle.relay.specs.declared.reason.TheConstants.{ENDING, LONGEST};
 use arrayvec::ArrayVec;
 use control::{Grant, Response};
 use credentials::AuthError;
-use itoa::{Buffer, Integer};
+use events::{push_bytes, push_number};
 use rules::{Discard, Disposition};
 use stun::registry::{ErrorCode, law_phrases_are_short};
 
@@ -45,27 +45,6 @@ pub(crate) fn reason_of(done: Disposition, ruled: Option<Discard>, slot: usize) 
     }
 }
 
-/// Appends bytes, for which there is room.
-fn push(text: &mut ArrayVec<u8, ENDING>, bytes: &[u8])
-    requires { array_vec_len text.old + length bytes.now ≤ ENDING }
-    ensures bytes { text.new.items ≡ text.old.items ++ bytes.now }
-    ensures len { array_vec_len text.new ≡ array_vec_len text.old + length bytes.now }
-{
-    let Ok(()) = text.try_extend_from_slice(bytes) else {
-        unreachable!();
-    };
-}
-
-/// Appends a number in decimal digits, where there is room for the longest one of its type.
-fn push_number<N: Integer>(text: &mut ArrayVec<u8, ENDING>, number: N)
-    requires { array_vec_len text.old + N.MAX_STR_LEN ≤ ENDING }
-    ensures bytes { text.new.items ≡ text.old.items ++ N.text number }
-    ensures len { array_vec_len text.new ≤ array_vec_len text.old + N.MAX_STR_LEN }
-{
-    let mut buffer = Buffer::new();
-    push(text, buffer.format(number).as_bytes());
-}
-
 /// Appends what a grant says.
 fn push_grant(text: &mut ArrayVec<u8, ENDING>, grant: Grant)
     requires { array_vec_len text.old + LONGEST ≤ ENDING }
@@ -73,21 +52,21 @@ fn push_grant(text: &mut ArrayVec<u8, ENDING>, grant: Grant)
     ensures len { array_vec_len text.new ≤ array_vec_len text.old + LONGEST }
 {
     match grant {
-        Grant::Mapped => push(text, b"granted an address"),
+        Grant::Mapped => push_bytes(text, b"granted an address"),
         Grant::Allocated { slot, lifetime, .. } => {
-            push(text, b"allocated slot ");
+            push_bytes(text, b"allocated slot ");
             push_number(text, slot);
-            push(text, b" for ");
+            push_bytes(text, b" for ");
             push_number(text, lifetime);
-            push(text, b" seconds");
+            push_bytes(text, b" seconds");
         }
-        Grant::Refreshed { lifetime: 0 } => push(text, b"ended"),
+        Grant::Refreshed { lifetime: 0 } => push_bytes(text, b"ended"),
         Grant::Refreshed { lifetime } => {
-            push(text, b"refreshed for ");
+            push_bytes(text, b"refreshed for ");
             push_number(text, lifetime);
-            push(text, b" seconds");
+            push_bytes(text, b" seconds");
         }
-        Grant::Done => push(text, b"granted"),
+        Grant::Done => push_bytes(text, b"granted"),
     }
 }
 
@@ -112,10 +91,10 @@ fn push_refusal(text: &mut ArrayVec<u8, ENDING>, error: ErrorCode)
     ensures len { array_vec_len text.new ≤ array_vec_len text.old + LONGEST }
 {
     law_phrases_are_short();
-    push(text, b"refused ");
+    push_bytes(text, b"refused ");
     push_number(text, error.code());
-    push(text, b" ");
-    push(text, error.phrase().as_bytes());
+    push_bytes(text, b" ");
+    push_bytes(text, error.phrase().as_bytes());
 }
 
 /// Appends what a response says.
@@ -126,7 +105,7 @@ fn push_response(text: &mut ArrayVec<u8, ENDING>, response: Response)
 {
     match response {
         Response::Granted(grant) => push_grant(text, grant),
-        Response::Unauthenticated(error) => push(text, credentials_text(error)),
+        Response::Unauthenticated(error) => push_bytes(text, credentials_text(error)),
         Response::Refused(error) => push_refusal(text, error),
     }
 }
@@ -158,12 +137,12 @@ fn push_reason(text: &mut ArrayVec<u8, ENDING>, reason: Reason)
     ensures len { array_vec_len text.new ≤ array_vec_len text.old + LONGEST }
 {
     match reason {
-        Reason::NonceSet => push(text, b"nonce set"),
-        Reason::Done(Disposition::Relayed) => push(text, b"relayed"),
+        Reason::NonceSet => push_bytes(text, b"nonce set"),
+        Reason::Done(Disposition::Relayed) => push_bytes(text, b"relayed"),
         Reason::Done(Disposition::Answered(response)) => push_response(text, response),
-        Reason::Done(Disposition::Discarded(reason)) => push(text, discard_text(reason)),
+        Reason::Done(Disposition::Discarded(reason)) => push_bytes(text, discard_text(reason)),
         Reason::Program { slot } => {
-            push(text, b"discarded by the program at slot ");
+            push_bytes(text, b"discarded by the program at slot ");
             push_number(text, slot);
         }
     }
@@ -174,8 +153,8 @@ pub(crate) fn ending(reason: Reason) -> ArrayVec<u8, ENDING>
     ensures { result.items ≡ line_ending (Some reason) }
 {
     let mut text = ArrayVec::new();
-    push(&mut text, b" ; ");
+    push_bytes(&mut text, b" ; ");
     push_reason(&mut text, reason);
-    push(&mut text, b"\n");
+    push_bytes(&mut text, b"\n");
     text
 }

@@ -6,4 +6,4 @@ use Rattle.events.proofs.fronts.push_digits.Goals as goal
 pub returns-clause-glyphs : goal.returns-clause-glyphs
 returns-clause-glyphs g c =
     let bytes : IsBytes c.args.bytes = search rules in
-    c.push.ensures.bytes ∙ ap (λ l. c.args.front.now.items ++ l) (c.in-Ok.ensures.written ∙ sym (digits_are c.args.bytes bytes))
+    c.push_bytes.ensures.bytes ∙ ap (λ l. c.args.front.now.items ++ l) (c.in-Ok.ensures.written ∙ sym (digits_are c.args.bytes bytes))

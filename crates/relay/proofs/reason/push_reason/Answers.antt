@@ -7,7 +7,7 @@ use Rattle.relay.proofs.reason.push_reason.Goals as goal
 
 pub returns-in-Program-clause-bytes : goal.returns-in-Program-clause-bytes
 returns-in-Program-clause-bytes c =
-    pushed c.args.text.now.items c.push-in-Program.new.text.items c.push_number.new.text.items
+    pushed c.args.text.now.items c.push_bytes-in-Program.new.text.items c.push_number.new.text.items
     (codes "discarded by the program at slot ") (decimal c.in-Program.slot)
-    c.push-in-Program.ensures.bytes c.push_number.ensures.bytes
+    c.push_bytes-in-Program.ensures.bytes c.push_number.ensures.bytes
     ∙ ap (λ (reason : Reason). c.args.text.now.items ++ explanation_text reason) (sym c.in-Program.is)
