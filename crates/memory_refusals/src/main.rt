@@ -2,15 +2,14 @@
 #![tactic(auto)]
 
 use anyhow::{Result, bail};
-use arrayvec::ArrayString;
 use asm::assemble;
 use control::Config;
-use credentials::User;
 use disasm::disassemble;
 use insn::{Insn, decode};
 use loader::{Loaded, load};
 use machine::Frame;
 use relay::Relay;
+use sample_relay::config;
 use std::alloc::Global;
 use std::env;
 use std::fmt::Display;
@@ -32,23 +31,7 @@ const TEXT: &str =
 
 /// Returns what a relay of two slots is made of: its configuration, and the programs of both sides.
 fn parts(alloc: Global) -> Result<(Config, Loaded, Loaded)> {
-    let mut users = Vec::new(alloc);
-    users.push(User {
-        name: String::from_str(alloc, "u")?,
-        password: String::from_str(alloc, "p")?,
-    })?;
-    let mut nonce = ArrayString::new();
-    let _ = nonce.try_push_str("n1");
-    let config = Config {
-        ip: [127, 0, 0, 1],
-        ip6: None,
-        first_port: 49152,
-        slots: 2,
-        realm: String::from_str(alloc, "relay")?,
-        nonce,
-        users,
-        secret: None,
-    };
+    let config = config(alloc, [127, 0, 0, 1], 2)?;
     Ok((config, load(alloc, &PROGRAM)?, load(alloc, &PROGRAM)?))
 }
 

@@ -1,11 +1,7 @@
 //! A relay with the shipped programs, from the first request to the end of a channel. The messages and codes are worked by
 //! hand, and with the HMAC of Python's library.
 
-use arrayvec::ArrayString;
 use control::Config;
-use credentials::User;
-use loader::load;
-use programs::{CLIENT, PEER};
 use relay::{Relay, ReplayError};
 use std::alloc::{AllocError, Global};
 use std::process::Abort;
@@ -121,31 +117,12 @@ pub(crate) static STORY: [(&str, &str); 23] = [
 
 /// Returns a configuration of two slots.
 pub(crate) fn config(alloc: Global) -> Result<Config, AllocError> {
-    let mut users = Vec::new(alloc);
-    users.push(User {
-        name: String::from_str(alloc, "u")?,
-        password: String::from_str(alloc, "p")?,
-    })?;
-    let mut nonce = ArrayString::new();
-    let _ = nonce.try_push_str("n1");
-    Ok(Config {
-        ip: [203, 0, 113, 1],
-        ip6: None,
-        first_port: 49152,
-        slots: 2,
-        realm: String::from_str(alloc, "relay")?,
-        nonce,
-        users,
-        secret: None,
-    })
+    sample_relay::config(alloc, [203, 0, 113, 1], 2)
 }
 
 /// Makes a relay with the shipped programs.
 pub(crate) fn shipped(alloc: Global) -> Result<Relay, Fail> {
-    let client = load(alloc, CLIENT)?;
-    let peer = load(alloc, PEER)?;
-    let relay = Relay::new(alloc, config(alloc)?, client, peer)?;
-    Ok(relay)
+    Ok(sample_relay::shipped(alloc, config(alloc)?)?)
 }
 
 /// Returns what a relay answers to an event, a line.
