@@ -1,6 +1,6 @@
 //! Decimal numbers in texts.
 #![tactic(auto)]
 
-mod reading;
+mod digits;
 
-pub use reading::number;
+pub use digits::number;

@@ -1,7 +1,7 @@
 //! Tests of `attributes`: the addresses of RFC 5769 and worked ones, and malformed values.
 
-mod reading;
-mod writing;
+mod read_values;
+mod written_values;
 
 use attributes::Addr;
 

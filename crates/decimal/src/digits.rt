@@ -1,4 +1,4 @@
-//! Reads decimal numbers.
+//! Decimal numbers without needless zeros.
 
 ghost use Rattle.std.specs.Prelude.{◌≡◌, ◌^◌};
 ghost use Rattle.decimal.specs.Decimals.{decimal_in};

@@ -3,7 +3,7 @@ use Rattle.std.specs.Prelude.{decimal}
 use Rattle.std.proofs.lemmas.Bool.{both_ways}
 use Rattle.std.proofs.lemmas.Slice.Eq.{bytes_eq-Decides}
 use Rattle.decimal.proofs.Numbers.{is_number, is_none, not_utf8, parsed}
-use Rattle.decimal.proofs.reading.number.Goals as goal
+use Rattle.decimal.proofs.digits.number.Goals as goal
 
 pub returns-in_default : goal.returns-in_default
 returns-in_default c = not_utf8 c.args.text.now c.in_default.ensures.cases.0
