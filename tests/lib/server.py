@@ -188,7 +188,7 @@ class Client:
             raise ValueError(f"{kind:#06x} is not answered")
         if key and answer.kind == kind | 0x100:
             if answer.first(INTEGRITY) != hmac.new(key, answer.covered, hashlib.sha1).digest():
-                raise ValueError(f"{kind:#06x} is answered with a wrong code")
+                raise ValueError(f"{kind:#06x} is answered with a wrong MESSAGE-INTEGRITY")
         return answer
 
     def signed(self, kind, given, peer=None):

@@ -46,7 +46,7 @@ fn refused_credentials(error: AuthError) -> ErrorCode
     ensures { result ≡ refused_credentials error }
 {
     match error {
-        AuthError::Missing | AuthError::UnknownUser | AuthError::WrongCode => {
+        AuthError::Missing | AuthError::UnknownUser | AuthError::WrongIntegrity => {
             ErrorCode::Unauthenticated
         }
         AuthError::Incomplete => ErrorCode::BadRequest,

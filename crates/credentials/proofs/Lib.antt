@@ -1,4 +1,4 @@
-pub mod CodeBytes
+pub mod IntegrityBytes
 pub mod Users
 pub mod Values
 pub mod Signed

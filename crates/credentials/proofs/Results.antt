@@ -10,11 +10,11 @@ use Rattle.stun.specs.Messages.{Parts}
 use Rattle.stun.specs.Registry.{message_integrity}
 use Rattle.stun.specs.declared.registry.attribute.TheConstants.{USERNAME, REALM, NONCE}
 use Rattle.credentials.specs.Checks.{Users, Directory, HasAccount, HasNoAccount, HasCredentials, IsChecked, IsUser, IsNoUser, first_value}
-use Rattle.credentials.specs.Integrity.{code_under}
+use Rattle.credentials.specs.Integrity.{integrity_under}
 use Rattle.credentials.specs.Results.{user_of, account_at, check_result}
 use Rattle.credentials.specs.TimeLimited.{Account}
 use Rattle.credentials.specs.declared.checking.AuthError.{AuthError}
-use Rattle.credentials.specs.declared.checking.AuthError.TheVariants.{Missing, Incomplete, StaleNonce, UnknownUser, WrongCode}
+use Rattle.credentials.specs.declared.checking.AuthError.TheVariants.{Missing, Incomplete, StaleNonce, UnknownUser, WrongIntegrity}
 
 same_bytes : (xs ys : List ℕ) → xs ≡ ys → bytes_eq xs ys ≡ true
 same_bytes xs ys e = (bytes_eq-Decides xs ys).1 e
@@ -61,73 +61,73 @@ module _ (realm : List ℕ) (directory : Directory) (name : List ℕ) where
 -- ---- the tests, from the last to the first
 
 module _ (p : Parts) (realm : List ℕ) (directory : Directory) (nonce : List ℕ) where
-  abbrev code_tested : Account → List ℕ → Option (List ℕ) → Result Account AuthError
-  code_tested account code made = do
-    right ← ok_or made WrongCode
-    _ ← check (bytes_eq right code) WrongCode
+  abbrev integrity_tested : Account → List ℕ → Option (List ℕ) → Result Account AuthError
+  integrity_tested account integrity made = do
+    right ← ok_or made WrongIntegrity
+    _ ← check (bytes_eq right integrity) WrongIntegrity
     Ok account
 
   abbrev account_tested : List ℕ → Option Account → Result Account AuthError
-  account_tested code found = do
+  account_tested integrity found = do
     account ← ok_or found UnknownUser
-    code_tested account code (code_under account.key p)
+    integrity_tested account integrity (integrity_under account.key p)
 
   abbrev account_of_name : List ℕ → Option Account
   account_of_name name = account_at realm directory name (user_of directory.users name)
 
   abbrev nonce_tested : List ℕ → List ℕ → List ℕ → Result Account AuthError
-  nonce_tested code name given = do
+  nonce_tested integrity name given = do
     _ ← check (bytes_eq given nonce) StaleNonce
-    account_tested code (account_of_name name)
+    account_tested integrity (account_of_name name)
 
   abbrev all_tested : Option (List ℕ) → Option (List ℕ) → Option (List ℕ) → Option (List ℕ) → Result Account AuthError
-  all_tested code name realm given = do
-    code ← ok_or code Missing
+  all_tested integrity name realm given = do
+    integrity ← ok_or integrity Missing
     name ← ok_or name Incomplete
     _ ← ok_or realm Incomplete
     given ← ok_or given Incomplete
-    nonce_tested code name given
+    nonce_tested integrity name given
 
-  right_code : (account : Account) (code : List ℕ) → code_tested account code (Some code) ≡ Ok account
-  right_code account code = ap (λ b. check b WrongCode >>= (λ _. Ok account)) (same_bytes code code refl)
+  right_integrity : (account : Account) (integrity : List ℕ) → integrity_tested account integrity (Some integrity) ≡ Ok account
+  right_integrity account integrity = ap (λ b. check b WrongIntegrity >>= (λ _. Ok account)) (same_bytes integrity integrity refl)
 
-  wrong_code : (account : Account) (code : List ℕ) (made : Option (List ℕ)) → made ≢ Some code → code_tested account code made ≡ Err WrongCode
-  wrong_code account code None ne = refl
-  wrong_code account code (Some right) ne = ap (λ b. check b WrongCode >>= (λ _. Ok account)) (other_bytes right code (λ e. ne (ap Some e)))
+  wrong_integrity : (account : Account) (integrity : List ℕ) (made : Option (List ℕ)) → made ≢ Some integrity → integrity_tested account integrity made ≡ Err WrongIntegrity
+  wrong_integrity account integrity None ne = refl
+  wrong_integrity account integrity (Some right) ne = ap (λ b. check b WrongIntegrity >>= (λ _. Ok account)) (other_bytes right integrity (λ e. ne (ap Some e)))
 
   -- with all four attributes, the nonce is compared
-  with_all : (code name given : List ℕ) → HasCredentials p given code name → check_result p realm directory nonce ≡ nonce_tested code name given
-  with_all code name given has =
-      λ i. all_tested (has.code_is i) (has.name_is i) (has.realm_is i) (has.nonce_is i)
+  with_all : (integrity name given : List ℕ) → HasCredentials p given integrity name → check_result p realm directory nonce ≡ nonce_tested integrity name given
+  with_all integrity name given has =
+      λ i. all_tested (has.integrity_is i) (has.name_is i) (has.realm_is i) (has.nonce_is i)
 
   -- with the current nonce, the account is looked up
-  looked_up : (code name : List ℕ) → HasCredentials p nonce code name → check_result p realm directory nonce ≡ account_tested code (account_of_name name)
-  looked_up code name has =
-      with_all code name nonce has ∙ ap (λ b. check b StaleNonce >>= (λ _. account_tested code (account_of_name name))) (same_bytes nonce nonce refl)
+  looked_up : (integrity name : List ℕ) → HasCredentials p nonce integrity name → check_result p realm directory nonce ≡ account_tested integrity (account_of_name name)
+  looked_up integrity name has =
+      with_all integrity name nonce has ∙ ap (λ b. check b StaleNonce >>= (λ _. account_tested integrity (account_of_name name))) (same_bytes nonce nonce refl)
 
-  of_account : (code name : List ℕ) (account : Account) → HasCredentials p nonce code name → HasAccount realm directory name account
-      → check_result p realm directory nonce ≡ code_tested account code (code_under account.key p)
-  of_account code name account has is = looked_up code name has ∙ ap (account_tested code) (has_account realm directory name account is)
+  of_account : (integrity name : List ℕ) (account : Account) → HasCredentials p nonce integrity name → HasAccount realm directory name account
+      → check_result p realm directory nonce ≡ integrity_tested account integrity (integrity_under account.key p)
+  of_account integrity name account has is = looked_up integrity name has ∙ ap (account_tested integrity) (has_account realm directory name account is)
 
-  incomplete : (code : List ℕ) (a b c : Option (List ℕ)) → (a ≡ None) ⊎ (b ≡ None) ⊎ (c ≡ None) → all_tested (Some code) a b c ≡ Err Incomplete
-  incomplete code None b c h = refl
-  incomplete code (Some x) None c h = refl
-  incomplete code (Some x) (Some y) None h = refl
-  incomplete code (Some x) (Some y) (Some z) (inl e) = absurd cc
-  incomplete code (Some x) (Some y) (Some z) (inr (inl e)) = absurd cc
-  incomplete code (Some x) (Some y) (Some z) (inr (inr e)) = absurd cc
+  incomplete : (integrity : List ℕ) (a b c : Option (List ℕ)) → (a ≡ None) ⊎ (b ≡ None) ⊎ (c ≡ None) → all_tested (Some integrity) a b c ≡ Err Incomplete
+  incomplete integrity None b c h = refl
+  incomplete integrity (Some x) None c h = refl
+  incomplete integrity (Some x) (Some y) None h = refl
+  incomplete integrity (Some x) (Some y) (Some z) (inl e) = absurd cc
+  incomplete integrity (Some x) (Some y) (Some z) (inr (inl e)) = absurd cc
+  incomplete integrity (Some x) (Some y) (Some z) (inr (inr e)) = absurd cc
 
-  with_code : (code a b c : Option (List ℕ)) → code ≢ None → ((a ≡ None) ⊎ (b ≡ None) ⊎ (c ≡ None)) → all_tested code a b c ≡ Err Incomplete
-  with_code None a b c some h = absurd (some refl)
-  with_code (Some code) a b c some h = incomplete code a b c h
+  with_some_integrity : (integrity a b c : Option (List ℕ)) → integrity ≢ None → ((a ≡ None) ⊎ (b ≡ None) ⊎ (c ≡ None)) → all_tested integrity a b c ≡ Err Incomplete
+  with_some_integrity None a b c some h = absurd (some refl)
+  with_some_integrity (Some integrity) a b c some h = incomplete integrity a b c h
 
   pub result_is_checked : (r : Result Account AuthError) → IsChecked p realm directory nonce r → r ≡ check_result p realm directory nonce
-  result_is_checked (Ok account) (code, name, has, is, right) =
-      sym (of_account code name account has is ∙ ap (code_tested account code) right ∙ right_code account code)
-  result_is_checked (Err Missing) none = sym (ap (λ code. all_tested code (first_value p USERNAME) (first_value p REALM) (first_value p NONCE)) none)
-  result_is_checked (Err Incomplete) (some, missing) = sym (with_code (first_value p message_integrity) (first_value p USERNAME) (first_value p REALM) (first_value p NONCE) some missing)
-  result_is_checked (Err StaleNonce) (other, code, name, has, ne) =
-      sym (with_all code name other has ∙ ap (λ b. check b StaleNonce >>= (λ _. account_tested code (account_of_name name))) (other_bytes other nonce ne))
-  result_is_checked (Err UnknownUser) (code, name, has, none) = sym (looked_up code name has ∙ ap (account_tested code) (has_no_account realm directory name none))
-  result_is_checked (Err WrongCode) (code, name, account, has, is, wrong) =
-      sym (of_account code name account has is ∙ wrong_code account code (code_under account.key p) wrong)
+  result_is_checked (Ok account) (integrity, name, has, is, right) =
+      sym (of_account integrity name account has is ∙ ap (integrity_tested account integrity) right ∙ right_integrity account integrity)
+  result_is_checked (Err Missing) none = sym (ap (λ integrity. all_tested integrity (first_value p USERNAME) (first_value p REALM) (first_value p NONCE)) none)
+  result_is_checked (Err Incomplete) (some, missing) = sym (with_some_integrity (first_value p message_integrity) (first_value p USERNAME) (first_value p REALM) (first_value p NONCE) some missing)
+  result_is_checked (Err StaleNonce) (other, integrity, name, has, ne) =
+      sym (with_all integrity name other has ∙ ap (λ b. check b StaleNonce >>= (λ _. account_tested integrity (account_of_name name))) (other_bytes other nonce ne))
+  result_is_checked (Err UnknownUser) (integrity, name, has, none) = sym (looked_up integrity name has ∙ ap (account_tested integrity) (has_no_account realm directory name none))
+  result_is_checked (Err WrongIntegrity) (integrity, name, account, has, is, wrong) =
+      sym (of_account integrity name account has is ∙ wrong_integrity account integrity (integrity_under account.key p) wrong)

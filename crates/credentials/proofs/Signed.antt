@@ -1,4 +1,4 @@
--- A message that was signed has its code.
+-- A message that was signed has its MESSAGE-INTEGRITY.
 use Rattle.std.proofs.Common.{◌≡◌, ℕ, Ok, Bool, true, false, List, [], ◌∷◌, ◌++◌, map, Option, Some, None, refl, sym, ap, ◌∙◌}
 use Rattle.std.specs.Prelude.{option_map, ◌==◌, if◌then◌else◌}
 use Rattle.stun.specs.Registry.{message_integrity}
@@ -6,7 +6,7 @@ use Rattle.stun.specs.Messages.{PaddedAttribute, Parts, attribute_of, up_to_inte
 use Rattle.credentials.specs.Hmac.{hmac}
 use Rattle.credentials.specs.TimeLimited.{Account}
 use Rattle.credentials.specs.Checks.{Directory, HasAccount, HasCredentials, IsChecked, first_value}
-use Rattle.credentials.specs.Integrity.{covered_bytes, code_under, integrity_of}
+use Rattle.credentials.specs.Integrity.{covered_bytes, integrity_under, integrity_of}
 use Rattle.credentials.specs.Signs.{IsUnsigned, with_integrity}
 use Rattle.credentials.proofs.Values.{value_cons}
 use Rattle.stun.specs.Attributes.{value_of}
@@ -37,14 +37,14 @@ value_is : (attributes : List PaddedAttribute) (value : List ℕ) → before_fir
 value_is [] value e = refl
 value_is (a ∷ attributes) value e = value_cons message_integrity (attribute_of a) (map attribute_of (if a.kind == message_integrity then [] else up_to_integrity (attributes ++ zero_padded message_integrity value ∷ []))) ∙ value_step (a.kind == message_integrity) a value (before_first attributes) (up_to_integrity (attributes ++ zero_padded message_integrity value ∷ [])) (value_is attributes value) e
 
--- the code of a signed message is the right one
-pub sign_is_right : (key : List ℕ) (p q : Parts) → q ≡ with_integrity key p → before_first p.attributes ≡ None → code_under key q ≡ first_value q message_integrity
+-- the MESSAGE-INTEGRITY of a signed message is the right one
+pub sign_is_right : (key : List ℕ) (p q : Parts) → q ≡ with_integrity key p → before_first p.attributes ≡ None → integrity_under key q ≡ first_value q message_integrity
 sign_is_right key p q is none =
-    let code : List ℕ = integrity_of key p in
-    let right : code_under key (with_integrity key p) ≡ first_value (with_integrity key p) message_integrity =
-    ap (λ (o : Option (List PaddedAttribute)). option_map (λ front. hmac key (covered_bytes p front)) o) (front_is p.attributes code none)
-    ∙ sym (value_is p.attributes code none) in
-    ap (code_under key) is ∙ right ∙ ap (λ (r : Parts). first_value r message_integrity) (sym is)
+    let integrity : List ℕ = integrity_of key p in
+    let right : integrity_under key (with_integrity key p) ≡ first_value (with_integrity key p) message_integrity =
+    ap (λ (o : Option (List PaddedAttribute)). option_map (λ front. hmac key (covered_bytes p front)) o) (front_is p.attributes integrity none)
+    ∙ sym (value_is p.attributes integrity none) in
+    ap (integrity_under key) is ∙ right ∙ ap (λ (r : Parts). first_value r message_integrity) (sym is)
 
 -- attributes without a MESSAGE-INTEGRITY have the same values with one after them
 kept_step : (b c : Bool) (a : PaddedAttribute) (kind : ℕ) (x value : List ℕ) (o : Option (List PaddedAttribute)) (before after : List PaddedAttribute)
@@ -54,24 +54,24 @@ kept_step true c a kind x value o before after on e is = absurd (some_is_none []
 kept_step false true a kind x value o before after on e is = is
 kept_step false false a kind x value o before after on e is = on (none_mapped (λ front. a ∷ front) o e) is
 
-kept : (attributes : List PaddedAttribute) (kind : ℕ) (code value : List ℕ) → before_first attributes ≡ None → value_of kind (map attribute_of (up_to_integrity attributes)) ≡ Some value
-    → value_of kind (map attribute_of (up_to_integrity (attributes ++ zero_padded message_integrity code ∷ []))) ≡ Some value
-kept [] kind code value e is = absurd (some_is_none value (sym is))
-kept (a ∷ attributes) kind code value e is =
-    value_cons kind (attribute_of a) (map attribute_of (if a.kind == message_integrity then [] else up_to_integrity (attributes ++ zero_padded message_integrity code ∷ [])))
-    ∙ kept_step (a.kind == message_integrity) (a.kind == kind) a kind a.value value (before_first attributes) (up_to_integrity attributes) (up_to_integrity (attributes ++ zero_padded message_integrity code ∷ [])) (kept attributes kind code value) e (sym (value_cons kind (attribute_of a) (map attribute_of (if a.kind == message_integrity then [] else up_to_integrity attributes))) ∙ is)
+kept : (attributes : List PaddedAttribute) (kind : ℕ) (integrity value : List ℕ) → before_first attributes ≡ None → value_of kind (map attribute_of (up_to_integrity attributes)) ≡ Some value
+    → value_of kind (map attribute_of (up_to_integrity (attributes ++ zero_padded message_integrity integrity ∷ []))) ≡ Some value
+kept [] kind integrity value e is = absurd (some_is_none value (sym is))
+kept (a ∷ attributes) kind integrity value e is =
+    value_cons kind (attribute_of a) (map attribute_of (if a.kind == message_integrity then [] else up_to_integrity (attributes ++ zero_padded message_integrity integrity ∷ [])))
+    ∙ kept_step (a.kind == message_integrity) (a.kind == kind) a kind a.value value (before_first attributes) (up_to_integrity attributes) (up_to_integrity (attributes ++ zero_padded message_integrity integrity ∷ [])) (kept attributes kind integrity value) e (sym (value_cons kind (attribute_of a) (map attribute_of (if a.kind == message_integrity then [] else up_to_integrity attributes))) ∙ is)
 
--- a message that lacks only its code, with this code
+-- a message that lacks only its MESSAGE-INTEGRITY, with this one
 pub sign_is_accepted : (p : Parts) (name realm nonce : List ℕ) (accounts : Directory) (account : Account) → IsUnsigned p nonce name → HasAccount realm accounts name account → IsChecked (with_integrity account.key p) realm accounts nonce (Ok account)
 sign_is_accepted p name realm nonce accounts account is has =
     let key : List ℕ = account.key in
-    let code : List ℕ = integrity_of key p in
-    let code_is : first_value (with_integrity key p) message_integrity ≡ Some code = value_is p.attributes code is.no_code in
-    let fresh : HasCredentials (with_integrity key p) nonce code name = record {
-      code_is = code_is;
-      name_is = kept p.attributes USERNAME code name is.no_code is.name_is;
+    let integrity : List ℕ = integrity_of key p in
+    let integrity_is : first_value (with_integrity key p) message_integrity ≡ Some integrity = value_is p.attributes integrity is.no_integrity in
+    let fresh : HasCredentials (with_integrity key p) nonce integrity name = record {
+      integrity_is = integrity_is;
+      name_is = kept p.attributes USERNAME integrity name is.no_integrity is.name_is;
       realm = is.realm;
-      realm_is = kept p.attributes REALM code is.realm is.no_code is.realm_is;
-      nonce_is = kept p.attributes NONCE code nonce is.no_code is.nonce_is;
+      realm_is = kept p.attributes REALM integrity is.realm is.no_integrity is.realm_is;
+      nonce_is = kept p.attributes NONCE integrity nonce is.no_integrity is.nonce_is;
     } in
-    (code, name, fresh, has, sign_is_right key p (with_integrity key p) refl is.no_code ∙ code_is)
+    (integrity, name, fresh, has, sign_is_right key p (with_integrity key p) refl is.no_integrity ∙ integrity_is)

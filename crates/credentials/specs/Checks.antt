@@ -5,12 +5,12 @@ use Rattle.stun.specs.Registry.{message_integrity}
 use Rattle.stun.specs.declared.registry.attribute.TheConstants.{USERNAME, REALM, NONCE}
 use Rattle.stun.specs.Messages.{Parts, message_of}
 use Rattle.stun.specs.Attributes.{value_of}
-use Rattle.credentials.specs.Integrity.{code_under}
+use Rattle.credentials.specs.Integrity.{integrity_under}
 use Rattle.credentials.specs.Keys.{key_of, key_bytes}
 use Rattle.credentials.specs.TimeLimited.{Account, Limits, limits_of, limited_account}
 use Rattle.credentials.specs.declared.checking.Authenticated.{Authenticated}
 use Rattle.credentials.specs.declared.checking.AuthError.{AuthError}
-use Rattle.credentials.specs.declared.checking.AuthError.TheVariants.{Missing, Incomplete, StaleNonce, UnknownUser, WrongCode}
+use Rattle.credentials.specs.declared.checking.AuthError.TheVariants.{Missing, Incomplete, StaleNonce, UnknownUser, WrongIntegrity}
 use Rattle.credentials.specs.declared.checking.Directory.{Directory as Checked}
 use Rattle.credentials.specs.declared.checking.User.{User}
 
@@ -72,9 +72,9 @@ account_of authenticated = record { user = authenticated.user; key = key_bytes a
 
 -- ---- the tests, in their order
 
--- a message has a code, a name, a realm and the nonce
-pub record HasCredentials (p : Parts) (nonce code name : List ℕ) : Type 0 where
-  pub code_is : first_value p message_integrity ≡ Some code
+-- a message has a MESSAGE-INTEGRITY, a name, a realm and the nonce
+pub record HasCredentials (p : Parts) (nonce integrity name : List ℕ) : Type 0 where
+  pub integrity_is : first_value p message_integrity ≡ Some integrity
   pub name_is : first_value p USERNAME ≡ Some name
   pub realm : List ℕ
   pub realm_is : first_value p REALM ≡ Some realm
@@ -83,18 +83,18 @@ pub record HasCredentials (p : Parts) (nonce code name : List ℕ) : Type 0 wher
 -- the result of the check: an account, or the first test that fails; the realm that a message names is not compared
 abbrev pub IsChecked : Parts → List ℕ → Directory → List ℕ → Result Account AuthError → Type 0
 IsChecked p realm directory nonce (Ok account) =
-    (code : List ℕ) × (name : List ℕ) × HasCredentials p nonce code name × HasAccount realm directory name account
-    × (code_under account.key p ≡ Some code)
+    (integrity : List ℕ) × (name : List ℕ) × HasCredentials p nonce integrity name × HasAccount realm directory name account
+    × (integrity_under account.key p ≡ Some integrity)
 IsChecked p realm directory nonce (Err Missing) = first_value p message_integrity ≡ None
 IsChecked p realm directory nonce (Err Incomplete) =
     (first_value p message_integrity ≢ None) × ((first_value p USERNAME ≡ None) ⊎ (first_value p REALM ≡ None) ⊎ (first_value p NONCE ≡ None))
 IsChecked p realm directory nonce (Err StaleNonce) =
-    (other : List ℕ) × (code : List ℕ) × (name : List ℕ) × HasCredentials p other code name × (other ≢ nonce)
+    (other : List ℕ) × (integrity : List ℕ) × (name : List ℕ) × HasCredentials p other integrity name × (other ≢ nonce)
 IsChecked p realm directory nonce (Err UnknownUser) =
-    (code : List ℕ) × (name : List ℕ) × HasCredentials p nonce code name × HasNoAccount realm directory name
-IsChecked p realm directory nonce (Err WrongCode) =
-    (code : List ℕ) × (name : List ℕ) × (account : Account) × HasCredentials p nonce code name
-    × HasAccount realm directory name account × (code_under account.key p ≢ Some code)
+    (integrity : List ℕ) × (name : List ℕ) × HasCredentials p nonce integrity name × HasNoAccount realm directory name
+IsChecked p realm directory nonce (Err WrongIntegrity) =
+    (integrity : List ℕ) × (name : List ℕ) × (account : Account) × HasCredentials p nonce integrity name
+    × HasAccount realm directory name account × (integrity_under account.key p ≢ Some integrity)
 
 -- the user that a check gives
 abbrev pub user_in : Result Account AuthError → Result ℕ AuthError

@@ -7,10 +7,10 @@ use Rattle.stun.specs.Registry.{message_integrity}
 use Rattle.stun.specs.declared.registry.attribute.TheConstants.{USERNAME, REALM, NONCE}
 use Rattle.stun.specs.Messages.{Parts}
 use Rattle.credentials.specs.Checks.{Users, Directory, first_value, listed_account, unlisted_account}
-use Rattle.credentials.specs.Integrity.{code_under}
+use Rattle.credentials.specs.Integrity.{integrity_under}
 use Rattle.credentials.specs.TimeLimited.{Account}
 use Rattle.credentials.specs.declared.checking.AuthError.{AuthError}
-use Rattle.credentials.specs.declared.checking.AuthError.TheVariants.{Missing, Incomplete, StaleNonce, UnknownUser, WrongCode}
+use Rattle.credentials.specs.declared.checking.AuthError.TheVariants.{Missing, Incomplete, StaleNonce, UnknownUser, WrongIntegrity}
 
 -- the index of the first user of a name, if there is one
 abbrev pub user_of : Users → List ℕ → Option ℕ
@@ -24,12 +24,12 @@ account_at realm directory name None = unlisted_account realm directory name
 -- the account whose credentials a message has, or the first test that fails
 abbrev pub check_result : Parts → List ℕ → Directory → List ℕ → Result Account AuthError
 check_result p realm directory nonce = do
-  code ← ok_or (first_value p message_integrity) Missing
+  integrity ← ok_or (first_value p message_integrity) Missing
   name ← ok_or (first_value p USERNAME) Incomplete
   _ ← ok_or (first_value p REALM) Incomplete
   given ← ok_or (first_value p NONCE) Incomplete
   _ ← check (bytes_eq given nonce) StaleNonce
   account ← ok_or (account_at realm directory name (user_of directory.users name)) UnknownUser
-  right ← ok_or (code_under account.key p) WrongCode
-  _ ← check (bytes_eq right code) WrongCode
+  right ← ok_or (integrity_under account.key p) WrongIntegrity
+  _ ← check (bytes_eq right integrity) WrongIntegrity
   Ok account

@@ -14,13 +14,13 @@ use Rattle.credentials.specs.Checks.{first_value}
 abbrev pub with_integrity : List ℕ → Parts → Parts
 with_integrity key p = with_attribute p message_integrity (integrity_of key p)
 
--- the code of a builder's message
-abbrev pub code_in : Builder → Key → List ℕ
-code_in builder key = integrity_of (key_bytes key) (parts_of builder)
+-- the MESSAGE-INTEGRITY of a builder's message
+abbrev pub integrity_in : Builder → Key → List ℕ
+integrity_in builder key = integrity_of (key_bytes key) (parts_of builder)
 
--- a message that lacks only its code: it has a name, a realm and the nonce
+-- a message that lacks only its MESSAGE-INTEGRITY: it has a name, a realm and the nonce
 pub record IsUnsigned (p : Parts) (nonce name : List ℕ) : Type 0 where
-  pub no_code : before_first p.attributes ≡ None
+  pub no_integrity : before_first p.attributes ≡ None
   pub name_is : first_value p USERNAME ≡ Some name
   pub realm : List ℕ
   pub realm_is : first_value p REALM ≡ Some realm

@@ -4,7 +4,7 @@ ghost use Rattle.std.specs.Prelude.{◌≡◌, ℕ, List, Result, Some, Ok, Err,
 ghost use Rattle.std.specs.Result.{result_map_both};
 ghost use Rattle.stun.specs.Messages.{Parts};
 ghost use Rattle.credentials.specs.Keys.{key_of, key_bytes};
-ghost use Rattle.credentials.specs.Integrity.{code_under};
+ghost use Rattle.credentials.specs.Integrity.{integrity_under};
 ghost use Rattle.credentials.specs.TimeLimited.{Account};
 ghost use Rattle.credentials.specs.Checks.{users_of, Directory as Accounts, directory_of, listed_only, account_of, user_in, unlisted_account, IsUser, IsNoUser, HasAccount, HasNoAccount, HasCredentials, IsChecked};
 ghost use Rattle.credentials.specs.Results.{check_result};
@@ -12,7 +12,7 @@ ghost use Rattle.credentials.specs.declared.checking.AuthError.{AuthError};
 
 use crate::key::Key;
 use crate::scanning::credentials_of;
-use crate::signing::code_over;
+use crate::signing::integrity_over;
 use crate::time_limited::TimeLimited;
 use stun::Message;
 use thiserror::Error;
@@ -32,9 +32,9 @@ pub enum AuthError {
     /// No user has the name.
     #[error("C4")]
     UnknownUser,
-    /// The code is wrong, or hasn't 20 bytes.
+    /// The MESSAGE-INTEGRITY is wrong, or hasn't 20 bytes.
     #[error("C5")]
-    WrongCode,
+    WrongIntegrity,
 }
 
 /// A user: a name and a password.
@@ -62,32 +62,32 @@ pub struct Authenticated {
     pub key: Key,
 }
 
-/// Returns the right code of a message under a key, if the message has a MESSAGE-INTEGRITY.
-fn code_under(key: &Key, message: &Message<'_>) -> Option<[u8; 20]>
-    ensures { result ≡ code_under (key_bytes key.now) message.now }
+/// Returns the right MESSAGE-INTEGRITY of a message under a key, if the message has one.
+fn integrity_under(key: &Key, message: &Message<'_>) -> Option<[u8; 20]>
+    ensures { result ≡ integrity_under (key_bytes key.now) message.now }
 {
     let front = message.before_integrity()?;
-    Some(code_over(front, key))
+    Some(integrity_over(front, key))
 }
 
-/// Returns whether two codes are the same. Each byte is compared, so that the time doesn't say where they differ.
-fn are_same_codes(made: &[u8; 20], code: &[u8; 20]) -> bool
-    ensures { Decides result (made.now ≡ code.now) }
+/// Returns whether two HMACs are the same. Each byte is compared, so that the time doesn't say where they differ.
+fn are_same_bytes(made: &[u8; 20], integrity: &[u8; 20]) -> bool
+    ensures { Decides result (made.now ≡ integrity.now) }
 {
     let mut same = true;
     for i in 0..20 {
-        same &= made[i] == code[i];
+        same &= made[i] == integrity[i];
     }
     same
 }
 
-/// Returns whether a code is the right one of a message under a key.
-fn is_code(message: &Message<'_>, key: &Key, code: &[u8]) -> bool
-    ensures { Decides result (code_under (key_bytes key.now) message.now ≡ Some code.now) }
+/// Returns whether a MESSAGE-INTEGRITY is the right one of a message under a key.
+fn is_integrity(message: &Message<'_>, key: &Key, integrity: &[u8]) -> bool
+    ensures { Decides result (integrity_under (key_bytes key.now) message.now ≡ Some integrity.now) }
 {
-    match code_under(key, message) {
-        Some(made) => match code.try_into() {
-            Ok(code) => are_same_codes(&made, code),
+    match integrity_under(key, message) {
+        Some(made) => match integrity.try_into() {
+            Ok(integrity) => are_same_bytes(&made, integrity),
             Err(_) => false,
         },
         None => false,
@@ -140,14 +140,14 @@ fn presented<'a>(message: &Message<'a>, nonce: &str) -> Result<(&'a [u8], &'a [u
         → IsChecked message.now realm accounts nonce.now (Err e)) }
 {
     let found = credentials_of(message);
-    let code = found.code.ok_or(AuthError::Missing)?;
+    let integrity = found.integrity.ok_or(AuthError::Missing)?;
     let name = found.name.ok_or(AuthError::Incomplete)?;
     found.realm.ok_or(AuthError::Incomplete)?;
     let given = found.nonce.ok_or(AuthError::Incomplete)?;
     if !is_nonce(given, nonce) {
         return Err(AuthError::StaleNonce);
     }
-    Ok((code, name))
+    Ok((integrity, name))
 }
 
 impl Directory<'_> {
@@ -175,8 +175,9 @@ impl Directory<'_> {
     }
 }
 
-/// Checks the credentials of a request, in one scan of its attributes: it has a code, a name, a realm and the nonce,
-/// the name has an account in a directory, and the code is the right one under the key of that account, which is returned.
+/// Checks the credentials of a request, in one scan of its attributes: it has a MESSAGE-INTEGRITY, a name, a realm
+/// and the nonce, the name has an account in a directory, and the MESSAGE-INTEGRITY is the right one under the key of that
+/// account, which is returned.
 /// The realm that the request names is not compared.
 ///
 /// # Errors
@@ -192,14 +193,14 @@ pub fn authenticate(
     ensures checked { result_map_both account_of (λ e. e) result
         ≡ check_result message.now realm.now (directory_of directory.now) nonce.now }
 {
-    let (code, name) = presented(message, nonce)?;
+    let (integrity, name) = presented(message, nonce)?;
     let Some(account) = directory.account(realm, name) else {
         return Err(AuthError::UnknownUser);
     };
-    if is_code(message, &account.key, code) {
+    if is_integrity(message, &account.key, integrity) {
         Ok(account)
     } else {
-        Err(AuthError::WrongCode)
+        Err(AuthError::WrongIntegrity)
     }
 }
 

@@ -70,7 +70,7 @@ fn update_all(hash: &mut Sha1, pieces: &[&[u8]])
     }
 }
 
-/// Returns the code of a message, given in pieces, under a key of any length (RFC 2104, sections 2 and 3).
+/// Returns the HMAC of a message, given in pieces, under a key of any length (RFC 2104, sections 2 and 3).
 #[tactic(auto, unfolding(crate::specs::Hmac::hmac))]
 pub fn hmac_sha1(key: &[u8], pieces: &[&[u8]]) -> [u8; 20]
     ensures { result ≡ hmac key.now (concat (map (λ piece. piece.now) pieces.now)) }

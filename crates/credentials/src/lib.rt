@@ -1,4 +1,4 @@
-//! The long-term credential mechanism of STUN (RFC 8489, section 9.2): keys, codes, and their check. Nothing
+//! The long-term credential mechanism of STUN (RFC 8489, section 9.2): keys, MESSAGE-INTEGRITY, and its check. Nothing
 //! is allocated.
 #![tactic(auto)]
 

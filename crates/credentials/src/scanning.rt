@@ -12,7 +12,7 @@ use stun::{Attr, Message};
 /// The first values of the four attributes.
 #[derive(Clone, Copy)]
 pub(crate) struct Credentials<'a> {
-    pub code: Option<&'a [u8]>,
+    pub integrity: Option<&'a [u8]>,
     pub name: Option<&'a [u8]>,
     pub realm: Option<&'a [u8]>,
     pub nonce: Option<&'a [u8]>,
@@ -30,22 +30,22 @@ fn or_value<'a>(found: Option<&'a [u8]>, attr: Attr<'a>, kind: u16) -> Option<&'
     }
 }
 
-/// Returns the first code, name, realm and nonce of a message, in one scan of its attributes.
+/// Returns the first MESSAGE-INTEGRITY, name, realm and nonce of a message, in one scan of its attributes.
 pub(crate) fn credentials_of<'a>(message: &Message<'a>) -> Credentials<'a>
-    ensures code { option_copied result.code ≡ first_value message.now message_integrity }
+    ensures integrity { option_copied result.integrity ≡ first_value message.now message_integrity }
     ensures name { option_copied result.name ≡ first_value message.now USERNAME }
     ensures realm { option_copied result.realm ≡ first_value message.now REALM }
     ensures nonce { option_copied result.nonce ≡ first_value message.now NONCE }
 {
     let mut found = Credentials {
-        code: None,
+        integrity: None,
         name: None,
         realm: None,
         nonce: None,
     };
     for attr in message.attrs() {
         found = Credentials {
-            code: or_value(found.code, attr, MESSAGE_INTEGRITY),
+            integrity: or_value(found.integrity, attr, MESSAGE_INTEGRITY),
             name: or_value(found.name, attr, USERNAME),
             realm: or_value(found.realm, attr, REALM),
             nonce: or_value(found.nonce, attr, NONCE),

@@ -1,5 +1,5 @@
 //! Tests of `credentials`: vectors from outside, and messages that are signed and checked.
 
 mod checks;
-mod codes;
+mod hmacs;
 mod time_limited;

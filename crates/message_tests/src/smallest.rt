@@ -38,7 +38,7 @@ static DATAGRAMS: [Smallest; 10] = [
         code: "C1",
         hex: "000300002112a442000000000000000000000000",
     },
-    // MESSAGE-INTEGRITY alone, without a code
+    // MESSAGE-INTEGRITY alone, without a value
     Smallest {
         code: "C2",
         hex: "000300042112a442000000000000000000000000 00080000",

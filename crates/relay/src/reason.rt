@@ -80,7 +80,7 @@ fn credentials_text(error: AuthError) -> &'static [u8]
         AuthError::Incomplete => b"incomplete credentials",
         AuthError::StaleNonce => b"stale nonce",
         AuthError::UnknownUser => b"unknown user",
-        AuthError::WrongCode => b"wrong password",
+        AuthError::WrongIntegrity => b"wrong password",
     }
 }
 

@@ -198,7 +198,7 @@ fn refusal_of(response: Response) -> Option<RefusalReason> {
     match response {
         Response::Unauthenticated(AuthError::Incomplete) => Some(RefusalReason::Incomplete),
         Response::Unauthenticated(AuthError::UnknownUser) => Some(RefusalReason::UnknownUser),
-        Response::Unauthenticated(AuthError::WrongCode) => Some(RefusalReason::WrongPassword),
+        Response::Unauthenticated(AuthError::WrongIntegrity) => Some(RefusalReason::WrongPassword),
         Response::Refused(ErrorCode::WrongCredentials) => Some(RefusalReason::OtherUser),
         _ => None,
     }

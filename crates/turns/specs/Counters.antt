@@ -47,7 +47,7 @@ response_counter (response.Granted grant) = counter.Granted
 response_counter (response.Unauthenticated auth.Missing) = counter.Challenged
 response_counter (response.Unauthenticated auth.StaleNonce) = counter.Challenged
 response_counter (response.Unauthenticated auth.UnknownUser) = counter.Unauthenticated
-response_counter (response.Unauthenticated auth.WrongCode) = counter.Unauthenticated
+response_counter (response.Unauthenticated auth.WrongIntegrity) = counter.Unauthenticated
 response_counter (response.Unauthenticated auth.Incomplete) = counter.Refused
 response_counter (response.Refused error) = counter.Refused
 

@@ -67,14 +67,14 @@ const CREDENTIALS: [Row; 7] = [
         code: 401,
     },
     Row {
-        fault: Fault::WrongCode,
+        fault: Fault::WrongIntegrity,
         code: 401,
     },
 ];
 
 /// Faults of one attribute of the credentials.
 const EXCLUSIVE_CREDENTIALS: [&[Fault]; 3] = [
-    &[Fault::NoIntegrity, Fault::WrongCode],
+    &[Fault::NoIntegrity, Fault::WrongIntegrity],
     &[Fault::NoUsername, Fault::UnknownUser],
     &[Fault::NoNonce, Fault::OtherNonce],
 ];

@@ -43,14 +43,14 @@ static SAMPLES: [Sample; 5] = [
         name: "マトリックス",
         password: "TheMatrIX",
         nonce: NONCE,
-        want: Err(AuthError::WrongCode),
+        want: Err(AuthError::WrongIntegrity),
     },
     Sample {
         realm: "example.org",
         name: "マトリックス",
         password: "themat",
         nonce: NONCE,
-        want: Err(AuthError::WrongCode),
+        want: Err(AuthError::WrongIntegrity),
     },
     Sample {
         realm: "example.org",
@@ -128,7 +128,7 @@ fn the_sample_request_is_checked_and_signed(rt: HostRuntime) -> Result<(), Fail>
     check_sample_signed(&rt)
 }
 
-/// Checks that a code which has no room changes nothing.
+/// Checks that a MESSAGE-INTEGRITY which has no room changes nothing.
 fn check_no_room(rt: &impl Abort) -> Result<(), Fail> {
     let mut buffer = [0xff; 43];
     let mut builder = Builder::start(&mut buffer, 0x0001, [7; 12])?;
@@ -138,9 +138,9 @@ fn check_no_room(rt: &impl Abort) -> Result<(), Fail> {
     Ok(())
 }
 
-/// The code of a message.
+/// The MESSAGE-INTEGRITY of a message.
 #[derive(Clone, Copy)]
-enum Code {
+enum Integrity {
     /// The right one for the password `pass`.
     Signed,
     /// The right one for the password `word`.
@@ -201,12 +201,12 @@ const LONGER: Attribute = Attribute {
     value: b"n1x",
 };
 
-/// The attributes of a message, its code, the attributes after it, and the answer for the realm `relay`, the nonce
+/// The attributes of a message, its MESSAGE-INTEGRITY, the attributes after it, and the answer for the realm `relay`, the nonce
 /// `n1`, and two users `user` with the passwords `pass` and `word`.
 #[derive(Clone, Copy)]
 struct Case {
     before: &'static [Attribute],
-    code: Code,
+    integrity: Integrity,
     after: &'static [Attribute],
     want: Result<usize, AuthError>,
 }
@@ -214,133 +214,133 @@ struct Case {
 static CASES: [Case; 21] = [
     Case {
         before: &[USER, RELAY, FRESH],
-        code: Code::Signed,
+        integrity: Integrity::Signed,
         after: &[],
         want: Ok(0),
     },
     Case {
         before: &[FRESH, RELAY, USER, STRANGER],
-        code: Code::Signed,
+        integrity: Integrity::Signed,
         after: &[STRANGER],
         want: Ok(0),
     },
     Case {
         before: &[USER, ELSEWHERE, FRESH],
-        code: Code::Signed,
+        integrity: Integrity::Signed,
         after: &[],
         want: Ok(0),
     },
     Case {
         before: &[USER, RELAY, FRESH],
-        code: Code::None,
+        integrity: Integrity::None,
         after: &[],
         want: Err(AuthError::Missing),
     },
     Case {
         before: &[],
-        code: Code::None,
+        integrity: Integrity::None,
         after: &[],
         want: Err(AuthError::Missing),
     },
     Case {
         before: &[USER, RELAY, STALE],
-        code: Code::None,
+        integrity: Integrity::None,
         after: &[],
         want: Err(AuthError::Missing),
     },
     Case {
         before: &[RELAY, FRESH],
-        code: Code::Signed,
+        integrity: Integrity::Signed,
         after: &[USER],
         want: Err(AuthError::Incomplete),
     },
     Case {
         before: &[USER, FRESH],
-        code: Code::Signed,
+        integrity: Integrity::Signed,
         after: &[RELAY],
         want: Err(AuthError::Incomplete),
     },
     Case {
         before: &[USER, RELAY],
-        code: Code::Zeros,
+        integrity: Integrity::Zeros,
         after: &[FRESH],
         want: Err(AuthError::Incomplete),
     },
     Case {
         before: &[STRANGER, RELAY],
-        code: Code::Signed,
+        integrity: Integrity::Signed,
         after: &[],
         want: Err(AuthError::Incomplete),
     },
     Case {
         before: &[USER, STALE],
-        code: Code::Signed,
+        integrity: Integrity::Signed,
         after: &[],
         want: Err(AuthError::Incomplete),
     },
     Case {
         before: &[STRANGER, RELAY, STALE],
-        code: Code::Signed,
+        integrity: Integrity::Signed,
         after: &[],
         want: Err(AuthError::StaleNonce),
     },
     Case {
         before: &[USER, RELAY, STALE, FRESH],
-        code: Code::Zeros,
+        integrity: Integrity::Zeros,
         after: &[],
         want: Err(AuthError::StaleNonce),
     },
     Case {
         before: &[USER, RELAY, LONGER],
-        code: Code::Signed,
+        integrity: Integrity::Signed,
         after: &[],
         want: Err(AuthError::StaleNonce),
     },
     Case {
         before: &[STRANGER, RELAY, FRESH],
-        code: Code::Zeros,
+        integrity: Integrity::Zeros,
         after: &[],
         want: Err(AuthError::UnknownUser),
     },
     Case {
         before: &[CAPITAL_USER, RELAY, FRESH],
-        code: Code::Signed,
+        integrity: Integrity::Signed,
         after: &[],
         want: Err(AuthError::UnknownUser),
     },
     Case {
         before: &[USER, RELAY, FRESH],
-        code: Code::Zeros,
+        integrity: Integrity::Zeros,
         after: &[],
-        want: Err(AuthError::WrongCode),
+        want: Err(AuthError::WrongIntegrity),
     },
     Case {
         before: &[USER, RELAY, FRESH],
-        code: Code::SignedWithAnother,
+        integrity: Integrity::SignedWithAnother,
         after: &[],
-        want: Err(AuthError::WrongCode),
+        want: Err(AuthError::WrongIntegrity),
     },
     Case {
         before: &[USER, RELAY, FRESH],
-        code: Code::Cut,
+        integrity: Integrity::Cut,
         after: &[],
-        want: Err(AuthError::WrongCode),
+        want: Err(AuthError::WrongIntegrity),
     },
     Case {
         before: &[USER, RELAY, FRESH],
-        code: Code::Lengthened,
+        integrity: Integrity::Lengthened,
         after: &[],
-        want: Err(AuthError::WrongCode),
+        want: Err(AuthError::WrongIntegrity),
     },
     Case {
         before: &[STRANGER, USER, RELAY, FRESH],
-        code: Code::Signed,
+        integrity: Integrity::Signed,
         after: &[],
         want: Err(AuthError::UnknownUser),
     },
 ];
 
-/// Returns the code that `sign` makes for attributes under a password.
+/// Returns the MESSAGE-INTEGRITY that `sign` makes for attributes under a password.
 fn code_of(before: &[Attribute], password: &str) -> Result<[u8; 20], Fail> {
     let mut buffer = [0; 200];
     let mut builder = Builder::start(&mut buffer, 0x0003, [7; 12])?;
@@ -352,29 +352,29 @@ fn code_of(before: &[Attribute], password: &str) -> Result<[u8; 20], Fail> {
         &Key::of(b"user", "relay", password.as_bytes()),
     )?;
     let message = read(builder.written())?;
-    let mut code = [0; 20];
+    let mut integrity = [0; 20];
     if let Some(value) = message.value_of(MESSAGE_INTEGRITY)
         && value.len() == 20
     {
-        code.copy_from_slice(value);
+        integrity.copy_from_slice(value);
     }
-    Ok(code)
+    Ok(integrity)
 }
 
-/// Appends the code of a case.
+/// Appends the MESSAGE-INTEGRITY of a case.
 fn write_code(builder: &mut Builder<'_>, case: &Case) -> Result<(), Fail> {
     let right = code_of(case.before, "pass")?;
-    match case.code {
-        Code::Signed => sign(builder, &Key::of(b"user", "relay", b"pass"))?,
-        Code::SignedWithAnother => sign(builder, &Key::of(b"user", "relay", b"word"))?,
-        Code::Cut => builder.attr(MESSAGE_INTEGRITY, &right[..19])?,
-        Code::Lengthened => {
-            let mut code = [0; 24];
-            code[..20].copy_from_slice(&right);
-            builder.attr(MESSAGE_INTEGRITY, &code)?;
+    match case.integrity {
+        Integrity::Signed => sign(builder, &Key::of(b"user", "relay", b"pass"))?,
+        Integrity::SignedWithAnother => sign(builder, &Key::of(b"user", "relay", b"word"))?,
+        Integrity::Cut => builder.attr(MESSAGE_INTEGRITY, &right[..19])?,
+        Integrity::Lengthened => {
+            let mut integrity = [0; 24];
+            integrity[..20].copy_from_slice(&right);
+            builder.attr(MESSAGE_INTEGRITY, &integrity)?;
         }
-        Code::Zeros => builder.attr(MESSAGE_INTEGRITY, &[0; 19])?,
-        Code::None => {}
+        Integrity::Zeros => builder.attr(MESSAGE_INTEGRITY, &[0; 19])?,
+        Integrity::None => {}
     }
     Ok(())
 }
@@ -405,20 +405,20 @@ fn result_of<R: Abort>(
     Ok(check(&message, "relay", users, "n1"))
 }
 
-/// Checks that a message with a changed byte has a wrong code.
+/// Checks that a message with a changed byte has a wrong MESSAGE-INTEGRITY.
 fn check_changed_bytes(rt: &impl Abort, alloc: Global) -> Result<(), Fail> {
     let users = [user(alloc, "user", "pass")?];
     let mut buffer = [0; 72];
     let n = written(&mut buffer, &CASES[0])?;
     assert_eq!(rt; n, 72);
-    // a byte of the transaction id, and the first and the last byte of the code
+    // a byte of the transaction id, and the first and the last byte of MESSAGE-INTEGRITY
     for i in [8, 52, 71] {
         let mut bytes = buffer;
         bytes[i] ^= 1;
         let message = read(&bytes)?;
         assert_eq!(rt;
             check(&message, "relay", &users, "n1"),
-            Err(AuthError::WrongCode),
+            Err(AuthError::WrongIntegrity),
             "byte {i}"
         );
     }

@@ -101,7 +101,13 @@ static ROWS: [Row; 17] = [
         Err(AuthError::UnknownUser),
     ),
     // another's password
-    ("1700000000:alice", BARE, 0, None, Err(AuthError::WrongCode)),
+    (
+        "1700000000:alice",
+        BARE,
+        0,
+        None,
+        Err(AuthError::WrongIntegrity),
+    ),
     // no number first: nothing, a letter, a sign, a needless zero, a blank, 2^64
     (":alice", BARE, 0, None, Err(AuthError::UnknownUser)),
     (

@@ -25,7 +25,7 @@ pub enum Fault {
     OtherNonce,
     UnknownUser,
     /// MESSAGE-INTEGRITY is computed under another password.
-    WrongCode,
+    WrongIntegrity,
     UnknownAttribute,
     NoAllocation,
     /// The client's allocation is that of another user.
@@ -206,7 +206,7 @@ impl Fault {
             Fault::NoNonce => case.credentials.nonce = None,
             Fault::OtherNonce => case.credentials.nonce = Some("n2"),
             Fault::UnknownUser => case.credentials.username = Some("nobody"),
-            Fault::WrongCode => case.credentials.password = Some("wrong"),
+            Fault::WrongIntegrity => case.credentials.password = Some("wrong"),
             // DONT-FRAGMENT
             Fault::UnknownAttribute => case.unknown = (0x001a, &[]),
             Fault::NoAllocation => case.has_allocation = false,

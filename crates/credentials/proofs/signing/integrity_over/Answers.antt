@@ -2,8 +2,8 @@ use Rattle.std.proofs.Common.{◌≡◌, ◌+◌, ◌%◌, ◌++◌, length, tak
 use Rattle.stun.specs.Endian.{big_bytes}
 use Rattle.credentials.specs.Hmac.{hmac}
 use Rattle.credentials.specs.Keys.{key_bytes}
-use Rattle.credentials.proofs.CodeBytes.{covered}
-use Rattle.credentials.proofs.signing.code_over.Goals as goal
+use Rattle.credentials.proofs.IntegrityBytes.{covered}
+use Rattle.credentials.proofs.signing.integrity_over.Goals as goal
 
 pub returns : goal.returns
 returns c p n attributes id e =

@@ -1,10 +1,10 @@
--- The bytes that a code is made over, from those before it.
+-- The bytes that a MESSAGE-INTEGRITY is made over, from those before it.
 use Rattle.std.proofs.Common.{◌≡◌, ℕ, ◌+◌, ◌/◌, ◌%◌, List, [], ◌∷◌, ◌++◌, length, take, drop, Option, Some, None, sym, ap, ◌∙◌, arith, length-append}
 use Rattle.std.specs.Prelude.{option_map}
 use Rattle.stun.specs.Endian.{big_bytes}
 use Rattle.stun.specs.Messages.{PaddedAttribute, Parts, header, attributes_bytes, before_first, before_integrity}
 use Rattle.credentials.specs.Hmac.{hmac}
-use Rattle.credentials.specs.Integrity.{covered_bytes, code_under}
+use Rattle.credentials.specs.Integrity.{covered_bytes, integrity_under}
 
 same_length : (n : ℕ) → big_bytes 2 ((n + 4) % 65536) ≡ big_bytes 2 (n + 4)
 same_length n =
@@ -22,15 +22,15 @@ covered front p n attributes id e =
     let length_is : big_bytes 2 ((length whole + 4) % 65536) ≡ big_bytes 2 (length bytes + 24) = same_length (length whole) ∙ ap (big_bytes 2) size in
     ap (λ (f : List ℕ). take 2 f ++ (big_bytes 2 ((length f + 4) % 65536) ++ drop 4 f)) e ∙ ap (λ (b : List ℕ). take 2 whole ++ (b ++ drop 4 whole)) length_is
 
-code_at : (key front code : List ℕ) (p : Parts) (o : Option (List PaddedAttribute))
-    → ((f : List PaddedAttribute) → front ≡ header p.kind (length (attributes_bytes p.attributes)) p.transaction_id ++ attributes_bytes f → code ≡ hmac key (covered_bytes p f))
-    → option_map (λ f. header p.kind (length (attributes_bytes p.attributes)) p.transaction_id ++ attributes_bytes f) o ≡ Some front → Some code ≡ option_map (λ f. hmac key (covered_bytes p f)) o
-code_at key front code p None is e = absurd cc
-code_at key front code p (Some f) is e =
+integrity_at : (key front integrity : List ℕ) (p : Parts) (o : Option (List PaddedAttribute))
+    → ((f : List PaddedAttribute) → front ≡ header p.kind (length (attributes_bytes p.attributes)) p.transaction_id ++ attributes_bytes f → integrity ≡ hmac key (covered_bytes p f))
+    → option_map (λ f. header p.kind (length (attributes_bytes p.attributes)) p.transaction_id ++ attributes_bytes f) o ≡ Some front → Some integrity ≡ option_map (λ f. hmac key (covered_bytes p f)) o
+integrity_at key front integrity p None is e = absurd cc
+integrity_at key front integrity p (Some f) is e =
     let there : header p.kind (length (attributes_bytes p.attributes)) p.transaction_id ++ attributes_bytes f ≡ front = cc in
     ap Some (is f (sym there))
 
--- a code over the bytes before the first MESSAGE-INTEGRITY is the right one
-pub code_of_front : (key front code : List ℕ) (p : Parts)
-    → ((f : List PaddedAttribute) → front ≡ header p.kind (length (attributes_bytes p.attributes)) p.transaction_id ++ attributes_bytes f → code ≡ hmac key (covered_bytes p f)) → Some front ≡ before_integrity p → Some code ≡ code_under key p
-code_of_front key front code p is given = code_at key front code p (before_first p.attributes) is (sym given)
+-- an HMAC over the bytes before the first MESSAGE-INTEGRITY is the right one
+pub integrity_of_front : (key front integrity : List ℕ) (p : Parts)
+    → ((f : List PaddedAttribute) → front ≡ header p.kind (length (attributes_bytes p.attributes)) p.transaction_id ++ attributes_bytes f → integrity ≡ hmac key (covered_bytes p f)) → Some front ≡ before_integrity p → Some integrity ≡ integrity_under key p
+integrity_of_front key front integrity p is given = integrity_at key front integrity p (before_first p.attributes) is (sym given)

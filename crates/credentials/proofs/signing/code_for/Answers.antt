@@ -1,7 +1,0 @@
-use Rattle.stun.specs.Builders.{parts_of}
-use Rattle.credentials.proofs.signing.code_for.Goals as goal
-
-pub returns : goal.returns
-returns c =
-    let p = parts_of c.args.builder.now in
-    c.code_over.ensures p _ p.attributes c.written.ensures.parts.transaction_id c.written.ensures.bytes
