@@ -299,7 +299,8 @@ impl Relay {
     /// Finds what explains the step of a datagram, the first `n` bytes of the room, and runs its program over the room.
     pub(crate) fn grounds(&mut self, meta: &Meta, n: usize) -> Grounds
         requires { n ≤ MAX_DATAGRAM }
-        ensures grounds { (config : Config) → result ≡ grounds_of config self.old meta.entry.now (datagram_at self.old n) }
+        ensures grounds { (config : Config) → result
+            ≡ grounds_of config self.old meta.entry.now (datagram_at self.old n) }
         ensures rest { self.new ≡ record self.old { frame = self.new.frame } }
     {
         let moment = moment_of(self.greatest, meta.now);

@@ -39,7 +39,8 @@ fn request_of(message: &Message<'_>) -> Option<Request>
 
 /// Returns why nothing is sent for a datagram of a client.
 fn discard_of_client(tables: &Tables, moment: u64, client: Addr, datagram: &[u8]) -> Option<Discard>
-    ensures { (config : Config) → result ≡ discard_in (client_disposition config moment client tables.now datagram.now) }
+    ensures { (config : Config) → result
+        ≡ discard_in (client_disposition config moment client tables.now datagram.now) }
 {
     if !begins_as_stun(datagram) {
         return discard_in(channel_data(tables, moment, client, datagram).disposition());
