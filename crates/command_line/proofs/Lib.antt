@@ -1,6 +1,1 @@
-pub mod Lines
-pub mod Operands
-pub mod Subcommands
-pub mod Added
-pub mod FirstFaults
 pub mod Octets

@@ -1,5 +1,6 @@
--- Meaning. The values that the texts of options spell, and the first text that spells none.
-use Rattle.std.specs.Prelude.{◌≡◌, ◌⊎◌, ◌^◌, ℕ, ℤ, pos, ◌<◌, length, Option, Some, None, List, Ok}
+-- Meaning. The values that the texts of options spell.
+use Rattle.std.specs.Prelude.{◌≡◌, ◌^◌, ℕ, ℤ, pos, ◌<◌, length, Option, Some, None, List, Ok, option_map}
+use Rattle.std.specs.Borrow.{Bor}
 use Rattle.std.specs.Str.Parse.{IsNumeral, digits_value, without_leading_plus}
 use Rattle.clap.specs.Words.{Text}
 use Rattle.hex.specs.Hex.{decode_of}
@@ -22,27 +23,17 @@ IsSeconds text n = IsDecimal (2 ^ 64) text n × (0 < n)
 abbrev pub IsBuffer : Text → ℤ → Type 0
 IsBuffer text size = (n : ℕ) × (IsDecimal (2 ^ 30) text n × ((0 < n) × (size ≡ pos n)))
 
+-- the text that a reference has
+abbrev pub text_of : Option (Bor Text) → Option Text
+text_of = option_map (λ s. s.now)
+
 -- the value that the text of an option spells, and none where the option is not given
 abbrev pub HasValue : {A : Type 0} → (Text → A → Type 0) → Option Text → Option A → Type 0
 HasValue Spells (Some text) (Some value) = Spells text value
 HasValue Spells None None = Unit {0}
 HasValue Spells _ _ = ⊥
 
--- the value that the text of an option spells, and its default where the option is not given
-abbrev pub HasValueOr : {A : Type 0} → A → (Text → A → Type 0) → Option Text → A → Type 0
-HasValueOr default Spells (Some text) value = Spells text value
-HasValueOr default Spells None value = value ≡ default
-
 -- the text of this option spells no value, and is refused: the error names both
 abbrev pub IsRefusedValue : {A : Type 0} → Text → (Text → A → Type 0) → Option Text → ValueError → Type 0
 IsRefusedValue {A} option Spells None e = ⊥
 IsRefusedValue {A} option Spells (Some text) e = ((value : A) → ¬ (Spells text value)) × ((e.option.now ≡ option) × (e.text.now ≡ text))
-
--- the option is not given, or its text spells a value
-abbrev pub IsGood : {A : Type 0} → (Text → A → Type 0) → Option Text → Type 0
-IsGood {A} Spells None = Unit {0}
-IsGood {A} Spells (Some text) = (value : A) × Spells text value
-
--- the first fault of this option and of later ones: it is that of this option, or this option is good and it is the first of the later ones
-abbrev pub IsFirst : {A : Type 0} → Text → (Text → A → Type 0) → Option Text → (ValueError → Type 0) → ValueError → Type 0
-IsFirst option Spells text IsLater e = IsRefusedValue option Spells text e ⊎ (IsGood Spells text × IsLater e)

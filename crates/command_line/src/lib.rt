@@ -6,11 +6,9 @@ mod matches;
 mod relayed;
 mod values;
 
-ghost use Rattle.std.specs.Prelude.{◌≡◌, true, false, map, IfOk};
-ghost use Rattle.clap.specs.Words.{FailsBy, has_subcommand, rule_of, subcommand_rows_of};
-ghost use Rattle.command_line.specs.Commands.{HasAdded, HasShape, assemble_command, bare_command, disassemble_command, events_argument, explain_command, faults_of, file_argument, flag, input_argument, option, order_command, output_argument, port_option, program_command, relayd_command, repeated_option, replay_command, serve_command, subcommand_in, text_command, trace_command, verify_command, with_addresses, with_filter, with_options, with_programs, with_record, with_sockets, with_times, with_users};
-ghost use Rattle.command_line.specs.Lines.{IsLineOf, IsParsedAs};
-ghost use Rattle.command_line.specs.declared.Subcommand.{Subcommand};
+ghost use Rattle.std.specs.Prelude.{◌≡◌, true, false, IfOk};
+ghost use Rattle.clap.specs.Words.{has_subcommand};
+ghost use Rattle.command_line.specs.Commands.{IsLocal, RequiresSubcommand};
 
 use clap::{Arg, ArgAction, ArgMatches, Command, Error};
 pub use matches::subcommand_of;
@@ -53,6 +51,9 @@ pub struct Options<'a> {
     pub client: Option<&'a str>,
     /// The file of the program for peers' datagrams.
     pub peer: Option<&'a str>,
+    /// The addresses that count as others where it is asked whether a peer is permitted, each as `A=B`, in the order in which
+    /// they are given.
+    pub same_as: Option<&'a [&'a str]>,
 }
 
 /// The options of a server alone. Those that have a default have it where they are not given, and the others are `None`.
@@ -84,6 +85,8 @@ pub struct ServerOptions<'a> {
     pub record: Option<&'a str>,
     /// Whether allocations and refused credentials are printed.
     pub log: bool,
+    /// Whether the programs may send to and from peers that clients haven't permitted.
+    pub unconfined: bool,
 }
 
 /// A subcommand of relayd, with the values of its arguments.
@@ -121,11 +124,13 @@ pub enum Subcommand<'a> {
         slots: bool,
     },
     /// Replay the events in a file through a relay, and print each answer, with its reason where `why` says so. The file `-`
-    /// is standard input. The nonce is `n1` by default.
+    /// is standard input. The nonce is `n1` by default. Where `confine` says so, the programs are confined to the peers that
+    /// clients have permitted.
     Replay {
         events: &'a str,
         nonce: &'a str,
         why: bool,
+        confine: bool,
         options: Options<'a>,
     },
     /// Serve clients and peers over UDP sockets.
@@ -137,8 +142,7 @@ pub enum Subcommand<'a> {
 
 /// Returns an option with one value.
 fn option<'a>(alloc: Global, name: &'a str, value: &'a str, help: &'a str) -> Arg<'a>
-    ensures rule { rule_of result ≡ option name.entry.now }
-    ensures local { result.global ≡ false }
+    ensures { result.global ≡ false }
 {
     Arg::new(alloc, name)
         .long(name)
@@ -149,8 +153,7 @@ fn option<'a>(alloc: Global, name: &'a str, value: &'a str, help: &'a str) -> Ar
 
 /// Returns an option with one value, which may be repeated.
 fn repeated_option<'a>(alloc: Global, name: &'a str, value: &'a str, help: &'a str) -> Arg<'a>
-    ensures rule { rule_of result ≡ repeated_option name.entry.now }
-    ensures local { result.global ≡ false }
+    ensures { result.global ≡ false }
 {
     Arg::new(alloc, name)
         .long(name)
@@ -161,8 +164,7 @@ fn repeated_option<'a>(alloc: Global, name: &'a str, value: &'a str, help: &'a s
 
 /// Returns a flag.
 fn flag<'a>(alloc: Global, name: &'a str, help: &'a str) -> Arg<'a>
-    ensures rule { rule_of result ≡ flag name.entry.now }
-    ensures local { result.global ≡ false }
+    ensures { result.global ≡ false }
 {
     Arg::new(alloc, name)
         .long(name)
@@ -172,8 +174,7 @@ fn flag<'a>(alloc: Global, name: &'a str, help: &'a str) -> Arg<'a>
 
 /// Returns the argument `FILE`.
 fn file<'a>(alloc: Global) -> Arg<'a>
-    ensures rule { rule_of result ≡ file_argument }
-    ensures local { result.global ≡ false }
+    ensures { result.global ≡ false }
 {
     Arg::new(alloc, "file")
         .value_name("FILE")
@@ -184,8 +185,7 @@ fn file<'a>(alloc: Global) -> Arg<'a>
 
 /// Returns the argument `IN`.
 fn input<'a>(alloc: Global, help: &'a str) -> Arg<'a>
-    ensures rule { rule_of result ≡ input_argument }
-    ensures local { result.global ≡ false }
+    ensures { result.global ≡ false }
 {
     Arg::new(alloc, "in")
         .value_name("IN")
@@ -196,8 +196,7 @@ fn input<'a>(alloc: Global, help: &'a str) -> Arg<'a>
 
 /// Returns the argument `OUT`.
 fn output<'a>(alloc: Global) -> Arg<'a>
-    ensures rule { rule_of result ≡ output_argument }
-    ensures local { result.global ≡ false }
+    ensures { result.global ≡ false }
 {
     Arg::new(alloc, "out")
         .value_name("OUT")
@@ -208,7 +207,7 @@ fn output<'a>(alloc: Global) -> Arg<'a>
 
 /// Returns the subcommand `verify`.
 fn verify<'a>(alloc: Global) -> Result<Command<'a>, AllocError>
-    ensures { IfOk result (HasShape verify_command) }
+    ensures { IfOk result IsLocal }
 {
     Command::new(alloc, "verify")
         .about("Verify a program, and print which instruction is refused and why")
@@ -217,7 +216,7 @@ fn verify<'a>(alloc: Global) -> Result<Command<'a>, AllocError>
 
 /// Returns the subcommand `explain`.
 fn explain<'a>(alloc: Global) -> Result<Command<'a>, AllocError>
-    ensures { IfOk result (HasShape explain_command) }
+    ensures { IfOk result IsLocal }
 {
     Command::new(alloc, "explain")
         .about(
@@ -234,7 +233,7 @@ fn explain<'a>(alloc: Global) -> Result<Command<'a>, AllocError>
 
 /// Returns the subcommand `trace`.
 fn trace<'a>(alloc: Global) -> Result<Command<'a>, AllocError>
-    ensures { IfOk result (HasShape trace_command) }
+    ensures { IfOk result IsLocal }
 {
     Command::new(alloc, "trace")
         .about("Run a program over one datagram, and print each instruction as it is reached")
@@ -249,7 +248,7 @@ fn trace<'a>(alloc: Global) -> Result<Command<'a>, AllocError>
 
 /// Returns the subcommand `assemble`.
 fn assemble<'a>(alloc: Global) -> Result<Command<'a>, AllocError>
-    ensures { IfOk result (HasShape assemble_command) }
+    ensures { IfOk result IsLocal }
 {
     Command::new(alloc, "assemble")
         .about("Assemble the text of a program, or print which line is wrong")
@@ -262,7 +261,7 @@ fn assemble<'a>(alloc: Global) -> Result<Command<'a>, AllocError>
 
 /// Returns the subcommand `order`.
 fn order<'a>(alloc: Global) -> Result<Command<'a>, AllocError>
-    ensures { IfOk result (HasShape order_command) }
+    ensures { IfOk result IsLocal }
 {
     Command::new(alloc, "order")
         .about(
@@ -277,7 +276,7 @@ fn order<'a>(alloc: Global) -> Result<Command<'a>, AllocError>
 
 /// Returns the subcommand `disassemble`.
 fn disassemble<'a>(alloc: Global) -> Result<Command<'a>, AllocError>
-    ensures { IfOk result (HasShape disassemble_command) }
+    ensures { IfOk result IsLocal }
 {
     Command::new(alloc, "disassemble")
         .about("Print a program as text, which assembles to the same program")
@@ -291,8 +290,7 @@ fn disassemble<'a>(alloc: Global) -> Result<Command<'a>, AllocError>
 
 /// Returns the argument `EVENTS`.
 fn events<'a>(alloc: Global) -> Arg<'a>
-    ensures rule { rule_of result ≡ events_argument }
-    ensures local { result.global ≡ false }
+    ensures { result.global ≡ false }
 {
     Arg::new(alloc, "events")
         .value_name("EVENTS")
@@ -303,7 +301,8 @@ fn events<'a>(alloc: Global) -> Arg<'a>
 
 /// Adds the options of the users.
 fn with_users<'a>(alloc: Global, command: Command<'a>) -> Result<Command<'a>, AllocError>
-    ensures { IfOk result (HasAdded with_users command.entry) }
+    requires { IsLocal command }
+    ensures { IfOk result IsLocal }
 {
     command
         .arg(option(alloc, "realm", "R", "The realm; relay by default"))?
@@ -329,7 +328,8 @@ fn with_users<'a>(alloc: Global, command: Command<'a>) -> Result<Command<'a>, Al
 
 /// Adds the options of the relayed addresses.
 fn with_addresses<'a>(alloc: Global, command: Command<'a>) -> Result<Command<'a>, AllocError>
-    ensures { IfOk result (HasAdded with_addresses command.entry) }
+    requires { IsLocal command }
+    ensures { IfOk result IsLocal }
 {
     command
         .arg(option(
@@ -360,7 +360,8 @@ fn with_addresses<'a>(alloc: Global, command: Command<'a>) -> Result<Command<'a>
 
 /// Adds the options of the programs.
 fn with_programs<'a>(alloc: Global, command: Command<'a>) -> Result<Command<'a>, AllocError>
-    ensures { IfOk result (HasAdded with_programs command.entry) }
+    requires { IsLocal command }
+    ensures { IfOk result IsLocal }
 {
     command
         .arg(option(
@@ -374,38 +375,58 @@ fn with_programs<'a>(alloc: Global, command: Command<'a>) -> Result<Command<'a>,
             "peer",
             "FILE",
             "The program for peers' datagrams; PEER by default",
+        ))?
+        .arg(repeated_option(
+            alloc,
+            "same-as",
+            "A=B",
+            "An address that a program may send to where the client has permitted B in its place; may be repeated",
         ))
 }
 
 /// Adds the options that set up a relay.
 fn with_options<'a>(alloc: Global, command: Command<'a>) -> Result<Command<'a>, AllocError>
-    ensures { IfOk result (HasAdded with_options command.entry) }
+    requires { IsLocal command }
+    ensures { IfOk result IsLocal }
 {
     let command = with_users(alloc, command)?;
     let command = with_addresses(alloc, command)?;
     with_programs(alloc, command)
 }
 
-/// Returns the subcommand `replay`.
-fn replay<'a>(alloc: Global) -> Result<Command<'a>, AllocError>
-    ensures { IfOk result (HasShape replay_command) }
+/// Adds the options of a replay alone.
+fn with_replay<'a>(alloc: Global, command: Command<'a>) -> Result<Command<'a>, AllocError>
+    requires { IsLocal command }
+    ensures { IfOk result IsLocal }
 {
-    let command = Command::new(alloc, "replay")
-        .about("Replay events through a relay, and print the answer to each")
-        .arg(events(alloc))?;
-    with_options(alloc, command)?
+    command
         .arg(option(alloc, "nonce", "TEXT", "The nonce; n1 by default"))?
         .arg(flag(
             alloc,
             "why",
             "Print after each answer what was granted, or which test failed",
+        ))?
+        .arg(flag(
+            alloc,
+            "confine",
+            "Confine the programs to the peers that clients have permitted, as serve does",
         ))
+}
+
+/// Returns the subcommand `replay`.
+fn replay<'a>(alloc: Global) -> Result<Command<'a>, AllocError>
+    ensures { IfOk result IsLocal }
+{
+    let command = Command::new(alloc, "replay")
+        .about("Replay events through a relay, and print the answer to each")
+        .arg(events(alloc))?;
+    let command = with_options(alloc, command)?;
+    with_replay(alloc, command)
 }
 
 /// Returns the option `--port P`.
 fn port<'a>(alloc: Global) -> Arg<'a>
-    ensures rule { rule_of result ≡ port_option }
-    ensures local { result.global ≡ false }
+    ensures { result.global ≡ false }
 {
     option(
         alloc,
@@ -418,7 +439,8 @@ fn port<'a>(alloc: Global) -> Arg<'a>
 
 /// Adds the options of the sockets.
 fn with_sockets<'a>(alloc: Global, command: Command<'a>) -> Result<Command<'a>, AllocError>
-    ensures { IfOk result (HasAdded with_sockets command.entry) }
+    requires { IsLocal command }
+    ensures { IfOk result IsLocal }
 {
     command
         .arg(option(
@@ -448,7 +470,8 @@ fn with_sockets<'a>(alloc: Global, command: Command<'a>) -> Result<Command<'a>, 
 
 /// Adds the options of the peers that are sent to.
 fn with_filter<'a>(alloc: Global, command: Command<'a>) -> Result<Command<'a>, AllocError>
-    ensures { IfOk result (HasAdded with_filter command.entry) }
+    requires { IsLocal command }
+    ensures { IfOk result IsLocal }
 {
     command
         .arg(repeated_option(
@@ -467,7 +490,8 @@ fn with_filter<'a>(alloc: Global, command: Command<'a>) -> Result<Command<'a>, A
 
 /// Adds the options of time, and of what is reported.
 fn with_times<'a>(alloc: Global, command: Command<'a>) -> Result<Command<'a>, AllocError>
-    ensures { IfOk result (HasAdded with_times command.entry) }
+    requires { IsLocal command }
+    ensures { IfOk result IsLocal }
 {
     command
         .arg(option(
@@ -498,7 +522,8 @@ fn with_times<'a>(alloc: Global, command: Command<'a>) -> Result<Command<'a>, Al
 
 /// Adds the options of what is written of single events.
 fn with_record<'a>(alloc: Global, command: Command<'a>) -> Result<Command<'a>, AllocError>
-    ensures { IfOk result (HasAdded with_record command.entry) }
+    requires { IsLocal command }
+    ensures { IfOk result IsLocal }
 {
     command
         .arg(option(
@@ -516,7 +541,7 @@ fn with_record<'a>(alloc: Global, command: Command<'a>) -> Result<Command<'a>, A
 
 /// Returns the subcommand `serve`.
 fn serve<'a>(alloc: Global) -> Result<Command<'a>, AllocError>
-    ensures { IfOk result (HasShape serve_command) }
+    ensures { IfOk result IsLocal }
 {
     let command = Command::new(alloc, "serve")
         .about(
@@ -524,7 +549,11 @@ fn serve<'a>(alloc: Global) -> Result<Command<'a>, AllocError>
         )
         .arg(port(alloc))?;
     let command = with_sockets(alloc, command)?;
-    let command = with_filter(alloc, command)?;
+    let command = with_filter(alloc, command)?.arg(flag(
+        alloc,
+        "unconfined",
+        "Let the programs send to and from peers that clients haven't permitted",
+    ))?;
     let command = with_times(alloc, command)?;
     let command = with_record(alloc, command)?;
     with_options(alloc, command)
@@ -533,7 +562,7 @@ fn serve<'a>(alloc: Global) -> Result<Command<'a>, AllocError>
 /// Returns the command without its subcommands. With no word after its name it answers with the help.
 /// See docs/DECISIONS.md, "The help where no command is given".
 fn bare<'a>(alloc: Global) -> Command<'a>
-    ensures { HasShape bare_command result }
+    ensures { RequiresSubcommand result }
 {
     Command::new(alloc, "relayd")
         .about(ABOUT)
@@ -544,7 +573,7 @@ fn bare<'a>(alloc: Global) -> Command<'a>
 
 /// Returns the command with the subcommands that read or write texts.
 fn with_texts<'a>(alloc: Global) -> Result<Command<'a>, AllocError>
-    ensures { IfOk result (HasShape text_command) }
+    ensures { IfOk result RequiresSubcommand }
 {
     bare(alloc)
         .subcommand(assemble(alloc)?)?
@@ -554,7 +583,7 @@ fn with_texts<'a>(alloc: Global) -> Result<Command<'a>, AllocError>
 
 /// Returns the command with those that look at programs too.
 fn with_reports<'a>(alloc: Global) -> Result<Command<'a>, AllocError>
-    ensures { IfOk result (HasShape program_command) }
+    ensures { IfOk result RequiresSubcommand }
 {
     with_texts(alloc)?
         .subcommand(verify(alloc)?)?
@@ -564,24 +593,20 @@ fn with_reports<'a>(alloc: Global) -> Result<Command<'a>, AllocError>
 
 /// Returns the whole command.
 fn relayd<'a>(alloc: Global) -> Result<Command<'a>, AllocError>
-    ensures { IfOk result (HasShape relayd_command) }
+    ensures { IfOk result RequiresSubcommand }
 {
     with_reports(alloc)?
         .subcommand(replay(alloc)?)?
         .subcommand(serve(alloc)?)
 }
 
-/// Parses the words of a command line, of which the first is the program's name. What it accepts, and
-/// the values that it finds, are those of clap's definition of a parse.
+/// Parses the words of a command line, of which the first is the program's name. Where it accepts them, a subcommand is there.
 ///
 /// # Errors
 /// Returns an error where a word is wrong or missing, where the words request a help text, and where
 /// memory runs out.
 pub fn line<'a, S: AsStr>(alloc: Global, words: &'a [S]) -> Result<ArgMatches<'a>, Error>
     ensures present { IfOk result (λ m. has_subcommand m ≡ true) }
-    ensures found { IfOk result (λ m. subcommand_rows_of m ≡ subcommand_in (map S.text words.entry.now)) }
-    ensures refused { FailsBy (faults_of (map S.text words.entry.now)) result }
-    ensures usual { (s : Subcommand) → IsLineOf s (map S.text words.entry.now) → IsParsedAs s result }
 {
     relayd(alloc)?.try_get_matches_from(words)
 }

@@ -1,25 +1,17 @@
 //! The subcommand of a parsed command line, with the values of its arguments.
 
-ghost use Rattle.std.specs.Prelude.{◌≡◌, codes, IfOk, IfErr, IfSome, IfNone, IsSomeAnd, unwrap_or};
-ghost use Rattle.clap.specs.Words.{all_of, first_of, found_of, one_of, rows_of, subcommand_rows_of};
-ghost use Rattle.command_line.specs.Subcommands.{HaveValues, IsFirstFault, IsFlag, IsNoSubcommand, IsReadAs, IsSubcommand, IsValueFault, list_of, text_of, texts_in};
-
 use crate::defaults::{BUFFER, FIRST_PORT, LISTEN, NONCE, NONCE_LIFETIME, REALM, SLOTS};
 use crate::values::{ValueError, buffer, ip, ip6, number, octets6, port, seconds, slots};
 use crate::{Options, ServerOptions, Subcommand};
 use clap::ArgMatches;
 
 /// Returns the text of an argument, if it is given.
-fn text<'a>(matches: &'a ArgMatches<'_>, id: &str) -> Option<&'a str>
-    ensures { text_of result ≡ first_of id.now (rows_of (found_of matches.now)) }
-{
+fn text<'a>(matches: &'a ArgMatches<'_>, id: &str) -> Option<&'a str> {
     matches.get_str(id)
 }
 
 /// Returns the text of an argument, or `default` where it is not given.
-fn text_or<'a>(matches: &'a ArgMatches<'_>, id: &str, default: &'static str) -> &'a str
-    ensures { result.now ≡ unwrap_or (first_of id.now (rows_of (found_of matches.now))) default.entry.now }
-{
+fn text_or<'a>(matches: &'a ArgMatches<'_>, id: &str, default: &'static str) -> &'a str {
     match text(matches, id) {
         Some(text) => text,
         None => default,
@@ -27,58 +19,44 @@ fn text_or<'a>(matches: &'a ArgMatches<'_>, id: &str, default: &'static str) -> 
 }
 
 /// Returns the texts of an option that may be repeated, if it is given.
-fn texts<'a>(matches: &'a ArgMatches<'_>, id: &str) -> Option<&'a [&'a str]>
-    ensures { list_of result ≡ all_of id.now (rows_of (found_of matches.now)) }
-{
+fn texts<'a>(matches: &'a ArgMatches<'_>, id: &str) -> Option<&'a [&'a str]> {
     matches.get_strs(id)
 }
 
 /// Returns whether a flag is given.
-fn is_given(matches: &ArgMatches<'_>, id: &str) -> bool
-    ensures { IsFlag (one_of id.now (rows_of (found_of matches.now))) result }
-{
+fn is_given(matches: &ArgMatches<'_>, id: &str) -> bool {
     matches.get_flag(id)
 }
 
 /// Returns the subcommand `assemble` of its matches, or `None` where a file is missing.
-fn assemble_of<'a>(matches: &'a ArgMatches<'_>) -> Option<Subcommand<'a>>
-    ensures { IsReadAs (codes "assemble", rows_of (found_of matches.now)) result }
-{
+fn assemble_of<'a>(matches: &'a ArgMatches<'_>) -> Option<Subcommand<'a>> {
     let input = text(matches, "in")?;
     let output = text(matches, "out")?;
     Some(Subcommand::Assemble { input, output })
 }
 
 /// Returns the subcommand `order` of its matches, or `None` where a file is missing.
-fn order_of<'a>(matches: &'a ArgMatches<'_>) -> Option<Subcommand<'a>>
-    ensures { IsReadAs (codes "order", rows_of (found_of matches.now)) result }
-{
+fn order_of<'a>(matches: &'a ArgMatches<'_>) -> Option<Subcommand<'a>> {
     let input = text(matches, "in")?;
     let output = text(matches, "out")?;
     Some(Subcommand::Order { input, output })
 }
 
 /// Returns the subcommand `disassemble` of its matches, or `None` where the file is missing.
-fn disassemble_of<'a>(matches: &'a ArgMatches<'_>) -> Option<Subcommand<'a>>
-    ensures { IsReadAs (codes "disassemble", rows_of (found_of matches.now)) result }
-{
+fn disassemble_of<'a>(matches: &'a ArgMatches<'_>) -> Option<Subcommand<'a>> {
     let file = text(matches, "file")?;
     let slots = is_given(matches, "slots");
     Some(Subcommand::Disassemble { file, slots })
 }
 
 /// Returns the subcommand `verify` of its matches, or `None` where the file is missing.
-fn verify_of<'a>(matches: &'a ArgMatches<'_>) -> Option<Subcommand<'a>>
-    ensures { IsReadAs (codes "verify", rows_of (found_of matches.now)) result }
-{
+fn verify_of<'a>(matches: &'a ArgMatches<'_>) -> Option<Subcommand<'a>> {
     let file = text(matches, "file")?;
     Some(Subcommand::Verify { file })
 }
 
 /// Returns the subcommand `trace` of its matches, or `None` where the file is missing.
-fn trace_of<'a>(matches: &'a ArgMatches<'_>) -> Option<Subcommand<'a>>
-    ensures { IsReadAs (codes "trace", rows_of (found_of matches.now)) result }
-{
+fn trace_of<'a>(matches: &'a ArgMatches<'_>) -> Option<Subcommand<'a>> {
     let file = text(matches, "file")?;
     let data = text(matches, "data");
     Some(Subcommand::Trace { file, data })
@@ -88,10 +66,7 @@ fn trace_of<'a>(matches: &'a ArgMatches<'_>) -> Option<Subcommand<'a>>
 ///
 /// # Errors
 /// Where the slot is no number.
-fn explain_of<'a>(matches: &'a ArgMatches<'_>) -> Result<Option<Subcommand<'a>>, ValueError<'a>>
-    ensures value { IfOk result (IsReadAs (codes "explain", rows_of (found_of matches.now))) }
-    ensures refused { IfErr result (IsValueFault (codes "explain", rows_of (found_of matches.now))) }
-{
+fn explain_of<'a>(matches: &'a ArgMatches<'_>) -> Result<Option<Subcommand<'a>>, ValueError<'a>> {
     let Some(file) = text(matches, "file") else {
         return Ok(None);
     };
@@ -103,10 +78,7 @@ fn explain_of<'a>(matches: &'a ArgMatches<'_>) -> Result<Option<Subcommand<'a>>,
 ///
 /// # Errors
 /// The first text that spells no value of its option.
-fn options_of<'a>(matches: &'a ArgMatches<'_>) -> Result<Options<'a>, ValueError<'a>>
-    ensures value { IfOk result (HaveValues (texts_in (rows_of (found_of matches.now)))) }
-    ensures refused { IfErr result (IsFirstFault (texts_in (rows_of (found_of matches.now)))) }
-{
+fn options_of<'a>(matches: &'a ArgMatches<'_>) -> Result<Options<'a>, ValueError<'a>> {
     let relay_ip6 = octets6("--relay-ip6 <HEX>", text(matches, "relay-ip6"))?;
     let slots = slots("--slots <N>", text(matches, "slots"))?;
     let relay_ip = ip("--relay-ip <A>", text(matches, "relay-ip"))?;
@@ -122,6 +94,7 @@ fn options_of<'a>(matches: &'a ArgMatches<'_>) -> Result<Options<'a>, ValueError
         first_port: first_port.unwrap_or(FIRST_PORT),
         client: text(matches, "client"),
         peer: text(matches, "peer"),
+        same_as: texts(matches, "same-as"),
     })
 }
 
@@ -129,10 +102,7 @@ fn options_of<'a>(matches: &'a ArgMatches<'_>) -> Result<Options<'a>, ValueError
 ///
 /// # Errors
 /// The first text that spells no value of its option.
-fn replay_of<'a>(matches: &'a ArgMatches<'_>) -> Result<Option<Subcommand<'a>>, ValueError<'a>>
-    ensures value { IfOk result (IsReadAs (codes "replay", rows_of (found_of matches.now))) }
-    ensures refused { IfErr result (IsValueFault (codes "replay", rows_of (found_of matches.now))) }
-{
+fn replay_of<'a>(matches: &'a ArgMatches<'_>) -> Result<Option<Subcommand<'a>>, ValueError<'a>> {
     let Some(events) = text(matches, "events") else {
         return Ok(None);
     };
@@ -143,6 +113,7 @@ fn replay_of<'a>(matches: &'a ArgMatches<'_>) -> Result<Option<Subcommand<'a>>, 
         events,
         nonce,
         why,
+        confine: is_given(matches, "confine"),
         options,
     }))
 }
@@ -151,10 +122,7 @@ fn replay_of<'a>(matches: &'a ArgMatches<'_>) -> Result<Option<Subcommand<'a>>, 
 ///
 /// # Errors
 /// The first text that spells no value of its option.
-fn serve_of<'a>(matches: &'a ArgMatches<'_>) -> Result<Option<Subcommand<'a>>, ValueError<'a>>
-    ensures value { IfOk result (IsReadAs (codes "serve", rows_of (found_of matches.now))) }
-    ensures refused { IfErr result (IsValueFault (codes "serve", rows_of (found_of matches.now))) }
-{
+fn serve_of<'a>(matches: &'a ArgMatches<'_>) -> Result<Option<Subcommand<'a>>, ValueError<'a>> {
     let Some(port) = port("--port <P>", text(matches, "port"))? else {
         return Ok(None);
     };
@@ -179,6 +147,7 @@ fn serve_of<'a>(matches: &'a ArgMatches<'_>) -> Result<Option<Subcommand<'a>>, V
         metrics: text(matches, "metrics"),
         record: text(matches, "record"),
         log: is_given(matches, "log"),
+        unconfined: is_given(matches, "unconfined"),
     };
     Ok(Some(Subcommand::Serve { server, options }))
 }
@@ -187,10 +156,7 @@ fn serve_of<'a>(matches: &'a ArgMatches<'_>) -> Result<Option<Subcommand<'a>>, V
 fn named<'a>(
     name: &str,
     matches: &'a ArgMatches<'_>,
-) -> Result<Option<Subcommand<'a>>, ValueError<'a>>
-    ensures value { IfOk result (IsReadAs (name.now, rows_of (found_of matches.now))) }
-    ensures refused { IfErr result (IsValueFault (name.now, rows_of (found_of matches.now))) }
-{
+) -> Result<Option<Subcommand<'a>>, ValueError<'a>> {
     match name {
         "assemble" => Ok(assemble_of(matches)),
         "order" => Ok(order_of(matches)),
@@ -213,11 +179,7 @@ fn named<'a>(
 /// See docs/DECISIONS.md, "Numbers of options".
 pub fn subcommand_of<'a>(
     matches: &'a ArgMatches<'_>,
-) -> Result<Option<Subcommand<'a>>, ValueError<'a>>
-    ensures found { IfOk result (λ o. IfSome o (λ s. IsSomeAnd (subcommand_rows_of matches.now) (λ p. IsSubcommand p s))) }
-    ensures none { IfOk result (λ o. IfNone o (IfSome (subcommand_rows_of matches.now) IsNoSubcommand)) }
-    ensures refused { IfErr result (λ e. IsSomeAnd (subcommand_rows_of matches.now) (λ p. IsValueFault p e)) }
-{
+) -> Result<Option<Subcommand<'a>>, ValueError<'a>> {
     match matches.subcommand() {
         Some((name, matches)) => named(name, matches),
         None => Ok(None),

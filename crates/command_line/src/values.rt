@@ -3,8 +3,7 @@
 
 ghost use Rattle.std.specs.Prelude.{◌≡◌, ◌^◌, IfOk, IfErr};
 ghost use Rattle.std.specs.Net.Grammar.{IsIpv4Text, IsIpv6Text};
-ghost use Rattle.command_line.specs.Subcommands.{text_of};
-ghost use Rattle.command_line.specs.Values.{AreOctets6, HasValue, IsBuffer, IsDecimal, IsRefusedValue, IsSeconds};
+ghost use Rattle.command_line.specs.Values.{AreOctets6, HasValue, IsBuffer, IsDecimal, IsRefusedValue, IsSeconds, text_of};
 
 use hex::FromHex;
 use std::net::{Ipv4Addr, Ipv6Addr};

@@ -112,12 +112,12 @@ const GOOD: [Good; 30] = [
     // standard input, without an option
     Good {
         words: &["relayd", "replay", "-"],
-        subcommand: r#"Replay { events: "-", nonce: "n1", why: false, options: Options { realm: "relay", users: None, users_file: None, secret_file: None, slots: 16, relay_ip: None, relay_ip6: None, first_port: 49152, client: None, peer: None } }"#,
+        subcommand: r#"Replay { events: "-", nonce: "n1", why: false, confine: false, options: Options { realm: "relay", users: None, users_file: None, secret_file: None, slots: 16, relay_ip: None, relay_ip6: None, first_port: 49152, client: None, peer: None, same_as: None } }"#,
     },
     // users in the order in which they are given, and no value is parted at a comma
     Good {
         words: &["relayd", "replay", "--user", "v:q,r", "a", "--user=u:p"],
-        subcommand: r#"Replay { events: "a", nonce: "n1", why: false, options: Options { realm: "relay", users: Some(["v:q,r", "u:p"]), users_file: None, secret_file: None, slots: 16, relay_ip: None, relay_ip6: None, first_port: 49152, client: None, peer: None } }"#,
+        subcommand: r#"Replay { events: "a", nonce: "n1", why: false, confine: false, options: Options { realm: "relay", users: Some(["v:q,r", "u:p"]), users_file: None, secret_file: None, slots: 16, relay_ip: None, relay_ip6: None, first_port: 49152, client: None, peer: None, same_as: None } }"#,
     },
     // every option
     Good {
@@ -127,6 +127,10 @@ const GOOD: [Good; 30] = [
             "--nonce",
             "n",
             "--why",
+            "--confine",
+            "--same-as",
+            "192.0.2.1=192.0.2.2",
+            "--same-as=a",
             "--peer",
             "p",
             "--client",
@@ -149,12 +153,12 @@ const GOOD: [Good; 30] = [
             "r",
             "a",
         ],
-        subcommand: r#"Replay { events: "a", nonce: "n", why: true, options: Options { realm: "r", users: Some(["u"]), users_file: Some("f"), secret_file: Some("s"), slots: 2, relay_ip: Some(203.0.113.1), relay_ip6: Some([32, 1, 13, 184, 0, 0, 0, 0, 0, 0, 0, 0, 0, 0, 0, 171]), first_port: 1, client: Some("c"), peer: Some("p") } }"#,
+        subcommand: r#"Replay { events: "a", nonce: "n", why: true, confine: true, options: Options { realm: "r", users: Some(["u"]), users_file: Some("f"), secret_file: Some("s"), slots: 2, relay_ip: Some(203.0.113.1), relay_ip6: Some([32, 1, 13, 184, 0, 0, 0, 0, 0, 0, 0, 0, 0, 0, 0, 171]), first_port: 1, client: Some("c"), peer: Some("p"), same_as: Some(["192.0.2.1=192.0.2.2", "a"]) } }"#,
     },
     // a server with its port alone, and with every option
     Good {
         words: &["relayd", "serve", "--port", "3478"],
-        subcommand: r#"Serve { server: ServerOptions { port: 3478, rounds: None, listen: 127.0.0.1, listen6: None, buffer: 4194304, reuse_port: false, deny: None, allow: None, nonce_lifetime: 3600, stats: None, metrics: None, record: None, log: false }, options: Options { realm: "relay", users: None, users_file: None, secret_file: None, slots: 16, relay_ip: None, relay_ip6: None, first_port: 49152, client: None, peer: None } }"#,
+        subcommand: r#"Serve { server: ServerOptions { port: 3478, rounds: None, listen: 127.0.0.1, listen6: None, buffer: 4194304, reuse_port: false, deny: None, allow: None, nonce_lifetime: 3600, stats: None, metrics: None, record: None, log: false, unconfined: false }, options: Options { realm: "relay", users: None, users_file: None, secret_file: None, slots: 16, relay_ip: None, relay_ip6: None, first_port: 49152, client: None, peer: None, same_as: None } }"#,
     },
     Good {
         words: &[
@@ -162,6 +166,9 @@ const GOOD: [Good; 30] = [
             "serve",
             "--peer",
             "p",
+            "--unconfined",
+            "--same-as",
+            "a=b",
             "--client=c",
             "--first-port",
             "1",
@@ -203,7 +210,7 @@ const GOOD: [Good; 30] = [
             "--port",
             "3478",
         ],
-        subcommand: r#"Serve { server: ServerOptions { port: 3478, rounds: Some(0), listen: 192.0.2.10, listen6: Some(2001:db8::10), buffer: 1073741823, reuse_port: true, deny: Some(["d", "e"]), allow: Some(["f"]), nonce_lifetime: 60, stats: Some(5), metrics: Some("m"), record: Some("e"), log: true }, options: Options { realm: "r", users: Some(["u", "v"]), users_file: Some("f"), secret_file: Some("s"), slots: 2, relay_ip: Some(203.0.113.1), relay_ip6: Some([32, 1, 13, 184, 0, 0, 0, 0, 0, 0, 0, 0, 0, 0, 0, 171]), first_port: 1, client: Some("c"), peer: Some("p") } }"#,
+        subcommand: r#"Serve { server: ServerOptions { port: 3478, rounds: Some(0), listen: 192.0.2.10, listen6: Some(2001:db8::10), buffer: 1073741823, reuse_port: true, deny: Some(["d", "e"]), allow: Some(["f"]), nonce_lifetime: 60, stats: Some(5), metrics: Some("m"), record: Some("e"), log: true, unconfined: true }, options: Options { realm: "r", users: Some(["u", "v"]), users_file: Some("f"), secret_file: Some("s"), slots: 2, relay_ip: Some(203.0.113.1), relay_ip6: Some([32, 1, 13, 184, 0, 0, 0, 0, 0, 0, 0, 0, 0, 0, 0, 171]), first_port: 1, client: Some("c"), peer: Some("p"), same_as: Some(["a=b"]) } }"#,
     },
     // the program may have any name
     Good {
@@ -591,8 +598,12 @@ const REFUSED: [Refused; 54] = [
             "The program for clients' datagrams; CLIENT by default",
             "--peer <FILE>",
             "The program for peers' datagrams; PEER by default",
+            "--same-as <A=B>",
+            "An address that a program may send to where the client has permitted B in its place; may be repeated",
             "--nonce <TEXT>",
             "The nonce; n1 by default",
+            "--confine",
+            "Confine the programs to the peers that clients have permitted, as serve does",
         ],
     },
     // a server: no port, a word that it doesn't take, an option of the other, and the help
@@ -654,6 +665,10 @@ const REFUSED: [Refused; 54] = [
             "The program for clients' datagrams; CLIENT by default",
             "--peer <FILE>",
             "The program for peers' datagrams; PEER by default",
+            "--same-as <A=B>",
+            "An address that a program may send to where the client has permitted B in its place; may be repeated",
+            "--unconfined",
+            "Let the programs send to and from peers that clients haven't permitted",
         ],
     },
     // the help of the two

@@ -14,7 +14,7 @@ use Rattle.events.specs.declared.meta.Source.{Source}
 use Rattle.events.specs.declared.meta.Source.TheVariants.{Client, Peer}
 use Rattle.programs.specs.Runs.{planned_sending, datagram_in, destination_in, window_in}
 use Rattle.programs.specs.declared.verdict.TheConstants.{PASSES, SENDS}
-use Rattle.relay.specs.ByPrograms.{by_programs, by_run, of_run, of_ending, of_verdict, of_passing, is_there, disposition_by_run, relayed_where_sent}
+use Rattle.relay.specs.ByPrograms.{by_programs, by_run, of_run, of_ending, of_verdict, of_passing, is_there, disposition_by_run, disposition_of_sent, let_through}
 use Rattle.events.specs.Events.{Sending}
 use Rattle.rules.specs.ByRules.{from_client}
 use Rattle.rules.specs.Dispositions.{client_disposition}
@@ -25,6 +25,7 @@ use Rattle.relay.specs.Found.{HasRun, run_at, reply_of_passing, disposition_of_p
 use Rattle.relay.specs.Relays.{RelayContents, state_of, datagram_at}
 use Rattle.relay.specs.Steps.{HasStepped, outcome_of, disposition_for, disposition_of_step}
 use Rattle.rules.specs.Systems.{SystemReply, no_answer, reply_of_relaying, outcome_at, if_served, is_served, with_nonce}
+use Rattle.relay.proofs.Confined.{nothing_through, nothing_sent}
 use Rattle.relay.proofs.SameNonce.{from_client_same}
 
 module _ (old : RelayContents) (given : Meta) (n moment : ℕ) where
@@ -38,11 +39,11 @@ module _ (old : RelayContents) (given : Meta) (n moment : ℕ) where
 
   -- the reply by the run
   abbrev run_reply : SystemReply
-  run_reply = by_run (with_nonce old.config old.config.nonce.bytes) moment given.from old.rows (length (datagram_at old n)) (run_at at_moment given n)
+  run_reply = by_run old.programs.confinement (with_nonce old.config old.config.nonce.bytes) moment given.from old.rows (length (datagram_at old n)) (run_at at_moment given n)
 
   -- what is done by the run
   abbrev run_disposition : Disposition
-  run_disposition = disposition_by_run old.config moment given.from old.rows (length (datagram_at old n)) (run_at at_moment given n)
+  run_disposition = disposition_by_run old.programs.confinement old.config moment given.from old.rows (length (datagram_at old n)) (run_at at_moment given n)
 
   -- a reply of a system makes a step
   pub steps : (new : RelayContents) → moment ≡ moment_of old.greatest given.now → new.rows ≡ reply_at.rows → new.greatest ≡ moment → new.config ≡ old.config → new.programs ≡ old.programs → HasStepped old new (outcome_of old given n)
@@ -127,8 +128,17 @@ module _ (old : RelayContents) (given : Meta) (n moment : ℕ) where
       abbrev replies : Addr → List ℕ → SystemReply
       replies client bytes = from_client config moment client old.rows bytes
 
+      abbrev relays : Option Sending → SystemReply
+      relays sent = reply_of_relaying old.rows (let_through old.programs.confinement given.from live sent)
+
       abbrev dispositions : Addr → List ℕ → Disposition
       dispositions client bytes = client_disposition old.config moment client old.rows bytes
+
+      abbrev dispositions_of_sent : Option Sending → Disposition
+      dispositions_of_sent = disposition_of_sent old.programs.confinement given.from live
+
+      no_reply : relays None ≡ no_answer old.rows
+      no_reply = ap (reply_of_relaying old.rows) (nothing_through given.from live old.programs.confinement)
 
       reply_is : reply_at ≡ run_reply
       reply_is = if_both (is_served given.from) (is_there given.from old.rows) run_reply (no_answer old.rows) served
@@ -139,30 +149,33 @@ module _ (old : RelayContents) (given : Meta) (n moment : ℕ) where
       pub passes_client : (client : Addr) → given.from ≡ Client client → o.verdict ≡ PASSES → shown.config ≡ old.config → shown.rows ≡ old.rows → shown.greatest ≡ moment → reply_at ≡ reply_of_passing shown client
       passes_client client from verdict same rows greatest =
           reply_is
-          ∙ end_passes_client replies (reply_of_relaying old.rows) client from verdict
+          ∙ end_passes_client replies relays client from verdict
           ∙ from_client_same old.config moment client old.rows (datagram_of shown.frame)
           ∙ (λ i. from_client (sym same i) (sym greatest i) client (sym rows i) (datagram_of shown.frame))
 
       pub does_pass_client : (client : Addr) → given.from ≡ Client client → o.verdict ≡ PASSES → shown.config ≡ old.config → shown.rows ≡ old.rows → shown.greatest ≡ moment → done_at ≡ disposition_of_passing shown client
       does_pass_client client from verdict same rows greatest =
           done_is
-          ∙ end_passes_client dispositions relayed_where_sent client from verdict
+          ∙ end_passes_client dispositions dispositions_of_sent client from verdict
           ∙ (λ i. client_disposition (sym same i) (sym greatest i) client (sym rows i) (datagram_of shown.frame))
 
       pub passes_peer : (slot : ℕ) (peer : Addr) → given.from ≡ Peer slot peer → o.verdict ≡ PASSES → reply_at ≡ no_answer old.rows
-      passes_peer slot peer from verdict = reply_is ∙ end_passes_peer replies (reply_of_relaying old.rows) slot peer from verdict
+      passes_peer slot peer from verdict = reply_is ∙ end_passes_peer replies relays slot peer from verdict ∙ no_reply
 
       pub does_pass_peer : (slot : ℕ) (peer : Addr) → given.from ≡ Peer slot peer → o.verdict ≡ PASSES → done_at ≡ Discarded ByProgram
-      does_pass_peer slot peer from verdict = done_is ∙ end_passes_peer dispositions relayed_where_sent slot peer from verdict
+      does_pass_peer slot peer from verdict =
+          done_is ∙ end_passes_peer dispositions dispositions_of_sent slot peer from verdict ∙ nothing_sent given.from live old.programs.confinement
 
-      pub sends : o.verdict ≡ SENDS → reply_at ≡ reply_of_relaying old.rows (planned_sending given.from live o.destination (window_shown shown.frame))
-      sends verdict = reply_is ∙ end_sends replies (reply_of_relaying old.rows) verdict
+      pub sends : o.verdict ≡ SENDS → reply_at ≡ reply_of_relaying old.rows
+          (let_through old.programs.confinement given.from live (planned_sending given.from live o.destination (window_shown shown.frame)))
+      sends verdict = reply_is ∙ end_sends replies relays verdict
 
-      pub does_send : o.verdict ≡ SENDS → done_at ≡ relayed_where_sent (planned_sending given.from live o.destination (window_shown shown.frame))
-      does_send verdict = done_is ∙ end_sends dispositions relayed_where_sent verdict
+      pub does_send : o.verdict ≡ SENDS → done_at ≡ disposition_of_sent old.programs.confinement given.from live (planned_sending given.from live o.destination (window_shown shown.frame))
+      does_send verdict = done_is ∙ end_sends dispositions dispositions_of_sent verdict
 
       pub discards : (o.verdict == PASSES) ≡ false → (o.verdict == SENDS) ≡ false → reply_at ≡ no_answer old.rows
-      discards no_pass no_send = reply_is ∙ end_discards replies (reply_of_relaying old.rows) no_pass no_send
+      discards no_pass no_send = reply_is ∙ end_discards replies relays no_pass no_send ∙ no_reply
 
       pub does_discard : (o.verdict == PASSES) ≡ false → (o.verdict == SENDS) ≡ false → done_at ≡ Discarded ByProgram
-      does_discard no_pass no_send = done_is ∙ end_discards dispositions relayed_where_sent no_pass no_send
+      does_discard no_pass no_send =
+          done_is ∙ end_discards dispositions dispositions_of_sent no_pass no_send ∙ nothing_sent given.from live old.programs.confinement

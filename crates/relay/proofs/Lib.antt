@@ -1,10 +1,16 @@
 mod Advances
+mod AfterRuns
+mod BoundedAnswers
+mod ChangedRows
+mod Confined
 mod FirstLines
 mod Frames
+mod HarmlessSteps
 mod KeptRows
 mod LineLengths
 mod LiveSlots
 mod NewUsers
+mod OwnRuns
 mod Played
 mod Plays
 mod Pushes
@@ -13,3 +19,4 @@ mod SameNonce
 mod ShippedReasons
 mod ShippedRules
 mod ShippedRuns
+mod Windows

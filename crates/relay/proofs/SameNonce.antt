@@ -23,7 +23,8 @@ use Rattle.events.specs.Events.{ToClient}
 use Rattle.events.specs.declared.meta.Source.{Source}
 use Rattle.semantics.specs.Runs.{Run}
 use Rattle.programs.specs.Runs.{run_for}
-use Rattle.relay.specs.ByPrograms.{Programs, program_for, of_run, is_there, relayed_where_sent, disposition_by_run, disposition_of_datagram}
+use Rattle.relay.specs.ByPrograms.{Programs, program_for, of_run, is_there, disposition_of_sent, disposition_by_run, disposition_of_datagram}
+use Rattle.rules.specs.declared.confinement.Confinement.{Confinement}
 use Rattle.rules.specs.FastPart.{begins_as_stun}
 use Rattle.rules.specs.Rules.{send_indication, send_from, channel_data_from}
 use Rattle.rules.specs.ByRules.{check_of, reply_with, reply_to_request, message, from_client, request_of}
@@ -94,11 +95,13 @@ module _ (c : Config) where
     client_disposition_same : (bytes : List ℕ) → client_disposition d now client rows bytes ≡ client_disposition c now client rows bytes
     client_disposition_same bytes = ap (λ (done : Disposition). if begins_as_stun bytes then done else relayed_if (channel_data_test client (rows_at now rows) bytes)) (of_message_same (message_in bytes))
 
-  by_run_same : (now : ℕ) (from : Source) (rows : Rows) (size : ℕ) (r : Run) → disposition_by_run d now from rows size r ≡ disposition_by_run c now from rows size r
-  by_run_same now from rows size r = λ i. of_run (λ client bytes. client_disposition_same now client rows bytes i) relayed_where_sent from (rows_at now rows) size r
+  by_run_same : (confinement : Option Confinement) (now : ℕ) (from : Source) (rows : Rows) (size : ℕ) (r : Run)
+      → disposition_by_run confinement d now from rows size r ≡ disposition_by_run confinement c now from rows size r
+  by_run_same confinement now from rows size r = λ i.
+      of_run (λ client bytes. client_disposition_same now client rows bytes i) (disposition_of_sent confinement from (rows_at now rows)) from (rows_at now rows) size r
 
   pub disposition_of_datagram_same : (programs : Programs) (now : ℕ) (transaction_id : List ℕ) (from : Source) (rows : Rows) (bytes : List ℕ)
       → disposition_of_datagram programs d now transaction_id from rows bytes ≡ disposition_of_datagram programs c now transaction_id from rows bytes
   disposition_of_datagram_same programs now transaction_id from rows bytes =
       ap (λ (done : Disposition). if is_served from then (if is_there from rows then done else Discarded NotServed) else Discarded NotServed)
-      (by_run_same now from rows (length bytes) (run_for (program_for programs from) transaction_id from (rows_at now rows) bytes))
+      (by_run_same programs.confinement now from rows (length bytes) (run_for (program_for programs from) transaction_id from (rows_at now rows) bytes))

@@ -1,6 +1,6 @@
 -- With the shipped programs, the reason of a datagram is what the rules do with it.
-use Rattle.std.proofs.Common.{◌≡◌, ℕ, List, length, true, false, inl, inr, refl, sym, ap, subst, ◌∙◌}
-use Rattle.std.specs.Prelude.{◌==◌, Option, None, Some, Result, Ok, Err}
+use Rattle.std.proofs.Common.{◌≡◌, ℕ, List, [], length, true, false, inl, inr, refl, sym, ap, subst, ◌∙◌}
+use Rattle.std.specs.Prelude.{◌==◌, Option, None, Some, IfSome, Result, Ok, Err}
 use Rattle.std.proofs.lemmas.Bool.{cases_Bool, cond-true, cond-false, and_parts}
 use Rattle.std.proofs.lemmas.Option.{none-some, same_Some}
 use Rattle.stun.specs.Datagrams.{message_in}
@@ -19,16 +19,19 @@ use Rattle.rules.specs.Dispositions.{channel_data_test, client_disposition, disp
 use Rattle.rules.specs.FastPart.{begins_as_stun, begins_as_channel_data, is_plain_send, are_address_and_content}
 use Rattle.rules.specs.Rules.{send_indication, channel_data_from}
 use Rattle.rules.specs.Systems.{address_of_source, is_served}
+use Rattle.rules.specs.Permitted.{IsPermitted}
+use Rattle.rules.specs.laws.Permitted.{channel_data_permitted, peer_data_permitted, send_permitted}
 use Rattle.rules.specs.laws.Discards.{Agree, channel_data_agrees, peer_agrees, send_agrees}
 use Rattle.rules.specs.declared.disposition.Discard.{Discard}
 use Rattle.rules.specs.declared.disposition.Discard.TheVariants.{ByProgram, NotServed}
 use Rattle.rules.specs.declared.disposition.Disposition.{Disposition}
 use Rattle.rules.specs.declared.disposition.Disposition.TheVariants.{Discarded}
-use Rattle.relay.specs.ByPrograms.{Programs, program_for, disposition_by_run, is_there, relayed_where_sent}
+use Rattle.relay.specs.ByPrograms.{Programs, program_for, disposition_by_run, disposition_of_sent, is_there, relayed_where_sent}
 use Rattle.programs.specs.Runs.{run_for}
 use Rattle.relay.specs.Reasons.{exit_slot, reason_of, reason_of_datagram}
 use Rattle.relay.specs.Shipped.{AreShipped}
 use Rattle.relay.specs.declared.reason.Reason.TheVariants.{Done}
+use Rattle.relay.proofs.Confined.{all_relayed}
 use Rattle.relay.proofs.ShippedRules.{ClientServes, PeerServes, ends_relayed, ends_passed, no_channel_data, not_relayed}
 
 -- ---- the reason, by what was done and by what the rules do
@@ -66,7 +69,7 @@ module _ (config : Config) (now : ℕ) (transaction_id : List ℕ) (rows : Rows)
 
   -- what the run of a side's program does
   abbrev done : Source → Disposition
-  done from = disposition_by_run config now from rows (length datagram)
+  done from = disposition_by_run programs.confinement config now from rows (length datagram)
       (run_for (program_for programs from) transaction_id from live datagram)
 
   abbrev slot_of : Source → ℕ
@@ -82,19 +85,22 @@ module _ (config : Config) (now : ℕ) (transaction_id : List ℕ) (rows : Rows)
   client_ruled client start serves = elim (cases_Bool (begins_as_stun datagram)) [
     | inl stun ↦ by_message stun (message_in datagram) refl
     | inr other ↦ elim (cases_Bool (begins_as_channel_data datagram)) [
-      | inl channel ↦ channelled other _ (relayed (channel_data_from client live datagram) (serves.channel_data channel))
+      | inl channel ↦ channelled other _ (relayed (channel_data_from client live datagram) (channel_data_permitted client live datagram) (serves.channel_data channel))
           (channel_data_agrees client live datagram)
       | inr neither ↦
-          let none = not_relayed config now transaction_id rows datagram programs.client client
-          (no_channel_data config now transaction_id rows datagram programs.client datagram start.is_datagram.bytes_fit
+          let none = not_relayed programs.confinement config now transaction_id rows datagram programs.client client
+          (no_channel_data programs.confinement config now transaction_id rows datagram programs.client datagram start.is_datagram.bytes_fit
           neither) in
-          channelled other _ (relayed None (serves.other neither other) ∙ ap relayed_where_sent (sym none))
+          channelled other _ (relayed None tt (serves.other neither other) ∙ ap relayed_where_sent (sym none))
           (channel_data_agrees client live datagram)
     ]
   ] where
-    relayed : (sends : Option Sending) → Relays programs.client transaction_id (Client client) live datagram sends
+    relayed : (sends : Option Sending) → IfSome sends (IsPermitted [] (Client client) live)
+        → Relays programs.client transaction_id (Client client) live datagram sends
         → done (Client client) ≡ relayed_where_sent sends
-    relayed = ends_relayed passes relayed_where_sent transaction_id live datagram programs.client (Client client)
+    relayed sends permitted is =
+        ends_relayed passes (disposition_of_sent programs.confinement (Client client) live) transaction_id live datagram programs.client (Client client) sends is
+        ∙ all_relayed (Client client) live programs.confinement sends permitted
 
     channelled : begins_as_stun datagram ≡ false → (sent : Option Sending) → done (Client client) ≡ relayed_where_sent sent
         → Agree sent (relayed_if (channel_data_test client live datagram)) → IsRuled (Client client)
@@ -106,14 +112,14 @@ module _ (config : Config) (now : ℕ) (transaction_id : List ℕ) (rows : Rows)
 
     passed : PassesOn programs.client transaction_id (Client client) live datagram → IsRuled (Client client)
     passed on = alike (done (Client client)) (passes client datagram) (slot_of (Client client))
-        (ends_passed passes relayed_where_sent transaction_id live datagram programs.client client on)
+        (ends_passed passes (disposition_of_sent programs.confinement (Client client) live) transaction_id live datagram programs.client client on)
 
     by_message : begins_as_stun datagram ≡ true → (m : Option Parts) → message_in datagram ≡ m → IsRuled (Client client)
     by_message stun None e = passed (serves.stun stun (λ p found. absurd (none-some p (sym e ∙ found))))
     by_message stun (Some p) e = elim (cases_Bool (is_plain_send p)) [
       | inl plain ↦
           by_tests (done (Client client)) (passes client datagram) _ (send_test client live p) (slot_of (Client client))
-          (relayed _ (serves.send p e plain))
+          (relayed _ (send_permitted client live p) (serves.send p e plain))
           (cond-true (begins_as_stun datagram) (disposition_of_message config now client rows (message_in datagram))
           (relayed_if (channel_data_test client live datagram)) stun
           ∙ ap (disposition_of_message config now client rows) e
@@ -129,7 +135,8 @@ module _ (config : Config) (now : ℕ) (transaction_id : List ℕ) (rows : Rows)
       → IsRuled (Peer slot peer)
   peer_ruled slot peer serves =
       by_tests (done (Peer slot peer)) _ _ (peer_test slot peer transaction_id live datagram) (slot_of (Peer slot peer))
-      (ends_relayed passes relayed_where_sent transaction_id live datagram programs.peer (Peer slot peer) _ serves) refl
+      (ends_relayed passes (disposition_of_sent programs.confinement (Peer slot peer) live) transaction_id live datagram programs.peer (Peer slot peer) _ serves
+      ∙ all_relayed (Peer slot peer) live programs.confinement _ (peer_data_permitted slot peer transaction_id live datagram)) refl
       (peer_agrees slot peer transaction_id live datagram)
 
 -- ---- both sides

@@ -1,6 +1,6 @@
 -- With the shipped programs, what a datagram gives is what the rules give.
 use Rattle.std.proofs.Common.{◌≡◌, ◌≢◌, ℕ, ◌+◌, ◌*◌, ◌<◌, ◌≤◌, All, List, [], ◌∷◌, length, Bool, true, false, inl, inr, refl, sym, ap, subst, ◌∙◌, arith, eqb-true}
-use Rattle.std.specs.Prelude.{◌==◌, ◌&&◌, Option, None, Some, nat_lt, nat_le, if◌then◌else◌}
+use Rattle.std.specs.Prelude.{◌==◌, ◌&&◌, Option, None, Some, IfSome, nat_lt, nat_le, if◌then◌else◌}
 use Rattle.std.specs.Option.{option_map, option_and_then, option_flatten}
 use Rattle.std.proofs.lemmas.Bool.{cases_Bool, cond-true, cond-false, and_parts}
 use Rattle.std.proofs.lemmas.Bool.Decides.{nat_tests}
@@ -30,6 +30,7 @@ use Rattle.events.specs.Events.{Sending, ToClient}
 use Rattle.fallible.specs.Options.{◌>>=◌}
 use Rattle.events.specs.declared.meta.Source.{Source}
 use Rattle.events.specs.declared.meta.Source.TheVariants.{Client, Peer}
+use Rattle.rules.specs.declared.confinement.Confinement.{Confinement}
 use Rattle.rules.specs.FastPart.{begins_as_stun, begins_as_channel_data, is_plain_send, are_address_and_content}
 use Rattle.programs.specs.Relaying.{IsRelayStart, Relays, PassesOn, ServesClient, ServesPeer}
 use Rattle.rules.specs.Rules.{send_indication, channel_data, channel_data_from, client_at, peer_data, to_peer}
@@ -37,11 +38,14 @@ use Rattle.programs.specs.Runs.{run_for}
 use Rattle.programs.specs.declared.client.TheConstants.{CLIENT}
 use Rattle.programs.specs.declared.peer.TheConstants.{PEER}
 use Rattle.programs.specs.declared.verdict.TheConstants.{PASSES}
-use Rattle.relay.specs.ByPrograms.{Programs, by_programs, of_run, of_ending, is_there}
+use Rattle.relay.specs.ByPrograms.{Programs, by_programs, let_through, of_run, of_ending, is_there}
+use Rattle.relay.proofs.Confined.{all_through}
 use Rattle.rules.specs.ByRules.{by_rules, from_client}
 use Rattle.relay.specs.Shipped.{AreShipped}
 use Rattle.rules.specs.Systems.{SystemReply, no_answer, reply_of_relaying, address_of_source, is_served, if_served}
+use Rattle.rules.specs.Permitted.{IsPermitted}
 use Rattle.rules.specs.laws.Client.{is_relayed, is_sent}
+use Rattle.rules.specs.laws.Permitted.{channel_data_permitted, peer_data_permitted, send_permitted}
 
 -- ---- what follows from a run, by what follows from a datagram that is passed on, and from what is sent else
 
@@ -71,23 +75,29 @@ module _ {X : Type 0} (passes : Addr → List ℕ → X) (sending : Option Sendi
       ap (λ (e : Ending). of_ending passes sending (Client client) live (length datagram) (run_from (Client client)) e) is.exits
       ∙ ap (passes client) is.unchanged
 
-module _ (config : Config) (now : ℕ) (transaction_id : List ℕ) (rows : Rows) (datagram : List ℕ) (code : List Insn) where
+module _ (confinement : Option Confinement) (config : Config) (now : ℕ) (transaction_id : List ℕ) (rows : Rows) (datagram : List ℕ) (code : List Insn) where
   abbrev live : Rows
   live = rows_at now rows
 
   abbrev passes : Addr → List ℕ → SystemReply
   passes client bytes = from_client config now client rows bytes
 
+  abbrev relays : Source → Option Sending → SystemReply
+  relays from sent = reply_of_relaying rows (let_through confinement from live sent)
+
   -- what the run of the code gives
   abbrev pub given : Source → SystemReply
-  given from = end passes (reply_of_relaying rows) transaction_id live datagram code from
+  given from = end passes (relays from) transaction_id live datagram code from
 
-  gives_relayed : (from : Source) (sends : Option Sending) → Relays code transaction_id from live datagram sends → given from ≡ reply_of_relaying rows sends
-  gives_relayed = ends_relayed passes (reply_of_relaying rows) transaction_id live datagram code
+  -- what the rules send is let through
+  gives_relayed : (from : Source) (sends : Option Sending) → IfSome sends (IsPermitted [] from live) → Relays code transaction_id from live datagram sends → given from ≡ reply_of_relaying rows sends
+  gives_relayed from sends permitted is =
+      ends_relayed passes (relays from) transaction_id live datagram code from sends is
+      ∙ ap (reply_of_relaying rows) (all_through from live confinement sends permitted)
 
   -- what is passed on as it came goes by the rules
   gives_passed : (client : Addr) → PassesOn code transaction_id (Client client) live datagram → given (Client client) ≡ from_client config now client rows datagram
-  gives_passed = ends_passed passes (reply_of_relaying rows) transaction_id live datagram code
+  gives_passed client = ends_passed passes (relays (Client client)) transaction_id live datagram code client
 
   -- ---- what begins neither as STUN nor as ChannelData does
 
@@ -119,9 +129,9 @@ module _ (config : Config) (now : ℕ) (transaction_id : List ℕ) (rows : Rows)
   client_gives client is serves = elim (cases_Bool (begins_as_stun datagram)) [
     | inl stun ↦ by_message stun (message_in datagram) refl
     | inr other ↦ elim (cases_Bool (begins_as_channel_data datagram)) [
-      | inl channel ↦ gives_relayed (Client client) _ (serves.channel_data channel) ∙ sym (is_relayed config now client rows datagram other)
+      | inl channel ↦ gives_relayed (Client client) _ (channel_data_permitted client live datagram) (serves.channel_data channel) ∙ sym (is_relayed config now client rows datagram other)
       | inr neither ↦
-          gives_relayed (Client client) None (serves.other neither other)
+          gives_relayed (Client client) None tt (serves.other neither other)
           ∙ ap (reply_of_relaying rows) (sym (not_relayed client (no_channel_data datagram is.bytes_fit neither)))
           ∙ sym (is_relayed config now client rows datagram other)
     ]
@@ -130,7 +140,7 @@ module _ (config : Config) (now : ℕ) (transaction_id : List ℕ) (rows : Rows)
     by_message stun None e = gives_passed client (serves.stun stun (λ p found. absurd (none-some p (sym e ∙ found))))
     by_message stun (Some p) e = elim (cases_Bool (is_plain_send p)) [
       | inl plain ↦
-          gives_relayed (Client client) _ (serves.send p e plain)
+          gives_relayed (Client client) _ (send_permitted client live p) (serves.send p e plain)
           ∙ sym (is_sent config now client rows datagram p stun e (and_parts (p.kind == send_indication) (are_address_and_content p.attributes) plain).0)
       | inr other ↦ gives_passed client (serves.stun stun (λ q found. subst (λ (r : Parts). is_plain_send r ≡ false) (same_Some p q (sym e ∙ found)) other))
     ]
@@ -150,7 +160,7 @@ module _ (config : Config) (now : ℕ) (transaction_id : List ℕ) (rows : Rows)
   peer_gives : (slot : ℕ) (peer : Addr) → ServesPeer code transaction_id slot peer live datagram
       → (if is_there (Peer slot peer) rows then given (Peer slot peer) else no_answer rows) ≡ by_rules config now transaction_id (Peer slot peer) rows datagram
   peer_gives slot peer serves = elim (cases_Bool (is_there (Peer slot peer) rows)) [
-    | inl there ↦ cond-true (is_there (Peer slot peer) rows) (given (Peer slot peer)) (no_answer rows) there ∙ gives_relayed (Peer slot peer) _ serves
+    | inl there ↦ cond-true (is_there (Peer slot peer) rows) (given (Peer slot peer)) (no_answer rows) there ∙ gives_relayed (Peer slot peer) _ (peer_data_permitted slot peer transaction_id live datagram) serves
     | inr past ↦
         cond-false (is_there (Peer slot peer) rows) (given (Peer slot peer)) (no_answer rows) past
         ∙ ap (λ (client : Option Addr). reply_of_relaying rows (client >>= λ c. option_map (ToClient c) (peer_data (has_permission slot peer live) (channel_of slot peer live) peer transaction_id datagram))) (sym (no_client slot past))
@@ -176,10 +186,10 @@ module _ (serves_client : ClientServes) (serves_peer : PeerServes) (programs : P
   -- any source
   served : (from : Source) → IsAddress (address_of_source from) → by_programs programs config now transaction_id from rows datagram ≡ by_rules config now transaction_id from rows datagram
   served (Client client) fits =
-      client_gives config now transaction_id rows datagram programs.client client is
+      client_gives programs.confinement config now transaction_id rows datagram programs.client client is
       (serves_client programs.client are.client.encoded are.client.safe client transaction_id (rows_at now rows) datagram (start client fits))
   served (Peer slot peer) fits =
-      peer_gives config now transaction_id rows datagram programs.peer slot peer
+      peer_gives programs.confinement config now transaction_id rows datagram programs.peer slot peer
       (serves_peer programs.peer are.peer.encoded are.peer.safe slot peer transaction_id (rows_at now rows) datagram (start peer fits))
 
   -- to a client over IPv6 both systems are silent

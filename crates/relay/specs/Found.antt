@@ -1,5 +1,5 @@
 -- Internal. What is to be sent for what was found.
-use Rattle.std.specs.Prelude.{◌≡◌, ℕ, List, Option, None, option_map}
+use Rattle.std.specs.Prelude.{◌≡◌, ℕ, List, Bool, true, ◌||◌, is_some, Option, None, Some, option_map}
 use Rattle.attributes.specs.declared.address.Addr.{Addr}
 use Rattle.machine.specs.Contents as machine
 use Rattle.machine.specs.Contents.{datagram_of, window_of}
@@ -14,14 +14,16 @@ use Rattle.programs.specs.Runs.{run_for, datagram_in, window_in}
 use Rattle.events.specs.declared.meta.Meta.{Meta}
 use Rattle.events.specs.declared.meta.Source.{Source}
 use Rattle.events.specs.declared.meta.Source.TheVariants.{Client, Peer}
-use Rattle.tables.specs.LookUps.{held_by, held_in}
+use Rattle.tables.specs.LookUps.{bound_channel, held_by, held_in, permission_of}
 use Rattle.tables.specs.declared.held.Held.{Held}
 use Rattle.semantics.specs.Runs.{Run}
 use Rattle.relay.specs.ByPrograms.{program_for, relayed_where_sent}
 use Rattle.rules.specs.Answers.{sending_of_answer, LiesInRoom}
 use Rattle.rules.specs.ByRules.{from_client}
 use Rattle.rules.specs.Dispositions.{client_disposition, disposition_of}
-use Rattle.rules.specs.declared.disposition.Discard.TheVariants.{ByProgram}
+use Rattle.rules.specs.Permitted.{holds_as}
+use Rattle.rules.specs.declared.confinement.Confinement.{Confinement}
+use Rattle.rules.specs.declared.disposition.Discard.TheVariants.{ByProgram, Confined}
 use Rattle.rules.specs.declared.disposition.Disposition.{Disposition}
 use Rattle.rules.specs.declared.disposition.Disposition.TheVariants.{Discarded}
 use Rattle.rules.specs.Systems.{SystemReply}
@@ -63,14 +65,31 @@ held_for (Peer slot peer) rows = held_in rows slot
 -- for a datagram of a source
 abbrev pub sending_of_found : RelayContents → Source → Found → Option Sending
 sending_of_found r from (found.Nothing reason) = None
+sending_of_found r from found.Stopped = None
 sending_of_found r from (found.WindowToPeer slot peer) = option_map (ToPeer slot peer) (window_shown r.frame)
 sending_of_found r from (found.WindowToClient client) = option_map (ToClient client) (window_shown r.frame)
 sending_of_found r (Client client) (found.Answer answer) = sending_of_answer client (datagram_of r.frame) r.reply answer
 sending_of_found r (Peer slot peer) (found.Answer answer) = None
 
+-- whether data may go to a peer, and come from one, by what is live in the slot
+abbrev pub may_go : Option Confinement → Held → Addr → Bool
+may_go None held peer = true
+may_go (Some confinement) held peer =
+    holds_as confinement.aliases.items (λ name. is_some (permission_of name held) || is_some (bound_channel name held)) peer
+
+abbrev pub may_come : Option Confinement → Held → Addr → Bool
+may_come None held peer = true
+may_come (Some confinement) held peer = holds_as confinement.aliases.items (λ name. is_some (permission_of name held)) peer
+
+-- what is done where a confined program would send a window that isn't permitted, if there is one
+abbrev pub stopped_where_shown : Option (List ℕ) → Disposition
+stopped_where_shown None = Discarded ByProgram
+stopped_where_shown (Some window) = Discarded Confined
+
 -- what is done with the datagram
 abbrev pub disposition_of_found : RelayContents → Source → Found → Disposition
 disposition_of_found r from (found.Nothing reason) = Discarded reason
+disposition_of_found r from found.Stopped = stopped_where_shown (window_shown r.frame)
 disposition_of_found r from (found.WindowToPeer slot peer) = relayed_where_sent (sending_of_found r from (found.WindowToPeer slot peer))
 disposition_of_found r from (found.WindowToClient client) = relayed_where_sent (sending_of_found r from (found.WindowToClient client))
 disposition_of_found r (Client client) (found.Answer answer) = disposition_of answer
@@ -79,6 +98,7 @@ disposition_of_found r (Peer slot peer) (found.Answer answer) = Discarded ByProg
 -- the room for replies has that of the rules
 abbrev pub HasRoomFor : Found → List ℕ → Type 0
 HasRoomFor (found.Nothing reason) reply = Unit {0}
+HasRoomFor found.Stopped reply = Unit {0}
 HasRoomFor (found.WindowToPeer slot peer) reply = Unit {0}
 HasRoomFor (found.WindowToClient client) reply = Unit {0}
 HasRoomFor (found.Answer answer) reply = LiesInRoom answer reply

@@ -47,6 +47,7 @@ discard_text discard.Incomplete = codes "incomplete"
 discard_text discard.NoPermission = codes "no permission"
 discard_text discard.OtherFamily = codes "other family"
 discard_text discard.TooLong = codes "too long"
+discard_text discard.Confined = codes "confined"
 
 abbrev pub disposition_text : Disposition → List ℕ
 disposition_text Relayed = codes "relayed"

@@ -1,5 +1,5 @@
 -- Meaning. What contracts see of a relay, and the datagram of a step.
-use Rattle.std.specs.Prelude.{◌≡◌, ℕ, ◌≤◌, List, length, take, None, refl}
+use Rattle.std.specs.Prelude.{◌≡◌, ℕ, ◌≤◌, List, length, take, Option, None, refl}
 use Rattle.std.specs.Coded.{Coded, code_by, coded×, coded_ℕ, coded_list}
 use Rattle.insn.specs.declared.instruction.Insn.{Insn}
 use Rattle.control.specs.Configs.{fault}
@@ -10,6 +10,7 @@ use Rattle.machine.specs.Contents as machine
 use Rattle.machine.specs.Contents.{room_of}
 use Rattle.relay.specs.ByPrograms.{Programs}
 use Rattle.rules.specs.Systems.{SystemState}
+use Rattle.rules.specs.declared.confinement.Confinement.{Confinement}
 use Rattle.control.specs.declared.reply.TheConstants.{REPLY_BYTES}
 
 -- the configuration with the current nonce, the programs, the rows, the greatest moment that was seen, the frame of runs,
@@ -37,17 +38,17 @@ pub record IsRelay (config : Config) (rows : Rows) (greatest : ℕ) (reply : Lis
   pub latest : greatest ≤ LATEST
   pub room : length reply ≡ REPLY_BYTES
 
-abbrev pub coded_contents : Coded Config → Coded (List Insn) → Coded Rows → Coded machine.Contents → Coded RelayContents
-coded_contents config code rows frame =
-    code_by (Config × (List Insn × (List Insn × (Rows × (ℕ × (machine.Contents × List ℕ))))))
-    (coded× config (coded× code (coded× code (coded× rows (coded× coded_ℕ (coded× frame (coded_list coded_ℕ)))))))
-    (λ r. (r.config, (r.programs.client, (r.programs.peer, (r.rows, (r.greatest, (r.frame, r.reply)))))))
+abbrev pub coded_contents : Coded Config → Coded (List Insn) → Coded (Option Confinement) → Coded Rows → Coded machine.Contents → Coded RelayContents
+coded_contents config code confinement rows frame =
+    code_by (Config × (List Insn × (List Insn × (Option Confinement × (Rows × (ℕ × (machine.Contents × List ℕ)))))))
+    (coded× config (coded× code (coded× code (coded× confinement (coded× rows (coded× coded_ℕ (coded× frame (coded_list coded_ℕ))))))))
+    (λ r. (r.config, (r.programs.client, (r.programs.peer, (r.programs.confinement, (r.rows, (r.greatest, (r.frame, r.reply))))))))
     (λ p. record {
       config = p.0;
-      programs = record { client = p.1.0; peer = p.1.1.0 };
-      rows = p.1.1.1.0;
-      greatest = p.1.1.1.1.0;
-      frame = p.1.1.1.1.1.0;
-      reply = p.1.1.1.1.1.1;
+      programs = record { client = p.1.0; peer = p.1.1.0; confinement = p.1.1.1.0 };
+      rows = p.1.1.1.1.0;
+      greatest = p.1.1.1.1.1.0;
+      frame = p.1.1.1.1.1.1.0;
+      reply = p.1.1.1.1.1.1.1;
     })
     (λ _. refl)

@@ -2,16 +2,17 @@
 
 ghost use Rattle.std.specs.Prelude.{◌≡◌, ℕ, List, option_map, option_copied};
 ghost use Rattle.tables.specs.Rows.{rows_at};
+ghost use Rattle.tables.specs.WellFormed.{AreWellFormed};
 ghost use Rattle.events.specs.Actions.{sending_of};
 ghost use Rattle.events.specs.Events.{ToClient, ToPeer};
 ghost use Rattle.programs.specs.Runs.{planned_sending};
-ghost use Rattle.relay.specs.ByPrograms.{relayed_where_sent};
-ghost use Rattle.relay.specs.Found.{disposition_of_found, sending_of_found, held_for, window_shown, HasRoomFor};
+ghost use Rattle.relay.specs.ByPrograms.{disposition_of_sent, let_through};
+ghost use Rattle.relay.specs.Found.{disposition_of_found, may_come, may_go, sending_of_found, held_for, window_shown, HasRoomFor};
 ghost use Rattle.relay.specs.Relays.{RelayContents};
 
 use attributes::Addr;
 use events::{Action, Source};
-use rules::{Answer, Discard};
+use rules::{Answer, Confinement, Discard};
 use tables::LiveSlot;
 
 /// What is to be sent, as a step finds it.
@@ -19,6 +20,8 @@ use tables::LiveSlot;
 pub(crate) enum Found {
     /// Nothing is sent, for this reason.
     Nothing(Discard),
+    /// The window would be sent, if there is one, but the client hasn't permitted it.
+    Stopped,
     /// The window, from a slot to a peer.
     WindowToPeer { slot: usize, peer: Addr },
     /// The window, to a client.
@@ -27,19 +30,44 @@ pub(crate) enum Found {
     Answer(Answer),
 }
 
+/// Returns whether data may go to a peer: anywhere, where programs are not confined.
+fn may_go(confinement: &Option<Confinement>, live: &LiveSlot<'_>, peer: Addr) -> bool
+    ensures { result ≡ may_go confinement.now live.now peer }
+{
+    match confinement {
+        None => true,
+        Some(confinement) => confinement.lets_reach(live, peer),
+    }
+}
+
+/// Returns whether data may come from a peer: from anywhere, where programs are not confined.
+fn may_come(confinement: &Option<Confinement>, live: &LiveSlot<'_>, peer: Addr) -> bool
+    ensures { result ≡ may_come confinement.now live.now peer }
+{
+    match confinement {
+        None => true,
+        Some(confinement) => confinement.lets_in(live, peer),
+    }
+}
+
 /// Returns the finding of what verdict 2 sends, by what is live in the slot in which helpers look up. Nothing goes to an
-/// address that isn't of the allocation's family.
-/// See docs/DECISIONS.md, "One family".
+/// address that isn't of the allocation's family, and where programs are confined, nothing goes to a peer, or comes from one,
+/// that the client hasn't permitted.
+/// See docs/DECISIONS.md, "One family" and "Confined programs".
 pub(crate) fn window_found(
     from: Source,
     live: &Option<LiveSlot<'_>>,
     destination: Option<Addr>,
+    confinement: &Option<Confinement>,
 ) -> Found
-    ensures sends { (r : RelayContents) → live.now ≡ held_for from (rows_at r.greatest r.rows)
-        → sending_of_found r from result ≡ planned_sending from (rows_at r.greatest r.rows) destination (window_shown r.frame) }
-    ensures disposition { (r : RelayContents) → live.now ≡ held_for from (rows_at r.greatest r.rows)
-        → disposition_of_found r from result
-        ≡ relayed_where_sent (planned_sending from (rows_at r.greatest r.rows) destination (window_shown r.frame)) }
+    ensures sends { (r : RelayContents) → AreWellFormed (rows_at r.greatest r.rows)
+        → live.now ≡ held_for from (rows_at r.greatest r.rows)
+        → sending_of_found r from result ≡ let_through confinement.now from (rows_at r.greatest r.rows)
+        (planned_sending from (rows_at r.greatest r.rows) destination (window_shown r.frame)) }
+    ensures disposition { (r : RelayContents) → AreWellFormed (rows_at r.greatest r.rows)
+        → live.now ≡ held_for from (rows_at r.greatest r.rows)
+        → disposition_of_found r from result ≡ disposition_of_sent confinement.now from (rows_at r.greatest r.rows)
+        (planned_sending from (rows_at r.greatest r.rows) destination (window_shown r.frame)) }
     ensures room { (reply : List ℕ) → HasRoomFor result reply }
 {
     let Some(live) = live else {
@@ -54,14 +82,22 @@ pub(crate) fn window_found(
             if !peer.is_of_family(allocation.family) {
                 return Found::Nothing(Discard::ByProgram);
             }
+            if !may_go(confinement, live, peer) {
+                return Found::Stopped;
+            }
             Found::WindowToPeer {
                 slot: allocation.slot,
                 peer,
             }
         }
-        Source::Peer { .. } => Found::WindowToClient {
-            client: allocation.client,
-        },
+        Source::Peer { addr, .. } => {
+            if !may_come(confinement, live, addr) {
+                return Found::Stopped;
+            }
+            Found::WindowToClient {
+                client: allocation.client,
+            }
+        }
     }
 }
 

@@ -127,6 +127,7 @@ fn discard_text(reason: Discard) -> &'static [u8]
         Discard::NoPermission => b"no permission",
         Discard::OtherFamily => b"other family",
         Discard::TooLong => b"too long",
+        Discard::Confined => b"confined",
     }
 }
 

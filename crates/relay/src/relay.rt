@@ -9,7 +9,7 @@ use crate::error::RelayError;
 use crate::explaining::Grounds;
 use crate::found::{Found, window_found, window_to_client, window_to_peer};
 use crate::running::{context_for, last_slot_over, live_for, program_for, run_over};
-use crate::step::{Step, discarded, relayed};
+use crate::step::{Step, discarded, relayed, stopped};
 use arrayvec::ArrayString;
 use attributes::Addr;
 use control::{Config, Field, REPLY_BYTES, are_users, is_nonce, new_indices};
@@ -19,18 +19,19 @@ use helpers::Lookup;
 use loader::Loaded;
 use machine::Frame;
 use programs::{PASSES, SENDS};
-use rules::{Answer, Discard, answer_client, discard_by_rules};
+use rules::{Answer, Confinement, Discard, answer_client, discard_by_rules};
 use std::alloc::Global;
 use std::marker::Model;
 use tables::{Tables, is_ipv4, moment_of};
 
-/// A relay: its configuration, the programs of both sides, and its tables.
+/// A relay: its configuration, the programs of both sides, what confines them, and its tables.
 /// See docs/DECISIONS.md, "The greatest moment is the relay's".
 #[derive(Drop)]
 pub struct Relay {
     config: Config,
     client: Loaded,
     peer: Loaded,
+    confinement: Option<Confinement>,
     tables: Tables,
     greatest: u64,
     frame: Frame,
@@ -38,19 +39,21 @@ pub struct Relay {
 }
 
 impl Model for Relay {
+    ghost use Rattle.std.specs.Coded.{coded_option};
     ghost use Rattle.relay.specs.Relays.{RelayContents, IsRelay, coded_contents};
     ghost use Rattle.control.specs.contracts.config.Config as configs;
     ghost use Rattle.loader.specs.contracts.loaded.Loaded as programs;
+    ghost use Rattle.rules.specs.contracts.confinement.Confinement as confinements;
     ghost use Rattle.tables.specs.contracts.storage.Tables as rows;
     ghost use Rattle.machine.specs.contracts.frame.Frame as frames;
 
     ghost Value = { RelayContents };
 
-    ghost coded = { coded_contents configs.the_row.coded programs.the_row.coded rows.the_row.coded frames.the_row.coded };
+    ghost coded = { coded_contents configs.the_row.coded programs.the_row.coded (coded_option confinements.the_row.coded) rows.the_row.coded frames.the_row.coded };
 
     ghost view = { λ r. record {
       config = r.config;
-      programs = record { client = r.client; peer = r.peer };
+      programs = record { client = r.client; peer = r.peer; confinement = r.confinement };
       rows = r.tables;
       greatest = r.greatest;
       frame = r.frame;
@@ -71,7 +74,7 @@ fn is_served(from: Source, tables: &Tables) -> bool
 }
 
 impl Relay {
-    ghost use Rattle.std.specs.Prelude.{◌≡◌, ◌≤◌, ◌↔◌, IsOk, IsTrue, is_some, IfOk, IfErr, OnOk, OnErr, length, true, unwrap_or};
+    ghost use Rattle.std.specs.Prelude.{◌≡◌, ◌≤◌, ◌↔◌, IsOk, IsTrue, is_some, IfOk, IfErr, OnOk, OnErr, length, true, None, unwrap_or};
     ghost use Rattle.std.specs.Borrow.{sem};
     ghost use Rattle.control.specs.Configs.{fault, is_nonce, are_users};
     ghost use Rattle.control.specs.declared.config.Config.{Config};
@@ -89,11 +92,12 @@ impl Relay {
     ghost use Rattle.relay.specs.Shipped.{AreShipped};
     ghost use Rattle.rules.specs.Dispositions.{disposition_of};
     ghost use Rattle.relay.specs.Users.{after_users};
+    ghost use Rattle.relay.specs.Harmless.{IsHarmless};
     ghost use Rattle.relay.specs.Steps.{disposition_of_step, outcome_of, ruled_outcome_of, after_step, lends_relay_room, HasStepped};
     ghost use Rattle.rules.specs.Systems.{first};
     ghost use Rattle.relay.specs.declared.error.RelayError.TheVariants.{BadConfig};
 
-    /// Makes a relay of two loaded programs, with no allocation.
+    /// Makes a relay of two loaded programs, with no allocation. They aren't confined.
     ///
     /// # Errors
     /// The first field of the configuration that lies outside its limits; or `Memory`.
@@ -105,7 +109,7 @@ impl Relay {
     ) -> Result<Relay, RelayError>
         ensures state { IfOk result (λ r. state_of r ≡ first config) }
         ensures config { IfOk result (λ r. r.config ≡ config) }
-        ensures programs { IfOk result (λ r. r.programs ≡ record { client = client; peer = peer }) }
+        ensures programs { IfOk result (λ r. r.programs ≡ record { client = client; peer = peer; confinement = None }) }
         ensures valid { OnOk result (fault config ≡ None) }
         ensures refused { IfErr result (IsFault (fault config)) }
     {
@@ -125,6 +129,7 @@ impl Relay {
             config,
             client,
             peer,
+            confinement: None,
             tables,
             greatest: 0,
             frame,
@@ -162,10 +167,22 @@ impl Relay {
         self.frame.area()
     }
 
-    /// Replaces the programs of the sides for which there is another one. Allocations, moments and the nonce stay as they are.
+    /// Confines the programs to the peers that clients have permitted, or lifts that. Of what a confined program would send,
+    /// nothing is sent that goes to a peer for whose IP address the client's allocation has no permission and to which no channel
+    /// is bound, or that comes from a peer without a permission; an address that counts as another one may be permitted as that.
+    /// Nothing else changes; with the shipped programs nothing does.
+    /// See docs/DECISIONS.md, "Confined programs".
+    pub fn confine(&mut self, confinement: Option<Confinement>)
+        ensures { self.new ≡ record self.old { programs = record self.old.programs { confinement = confinement } } }
+    {
+        self.confinement = confinement;
+    }
+
+    /// Replaces the programs of the sides for which there is another one. Allocations, moments and the nonce stay as they are,
+    /// and so does what confines programs.
     pub fn set_programs(&mut self, client: Option<Loaded>, peer: Option<Loaded>)
         ensures { self.new ≡ record self.old {
-          programs = record {
+          programs = record self.old.programs {
             client = unwrap_or client self.old.programs.client;
             peer = unwrap_or peer self.old.programs.peer;
           };
@@ -226,7 +243,9 @@ impl Relay {
 
     /// Decides a datagram, the first `n` bytes of [`area`](Relay::area), and returns what is to be sent and what was done with
     /// it: the program of its side runs over it, and what the client's program passes on is answered by the rules. With the
-    /// shipped programs this is what the rules say.
+    /// shipped programs this is what the rules say. Whatever the programs are, at most one datagram is sent, of a bounded length,
+    /// the rows of others stay, and rows change only by requests whose credentials are accepted; and where programs are confined,
+    /// nothing goes to a peer, or comes from one, that the client hasn't permitted.
     /// See docs/DECISIONS.md, "A system is a function".
     #[inline(always)]
     pub fn step(&mut self, meta: Meta, n: usize) -> Step<'_>
@@ -234,9 +253,12 @@ impl Relay {
         ensures answer { sending_of result.action ≡ (outcome_of self.old meta n).answer }
         ensures disposition { result.disposition ≡ disposition_of_step self.old meta n }
         ensures rules { AreShipped self.old.programs → outcome_of self.old meta n ≡ ruled_outcome_of self.old meta n }
+        ensures harmless { IsHarmless self.old.programs self.old.config (state_of self.old) meta (datagram_at self.old n)
+            (sending_of result.action) }
         ensures* after { sem 𝓛 (after_step self.entry meta n) }
     {
         self.law_steps_by_rules(&meta, n);
+        self.law_steps_are_harmless(&meta, n);
         let found = self.advance(&meta, n);
         let relay = &*self;
         relay.lend(meta.from, found)
@@ -251,6 +273,7 @@ impl Relay {
     {
         match found {
             Found::Nothing(reason) => discarded(reason),
+            Found::Stopped => stopped(self.frame.window()),
             Found::WindowToPeer { slot, peer } => {
                 relayed(window_to_peer(slot, peer, self.frame.window()))
             }
@@ -291,7 +314,12 @@ impl Relay {
                 Source::Client(client) => Found::Answer(self.pass_on(client)),
                 Source::Peer { .. } => Found::Nothing(Discard::ByProgram),
             },
-            SENDS => window_found(meta.from, &helpers.live, outcome.destination),
+            SENDS => window_found(
+                meta.from,
+                &helpers.live,
+                outcome.destination,
+                &self.confinement,
+            ),
             _ => Found::Nothing(Discard::ByProgram),
         }
     }

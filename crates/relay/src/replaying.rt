@@ -1,6 +1,6 @@
 //! Replays of event text: events come from a reader, and their answers go to a writer.
 
-ghost use Rattle.std.specs.Prelude.{◌≡◌, ◌<◌, ◌^◌, ◌⊎◌, ◌++◌, ℕ, List, All, false, is_some, is_err, IfOk, IfErr, OnOk, OnErr};
+ghost use Rattle.std.specs.Prelude.{◌≡◌, ◌<◌, ◌^◌, ◌⊎◌, ◌++◌, ℕ, List, All, false, IfSome, is_some, is_err, IfOk, IfErr, OnOk, OnErr};
 ghost use Rattle.std.specs.Io.KnownBytes.{Appends};
 ghost use Rattle.streams.specs.Outputs.{AppendsBeginning};
 ghost use Rattle.events.specs.Actions.{sending_of};
@@ -63,6 +63,7 @@ impl Relay {
     ghost use Rattle.relay.specs.Replays.{IsCut, IsSameRelay, HasPlayedAll, StopsAtLine, StopsBefore, StopsWriting};
     ghost use Rattle.rules.specs.ByRules.{by_rules};
     ghost use Rattle.relay.specs.Relays.{state_of};
+    ghost use Rattle.relay.specs.Confinement.{SendsWhatIsPermitted};
     ghost use Rattle.relay.specs.Shipped.{AreShipped, AnswerAlike};
     ghost use Rattle.events.specs.Events.{Event};
     ghost use Rattle.events.specs.Lines.{IsEvent};
@@ -112,8 +113,8 @@ impl Relay {
     }
 
     /// Reads events, a line each, and writes the line of each answer, and where `explains` says so, on each line why the answer
-    /// is so. With the shipped programs these are the answers of the rules. Nothing is written after the first failure of the
-    /// output.
+    /// is so. With the shipped programs these are the answers of the rules. Where programs are confined, each of them sends only
+    /// what is permitted. Nothing is written after the first failure of the output.
     /// See docs/DECISIONS.md, "A replay does not flush" and "Why a replay answers so".
     ///
     /// # Errors
@@ -141,8 +142,11 @@ impl Relay {
         ensures write { output.new.failed ≡ is_write_failure result }
         ensures rules { AreShipped self.old.programs → (events : List Event) → All (IsEvent self.old.config.slots) events
             → AnswerAlike (system_of self.old) by_rules self.old.config (state_of self.old) events }
+        ensures permitted { IfSome self.old.programs.confinement (λ confinement.
+            SendsWhatIsPermitted confinement.aliases.items (system_of self.old) self.old.config (state_of self.old)) }
     {
         self.law_plays_by_rules();
+        self.law_plays_are_permitted();
         let mut line = Vec::new(alloc);
         let mut count = 0u64;
         'lines: loop {

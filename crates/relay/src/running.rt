@@ -1,7 +1,8 @@
 //! The run of a side's program over the datagram of a step.
 
-ghost use Rattle.std.specs.Prelude.{◌≡◌, ◌≤◌, length, take};
+ghost use Rattle.std.specs.Prelude.{◌≡◌, ◌≤◌, Option, length, take};
 ghost use Rattle.semantics.specs.declared.limits.TheConstants.{MAX_DATAGRAM};
+ghost use Rattle.rules.specs.declared.confinement.Confinement.{Confinement};
 ghost use Rattle.machine.specs.Contents.{room_of};
 ghost use Rattle.machine.specs.Contexts.{environment_around, context_of};
 ghost use Rattle.machine.specs.Tracing.{run_over};
@@ -51,7 +52,8 @@ pub(crate) fn live_for(tables: &Tables, moment: u64, from: Source) -> Option<Liv
 
 /// Returns the program of a side.
 pub(crate) fn program_for<'a>(client: &'a Loaded, peer: &'a Loaded, from: Source) -> &'a Verified
-    ensures { result.now ≡ program_for (record { client = client.now; peer = peer.now }) from }
+    ensures { (confinement : Option Confinement) → result.now
+        ≡ program_for (record { client = client.now; peer = peer.now; confinement = confinement }) from }
 {
     match from {
         Source::Client(_) => client.program(),

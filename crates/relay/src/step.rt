@@ -1,8 +1,9 @@
 //! What a step gives.
 
-ghost use Rattle.std.specs.Prelude.{◌≡◌, None};
+ghost use Rattle.std.specs.Prelude.{◌≡◌, None, option_copied};
 ghost use Rattle.events.specs.Actions.{sending_of};
 ghost use Rattle.relay.specs.ByPrograms.{relayed_where_sent};
+ghost use Rattle.relay.specs.Found.{stopped_where_shown};
 ghost use Rattle.rules.specs.declared.disposition.Disposition.TheVariants.{Discarded};
 
 use events::Action;
@@ -41,5 +42,16 @@ pub(crate) fn discarded<'a>(reason: Discard) -> Step<'a>
     Step {
         action: Action::Nothing,
         disposition: Disposition::Discarded(reason),
+    }
+}
+
+/// Returns the step that sends nothing of a window that the client hasn't permitted.
+pub(crate) fn stopped<'a>(window: Option<&[u8]>) -> Step<'a>
+    ensures action { sending_of result.action ≡ None }
+    ensures disposition { result.disposition ≡ stopped_where_shown (option_copied window.entry) }
+{
+    match window {
+        Some(_) => discarded(Discard::Confined),
+        None => discarded(Discard::ByProgram),
     }
 }

@@ -2,13 +2,13 @@
 
 use crate::reasons::check_reasons;
 use crate::story::{STORY, config};
-use attributes::Family;
+use attributes::{Addr, Family};
 use control::{Grant, Response};
 use credentials::AuthError;
 use events::{Parsed, parse};
 use loader::load;
 use programs::{CLIENT, PEER};
-use relay::{Discard, Disposition, Relay};
+use relay::{Alias, Confinement, Discard, Disposition, Relay};
 use std::alloc::Global;
 use std::process::Abort;
 use std::test::Fail;
@@ -20,6 +20,20 @@ const SLOTS: usize = 2;
 /// `mov r0, 1` and `exit`: every datagram is passed on.
 pub(crate) const PASSES_ALL: [u8; 16] = [
     0xb7, 0x00, 0x00, 0x00, 0x01, 0x00, 0x00, 0x00, 0x95, 0x00, 0x00, 0x00, 0x00, 0x00, 0x00, 0x00,
+];
+
+/// A program that sends each datagram of eight bytes or more, as it is, to the address whose record it begins with; of a peer,
+/// to the client.
+const SENDS_ANYWHERE: [u8; 144] = [
+    0xbf, 0x16, 0x00, 0x00, 0x00, 0x00, 0x00, 0x00, 0x79, 0x12, 0x00, 0x00, 0x00, 0x00, 0x00, 0x00,
+    0x79, 0x13, 0x08, 0x00, 0x00, 0x00, 0x00, 0x00, 0xb7, 0x00, 0x00, 0x00, 0x00, 0x00, 0x00, 0x00,
+    0xbf, 0x24, 0x00, 0x00, 0x00, 0x00, 0x00, 0x00, 0x07, 0x04, 0x00, 0x00, 0x08, 0x00, 0x00, 0x00,
+    0x2d, 0x34, 0x0a, 0x00, 0x00, 0x00, 0x00, 0x00, 0x79, 0x27, 0x00, 0x00, 0x00, 0x00, 0x00, 0x00,
+    0x7b, 0x7a, 0xf8, 0xff, 0x00, 0x00, 0x00, 0x00, 0xbf, 0xa2, 0x00, 0x00, 0x00, 0x00, 0x00, 0x00,
+    0x07, 0x02, 0x00, 0x00, 0xf8, 0xff, 0xff, 0xff, 0x85, 0x00, 0x00, 0x00, 0x05, 0x00, 0x00, 0x00,
+    0xbf, 0x61, 0x00, 0x00, 0x00, 0x00, 0x00, 0x00, 0xb7, 0x02, 0x00, 0x00, 0x40, 0x00, 0x00, 0x00,
+    0x79, 0x63, 0x10, 0x00, 0x00, 0x00, 0x00, 0x00, 0x85, 0x00, 0x00, 0x00, 0x04, 0x00, 0x00, 0x00,
+    0xb7, 0x00, 0x00, 0x00, 0x02, 0x00, 0x00, 0x00, 0x95, 0x00, 0x00, 0x00, 0x00, 0x00, 0x00, 0x00,
 ];
 
 /// The allocation of slot 0, for 600 seconds.
@@ -186,6 +200,111 @@ const PASSED_AFTER: [(&str, Disposition); 5] = [
     ),
 ];
 
+const CONFINED: Disposition = Disposition::Discarded(Discard::Confined);
+
+/// What a program that sends anywhere sends, where it is confined: over an allocation with a permission for 192.0.2.7, which lasts
+/// until 1300, and a channel that is bound to port 5000 of it until 1600.
+const SENT_ANYWHERE: [(&str, Disposition); 13] = [
+    // to the peer, to another port of it, to another peer
+    (
+        "c 1000 000000000000000000000000 198.51.100.2:4000 00011388c0000207",
+        Disposition::Relayed,
+    ),
+    (
+        "c 1000 000000000000000000000000 198.51.100.2:4000 00011389c0000207",
+        Disposition::Relayed,
+    ),
+    (
+        "c 1000 000000000000000000000000 198.51.100.2:4000 00011388c0000208",
+        CONFINED,
+    ),
+    // of a client without an allocation, and fewer bytes than a record has
+    (
+        "c 1000 000000000000000000000000 198.51.100.3:4000 00011388c0000207",
+        BY_PROGRAM,
+    ),
+    (
+        "c 1000 000000000000000000000000 198.51.100.2:4000 00011388c00002",
+        BY_PROGRAM,
+    ),
+    // from the peer, from another one, and at a slot without an allocation
+    (
+        "p 1000 000000000000000000000000 0 192.0.2.7:5001 00011388c0000207",
+        Disposition::Relayed,
+    ),
+    (
+        "p 1000 000000000000000000000000 0 192.0.2.8:5000 00011388c0000207",
+        CONFINED,
+    ),
+    (
+        "p 1000 000000000000000000000000 1 192.0.2.7:5000 00011388c0000207",
+        BY_PROGRAM,
+    ),
+    // the last second of the permission; then the channel alone, which counts to its peer and not from it
+    (
+        "p 1299 000000000000000000000000 0 192.0.2.7:5000 00011388c0000207",
+        Disposition::Relayed,
+    ),
+    (
+        "c 1300 000000000000000000000000 198.51.100.2:4000 00011388c0000207",
+        Disposition::Relayed,
+    ),
+    (
+        "c 1300 000000000000000000000000 198.51.100.2:4000 00011389c0000207",
+        CONFINED,
+    ),
+    (
+        "p 1300 000000000000000000000000 0 192.0.2.7:5000 00011388c0000207",
+        CONFINED,
+    ),
+    // the allocation has ended
+    (
+        "c 1600 000000000000000000000000 198.51.100.2:4000 00011388c0000207",
+        BY_PROGRAM,
+    ),
+];
+
+/// The same, where 192.0.2.8 counts as 192.0.2.7, and 192.0.2.9 as 192.0.2.8: as no other than that.
+const SENT_BY_NAME: [(&str, Disposition); 9] = [
+    (
+        "c 1299 000000000000000000000000 198.51.100.2:4000 00011389c0000208",
+        Disposition::Relayed,
+    ),
+    (
+        "c 1299 000000000000000000000000 198.51.100.2:4000 00011389c0000209",
+        CONFINED,
+    ),
+    (
+        "p 1299 000000000000000000000000 0 192.0.2.8:5001 00011388c0000207",
+        Disposition::Relayed,
+    ),
+    (
+        "p 1299 000000000000000000000000 0 192.0.2.9:5001 00011388c0000207",
+        CONFINED,
+    ),
+    // the permission has lapsed; the channel counts to the port that it is bound to
+    (
+        "c 1300 000000000000000000000000 198.51.100.2:4000 00011388c0000208",
+        Disposition::Relayed,
+    ),
+    (
+        "c 1300 000000000000000000000000 198.51.100.2:4000 00011389c0000208",
+        CONFINED,
+    ),
+    (
+        "c 1300 000000000000000000000000 198.51.100.2:4000 00011388c0000207",
+        Disposition::Relayed,
+    ),
+    (
+        "p 1300 000000000000000000000000 0 192.0.2.8:5000 00011388c0000207",
+        CONFINED,
+    ),
+    (
+        "c 1600 000000000000000000000000 198.51.100.2:4000 00011388c0000208",
+        BY_PROGRAM,
+    ),
+];
+
 /// Compares what a relay says of the datagram of an event, a line.
 fn check(rt: &impl Abort, relay: &mut Relay, event: &str, wanted: Disposition) -> Result<(), Fail> {
     let Some(Parsed::Datagram { meta, n }) = parse(event.as_bytes(), SLOTS, relay.area()) else {
@@ -235,6 +354,53 @@ fn check_passed(rt: &impl Abort, alloc: Global) -> Result<(), Fail> {
     check_all(rt, &mut relay, &PASSED_AFTER)
 }
 
+/// Returns the confinement in which 192.0.2.8 counts as 192.0.2.7, and 192.0.2.9 as 192.0.2.8.
+fn confinement(alloc: Global) -> Result<Confinement, Fail> {
+    let of = |host| Addr::V4 {
+        ip: [192, 0, 2, host],
+        port: 1,
+    };
+    let aliases = vec![in alloc;
+        Alias {
+            address: of(8),
+            counts_as: of(7)
+        },
+        Alias {
+            address: of(9),
+            counts_as: of(8)
+        },
+    ]?;
+    Ok(Confinement { aliases })
+}
+
+/// Compares what a relay says, of which programs that send anywhere are confined, and are no longer.
+fn check_confined(rt: &impl Abort, alloc: Global) -> Result<(), Fail> {
+    let mut relay = relay_of(alloc, &PASSES_ALL, &SENDS_ANYWHERE)?;
+    relay.confine(Some(Confinement {
+        aliases: Vec::new(alloc),
+    }));
+    open(rt, &mut relay)?;
+    relay.set_programs(Some(load(alloc, &SENDS_ANYWHERE)?), None);
+    check_all(rt, &mut relay, &SENT_ANYWHERE)?;
+    let mut relay = relay_of(alloc, &PASSES_ALL, &SENDS_ANYWHERE)?;
+    relay.confine(Some(confinement(alloc)?));
+    open(rt, &mut relay)?;
+    relay.set_programs(Some(load(alloc, &SENDS_ANYWHERE)?), None);
+    check_all(rt, &mut relay, &SENT_BY_NAME)?;
+    let mut relay = relay_of(alloc, &PASSES_ALL, &SENDS_ANYWHERE)?;
+    open(rt, &mut relay)?;
+    relay.set_programs(Some(load(alloc, &SENDS_ANYWHERE)?), None);
+    for (event, wanted) in SENT_ANYWHERE {
+        let wanted = if wanted == CONFINED {
+            Disposition::Relayed
+        } else {
+            wanted
+        };
+        check(rt, &mut relay, event, wanted)?;
+    }
+    Ok(())
+}
+
 #[test]
 fn each_step_says_what_it_did(rt: HostRuntime) -> Result<(), Fail> {
     check_story(&rt, rt.alloc())?;
@@ -242,5 +408,6 @@ fn each_step_says_what_it_did(rt: HostRuntime) -> Result<(), Fail> {
     open(&rt, &mut relay)?;
     check_all(&rt, &mut relay, &FURTHER)?;
     check_passed(&rt, rt.alloc())?;
+    check_confined(&rt, rt.alloc())?;
     check_reasons(&rt, rt.alloc())
 }

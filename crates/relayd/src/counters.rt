@@ -33,6 +33,7 @@ pub(crate) fn reason_name(reason: Discard) -> &'static str {
         Discard::NoPermission => "no_permission",
         Discard::OtherFamily => "other_family",
         Discard::TooLong => "too_long",
+        Discard::Confined => "confined",
     }
 }
 

@@ -3,6 +3,7 @@
 #![tactic(auto)]
 
 mod clock;
+mod confinements;
 mod counters;
 mod drops;
 mod error_lines;
@@ -229,8 +230,17 @@ fn run_subcommand<
             events,
             nonce,
             why,
+            confine,
             options,
-        } => replay(rt, err, ReplayOptions { events, nonce, why }, &options),
+        } => {
+            let replayed = ReplayOptions {
+                events,
+                nonce,
+                why,
+                confine,
+            };
+            replay(rt, err, replayed, &options)
+        }
         Subcommand::Serve { server, options } => serve(rt, err, &server, &options),
     }
 }

@@ -1,5 +1,6 @@
 //! Options that set up a relay, and why a command that takes them ends early.
 
+use crate::confinements::confinement_of;
 use crate::recording::RecordErrorKind;
 use crate::sockets::BindErrorKind;
 use command_line::{Options, RelayedError, ValueError};
@@ -30,6 +31,12 @@ pub(crate) enum CommandError<'a> {
     /// There are too many networks.
     #[error("error: {0} of '--deny <NETWORK>' and '--allow <NETWORK>'")]
     Filter(FilterError),
+    /// There are too many addresses that count as others.
+    #[error("error: more than 16 of '--same-as <A=B>'")]
+    Aliases,
+    /// Addresses count as others, and the programs are not confined.
+    #[error("error: '--same-as <A=B>' needs confined programs")]
+    Unconfined,
     /// A server has no relayed address.
     #[error("{0}")]
     Relayed(RelayedError),
@@ -97,6 +104,7 @@ impl CommandError<'_> {
             | CommandError::Line(_) => 1,
             CommandError::RelayedAddress | CommandError::RelayedAddress6 => 1,
             CommandError::Value(_) | CommandError::Network { .. } | CommandError::Filter(_) => 2,
+            CommandError::Aliases | CommandError::Unconfined => 2,
             CommandError::NoUsers | CommandError::Relayed(_) => 2,
             CommandError::File(_) | CommandError::Unwritable(_) | CommandError::Output => 3,
             CommandError::Bind(..) | CommandError::Record(..) => 3,
@@ -282,14 +290,17 @@ fn setup_fault<'a>(error: SetupError, options: &Options<'a>) -> CommandError<'a>
     }
 }
 
-/// Sets up the relay that the options describe, with a nonce and relayed addresses. The programs' files are both read first.
+/// Sets up the relay that the options describe, with a nonce and relayed addresses, and confines its programs where `confined`
+/// says so. The programs' files are both read first.
 /// See docs/DECISIONS.md, "The first fault of a replay".
 pub(crate) fn set_up<'a, R: Files + AllocGlobal>(
     rt: &R,
     options: &Options<'a>,
     nonce: &'a str,
     relayed: Relayed,
+    confined: bool,
 ) -> Result<Prepared, CommandError<'a>> {
+    let confinement = confinement_of(rt.alloc(), options, confined)?;
     let Ok(realm) = String::from_str(rt.alloc(), options.realm) else {
         return Err(CommandError::Memory);
     };
@@ -311,7 +322,7 @@ pub(crate) fn set_up<'a, R: Files + AllocGlobal>(
         client: program(options.client, &programs.client, CLIENT),
         peer: program(options.peer, &programs.peer, PEER),
     };
-    match relay_of(rt.alloc(), setup) {
+    match relay_of(rt.alloc(), setup, confinement) {
         Ok(relay) => Ok(Prepared {
             relay,
             programs,

@@ -17,6 +17,8 @@ pub(crate) struct ReplayOptions<'a> {
     pub(crate) nonce: &'a str,
     /// Whether the reason of each answer is printed.
     pub(crate) why: bool,
+    /// Whether the programs are confined.
+    pub(crate) confine: bool,
 }
 
 /// Replays the events of a reader, prints the answers and flushes them.
@@ -45,33 +47,41 @@ fn play<'a, R: Print + AllocGlobal, B: BufRead + Drop>(
     }
 }
 
-/// Replays the events of a file, or of standard input for the file `-`, through the relay that the options describe.
+/// Replays the events of a file, or of standard input for the file `-`.
 /// See docs/DECISIONS.md, "Events from standard input".
+fn replay_file<'a, R: Files + Input + Print + AllocGlobal>(
+    rt: &R,
+    relay: &mut Relay,
+    replay: ReplayOptions<'a>,
+) -> Result<(), CommandError<'a>> {
+    if replay.events == "-" {
+        return match BufReader::new(rt.alloc(), rt.reader()) {
+            Ok(reader) => play(rt, relay, reader, replay),
+            Err(_) => Err(CommandError::Memory),
+        };
+    }
+    let file = match fs::open(rt, replay.events) {
+        Ok(file) => file,
+        Err(error) => return Err(unread(&error, replay.events)),
+    };
+    match BufReader::new(rt.alloc(), file) {
+        Ok(reader) => play(rt, relay, reader, replay),
+        Err(_) => Err(CommandError::Memory),
+    }
+}
+
+/// Replays events through the relay that the options describe.
 fn replay_events<'a, R: Files + Input + Print + AllocGlobal>(
     rt: &R,
     replay: ReplayOptions<'a>,
     options: &Options<'a>,
 ) -> Result<(), CommandError<'a>> {
-    let ReplayOptions { events, nonce, .. } = replay;
     let relayed = Relayed {
         ip: options.relay_ip.unwrap_or(defaults::RELAY_IP).octets(),
         ip6: options.relay_ip6,
     };
-    let mut relay = set_up(rt, options, nonce, relayed)?.relay;
-    if events == "-" {
-        return match BufReader::new(rt.alloc(), rt.reader()) {
-            Ok(reader) => play(rt, &mut relay, reader, replay),
-            Err(_) => Err(CommandError::Memory),
-        };
-    }
-    let file = match fs::open(rt, events) {
-        Ok(file) => file,
-        Err(error) => return Err(unread(&error, events)),
-    };
-    match BufReader::new(rt.alloc(), file) {
-        Ok(reader) => play(rt, &mut relay, reader, replay),
-        Err(_) => Err(CommandError::Memory),
-    }
+    let mut prepared = set_up(rt, options, replay.nonce, relayed, replay.confine)?;
+    replay_file(rt, &mut prepared.relay, replay)
 }
 
 /// Replays events, prints the answers, or the line of the first fault to `err`, and returns the exit status.

@@ -5,7 +5,7 @@ use crate::drops::Ports;
 use crate::error_lines::ErrorLines;
 use crate::filters::{filter_of, rules_of};
 use crate::metrics::{Metrics, MetricsFile};
-use crate::options::{CommandError, Relayed, set_up};
+use crate::options::{CommandError, Prepared, Relayed, set_up};
 use crate::recording::{NOWHERE, RecordEnd, RecordedSockets, Recording};
 use crate::replacing::Sides;
 use crate::replacing_users::UserList;
@@ -575,6 +575,69 @@ fn link_of<'a, R: Files<File = File> + Net + RandomSource + AllocGlobal>(
     Ok((link, rng))
 }
 
+/// What a server has beside its relay.
+#[derive(Drop)]
+struct Parts<'a> {
+    link: RecordedSockets<'a>,
+    rng: StdRng,
+    metrics: Option<MetricsFile<'a>>,
+    log: Option<ServerLog>,
+}
+
+/// Binds the sockets, and makes what is reported.
+fn parts_of<'a, R: Files<File = File> + Net + RandomSource + AllocGlobal>(
+    rt: &R,
+    server_options: &ServerOptions<'a>,
+    rules: &[Rule],
+    options: &Options<'a>,
+    relayed: Relayed,
+    now: Duration,
+) -> Result<Parts<'a>, CommandError<'a>> {
+    check_reachable(relayed.ip, relayed.ip6)?;
+    let (link, rng) = link_of(rt, server_options, options, relayed.ip, rules)?;
+    let metrics = metrics_file(rt.alloc(), server_options, options, now)?;
+    let log = log_of(rt.alloc(), server_options, options, now)?;
+    Ok(Parts {
+        link,
+        rng,
+        metrics,
+        log,
+    })
+}
+
+/// Puts a server together.
+fn server_of<'a, R: Clock>(
+    rt: &R,
+    server_options: &ServerOptions<'a>,
+    options: &Options<'a>,
+    relayed: Relayed,
+    set: Prepared,
+    parts: Parts<'a>,
+    now: Duration,
+) -> Server<'a> {
+    let Relayed { ip, ip6 } = relayed;
+    let period = Duration::from_secs(PERIOD);
+    Server {
+        relay: set.relay,
+        relayed: ip,
+        relayed6: ip6,
+        link: parts.link,
+        sides: Sides::new(options, set.programs),
+        users: UserList::new(options, set.users),
+        rng: parts.rng,
+        moments: Moments::starting_now(rt),
+        nonces: Timer::new(now, Duration::from_secs(server_options.nonce_lifetime)),
+        files: Timer::new(now, period),
+        faults: Timer::new(now, period),
+        stats: server_options
+            .stats
+            .map(|seconds| Timer::new(now, Duration::from_secs(seconds))),
+        metrics: parts.metrics,
+        log: parts.log,
+        is_busy: false,
+    }
+}
+
 /// Sets up a server: its relay, and then its sockets, all of which are bound.
 fn start<'a, R: Files<File = File> + Net + Clock + RandomSource + AllocGlobal>(
     rt: &R,
@@ -583,35 +646,41 @@ fn start<'a, R: Files<File = File> + Net + Clock + RandomSource + AllocGlobal>(
     options: &Options<'a>,
 ) -> Result<Server<'a>, CommandError<'a>> {
     let relayed = relayed_of(server_options, options)?;
-    let Relayed { ip, ip6 } = relayed;
-    let set = set_up(rt, options, defaults::NONCE, relayed)?;
-    check_reachable(ip, ip6)?;
-    let (link, rng) = link_of(rt, server_options, options, ip, rules)?;
+    let set = set_up(
+        rt,
+        options,
+        defaults::NONCE,
+        relayed,
+        !server_options.unconfined,
+    )?;
     let now = elapsed(rt);
-    let period = Duration::from_secs(PERIOD);
-    let metrics = metrics_file(rt.alloc(), server_options, options, now)?;
-    let log = log_of(rt.alloc(), server_options, options, now)?;
-    let mut server = Server {
-        relay: set.relay,
-        relayed: ip,
-        relayed6: ip6,
-        link,
-        sides: Sides::new(options, set.programs),
-        users: UserList::new(options, set.users),
-        rng,
-        moments: Moments::starting_now(rt),
-        nonces: Timer::new(now, Duration::from_secs(server_options.nonce_lifetime)),
-        files: Timer::new(now, period),
-        faults: Timer::new(now, period),
-        stats: server_options
-            .stats
-            .map(|seconds| Timer::new(now, Duration::from_secs(seconds))),
-        metrics,
-        log,
-        is_busy: false,
-    };
+    let parts = parts_of(rt, server_options, rules, options, relayed, now)?;
+    Ok(server_of(rt, server_options, options, relayed, set, parts, now))
+}
+
+/// Serves, and prints faults to `err`.
+fn serve_lines<
+    'a,
+    R: Files<File = File> + Print + Net + Clock + RandomSource + AllocGlobal,
+    E: Write,
+>(
+    rt: &R,
+    err: &mut E,
+    server: &mut Server<'a>,
+    server_options: &ServerOptions<'a>,
+    options: &Options<'a>,
+) -> Result<(), CommandError<'a>> {
     server.renew_nonce();
-    Ok(server)
+    if server_options.unconfined && (options.client.is_some() || options.peer.is_some()) {
+        let _ = writeln!(
+            err,
+            "unconfined: the programs may send to and from peers that no client has permitted"
+        );
+    }
+    match ErrorLines::new(rt.alloc(), err) {
+        Ok(mut lines) => server.serve(rt, &mut lines, server_options),
+        Err(_) => Err(CommandError::Memory),
+    }
 }
 
 /// Serves as the options say.
@@ -627,10 +696,7 @@ fn serve_sockets<
 ) -> Result<(), CommandError<'a>> {
     let rules = rules_of(rt.alloc(), server_options)?;
     let mut server = start(rt, server_options, &rules, options)?;
-    match ErrorLines::new(rt.alloc(), err) {
-        Ok(mut lines) => server.serve(rt, &mut lines, server_options),
-        Err(_) => Err(CommandError::Memory),
-    }
+    serve_lines(rt, err, &mut server, server_options, options)
 }
 
 /// Serves clients and peers, prints the line of the first fault to `err`, and returns the exit status.

@@ -28,6 +28,9 @@ pub enum Discard {
     /// What would carry the peer's data is longer than a datagram may be. No step reports this, since a peer's datagram is decided
     /// by its program; [`discard_by_rules`](crate::discard_by_rules) finds it.
     TooLong,
+    /// The program of its side would send it, but is confined: the client hasn't permitted the peer that it would go to, or that
+    /// it comes from.
+    Confined,
 }
 
 /// What is done with a datagram. See docs/DECISIONS.md, "What a step reports".

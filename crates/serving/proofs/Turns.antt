@@ -9,7 +9,8 @@ use Rattle.machine.specs.Contents.{room_of, with_room}
 use Rattle.machine.specs.laws.Frame.{room_written}
 use Rattle.semantics.specs.declared.limits.TheConstants.{MAX_DATAGRAM}
 use Rattle.rules.specs.ByRules.{by_rules}
-use Rattle.relay.specs.Relays.{RelayContents, state_of}
+use Rattle.relay.specs.Harmless.{IsHarmless}
+use Rattle.relay.specs.Relays.{RelayContents, datagram_at, state_of}
 use Rattle.relay.specs.Replays.{system_of}
 use Rattle.relay.specs.Shipped.{AreShipped}
 use Rattle.relay.specs.ByPrograms.{disposition_of_datagram}
@@ -62,8 +63,9 @@ module _ (endpoint : Endpoint) (now : ℕ) (transaction_id : List ℕ) (old : Re
       → HasStepped with_buffer new (relay.outcome_of with_buffer (given source) n) → answer ≡ (relay.outcome_of with_buffer (given source) n).answer
       → done ≡ relay.disposition_of_step with_buffer (given source) n → IsSent answer between after of_send → result ≡ done_if_sent done of_send
       → (AreShipped old.programs → relay.outcome_of with_buffer (given source) n ≡ relay.ruled_outcome_of with_buffer (given source) n)
+      → IsHarmless old.programs old.config (state_of old) (given source) (datagram_at with_buffer n) answer
       → IsServed endpoint now transaction_id old new before after result
-  handles new answer done before between after received of_send result is reported stepped answers does sent gives rules = record {
+  handles new answer done before between after received of_send result is reported stepped answers does sent gives rules harmless = record {
     received = Ok (Some (n, from));
     buffer = buffer;
     room = has;
@@ -77,6 +79,12 @@ module _ (endpoint : Endpoint) (now : ℕ) (transaction_id : List ℕ) (old : Re
         sent = subst (λ a. HasSent a sent.sends of_send) (answers ∙ ap (λ (o : SystemOutcome). o.answer) outcome_is) sent.sent;
         done = gives ∙ ap (λ d. done_if_sent d of_send) (does ∙ done_is);
         rules = λ are. sym outcome_is ∙ rules are ∙ ruled_is;
+        harmless =
+            let Does : Source → List ℕ → Option Sending → Type 0 = λ from bytes sent. IsHarmless old.programs old.config (state_of old) (given from) bytes sent in
+            let sent = (outcome_of_bytes old (given (source_at endpoint from)) (take n buffer)).answer in
+            subst (λ (s : Source). Does s (take n buffer) sent) source_is
+            (subst (λ (bytes : List ℕ). Does source bytes sent) (ap (take n) (room_written old.frame buffer had has))
+            (subst (λ (o : Option Sending). Does source (datagram_at with_buffer n) o) (answers ∙ ap (λ (o : SystemOutcome). o.answer) outcome_is) harmless));
       },
     );
   }

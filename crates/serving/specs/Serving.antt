@@ -6,6 +6,7 @@ use Rattle.events.specs.declared.meta.Meta.{Meta}
 use Rattle.events.specs.declared.meta.Source.{Source}
 use Rattle.events.specs.declared.meta.Source.TheVariants as source
 use Rattle.rules.specs.ByRules.{by_rules}
+use Rattle.relay.specs.Harmless.{IsHarmless}
 use Rattle.relay.specs.Relays.{RelayContents, state_of}
 use Rattle.relay.specs.Replays.{system_of}
 use Rattle.relay.specs.Shipped.{AreShipped}
@@ -77,13 +78,15 @@ abbrev pub done_if_sent : Disposition → Result (Unit {0}) ServeError → Resul
 done_if_sent disposition (Ok sent) = Ok (Some disposition)
 done_if_sent disposition (Err fault) = Err fault
 
--- the relay has stepped, and the answer was sent; with the shipped programs these are the rules'
+-- the relay has stepped, and the answer was sent; with the shipped programs these are the rules', and with any
+-- programs the datagram harms nobody
 pub record HasHandled (old new : RelayContents) (given : Meta) (bytes : List ℕ) (sends : List Call) (result : Result (Option Disposition) ServeError) : Type 0 where
   pub stepped : HasStepped old new (outcome_of_bytes old given bytes)
   pub of_send : Result (Unit {0}) ServeError
   pub sent : HasSent (outcome_of_bytes old given bytes).answer sends of_send
   pub done : result ≡ done_if_sent (disposition_of_bytes old given bytes) of_send
   pub rules : AreShipped old.programs → outcome_of_bytes old given bytes ≡ ruled_outcome_of_bytes old given bytes
+  pub harmless : IsHarmless old.programs old.config (state_of old) given bytes (outcome_of_bytes old given bytes).answer
 
 -- a fault, nothing, or a datagram; one longer than a datagram may be is a fault
 abbrev pub HasServed : RelayContents → RelayContents → Endpoint → ℕ → List ℕ → List ℕ → Result (Option (ℕ × Addr)) LinkError → List Call → Result (Option Disposition) ServeError → Type 0

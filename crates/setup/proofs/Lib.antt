@@ -1,3 +1,3 @@
 pub mod RefusedFields
 pub mod NamedFaults
-pub mod Colons
+pub mod Parted

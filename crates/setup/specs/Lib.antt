@@ -1,4 +1,5 @@
 -- Internal. The modules of this folder.
+pub mod Aliases
 pub mod Secrets
 pub mod Setups
 pub mod Users

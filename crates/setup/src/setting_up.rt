@@ -14,6 +14,7 @@ use credentials::User;
 use insn::DecodeError;
 use loader::{LoadError, Loaded, load};
 use relay::{Relay, RelayError};
+use rules::Confinement;
 use std::alloc::Global;
 use verifier::Refusal;
 
@@ -75,13 +76,11 @@ pub fn program(alloc: Global, bytes: Option<&[u8]>) -> Result<Loaded, ProgramErr
     }
 }
 
-/// Sets up a relay with no allocation.
+/// Sets up a relay with no allocation, whose programs are not confined.
 ///
 /// # Errors
-/// The first fault, in this order: a nonce above 64 bytes; the program for clients' datagrams; the program for peers'
-/// datagrams; the first field of the configuration that lies outside its limits. `Memory` where there is none, and memory runs
-/// out.
-pub fn relay_of(alloc: Global, setup: Setup<'_>) -> Result<Relay, SetupError>
+/// As [`relay_of`].
+fn unconfined_relay_of(alloc: Global, setup: Setup<'_>) -> Result<Relay, SetupError>
     ensures state { IfOk result (λ r. state_of r ≡ first r.config) }
     ensures config { IfOk result (λ r. IsConfigOf setup.entry r.config) }
     ensures client { IfOk result (λ r. IsProgram setup.entry.client r.programs.client) }
@@ -106,4 +105,28 @@ pub fn relay_of(alloc: Global, setup: Setup<'_>) -> Result<Relay, SetupError>
         Err(RelayError::BadConfig(field)) => Err(SetupError::Field(field)),
         Err(RelayError::Memory) => Err(SetupError::Memory),
     }
+}
+
+/// Sets up a relay with no allocation. `confinement` is what confines its programs to the peers that clients have permitted, if
+/// anything does.
+///
+/// # Errors
+/// The first fault, in this order: a nonce above 64 bytes; the program for clients' datagrams; the program for peers'
+/// datagrams; the first field of the configuration that lies outside its limits. `Memory` where there is none, and memory runs
+/// out.
+pub fn relay_of(
+    alloc: Global,
+    setup: Setup<'_>,
+    confinement: Option<Confinement>,
+) -> Result<Relay, SetupError>
+    ensures state { IfOk result (λ r. state_of r ≡ first r.config) }
+    ensures config { IfOk result (λ r. IsConfigOf setup.entry r.config) }
+    ensures client { IfOk result (λ r. IsProgram setup.entry.client r.programs.client) }
+    ensures peer { IfOk result (λ r. IsProgram setup.entry.peer r.programs.peer) }
+    ensures confinement { IfOk result (λ r. r.programs.confinement ≡ confinement) }
+    ensures refused { IfErr result (IsSetupFault setup.entry) }
+{
+    let mut relay = unconfined_relay_of(alloc, setup)?;
+    relay.confine(confinement);
+    Ok(relay)
 }

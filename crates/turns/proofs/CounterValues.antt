@@ -22,18 +22,19 @@ each_kind P a b c d Other = c
 each_kind P a b c d FromPeer = d
 
 pub each_reason : (P : Discard → Type 0) → P discard.NotServed → P discard.ByProgram → P discard.Malformed → P discard.NoRequest → P discard.NoAllocation
-    → P discard.NoChannel → P discard.UnknownAttribute → P discard.Incomplete → P discard.NoPermission → P discard.OtherFamily → P discard.TooLong → (reason : Discard) → P reason
-each_reason P a b c d e f g h i j k discard.NotServed = a
-each_reason P a b c d e f g h i j k discard.ByProgram = b
-each_reason P a b c d e f g h i j k discard.Malformed = c
-each_reason P a b c d e f g h i j k discard.NoRequest = d
-each_reason P a b c d e f g h i j k discard.NoAllocation = e
-each_reason P a b c d e f g h i j k discard.NoChannel = f
-each_reason P a b c d e f g h i j k discard.UnknownAttribute = g
-each_reason P a b c d e f g h i j k discard.Incomplete = h
-each_reason P a b c d e f g h i j k discard.NoPermission = i
-each_reason P a b c d e f g h i j k discard.OtherFamily = j
-each_reason P a b c d e f g h i j k discard.TooLong = k
+    → P discard.NoChannel → P discard.UnknownAttribute → P discard.Incomplete → P discard.NoPermission → P discard.OtherFamily → P discard.TooLong → P discard.Confined → (reason : Discard) → P reason
+each_reason P a b c d e f g h i j k l discard.NotServed = a
+each_reason P a b c d e f g h i j k l discard.ByProgram = b
+each_reason P a b c d e f g h i j k l discard.Malformed = c
+each_reason P a b c d e f g h i j k l discard.NoRequest = d
+each_reason P a b c d e f g h i j k l discard.NoAllocation = e
+each_reason P a b c d e f g h i j k l discard.NoChannel = f
+each_reason P a b c d e f g h i j k l discard.UnknownAttribute = g
+each_reason P a b c d e f g h i j k l discard.Incomplete = h
+each_reason P a b c d e f g h i j k l discard.NoPermission = i
+each_reason P a b c d e f g h i j k l discard.OtherFamily = j
+each_reason P a b c d e f g h i j k l discard.TooLong = k
+each_reason P a b c d e f g h i j k l discard.Confined = l
 
 -- ---- the counter of an index
 
@@ -49,10 +50,10 @@ IsInOrder c = counter_at (counter_index c) ≡ c
 
 discard_at : (kind : Kind) (reason : Discard) → IsInOrder (counter.Discarded kind reason)
 discard_at kind reason = each_kind (λ k. IsInOrder (counter.Discarded k reason))
-    (each_reason (λ r. IsInOrder (counter.Discarded ChannelData r)) refl refl refl refl refl refl refl refl refl refl refl reason)
-    (each_reason (λ r. IsInOrder (counter.Discarded Message r)) refl refl refl refl refl refl refl refl refl refl refl reason)
-    (each_reason (λ r. IsInOrder (counter.Discarded Other r)) refl refl refl refl refl refl refl refl refl refl refl reason)
-    (each_reason (λ r. IsInOrder (counter.Discarded FromPeer r)) refl refl refl refl refl refl refl refl refl refl refl reason)
+    (each_reason (λ r. IsInOrder (counter.Discarded ChannelData r)) refl refl refl refl refl refl refl refl refl refl refl refl reason)
+    (each_reason (λ r. IsInOrder (counter.Discarded Message r)) refl refl refl refl refl refl refl refl refl refl refl refl reason)
+    (each_reason (λ r. IsInOrder (counter.Discarded Other r)) refl refl refl refl refl refl refl refl refl refl refl refl reason)
+    (each_reason (λ r. IsInOrder (counter.Discarded FromPeer r)) refl refl refl refl refl refl refl refl refl refl refl refl reason)
     kind
 
 at_index : (c : Counter) → IsInOrder c

@@ -26,6 +26,7 @@ reason_index discard.Incomplete = 7
 reason_index discard.NoPermission = 8
 reason_index discard.OtherFamily = 9
 reason_index discard.TooLong = 10
+reason_index discard.Confined = 11
 
 abbrev pub counter_index : Counter → ℕ
 counter_index counter.FromClients = 0
@@ -39,7 +40,7 @@ counter_index counter.Refused = 7
 counter_index counter.Denied = 8
 counter_index counter.SendFaults = 9
 counter_index counter.ReceiveFaults = 10
-counter_index (counter.Discarded kind reason) = 11 + 11 * kind_index kind + reason_index reason
+counter_index (counter.Discarded kind reason) = 11 + 12 * kind_index kind + reason_index reason
 
 abbrev pub counter_value : Counters → Counter → ℕ
 counter_value counters c = slice_index counters.values (counter_index c)

@@ -63,10 +63,10 @@ pub enum Counter {
 }
 
 /// The number of reasons to discard a datagram.
-const REASON_COUNT: usize = 11;
+const REASON_COUNT: usize = 12;
 
 /// The number of counters.
-const COUNTER_COUNT: usize = 55;
+const COUNTER_COUNT: usize = 59;
 
 /// All kinds of datagrams.
 pub const KINDS: [Kind; 4] = [
@@ -89,6 +89,7 @@ pub const REASONS: [Discard; REASON_COUNT] = [
     Discard::NoPermission,
     Discard::OtherFamily,
     Discard::TooLong,
+    Discard::Confined,
 ];
 
 /// The counters of a server, which stay at [`u64::MAX`] once they are there.
@@ -190,6 +191,7 @@ fn reason_index(reason: Discard) -> usize
         Discard::NoPermission => 8,
         Discard::OtherFamily => 9,
         Discard::TooLong => 10,
+        Discard::Confined => 11,
     }
 }
 

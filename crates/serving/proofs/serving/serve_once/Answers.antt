@@ -17,7 +17,7 @@ returns-in_err-send g c =
     (search rules) had has c.source_at-from.result c.source_at-from.ensures
     c.step.follows.lender-at-none (sending_of c.step.result.action) c.step.result.disposition (g.L.Link.calls c.args.link.now) (g.L.Link.calls c.receive.new.self) (g.L.Link.calls c.send.new.link) c.receive.result c.send.result _
     is c.receive.ensures c.step.follows.holds-at-none c.step.ensures.answer c.step.ensures.disposition c.send.ensures
-    (failed ∙ ap (done_if_sent c.step.result.disposition) (sym c.in_err-send.was)) c.step.ensures.rules
+    (failed ∙ ap (done_if_sent c.step.result.disposition) (sym c.in_err-send.was)) c.step.ensures.rules c.step.ensures.harmless
 
 pub returns : goal.returns
 returns g c =
@@ -28,4 +28,4 @@ returns g c =
     (search rules) had has c.source_at-from.result c.source_at-from.ensures
     c.step.follows.lender-at-none (sending_of c.step.result.action) c.step.result.disposition (g.L.Link.calls c.args.link.now) (g.L.Link.calls c.receive.new.self) (g.L.Link.calls c.send.new.link) c.receive.result c.send.result _
     is c.receive.ensures c.step.follows.holds-at-none c.step.ensures.answer c.step.ensures.disposition c.send.ensures
-    (ap (done_if_sent c.step.result.disposition) (sym c.in_ok-send.was)) c.step.ensures.rules
+    (ap (done_if_sent c.step.result.disposition) (sym c.in_ok-send.was)) c.step.ensures.rules c.step.ensures.harmless

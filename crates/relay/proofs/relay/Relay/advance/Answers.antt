@@ -1,7 +1,9 @@
 use Rattle.std.proofs.Common.{◌≡◌, length, rules, refl, sym, ap, subst, ◌∙◌}
 use Rattle.tables.specs.Rows.{rows_at}
+use Rattle.tables.specs.laws.WellFormed.{rows_at-well_formed}
 use Rattle.events.specs.declared.meta.Source.{Source}
 use Rattle.programs.specs.Runs.{planned_sending}
+use Rattle.relay.specs.ByPrograms.{let_through}
 use Rattle.relay.specs.Found.{reply_of_passing, run_at, sending_of_found, disposition_of_found, window_shown, HasRun}
 use Rattle.relay.specs.Relays.{RelayContents, datagram_at}
 use Rattle.relay.specs.Steps.{HasStepped, outcome_of, disposition_of_step}
@@ -23,7 +25,7 @@ ran : (c : After-run_over-outcome)
     → HasRun (length (datagram_at (the_view c.self.inside) c.args.n)) c.run_over-outcome.result c.run_over-outcome.new.frame (run_at (record (the_view c.self.inside) { greatest = c.moment_of-self-inside.result }) c.args.meta.now c.args.n)
 ran c =
     ran_at (the_view c.self.inside) c.args.meta.now c.args.n c.moment_of-self-inside.result c.run_over-outcome.result c.run_over-outcome.new.frame c.context_for-context.result c.new-helpers.result.live c.program_for-program.result.now c.law_are_well_formed.ensures
-    c.context_for-context.ensures (c.new-helpers.ensures ∙ c.live_for.ensures) c.program_for-program.ensures c.run_over-outcome.ensures
+    c.context_for-context.ensures (c.new-helpers.ensures ∙ c.live_for.ensures) (c.program_for-program.ensures c.self.inside.confinement) c.run_over-outcome.ensures
 
 -- ---- where the program of a client passes the datagram on
 
@@ -75,22 +77,23 @@ returns-in-Peer-clause-found c =
 -- ---- where the plan is sent
 
 plan_reply : (c : goal.After-window_found) → reply_at (the_view c.self.inside) c.args.meta.now c.args.n c.moment_of-self-inside.result
-    ≡ reply_of_relaying c.self.inside.tables (planned_sending c.args.meta.now.from (rows_at c.moment_of-self-inside.result c.self.inside.tables) c.run_over-outcome.result.destination (window_shown c.run_over-outcome.new.frame))
+    ≡ reply_of_relaying c.self.inside.tables (let_through c.self.inside.confinement c.args.meta.now.from (rows_at c.moment_of-self-inside.result c.self.inside.tables)
+    (planned_sending c.args.meta.now.from (rows_at c.moment_of-self-inside.result c.self.inside.tables) c.run_over-outcome.result.destination (window_shown c.run_over-outcome.new.frame)))
 plan_reply c =
-    sends (the_view c.self.inside) c.args.meta.now c.args.n c.moment_of-self-inside.result c.run_over-outcome.result (shown c.before.before.before.before)
-    (ran c.before.before.before.before) (search rules) c.in-2.is
+    sends (the_view c.self.inside) c.args.meta.now c.args.n c.moment_of-self-inside.result c.run_over-outcome.result (shown c.before.before.before.before.before)
+    (ran c.before.before.before.before.before) (search rules) c.in-2.is
 
 pub returns-in-2-clause-stepped : goal.returns-in-2-clause-stepped
 returns-in-2-clause-stepped c =
-    let P : RelayContents → Type 0 = λ r. HasStepped r (shown c.before.before.before.before) (outcome_of r c.args.meta.now c.args.n) in
+    let P : RelayContents → Type 0 = λ r. HasStepped r (shown c.before.before.before.before.before) (outcome_of r c.args.meta.now c.args.n) in
     subst P c.self.view_is
-    (stays (the_view c.self.inside) c.args.meta.now c.args.n c.moment_of-self-inside.result (shown c.before.before.before.before) c.moment_of-self-inside.ensures
+    (stays (the_view c.self.inside) c.args.meta.now c.args.n c.moment_of-self-inside.result (shown c.before.before.before.before.before) c.moment_of-self-inside.ensures
     refl (ap (λ (r : SystemReply). r.rows) (plan_reply c)))
 
 pub returns-in-2-clause-found : goal.returns-in-2-clause-found
 returns-in-2-clause-found c =
-    c.window_found.ensures.sends (shown c.before.before.before.before)
-    (c.new-helpers.ensures ∙ c.live_for.ensures)
+    c.window_found.ensures.sends (shown c.before.before.before.before.before)
+    (rows_at-well_formed c.moment_of-self-inside.result c.self.inside.tables c.law_are_well_formed.ensures) (c.new-helpers.ensures ∙ c.live_for.ensures)
     ∙ sym (ap (λ (r : SystemReply). r.answer) (plan_reply c))
     ∙ answers (the_view c.self.inside) c.args.meta.now c.args.n c.moment_of-self-inside.result c.moment_of-self-inside.ensures
     ∙ (λ i. (outcome_of (c.self.view_is i) c.args.meta.now c.args.n).answer)
@@ -136,9 +139,9 @@ returns-in-Peer-clause-disposition c =
 
 pub returns-in-2-clause-disposition : goal.returns-in-2-clause-disposition
 returns-in-2-clause-disposition c =
-    c.window_found.ensures.disposition (shown c.before.before.before.before)
-    (c.new-helpers.ensures ∙ c.live_for.ensures)
-    ∙ sym (does_send (the_view c.self.inside) c.args.meta.now c.args.n c.moment_of-self-inside.result c.run_over-outcome.result (shown c.before.before.before.before) (ran c.before.before.before.before) (search rules) c.in-2.is)
+    c.window_found.ensures.disposition (shown c.before.before.before.before.before)
+    (rows_at-well_formed c.moment_of-self-inside.result c.self.inside.tables c.law_are_well_formed.ensures) (c.new-helpers.ensures ∙ c.live_for.ensures)
+    ∙ sym (does_send (the_view c.self.inside) c.args.meta.now c.args.n c.moment_of-self-inside.result c.run_over-outcome.result (shown c.before.before.before.before.before) (ran c.before.before.before.before.before) (search rules) c.in-2.is)
     ∙ done_then (the_view c.self.inside) c.args.meta.now c.args.n c.moment_of-self-inside.result c.moment_of-self-inside.ensures
     ∙ (λ i. disposition_of_step (c.self.view_is i) c.args.meta.now c.args.n)
 

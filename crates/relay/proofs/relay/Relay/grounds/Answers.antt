@@ -14,7 +14,7 @@ use Rattle.relay.proofs.relay.Relay.grounds.Goals as goal
 
 -- the slot, at the moment of the step
 slot_is : (c : goal.After-last_slot_over-slot) → c.last_slot_over-slot.result
-    ≡ exit_slot (record { client = c.self.inside.client; peer = c.self.inside.peer }) c.args.meta.now.transaction_id
+    ≡ exit_slot (record { client = c.self.inside.client; peer = c.self.inside.peer; confinement = c.self.inside.confinement }) c.args.meta.now.transaction_id
     c.args.meta.now.from
     (rows_at c.moment_of-moment.result c.self.inside.tables) (take c.args.n (room_of c.self.inside.frame))
 slot_is c =
@@ -23,7 +23,7 @@ slot_is c =
     let answers = ap held_answer live ∙ answers_for c.args.meta.now.from (rows_at c.moment_of-moment.result c.self.inside.tables) formed in
     c.last_slot_over-slot.ensures
     ∙ (λ i. last_slot_of 0 (run_over
-    (environment_around (context_of (c.context_for-context.ensures i)) (answers i)) (c.program_for-program.ensures i)
+    (environment_around (context_of (c.context_for-context.ensures i)) (answers i)) (c.program_for-program.ensures c.self.inside.confinement i)
     (take c.args.n (room_of c.self.inside.frame))).path)
 
 pub returns-clause-grounds : goal.returns-clause-grounds
@@ -34,7 +34,7 @@ returns-clause-grounds c = λ config.
           ∙ (λ j. discard_in (ruled_disposition config (c.moment_of-moment.ensures j) given.transaction_id given.from
           c.self.inside.tables (take c.args.n (c.room.ensures.value j))))) i;
       slot = (slot_is c
-          ∙ (λ j. exit_slot (record { client = c.self.inside.client; peer = c.self.inside.peer }) given.transaction_id
+          ∙ (λ j. exit_slot (record { client = c.self.inside.client; peer = c.self.inside.peer; confinement = c.self.inside.confinement }) given.transaction_id
           given.from
           (rows_at (c.moment_of-moment.ensures j) c.self.inside.tables) (take c.args.n (room_of c.self.inside.frame)))) i;
     })

@@ -16,7 +16,7 @@ returns-clause-ok c =
     c.replace_users.ensures ∙ (λ i. rows_of_users (index_in (indices i)) c.self.inside.tables) ∙ same_rows old new c.self.inside.tables in
     (λ i. record {
       config = record c.self.inside.config { users = c.args.users };
-      programs = record { client = c.self.inside.client; peer = c.self.inside.peer };
+      programs = record { client = c.self.inside.client; peer = c.self.inside.peer; confinement = c.self.inside.confinement };
       rows = rows i;
       greatest = c.self.inside.greatest;
       frame = c.self.inside.frame;

@@ -3,4 +3,4 @@ use Rattle.turns.proofs.CounterValues.{zeros}
 use Rattle.turns.proofs.counters.Counters.new.Goals as goal
 
 pub returns : goal.returns
-returns c = λ d. zeros 55 (counter_index d)
+returns c = λ d. zeros 59 (counter_index d)

@@ -1,0 +1,145 @@
+-- What is found of a window that a program would send, by what is live in the slot in which helpers look up.
+use Rattle.std.proofs.Common.{◌≡◌, ℕ, List, Bool, true, false, refl, sym, ap, subst, ◌∙◌}
+use Rattle.std.specs.Prelude.{Option, None, Some, option_map}
+use Rattle.attributes.specs.Addresses.{is_of_family}
+use Rattle.attributes.specs.declared.address.Addr.{Addr}
+use Rattle.tables.specs.LookUps.{allocation_of, held_by, held_in}
+use Rattle.tables.specs.Rows.{Rows, rows_at}
+use Rattle.tables.specs.WellFormed.{AreWellFormed}
+use Rattle.tables.specs.declared.allocation.Allocation.{Allocation}
+use Rattle.tables.specs.declared.held.Held.{Held}
+use Rattle.events.specs.Events.{Sending, ToPeer, ToClient}
+use Rattle.events.specs.declared.meta.Source.{Source}
+use Rattle.events.specs.declared.meta.Source.TheVariants.{Client, Peer}
+use Rattle.programs.specs.Runs.{planned_sending}
+use Rattle.rules.specs.declared.confinement.Confinement.{Confinement}
+use Rattle.rules.specs.declared.disposition.Discard.TheVariants.{ByProgram}
+use Rattle.relay.specs.ByPrograms.{disposition_of_sent, let_through, relayed_where_sent}
+use Rattle.relay.specs.Found.{disposition_of_found, held_for, may_come, may_go, sending_of_found, window_shown}
+use Rattle.relay.specs.Relays.{RelayContents}
+use Rattle.relay.specs.declared.found.Found.{Found}
+use Rattle.relay.specs.declared.found.Found.TheVariants as found
+use Rattle.relay.proofs.Confined.{client_at_is, nothing_sent, nothing_through, own_allocation_is, passes, passes_where_may_come, passes_where_may_go, plans_elsewhere, plans_nothing, plans_nowhere, plans_to_client, plans_to_none, plans_to_peer, window_discarded, window_relayed, window_stopped, window_through}
+
+module _ (c : Option Confinement) (r : RelayContents) where
+  abbrev live : Rows
+  live = rows_at r.greatest r.rows
+
+  abbrev shown : Option (List ℕ)
+  shown = window_shown r.frame
+
+  -- the finding of a plan
+  pub record IsFoundAs (from : Source) (destination : Option Addr) (f : Found) : Type 0 where
+    pub sends : sending_of_found r from f ≡ let_through c from live (planned_sending from live destination shown)
+    pub disposition : disposition_of_found r from f ≡ disposition_of_sent c from live (planned_sending from live destination shown)
+
+  found_nothing : (from : Source) (destination : Option Addr) → planned_sending from live destination shown ≡ None → IsFoundAs from destination (found.Nothing ByProgram)
+  found_nothing from destination none = record {
+    sends = sym (ap (let_through c from live) none ∙ nothing_through from live c);
+    disposition = sym (ap (disposition_of_sent c from live) none ∙ nothing_sent from live c);
+  }
+
+  -- a window that is sent, and one that is stopped
+  module _ (from : Source) (destination : Option Addr) (make : List ℕ → Sending) (plan : planned_sending from live destination shown ≡ option_map make shown) where
+    found_window : (f : Found) → sending_of_found r from f ≡ option_map make shown → disposition_of_found r from f ≡ relayed_where_sent (option_map make shown)
+        → ((bytes : List ℕ) → passes c from live (make bytes) ≡ true) → IsFoundAs from destination f
+    found_window f sent done is = record {
+      sends = sent ∙ sym (ap (let_through c from live) plan ∙ window_through from live c make is shown);
+      disposition = done ∙ sym (ap (disposition_of_sent c from live) plan ∙ window_relayed from live c make is shown);
+    }
+
+    found_stopped : ((bytes : List ℕ) → passes c from live (make bytes) ≡ false) → IsFoundAs from destination found.Stopped
+    found_stopped is = record {
+      sends = sym (ap (let_through c from live) plan ∙ window_stopped from live c make is shown);
+      disposition = sym (ap (disposition_of_sent c from live) plan ∙ window_discarded from live c make is shown);
+    }
+
+  -- where the slot has no live allocation
+  pub found_unheld : (from : Source) (destination : Option Addr) → None ≡ held_for from live → IsFoundAs from destination (found.Nothing ByProgram)
+  found_unheld (Client client) destination none =
+      found_nothing (Client client) destination (plans_nothing live client (ap (option_map (λ (held : Held). held.allocation)) (sym none)) destination shown)
+  found_unheld (Peer slot peer) destination none =
+      found_nothing (Peer slot peer) destination
+      (plans_to_none live slot peer destination
+      (ap (λ (o : Option Held). option_map (λ (a : Allocation). a.client) (option_map (λ (held : Held). held.allocation) o)) (sym none)) shown)
+
+  module _ (formed : AreWellFormed live) (held : Held) where
+    -- of a client
+    module _ (client : Addr) (is : Some held ≡ held_by client live) where
+      own : allocation_of client live ≡ Some held.allocation
+      own = own_allocation_is client live held formed is
+
+      pub found_nowhere : IsFoundAs (Client client) None (found.Nothing ByProgram)
+      found_nowhere = found_nothing (Client client) None (plans_nowhere live client shown)
+
+      module _ (peer : Addr) where
+        pub found_elsewhere : is_of_family held.allocation.family peer ≡ false → IsFoundAs (Client client) (Some peer) (found.Nothing ByProgram)
+        found_elsewhere family = found_nothing (Client client) (Some peer) (plans_elsewhere live client held.allocation peer own family shown)
+
+        module _ (family : is_of_family held.allocation.family peer ≡ true) where
+          plan : planned_sending (Client client) live (Some peer) shown ≡ option_map (ToPeer held.allocation.slot peer) shown
+          plan = plans_to_peer live client held.allocation peer own family shown
+
+          pub found_to_peer : may_go c held peer ≡ true → IsFoundAs (Client client) (Some peer) (found.WindowToPeer held.allocation.slot peer)
+          found_to_peer may =
+              found_window (Client client) (Some peer) (ToPeer held.allocation.slot peer) plan (found.WindowToPeer held.allocation.slot peer) refl refl
+              (λ bytes. passes_where_may_go client live held formed is c peer bytes ∙ may)
+
+          pub stopped_to_peer : may_go c held peer ≡ false → IsFoundAs (Client client) (Some peer) found.Stopped
+          stopped_to_peer may =
+              found_stopped (Client client) (Some peer) (ToPeer held.allocation.slot peer) plan
+              (λ bytes. passes_where_may_go client live held formed is c peer bytes ∙ may)
+
+    -- of a slot
+    module _ (slot : ℕ) (peer : Addr) (is : Some held ≡ held_in live slot) (destination : Option Addr) where
+      plan_to_client : planned_sending (Peer slot peer) live destination shown ≡ option_map (ToClient held.allocation.client) shown
+      plan_to_client = plans_to_client live slot peer destination held.allocation.client (client_at_is slot live held is) shown
+
+      pub found_to_client : may_come c held peer ≡ true → IsFoundAs (Peer slot peer) destination (found.WindowToClient held.allocation.client)
+      found_to_client may =
+          found_window (Peer slot peer) destination (ToClient held.allocation.client) plan_to_client (found.WindowToClient held.allocation.client) refl refl
+          (λ bytes. passes_where_may_come slot live held is c peer held.allocation.client bytes ∙ may)
+
+      pub stopped_to_client : may_come c held peer ≡ false → IsFoundAs (Peer slot peer) destination found.Stopped
+      stopped_to_client may =
+          found_stopped (Peer slot peer) destination (ToClient held.allocation.client) plan_to_client
+          (λ bytes. passes_where_may_come slot live held is c peer held.allocation.client bytes ∙ may)
+
+-- ---- with what is matched as equations
+
+module _ (c : Option Confinement) (r : RelayContents) (from : Source) (destination : Option Addr) (o : Option Held)
+    (formed : AreWellFormed (rows_at r.greatest r.rows)) (is : o ≡ held_for from (rows_at r.greatest r.rows)) (held : Held) (there : o ≡ Some held) where
+  module _ (client : Addr) (from_is : from ≡ Client client) (peer : Addr) (destination_is : destination ≡ Some peer)
+      (family : is_of_family held.allocation.family peer ≡ true) where
+    held_is : Some held ≡ held_by client (rows_at r.greatest r.rows)
+    held_is = sym there ∙ is ∙ ap (λ (s : Source). held_for s (rows_at r.greatest r.rows)) from_is
+
+    with_values : (f : Found) → IsFoundAs c r (Client client) (Some peer) f → IsFoundAs c r from destination f
+    with_values f found =
+        subst (λ (s : Source). IsFoundAs c r s destination f) (sym from_is)
+        (subst (λ (d : Option Addr). IsFoundAs c r (Client client) d f) (sym destination_is) found)
+
+    pub client_stopped : may_go c held peer ≡ false → IsFoundAs c r from destination found.Stopped
+    client_stopped may = with_values found.Stopped (stopped_to_peer c r formed held client held_is peer family may)
+
+    pub client_sends : (slot : ℕ) → slot ≡ held.allocation.slot → may_go c held peer ≡ true → IsFoundAs c r from destination (found.WindowToPeer slot peer)
+    client_sends slot slot_is may =
+        with_values (found.WindowToPeer slot peer)
+        (subst (λ (n : ℕ). IsFoundAs c r (Client client) (Some peer) (found.WindowToPeer n peer)) (sym slot_is)
+        (found_to_peer c r formed held client held_is peer family may))
+
+  module _ (slot : ℕ) (peer : Addr) (from_is : from ≡ Peer slot peer) where
+    slot_held_is : Some held ≡ held_in (rows_at r.greatest r.rows) slot
+    slot_held_is = sym there ∙ is ∙ ap (λ (s : Source). held_for s (rows_at r.greatest r.rows)) from_is
+
+    from_peer : (f : Found) → IsFoundAs c r (Peer slot peer) destination f → IsFoundAs c r from destination f
+    from_peer f found = subst (λ (s : Source). IsFoundAs c r s destination f) (sym from_is) found
+
+    pub peer_stopped : may_come c held peer ≡ false → IsFoundAs c r from destination found.Stopped
+    peer_stopped may = from_peer found.Stopped (stopped_to_client c r formed held slot peer slot_held_is destination may)
+
+    pub peer_sends : (client : Addr) → client ≡ held.allocation.client → may_come c held peer ≡ true → IsFoundAs c r from destination (found.WindowToClient client)
+    peer_sends client client_is may =
+        from_peer (found.WindowToClient client)
+        (subst (λ (a : Addr). IsFoundAs c r (Peer slot peer) destination (found.WindowToClient a)) (sym client_is)
+        (found_to_client c r formed held slot peer slot_held_is destination may))
