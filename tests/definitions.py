@@ -30,7 +30,8 @@ DECISION = re.compile(r'docs/DECISIONS\.md, "([^"]*)"')
 TEST = re.compile(r"^ *#\[test\]$", re.MULTILINE)
 # what docs/HEADLINE.md quotes, and the files that have it
 QUOTE = re.compile(r"^```rust\n(.*?)^```", re.MULTILINE | re.DOTALL)
-QUOTED = ("loader/src/loaded.rt", "machine/src/verified_run.rt", "relay/src/shipped.rt")
+QUOTED = ("loader/src/loaded.rt", "machine/src/verified_run.rt", "relay/src/amplification.rt", "relay/src/confining.rt",
+          "relay/src/isolation.rt", "relay/src/relay.rt", "relay/src/shipped.rt")
 # how many test functions there may be, and how many edits that must fail, in all and of a crate
 MOST_TESTS = 60
 MOST_EDITS = 150

@@ -32,7 +32,7 @@ DISCARD = bytes.fromhex("b700000000000000 9500000000000000")
 BAD = bytes.fromhex("9500000000000000")
 # the reasons for which datagrams are discarded, as counters name them
 REASONS = ("not_served", "by_program", "malformed", "no_request", "no_allocation", "no_channel", "unknown_attribute",
-           "incomplete", "no_permission", "other_family", "too_long")
+           "incomplete", "no_permission", "other_family", "too_long", "confined")
 # a sample of a metric, with labels or without
 SAMPLE = re.compile(r'[a-z_]+(?:\{[a-z_]+="\w+"(?:,[a-z_]+="\w+")*\})? \d+')
 PERIOD = 1.0  # seconds: how often a server looks at what is due

@@ -1,6 +1,6 @@
 -- Meaning. How many bytes a datagram may draw: no more than it has itself and 67, or a response of a bounded length.
 use Rattle.std.specs.Prelude.{◌≡◌, ◌≤◌, ◌⊎◌, ℕ, ◌+◌, List, length, max, string_bytes}
-use Rattle.stun.specs.Messages.{padding_count}
+use Rattle.stun.specs.Messages.{attribute_length}
 use Rattle.control.specs.declared.config.Config.{Config}
 use Rattle.semantics.specs.declared.limits.TheConstants.{HEADROOM, TAILROOM}
 use Rattle.attributes.specs.declared.address.Addr.{Addr}
@@ -10,13 +10,9 @@ use Rattle.rules.specs.Authentication.{IsAuthenticated}
 
 -- ---- responses
 
--- the bytes of an attribute with a value of so many: its head has 4, and the value is padded
-abbrev pub attribute_length : ℕ → ℕ
-attribute_length n = 4 + n + padding_count n
-
 -- the error 401, whose ERROR-CODE has 24 bytes, after a header of 20: no error with REALM and NONCE is longer
 abbrev pub challenge_length : Config → ℕ
-challenge_length config = 44 + attribute_length (length (string_bytes config.realm)) + attribute_length (length config.nonce.bytes)
+challenge_length config = 44 + attribute_length (string_bytes config.realm) + attribute_length config.nonce.bytes
 
 -- the longest response without accepted credentials: the challenge, or the error 420 that names 16 attributes
 abbrev pub longest_unauthenticated : Config → ℕ

@@ -1,7 +1,7 @@
 //! Addresses that count as others, as texts of an option.
 
 ghost use Rattle.std.specs.Prelude.{IfSome, IfNone};
-ghost use Rattle.setup.specs.Aliases.{IsAddressText, IsNoAddressText, IsAliasIn};
+ghost use Rattle.setup.specs.Aliases.{IsTextOfIp, IsNoIpText, IsAliasIn};
 
 use attributes::Addr;
 use rules::Alias;
@@ -9,8 +9,8 @@ use std::net::IpAddr;
 
 /// Parses an address: four decimal numbers, or as RFC 4291, section 2.2, writes one of IPv6. Its port is 0.
 fn address(text: &str) -> Option<Addr>
-    ensures found { IfSome result (IsAddressText text.now) }
-    ensures none { IfNone result (IsNoAddressText text.now) }
+    ensures found { IfSome result (IsTextOfIp text.now) }
+    ensures none { IfNone result (IsNoIpText text.now) }
 {
     let parsed: Result<IpAddr, _> = text.parse();
     match parsed {

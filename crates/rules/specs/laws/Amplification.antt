@@ -5,7 +5,7 @@ use Rattle.std.proofs.Math.Nat.{le-max_left, le-max_right, le_trans}
 use Rattle.std.proofs.lemmas.List.{length-take, length-drop}
 use Rattle.stun.specs.Channels.{ChannelMessage}
 use Rattle.stun.specs.Datagrams.{channel_in, is_channel_data, message_in}
-use Rattle.stun.specs.Messages.{Parts, parts_bytes}
+use Rattle.stun.specs.Messages.{padding_count, attribute_length, Parts, parts_bytes}
 use Rattle.stun.specs.Refusals.{number_at}
 use Rattle.stun.specs.declared.registry.attribute.TheConstants.{DATA, XOR_PEER_ADDRESS}
 use Rattle.stun.specs.declared.registry.Class.TheVariants as class
@@ -33,7 +33,7 @@ use Rattle.tables.specs.Rows.{Rows, rows_at}
 use Rattle.tables.specs.declared.allocation.Allocation.{Allocation}
 use Rattle.events.specs.Events.{Sending}
 use Rattle.fallible.specs.Options.{◌>>=◌, guard}
-use Rattle.rules.specs.Amplification.{IsRelayed, RespondsTo, attribute_length, bytes_sent, challenge_length, longest_unauthenticated}
+use Rattle.rules.specs.Amplification.{IsRelayed, RespondsTo, bytes_sent, challenge_length, longest_unauthenticated}
 use Rattle.rules.specs.Authentication.{IsAuthenticated}
 use Rattle.rules.specs.ByRules.{check_of, control, from_client, message, reply_to_request, reply_with, request_of}
 use Rattle.rules.specs.FastPart.{begins_as_stun}
@@ -44,7 +44,7 @@ use Rattle.rules.specs.laws.Lengths.{IsSpelled, first_value-short, length-reply,
 
 -- ---- responses
 
-address_short : (address : Addr) (transaction_id : List ℕ) → attribute_length (length (address_value address transaction_id)) ≤ 24
+address_short : (address : Addr) (transaction_id : List ℕ) → attribute_length (address_value address transaction_id) ≤ 24
 unfolding address_value xor_bytes
 address_short (V4 ip port) transaction_id = omega arith
 address_short (V6 ip port) transaction_id = omega arith
@@ -60,10 +60,10 @@ length-unknown_value : (kinds : List ℕ) → length (unknown_value kinds) ≡ 2
 length-unknown_value [] = refl
 length-unknown_value (kind ∷ kinds) = omega (arith, length-unknown_value kinds)
 
-unknown_length : (n k : ℕ) → n ≡ 2 * k → k ≤ 16 → attribute_length n ≤ 36
+unknown_length : (n k : ℕ) → n ≡ 2 * k → k ≤ 16 → 4 + n + padding_count n ≤ 36
 unknown_length n k twice few = omega arith
 
-unknown_short : (p : Parts) → attribute_length (length (unknown_value (unknown_types p))) ≤ 36
+unknown_short : (p : Parts) → attribute_length (unknown_value (unknown_types p)) ≤ 36
 unknown_short p = unknown_length _ _ (length-unknown_value (unknown_types p)) (omega (arith, length-take {A = ℕ}))
 
 -- an error that is no challenge

@@ -11,7 +11,7 @@ use Rattle.std.proofs.lemmas.Slice.Eq.{bytes_eq-Decides}
 use Rattle.sha1.specs.Sha1.{digest_bytes, sha1}
 use Rattle.stun.specs.Attributes.{value_of}
 use Rattle.stun.specs.Datagrams.{are_parts, is_message, message_in}
-use Rattle.stun.specs.Messages.{Attribute, PaddedAttribute, Parts, attribute_of, attribute_bytes, attributes_bytes, empty_message, padding_count, parts_bytes, up_to_integrity, with_attribute, zero_padded}
+use Rattle.stun.specs.Messages.{Attribute, PaddedAttribute, Parts, attribute_of, attribute_bytes, attribute_length, attributes_bytes, empty_message, padding_count, parts_bytes, up_to_integrity, with_attribute, zero_padded}
 use Rattle.stun.specs.Reading.{parts_in}
 use Rattle.stun.specs.Registry.{message_integrity}
 use Rattle.stun.specs.declared.registry.Class.{Class}
@@ -21,7 +21,6 @@ use Rattle.credentials.specs.Integrity.{covered_bytes, integrity_of}
 use Rattle.credentials.specs.Signs.{with_integrity}
 use Rattle.control.specs.Replies.{kind_of, reply, signed_if, with_attributes}
 use Rattle.control.specs.declared.request.Request.{Request}
-use Rattle.rules.specs.Amplification.{attribute_length}
 
 -- ---- parts
 
@@ -32,13 +31,13 @@ length-parts p = omega (arith, length-append p.transaction_id (attributes_bytes 
 length-attribute : (a : PaddedAttribute) → length (attribute_bytes a) ≡ 4 + length a.value + length a.padding
 length-attribute a = omega (arith, length-append a.value a.padding)
 
-length-zero_padded : (kind : ℕ) (value : List ℕ) → length (attribute_bytes (zero_padded kind value)) ≡ attribute_length (length value)
+length-zero_padded : (kind : ℕ) (value : List ℕ) → length (attribute_bytes (zero_padded kind value)) ≡ attribute_length value
 length-zero_padded kind value =
     let zero_byte : ℕ = 0 in
     omega (arith, length-attribute (zero_padded kind value), length-replicate (padding_count (length value)) zero_byte)
 
 length-with_attribute : (p : Parts) (kind : ℕ) (value : List ℕ)
-    → length (attributes_bytes (with_attribute p kind value).attributes) ≡ length (attributes_bytes p.attributes) + attribute_length (length value)
+    → length (attributes_bytes (with_attribute p kind value).attributes) ≡ length (attributes_bytes p.attributes) + attribute_length value
 length-with_attribute p kind value =
     let last : List PaddedAttribute = zero_padded kind value ∷ [] in
     omega (
@@ -52,7 +51,7 @@ length-with_attribute p kind value =
 -- the bytes of attributes that are put after others
 abbrev pub length_of_all : List Attribute → ℕ
 length_of_all [] = 0
-length_of_all (a ∷ rest) = attribute_length (length a.value) + length_of_all rest
+length_of_all (a ∷ rest) = attribute_length a.value + length_of_all rest
 
 length-with_attributes : (p : Parts) (attributes : List Attribute)
     → length (attributes_bytes (with_attributes p attributes).attributes) ≡ length (attributes_bytes p.attributes) + length_of_all attributes
@@ -93,7 +92,7 @@ length-with_integrity key p =
       length-parts (with_integrity key p),
       length-parts p,
       length-with_attribute p message_integrity (integrity_of key p),
-      ap attribute_length (length-hmac key (covered_bytes p p.attributes)),
+      ap (λ n. 4 + n + padding_count n) (length-hmac key (covered_bytes p p.attributes)),
     )
 
 -- ---- replies

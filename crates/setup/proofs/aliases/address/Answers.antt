@@ -4,10 +4,10 @@ use Rattle.std.specs.declared.net.ip_addr.IpAddr.{IpAddr}
 use Rattle.std.specs.declared.net.ip_addr.IpAddr.TheVariants as ip
 use Rattle.attributes.specs.declared.address.Addr.{Addr}
 use Rattle.attributes.specs.declared.address.Addr.TheVariants.{V4, V6}
-use Rattle.setup.specs.Aliases.{IsAddressText, IsNoAddressText}
+use Rattle.setup.specs.Aliases.{IsTextOfIp, IsNoIpText}
 use Rattle.setup.proofs.aliases.address.Goals as goal
 
-no_address : (text : List ℕ) → ((a : IpAddr) → ¬ (IsIpText text a)) → IsNoAddressText text
+no_address : (text : List ℕ) → ((a : IpAddr) → ¬ (IsIpText text a)) → IsNoIpText text
 no_address text none (V4 octets port) is = none (ip.V4 is.0) is.1.0
 no_address text none (V6 octets port) is = none (ip.V6 is.0) is.1.0
 
