@@ -69,7 +69,8 @@ class OpenRelay(Confined):
             return super().from_client(client, data)
         peer = record[4:8] if record[1] == IPV4 else record[4:20], int.from_bytes(record[2:4], "big")
         own = self.of(client)
-        if own is None or len(peer[0]) != (4 if own.family == IPV4 else 16) or not self.may_go(own, peer):
+        # a record of eight bytes has no IPv6 address, and is no destination then
+        if own is None or len(peer[0]) == 16 > self.size or len(peer[0]) != (4 if own.family == IPV4 else 16) or not self.may_go(own, peer):
             return None
         return ("p", own.slot, peer, data)
 
@@ -114,7 +115,7 @@ def replays(folder):
     for name, side, model in PROGRAMS:
         program = hostile(folder, name)
         for given, peers, words in (({}, PEERS + STRANGERS, []), (both, PEERS + PEERS6 + STRANGERS + STRANGERS6, ["--relay-ip6", IP6.hex()])):
-            events = [event_of(line) for line, _ in relaying.seeded(9021, 3_000, given.get("ip6"))]
+            events = [event_of(line) for line, _ in relaying.seeded(9021, 2_000, given.get("ip6"))]
             events = list(with_hostile(events, peers, getattr(model, "size", 20)))
             for aliases, more in ((None, []), ([], ["--confine"]), (ALIASES, ["--confine", *alias_words()])):
                 rules = model(USERS, slots=SLOTS, aliases=aliases, **given)
