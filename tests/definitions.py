@@ -5,7 +5,8 @@ nothing internal, and docs/DEFINITIONS.md names every file. No two files define 
 line of a page names in parentheses is in a file of definitions that it links. What a file of definitions names that
 docs/HEADLINE.md lists is listed there too, laws aside. Each file that a page links or names is there, unless it is
 one that a build makes (in a folder `out`), with as many lines as the page says, and so is each decision that the code
-names. There are no more test functions and edits that must fail than CONTRIBUTING.md says.
+names. There are no more test functions and edits that must fail than CONTRIBUTING.md says, those that the gate leaves out
+among them, and each edit can be applied.
 """
 
 import re
@@ -28,6 +29,7 @@ LINKED = re.compile(r"\]\(([^)#:]*specs/[\w/]+\.antt)\)")
 GROUP = re.compile(r"\(((?:`[^\W\d][\w'-]*`(?:, |, and | and )?)+)\)")
 DECISION = re.compile(r'docs/DECISIONS\.md, "([^"]*)"')
 TEST = re.compile(r"^ *#\[test\]$", re.MULTILINE)
+EDIT = re.compile(r"^(file|old|new):(?: (.*))?$", re.MULTILINE)
 # what docs/HEADLINE.md quotes, and the files that have it
 QUOTE = re.compile(r"^```rust\n(.*?)^```", re.MULTILINE | re.DOTALL)
 QUOTED = ("loader/src/loaded.rt", "machine/src/verified_run.rt", "relay/src/amplification.rt", "relay/src/confining.rt",
@@ -36,6 +38,8 @@ QUOTED = ("loader/src/loaded.rt", "machine/src/verified_run.rt", "relay/src/ampl
 MOST_TESTS = 60
 MOST_EDITS = 150
 MOST_EDITS_OF_CRATE = 8
+# the folders of a crate that have them: the gate tries those of the first one, tests/wrong_bodies.py those of the second one
+EDITS = ("must-fail", "wrong-bodies")
 
 
 def specs():
@@ -196,13 +200,39 @@ def failures_of_tests():
         yield f"{count} test functions, and {MOST_TESTS} at most are allowed"
 
 
+def edits_of(crate):
+    """Returns the edits of a crate that must fail, those that the gate leaves out among them."""
+    return sorted(path for folder in EDITS for path in (crate / folder).glob("*.edit"))
+
+
+def lacking(edit):
+    """Returns the first text that an edit replaces and that isn't in its file once; None where it can be applied."""
+    texts, file, old = {}, None, None
+    for word, text in EDIT.findall(edit.read_text(encoding="utf-8")):
+        if word == "file":
+            file = edit.parents[1] / text
+            texts.setdefault(file, file.read_text(encoding="utf-8") if file.exists() else "")
+        elif word == "old":
+            old = text
+        elif texts[file].count(old) != 1:
+            return old
+        else:
+            texts[file] = texts[file].replace(old, text)
+    return None
+
+
 def failures_of_edits():
-    """Yields the numbers of edits that must fail, of a crate and in all, where there are too many."""
-    counts = {crate.name: len(list(crate.glob("must-fail/*.edit"))) for crate in sorted(CRATES.iterdir())}
-    for crate, count in counts.items():
-        if count > MOST_EDITS_OF_CRATE:
-            yield f"crates/{crate}/must-fail: {count} edits, and {MOST_EDITS_OF_CRATE} at most are allowed"
-    total = sum(counts.values())
+    """Yields the edits that can't be applied, and their numbers, of a crate and in all, where there are too many."""
+    total = 0
+    for crate in sorted(CRATES.iterdir()):
+        edits = edits_of(crate)
+        total += len(edits)
+        if len(edits) > MOST_EDITS_OF_CRATE:
+            yield f"crates/{crate.name}: {len(edits)} edits, and {MOST_EDITS_OF_CRATE} at most are allowed"
+        for edit in edits:
+            text = lacking(edit)
+            if text is not None:
+                yield f"{edit.relative_to(TOP)}: its file has this not at all or more than once: {text}"
     if total > MOST_EDITS:
         yield f"{total} edits that must fail, and {MOST_EDITS} at most are allowed"
 
