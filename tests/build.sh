@@ -1,10 +1,15 @@
 #!/usr/bin/env bash
-# Proves and builds relayd, crate by crate, lowest first, and says how far it is. What is up to date is only looked at.
+# Proves and builds relayd where it isn't built yet, or where a source is newer than the program, and says how far it is.
+#
+# It runs the merge gate's own command over a copy that has relayd, the crates below it and none of their must-fail edits:
+# this proves each crate from nothing, as many side by side as there are processors and memory. What is proved is kept on
+# this machine, for the gate and for the next build. Of two builds in one checkout the second waits for the first.
 #
 #   tests/build.sh            builds it
 #   tests/build.sh --list     prints relayd and the crates below it, lowest first
-set -eu
+set -euo pipefail
 top=$(cd "$(dirname "$0")/.." && pwd)
+program=$top/crates/relayd/out/relayd
 log=$top/build.log
 
 # Prints relayd and the crates below it, lowest first: crates.txt has each after those that it uses.
@@ -13,6 +18,17 @@ crates_of_relayd() {
     awk -F: 'BEGIN { used["relayd"] = 1 }
       $1 in used { print $1; count = split($2, below, " "); for (i = 1; i <= count; i++) used[below[i]] = 1 }' |
     tac
+}
+
+# Prints a source of relayd or of a crate below it that is newer than the program, if there is one.
+newer_source() {
+  find "${crates[@]/#/$top/crates/}" "$top/crates.txt" -name out -prune -o \
+    -type f \( -name '*.rt' -o -name '*.antt' -o -name crates.txt \) -newer "$program" -print -quit
+}
+
+# Whether the program is there and no source is newer.
+is_built() {
+  [ -x "$program" ] && [ -z "$(newer_source)" ]
 }
 
 # Stops where the kit isn't there, and warns where it is another one than README.md names.
@@ -29,25 +45,73 @@ check_kit() {
   esac
 }
 
-# Runs a command in a crate's folder, and prints the end of the log where it fails.
-step() {
-  (cd "$top/crates/$1" && shift && "$@") >>"$log" 2>&1 || {
-    tail -n 20 "$log" >&2
-    echo "$1 was not built; the whole log is $log" >&2
-    exit 1
-  }
+# Waits until no other build of this checkout runs. The log is the file that is locked, as long as this script runs.
+wait_for_turn() {
+  exec 9>>"$log"
+  if ! flock --nonblock 9; then
+    echo "another build of relayd runs in this checkout, and this one waits for it: its log is $log" >&2
+    flock 9
+  fi
 }
 
+# Copies relayd and the crates below it to a folder, as a repository of their own, without their edits and what is built.
+copy_crates() {
+  cp "$top/HANDLES" "$1"
+  for crate in "${crates[@]}"; do
+    grep -m 1 "^$crate:" "$top/crates.txt" >>"$1/crates.txt"
+    mkdir -p "$1/crates/$crate"
+    for part in src specs proofs args data stdin stdout status; do
+      if [ -e "$top/crates/$crate/$part" ]; then cp -R "$top/crates/$crate/$part" "$1/crates/$crate"; fi
+    done
+  done
+}
+
+# Writes the lines of the gate's command to the log, and says of each crate that it is proved.
+report_progress() {
+  proved=0
+  while IFS= read -r line; do
+    printf '%s\n' "$line"
+    case $line in
+    *": its tests are proved") ;;
+    "rt: "*" proved" | "rt: "*" is kept: "*)
+      proved=$((proved + 1))
+      name=${line#rt: }
+      echo "$proved of ${#crates[@]}: ${name%% *} is proved, after $((SECONDS / 60)) min $((SECONDS % 60)) s" >&2
+      ;;
+    esac
+  done >"$log"
+}
+
+# Puts the program that was built of a copy in its place, as old as the copy: a source that was changed since then is newer.
+install_program() {
+  mkdir -p "$(dirname "$program")"
+  cp "$1/crates/relayd/out/relayd" "$program.new"
+  touch -r "$1/HANDLES" "$program.new"
+  mv "$program.new" "$program"
+}
+
+mapfile -t crates < <(crates_of_relayd)
 if [ "${1:-}" = --list ]; then
-  crates_of_relayd
+  printf '%s\n' "${crates[@]}"
   exit
 fi
+if is_built; then exit; fi
 check_kit
-mapfile -t crates < <(crates_of_relayd)
-echo "proving and building relayd: ${#crates[@]} crates, about half an hour on 4 processors the first time" >&2
-: >"$log"
-for i in "${!crates[@]}"; do
-  next=${crates[i + 1]:-}
-  echo "$((i + 1)) of ${#crates[@]}: ${crates[i]}${next:+, then $next}" >&2
-  if [ -n "$next" ]; then step "${crates[i]}" rt lib; else step "${crates[i]}" rt run -- --help; fi
-done
+wait_for_turn
+# the build that it waited for may have been of the same sources
+if is_built; then exit; fi
+if [ -x "$program" ]; then
+  newer=$(newer_source)
+  echo "relayd: ${newer#"$top"/} is newer than the program, which is built again" >&2
+fi
+room=$(mktemp -d)
+trap 'rm -rf "$room"' EXIT
+SECONDS=0
+copy_crates "$room"
+echo "proving and building relayd: ${#crates[@]} crates, half an hour to an hour on 4 processors the first time" >&2
+if ! (cd "$room" && exec rt ci) 2>&1 9>&- | report_progress; then
+  tail -n 20 "$log" >&2
+  echo "relayd was not built; the whole log is $log" >&2
+  exit 1
+fi
+install_program "$room"
