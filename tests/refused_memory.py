@@ -5,8 +5,8 @@ error, nothing on standard output, and the status 4. Allocations are counted fro
 preloaded library on, so all those of `main` are counted. And `session_replay`, which makes a refused call once more: it has to
 print the right answers wherever memory is refused in the middle of a replay. And `memory_refusals`, which makes a call
 twice: the one that is refused memory has to name that as its own refusal, with the slot in V19, and the other one to
-give the right answer. And a server that replaces its users, which is refused memory once while it does: it tries again. It
-needs gcc.
+give the right answer. And a server that replaces its users, which is refused memory once while it does: it tries again. As
+many command lines are tried at once as there are processors. It needs gcc.
 """
 
 import os
@@ -14,6 +14,7 @@ import pathlib
 import subprocess
 import sys
 import tempfile
+from concurrent.futures import ThreadPoolExecutor
 
 from lib.program import PROGRAM, TOP, build, finish, preloadable, run
 from lib.rules import REFRESH
@@ -30,8 +31,10 @@ USERS = str(EXAMPLES / "users.txt")
 OUT_OF_MEMORY = (4, "", "out of memory\n")
 # more than the number of any allocation
 EVER = 10**9
-PORT = free_ports(5)
+# the ports of two servers that run at once: none that other servers of this script draw meanwhile
+PORT = free_ports(7, among=(10_000, 19_000))
 SERVER = ["--port", str(PORT), "--first-port", str(PORT + 1)]
+OTHER_SERVER = ["--port", str(PORT + 5), "--first-port", str(PORT + 6)]
 # where metrics are written, the file of a record, which is new in each run, and a secret
 FOLDER = tempfile.TemporaryDirectory()
 RECORD = pathlib.Path(FOLDER.name) / "record"
@@ -63,7 +66,7 @@ CASES = [
     (["replay", "--user", "u:p", "--nonce", "a b", "/dev/null"], 1),
     (["replay", "--secret", str(SECRET), "/dev/null"], 0),
     (["serve", *SERVER, "--user", "u:p", "--slots", "4", "--rounds", "1", "--stats", "1", "--metrics", f"{FOLDER.name}/metrics"], 0),
-    (["serve", *SERVER, "--user", "u:p", "--slots", "1", "--rounds", "1", "--record", str(RECORD), "--log"], 0),
+    (["serve", *OTHER_SERVER, "--user", "u:p", "--slots", "1", "--rounds", "1", "--record", str(RECORD), "--log"], 0),
     (["verify", "no such file"], 3),
     (["verify"], 2),
     (["load"], 2),
@@ -103,7 +106,8 @@ def counted_run(words, program=PROGRAM, events=os.devnull, **environment):
     """
     read_end, write_end = os.pipe()
     given = {**os.environ, "REFUSE_REPORT": str(write_end), **environment}
-    RECORD.unlink(missing_ok=True)
+    if str(RECORD) in words:
+        RECORD.unlink(missing_ok=True)
     with open(events, encoding="utf-8") as stdin:
         end = run(words, program, env=given, pass_fds=[write_end], stdin=stdin)
     os.close(write_end)
@@ -248,11 +252,13 @@ def failures_of_replaced_users(library, folder):
 def main():
     """Runs every case, and returns the exit status."""
     build()
-    with tempfile.TemporaryDirectory() as folder:
-        library = str(preloadable(pathlib.Path(folder), "refuse_malloc"))
-        checks = [failures_of(words, status, library) for words, status in CASES]
-        checks += [failures_of_repeated(library), failures_of_calls(library)]
-        checks.append(failures_of_replaced_users(library, pathlib.Path(folder)))
+    with tempfile.TemporaryDirectory() as name, ThreadPoolExecutor(len(os.sched_getaffinity(0))) as pool:
+        folder = pathlib.Path(name)
+        library = str(preloadable(folder, "refuse_malloc"))
+        works = [pool.submit(failures_of_replaced_users, library, folder), pool.submit(failures_of_repeated, library),
+                 pool.submit(failures_of_calls, library),
+                 *(pool.submit(failures_of, words, status, library) for words, status in CASES)]
+        checks = [work.result() for work in works]
     failures = [failure for found, _ in checks for failure in found]
     runs = sum(count for _, count in checks)
     return finish(failures, f"refused memory: {runs} runs, {len(failures)} failures")

@@ -66,10 +66,10 @@ def address_of(bound):
     return LOOPBACK if bound.family == socket.AF_INET else LOOPBACK6, bound.getsockname()[1]
 
 
-def free_ports(count, address="127.0.0.1"):
+def free_ports(count, address="127.0.0.1", among=(20_000, 32_000)):
     """The first of `count` ports that are free at an address, below the range that the system gives out."""
     while True:
-        first = random.randrange(20_000, 32_000)
+        first = random.randrange(*among)
         with contextlib.ExitStack() as stack, contextlib.suppress(OSError):
             for port in range(first, first + count):
                 stack.enter_context(udp_socket(port, address))
