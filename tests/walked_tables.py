@@ -1,4 +1,4 @@
-"""Runs the tests of tables and control over two bodies of the tables: the sorted one, and one that walks plain lists.
+"""Runs the tests of control_tests over two bodies of the tables: the sorted one, and one that walks plain lists.
 
 In a copy of the crate, the files of tests/walked_tables take the place of those of the same names, and the files that
 search are emptied. So each worked row is tried over sorted lists and over a body that is believed at sight. Nothing is
@@ -78,7 +78,7 @@ def main():
         failures.append(f"walked_tables: {count} tests over the sorted body, and {walked_count} over the walked one")
     if failures:
         sys.exit("\n".join(failures))
-    print(f"walked_tables: {count} tests of tables and control passed over both bodies")
+    print(f"walked_tables: {count} tests of {TESTS} passed over both bodies")
     return 0
 
 

@@ -8,8 +8,6 @@ mod file;
 mod printing;
 mod refusing;
 mod searching;
-#[cfg(test)]
-mod tests;
 mod text;
 
 pub use error::ExplainError;

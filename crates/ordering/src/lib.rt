@@ -9,8 +9,6 @@ mod laws;
 mod pass;
 mod search;
 mod tail;
-#[cfg(test)]
-mod tests;
 
 pub use error::OrderError;
 pub use file::{FileError, order_file};

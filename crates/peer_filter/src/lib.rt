@@ -6,8 +6,6 @@ mod filter;
 mod laws;
 mod network;
 mod rule;
-#[cfg(test)]
-mod tests;
 mod text;
 
 pub use filter::{FilterError, MAX_ENDPOINTS, MAX_RULES, PeerFilter};

@@ -1,9 +1,10 @@
 //! Networks that are parsed or refused, decisions worked out by hand, and the limits of a filter.
 
-use crate::filter::{FilterError, MAX_ENDPOINTS, MAX_RULES, PeerFilter};
-use crate::network::{Network, NetworkError};
-use crate::rule::{Action, Loopback, Rule, ServerEndpoint};
 use attributes::Addr;
+use peer_filter::{
+    Action, FilterError, Loopback, MAX_ENDPOINTS, MAX_RULES, Network, NetworkError, PeerFilter,
+    Rule, ServerEndpoint,
+};
 use std::alloc::{AllocError, Global};
 use std::net::{Ipv4Addr, Ipv6Addr};
 use std::process::Abort;
@@ -88,7 +89,7 @@ fn check_written(rt: &impl Abort) {
     }
 }
 
-fn check_(rt: &impl Abort) {
+fn check_refused(rt: &impl Abort) {
     use NetworkError::{Bits, HostBits, NotANetwork};
     for (text, error) in [
         ("", NotANetwork),
@@ -129,7 +130,7 @@ fn check_(rt: &impl Abort) {
 #[test]
 fn networks_are_parsed(rt: HostRuntime) -> Result<(), Fail> {
     check_written(&rt);
-    check_(&rt);
+    check_refused(&rt);
     for (error, text) in [
         (NetworkError::NotANetwork, "not ADDRESS/BITS"),
         (NetworkError::Bits, "more bits than the address has"),

@@ -1,8 +1,7 @@
 //! Programs that are put in order or refused, worked out by hand.
 
-use crate::error::OrderError;
-use crate::pass::order;
 use insn::{Condition, Insn, Operand, Reg, Width, decode, encode};
+use ordering::{OrderError, order};
 use semantics::Reason;
 use std::alloc::{AllocError, Global};
 use std::process::Abort;

@@ -1,7 +1,7 @@
 //! Explanations of programs, worked out by hand.
 
-use crate::file::explain_file;
 use asm::assemble;
+use explaining::explain_file;
 use std::process::Abort;
 use std::test::Fail;
 
