@@ -7,9 +7,10 @@ use Rattle.std.proofs.lemmas.List.Elements.{All-from_get_or}
 use Rattle.stun.specs.Endian.{big_number, big_bytes}
 use Rattle.stun.specs.Numbers.{big_from-lt}
 use Rattle.stun.specs.Registry.{magic_cookie}
-use Rattle.attributes.specs.Addresses.{HasWidth, IsAddressValue, cookie_half, ipv6_mask, xor_bytes}
-use Rattle.attributes.specs.declared.address.Addr.{Addr}
-use Rattle.attributes.specs.declared.address.Addr.TheVariants.{V4, V6}
+use Rattle.addresses.specs.Addresses.{HasWidth}
+use Rattle.attributes.specs.Addresses.{IsAddressValue, cookie_half, ipv6_mask, xor_bytes}
+use Rattle.addresses.specs.declared.address.Addr.{Addr}
+use Rattle.addresses.specs.declared.address.Addr.TheVariants.{V4, V6}
 use Rattle.attributes.specs.laws.Number.{bytes_back}
 use Rattle.attributes.proofs.Masks.{twice, read_back}
 

@@ -1,4 +1,3 @@
-pub mod ByteOrder
 pub mod Numbers
 pub mod Masks
 pub mod Addresses

@@ -8,8 +8,8 @@ use Rattle.stun.specs.Endian.{big_from, big_number, big_bytes}
 use Rattle.stun.specs.Numbers.{big_number-reads_back, big_from-lt, length-bytes_high_first}
 use Rattle.stun.specs.Registry.{magic_cookie}
 use Rattle.attributes.specs.Addresses.{IsAddressValue, address_value, ipv6_mask, xor_bytes}
-use Rattle.attributes.specs.declared.address.Addr.{Addr}
-use Rattle.attributes.specs.declared.address.Addr.TheVariants.{V4, V6}
+use Rattle.addresses.specs.declared.address.Addr.{Addr}
+use Rattle.addresses.specs.declared.address.Addr.TheVariants.{V4, V6}
 use Rattle.attributes.specs.laws.Number.{bytes_back, all_fit}
 
 pub twice : (a mask : ℕ) → bit_xor (bit_xor a mask) mask ≡ a

@@ -1,14 +1,13 @@
 -- Meaning. The values of XOR addresses (RFC 8489, section 14.2).
-use Rattle.std.specs.Prelude.{◌≡◌, ℕ, ◌/◌, ◌<◌, Bool, true, false, ◌&&◌, List, ◌∷◌, ◌++◌, length, drop, slice_index, bit_xor, nat_eq, Option, Some, None, if◌then◌else◌}
+use Rattle.std.specs.Prelude.{◌≡◌, ℕ, ◌/◌, Bool, ◌&&◌, List, ◌∷◌, ◌++◌, length, drop, slice_index, bit_xor, nat_eq, Option, Some, None, if◌then◌else◌}
 use Rattle.stun.specs.Endian.{big_bytes, big_number}
 use Rattle.stun.specs.Registry.{magic_cookie}
 use Rattle.stun.specs.declared.registry.family.TheConstants.{IPV4, IPV6}
 use Rattle.stun.specs.Builders.{parts_of}
 use Rattle.stun.specs.declared.building.Builder.{Builder}
-use Rattle.attributes.specs.declared.address.Addr.{Addr}
-use Rattle.attributes.specs.declared.address.Family.{Family}
-use Rattle.attributes.specs.declared.address.Family.TheVariants.{Ipv4, Ipv6}
-use Rattle.attributes.specs.declared.address.Addr.TheVariants.{V4, V6}
+use Rattle.addresses.specs.Addresses.{IsAddress}
+use Rattle.addresses.specs.declared.address.Addr.{Addr}
+use Rattle.addresses.specs.declared.address.Addr.TheVariants.{V4, V6}
 
 -- the upper 16 bits of the cookie
 abbrev pub cookie_half : ℕ
@@ -21,36 +20,6 @@ ipv6_mask transaction_id = big_number 16 (big_bytes 4 magic_cookie ++ transactio
 -- n bytes, as a number xored with a mask
 unfoldable pub xor_bytes : ℕ → List ℕ → ℕ → List ℕ
 xor_bytes n bytes mask = big_bytes n (bit_xor (big_number n bytes) mask)
-
--- an address has the bytes of its family, and a port of 16 bits
-pub record HasWidth (n : ℕ) (ip : List ℕ) (port : ℕ) : Type 0 where
-  pub long : length ip ≡ n
-  pub bytes : (i : ℕ) → slice_index ip i < 256
-  pub small : port < 0x10000
-
-abbrev pub IsAddress : Addr → Type 0
-IsAddress (V4 ip port) = HasWidth 4 ip port
-IsAddress (V6 ip port) = HasWidth 16 ip port
-
-abbrev pub IsIpv4Address : Addr → Type 0
-IsIpv4Address (V4 ip port) = HasWidth 4 ip port
-IsIpv4Address (V6 ip port) = ⊥
-
--- whether an address is one of a family
-abbrev pub is_of_family : Family → Addr → Bool
-is_of_family Ipv4 (V4 ip port) = true
-is_of_family Ipv4 (V6 ip port) = false
-is_of_family Ipv6 (V4 ip port) = false
-is_of_family Ipv6 (V6 ip port) = true
-
--- the bytes of the IP address, and the port
-abbrev pub ip_of : Addr → List ℕ
-ip_of (V4 ip port) = ip
-ip_of (V6 ip port) = ip
-
-abbrev pub port_of : Addr → ℕ
-port_of (V4 ip port) = port
-port_of (V6 ip port) = port
 
 -- after the first byte: the family, the port xored with half the cookie, and the address xored with the cookie, for
 -- IPv6 with the cookie followed by the transaction id

@@ -1,4 +1,2 @@
 -- Interface. The laws of the definitions, which are proved, so that nobody has to believe them.
-pub mod Address
-pub mod AddressOrder
 pub mod Number

@@ -6,77 +6,15 @@ ghost use Rattle.stun.specs.Endian.{big_bytes};
 ghost use Rattle.stun.specs.Builders.{used_of, capacity_of, SameBuffer, Appends, HasNoRoom};
 ghost use Rattle.stun.specs.Registry.{magic_cookie};
 ghost use Rattle.stun.specs.declared.registry.family.TheConstants.{IPV4, IPV6};
-ghost use Rattle.attributes.specs.Addresses.{HasWidth, IsAddress, IsAddressValue, address_value, address_in, port_in, address_value_in, cookie_half, ipv6_mask, xor_bytes};
-ghost use Rattle.attributes.specs.declared.address.Addr as addr;
+ghost use Rattle.attributes.specs.Addresses.{IsAddressValue, address_value, address_in, port_in, address_value_in, cookie_half, ipv6_mask, xor_bytes};
+ghost use Rattle.addresses.specs.declared.address.Addr as addr;
 ghost use Rattle.attributes.specs.declared.refusal.ValueKind.TheVariants as kinds;
 
 use crate::refusal::{ValueError, ValueKind};
+use addresses::{Addr, law_is_address};
 use byteorder::{BigEndian, ByteOrder};
 use stun::registry::{MAGIC_COOKIE, family};
 use stun::{Builder, NoRoom};
-
-/// A family of IP addresses (RFC 8656, section 18.8).
-#[derive(Clone, Copy, Debug, PartialEq, Eq)]
-pub enum Family {
-    Ipv4,
-    Ipv6,
-}
-
-/// A transport address: an IP address and a port.
-#[derive(Clone, Copy, Debug, PartialEq, Eq)]
-pub enum Addr {
-    V4 { ip: [u8; 4], port: u16 },
-    V6 { ip: [u8; 16], port: u16 },
-}
-
-impl Addr {
-    ghost use Rattle.std.specs.Prelude.{◌≡◌};
-    ghost use Rattle.attributes.specs.Addresses.{ip_of, is_of_family, port_of};
-
-    /// Returns the bytes of the IP address: 4 of IPv4, 16 of IPv6.
-    pub fn ip(&self) -> &[u8]
-        ensures { result.now ≡ ip_of self.now }
-    {
-        match self {
-            Addr::V4 { ip, .. } => ip,
-            Addr::V6 { ip, .. } => ip,
-        }
-    }
-
-    /// Returns whether the address is one of a family.
-    pub fn is_of_family(&self, family: Family) -> bool
-        ensures { result ≡ is_of_family family self.now }
-    {
-        match (family, self) {
-            (Family::Ipv4, Addr::V4 { .. }) | (Family::Ipv6, Addr::V6 { .. }) => true,
-            _ => false,
-        }
-    }
-
-    /// Returns the port.
-    pub fn port(&self) -> u16
-        ensures { result ≡ port_of self.now }
-    {
-        match self {
-            Addr::V4 { port, .. } | Addr::V6 { port, .. } => *port,
-        }
-    }
-}
-
-impl Default for Addr {
-    ghost use Rattle.std.specs.Prelude.{◌≡◌, ◌∷◌, []};
-    ghost use Rattle.attributes.specs.declared.address.Addr.TheVariants.{V4};
-
-    /// Returns the unspecified address of IPv4, 0.0.0.0, with the port 0.
-    fn default() -> Self
-        ensures { result ≡ V4 (0 ∷ 0 ∷ 0 ∷ 0 ∷ []) 0 }
-    {
-        Addr::V4 {
-            ip: [0; 4],
-            port: 0,
-        }
-    }
-}
 
 /// The length of the value of an IPv4 address, in bytes.
 const IPV4_BYTES: usize = 8;
@@ -144,14 +82,20 @@ pub fn read_xor_addr(value: &[u8], transaction_id: &[u8; 12]) -> Result<Addr, Va
     ensures refused { IfErr result (λ e. (a : addr.Addr) → IsAddressValue a transaction_id.now value.now → ⊥) }
 {
     if value.len() == IPV4_BYTES && value[1] == family::IPV4 {
-        let (ip, port) = (ipv4_in(value), port_in(value));
-        law_has_width(&ip, port);
-        return Ok(Addr::V4 { ip, port });
+        let address = Addr::V4 {
+            ip: ipv4_in(value),
+            port: port_in(value),
+        };
+        law_is_address(&address);
+        return Ok(address);
     }
     if value.len() == IPV6_BYTES && value[1] == family::IPV6 {
-        let (ip, port) = (ipv6_in(value, transaction_id), port_in(value));
-        law_has_width(&ip, port);
-        return Ok(Addr::V6 { ip, port });
+        let address = Addr::V6 {
+            ip: ipv6_in(value, transaction_id),
+            port: port_in(value),
+        };
+        law_is_address(&address);
+        return Ok(address);
     }
     Err(ValueError(ValueKind::Address))
 }
@@ -237,23 +181,6 @@ pub fn law_values_are_short()
 fn law_are_bytes(bytes: &[u8])
     ensures { (i : ℕ) → slice_index bytes.now i < 256 }
 {}
-
-/// States that an address of `N` bytes and its port have their widths.
-fn law_has_width<const N: usize>(ip: &[u8; N], port: u16)
-    ensures { HasWidth N ip.now port }
-{
-    law_are_bytes(ip);
-}
-
-/// States that an address has the bytes of its family, and a port of 16 bits.
-pub fn law_is_address(address: &Addr)
-    ensures { IsAddress address.now }
-{
-    match address {
-        Addr::V4 { ip, port } => law_has_width(ip, *port),
-        Addr::V6 { ip, port } => law_has_width(ip, *port),
-    }
-}
 
 /// Reads an address back from its value, which may have any first byte: this always succeeds.
 pub fn read_back(

@@ -1,17 +1,16 @@
-//! The values of attributes: addresses, lifetimes, channel numbers, transports, families and errors.
+//! The values of attributes: XOR addresses, lifetimes, channel numbers, transports, families and errors.
 #![tactic(auto)]
 
 mod address;
 mod error;
 mod number;
-mod order;
 mod refusal;
-mod text;
 
 pub use address::{
-    Addr, Family, law_addresses_are_unique, law_is_address, law_values_are_short, push_xor_addr,
-    read_back, read_xor_addr, write_xor_addr,
+    law_addresses_are_unique, law_values_are_short, push_xor_addr, read_back, read_xor_addr,
+    write_xor_addr,
 };
+pub use addresses::{Addr, Family, law_is_address};
 pub use error::{push_error, push_unknown, write_error, write_unknown};
 pub use number::{
     channel_number, law_lifetimes_are_read_back, law_numbers_are_unique, lifetime,

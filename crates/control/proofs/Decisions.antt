@@ -8,8 +8,8 @@ use Rattle.stun.specs.declared.registry.attribute.TheConstants.{XOR_PEER_ADDRESS
 use Rattle.stun.specs.declared.registry.ErrorCode.TheVariants.{AllocationMismatch, WrongCredentials, PeerAddressFamilyMismatch}
 use Rattle.std.proofs.lemmas.Option.{none-some, same_Some}
 use Rattle.stun.specs.declared.registry.ErrorCode.{ErrorCode}
-use Rattle.attributes.specs.Addresses.{is_of_family}
-use Rattle.attributes.specs.declared.address.Addr.{Addr}
+use Rattle.addresses.specs.Addresses.{is_of_family}
+use Rattle.addresses.specs.declared.address.Addr.{Addr}
 use Rattle.tables.specs.Changes.{Change, Follows, permit_change, permission_end}
 use Rattle.tables.specs.LookUps.{held_in, allocation_of}
 use Rattle.tables.specs.Permissions.{with_all}

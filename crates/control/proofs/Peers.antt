@@ -10,9 +10,10 @@ use Rattle.std.proofs.lemmas.List.{length-append}
 use Rattle.fallible.specs.Fallible.{◌>>=◌}
 use Rattle.stun.specs.declared.registry.ErrorCode.{ErrorCode}
 use Rattle.stun.specs.declared.registry.ErrorCode.TheVariants.{BadRequest}
-use Rattle.attributes.specs.Addresses.{ip_of, is_of_family, address_in}
-use Rattle.attributes.specs.declared.address.Family.{Family}
-use Rattle.attributes.specs.declared.address.Addr.{Addr}
+use Rattle.addresses.specs.Addresses.{ip_of, is_of_family}
+use Rattle.attributes.specs.Addresses.{address_in}
+use Rattle.addresses.specs.declared.address.Family.{Family}
+use Rattle.addresses.specs.declared.address.Addr.{Addr}
 use Rattle.tables.specs.Permissions.{PermissionMap, with_all}
 use Rattle.tables.specs.laws.Permit.{HasIp, AreDistinct, permitted_again, permitted_many, distinct_push, StandsFor}
 use Rattle.tables.specs.declared.permissions.TheConstants.{MAX_PERMISSIONS}

@@ -3,15 +3,12 @@ use Rattle.std.specs.Prelude.{ℕ, ◌+◌, Bool, true, not, ◌&&◌, List, [],
 use Rattle.std.specs.declared.alloc.Global.{Global}
 use Rattle.std.specs.List.{list_all, list_any}
 use Rattle.stun.specs.Ranges.{is_between}
+use Rattle.credentials.specs.Texts.{is_text, is_nonce}
 use Rattle.credentials.specs.declared.checking.User.{User}
 use Rattle.control.specs.declared.config.TheConstants.{MAX_TEXT}
 use Rattle.control.specs.declared.config.Config.{Config}
 use Rattle.control.specs.declared.config.Field.{Field}
 use Rattle.control.specs.declared.config.Field.TheVariants.{FirstPort, Slots, Realm, Nonce, Users, Secret}
-
--- printable bytes from the lowest on, at least one of them
-abbrev pub is_text : ℕ → ℕ → List ℕ → Bool
-is_text lowest longest text = is_between 1 longest (length text) && list_all (is_between lowest 0x7e) text
 
 -- a name has no blank, and no colon, which ends it where user and password are written as one
 abbrev pub is_user_name : List ℕ → Bool
@@ -36,10 +33,6 @@ least_users has_secret = if has_secret then 0 else 1
 -- whether these can be the users of a relay
 abbrev pub are_users : Bool → List User → Bool
 are_users has_secret users = is_between (least_users has_secret) 64 (length users) && list_all is_user users && are_distinct users
-
--- a nonce has no blank
-abbrev pub is_nonce : List ℕ → Bool
-is_nonce nonce = is_text 0x21 64 nonce
 
 -- the secret of time-limited credentials, if there is one, has any bytes
 abbrev pub is_secret : Option (Vec ℕ Global) → Bool

@@ -10,10 +10,10 @@ use Rattle.stun.specs.declared.registry.attribute.TheConstants.{CHANNEL_NUMBER, 
 use Rattle.stun.specs.declared.registry.family.TheConstants.{IPV4, IPV6}
 use Rattle.stun.specs.declared.registry.ErrorCode.{ErrorCode}
 use Rattle.stun.specs.declared.registry.ErrorCode.TheVariants.{BadRequest, Unauthenticated, UnknownAttribute, AllocationMismatch, StaleNonce, AddressFamilyNotSupported, WrongCredentials, UnsupportedTransport, PeerAddressFamilyMismatch, InsufficientCapacity}
-use Rattle.attributes.specs.declared.address.Addr.{Addr}
+use Rattle.addresses.specs.declared.address.Addr.{Addr}
 use Rattle.attributes.specs.Addresses.{address_in}
-use Rattle.attributes.specs.declared.address.Family.{Family}
-use Rattle.attributes.specs.declared.address.Family.TheVariants.{Ipv4, Ipv6}
+use Rattle.addresses.specs.declared.address.Family.{Family}
+use Rattle.addresses.specs.declared.address.Family.TheVariants.{Ipv4, Ipv6}
 use Rattle.attributes.specs.Values.{number_of_value}
 use Rattle.credentials.specs.Checks.{first_value}
 use Rattle.credentials.specs.declared.checking.AuthError.{AuthError}

@@ -4,8 +4,9 @@ use Rattle.std.specs.List.{list_any}
 use Rattle.stun.specs.Attributes.{values_of}
 use Rattle.stun.specs.Messages.{Parts, message_of}
 use Rattle.stun.specs.declared.registry.attribute.TheConstants.{XOR_PEER_ADDRESS}
-use Rattle.attributes.specs.Addresses.{ip_of, address_in}
-use Rattle.attributes.specs.declared.address.Addr.{Addr}
+use Rattle.addresses.specs.Addresses.{ip_of}
+use Rattle.attributes.specs.Addresses.{address_in}
+use Rattle.addresses.specs.declared.address.Addr.{Addr}
 use Rattle.control.specs.declared.create_permission.TheConstants.{MAX_PEERS}
 
 -- the addresses that are well formed

@@ -13,10 +13,10 @@ use Rattle.stun.specs.declared.registry.Method.TheVariants as method
 use Rattle.stun.specs.declared.registry.attribute.TheConstants.{ERROR_CODE, UNKNOWN_ATTRIBUTES, LIFETIME, REALM, NONCE, XOR_RELAYED_ADDRESS, XOR_MAPPED_ADDRESS}
 use Rattle.attributes.specs.Addresses.{address_value}
 use Rattle.attributes.specs.Errors.{error_value, unknown_value}
-use Rattle.attributes.specs.declared.address.Addr.{Addr}
-use Rattle.attributes.specs.declared.address.Addr.TheVariants.{V4, V6}
-use Rattle.attributes.specs.declared.address.Family.{Family}
-use Rattle.attributes.specs.declared.address.Family.TheVariants.{Ipv4, Ipv6}
+use Rattle.addresses.specs.declared.address.Addr.{Addr}
+use Rattle.addresses.specs.declared.address.Addr.TheVariants.{V4, V6}
+use Rattle.addresses.specs.declared.address.Family.{Family}
+use Rattle.addresses.specs.declared.address.Family.TheVariants.{Ipv4, Ipv6}
 use Rattle.credentials.specs.Signs.{with_integrity}
 use Rattle.control.specs.Unknown.{unknown_types}
 use Rattle.control.specs.declared.config.Config.{Config}

@@ -6,8 +6,8 @@ use Rattle.stun.specs.Builders.{bytes_of, parts_of, used_of, capacity_of, SameBu
 use Rattle.stun.specs.Messages.{Attribute, Parts}
 use Rattle.stun.specs.declared.building.Builder.{Builder}
 use Rattle.stun.specs.declared.registry.ErrorCode.{ErrorCode}
-use Rattle.attributes.specs.Addresses.{is_of_family}
-use Rattle.attributes.specs.declared.address.Family.{Family}
+use Rattle.addresses.specs.Addresses.{is_of_family}
+use Rattle.addresses.specs.declared.address.Family.{Family}
 use Rattle.tables.specs.Rows.{Rows}
 use Rattle.control.specs.Control.{Decision, rows_after, peers_in}
 use Rattle.control.specs.Replies.{with_attributes}

@@ -2,11 +2,10 @@
 
 ghost use Rattle.std.specs.Prelude.{◌≡◌};
 ghost use Rattle.std.specs.List.{list_all};
-ghost use Rattle.stun.specs.Ranges.{is_between};
-ghost use Rattle.control.specs.Configs.{is_text, is_nonce, is_user, has_name, are_distinct, are_users, is_secret};
+ghost use Rattle.control.specs.Configs.{is_user, has_name, are_distinct, are_users, is_secret};
 
 use arrayvec::ArrayString;
-use credentials::User;
+use credentials::{User, is_nonce, is_text};
 use std::fmt;
 
 /// The greatest length of a realm, of a user's name, of a password and of a secret, in bytes.
@@ -70,27 +69,6 @@ const FIELDS: [Field; 6] = [
     Field::Users,
     Field::Secret,
 ];
-
-/// Returns whether each byte lies between `lowest` and `~`.
-fn are_printable(text: &[u8], lowest: u8) -> bool
-    ensures { result ≡ list_all (is_between lowest 0x7e) text.now }
-{
-    text.iter().all(|byte| (lowest..=b'~').contains(byte))
-}
-
-/// Returns whether a text has at least one byte and at most `longest`, each between `lowest` and `~`.
-fn is_text(text: &[u8], lowest: u8, longest: usize) -> bool
-    ensures { result ≡ is_text lowest longest text.now }
-{
-    (1..=longest).contains(&text.len()) && are_printable(text, lowest)
-}
-
-/// Returns whether a text can be a nonce: 1 to 64 bytes of 0x21 to 0x7E.
-pub fn is_nonce(text: &str) -> bool
-    ensures { result ≡ is_nonce text.now }
-{
-    is_text(text.as_bytes(), 0x21, 64)
-}
 
 /// Returns whether a user's name and password lie within their limits.
 fn is_user(user: &User) -> bool

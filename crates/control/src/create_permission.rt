@@ -2,8 +2,8 @@
 
 ghost use Rattle.std.specs.Prelude.{◌≡◌, ◌≤◌, bytes_eq, true, Ok, length};
 ghost use Rattle.std.specs.List.{list_all, list_any};
-ghost use Rattle.attributes.specs.declared.address.Family.{Family};
-ghost use Rattle.attributes.specs.Addresses.{ip_of, is_of_family};
+ghost use Rattle.addresses.specs.declared.address.Family.{Family};
+ghost use Rattle.addresses.specs.Addresses.{ip_of, is_of_family};
 ghost use Rattle.tables.specs.Moments.{moment_of};
 ghost use Rattle.tables.specs.Rows.{rows_at};
 ghost use Rattle.control.specs.Serving.{Gives, are_of};

@@ -102,7 +102,7 @@ fn has_name(user: &User, name: &[u8]) -> bool
 }
 
 /// Returns whether a value of NONCE is this nonce.
-fn is_nonce(given: &[u8], nonce: &str) -> bool
+fn is_current_nonce(given: &[u8], nonce: &str) -> bool
     ensures { Decides result (given.now ≡ nonce.now) }
 {
     given == nonce.as_bytes()
@@ -144,7 +144,7 @@ fn presented<'a>(message: &Message<'a>, nonce: &str) -> Result<(&'a [u8], &'a [u
     let name = found.name.ok_or(AuthError::Incomplete)?;
     found.realm.ok_or(AuthError::Incomplete)?;
     let given = found.nonce.ok_or(AuthError::Incomplete)?;
-    if !is_nonce(given, nonce) {
+    if !is_current_nonce(given, nonce) {
         return Err(AuthError::StaleNonce);
     }
     Ok((integrity, name))

@@ -7,6 +7,7 @@ mod hmac;
 mod key;
 mod scanning;
 mod signing;
+mod text;
 mod time_limited;
 
 pub use checking::{
@@ -18,4 +19,5 @@ pub use key::Key;
 pub use signing::{
     law_what_is_signed_is_accepted, law_what_is_signed_is_right, push_integrity, sign,
 };
+pub use text::{is_nonce, is_text};
 pub use time_limited::TimeLimited;

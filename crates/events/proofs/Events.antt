@@ -7,7 +7,7 @@ use Rattle.std.specs.Str.{IsUtf8}
 use Rattle.std.proofs.lemmas.Bool.{cases_Bool, cond-true, cond-false, and_parts, leb-true}
 use Rattle.std.proofs.lemmas.Option.{same_Some, none-some}
 use Rattle.std.proofs.lemmas.Str.{IsUtf8-from_ascii}
-use Rattle.control.specs.Configs.{is_nonce}
+use Rattle.credentials.specs.Texts.{is_nonce}
 use Rattle.events.specs.Events.{Event, Nonce}
 use Rattle.events.specs.Lines.{line_of, IsEvent}
 use Rattle.events.specs.Reading.{parts_around, event_in, event_by, client_in_text, peer_in, datagram_in_text, nonce_in}

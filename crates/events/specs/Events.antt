@@ -1,6 +1,6 @@
 -- Meaning. What comes to a relay, and what it sends.
 use Rattle.std.specs.Prelude.{ℕ, List}
-use Rattle.attributes.specs.declared.address.Addr.{Addr}
+use Rattle.addresses.specs.declared.address.Addr.{Addr}
 use Rattle.events.specs.declared.meta.Meta.{Meta}
 
 -- a datagram with what is known of it, or a new nonce

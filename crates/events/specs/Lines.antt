@@ -1,9 +1,9 @@
 -- Meaning. Events and answers as lines of text: each has one line, here without its line feed.
 use Rattle.std.specs.Prelude.{◌≡◌, ℕ, ◌^◌, ◌<◌, ◌≤◌, true, List, [], ◌∷◌, ◌++◌, length, codes, decimal, Option, None, Some}
 use Rattle.hex.specs.Hex.{encode_lower, IsBytes}
-use Rattle.attributes.specs.Addresses.{IsAddress}
-use Rattle.attributes.specs.AddressTexts.{address_text}
-use Rattle.control.specs.Configs.{is_nonce}
+use Rattle.addresses.specs.Addresses.{IsAddress}
+use Rattle.addresses.specs.AddressTexts.{address_text}
+use Rattle.credentials.specs.Texts.{is_nonce}
 use Rattle.semantics.specs.declared.limits.TheConstants.{MAX_DATAGRAM}
 use Rattle.events.specs.Events.{Event, Datagram, Nonce, Sending, ToPeer, ToClient}
 use Rattle.events.specs.declared.meta.Meta.{Meta}

@@ -4,7 +4,7 @@ ghost use Rattle.std.specs.Prelude.{◌≡◌, ◌+◌, ◌*◌, ◌≤◌, ◌+
 ghost use Rattle.std.specs.List.{flat_map};
 ghost use Rattle.arrayvec.specs.ArrayVec.{array_vec_len};
 ghost use Rattle.hex.specs.Hex.{encode_lower};
-ghost use Rattle.attributes.specs.AddressTexts.{address_text, dotted_decimal, hex_digits};
+ghost use Rattle.addresses.specs.AddressTexts.{address_text, dotted_decimal, hex_digits};
 ghost use Rattle.events.specs.Lines.{side_text, source_text};
 ghost use Rattle.events.specs.declared.fronts.TheConstants.{FRONT};
 

@@ -10,7 +10,7 @@ ghost use Rattle.events.specs.Reading.{parts_around, ipv4_in, is_bracketed, ipv6
 
 use crate::meta::{Meta, Source};
 use attributes::Addr;
-use control::is_nonce;
+use credentials::is_nonce;
 use decimal::number;
 use semantics::MAX_DATAGRAM;
 

@@ -3,15 +3,15 @@ use Rattle.std.specs.Prelude.{ℕ, Bool, ◌==◌, ◌&&◌, Option, Some, None,
 use Rattle.std.specs.Option.{option_and_then}
 use Rattle.semantics.specs.Calls.{is_valid, no_address}
 use Rattle.semantics.specs.Machine.{AddressRecord}
-use Rattle.attributes.specs.declared.address.Addr.{Addr}
+use Rattle.addresses.specs.declared.address.Addr.{Addr}
 use Rattle.tables.specs.Rows.{Rows}
 use Rattle.tables.specs.declared.held.Held.{Held}
 use Rattle.tables.specs.LookUps.{held_in, bound_peer, bound_channel, permission_of}
-use Rattle.attributes.specs.declared.address.Addr.TheVariants.{V4, V6}
+use Rattle.addresses.specs.declared.address.Addr.TheVariants.{V4, V6}
 use Rattle.semantics.specs.declared.helper.RecordForm.{RecordForm}
 use Rattle.semantics.specs.declared.helper.RecordForm.TheVariants.{Narrow, Wide}
-use Rattle.helpers.specs.Records.{address_of, wide_record}
-use Rattle.helpers.specs.Nothing.{empty_answer}
+use Rattle.semantics.specs.Records.{address_of, wide_record}
+use Rattle.semantics.specs.Nothing.{empty_answer}
 
 -- 1 and the record of a peer, or 0 and zeros; a record of IPv4 has no IPv6 peer
 abbrev pub peer_answer : RecordForm → Option Addr → ℕ × AddressRecord

@@ -1,10 +1,7 @@
-//! The helpers that programs call to look up channels and permissions.
+//! The look-ups of the helpers that programs call, in the tables of a relay.
 #![tactic(auto)]
 
-mod answers;
-mod record;
 mod tables_lookup;
 
-pub use answers::{Helpers, NoAllocation};
-pub use record::{address_of, address_record, wide_record};
+pub use semantics::{Helpers, NoAllocation, address_of, address_record, wide_record};
 pub use tables_lookup::Lookup;

@@ -3,13 +3,11 @@
 ghost use Rattle.std.specs.Prelude.{◌≡◌, Some, is_some};
 ghost use Rattle.semantics.specs.Runs.{IsLawful};
 ghost use Rattle.tables.specs.LookUps.{bound_peer};
-ghost use Rattle.helpers.specs.laws.Lawful.{IsLawful-prop};
+ghost use Rattle.semantics.specs.laws.Lawful.{IsLawful-prop};
 ghost use Rattle.helpers.specs.LookUps.{held_answer, peer_answer, channel_answer, permission_answer};
 
-use crate::answers::Helpers;
-use crate::record::{address_of, wide_record};
-use attributes::Addr;
-use semantics::{RecordForm, WIDE_RECORD_BYTES, is_valid};
+use addresses::Addr;
+use semantics::{Helpers, RecordForm, WIDE_RECORD_BYTES, address_of, is_valid, wide_record};
 use tables::LiveSlot;
 
 /// The helpers that look up in the slot of a client's allocation, or of a relayed address, as it is at a moment. Without an

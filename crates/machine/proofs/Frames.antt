@@ -21,11 +21,11 @@ use Rattle.machine.specs.declared.context.Context.{Context}
 use Rattle.machine.specs.laws.Frame.{datagram_inside}
 use Rattle.semantics.specs.Views.{memory_with}
 use Rattle.semantics.specs.declared.fetching.Visit.{Visit}
-use Rattle.helpers.specs.Records.{address_of}
+use Rattle.semantics.specs.Records.{address_of}
 use Rattle.machine.specs.Contexts.{HelperAnswers}
 use Rattle.machine.specs.Execution.{IsWholeRun, RunsOver}
 use Rattle.machine.specs.Tracing.{environment_of, run_of, left_by, IsFrameRun, Shows}
-use Rattle.attributes.specs.declared.address.Addr.{Addr}
+use Rattle.addresses.specs.declared.address.Addr.{Addr}
 use Rattle.machine.specs.declared.execution.Exit.{Exit}
 use Rattle.machine.specs.declared.outcome.Stuck.{Stuck}
 

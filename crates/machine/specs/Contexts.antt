@@ -2,7 +2,7 @@
 use Rattle.std.specs.Prelude.{ℕ}
 use Rattle.semantics.specs.Machine as machine
 use Rattle.semantics.specs.Machine.{AddressRecord}
-use Rattle.helpers.specs.Records.{address_record, wide_record}
+use Rattle.semantics.specs.Records.{address_record, wide_record}
 use Rattle.machine.specs.declared.context.Side.{Side}
 use Rattle.machine.specs.declared.context.Side.TheVariants.{Client, Peer}
 use Rattle.machine.specs.declared.context.Context.{Context}

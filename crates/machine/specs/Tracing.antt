@@ -9,7 +9,7 @@ use Rattle.semantics.specs.declared.limits.TheConstants.{HEADROOM, TAILROOM}
 use Rattle.semantics.specs.Access.{part}
 use Rattle.semantics.specs.Extents.{HasExtent}
 use Rattle.machine.specs.Contents.{Contents, datagram_of, window_of}
-use Rattle.helpers.specs.Records.{address_of}
+use Rattle.semantics.specs.Records.{address_of}
 use Rattle.machine.specs.Contexts.{HelperAnswers, environment_around, context_of}
 use Rattle.machine.specs.declared.outcome.Outcome.{Outcome}
 use Rattle.machine.specs.declared.outcome.Stuck.{Stuck}

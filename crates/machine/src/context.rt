@@ -7,14 +7,13 @@ ghost use Rattle.semantics.specs.declared.limits.TheConstants.{STACK_BYTES, MAX_
 ghost use Rattle.flat.specs.Forms.{narrow_bytes, wide_bytes};
 ghost use Rattle.flat.specs.declared.layout.TheConstants.{AREA_BYTES, HEADROOM_INDEX, POINTERS_BYTES};
 ghost use Rattle.flat.specs.Layout.{pointers};
-ghost use Rattle.helpers.specs.Records.{address_record, wide_record};
+ghost use Rattle.semantics.specs.Records.{address_record, wide_record};
 ghost use Rattle.machine.specs.Contexts.{context_of, side_number};
 
 use crate::frame::write_zeros;
-use attributes::{Addr, law_is_address};
+use addresses::{Addr, law_is_address};
 use flat::{POINTERS_BYTES, Record, context_record, lay_out};
-use helpers::{address_record, wide_record};
-use semantics::CONTEXT_BYTES;
+use semantics::{CONTEXT_BYTES, address_record, wide_record};
 
 /// The side that a datagram came from: a client, or a peer of a relayed address.
 #[derive(Clone, Copy, Debug, PartialEq, Eq)]

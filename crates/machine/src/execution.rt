@@ -21,12 +21,11 @@ use crate::context::law_context;
 use crate::environment::Environment;
 use crate::outcome::Stuck;
 use crate::sink::Sink;
-use helpers::Helpers;
 use insn::Insn;
 use semantics::{
-    Effect, Fetched, Memory, Plan, Position, Question, RECORD_BYTES, Reason, RecordForm, Registers,
-    Room, StackMemory, Value, WIDE_RECORD_BYTES, effect_of, fetch, last, put_bytes, put_pointer,
-    store, target,
+    Effect, Fetched, Helpers, Memory, Plan, Position, Question, RECORD_BYTES, Reason, RecordForm,
+    Registers, Room, StackMemory, Value, WIDE_RECORD_BYTES, effect_of, fetch, last, put_bytes,
+    put_pointer, store, target,
 };
 
 /// The result of one step.

@@ -6,7 +6,7 @@ ghost use Rattle.semantics.specs.declared.limits.TheConstants.{STACK_BYTES, HEAD
 ghost use Rattle.flat.specs.declared.layout.TheConstants.{HEADROOM_INDEX};
 
 use crate::context::{Context, Side, law_context};
-use attributes::Addr;
+use addresses::Addr;
 use flat::{AREA_BYTES, HEADROOM_INDEX};
 use semantics::{GROUPS, HEADROOM, MAX_DATAGRAM, STACK_BYTES, StackMemory, TAILROOM, Value};
 use std::alloc::{AllocError, Global};

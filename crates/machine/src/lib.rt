@@ -11,12 +11,11 @@ mod sink;
 mod tracing;
 mod verified_run;
 
-pub use attributes::Addr;
+pub use addresses::Addr;
 pub use context::{Context, Side};
 pub use frame::Frame;
-pub use helpers::{Helpers, NoAllocation};
 pub use outcome::{Outcome, Stuck};
-pub use semantics::{HEADROOM, MAX_DATAGRAM, TAILROOM};
+pub use semantics::{HEADROOM, Helpers, MAX_DATAGRAM, NoAllocation, TAILROOM};
 pub use sink::{KEPT, Kept, Silent, Sink};
 pub use tracing::trace;
 pub use verified_run::run;

@@ -3,7 +3,7 @@
 ghost use Rattle.std.specs.Prelude.{Some};
 ghost use Rattle.semantics.specs.Reasons.{reason_at};
 
-use attributes::Addr;
+use addresses::Addr;
 use semantics::Reason;
 use std::error::Error;
 use std::fmt;

@@ -11,7 +11,7 @@ ghost use Rattle.semantics.specs.Views.{memory_with};
 ghost use Rattle.semantics.specs.declared.limits.TheConstants.{HEADROOM, TAILROOM};
 ghost use Rattle.flat.specs.declared.layout.TheConstants.{HEADROOM_INDEX};
 ghost use Rattle.machine.specs.Contents.{datagram_of};
-ghost use Rattle.helpers.specs.Records.{address_of};
+ghost use Rattle.semantics.specs.Records.{address_of};
 ghost use Rattle.machine.specs.Contexts.{context_of};
 ghost use Rattle.machine.specs.Execution.{HasWindowInside, IsWholeRun, RunsOver, traced_environment};
 ghost use Rattle.machine.specs.Tracing.{run_of, IsOutcome, left_by, IsFrameRun, Reports, Shows};
@@ -22,11 +22,10 @@ use crate::execution::{Exit, execute};
 use crate::frame::{Frame, clear_stack};
 use crate::outcome::{Outcome, Stuck};
 use crate::sink::Sink;
-use attributes::Addr;
+use addresses::Addr;
 use flat::HEADROOM_INDEX;
-use helpers::{Helpers, address_of};
 use insn::Insn;
-use semantics::{HEADROOM, Plan, StackMemory, TAILROOM, WIDE_RECORD_BYTES};
+use semantics::{HEADROOM, Helpers, Plan, StackMemory, TAILROOM, WIDE_RECORD_BYTES, address_of};
 
 /// The plan at the start of a run.
 const NO_PLAN: Plan = Plan {

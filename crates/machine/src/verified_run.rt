@@ -11,7 +11,7 @@ use crate::frame::Frame;
 use crate::outcome::Outcome;
 use crate::tracing::destination_of;
 use flat::{Environment, Exit, run_flat};
-use helpers::Helpers;
+use semantics::Helpers;
 use verifier::Verified;
 
 /// States that a verified program is safe.

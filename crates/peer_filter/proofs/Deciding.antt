@@ -3,7 +3,7 @@ use Rattle.std.proofs.Common.{◌≡◌, ℕ, ◌<◌, ◌≤◌, ◌∙◌, ari
 use Rattle.std.specs.Prelude.{⊤}
 use Rattle.std.proofs.lemmas.Bool.Decides.{nat_tests}
 use Rattle.std.proofs.lemmas.Grind.{common_steps}
-use Rattle.attributes.specs.declared.address.Addr.{Addr}
+use Rattle.addresses.specs.declared.address.Addr.{Addr}
 use Rattle.peer_filter.specs.Networks.{prefix_bits}
 use Rattle.peer_filter.specs.Filters.{covers_peer, before_others, deciding_rule, EachCovering, DecidesOn, IsDecision}
 use Rattle.peer_filter.specs.declared.rule.Rule.{Rule}

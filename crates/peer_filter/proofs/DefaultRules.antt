@@ -4,9 +4,9 @@ use Rattle.std.specs.Int.{is_in_range}
 use Rattle.std.specs.List.{list_any, list_all}
 use Rattle.std.proofs.lemmas.Bool.Decides.{nat_tests}
 use Rattle.std.proofs.lemmas.Grind.{common_steps}
-use Rattle.attributes.specs.Addresses.{IsAddress}
-use Rattle.attributes.specs.declared.address.Addr.{Addr}
-use Rattle.attributes.specs.declared.address.Addr.TheVariants.{V4, V6}
+use Rattle.addresses.specs.Addresses.{IsAddress}
+use Rattle.addresses.specs.declared.address.Addr.{Addr}
+use Rattle.addresses.specs.declared.address.Addr.TheVariants.{V4, V6}
 use Rattle.peer_filter.specs.Networks.{ip_number, prefix_bits}
 use Rattle.peer_filter.specs.Defaults.{is_denied_v4, is_denied_v6}
 use Rattle.peer_filter.specs.Filters.{covers_peer, before_others, deciding_rule, is_allow, is_allowed_by, default_rules}

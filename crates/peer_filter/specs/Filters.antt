@@ -1,9 +1,9 @@
 -- Meaning. Which rule decides on an address, and which peers a filter allows.
 use Rattle.std.specs.Prelude.{◌≡◌, ◌<◌, ◌≤◌, Bool, true, false, not, ◌&&◌, nat_eq, nat_lt, List, [], ◌∷◌, ◌++◌, length, Option, Some, None, Result, Ok, Err, if◌then◌else◌, ⊤}
 use Rattle.std.specs.List.{list_any}
-use Rattle.attributes.specs.AddressOrder.{is_same_address}
-use Rattle.attributes.specs.Addresses.{port_of}
-use Rattle.attributes.specs.declared.address.Addr.{Addr}
+use Rattle.addresses.specs.AddressOrder.{is_same_address}
+use Rattle.addresses.specs.Addresses.{port_of}
+use Rattle.addresses.specs.declared.address.Addr.{Addr}
 use Rattle.peer_filter.specs.Networks.{network_contains, prefix_bits}
 use Rattle.peer_filter.specs.declared.defaults.TheConstants.{ALWAYS_DENIED, LOOPBACK_V4, LOOPBACK_V6}
 use Rattle.peer_filter.specs.declared.filter.FilterError.{FilterError}

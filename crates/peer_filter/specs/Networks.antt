@@ -7,8 +7,8 @@ use Rattle.std.specs.Net.Grammar.{IsIpv4Text, IsIpv6Text}
 use Rattle.std.specs.Str.Parse.{IsNumeral, digits_value}
 use Rattle.std.specs.declared.net.ipv4_addr.Ipv4Addr.{Ipv4Addr}
 use Rattle.std.specs.declared.net.ipv6_addr.Ipv6Addr.{Ipv6Addr}
-use Rattle.attributes.specs.declared.address.Addr.{Addr}
-use Rattle.attributes.specs.declared.address.Addr.TheVariants as addr
+use Rattle.addresses.specs.declared.address.Addr.{Addr}
+use Rattle.addresses.specs.declared.address.Addr.TheVariants as addr
 use Rattle.peer_filter.specs.declared.network.Network.{Network}
 use Rattle.peer_filter.specs.declared.network.Network.TheVariants.{V4, V6}
 use Rattle.peer_filter.specs.declared.network.NetworkError.{NetworkError}

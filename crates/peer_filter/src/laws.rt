@@ -1,9 +1,9 @@
 //! Laws of decisions, and of the rules that hold without options.
 
 ghost use Rattle.std.specs.Prelude.{◌≡◌, ℕ, ◌<◌, ◌∷◌, [], List, Some, not};
-ghost use Rattle.attributes.specs.Addresses.{IsAddress};
-ghost use Rattle.attributes.specs.declared.address.Addr.{Addr};
-ghost use Rattle.attributes.specs.declared.address.Addr.TheVariants as addresses;
+ghost use Rattle.addresses.specs.Addresses.{IsAddress};
+ghost use Rattle.addresses.specs.declared.address.Addr.{Addr};
+ghost use Rattle.addresses.specs.declared.address.Addr.TheVariants as addresses;
 ghost use Rattle.peer_filter.specs.Defaults.{is_denied_v4, is_denied_v6};
 ghost use Rattle.peer_filter.specs.Filters.{DecidesOn, IsDecision, deciding_rule, default_rules, is_allowed_by};
 ghost use Rattle.peer_filter.specs.Networks.{ip_number};

@@ -2,7 +2,7 @@
 
 ghost use Rattle.std.specs.Prelude.{◌≡◌, ◌≤◌, ◌==◌, not, ℕ};
 ghost use Rattle.peer_filter.specs.Networks.{prefix, ip_number, host_bits, IsAccepted};
-ghost use Rattle.attributes.specs.declared.address.Addr.TheVariants as addresses;
+ghost use Rattle.addresses.specs.declared.address.Addr.TheVariants as addresses;
 ghost use Rattle.peer_filter.specs.declared.network.Network.TheVariants as networks;
 
 use crate::text::{bits_in, ipv4_in, ipv6_in};

@@ -2,8 +2,8 @@
 
 ghost use Rattle.std.specs.Prelude.{◌≡◌};
 ghost use Rattle.std.specs.Ordering.{eq_by_cmp};
-ghost use Rattle.attributes.specs.Addresses.{ip_of};
-ghost use Rattle.attributes.specs.AddressOrder.{ip_cmp};
+ghost use Rattle.addresses.specs.Addresses.{ip_of};
+ghost use Rattle.addresses.specs.AddressOrder.{ip_cmp};
 
 use crate::network::Network;
 use attributes::Addr;

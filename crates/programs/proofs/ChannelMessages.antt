@@ -7,11 +7,11 @@ use Rattle.insn.specs.Endian.{big_number}
 use Rattle.stun.specs.Channels.{ChannelMessage}
 use Rattle.stun.specs.Datagrams.{channel_in}
 use Rattle.stun.specs.Ranges.{is_between}
-use Rattle.attributes.specs.Addresses.{IsAddress, HasWidth}
-use Rattle.attributes.specs.declared.address.Addr.{Addr}
-use Rattle.attributes.specs.declared.address.Addr.TheVariants.{V4, V6}
+use Rattle.addresses.specs.Addresses.{IsAddress, HasWidth}
+use Rattle.addresses.specs.declared.address.Addr.{Addr}
+use Rattle.addresses.specs.declared.address.Addr.TheVariants.{V4, V6}
 use Rattle.programs.proofs.ClientEnds.{narrow_answer, wide_answer}
-use Rattle.helpers.specs.Records.{address_record, wide_record, address_of}
+use Rattle.semantics.specs.Records.{address_record, wide_record, address_of}
 use Rattle.semantics.specs.declared.helper.RecordForm.{RecordForm}
 use Rattle.semantics.specs.declared.helper.RecordForm.TheVariants.{Narrow, Wide}
 use Rattle.std.specs.List.{list_all}

@@ -1,9 +1,10 @@
 -- What the program of the client's side is given, and how its run ends.
 use Rattle.std.specs.Prelude.{◌≡◌, ◌≢◌, ℕ, ◌≤◌, ◌<◌, ◌+◌, ◌⊎◌, List, Bool, Option, Some, None, IfSome, length, drop, slice_index, ◌==◌, if◌then◌else◌}
 use Rattle.insn.specs.Endian.{big_number}
-use Rattle.attributes.specs.Addresses.{HasWidth, IsAddress, address_in}
-use Rattle.attributes.specs.declared.address.Addr.{Addr}
-use Rattle.attributes.specs.declared.address.Addr.TheVariants.{V4, V6}
+use Rattle.addresses.specs.Addresses.{HasWidth, IsAddress}
+use Rattle.attributes.specs.Addresses.{address_in}
+use Rattle.addresses.specs.declared.address.Addr.{Addr}
+use Rattle.addresses.specs.declared.address.Addr.TheVariants.{V4, V6}
 use Rattle.semantics.specs.Access.{part}
 use Rattle.semantics.specs.Calls.{helper_number, no_address, widened}
 use Rattle.semantics.specs.Machine.{AddressRecord, State}
@@ -12,7 +13,7 @@ use Rattle.semantics.specs.declared.helper.RecordForm.TheVariants.{Narrow, Wide}
 use Rattle.fallible.specs.Options.{◌>>=◌, guard}
 use Rattle.programs.proofs.PeerEnds.{test_number}
 use Rattle.programs.specs.PlainSends.{padded_length, IsAddressFirst, IsDataFirst}
-use Rattle.helpers.specs.Records.{address_record, wide_record}
+use Rattle.semantics.specs.Records.{address_record, wide_record}
 use Rattle.rules.specs.Rules.{channel_data}
 use Rattle.programs.specs.Runs.{datagram_in, window_in, destination_in}
 

@@ -15,12 +15,13 @@ use Rattle.insn.specs.declared.operator.SwapOp.TheVariants.{ToBig}
 use Rattle.insn.specs.declared.size.SwapSize.TheVariants as swap
 use Rattle.stun.specs.Datagrams.{channel_in}
 use Rattle.stun.specs.Registry.{magic_cookie}
-use Rattle.attributes.specs.Addresses.{HasWidth, IsIpv4Address, address_in, port_in, xor_bytes, cookie_half}
-use Rattle.attributes.specs.declared.address.Addr.{Addr}
-use Rattle.attributes.specs.declared.address.Addr.TheVariants.{V4}
+use Rattle.addresses.specs.Addresses.{HasWidth, IsIpv4Address}
+use Rattle.attributes.specs.Addresses.{address_in, port_in, xor_bytes, cookie_half}
+use Rattle.addresses.specs.declared.address.Addr.{Addr}
+use Rattle.addresses.specs.declared.address.Addr.TheVariants.{V4}
 use Rattle.programs.proofs.ClientEnds.{AnswersClient, IsClientEnd, narrow_answer, wide_answer, sent_to, of_send}
 use Rattle.programs.proofs.PeerEnds.{test_number}
-use Rattle.helpers.specs.Records.{address_record, wide_record, address_of}
+use Rattle.semantics.specs.Records.{address_record, wide_record, address_of}
 use Rattle.semantics.specs.Access.{part, overlay, cells_bytes, with_bytes}
 use Rattle.semantics.specs.Calls.{is_valid, widened}
 use Rattle.semantics.specs.laws.Access.{length-put}

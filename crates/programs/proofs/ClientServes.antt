@@ -8,15 +8,16 @@ use Rattle.insn.specs.Endian.{big_number}
 use Rattle.stun.specs.Datagrams.{message_in}
 use Rattle.stun.specs.Messages.{Parts, AreParts, parts_bytes, padding_count}
 use Rattle.semantics.specs.Access.{part}
-use Rattle.attributes.specs.Addresses.{IsAddress, HasWidth}
-use Rattle.attributes.specs.declared.address.Addr.{Addr}
-use Rattle.attributes.specs.declared.address.Addr.TheVariants.{V4, V6}
+use Rattle.addresses.specs.Addresses.{IsAddress, HasWidth}
+use Rattle.addresses.specs.declared.address.Addr.{Addr}
+use Rattle.addresses.specs.declared.address.Addr.TheVariants.{V4, V6}
 use Rattle.tables.specs.LookUps.{allocation_of, peer_of, has_permission}
 use Rattle.tables.specs.declared.allocation.Allocation.{Allocation}
 use Rattle.tables.specs.Rows.{Rows}
 use Rattle.tables.specs.WellFormed.{AreWellFormed}
 use Rattle.tables.specs.laws.WellFormed.{peer_of-address}
-use Rattle.helpers.specs.laws.Lawful.{record_bytes, wide_record_bytes, look_up_is_lawful}
+use Rattle.semantics.specs.laws.Records.{record_bytes, wide_record_bytes}
+use Rattle.helpers.specs.laws.Lawful.{look_up_is_lawful}
 use Rattle.helpers.specs.LookUps.{look_up_answer, peer_answer, test_answer}
 use Rattle.semantics.specs.declared.helper.RecordForm.TheVariants.{Narrow, Wide}
 use Rattle.semantics.specs.Machine.{Environment, State}

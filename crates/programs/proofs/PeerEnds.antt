@@ -1,13 +1,13 @@
 -- What the program of the peers' side is given, and how its run ends.
 use Rattle.std.specs.Prelude.{◌≡◌, ◌≢◌, ℕ, ◌≤◌, List, Bool, Option, Some, None, IfSome, ◌==◌, if◌then◌else◌}
-use Rattle.attributes.specs.declared.address.Addr.{Addr}
-use Rattle.attributes.specs.declared.address.Addr.TheVariants.{V4, V6}
+use Rattle.addresses.specs.declared.address.Addr.{Addr}
+use Rattle.addresses.specs.declared.address.Addr.TheVariants.{V4, V6}
 use Rattle.semantics.specs.Calls.{helper_number, widened}
 use Rattle.semantics.specs.Machine.{AddressRecord, State}
 use Rattle.semantics.specs.declared.helper.Helper.TheVariants.{ChannelTo, Permitted}
 use Rattle.semantics.specs.declared.helper.RecordForm.{RecordForm}
 use Rattle.semantics.specs.declared.helper.RecordForm.TheVariants.{Narrow, Wide}
-use Rattle.helpers.specs.Records.{address_record, wide_record}
+use Rattle.semantics.specs.Records.{address_record, wide_record}
 use Rattle.rules.specs.Rules.{peer_data}
 use Rattle.programs.specs.Runs.{window_in}
 

@@ -9,10 +9,10 @@ use Rattle.insn.specs.Numbers.{little_from-lt}
 use Rattle.stun.specs.Channels.{channel_bytes}
 use Rattle.stun.specs.Messages.{parts_bytes, attributes_bytes, padding_count}
 use Rattle.stun.specs.Registry.{magic_cookie}
-use Rattle.attributes.specs.Addresses.{HasWidth}
-use Rattle.attributes.specs.declared.address.Addr.{Addr}
-use Rattle.attributes.specs.declared.address.Addr.TheVariants.{V4, V6}
-use Rattle.helpers.specs.Records.{address_record, wide_record}
+use Rattle.addresses.specs.Addresses.{HasWidth}
+use Rattle.addresses.specs.declared.address.Addr.{Addr}
+use Rattle.addresses.specs.declared.address.Addr.TheVariants.{V4, V6}
+use Rattle.semantics.specs.Records.{address_record, wide_record}
 use Rattle.semantics.specs.Access.{overlay, part, with_bytes}
 use Rattle.semantics.specs.laws.Context.{length_field, source_part, id_head_part, id_tail_part, wide_part}
 use Rattle.semantics.specs.declared.stack.StackMemory.{StackMemory}

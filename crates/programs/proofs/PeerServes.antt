@@ -2,17 +2,18 @@
 use Rattle.std.proofs.Common.{◌≡◌, ℕ, ◌≤◌, List, Bool, true, false, Option, Some, None, refl, ap, sym, ◌∙◌, arith}
 use Rattle.std.specs.Prelude.{IfSome, if◌then◌else◌, ◌==◌}
 use Rattle.std.specs.Option.{option_map}
-use Rattle.attributes.specs.Addresses.{IsAddress}
-use Rattle.attributes.specs.declared.address.Addr.{Addr}
-use Rattle.attributes.specs.declared.address.Addr.TheVariants.{V4, V6}
+use Rattle.addresses.specs.Addresses.{IsAddress}
+use Rattle.addresses.specs.declared.address.Addr.{Addr}
+use Rattle.addresses.specs.declared.address.Addr.TheVariants.{V4, V6}
 use Rattle.insn.specs.declared.instruction.Insn.{Insn}
 use Rattle.tables.specs.LookUps.{has_permission, channel_of}
 use Rattle.tables.specs.Rows.{Rows}
 use Rattle.tables.specs.WellFormed.{AreWellFormed}
 use Rattle.tables.specs.laws.WellFormed.{channel_of-number}
-use Rattle.helpers.specs.laws.Lawful.{record_bytes, wide_record_bytes, look_up_is_lawful}
+use Rattle.semantics.specs.laws.Records.{record_bytes, wide_record_bytes}
+use Rattle.helpers.specs.laws.Lawful.{look_up_is_lawful}
 use Rattle.helpers.specs.LookUps.{look_up_answer, number_answer, test_answer}
-use Rattle.helpers.specs.Records.{address_of}
+use Rattle.semantics.specs.Records.{address_of}
 use Rattle.semantics.specs.Machine.{Environment, start}
 use Rattle.semantics.specs.Runs.{IsPossible, IsSafe}
 use Rattle.events.specs.Events.{ToClient}

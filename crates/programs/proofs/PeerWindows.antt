@@ -16,8 +16,8 @@ use Rattle.stun.specs.Messages.{Parts, parts_bytes, attributes_bytes, padding_co
 use Rattle.stun.specs.Registry.{magic_cookie}
 use Rattle.stun.specs.declared.registry.attribute.TheConstants.{XOR_PEER_ADDRESS, DATA}
 use Rattle.attributes.specs.Addresses.{address_value, xor_bytes, cookie_half}
-use Rattle.attributes.specs.declared.address.Addr.TheVariants.{V4}
-use Rattle.helpers.specs.Records.{address_record}
+use Rattle.addresses.specs.declared.address.Addr.TheVariants.{V4}
+use Rattle.semantics.specs.Records.{address_record}
 use Rattle.semantics.specs.Access.{part, overlay}
 use Rattle.semantics.specs.laws.Access.{put_after_put}
 use Rattle.semantics.specs.Machine.{AreBytes, datagram_area}

@@ -7,7 +7,7 @@ use Rattle.std.proofs.lemmas.Option.{same_Some}
 use Rattle.insn.specs.Endian.{big_number}
 use Rattle.stun.specs.Datagrams.{message_in}
 use Rattle.stun.specs.Messages.{Parts, PaddedAttribute, AreParts, IsPadded, parts_bytes, padding_count}
-use Rattle.attributes.specs.declared.address.Addr.{Addr}
+use Rattle.addresses.specs.declared.address.Addr.{Addr}
 use Rattle.semantics.specs.Access.{part}
 use Rattle.semantics.specs.Runs.{IsDatagram}
 use Rattle.rules.specs.FastPart.{is_short_address, is_content, are_address_and_content, is_plain_send}

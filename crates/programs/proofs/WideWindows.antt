@@ -13,14 +13,15 @@ use Rattle.insn.specs.declared.size.SwapSize.TheVariants as swap
 use Rattle.stun.specs.Messages.{Parts, parts_bytes, attributes_bytes, padding_count, empty_message, with_attribute}
 use Rattle.stun.specs.Registry.{magic_cookie}
 use Rattle.stun.specs.declared.registry.attribute.TheConstants.{XOR_PEER_ADDRESS, DATA}
-use Rattle.attributes.specs.Addresses.{HasWidth, address_value, xor_bytes, ipv6_mask, cookie_half}
-use Rattle.attributes.specs.declared.address.Addr.TheVariants.{V6}
+use Rattle.addresses.specs.Addresses.{HasWidth}
+use Rattle.attributes.specs.Addresses.{address_value, xor_bytes, ipv6_mask, cookie_half}
+use Rattle.addresses.specs.declared.address.Addr.TheVariants.{V6}
 use Rattle.semantics.specs.Access.{part, overlay}
 use Rattle.semantics.specs.laws.Access.{put_after_put}
 use Rattle.semantics.specs.Machine.{AreBytes, datagram_area}
 use Rattle.semantics.specs.laws.Start.{part_of_header, datagram_and_zeros}
 use Rattle.semantics.specs.laws.Swap.{stored_half}
-use Rattle.helpers.specs.Records.{wide_record}
+use Rattle.semantics.specs.Records.{wide_record}
 use Rattle.rules.specs.Rules.{data_indication}
 use Rattle.attributes.specs.laws.Number.{bytes_back}
 use Rattle.programs.proofs.LoadedValues.{all_below}

@@ -5,8 +5,8 @@ use Rattle.semantics.specs.Machine.{AreBytes}
 use Rattle.semantics.specs.Runs.{Exited, IsDatagram}
 use Rattle.stun.specs.Datagrams.{message_in}
 use Rattle.stun.specs.Messages.{Parts}
-use Rattle.attributes.specs.Addresses.{IsAddress}
-use Rattle.attributes.specs.declared.address.Addr.{Addr}
+use Rattle.addresses.specs.Addresses.{IsAddress}
+use Rattle.addresses.specs.declared.address.Addr.{Addr}
 use Rattle.tables.specs.Rows.{Rows}
 use Rattle.tables.specs.WellFormed.{AreWellFormed}
 use Rattle.events.specs.Events.{Sending}

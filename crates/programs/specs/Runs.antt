@@ -5,9 +5,9 @@ use Rattle.semantics.specs.Access.{part}
 use Rattle.semantics.specs.Machine.{Environment, State}
 use Rattle.semantics.specs.Runs.{Run}
 use Rattle.semantics.specs.declared.limits.TheConstants.{HEADROOM}
-use Rattle.attributes.specs.declared.address.Addr.{Addr}
+use Rattle.addresses.specs.declared.address.Addr.{Addr}
 use Rattle.helpers.specs.LookUps.{look_up_answer}
-use Rattle.helpers.specs.Records.{address_of}
+use Rattle.semantics.specs.Records.{address_of}
 use Rattle.machine.specs.Contexts.{environment_around, context_of}
 use Rattle.machine.specs.Tracing.{run_over}
 use Rattle.machine.specs.declared.context.Context.{Context}

@@ -6,7 +6,7 @@ ghost use Rattle.insn.specs.declared.instruction.Insn.{Insn};
 ghost use Rattle.semantics.specs.Runs.{IsDatagram, IsSafe};
 ghost use Rattle.stun.specs.Datagrams.{message_in};
 ghost use Rattle.stun.specs.Messages.{Parts};
-ghost use Rattle.attributes.specs.declared.address.Addr.{Addr};
+ghost use Rattle.addresses.specs.declared.address.Addr.{Addr};
 ghost use Rattle.tables.specs.Rows.{Rows};
 ghost use Rattle.rules.specs.FastPart.{is_plain_send};
 ghost use Rattle.programs.specs.PlainSends.{PassesTests};

@@ -3,7 +3,7 @@ use Rattle.std.proofs.Common.{◌≡◌, ℕ, List, length, Bool, true, false, r
 use Rattle.std.specs.Prelude.{◌==◌, ◌&&◌, Option, None, if◌then◌else◌}
 use Rattle.std.proofs.lemmas.Bool.{cond-false}
 use Rattle.semantics.specs.Runs.{Run, Ending}
-use Rattle.attributes.specs.declared.address.Addr.{Addr}
+use Rattle.addresses.specs.declared.address.Addr.{Addr}
 use Rattle.control.specs.declared.config.Config.{Config}
 use Rattle.machine.specs.declared.outcome.Outcome.{Outcome}
 use Rattle.tables.specs.Moments.{moment_of}

@@ -8,7 +8,7 @@ use Rattle.semantics.specs.Extents.{run_extent, start_extent}
 use Rattle.semantics.specs.Machine.{Environment, State, start}
 use Rattle.semantics.specs.Runs.{Run}
 use Rattle.semantics.specs.declared.limits.TheConstants.{HEADROOM, TAILROOM}
-use Rattle.attributes.specs.declared.address.Addr.{Addr}
+use Rattle.addresses.specs.declared.address.Addr.{Addr}
 use Rattle.control.specs.declared.config.Config.{Config}
 use Rattle.events.specs.Events.{Event, Datagram, Nonce, Sending}
 use Rattle.events.specs.declared.meta.Source.{Source}

@@ -2,7 +2,7 @@
 use Rattle.std.proofs.Common.{◌≡◌, ◌⊎◌, ℕ, List, [], ◌∷◌, length, Bool, true, false, inl, inr, refl, ◌∙◌}
 use Rattle.std.specs.Prelude.{Option, if◌then◌else◌}
 use Rattle.semantics.specs.Runs.{Run}
-use Rattle.attributes.specs.declared.address.Addr.{Addr}
+use Rattle.addresses.specs.declared.address.Addr.{Addr}
 use Rattle.control.specs.declared.config.Config.{Config}
 use Rattle.events.specs.Events.{Event, Datagram, Nonce, Sending}
 use Rattle.events.specs.declared.meta.Source.{Source}

@@ -20,9 +20,10 @@ use Rattle.stun.specs.Registry.{magic_cookie, message_integrity}
 use Rattle.stun.specs.declared.registry.ErrorCode.{ErrorCode}
 use Rattle.stun.specs.declared.registry.ErrorCode.TheVariants.{BadRequest}
 use Rattle.stun.specs.declared.registry.attribute.TheConstants.{XOR_PEER_ADDRESS, CHANNEL_NUMBER}
-use Rattle.attributes.specs.Addresses.{IsAddress, IsIpv4Address, HasWidth, address_in, xor_bytes, port_in, ipv6_mask, has_family, cookie_half}
-use Rattle.attributes.specs.declared.address.Addr.{Addr}
-use Rattle.attributes.specs.declared.address.Addr.TheVariants.{V4, V6}
+use Rattle.addresses.specs.Addresses.{IsAddress, IsIpv4Address, HasWidth}
+use Rattle.attributes.specs.Addresses.{address_in, xor_bytes, port_in, ipv6_mask, has_family, cookie_half}
+use Rattle.addresses.specs.declared.address.Addr.{Addr}
+use Rattle.addresses.specs.declared.address.Addr.TheVariants.{V4, V6}
 use Rattle.attributes.specs.Values.{number_of_value}
 use Rattle.credentials.specs.Checks.{first_value, user_in}
 use Rattle.credentials.specs.declared.checking.AuthError.{AuthError}

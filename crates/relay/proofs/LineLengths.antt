@@ -7,10 +7,10 @@ use Rattle.std.proofs.lemmas.Fmt.{length-decimal-le}
 use Rattle.hex.specs.Hex.{encode_lower, lower_digits}
 use Rattle.hex.proofs.HexLemmas.{length-encode_with}
 use Rattle.stun.specs.Ranges.{is_between}
-use Rattle.attributes.specs.Addresses.{IsAddress}
-use Rattle.attributes.specs.AddressTexts.{dotted_decimal, hex_digits, address_text}
-use Rattle.attributes.specs.declared.address.Addr.{Addr}
-use Rattle.attributes.specs.declared.address.Addr.TheVariants.{V4, V6}
+use Rattle.addresses.specs.Addresses.{IsAddress}
+use Rattle.addresses.specs.AddressTexts.{dotted_decimal, hex_digits, address_text}
+use Rattle.addresses.specs.declared.address.Addr.{Addr}
+use Rattle.addresses.specs.declared.address.Addr.TheVariants.{V4, V6}
 use Rattle.semantics.specs.declared.limits.TheConstants.{MAX_DATAGRAM}
 use Rattle.events.specs.Events.{Event, Datagram, Nonce}
 use Rattle.events.specs.Lines.{line_of, datagram_text, source_text, bytes_text, side_text, IsEvent, IsSource}

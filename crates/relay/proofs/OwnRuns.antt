@@ -7,8 +7,8 @@ use Rattle.insn.specs.declared.instruction.Insn.{Insn}
 use Rattle.semantics.specs.Machine.{AddressRecord, State}
 use Rattle.semantics.specs.Runs as runs
 use Rattle.semantics.specs.Runs.{Run, Ending}
-use Rattle.attributes.specs.Addresses.{is_of_family}
-use Rattle.attributes.specs.declared.address.Addr.{Addr}
+use Rattle.addresses.specs.Addresses.{is_of_family}
+use Rattle.addresses.specs.declared.address.Addr.{Addr}
 use Rattle.control.specs.declared.config.Config.{Config}
 use Rattle.helpers.specs.LookUps.{held_answer, look_up_answer}
 use Rattle.machine.specs.Contexts.{context_of, environment_around}

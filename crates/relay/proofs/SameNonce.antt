@@ -5,7 +5,7 @@ use Rattle.stun.specs.Datagrams.{message_in}
 use Rattle.stun.specs.Messages.{Parts, parts_bytes}
 use Rattle.stun.specs.declared.registry.ErrorCode.{ErrorCode}
 use Rattle.stun.specs.declared.registry.ErrorCode.TheVariants as error
-use Rattle.attributes.specs.declared.address.Addr.{Addr}
+use Rattle.addresses.specs.declared.address.Addr.{Addr}
 use Rattle.credentials.specs.Checks.{user_in}
 use Rattle.credentials.specs.declared.checking.AuthError.{AuthError}
 use Rattle.control.specs.Control.{Decision, grant_of, rows_of, decision, binding}

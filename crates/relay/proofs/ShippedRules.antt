@@ -16,8 +16,8 @@ use Rattle.stun.specs.Datagrams.{message_in, channel_in}
 use Rattle.stun.specs.Messages.{Parts}
 use Rattle.stun.specs.Ranges.{is_between}
 use Rattle.stun.specs.Refusals.{number_at}
-use Rattle.attributes.specs.Addresses.{IsAddress}
-use Rattle.attributes.specs.declared.address.Addr.{Addr}
+use Rattle.addresses.specs.Addresses.{IsAddress}
+use Rattle.addresses.specs.declared.address.Addr.{Addr}
 use Rattle.control.specs.declared.config.Config.{Config}
 use Rattle.tables.specs.LookUps.{allocation_of, peer_of, has_permission, channel_of}
 use Rattle.tables.specs.declared.allocation.Allocation.{Allocation}

@@ -4,7 +4,7 @@ use Rattle.std.specs.Prelude.{slice_index, if◌then◌else◌}
 use Rattle.std.proofs.lemmas.List.Elements.{All-head, All-tail, All-from_get_or}
 use Rattle.semantics.specs.Machine.{AreBytes}
 use Rattle.semantics.specs.Runs.{IsDatagram}
-use Rattle.attributes.specs.Addresses.{IsAddress}
+use Rattle.addresses.specs.Addresses.{IsAddress}
 use Rattle.control.specs.declared.config.Config.{Config}
 use Rattle.tables.specs.Moments.{moment_of}
 use Rattle.tables.specs.WellFormed.{AreWellFormed}

@@ -1,8 +1,8 @@
 -- What is found of a window that a program would send, by what is live in the slot in which helpers look up.
 use Rattle.std.proofs.Common.{◌≡◌, ℕ, List, Bool, true, false, refl, sym, ap, subst, ◌∙◌}
 use Rattle.std.specs.Prelude.{Option, None, Some, option_map}
-use Rattle.attributes.specs.Addresses.{is_of_family}
-use Rattle.attributes.specs.declared.address.Addr.{Addr}
+use Rattle.addresses.specs.Addresses.{is_of_family}
+use Rattle.addresses.specs.declared.address.Addr.{Addr}
 use Rattle.tables.specs.LookUps.{allocation_of, held_by, held_in}
 use Rattle.tables.specs.Rows.{Rows, rows_at}
 use Rattle.tables.specs.WellFormed.{AreWellFormed}

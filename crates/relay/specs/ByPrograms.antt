@@ -5,7 +5,7 @@ use Rattle.insn.specs.declared.instruction.Insn.{Insn}
 use Rattle.semantics.specs.Runs as runs
 use Rattle.semantics.specs.Runs.{Run, Ending}
 use Rattle.tables.specs.Rows.{Rows, rows_at}
-use Rattle.attributes.specs.declared.address.Addr.{Addr}
+use Rattle.addresses.specs.declared.address.Addr.{Addr}
 use Rattle.control.specs.declared.config.Config.{Config}
 use Rattle.events.specs.Events.{Sending}
 use Rattle.events.specs.declared.meta.Source.{Source}

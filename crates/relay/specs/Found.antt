@@ -1,6 +1,6 @@
 -- Internal. What is to be sent for what was found.
 use Rattle.std.specs.Prelude.{◌≡◌, ℕ, List, Bool, true, ◌||◌, is_some, Option, None, Some, option_map}
-use Rattle.attributes.specs.declared.address.Addr.{Addr}
+use Rattle.addresses.specs.declared.address.Addr.{Addr}
 use Rattle.machine.specs.Contents as machine
 use Rattle.machine.specs.Contents.{datagram_of, window_of}
 use Rattle.machine.specs.Tracing.{IsOutcome}

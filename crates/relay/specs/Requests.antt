@@ -1,6 +1,6 @@
 -- Meaning. Which events are requests whose credentials are accepted, where programs are loaded: rows change by them alone.
 use Rattle.std.specs.Prelude.{◌⊎◌, ℕ, List, [], ◌∷◌, length}
-use Rattle.attributes.specs.declared.address.Addr.{Addr}
+use Rattle.addresses.specs.declared.address.Addr.{Addr}
 use Rattle.control.specs.declared.config.Config.{Config}
 use Rattle.events.specs.Events.{Event, Datagram, Nonce}
 use Rattle.events.specs.declared.meta.Source.{Source}

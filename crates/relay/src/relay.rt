@@ -76,7 +76,8 @@ fn is_served(from: Source, tables: &Tables) -> bool
 impl Relay {
     ghost use Rattle.std.specs.Prelude.{◌≡◌, ◌≤◌, ◌↔◌, IsOk, IsTrue, is_some, IfOk, IfErr, OnOk, OnErr, length, true, None, unwrap_or};
     ghost use Rattle.std.specs.Borrow.{sem};
-    ghost use Rattle.control.specs.Configs.{fault, is_nonce, are_users};
+    ghost use Rattle.control.specs.Configs.{fault, are_users};
+    ghost use Rattle.credentials.specs.Texts.{is_nonce};
     ghost use Rattle.control.specs.declared.config.Config.{Config};
     ghost use Rattle.control.specs.declared.config.Field.TheVariants.{Nonce, Users};
     ghost use Rattle.machine.specs.Contents.{room_of};

@@ -1,7 +1,7 @@
 //! The shipped programs are the rules.
 
 ghost use Rattle.std.specs.Prelude.{◌≡◌, ◌<◌, ℕ, List, None, All, ◌≤◌, true};
-ghost use Rattle.attributes.specs.Addresses.{IsAddress};
+ghost use Rattle.addresses.specs.Addresses.{IsAddress};
 ghost use Rattle.control.specs.Configs.{fault};
 ghost use Rattle.control.specs.declared.config.Config.{Config};
 ghost use Rattle.semantics.specs.Machine.{AreBytes};

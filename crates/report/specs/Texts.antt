@@ -1,7 +1,7 @@
 -- Meaning. The texts of reports and of their errors.
 use Rattle.std.specs.Prelude.{ℕ, Bool, true, false, List, [], ◌++◌, length, option_map, Option, Some, None, Result, Ok, Err, codes, decimal}
-use Rattle.attributes.specs.AddressTexts.{address_text}
-use Rattle.attributes.specs.declared.address.Addr.{Addr}
+use Rattle.addresses.specs.AddressTexts.{address_text}
+use Rattle.addresses.specs.declared.address.Addr.{Addr}
 use Rattle.insn.specs.Refusal.{decode_error_text}
 use Rattle.insn.specs.Spelling.{listing}
 use Rattle.disasm.specs.Slots.{listing_with_slots}
@@ -11,7 +11,7 @@ use Rattle.semantics.specs.Reasons.{reason_at}
 use Rattle.semantics.specs.Runs.{Run, Ending, Exited, Stuck, Running}
 use Rattle.semantics.specs.declared.plan.Plan.{Plan}
 use Rattle.semantics.specs.declared.reason.Reason.{Reason}
-use Rattle.helpers.specs.Records.{address_of}
+use Rattle.semantics.specs.Records.{address_of}
 use Rattle.machine.specs.Lines.{step_lines}
 use Rattle.machine.specs.declared.outcome.Outcome.{Outcome}
 use Rattle.machine.specs.declared.outcome.Stuck as machine

@@ -9,7 +9,7 @@ use Rattle.insn.specs.declared.instruction.Insn.{Insn}
 use Rattle.semantics.specs.declared.limits.TheConstants.{MAX_DATAGRAM}
 use Rattle.semantics.specs.Machine.{Context}
 use Rattle.semantics.specs.Runs.{Run, Ending, Exited, Stuck, Running}
-use Rattle.helpers.specs.Nothing.{empty_answer}
+use Rattle.semantics.specs.Nothing.{empty_answer}
 use Rattle.machine.specs.Tracing.{run_over}
 use Rattle.report.specs.Texts.{trace_text}
 

@@ -5,7 +5,7 @@ use Rattle.std.proofs.lemmas.Bool.{cases_Bool, cond-true, cond-false, both_ways}
 use Rattle.std.proofs.lemmas.Option.{same_Some}
 use Rattle.stun.specs.Messages.{Parts}
 use Rattle.stun.specs.declared.registry.Class.TheVariants as class
-use Rattle.attributes.specs.declared.address.Addr.{Addr}
+use Rattle.addresses.specs.declared.address.Addr.{Addr}
 use Rattle.credentials.specs.Checks.{Directory, IsChecked, user_in}
 use Rattle.credentials.specs.TimeLimited.{Account}
 use Rattle.credentials.specs.Results.{check_result}

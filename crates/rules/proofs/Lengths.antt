@@ -1,7 +1,7 @@
 -- The length of the value of an XOR address.
 use Rattle.std.proofs.Common.{◌≡◌, ℕ, List, length, refl}
 use Rattle.attributes.specs.Addresses.{address_value, xor_bytes}
-use Rattle.attributes.specs.declared.address.Addr.TheVariants.{V4, V6}
+use Rattle.addresses.specs.declared.address.Addr.TheVariants.{V4, V6}
 
 pub length_of_ipv4 : (ip : List ℕ) (port : ℕ) (transaction_id : List ℕ) → length (address_value (V4 ip port) transaction_id) ≡ 8
 unfolding address_value xor_bytes

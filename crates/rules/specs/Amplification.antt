@@ -3,7 +3,7 @@ use Rattle.std.specs.Prelude.{◌≡◌, ◌≤◌, ◌⊎◌, ℕ, ◌+◌, Lis
 use Rattle.stun.specs.Messages.{attribute_length}
 use Rattle.control.specs.declared.config.Config.{Config}
 use Rattle.semantics.specs.declared.limits.TheConstants.{HEADROOM, TAILROOM}
-use Rattle.attributes.specs.declared.address.Addr.{Addr}
+use Rattle.addresses.specs.declared.address.Addr.{Addr}
 use Rattle.events.specs.Events.{Sending, ToPeer, ToClient}
 use Rattle.tables.specs.Rows.{Rows}
 use Rattle.rules.specs.Authentication.{IsAuthenticated}

@@ -2,7 +2,7 @@
 use Rattle.std.specs.Prelude.{ℕ, ◌<◌, ◌≤◌, List, [], ◌∷◌, take, length, Option, None, Some, option_map}
 use Rattle.stun.specs.Datagrams.{message_in, channel_in}
 use Rattle.stun.specs.declared.registry.attribute.TheConstants.{DATA}
-use Rattle.attributes.specs.declared.address.Addr.{Addr}
+use Rattle.addresses.specs.declared.address.Addr.{Addr}
 use Rattle.credentials.specs.Checks.{first_value}
 use Rattle.events.specs.Events.{Sending, ToPeer, ToClient}
 use Rattle.fallible.specs.Options.{◌>>=◌}

@@ -2,7 +2,7 @@
 -- either side. The first test that fails decides.
 use Rattle.std.specs.Prelude.{ℕ, List, length, nat_le, Option, None, Some, Result}
 use Rattle.std.specs.Option.{ok_or}
-use Rattle.attributes.specs.declared.address.Addr.{Addr}
+use Rattle.addresses.specs.declared.address.Addr.{Addr}
 use Rattle.control.specs.declared.config.Config.{Config}
 use Rattle.tables.specs.Rows.{Rows, rows_at}
 use Rattle.tables.specs.LookUps.{allocation_at, channel_of, has_permission}

@@ -1,8 +1,8 @@
 -- Meaning. That users of a relay are apart: what a datagram draws depends on the rows of its own allocation alone, and it changes
 -- no other's.
 use Rattle.std.specs.Prelude.{◌≡◌, ℕ, List, [], ◌∷◌, length, map, Option, None, Some, if◌then◌else◌}
-use Rattle.attributes.specs.AddressOrder.{is_same_address}
-use Rattle.attributes.specs.declared.address.Addr.{Addr}
+use Rattle.addresses.specs.AddressOrder.{is_same_address}
+use Rattle.addresses.specs.declared.address.Addr.{Addr}
 use Rattle.control.specs.declared.config.Config.{Config}
 use Rattle.events.specs.declared.meta.Source.{Source}
 use Rattle.events.specs.declared.meta.Source.TheVariants.{Client, Peer}

@@ -2,9 +2,9 @@
 -- from which peers data may come to it.
 use Rattle.std.specs.Prelude.{◌≡◌, ℕ, List, Bool, true, ◌||◌, ◌&&◌, bytes_eq, is_some, Some}
 use Rattle.std.specs.List.{list_any}
-use Rattle.attributes.specs.Addresses.{ip_of, is_of_family, port_of}
-use Rattle.attributes.specs.declared.address.Addr.{Addr}
-use Rattle.attributes.specs.declared.address.Addr.TheVariants.{V4, V6}
+use Rattle.addresses.specs.Addresses.{ip_of, is_of_family, port_of}
+use Rattle.addresses.specs.declared.address.Addr.{Addr}
+use Rattle.addresses.specs.declared.address.Addr.TheVariants.{V4, V6}
 use Rattle.tables.specs.LookUps.{allocation_of, channel_of, has_permission}
 use Rattle.tables.specs.Rows.{Rows}
 use Rattle.tables.specs.declared.allocation.Allocation.{Allocation}

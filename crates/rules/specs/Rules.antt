@@ -8,8 +8,9 @@ use Rattle.stun.specs.Types.{type_number}
 use Rattle.stun.specs.declared.registry.Class.TheVariants as class
 use Rattle.stun.specs.declared.registry.Method.TheVariants as method
 use Rattle.stun.specs.declared.registry.attribute.TheConstants.{XOR_PEER_ADDRESS, DATA}
-use Rattle.attributes.specs.Addresses.{address_in, address_value, is_of_family}
-use Rattle.attributes.specs.declared.address.Addr.{Addr}
+use Rattle.attributes.specs.Addresses.{address_in, address_value}
+use Rattle.addresses.specs.Addresses.{is_of_family}
+use Rattle.addresses.specs.declared.address.Addr.{Addr}
 use Rattle.credentials.specs.Checks.{first_value}
 use Rattle.control.specs.Control.{all_understood}
 use Rattle.tables.specs.Rows.{Rows}

@@ -1,6 +1,6 @@
 -- Meaning. Systems: a state, the events that come, and the answers to a list of them.
 use Rattle.std.specs.Prelude.{ℕ, Bool, true, List, [], ◌∷◌, Option, None, if◌then◌else◌}
-use Rattle.attributes.specs.declared.address.Addr.{Addr}
+use Rattle.addresses.specs.declared.address.Addr.{Addr}
 use Rattle.control.specs.declared.config.Config.{Config}
 use Rattle.events.specs.Events.{Event, Datagram, Nonce, Sending}
 use Rattle.events.specs.declared.meta.Source.{Source}

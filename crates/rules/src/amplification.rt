@@ -1,7 +1,7 @@
 //! A datagram of a client draws at most one, of a bounded length.
 
 ghost use Rattle.std.specs.Prelude.{◌⊎◌, ℕ, List, length, IfSome};
-ghost use Rattle.attributes.specs.declared.address.Addr.{Addr};
+ghost use Rattle.addresses.specs.declared.address.Addr.{Addr};
 ghost use Rattle.control.specs.declared.config.Config.{Config};
 ghost use Rattle.tables.specs.Rows.{Rows};
 ghost use Rattle.rules.specs.Amplification.{IsRelayed, RespondsTo};

@@ -1,7 +1,7 @@
 //! What a datagram of a client is answered.
 
 ghost use Rattle.std.specs.Prelude.{◌≡◌, ◌≤◌, ◌<◌, List, ℕ, IfSome, length, take, option_map, option_copied};
-ghost use Rattle.attributes.specs.declared.address.Addr.{Addr};
+ghost use Rattle.addresses.specs.declared.address.Addr.{Addr};
 ghost use Rattle.events.specs.Actions.{sending_of};
 ghost use Rattle.events.specs.Events.{ToPeer};
 ghost use Rattle.control.specs.Responding.{count_of, response_in};

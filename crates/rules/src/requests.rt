@@ -1,7 +1,7 @@
 //! Rows change only by requests whose credentials are accepted.
 
 ghost use Rattle.std.specs.Prelude.{◌≡◌, ◌⊎◌, ℕ, List};
-ghost use Rattle.attributes.specs.declared.address.Addr.{Addr};
+ghost use Rattle.addresses.specs.declared.address.Addr.{Addr};
 ghost use Rattle.control.specs.declared.config.Config.{Config};
 ghost use Rattle.tables.specs.Rows.{Rows};
 ghost use Rattle.rules.specs.Authentication.{IsAuthenticated};

@@ -9,6 +9,8 @@ pub mod Kept
 pub mod Slots
 pub mod Reasons
 pub mod Runs
+pub mod Records
+pub mod Nothing
 pub mod Extents
 pub mod Flow
 pub mod LooseRuns

@@ -10,3 +10,6 @@ pub mod Slot
 pub mod Run
 pub mod Swap
 pub mod Kept
+pub mod Nothing
+pub mod Lawful
+pub mod Records

@@ -3,6 +3,7 @@
 #![tactic(auto)]
 
 mod access;
+mod answers;
 mod calling;
 mod effect;
 mod fetching;
@@ -13,11 +14,13 @@ mod memory;
 mod plan;
 mod program;
 mod reason;
+mod record;
 mod stack;
 mod storing;
 mod value;
 
 pub use access::{HEADROOM_FIRST, Location, index_in_stack, is_within};
+pub use answers::{Helpers, NoAllocation};
 pub use effect::{Comparison, Effect, Registers, effect_of, is_group_place, moved_place, writable};
 pub use fetching::{Branch, Fetched, Position, Visit, fetch, last, slot_by, target};
 pub use helper::{
@@ -33,6 +36,7 @@ pub use memory::Memory;
 pub use plan::Plan;
 pub use program::Program;
 pub use reason::Reason;
+pub use record::{address_of, address_record, wide_record};
 pub use stack::{StackMemory, put_bytes, put_pointer};
 pub use storing::store;
 pub use value::Value;

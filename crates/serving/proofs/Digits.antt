@@ -5,7 +5,7 @@ use Rattle.std.specs.List.{list_all}
 use Rattle.std.proofs.lemmas.Bool.{and_parts}
 use Rattle.std.proofs.lemmas.Bool.Decides.{nat_tests}
 use Rattle.stun.specs.Ranges.{is_between}
-use Rattle.control.specs.Configs.{is_nonce}
+use Rattle.credentials.specs.Texts.{is_nonce}
 use Rattle.serving.specs.Nonces.{is_digit}
 
 visible : (c : ℕ) → is_digit c ≡ true → is_between 0x21 0x7e c ≡ true

@@ -1,6 +1,6 @@
 -- Meaning. The calls of a link: what each was handed, and what it answered.
 use Rattle.std.specs.Prelude.{◌≡◌, ℕ, List, ◌++◌, Option, None, Some, Result}
-use Rattle.attributes.specs.declared.address.Addr.{Addr}
+use Rattle.addresses.specs.declared.address.Addr.{Addr}
 use Rattle.serving.specs.declared.link.LinkError.{LinkError}
 use Rattle.serving.specs.declared.link.Endpoint.{Endpoint}
 

@@ -2,7 +2,7 @@
 
 ghost use Rattle.std.specs.Prelude.{◌≡◌, length, true};
 ghost use Rattle.std.specs.List.{list_all};
-ghost use Rattle.control.specs.Configs.{is_nonce};
+ghost use Rattle.credentials.specs.Texts.{is_nonce};
 ghost use Rattle.serving.specs.Nonces.{is_digit};
 
 use arrayvec::ArrayString;

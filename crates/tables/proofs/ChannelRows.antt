@@ -10,10 +10,10 @@ use Rattle.std.proofs.lemmas.List.{get_or_default, length-set}
 use Rattle.std.proofs.lemmas.List.Edits.{length-insert}
 use Rattle.std.proofs.lemmas.List.Elements.{All-filter, All-set}
 use Rattle.std.proofs.lemmas.List.Kept.{AllPairs-filter}
-use Rattle.attributes.specs.declared.address.Addr.{Addr}
-use Rattle.attributes.specs.declared.address.Addr.TheVariants.{V4}
-use Rattle.attributes.specs.AddressOrder.{address_parts, order_by_parts, is_same_address}
-use Rattle.attributes.specs.laws.AddressOrder.{parts_order-total, parts_order-antisymmetric}
+use Rattle.addresses.specs.declared.address.Addr.{Addr}
+use Rattle.addresses.specs.declared.address.Addr.TheVariants.{V4}
+use Rattle.addresses.specs.AddressOrder.{address_parts, order_by_parts, is_same_address}
+use Rattle.addresses.specs.laws.AddressOrder.{parts_order-total, parts_order-antisymmetric}
 use Rattle.tables.specs.Channels.{channels_at, number_to, may_bind, is_none_or}
 use Rattle.tables.specs.laws.Map.{entry_found}
 use Rattle.tables.specs.RowLists.{channels_of, AreChannels}

@@ -10,10 +10,10 @@ use Rattle.std.proofs.lemmas.List.Elements.{All-cons, All-tail, All-map}
 use Rattle.std.proofs.lemmas.Map.Keys.{IsDistinct-from_apart}
 use Rattle.std.proofs.lemmas.Map.Steps.{length-le_from_distinct_below}
 use Rattle.std.proofs.lemmas.List.Edits.{get_or-insert_below, get_or-insert_at, get_or-insert_above, length-insert}
-use Rattle.attributes.specs.declared.address.Addr.{Addr}
-use Rattle.attributes.specs.declared.address.Addr.TheVariants.{V4}
-use Rattle.attributes.specs.AddressOrder.{address_parts, order_by_parts, is_same_address}
-use Rattle.attributes.specs.laws.AddressOrder.{parts_order-total, parts_order-antisymmetric, order_by_parts-total}
+use Rattle.addresses.specs.declared.address.Addr.{Addr}
+use Rattle.addresses.specs.declared.address.Addr.TheVariants.{V4}
+use Rattle.addresses.specs.AddressOrder.{address_parts, order_by_parts, is_same_address}
+use Rattle.addresses.specs.laws.AddressOrder.{parts_order-total, parts_order-antisymmetric, order_by_parts-total}
 use Rattle.tables.specs.LookUps.{is_of}
 use Rattle.tables.specs.laws.Row.{held_at-live, held_at-ended}
 use Rattle.tables.specs.Rows.{held_at, slots_at}

@@ -3,9 +3,9 @@ use Rattle.std.proofs.Common.{◌≡◌, ℕ, ◌<◌, ◌≤◌, Bool, true, fa
 use Rattle.std.specs.Cmp.{nat_cmp_total}
 use Rattle.std.specs.FinMap.{get}
 use Rattle.std.proofs.lemmas.Bool.{cond-true, cond-false, lt-ltb, le-ltb}
-use Rattle.attributes.specs.Addresses.{ip_of}
-use Rattle.attributes.specs.laws.AddressOrder.{ip_total}
-use Rattle.attributes.specs.declared.address.Addr.{Addr}
+use Rattle.addresses.specs.Addresses.{ip_of}
+use Rattle.addresses.specs.laws.AddressOrder.{ip_total}
+use Rattle.addresses.specs.declared.address.Addr.{Addr}
 use Rattle.tables.specs.Moments.{is_live_at}
 use Rattle.tables.specs.LookUps.{bound_peer, permission_of}
 use Rattle.tables.specs.Retained.{value_if}

@@ -1,7 +1,7 @@
 -- What a slot holds after a change, as the code makes it.
 use Rattle.std.proofs.Common.{◌≡◌, ℕ, true, false, Result, Ok, Err, OnOk, OnErr, is_ok, sym, subst}
 use Rattle.std.specs.FinMap.{empty}
-use Rattle.attributes.specs.Addresses.{IsIpv4Address}
+use Rattle.addresses.specs.Addresses.{IsIpv4Address}
 use Rattle.tables.specs.Channels.{ChannelMap}
 use Rattle.tables.specs.Permissions.{PermissionMap}
 use Rattle.tables.specs.WellFormed.{IsHeldAt}

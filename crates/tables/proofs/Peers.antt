@@ -2,10 +2,10 @@
 use Rattle.std.proofs.Common.{◌≡◌, ℕ, ◌&&◌, true, false, List, get_or, All, Ordering, Less, Equal, Greater, is_eq, refl, ap, sym, ◌∙◌, inl, inr}
 use Rattle.std.specs.Cmp.{eq_by_cmp_equiv, nat_eq_equiv, tied_back, Equal-is}
 use Rattle.std.proofs.lemmas.Bool.{and_parts, and_from, cases_lt}
-use Rattle.attributes.specs.Addresses.{ip_of, port_of}
-use Rattle.attributes.specs.declared.address.Addr.{Addr}
-use Rattle.attributes.specs.AddressOrder.{order_by_parts, is_same_address}
-use Rattle.attributes.specs.laws.AddressOrder.{order_by_parts-total, order_by_parts-same, ip_total}
+use Rattle.addresses.specs.Addresses.{ip_of, port_of}
+use Rattle.addresses.specs.declared.address.Addr.{Addr}
+use Rattle.addresses.specs.AddressOrder.{order_by_parts, is_same_address}
+use Rattle.addresses.specs.laws.AddressOrder.{order_by_parts-total, order_by_parts-same, ip_total}
 use Rattle.tables.specs.Search.{IsFoundAt, IsMissingAt}
 
 pub is_same-symmetric : (a b : Addr) → is_same_address a b ≡ is_same_address b a

@@ -7,16 +7,16 @@ use Rattle.std.specs.List.{insert as insert_at}
 use Rattle.std.specs.FinMap.{get-from_entries}
 use Rattle.std.proofs.lemmas.List.{length-set, take_more}
 use Rattle.std.proofs.lemmas.List.Edits.{length-insert}
-use Rattle.attributes.specs.Addresses.{ip_of}
-use Rattle.attributes.specs.declared.address.Addr.{Addr}
-use Rattle.attributes.specs.declared.address.Addr.TheVariants.{V4}
+use Rattle.addresses.specs.Addresses.{ip_of}
+use Rattle.addresses.specs.declared.address.Addr.{Addr}
+use Rattle.addresses.specs.declared.address.Addr.TheVariants.{V4}
 use Rattle.tables.specs.Moments.{is_live_at}
 use Rattle.tables.specs.Permissions.{PermissionMap, permissions_at, with_all}
 use Rattle.tables.specs.RowLists.{permissions_of, ArePermissions}
 use Rattle.tables.specs.declared.permissions.Permission.{Permission}
 use Rattle.tables.proofs.Lists.{length-filter-le}
-use Rattle.attributes.specs.AddressOrder.{ip_cmp, ip_order}
-use Rattle.attributes.specs.laws.AddressOrder.{ip_order-total, ip_order-antisymmetric, ip_total, ip_antisymmetric}
+use Rattle.addresses.specs.AddressOrder.{ip_cmp, ip_order}
+use Rattle.addresses.specs.laws.AddressOrder.{ip_order-total, ip_order-antisymmetric, ip_total, ip_antisymmetric}
 use Rattle.tables.specs.laws.Permit.{with_all-append}
 use Rattle.tables.specs.Search.{AreAscending, IsFoundAt, IsMissingAt, IsPlace}
 use Rattle.tables.specs.SortedRows.{AreSortedPermissions}

@@ -9,9 +9,9 @@ use Rattle.std.proofs.lemmas.List.{set-get_or}
 use Rattle.std.proofs.lemmas.Option.{same_Some, slice_get_read}
 use Rattle.fallible.specs.Fallible.{◌>>=◌, check}
 use Rattle.std.specs.List.{list_all}
-use Rattle.attributes.specs.Addresses.{IsAddress, ip_of, is_of_family}
-use Rattle.attributes.specs.laws.AddressOrder.{ip_total, ip_antisymmetric}
-use Rattle.attributes.specs.declared.address.Addr.{Addr}
+use Rattle.addresses.specs.Addresses.{IsAddress, ip_of, is_of_family}
+use Rattle.addresses.specs.laws.AddressOrder.{ip_total, ip_antisymmetric}
+use Rattle.addresses.specs.declared.address.Addr.{Addr}
 use Rattle.tables.specs.Changes.{Change, Follows, with_held, refresh_change, permit_change, bind_change, permission_end}
 use Rattle.tables.specs.Channels.{ChannelMap, IsChannelNumber, channels_at, may_bind}
 use Rattle.tables.specs.LookUps.{held_in}

@@ -3,9 +3,9 @@ use Rattle.std.specs.Prelude.{◌≡◌, ℕ, ◌+◌, List, Option, Result, Ok,
 use Rattle.std.specs.FinMap.{insert, empty, len}
 use Rattle.fallible.specs.Fallible.{◌>>=◌, check}
 use Rattle.std.specs.List.{list_all}
-use Rattle.attributes.specs.Addresses.{ip_of, is_of_family}
-use Rattle.attributes.specs.declared.address.Family.{Family}
-use Rattle.attributes.specs.declared.address.Addr.{Addr}
+use Rattle.addresses.specs.Addresses.{ip_of, is_of_family}
+use Rattle.addresses.specs.declared.address.Family.{Family}
+use Rattle.addresses.specs.declared.address.Addr.{Addr}
 use Rattle.tables.specs.Permissions.{PermissionMap, with_all}
 use Rattle.tables.specs.Channels.{ChannelMap, may_bind}
 use Rattle.tables.specs.Rows.{Rows, held_at}

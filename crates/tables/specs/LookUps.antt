@@ -2,9 +2,9 @@
 use Rattle.std.specs.Prelude.{ℕ, Bool, false, Option, None, Some, slice_get, is_some, find}
 use Rattle.std.specs.Option.{option_map, option_and_then, option_flatten}
 use Rattle.std.specs.FinMap.{empty, get}
-use Rattle.attributes.specs.Addresses.{ip_of}
-use Rattle.attributes.specs.AddressOrder.{is_same_address}
-use Rattle.attributes.specs.declared.address.Addr.{Addr}
+use Rattle.addresses.specs.Addresses.{ip_of}
+use Rattle.addresses.specs.AddressOrder.{is_same_address}
+use Rattle.addresses.specs.declared.address.Addr.{Addr}
 use Rattle.tables.specs.Channels.{ChannelMap, number_to}
 use Rattle.tables.specs.Permissions.{PermissionMap}
 use Rattle.tables.specs.Rows.{Rows}

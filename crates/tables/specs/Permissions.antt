@@ -1,9 +1,9 @@
 -- Meaning. The permissions of an allocation (RFC 8656, section 9).
 use Rattle.std.specs.Prelude.{ℕ, List, [], ◌∷◌}
 use Rattle.std.specs.FinMap.{FinMap, get, insert, retain_keys}
-use Rattle.attributes.specs.Addresses.{ip_of}
-use Rattle.attributes.specs.AddressOrder.{ip_cmp}
-use Rattle.attributes.specs.declared.address.Addr.{Addr}
+use Rattle.addresses.specs.Addresses.{ip_of}
+use Rattle.addresses.specs.AddressOrder.{ip_cmp}
+use Rattle.addresses.specs.declared.address.Addr.{Addr}
 use Rattle.tables.specs.Moments.{is_live_at}
 
 -- the end of the permission of each IP address that has one

@@ -1,8 +1,8 @@
 -- Interface. Permissions and channels as lists of rows, in any order.
 use Rattle.std.specs.Prelude.{◌≢◌, ◌≤◌, IsFalse, List, map, All, AllPairs}
 use Rattle.std.specs.FinMap.{from_entries}
-use Rattle.attributes.specs.Addresses.{ip_of}
-use Rattle.attributes.specs.AddressOrder.{is_same_address}
+use Rattle.addresses.specs.Addresses.{ip_of}
+use Rattle.addresses.specs.AddressOrder.{is_same_address}
 use Rattle.tables.specs.Channels.{ChannelMap}
 use Rattle.tables.specs.Permissions.{PermissionMap}
 use Rattle.tables.specs.declared.channels.Channel.{Channel}

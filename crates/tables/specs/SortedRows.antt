@@ -2,8 +2,8 @@
 use Rattle.std.specs.Prelude.{◌≡◌, List, AllPairs}
 use Rattle.std.specs.Ordering.{nat_cmp}
 use Rattle.std.specs.declared.cmp.Ordering.TheVariants.{Less}
-use Rattle.attributes.specs.Addresses.{ip_of}
-use Rattle.attributes.specs.AddressOrder.{ip_order, order_by_parts}
+use Rattle.addresses.specs.Addresses.{ip_of}
+use Rattle.addresses.specs.AddressOrder.{ip_order, order_by_parts}
 use Rattle.tables.specs.RowLists.{AreChannels, channels_of}
 use Rattle.tables.specs.declared.channels.Channel.{Channel}
 use Rattle.tables.specs.declared.permissions.Permission.{Permission}

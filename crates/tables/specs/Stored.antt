@@ -6,9 +6,9 @@ use Rattle.std.specs.FinMap.{insert, len}
 use Rattle.std.specs.List.{list_all}
 use Rattle.std.specs.declared.cmp.Ordering.TheVariants.{Less}
 use Rattle.fallible.specs.Fallible.{◌>>=◌, check}
-use Rattle.attributes.specs.Addresses.{ip_of, is_of_family}
-use Rattle.attributes.specs.declared.address.Addr.{Addr}
-use Rattle.attributes.specs.AddressOrder.{order_by_parts}
+use Rattle.addresses.specs.Addresses.{ip_of, is_of_family}
+use Rattle.addresses.specs.declared.address.Addr.{Addr}
+use Rattle.addresses.specs.AddressOrder.{order_by_parts}
 use Rattle.tables.specs.Channels.{may_bind}
 use Rattle.tables.specs.Permissions.{with_all}
 use Rattle.tables.specs.Rows.{held_at}

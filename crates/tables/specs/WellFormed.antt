@@ -1,7 +1,7 @@
 -- Meaning. Rows that are well formed. The rows of tables always are.
 use Rattle.std.specs.Prelude.{◌≡◌, ℕ, ◌≤◌, length, Some}
 use Rattle.std.specs.FinMap.{get, len}
-use Rattle.attributes.specs.Addresses.{IsAddress, IsIpv4Address}
+use Rattle.addresses.specs.Addresses.{IsAddress, IsIpv4Address}
 use Rattle.tables.specs.Channels.{IsChannelNumber}
 use Rattle.tables.specs.LookUps.{held_in}
 use Rattle.tables.specs.Rows.{Rows}

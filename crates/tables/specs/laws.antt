@@ -5,3 +5,4 @@ pub mod Map
 pub mod Retained
 pub mod Row
 pub mod Permit
+pub mod Channel

@@ -3,8 +3,8 @@
 ghost use Rattle.std.specs.Prelude.{◌≡◌};
 ghost use Rattle.std.specs.Ordering.{eq_by_cmp};
 ghost use Rattle.std.specs.List.{list_all};
-ghost use Rattle.attributes.specs.Addresses.{ip_of, is_of_family};
-ghost use Rattle.attributes.specs.AddressOrder.{ip_cmp, is_same_address};
+ghost use Rattle.addresses.specs.Addresses.{ip_of, is_of_family};
+ghost use Rattle.addresses.specs.AddressOrder.{ip_cmp, is_same_address};
 ghost use Rattle.tables.specs.Addresses.{is_ipv4};
 
 use attributes::{Addr, Family};

@@ -68,7 +68,7 @@ impl Row<u16> for Channel {
 }
 
 impl Row<Addr> for Channel {
-    ghost use Rattle.attributes.specs.AddressOrder.{order_by_parts};
+    ghost use Rattle.addresses.specs.AddressOrder.{order_by_parts};
 
     ghost order = { λ row peer. order_by_parts row.binding.peer peer };
 

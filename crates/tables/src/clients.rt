@@ -29,7 +29,7 @@ impl Default for Client {
 }
 
 impl Row<Addr> for Client {
-    ghost use Rattle.attributes.specs.AddressOrder.{order_by_parts};
+    ghost use Rattle.addresses.specs.AddressOrder.{order_by_parts};
 
     ghost order = { λ row client. order_by_parts row.address client };
 

@@ -20,7 +20,7 @@ pub(crate) struct Held {
 impl Held {
     ghost use Rattle.std.specs.Prelude.{◌≡◌, ◌≤◌, ℕ, IsTrue, IfErr, OnErr, OnOk, Err};
     ghost use Rattle.std.specs.FinMap.{len};
-    ghost use Rattle.attributes.specs.Addresses.{IsAddress, is_of_family};
+    ghost use Rattle.addresses.specs.Addresses.{IsAddress, is_of_family};
     ghost use Rattle.tables.specs.Channels.{IsChannelNumber, channels_at, may_bind};
     ghost use Rattle.tables.specs.laws.Row.{live_held};
     ghost use Rattle.tables.specs.Stored.{LeavesHeld, permit_held, bind_held, with_end, with_binding};

@@ -37,8 +37,8 @@ impl Default for Permission {
 }
 
 impl Row<Addr> for Permission {
-    ghost use Rattle.attributes.specs.Addresses.{ip_of};
-    ghost use Rattle.attributes.specs.AddressOrder.{ip_order};
+    ghost use Rattle.addresses.specs.Addresses.{ip_of};
+    ghost use Rattle.addresses.specs.AddressOrder.{ip_order};
 
     ghost order = { λ row ip. ip_order (ip_of row.ip) (ip_of ip) };
 
@@ -74,7 +74,7 @@ impl Permissions {
     ghost use Rattle.std.specs.Prelude.{◌≡◌, ℕ, ◌+◌, ◌<◌, ◌≤◌, OnOk, OnErr, IfErr, nat_le};
     ghost use Rattle.std.specs.Bool.{OnTrue};
     ghost use Rattle.std.specs.FinMap.{empty, get, insert, len};
-    ghost use Rattle.attributes.specs.Addresses.{ip_of};
+    ghost use Rattle.addresses.specs.Addresses.{ip_of};
     ghost use Rattle.tables.specs.Permissions.{permissions_at, with_all};
     ghost use Rattle.tables.specs.RowLists.{ArePermissions, permissions_of};
     ghost use Rattle.tables.specs.declared.permissions.TheConstants.{MAX_PERMISSIONS};

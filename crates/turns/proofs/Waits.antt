@@ -5,7 +5,7 @@ use Rattle.std.proofs.lemmas.List.{append-nil, map-append, take-take, drop-appen
 use Rattle.std.proofs.lemmas.Slice.{between_is, between-put_mid}
 use borrow.Rule.Slice.PartMut.{put_mid}
 use native.Mathlib.Numerals.{add-one}
-use Rattle.attributes.specs.declared.address.Addr.{Addr}
+use Rattle.addresses.specs.declared.address.Addr.{Addr}
 use Rattle.semantics.specs.declared.limits.TheConstants.{MAX_DATAGRAM}
 use Rattle.serving.specs.Calls.{Call, Received, HasReported}
 use Rattle.serving.specs.declared.link.LinkError.{LinkError}

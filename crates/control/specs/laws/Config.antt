@@ -5,7 +5,8 @@ use Rattle.std.proofs.lemmas.Bool.{both_ways, leb-true}
 use Rattle.std.proofs.lemmas.Option.{none-some}
 use Rattle.std.proofs.Common.{sym}
 use Rattle.stun.specs.Ranges.{is_between}
-use Rattle.control.specs.Configs.{is_text, is_user, are_distinct, least_users, is_secret, is_valid_field, fault}
+use Rattle.credentials.specs.Texts.{is_text}
+use Rattle.control.specs.Configs.{is_user, are_distinct, least_users, is_secret, is_valid_field, fault}
 use Rattle.control.specs.declared.config.TheConstants.{MAX_TEXT}
 use Rattle.control.specs.declared.config.Config.{Config}
 use Rattle.control.specs.declared.config.Field.TheVariants.{FirstPort, Slots, Realm, Nonce, Users, Secret}

@@ -13,11 +13,11 @@ use Rattle.hex.specs.Hex.{IsBytes, encode_lower, encode_with, lower_digits, deco
 use Rattle.hex.specs.Hex as hex
 use Rattle.hex.specs.declared.error.FromHexError.{FromHexError}
 use Rattle.hex.proofs.HexLemmas.{length-encode_with, decode_of-encode_lower, decode_sized-twice, decode_sized-ok, decode_of-ok, decode_of-even, IsDigits-lower_digits}
-use Rattle.attributes.specs.Addresses.{HasWidth, IsAddress}
-use Rattle.attributes.specs.AddressTexts.{dotted_decimal, hex_digits, address_text}
-use Rattle.attributes.specs.declared.address.Addr.{Addr}
-use Rattle.attributes.specs.declared.address.Addr.TheVariants.{V4, V6}
-use Rattle.control.specs.Configs.{is_nonce}
+use Rattle.addresses.specs.Addresses.{HasWidth, IsAddress}
+use Rattle.addresses.specs.AddressTexts.{dotted_decimal, hex_digits, address_text}
+use Rattle.addresses.specs.declared.address.Addr.{Addr}
+use Rattle.addresses.specs.declared.address.Addr.TheVariants.{V4, V6}
+use Rattle.credentials.specs.Texts.{is_nonce}
 use Rattle.semantics.specs.declared.limits.TheConstants.{MAX_DATAGRAM}
 use Rattle.events.specs.Events.{Event, Datagram, Nonce}
 use Rattle.events.specs.Lines.{bytes_text, side_text, source_text, datagram_text, line_of, IsSource, IsEvent}

@@ -4,7 +4,7 @@ use Rattle.semantics.specs.Calls.{is_valid, no_address}
 use Rattle.semantics.specs.Machine.{AddressRecord}
 use Rattle.semantics.specs.declared.helper.RecordForm.TheVariants.{Narrow, Wide}
 use Rattle.helpers.specs.LookUps.{held_answer, number_answer, test_answer}
-use Rattle.helpers.specs.Nothing.{empty_answer}
+use Rattle.semantics.specs.Nothing.{empty_answer}
 
 either : {A : Type 0} (test : Bool) (x y z : A) → x ≡ z → y ≡ z → (if test then x else y) ≡ z
 either true x y z first second = first

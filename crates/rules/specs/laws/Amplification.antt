@@ -11,10 +11,11 @@ use Rattle.stun.specs.declared.registry.attribute.TheConstants.{DATA, XOR_PEER_A
 use Rattle.stun.specs.declared.registry.Class.TheVariants as class
 use Rattle.stun.specs.declared.registry.ErrorCode.{ErrorCode}
 use Rattle.stun.specs.declared.registry.ErrorCode.TheVariants.{BadRequest, Unauthenticated, UnknownAttribute, AllocationMismatch, StaleNonce, AddressFamilyNotSupported, WrongCredentials, UnsupportedTransport, PeerAddressFamilyMismatch, InsufficientCapacity}
-use Rattle.attributes.specs.Addresses.{address_in, address_value, is_of_family, xor_bytes}
+use Rattle.attributes.specs.Addresses.{address_in, address_value, xor_bytes}
+use Rattle.addresses.specs.Addresses.{is_of_family}
 use Rattle.attributes.specs.Errors.{unknown_value}
-use Rattle.attributes.specs.declared.address.Addr.{Addr}
-use Rattle.attributes.specs.declared.address.Addr.TheVariants.{V4, V6}
+use Rattle.addresses.specs.declared.address.Addr.{Addr}
+use Rattle.addresses.specs.declared.address.Addr.TheVariants.{V4, V6}
 use Rattle.credentials.specs.Checks.{first_value, user_in}
 use Rattle.credentials.specs.TimeLimited.{Account}
 use Rattle.credentials.specs.declared.checking.AuthError.{AuthError}

@@ -8,7 +8,7 @@ use Rattle.stun.specs.declared.registry.ErrorCode.{ErrorCode}
 use Rattle.stun.specs.declared.registry.ErrorCode.TheVariants.{BadRequest, Unauthenticated, UnknownAttribute, AllocationMismatch, StaleNonce, AddressFamilyNotSupported, WrongCredentials, UnsupportedTransport, PeerAddressFamilyMismatch, InsufficientCapacity}
 use Rattle.attributes.specs.Addresses.{address_in}
 use Rattle.attributes.specs.Values.{number_of_value}
-use Rattle.attributes.specs.declared.address.Addr.{Addr}
+use Rattle.addresses.specs.declared.address.Addr.{Addr}
 use Rattle.credentials.specs.Checks.{first_value}
 use Rattle.control.specs.Control.{acceptable, all_understood, allocate_beside, attribute_test, channel_bind, create_permission, decision_for_user, decision_if_understood, family_for, family_number, is_repeated, own_allocation, peers_in, refresh_decision, refresh_for, requested_family, requested_lifetime, result_of_change, some_addresses}
 use Rattle.control.specs.Values.{optional_value, required_value}

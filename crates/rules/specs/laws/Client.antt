@@ -4,14 +4,13 @@ use Rattle.std.specs.Prelude.{◌==◌, Option, None, Some}
 use Rattle.std.proofs.lemmas.Bool.{cond-true, cond-false}
 use Rattle.stun.specs.Datagrams.{message_in}
 use Rattle.stun.specs.Messages.{Parts}
-use Rattle.attributes.specs.declared.address.Addr.{Addr}
+use Rattle.addresses.specs.declared.address.Addr.{Addr}
 use Rattle.control.specs.declared.config.Config.{Config}
 use Rattle.tables.specs.Rows.{Rows, rows_at}
 use Rattle.rules.specs.FastPart.{begins_as_stun}
 use Rattle.rules.specs.Rules.{send_indication, send_from, channel_data_from}
 use Rattle.rules.specs.ByRules.{control, message, from_client, request_of}
 use Rattle.rules.specs.Dispositions.{client_disposition, disposition_of_message, disposition_of_request, relayed_if, channel_data_test, send_test}
-use Rattle.rules.specs.declared.disposition.Disposition.{Disposition}
 use Rattle.rules.specs.Systems.{SystemReply, no_answer, reply_of_relaying}
 
 module _ (config : Config) (now : ℕ) (client : Addr) (rows : Rows) (datagram : List ℕ) where

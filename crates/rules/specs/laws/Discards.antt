@@ -6,8 +6,9 @@ use Rattle.stun.specs.Channels.{ChannelMessage}
 use Rattle.stun.specs.Datagrams.{message_in, channel_in}
 use Rattle.stun.specs.Messages.{Parts}
 use Rattle.stun.specs.declared.registry.attribute.TheConstants.{XOR_PEER_ADDRESS, DATA}
-use Rattle.attributes.specs.Addresses.{address_in, is_of_family}
-use Rattle.attributes.specs.declared.address.Addr.{Addr}
+use Rattle.attributes.specs.Addresses.{address_in}
+use Rattle.addresses.specs.Addresses.{is_of_family}
+use Rattle.addresses.specs.declared.address.Addr.{Addr}
 use Rattle.credentials.specs.Checks.{first_value}
 use Rattle.control.specs.Control.{all_understood}
 use Rattle.control.specs.declared.config.Config.{Config}

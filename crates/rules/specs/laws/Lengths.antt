@@ -1,14 +1,12 @@
 -- Interface. How many bytes a message has that is put together, and which values a message has that was read.
-use Rattle.std.proofs.Common.{◌≡◌, ℕ, zero, suc, ◌+◌, ◌*◌, ◌≤◌, Bool, true, false, List, [], ◌∷◌, length, refl, ap, subst, arith}
-use Rattle.std.specs.Prelude.{◌==◌, Option, None, Some, IfSome, cond, map, slice_get, slice_index}
-use Rattle.std.specs.Int.{w32, to_be_bytes}
+use Rattle.std.proofs.Common.{◌≡◌, ℕ, ◌+◌, ◌≤◌, Bool, true, false, List, [], ◌∷◌, length, refl, ap, subst, arith}
+use Rattle.std.specs.Prelude.{◌==◌, Option, None, Some, IfSome, cond, map, slice_get}
 use Rattle.std.specs.List.{filter}
 use Rattle.std.proofs.lemmas.Bool.{and_parts, eqb-true}
 use Rattle.std.proofs.lemmas.List.{length-append, length-replicate}
 use Rattle.std.proofs.lemmas.List.Concat.{flat_map-append}
 use Rattle.std.proofs.lemmas.Option.{none-some, same_Some}
 use Rattle.std.proofs.lemmas.Slice.Eq.{bytes_eq-Decides}
-use Rattle.sha1.specs.Sha1.{digest_bytes, sha1}
 use Rattle.stun.specs.Attributes.{value_of}
 use Rattle.stun.specs.Datagrams.{are_parts, is_message, message_in}
 use Rattle.stun.specs.Messages.{Attribute, PaddedAttribute, Parts, attribute_of, attribute_bytes, attribute_length, attributes_bytes, empty_message, padding_count, parts_bytes, up_to_integrity, with_attribute, zero_padded}
@@ -16,7 +14,7 @@ use Rattle.stun.specs.Reading.{parts_in}
 use Rattle.stun.specs.Registry.{message_integrity}
 use Rattle.stun.specs.declared.registry.Class.{Class}
 use Rattle.credentials.specs.Checks.{first_value}
-use Rattle.credentials.specs.Hmac.{hmac}
+use Rattle.credentials.specs.laws.Hmac.{length-hmac}
 use Rattle.credentials.specs.Integrity.{covered_bytes, integrity_of}
 use Rattle.credentials.specs.Signs.{with_integrity}
 use Rattle.control.specs.Replies.{kind_of, reply, signed_if, with_attributes}
@@ -64,21 +62,6 @@ id-with_attributes p [] = refl
 id-with_attributes p (a ∷ rest) = id-with_attributes (with_attribute p a.kind a.value) rest
 
 -- ---- signatures
-
-length-digest : (h : List ℕ) (n : ℕ) → length (digest_bytes h n) ≡ n * 4
-unfolding digest_bytes
-length-digest h zero = refl
-length-digest h (suc n) =
-    let last : length (to_be_bytes w32 (slice_index h n)) ≡ 4 = refl in
-    omega (arith, length-digest h n, last, length-append (digest_bytes h n) (to_be_bytes w32 (slice_index h n)))
-
-length-sha1 : (m : List ℕ) → length (sha1 m) ≡ 20
-unfolding sha1
-length-sha1 m = length-digest _ 5
-
-pub length-hmac : (key m : List ℕ) → length (hmac key m) ≡ 20
-unfolding hmac
-length-hmac key m = length-sha1 _
 
 -- the bytes of the signature under a key, if there is one
 abbrev pub length_of_signature : Option (List ℕ) → ℕ

@@ -10,11 +10,13 @@ use Rattle.stun.specs.declared.registry.ErrorCode.{ErrorCode}
 use Rattle.stun.specs.declared.registry.ErrorCode.TheVariants.{AllocationMismatch, BadRequest, PeerAddressFamilyMismatch, WrongCredentials}
 use Rattle.stun.specs.Ranges.{is_between}
 use Rattle.stun.specs.declared.registry.attribute.TheConstants.{CHANNEL_NUMBER, XOR_PEER_ADDRESS}
-use Rattle.attributes.specs.AddressOrder.{is_same_address}
-use Rattle.attributes.specs.Addresses.{address_in, is_of_family}
+use Rattle.addresses.specs.AddressOrder.{is_same_address}
+use Rattle.addresses.specs.laws.AddressOrder.{is_same-itself}
+use Rattle.attributes.specs.Addresses.{address_in}
+use Rattle.addresses.specs.Addresses.{is_of_family}
 use Rattle.attributes.specs.Values.{number_of_value}
-use Rattle.attributes.specs.declared.address.Addr.{Addr}
-use Rattle.attributes.specs.declared.address.Family.{Family}
+use Rattle.addresses.specs.declared.address.Addr.{Addr}
+use Rattle.addresses.specs.declared.address.Family.{Family}
 use Rattle.credentials.specs.declared.checking.AuthError.{AuthError}
 use Rattle.credentials.specs.Checks.{first_value}
 use Rattle.control.specs.Control.{Decision, acceptable, allocate_anew, allocate_beside, attribute_test, binding, channel_bind, create_permission, decision, decision_for_user, family_number, is_repeated, own_allocation, requested_family, requested_lifetime, refresh_decision, error_of, refresh_for, result_of_change, user_or_error, peers_in}
@@ -37,7 +39,7 @@ use Rattle.tables.specs.declared.permissions.TheConstants.{MAX_PERMISSIONS}
 use Rattle.tables.specs.declared.refusal.TableError.TheVariants.{Mismatch, Capacity, Conflict, NoAllocation}
 use Rattle.tables.specs.declared.refusal.TableError.TheVariants as refusal
 use Rattle.rules.specs.Isolation.{LookAlike, of_client, of_other}
-use Rattle.rules.specs.laws.OwnRows.{HoldsOwn, allocation_of-alike, first_free-nothing, is_same-itself, only, own_no_other, others-with_held, own-alike, own-with_held, own_slot}
+use Rattle.rules.specs.laws.OwnRows.{HoldsOwn, allocation_of-alike, first_free-nothing, only, own_no_other, others-with_held, own-alike, own-with_held, own_slot}
 
 -- ---- results that are related
 

@@ -1,16 +1,13 @@
 -- Interface. The rows of one client, and those of all others: which of them are live, and what a look-up for the client finds.
 use Rattle.std.specs.Prelude.{◌≡◌, ℕ, zero, suc, ◌≤◌, Bool, true, false, cond, nat_lt, List, [], ◌∷◌, map, find, slice_get, slice_set, Option, None, Some, is_none, refl, if◌then◌else◌}
-use Rattle.std.specs.Cmp.{tied_itself}
 use Rattle.std.specs.Option.{option_map, option_and_then, option_flatten}
-use Rattle.std.specs.Ordering.{is_eq}
 use Rattle.std.proofs.Common.{sym, ap, subst, ◌∙◌, get_or, arith}
 use Rattle.std.proofs.lemmas.Bool.{both_ways}
 use Rattle.std.proofs.lemmas.List.{map-set}
 use Rattle.std.proofs.lemmas.List.Quantifiers.{position-Some}
 use Rattle.std.proofs.lemmas.Option.{none-some, same_Some, slice_get-get_or}
-use Rattle.attributes.specs.AddressOrder.{is_same_address}
-use Rattle.attributes.specs.laws.AddressOrder.{order_by_parts-same, order_by_parts-total}
-use Rattle.attributes.specs.declared.address.Addr.{Addr}
+use Rattle.addresses.specs.AddressOrder.{is_same_address}
+use Rattle.addresses.specs.declared.address.Addr.{Addr}
 use Rattle.events.specs.declared.meta.Source.TheVariants.{Client}
 use Rattle.tables.specs.Changes.{first_free, with_held}
 use Rattle.tables.specs.LookUps.{allocation_of, held_by, held_in, is_of}
@@ -22,9 +19,6 @@ use Rattle.tables.specs.declared.held.Held.{Held}
 use Rattle.tables.specs.laws.Row.{live_again, live_held}
 use Rattle.tables.specs.laws.WellFormed.{held_by-at_slot}
 use Rattle.rules.specs.Isolation.{LookAlike, of_client, of_other}
-
-pub is_same-itself : (address : Addr) → is_same_address address address ≡ true
-is_same-itself address = sym (order_by_parts-same address address) ∙ ap is_eq (tied_itself order_by_parts-total address)
 
 -- ---- some rows of a table, each at its slot
 

@@ -8,10 +8,10 @@ use Rattle.std.proofs.Common.{sym, ap, subst, ◌∙◌, inl, inr, arith, is_som
 use Rattle.std.proofs.lemmas.Bool.{cases_Bool, cond-true, cond-false, false_from_ne_true, leb-true}
 use Rattle.std.proofs.lemmas.Option.{none-some}
 use Rattle.fallible.specs.Fallible.{◌>>=◌, check}
-use Rattle.attributes.specs.Addresses.{ip_of, is_of_family}
-use Rattle.attributes.specs.AddressOrder.{ip_cmp}
-use Rattle.attributes.specs.laws.AddressOrder.{ip_total, ip_antisymmetric}
-use Rattle.attributes.specs.declared.address.Addr.{Addr}
+use Rattle.addresses.specs.Addresses.{ip_of, is_of_family}
+use Rattle.addresses.specs.AddressOrder.{ip_cmp}
+use Rattle.addresses.specs.laws.AddressOrder.{ip_total, ip_antisymmetric}
+use Rattle.addresses.specs.declared.address.Addr.{Addr}
 use Rattle.tables.specs.Changes.{Change, permit_change, permission_end, with_held}
 use Rattle.tables.specs.LookUps.{held_in}
 use Rattle.tables.specs.Permissions.{PermissionMap, with_all}

@@ -6,9 +6,9 @@ use Rattle.std.specs.FinMap.{get, nat_cmp-IsAntisymmetric}
 use Rattle.std.proofs.Common.{sym, ap, ◌∙◌, inl, inr, arith}
 use Rattle.std.proofs.lemmas.Bool.{cases_Bool, cond-true, cond-false, both_ways, ltb-true, lt-ltb}
 use Rattle.std.proofs.lemmas.Option.{none-some, slice_get-map}
-use Rattle.attributes.specs.Addresses.{ip_of}
-use Rattle.attributes.specs.laws.AddressOrder.{ip_total, ip_antisymmetric}
-use Rattle.attributes.specs.declared.address.Addr.{Addr}
+use Rattle.addresses.specs.Addresses.{ip_of}
+use Rattle.addresses.specs.laws.AddressOrder.{ip_total, ip_antisymmetric}
+use Rattle.addresses.specs.declared.address.Addr.{Addr}
 use Rattle.tables.specs.Moments.{is_live_at}
 use Rattle.tables.specs.Permissions.{PermissionMap, permissions_at}
 use Rattle.tables.specs.Channels.{ChannelMap, channels_at}

@@ -10,12 +10,12 @@ use Rattle.std.proofs.lemmas.List.{length-map, length-replicate, length-set}
 use Rattle.std.proofs.lemmas.Option.{none-some, same_Some, slice_get-map}
 use Rattle.fallible.specs.Fallible.{◌>>=◌, check}
 use Rattle.std.specs.List.{list_all}
-use Rattle.attributes.specs.Addresses.{IsAddress, IsIpv4Address, is_of_family}
-use Rattle.attributes.specs.declared.address.Family.{Family}
-use Rattle.attributes.specs.AddressOrder.{ip_cmp, is_same_address}
-use Rattle.attributes.specs.laws.AddressOrder.{ip_total}
-use Rattle.attributes.specs.declared.address.Addr.{Addr}
-use Rattle.attributes.specs.declared.address.Addr.TheVariants.{V4, V6}
+use Rattle.addresses.specs.Addresses.{IsAddress, IsIpv4Address, is_of_family}
+use Rattle.addresses.specs.declared.address.Family.{Family}
+use Rattle.addresses.specs.AddressOrder.{ip_cmp, is_same_address}
+use Rattle.addresses.specs.laws.AddressOrder.{ip_total}
+use Rattle.addresses.specs.declared.address.Addr.{Addr}
+use Rattle.addresses.specs.declared.address.Addr.TheVariants.{V4, V6}
 use Rattle.tables.specs.Addresses.{is_ipv4}
 use Rattle.tables.specs.Changes.{Change, Follows, with_held, fresh, first_free, allocation_change, refresh_change, permit_change, bind_change, permission_end, with_peer}
 use Rattle.tables.specs.Channels.{ChannelMap, IsChannelNumber, may_bind}

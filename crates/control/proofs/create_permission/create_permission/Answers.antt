@@ -1,8 +1,8 @@
 use Rattle.std.proofs.Common.{◌≡◌, true, Ok, Err, ap, sym, ◌∙◌, subst, refl, List}
 use Rattle.std.specs.List.{list_all}
 use Rattle.stun.specs.declared.registry.ErrorCode.TheVariants.{PeerAddressFamilyMismatch}
-use Rattle.attributes.specs.Addresses.{is_of_family}
-use Rattle.attributes.specs.declared.address.Addr.{Addr}
+use Rattle.addresses.specs.Addresses.{is_of_family}
+use Rattle.addresses.specs.declared.address.Addr.{Addr}
 use Rattle.tables.specs.Rows.{rows_at}
 use Rattle.tables.specs.laws.Permit.{StandsFor}
 use Rattle.tables.specs.laws.WellFormed.{rows_at-well_formed}

@@ -1,7 +1,8 @@
 use Rattle.std.proofs.Common.{◌≡◌, true, filter_map}
 use Rattle.std.specs.List.{list_all}
-use Rattle.attributes.specs.Addresses.{address_in, is_of_family}
-use Rattle.attributes.specs.declared.address.Family.{Family}
+use Rattle.attributes.specs.Addresses.{address_in}
+use Rattle.addresses.specs.Addresses.{is_of_family}
+use Rattle.addresses.specs.declared.address.Family.{Family}
 use Rattle.control.specs.Peers.{peers_of}
 use Rattle.control.proofs.Peers.{AreOf, Collected}
 use Rattle.control.proofs.create_permission.distinct_peers.Given as goal

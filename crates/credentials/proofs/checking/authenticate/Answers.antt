@@ -1,4 +1,4 @@
-use Rattle.std.proofs.Common.{◌≡◌, ◌∙◌, Ok, Err, true, false, refl, rules}
+use Rattle.std.proofs.Common.{◌≡◌, Ok, Err, true, false, refl, rules}
 use Rattle.std.proofs.lemmas.Result.{err_from_is_err_and}
 use Rattle.credentials.specs.Checks.{directory_of, account_of}
 use Rattle.credentials.specs.declared.checking.AuthError.TheVariants.{UnknownUser, WrongIntegrity}

@@ -1,5 +1,5 @@
 use Rattle.std.proofs.Common.{ℕ, List, length, sym, ap, ◌∙◌}
-use Rattle.helpers.specs.Records.{address_of}
+use Rattle.semantics.specs.Records.{address_of}
 use Rattle.semantics.specs.Extents.{start_extent, run_extent}
 use Rattle.semantics.specs.Machine.{start}
 use Rattle.semantics.specs.declared.plan.Plan.{Plan}

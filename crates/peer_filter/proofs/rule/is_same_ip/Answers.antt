@@ -1,6 +1,6 @@
 use Rattle.std.proofs.Common.{is_eq, ap, ◌∙◌}
-use Rattle.attributes.specs.laws.AddressOrder.{ip_order-same}
-use Rattle.attributes.specs.Addresses.{ip_of}
+use Rattle.addresses.specs.laws.AddressOrder.{ip_order-same}
+use Rattle.addresses.specs.Addresses.{ip_of}
 use Rattle.peer_filter.proofs.rule.is_same_ip.Goals as goal
 
 pub returns : goal.returns

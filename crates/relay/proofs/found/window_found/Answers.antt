@@ -1,5 +1,5 @@
 use Rattle.std.proofs.Common.{◌≡◌, true, sym, ap, ◌∙◌}
-use Rattle.attributes.specs.Addresses.{is_of_family}
+use Rattle.addresses.specs.Addresses.{is_of_family}
 use Rattle.tables.specs.Rows.{rows_at}
 use Rattle.tables.specs.WellFormed.{AreWellFormed}
 use Rattle.tables.specs.declared.allocation.Allocation.{Allocation}

@@ -2,7 +2,7 @@ use Rattle.std.proofs.Common.{rules, ◌≡◌, false, IfOk, IfErr, OnOk, ap}
 use Rattle.std.specs.Io.KnownBytes.{Appends}
 use Rattle.insn.specs.Encoding.{Encodes}
 use Rattle.semantics.specs.Machine.{Context}
-use Rattle.helpers.specs.Nothing.{empty_answer}
+use Rattle.semantics.specs.Nothing.{empty_answer}
 use Rattle.machine.specs.Contents.{datagram_of}
 use Rattle.machine.specs.Lines.{lines_written, step_lines}
 use Rattle.machine.specs.Contexts.{environment_around}

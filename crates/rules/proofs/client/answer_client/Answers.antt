@@ -3,7 +3,6 @@ use Rattle.std.specs.Prelude.{◌==◌, Some}
 use Rattle.stun.specs.Datagrams.{message_in}
 use Rattle.control.specs.Responding.{count_of}
 use Rattle.rules.specs.Answers.{reply_sent}
-use Rattle.rules.specs.Dispositions.{client_disposition}
 use Rattle.rules.specs.ByRules.{from_client}
 use Rattle.rules.specs.laws.Client.{is_handled, disposition_is_handled}
 use Rattle.rules.specs.FastPart.{begins_as_stun}

@@ -1,6 +1,6 @@
 use Rattle.std.proofs.Common.{length, sym, ap, ◌∙◌}
 use Rattle.attributes.specs.Addresses.{address_value}
-use Rattle.attributes.specs.declared.address.Addr.{Addr}
+use Rattle.addresses.specs.declared.address.Addr.{Addr}
 use Rattle.rules.proofs.Lengths.{length_of_ipv4, length_of_ipv6}
 use Rattle.rules.proofs.discarding.value_length.Goals as goal
 

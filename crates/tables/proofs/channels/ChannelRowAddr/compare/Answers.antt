@@ -1,5 +1,5 @@
 use Rattle.std.proofs.Common.{◌∙◌}
-use Rattle.attributes.specs.laws.AddressOrder.{address_order-by_parts}
+use Rattle.addresses.specs.laws.AddressOrder.{address_order-by_parts}
 use Rattle.tables.proofs.channels.ChannelRowAddr.compare.Goals as goal
 
 pub returns : goal.returns

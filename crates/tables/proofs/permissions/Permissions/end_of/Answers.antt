@@ -1,6 +1,6 @@
 use Rattle.std.proofs.Common.{Some, get_or, ap, ◌∙◌, sym, subst, arith}
 use Rattle.std.specs.FinMap.{get}
-use Rattle.attributes.specs.Addresses.{ip_of}
+use Rattle.addresses.specs.Addresses.{ip_of}
 use Rattle.tables.specs.Search.{AreAscending, IsFoundAt, IsMissingAt}
 use Rattle.tables.proofs.PermissionRows.{by_ip, blank, searchable_by, found, missing}
 use Rattle.tables.proofs.permissions.Permissions.end_of.Goals as goal

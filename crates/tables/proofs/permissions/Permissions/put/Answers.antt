@@ -1,7 +1,7 @@
 use Rattle.std.proofs.Common.{◌≡◌, ◌<◌, ◌≤◌, length, ap, ◌∙◌, sym, subst, arith}
 use Rattle.std.specs.FinMap.{insert, len}
 use Rattle.std.proofs.lemmas.Bool.{eqb-true, eqb-false}
-use Rattle.attributes.specs.Addresses.{ip_of}
+use Rattle.addresses.specs.Addresses.{ip_of}
 use Rattle.tables.specs.RowLists.{permissions_of}
 use Rattle.tables.specs.Search.{AreAscending, IsFoundAt, IsMissingAt}
 use Rattle.tables.specs.SortedRows.{AreSortedPermissions}

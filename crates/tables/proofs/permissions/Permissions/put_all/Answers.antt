@@ -1,8 +1,8 @@
 use Rattle.std.proofs.Common.{◌≡◌, ◌+◌, [], get_or, drop, ap, ◌∙◌, sym, arith}
 use Rattle.std.specs.FinMap.{insert, len}
 use Rattle.std.proofs.lemmas.List.{at_drop_more}
-use Rattle.attributes.specs.Addresses.{ip_of}
-use Rattle.attributes.specs.declared.address.Addr.TheVariants.{V4}
+use Rattle.addresses.specs.Addresses.{ip_of}
+use Rattle.addresses.specs.declared.address.Addr.TheVariants.{V4}
 use Rattle.tables.specs.Permissions.{with_all}
 use Rattle.tables.proofs.PermissionRows.{len-with_all-ge, on_err}
 use Rattle.tables.proofs.permissions.Permissions.put_all.Goals as goal

@@ -1,0 +1,3 @@
+-- Interface. The laws of the definitions, which are proved, so that nobody has to believe them.
+pub mod Address
+pub mod AddressOrder

@@ -1,0 +1,2 @@
+-- Interface. The laws of the definitions, which are proved, so that nobody has to believe them.
+pub mod Hmac

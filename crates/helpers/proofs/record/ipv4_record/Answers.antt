@@ -1,5 +1,0 @@
-use Rattle.std.proofs.Common.{rules}
-use Rattle.helpers.proofs.record.ipv4_record.Goals as goal
-
-pub returns : goal.returns
-returns c = search rules
