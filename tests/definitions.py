@@ -5,13 +5,14 @@ nothing internal, and docs/DEFINITIONS.md names every file. No two files define 
 line of a page names in parentheses is in a file of definitions that it links. What a file of definitions names that
 docs/HEADLINE.md lists is listed there too, laws aside. Each file that a page links or names is there, unless it is
 one that a build makes (in a folder `out`), with as many lines as the page says, and so is each decision that the code
-names. There are no more test functions and edits that must fail than CONTRIBUTING.md says, those that the gate leaves out
-among them, and each edit can be applied.
+names. The picture of docs/ARCHITECTURE.md is that of crates.txt. There are no more test functions and edits that must
+fail than CONTRIBUTING.md says, those that the gate leaves out among them, and each edit can be applied.
 """
 
 import re
 import sys
 
+from lib.crates import picture
 from lib.headline import BELIEVED, USED, is_law, named_by, words_of_tables
 from lib.program import TOP, finish
 
@@ -193,6 +194,17 @@ def failures_of_decisions():
             yield f"docs/DECISIONS.md: no code names {title}"
 
 
+def failures_of_picture():
+    """Yields the lines that the picture of docs/ARCHITECTURE.md lacks of crates.txt, or has beyond it."""
+    text = (TOP / "docs" / "ARCHITECTURE.md").read_text(encoding="utf-8")
+    drawn = text[text.index("## Two halves"):].split("```\n")[1].splitlines()
+    made = picture()
+    for line in sorted({*drawn} ^ {*made}):
+        yield f"docs/ARCHITECTURE.md: {'crates.txt has no' if line in drawn else 'the picture lacks'} {line.strip()}"
+    if sorted(drawn) == sorted(made) and drawn != made:
+        yield "docs/ARCHITECTURE.md: the picture has another order"
+
+
 def failures_of_tests():
     """Yields the number of test functions, where there are too many."""
     count = sum(len(TEST.findall(path.read_text(encoding="utf-8"))) for path in sources())
@@ -241,7 +253,7 @@ def main():
     """Compares all, and returns the exit status."""
     cases = (failures_of_definitions, failures_of_meaning, failures_of_names, failures_of_named_definitions,
              failures_of_pages, failures_of_searches, failures_of_functions, failures_of_headline,
-             failures_of_decisions, failures_of_tests, failures_of_edits)
+             failures_of_decisions, failures_of_picture, failures_of_tests, failures_of_edits)
     failures = [found for case in cases for found in case()]
     return finish(failures, f"definitions and pages: {len(specs())} files, {len(failures)} failures")
 
