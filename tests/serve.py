@@ -120,6 +120,8 @@ def refused_lines():
             ([*port, "--allow", "fd00::1/8", "--listen", "0.0.0.0"], 2,
              network("fd00::1/8", "--allow <NETWORK>", "a bit after the prefix is set")),
             ([*port, "--allow", "fd00::1/8", "--slots", "x"], 2, value("x", "--slots <N>")),
+            ([*port, *USER, "--unconfined", "--same-as", "::1=::2"], 2, "error: '--same-as <A=B>' needs confined programs\n"),
+            ([*port, *USER, "--same-as", "::1"], 2, value("::1", "--same-as <A=B>")),
             ([*port, *many], 2, "error: more than 64 rules of '--deny <NETWORK>' and '--allow <NETWORK>'\n"),
             ([*port, *USER, "--listen", "0.0.0.0", "--slots", "0"], 2,
              "error: '--relay-ip <A>' is required with '--listen 0.0.0.0'\n"),
