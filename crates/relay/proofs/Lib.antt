@@ -15,8 +15,10 @@ mod Played
 mod Plays
 mod Pushes
 mod ReadLines
+mod Restored
 mod SameNonce
 mod ShippedReasons
 mod ShippedRules
 mod ShippedRuns
+mod Unconfined
 mod Windows

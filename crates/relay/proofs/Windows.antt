@@ -1,5 +1,5 @@
 -- What is found of a window that a program would send, by what is live in the slot in which helpers look up.
-use Rattle.std.proofs.Common.{◌≡◌, ℕ, List, Bool, true, false, refl, sym, ap, subst, ◌∙◌}
+use Rattle.std.proofs.Common.{◌≡◌, ℕ, List, true, false, refl, sym, ap, subst, ◌∙◌}
 use Rattle.std.specs.Prelude.{Option, None, Some, option_map}
 use Rattle.addresses.specs.Addresses.{is_of_family}
 use Rattle.addresses.specs.declared.address.Addr.{Addr}

@@ -14,4 +14,5 @@ pub mod Replays
 pub mod Requests
 pub mod Shipped
 pub mod Steps
+pub mod Unconfined
 pub mod Users

@@ -1,5 +1,5 @@
 -- Meaning. What contracts see of a relay, and the datagram of a step.
-use Rattle.std.specs.Prelude.{◌≡◌, ℕ, ◌≤◌, List, length, take, Option, None, refl}
+use Rattle.std.specs.Prelude.{◌≡◌, ℕ, ◌≤◌, Bool, true, List, length, take, Option, None, refl}
 use Rattle.std.specs.Coded.{Coded, code_by, coded×, coded_ℕ, coded_list}
 use Rattle.insn.specs.declared.instruction.Insn.{Insn}
 use Rattle.control.specs.Configs.{fault}
@@ -9,6 +9,7 @@ use Rattle.tables.specs.declared.moment.TheConstants.{LATEST}
 use Rattle.machine.specs.Contents as machine
 use Rattle.machine.specs.Contents.{room_of}
 use Rattle.relay.specs.ByPrograms.{Programs}
+use Rattle.relay.specs.Shipped.{AreShippedPair}
 use Rattle.rules.specs.Systems.{SystemState}
 use Rattle.rules.specs.declared.confinement.Confinement.{Confinement}
 use Rattle.control.specs.declared.reply.TheConstants.{REPLY_BYTES}
@@ -30,9 +31,10 @@ state_of r = record { rows = r.rows; greatest = r.greatest; nonce = r.config.non
 abbrev pub datagram_at : RelayContents → ℕ → List ℕ
 datagram_at r n = take n (room_of r.frame)
 
--- the configuration has no fault, the tables have its slots, no greater moment than the latest was seen, and there is room
--- for every reply
-pub record IsRelay (config : Config) (rows : Rows) (greatest : ℕ) (reply : List ℕ) : Type 0 where
+-- the configuration has no fault, programs that are marked as the shipped ones are, the tables have the slots of the
+-- configuration, no greater moment than the latest was seen, and there is room for every reply
+pub record IsRelay (config : Config) (client peer : List Insn) (are_shipped : Bool) (rows : Rows) (greatest : ℕ) (reply : List ℕ) : Type 0 where
+  pub shipped : are_shipped ≡ true → AreShippedPair client peer
   pub valid : fault config ≡ None
   pub slots : length rows.slots ≡ config.slots
   pub latest : greatest ≤ LATEST

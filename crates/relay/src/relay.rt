@@ -9,6 +9,7 @@ use crate::error::RelayError;
 use crate::explaining::Grounds;
 use crate::found::{Found, window_found, window_to_client, window_to_peer};
 use crate::running::{context_for, last_slot_over, live_for, program_for, run_over};
+use crate::shipped::are_shipped;
 use crate::step::{Step, discarded, relayed, stopped};
 use arrayvec::ArrayString;
 use attributes::Addr;
@@ -32,6 +33,8 @@ pub struct Relay {
     client: Loaded,
     peer: Loaded,
     confinement: Option<Confinement>,
+    /// Whether the programs are known to be the shipped ones, of which all that they send is permitted.
+    are_shipped: bool,
     tables: Tables,
     greatest: u64,
     frame: Frame,
@@ -60,7 +63,7 @@ impl Model for Relay {
       reply = r.reply.items;
     } };
 
-    ghost invariant = { λ r. IsRelay r.config r.tables r.greatest r.reply.items };
+    ghost invariant = { λ r. IsRelay r.config r.client r.peer r.are_shipped r.tables r.greatest r.reply.items };
 }
 
 /// Returns whether a source is served: a client over IPv4, or a peer whose slot is there.
@@ -126,11 +129,15 @@ impl Relay {
         let Ok(reply) = vec![in alloc; 0u8; REPLY_BYTES] else {
             return Err(RelayError::Memory);
         };
+        let Ok(are_shipped) = are_shipped(alloc, &client, &peer) else {
+            return Err(RelayError::Memory);
+        };
         Ok(Relay {
             config,
             client,
             peer,
             confinement: None,
+            are_shipped,
             tables,
             greatest: 0,
             frame,
@@ -190,9 +197,11 @@ impl Relay {
         } }
     {
         if let Some(client) = client {
+            self.are_shipped = false;
             self.client = client;
         }
         if let Some(peer) = peer {
+            self.are_shipped = false;
             self.peer = peer;
         }
     }
@@ -260,7 +269,7 @@ impl Relay {
     {
         self.law_steps_by_rules(&meta, n);
         self.law_steps_are_harmless(&meta, n);
-        let found = self.advance(&meta, n);
+        let found = self.decide(&meta, n);
         let relay = &*self;
         relay.lend(meta.from, found)
     }
@@ -289,6 +298,27 @@ impl Relay {
                 Source::Peer { .. } => discarded(Discard::ByProgram),
             },
         }
+    }
+
+    /// Changes all that a datagram changes, and finds what is to be sent. Of the shipped programs, which send only what is
+    /// permitted, it isn't asked.
+    #[inline(always)]
+    fn decide(&mut self, meta: &Meta, n: usize) -> Found
+        requires { n ≤ MAX_DATAGRAM }
+        ensures stepped { HasStepped self.old self.new (outcome_of self.old meta.entry.now n) }
+        ensures found { sending_of_found self.new meta.entry.now.from result ≡ (outcome_of self.old meta.entry.now n).answer }
+        ensures disposition { disposition_of_found self.new meta.entry.now.from result
+            ≡ disposition_of_step self.old meta.entry.now n }
+        ensures room { HasRoomFor result self.new.reply }
+    {
+        if !self.are_shipped {
+            return self.advance(meta, n);
+        }
+        self.law_shipped_are_unconfined(meta, n);
+        let confinement = self.confinement.take();
+        let found = self.advance(meta, n);
+        self.confinement = confinement;
+        found
     }
 
     /// Changes all that a datagram changes, and finds what is to be sent.

@@ -1,6 +1,6 @@
 //! The shipped programs are the rules.
 
-ghost use Rattle.std.specs.Prelude.{◌≡◌, ◌<◌, ℕ, List, None, All, ◌≤◌, true};
+ghost use Rattle.std.specs.Prelude.{◌≡◌, ◌<◌, ℕ, List, None, All, ◌≤◌, true, IfOk};
 ghost use Rattle.addresses.specs.Addresses.{IsAddress};
 ghost use Rattle.control.specs.Configs.{fault};
 ghost use Rattle.control.specs.declared.config.Config.{Config};
@@ -16,13 +16,39 @@ ghost use Rattle.relay.specs.declared.reason.Reason.TheVariants.{Done};
 ghost use Rattle.tables.specs.Rows.{Rows};
 ghost use Rattle.rules.specs.ByRules.{by_rules};
 ghost use Rattle.rules.specs.Discards.{ruled_disposition};
-ghost use Rattle.relay.specs.Shipped.{AreShipped, AnswerAlike};
+ghost use Rattle.loader.specs.Loads.{IsLoaded};
+ghost use Rattle.relay.specs.Shipped.{AreShipped, AreShippedPair, AnswerAlike};
 ghost use Rattle.rules.specs.Systems.{first, address_of_source, is_served};
 
 use crate::relay::Relay;
 use attributes::law_is_address;
 use events::{Meta, Source};
-use programs::{law_client_serves, law_peer_serves};
+use insn::encode;
+use loader::Loaded;
+use programs::{CLIENT, PEER, law_client_serves, law_peer_serves};
+use std::alloc::{AllocError, Global};
+
+/// Returns `true` only where a loaded program is the one that these bytes encode.
+///
+/// # Errors
+/// Where memory runs out.
+fn is_program(alloc: Global, program: &Loaded, bytes: &[u8]) -> Result<bool, AllocError>
+    ensures { IfOk result (λ same. same ≡ true → IsLoaded program.now bytes.now) }
+{
+    let code = program.program().code();
+    let encoded = encode(alloc, code)?;
+    Ok(code.len() > 0 && encoded.as_slice() == bytes)
+}
+
+/// Returns `true` only where two loaded programs are the shipped ones.
+///
+/// # Errors
+/// Where memory runs out.
+pub(crate) fn are_shipped(alloc: Global, client: &Loaded, peer: &Loaded) -> Result<bool, AllocError>
+    ensures { IfOk result (λ are. are ≡ true → AreShippedPair client.now peer.now) }
+{
+    Ok(is_program(alloc, client, CLIENT)? && is_program(alloc, peer, PEER)?)
+}
 
 /// States that with [`CLIENT`](programs::CLIENT) and [`PEER`](programs::PEER) a new relay sends, over every list of events,
 /// exactly what the rules say (RFC 8656), and comes to the same state.
@@ -77,12 +103,26 @@ impl Relay {
     ghost use Rattle.relay.specs.Relays.{state_of};
     ghost use Rattle.relay.specs.Replays.{system_of};
     ghost use Rattle.relay.specs.Steps.{outcome_of, ruled_outcome_of};
+    ghost use Rattle.relay.specs.Unconfined.{IsSameUnconfined};
 
     /// States that with the shipped programs a datagram gives what the rules say.
     pub(crate) fn law_steps_by_rules(&self, meta: &Meta, n: usize)
         requires { n ≤ MAX_DATAGRAM }
         ensures { AreShipped self.now.programs → outcome_of self.now meta.entry.now n
             ≡ ruled_outcome_of self.now meta.entry.now n }
+    {
+        law_client_serves();
+        law_peer_serves();
+        law_is_source(meta.from);
+        law_are_bytes(&meta.transaction_id);
+        law_all_fit(self.frame().room());
+        self.tables().law_are_well_formed();
+    }
+
+    /// States that the shipped programs do the same where they are not confined.
+    pub(crate) fn law_shipped_are_unconfined(&self, meta: &Meta, n: usize)
+        requires { n ≤ MAX_DATAGRAM }
+        ensures { AreShipped self.now.programs → IsSameUnconfined self.now meta.entry.now n }
     {
         law_client_serves();
         law_peer_serves();

@@ -1,0 +1,30 @@
+use Rattle.std.proofs.Common.{◌≡◌, ◌<◌, All, length-take, ap, subst, ◌∙◌, arith}
+use Rattle.std.proofs.lemmas.List.Elements.{All-take}
+use Rattle.machine.specs.Contents.{room_of}
+use Rattle.semantics.specs.Runs.{IsDatagram}
+use Rattle.tables.specs.WellFormed.{AreWellFormed}
+use Rattle.relay.specs.Relays.{state_of, datagram_at}
+use Rattle.rules.specs.Systems.{outcome_at, with_nonce}
+use Rattle.tables.specs.Moments.{moment_of}
+use Rattle.relay.proofs.Unconfined.{disposition_unconfined, reply_unconfined}
+use Rattle.relay.proofs.relay.Relay.law_shipped_are_unconfined.Goals as goal
+
+pub returns : goal.returns
+returns c = λ are.
+    let room : c.room.result.now ≡ room_of c.args.self.now.frame = c.room.ensures.value ∙ ap room_of c.frame.ensures in
+    let datagram : IsDatagram (datagram_at c.args.self.now c.args.n) = record {
+      short = omega (arith, length-take c.args.n (room_of c.args.self.now.frame), c.requires);
+      bytes_fit = All-take (λ b. b < 256) c.args.n (room_of c.args.self.now.frame) (subst (All (λ b. b < 256)) room c.law_all_fit.ensures);
+    } in
+    let r = c.args.self.now in
+    let given = c.args.meta.now in
+    let formed = subst AreWellFormed c.tables.ensures c.law_are_well_formed.ensures in
+    let moment = moment_of r.greatest given.now in
+    record {
+      outcome = ap (outcome_at moment (state_of r))
+          (reply_unconfined c.law_client_serves.ensures c.law_peer_serves.ensures r.programs are (with_nonce r.config r.config.nonce.bytes) moment given.transaction_id r.rows
+          (datagram_at r c.args.n) formed c.law_are_bytes.ensures datagram given.from c.law_is_source.ensures);
+      disposition =
+          disposition_unconfined c.law_client_serves.ensures c.law_peer_serves.ensures r.programs are r.config moment given.transaction_id r.rows
+          (datagram_at r c.args.n) formed c.law_are_bytes.ensures datagram given.from c.law_is_source.ensures;
+    }
