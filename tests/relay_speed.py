@@ -6,13 +6,15 @@ No time is asserted. A figure is the best of several rounds. The clock starts at
 the relay up, so that the start of the process and the setup aren't counted.
 """
 
+import pathlib
 import struct
 import subprocess
 import sys
+import tempfile
 import time
 
 from lib.program import PROGRAM as RELAYD
-from lib.program import TOP, build
+from lib.program import TOP, assembled, build
 from lib.rules import (
     ALLOCATE, CHANNEL_BIND, CHANNEL_NUMBER, CREATE_PERMISSION, LIFETIME, NONCE, REALM, TRANSPORT, USERNAME,
     XOR_PEER_ADDRESS, address_value, key_of, line_of, message)
@@ -132,11 +134,21 @@ def resident(process):
         return next(int(line.split()[1]) for line in status if line.startswith("VmHWM"))
 
 
-def replayed():
-    """Returns how long `relayd replay` takes for all lines, in seconds, and its greatest resident set after the first piece
-    and after all, in kilobytes."""
+def programs(folder):
+    """Yields titles of what `relayd replay` is started with, and the words for it: the shipped programs, and a client's that
+    has an instruction more, confined and not."""
+    text = (TOP / "examples" / "relay" / "client.s").read_text(encoding="utf-8")
+    other = assembled(folder, "client", f"    mov r0, 0\n{text}")
+    for title, words in (("the shipped programs", []), ("another client's program", ["--client", other])):
+        yield title, words
+        yield f"{title}, confined", [*words, "--confine"]
+
+
+def replayed(more):
+    """Returns how long `relayd replay` with more words takes for all lines, in seconds, and its greatest resident set after
+    the first piece and after all, in kilobytes."""
     piece = f"{from_client(client(0), channel_data(0, 160))}\n".encode() * PIECE
-    words = [RELAYD, "replay", "-", "--user", "u:p"]
+    words = [RELAYD, "replay", "-", "--user", "u:p", *more]
     with subprocess.Popen(words, stdin=subprocess.PIPE, stdout=subprocess.DEVNULL) as process:
         process.stdin.write("".join(f"{line}\n" for line in setup(1, 1)).encode() + piece)
         process.stdin.flush()
@@ -154,11 +166,15 @@ def replayed():
     return taken, first, last
 
 
-def print_replay():
+def print_replays(folder):
     """Prints how fast `relayd replay` answers lines, and the memory that it took."""
-    taken, first, last = zip(*(replayed() for _ in range(REPLAYS)))
-    print(f"replay of {LINES:,} lines: {LINES / min(taken):,.0f} a second; greatest resident set after {PIECE:,} lines "
-          f"{max(first)} kB, at the end {max(last)} kB")
+    cases = list(programs(folder))
+    # each round runs every case, as above
+    rounds = [[replayed(words) for _, words in cases] for _ in range(REPLAYS)]
+    for (title, _), runs in zip(cases, zip(*rounds)):
+        taken, first, last = zip(*runs)
+        print(f"replay of {LINES:,} lines with {title}: {LINES / min(taken):,.0f} a second; greatest resident set after "
+              f"{PIECE:,} lines {max(first)} kB, at the end {max(last)} kB")
 
 
 def main():
@@ -167,7 +183,8 @@ def main():
         subprocess.run(["rt", "run", "--", "1", "0"], cwd=FOLDER, stdin=events, capture_output=True, check=True)
     build()
     print_steps()
-    print_replay()
+    with tempfile.TemporaryDirectory() as folder:
+        print_replays(pathlib.Path(folder))
 
 
 if __name__ == "__main__":
