@@ -373,23 +373,33 @@ fn confinement(alloc: Global) -> Result<Confinement, Fail> {
     Ok(Confinement { aliases })
 }
 
-/// Compares what a relay says, of which programs that send anywhere are confined, and are no longer.
+/// Makes a relay with a channel, whose programs then send anywhere, confined or not.
+fn sending_anywhere(
+    rt: &impl Abort,
+    alloc: Global,
+    confinement: Option<Confinement>,
+) -> Result<Relay, Fail> {
+    let mut relay = relay_of(alloc, &PASSES_ALL, &SENDS_ANYWHERE)?;
+    relay.confine(confinement);
+    open(rt, &mut relay)?;
+    relay.set_programs(Some(load(alloc, &SENDS_ANYWHERE)?), None);
+    Ok(relay)
+}
+
+/// Compares what relays say whose programs are confined, without aliases and with them.
 fn check_confined(rt: &impl Abort, alloc: Global) -> Result<(), Fail> {
-    let mut relay = relay_of(alloc, &PASSES_ALL, &SENDS_ANYWHERE)?;
-    relay.confine(Some(Confinement {
+    let without = Confinement {
         aliases: Vec::new(alloc),
-    }));
-    open(rt, &mut relay)?;
-    relay.set_programs(Some(load(alloc, &SENDS_ANYWHERE)?), None);
+    };
+    let mut relay = sending_anywhere(rt, alloc, Some(without))?;
     check_all(rt, &mut relay, &SENT_ANYWHERE)?;
-    let mut relay = relay_of(alloc, &PASSES_ALL, &SENDS_ANYWHERE)?;
-    relay.confine(Some(confinement(alloc)?));
-    open(rt, &mut relay)?;
-    relay.set_programs(Some(load(alloc, &SENDS_ANYWHERE)?), None);
-    check_all(rt, &mut relay, &SENT_BY_NAME)?;
-    let mut relay = relay_of(alloc, &PASSES_ALL, &SENDS_ANYWHERE)?;
-    open(rt, &mut relay)?;
-    relay.set_programs(Some(load(alloc, &SENDS_ANYWHERE)?), None);
+    let mut relay = sending_anywhere(rt, alloc, Some(confinement(alloc)?))?;
+    check_all(rt, &mut relay, &SENT_BY_NAME)
+}
+
+/// Compares what a relay says whose programs are not confined.
+fn check_unconfined(rt: &impl Abort, alloc: Global) -> Result<(), Fail> {
+    let mut relay = sending_anywhere(rt, alloc, None)?;
     for (event, wanted) in SENT_ANYWHERE {
         let wanted = if wanted == CONFINED {
             Disposition::Relayed
@@ -409,5 +419,6 @@ fn each_step_says_what_it_did(rt: HostRuntime) -> Result<(), Fail> {
     check_all(&rt, &mut relay, &FURTHER)?;
     check_passed(&rt, rt.alloc())?;
     check_confined(&rt, rt.alloc())?;
+    check_unconfined(&rt, rt.alloc())?;
     check_reasons(&rt, rt.alloc())
 }
