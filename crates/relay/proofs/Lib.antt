@@ -3,6 +3,7 @@ mod AfterRuns
 mod BoundedAnswers
 mod ChangedRows
 mod Confined
+mod Datagrams
 mod FirstLines
 mod Frames
 mod HarmlessSteps

@@ -23,23 +23,14 @@ with r confinement = record r { programs = confined_by r.programs confinement }
 
 -- ---- what was found doesn't depend on it
 
-sends_alike : (r : RelayContents) (confinement : Option Confinement) (from : Source) (f : Found)
-    → sending_of_found (with r confinement) from f ≡ sending_of_found r from f
-sends_alike r confinement from (found.Nothing reason) = refl
-sends_alike r confinement from found.Stopped = refl
-sends_alike r confinement from (found.WindowToPeer slot peer) = refl
-sends_alike r confinement from (found.WindowToClient client) = refl
-sends_alike r confinement (Client client) (found.Answer answer) = refl
-sends_alike r confinement (Peer slot peer) (found.Answer answer) = refl
-
-done_alike : (r : RelayContents) (confinement : Option Confinement) (from : Source) (f : Found)
-    → disposition_of_found (with r confinement) from f ≡ disposition_of_found r from f
-done_alike r confinement from (found.Nothing reason) = refl
-done_alike r confinement from found.Stopped = refl
-done_alike r confinement from (found.WindowToPeer slot peer) = refl
-done_alike r confinement from (found.WindowToClient client) = refl
-done_alike r confinement (Client client) (found.Answer answer) = refl
-done_alike r confinement (Peer slot peer) (found.Answer answer) = refl
+found_alike : (r : RelayContents) (confinement : Option Confinement) (from : Source) (f : Found)
+    → (sending_of_found (with r confinement) from f ≡ sending_of_found r from f) × (disposition_of_found (with r confinement) from f ≡ disposition_of_found r from f)
+found_alike r confinement from (found.Nothing reason) = (refl, refl)
+found_alike r confinement from found.Stopped = (refl, refl)
+found_alike r confinement from (found.WindowToPeer slot peer) = (refl, refl)
+found_alike r confinement from (found.WindowToClient client) = (refl, refl)
+found_alike r confinement (Client client) (found.Answer answer) = (refl, refl)
+found_alike r confinement (Peer slot peer) (found.Answer answer) = (refl, refl)
 
 -- ---- the step
 
@@ -57,9 +48,9 @@ module _ (r new : RelayContents) (given : Meta) (n : ℕ) (left taken : Option C
 
   pub sends : (f : Found) → sending_of_found new given.from f ≡ (outcome_of (with r left) given n).answer
       → sending_of_found (with new taken) given.from f ≡ (outcome_of r given n).answer
-  sends f is = sends_alike new taken given.from f ∙ is ∙ ap (λ (o : SystemOutcome). o.answer) outcomes
+  sends f is = (found_alike new taken given.from f).0 ∙ is ∙ ap (λ (o : SystemOutcome). o.answer) outcomes
 
   pub done : (f : Found) → disposition_of_found new given.from f ≡ disposition_of_step (with r left) given n
       → disposition_of_found (with new taken) given.from f ≡ disposition_of_step r given n
   done f is =
-      done_alike new taken given.from f ∙ is ∙ ap (λ l. disposition_of_step (with r l) given n) none ∙ sym same.disposition
+      (found_alike new taken given.from f).1 ∙ is ∙ ap (λ l. disposition_of_step (with r l) given n) none ∙ sym same.disposition

@@ -300,8 +300,8 @@ impl Relay {
         }
     }
 
-    /// Changes all that a datagram changes, and finds what is to be sent. Of the shipped programs, which send only what is
-    /// permitted, it isn't asked.
+    /// Changes all that a datagram changes, and finds what is to be sent. The shipped programs send only what is permitted, so
+    /// with them no permission is looked up for it.
     #[inline(always)]
     fn decide(&mut self, meta: &Meta, n: usize) -> Found
         requires { n ≤ MAX_DATAGRAM }

@@ -1,21 +1,17 @@
-use Rattle.std.proofs.Common.{◌≡◌, ◌<◌, All, length-take, ap, subst, ◌∙◌, arith}
-use Rattle.std.proofs.lemmas.List.Elements.{All-take}
+use Rattle.std.proofs.Common.{◌<◌, All, ap, subst, ◌∙◌}
 use Rattle.machine.specs.Contents.{room_of}
-use Rattle.semantics.specs.Runs.{IsDatagram}
 use Rattle.tables.specs.WellFormed.{AreWellFormed}
 use Rattle.relay.specs.Relays.{state_of, datagram_at}
 use Rattle.rules.specs.Systems.{outcome_at, with_nonce}
 use Rattle.tables.specs.Moments.{moment_of}
+use Rattle.relay.proofs.Datagrams.{is_datagram}
 use Rattle.relay.proofs.Unconfined.{disposition_unconfined, reply_unconfined}
 use Rattle.relay.proofs.relay.Relay.law_shipped_are_unconfined.Goals as goal
 
 pub returns : goal.returns
 returns c = λ are.
-    let room : c.room.result.now ≡ room_of c.args.self.now.frame = c.room.ensures.value ∙ ap room_of c.frame.ensures in
-    let datagram : IsDatagram (datagram_at c.args.self.now c.args.n) = record {
-      short = omega (arith, length-take c.args.n (room_of c.args.self.now.frame), c.requires);
-      bytes_fit = All-take (λ b. b < 256) c.args.n (room_of c.args.self.now.frame) (subst (All (λ b. b < 256)) room c.law_all_fit.ensures);
-    } in
+    let fit = subst (All (λ b. b < 256)) (c.room.ensures.value ∙ ap room_of c.frame.ensures) c.law_all_fit.ensures in
+    let datagram = is_datagram c.args.self.now c.args.n c.requires fit in
     let r = c.args.self.now in
     let given = c.args.meta.now in
     let formed = subst AreWellFormed c.tables.ensures c.law_are_well_formed.ensures in
