@@ -9,47 +9,27 @@
 #   tests/build.sh --list     prints relayd and the crates below it, lowest first
 set -euo pipefail
 top=$(cd "$(dirname "$0")/.." && pwd)
-program=$top/crates/relayd/out/relayd
-log=$top/build.log
-
-# Prints relayd and the crates below it, lowest first: crates.txt has each after those that it uses.
-crates_of_relayd() {
-  tac "$top/crates.txt" |
-    awk -F: 'BEGIN { used["relayd"] = 1 }
-      $1 in used { print $1; count = split($2, below, " "); for (i = 1; i <= count; i++) used[below[i]] = 1 }' |
-    tac
-}
-
-# Prints a source of relayd or of a crate below it that is newer than the program, if there is one.
-newer_source() {
-  find "${crates[@]/#/$top/crates/}" "$top/crates.txt" -name out -prune -o \
-    -type f \( -name '*.rt' -o -name '*.antt' -o -name crates.txt \) -newer "$program" -print -quit
-}
-
-# Whether the program is there and no source is newer.
-is_built() {
-  [ -x "$program" ] && [ -z "$(newer_source)" ]
-}
+# shellcheck source=tests/lib/sources.sh
+. "$top/tests/lib/sources.sh"
 
 # Stops where the kit isn't there, and warns where it is another one than README.md names.
 check_kit() {
-  wanted=$(sed -n 's/^The kit `\([^`]*\)`:.*/\1/p' "$top/README.md")
+  wanted=$(wanted_kit)
   if ! command -v rt >/dev/null; then
     echo "relayd is not built, and the kit's command rt is not in PATH: $wanted is wanted" >&2
     exit 1
   fi
-  found=$(rt version)
-  case $found in
-  "$wanted "* | "$wanted") ;;
-  *) echo "README.md names the kit $wanted, and this one is $found: what it proves may differ" >&2 ;;
-  esac
+  found=$(found_kit)
+  if [ "$found" != "$wanted" ]; then
+    echo "README.md names the kit $wanted, and this one is $found: what it proves may differ" >&2
+  fi
 }
 
 # Waits until no other build of this checkout runs. The log is the file that is locked, as long as this script runs.
 wait_for_turn() {
-  exec 9>>"$log"
+  exec 9>>"$build_log"
   if ! flock --nonblock 9; then
-    echo "another build of relayd runs in this checkout, and this one waits for it: its log is $log" >&2
+    echo "another build of relayd runs in this checkout, and this one waits for it: its log is $build_log" >&2
     flock 9
   fi
 }
@@ -79,7 +59,7 @@ report_progress() {
       echo "$proved of ${#crates[@]}: ${name%% *} is proved, after $((SECONDS / 60)) min $((SECONDS % 60)) s" >&2
       ;;
     esac
-  done >"$log"
+  done >"$build_log"
 }
 
 # Puts the program that was built of a copy in its place, as old as the copy: a source that was changed since then is newer.
@@ -90,7 +70,6 @@ install_program() {
   mv "$program.new" "$program"
 }
 
-mapfile -t crates < <(crates_of_relayd)
 if [ "${1:-}" = --list ]; then
   printf '%s\n' "${crates[@]}"
   exit
@@ -101,8 +80,7 @@ wait_for_turn
 # the build that it waited for may have been of the same sources
 if is_built; then exit; fi
 if [ -x "$program" ]; then
-  newer=$(newer_source)
-  echo "relayd: ${newer#"$top"/} is newer than the program, which is built again" >&2
+  echo "relayd: $newer is newer than the program, which is built again" >&2
 fi
 room=$(mktemp -d)
 trap 'rm -rf "$room"' EXIT
@@ -110,8 +88,8 @@ SECONDS=0
 copy_crates "$room"
 echo "proving and building relayd: ${#crates[@]} crates, half an hour to an hour on 4 processors the first time" >&2
 if ! (cd "$room" && exec rt ci) 2>&1 9>&- | report_progress; then
-  tail -n 20 "$log" >&2
-  echo "relayd was not built; the whole log is $log" >&2
+  tail -n 20 "$build_log" >&2
+  echo "relayd was not built; the whole log is $build_log" >&2
   exit 1
 fi
 install_program "$room"
