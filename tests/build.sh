@@ -3,7 +3,8 @@
 #
 # It runs the merge gate's own command over a copy that has relayd, the crates below it and none of their must-fail edits:
 # this proves each crate from nothing, as many side by side as there are processors and memory. What is proved is kept on
-# this machine, for the gate and for the next build. Of two builds in one checkout the second waits for the first.
+# this machine, for the gate and for the next build. Of two builds in one checkout the second waits for the first, and so do a
+# build and the test command.
 #
 #   tests/build.sh            builds it
 #   tests/build.sh --list     prints relayd and the crates below it, lowest first
@@ -22,15 +23,6 @@ check_kit() {
   found=$(found_kit)
   if [ "$found" != "$wanted" ]; then
     echo "README.md names the kit $wanted, and this one is $found: what it proves may differ" >&2
-  fi
-}
-
-# Waits until no other build of this checkout runs. The log is the file that is locked, as long as this script runs.
-wait_for_turn() {
-  exec 9>>"$build_log"
-  if ! flock --nonblock 9; then
-    echo "another build of relayd runs in this checkout, and this one waits for it: its log is $build_log" >&2
-    flock 9
   fi
 }
 

@@ -29,6 +29,16 @@ is_built() {
   [ -x "$program" ] && newer=$(newer_source) && [ -z "$newer" ]
 }
 
+# Waits until nothing else builds relayd in this checkout. The log of builds is the file that is locked, by the descriptor 9, until
+# that is closed.
+wait_for_turn() {
+  exec 9>>"$build_log"
+  if ! flock --nonblock 9; then
+    echo "another build of relayd or the test command runs in this checkout, and this one waits for it; see $build_log" >&2
+    flock 9
+  fi
+}
+
 # Prints the name of the kit that README.md names.
 wanted_kit() {
   # shellcheck disable=SC2016
