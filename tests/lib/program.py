@@ -6,8 +6,8 @@ import subprocess
 import sys
 
 TOP = pathlib.Path(__file__).resolve().parents[2]
-# the script that builds relayd where it is not there or too old, and starts it
-SCRIPT = TOP / "relayd"
+# the script that proves and builds relayd where it is not there or too old
+BUILD = TOP / "tests" / "build.sh"
 # the program itself, for a test that restricts the process
 PROGRAM = TOP / "crates" / "relayd" / "out" / "relayd"
 # what can't be tried here, each with its reason
@@ -16,8 +16,8 @@ PASSED_OVER = []
 
 @functools.cache
 def build():
-    """Builds the program where it is not there or too old; once in a test."""
-    subprocess.run([SCRIPT, "--help"], stdout=subprocess.DEVNULL, check=True)
+    """Builds the program where it is not there or too old; once in a test. The one of release/ is never taken for it."""
+    subprocess.run([BUILD], check=True)
 
 
 def run(words, program=None, **options):

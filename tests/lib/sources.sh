@@ -12,8 +12,8 @@ crates_of_relayd() {
     tac
 }
 
-# Finds the sources of relayd: crates.txt, HANDLES, and each .rt and .antt of relayd and of the crates below it. The words given
-# are further ones of `find`.
+# Finds the sources of relayd: crates.txt, HANDLES, and each .rt and .antt of relayd and of the crates below it. The words
+# given are further ones of `find`.
 find_sources() {
   (cd "$top" && find crates.txt HANDLES "${crates[@]/#/crates/}" -name out -prune -o \
     -type f \( -name '*.rt' -o -name '*.antt' -o -name crates.txt -o -name HANDLES \) "$@")
@@ -29,8 +29,8 @@ is_built() {
   [ -x "$program" ] && newer=$(newer_source) && [ -z "$newer" ]
 }
 
-# Waits until nothing else builds relayd in this checkout. The log of builds is the file that is locked, by the descriptor 9, until
-# that is closed.
+# Waits until nothing else builds relayd in this checkout. The log of builds is the file that is locked, by the descriptor 9,
+# until that is closed.
 wait_for_turn() {
   exec 9>>"$build_log"
   if ! flock --nonblock 9; then
