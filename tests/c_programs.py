@@ -17,7 +17,7 @@ import tempfile
 
 import relaying
 from private_peers import answered, octets, private_rows, with_peers
-from lib.program import TOP, build, finish
+from lib.program import PROGRAM, TOP, build, finish
 from relaying import IP6, SLOTS, USERS, compare, systematic, systematic6
 from lib.rules import DATA, XOR_PEER_ADDRESS, Rules, read
 
@@ -105,7 +105,7 @@ def replayed(folder, programs, events):
 
 def compiler():
     """The environment of `build.sh`, or None where a part of LLVM is missing."""
-    found = {}
+    found = {"RELAYD": str(PROGRAM)}
     for name, tool in (("CLANG", "clang"), ("OBJCOPY", "llvm-objcopy"), ("READELF", "llvm-readelf")):
         path = next((path for suffix in ("", "-14", "-15", "-16", "-19") if (path := shutil.which(tool + suffix))), None)
         if path is None:
