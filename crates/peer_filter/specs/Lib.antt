@@ -2,3 +2,4 @@
 pub mod Defaults
 pub mod Filters
 pub mod Networks
+pub mod Servers

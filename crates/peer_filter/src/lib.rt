@@ -6,9 +6,11 @@ mod filter;
 mod laws;
 mod network;
 mod rule;
+mod server;
 mod text;
 
 pub use filter::{FilterError, MAX_ENDPOINTS, MAX_RULES, PeerFilter};
 pub use laws::{law_defaults_deny_v4, law_defaults_deny_v6, law_longest_prefix_decides};
 pub use network::{Network, NetworkError};
 pub use rule::{Action, Loopback, Rule, ServerEndpoint};
+pub use server::ServerAddresses;

@@ -1,6 +1,6 @@
 -- Internal. The calls that a link in memory stores.
 use Rattle.std.specs.Prelude.{List, Option, None, Some, Bool, map, if◌then◌else◌}
-use Rattle.serving.specs.Calls.{Call, Received, Sent}
+use Rattle.server.specs.Calls.{Call, Received, Sent}
 use Rattle.relay_tests.specs.declared.wire.Entry.{Entry}
 use Rattle.relay_tests.specs.declared.wire.Entry.TheVariants as entry
 

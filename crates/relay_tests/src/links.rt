@@ -5,7 +5,7 @@ use crate::wire::{Fate, Wire};
 use events::{Parsed, Source, parse};
 use relay::Relay;
 use semantics::MAX_DATAGRAM;
-use serving::{Endpoint, ServeError, serve_once};
+use server::{Endpoint, ServeError, serve_once};
 use std::alloc::Global;
 use std::process::Abort;
 use std::test::Fail;

@@ -4,7 +4,7 @@ use crate::story::shipped;
 use attributes::{Addr, write_xor_addr};
 use credentials::{Key, sign};
 use relay::Relay;
-use serving::{Endpoint, Link, LinkError, serve_once};
+use server::{Endpoint, Link, LinkError, serve_once};
 use std::alloc::Global;
 use std::io;
 use std::net::{Ipv4Addr, Net, SocketAddr, UdpSocket};

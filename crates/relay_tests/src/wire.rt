@@ -6,7 +6,7 @@ ghost use Rattle.std.specs.Prelude.{◌≡◌, IfOk};
 use attributes::Addr;
 use events::{Action, write_answer};
 use semantics::MAX_DATAGRAM;
-use serving::{Endpoint, Link, LinkError};
+use server::{Endpoint, Link, LinkError};
 use std::alloc::{AllocError, Global};
 use streams::Output;
 

@@ -1,6 +1,7 @@
 //! The moments of datagrams.
 
 use libc::types::timespec;
+use server::Moments;
 use std::rt::Clock;
 use std::time::Duration;
 
@@ -26,28 +27,13 @@ pub(crate) fn elapsed<R: Clock>(rt: &R) -> Duration {
     }
 }
 
-/// The clock of a server: that of the system at the start, and since then one that isn't set.
-/// See docs/DECISIONS.md, "A server's clock isn't set".
-#[derive(Clone, Copy)]
-pub(crate) struct Moments {
-    /// When the server started, since 1970.
-    start: Duration,
-    /// What [`elapsed`] was then.
-    elapsed: Duration,
+/// Returns the clock of a server that starts now. Where the system's clock fails the start is 1970's.
+pub(crate) fn starting_now<R: Clock>(rt: &R) -> Moments {
+    let start = rt.since_1970().unwrap_or(Duration::ZERO);
+    Moments::new(start, elapsed(rt))
 }
 
-impl Moments {
-    /// Returns the clock of a server that starts now. Where the system's clock fails the start is 1970's.
-    pub(crate) fn starting_now<R: Clock>(rt: &R) -> Moments {
-        Moments {
-            start: rt.since_1970().unwrap_or(Duration::ZERO),
-            elapsed: elapsed(rt),
-        }
-    }
-
-    /// Returns the moment of a datagram that comes now: whole seconds since 1970.
-    pub(crate) fn now<R: Clock>(&self, rt: &R) -> u64 {
-        let since = elapsed(rt).saturating_sub(self.elapsed);
-        self.start.saturating_add(since).as_secs()
-    }
+/// Returns the moment of a datagram that comes now: whole seconds since 1970.
+pub(crate) fn moment<R: Clock>(rt: &R, moments: &Moments) -> u64 {
+    moments.at(elapsed(rt))
 }

@@ -1,13 +1,11 @@
 //! The peers that a server sends nothing to, by its options.
 
 use crate::options::CommandError;
-use crate::sockets::Addresses;
-use attributes::Addr;
 use command_line::ServerOptions;
-use peer_filter::{
-    Action, FilterError, Loopback, MAX_RULES, Network, PeerFilter, Rule, ServerEndpoint,
-};
+use peer_filter::{Action, FilterError, MAX_RULES, Network, PeerFilter, Rule, ServerAddresses};
+use sockets::Addresses;
 use std::alloc::Global;
+use std::net::Ipv4Addr;
 
 /// Appends the rules of an option's networks.
 fn add_rules<'a>(
@@ -48,28 +46,20 @@ pub(crate) fn rules_of<'a>(
     Ok(rules)
 }
 
-/// Returns which peers a server sends to: none at the clients' port of the relayed IPv4 address and of the one that it listens
-/// at, or at that port of any address where it listens at all of them.
-/// See docs/DECISIONS.md, "Peers that nothing is sent to".
+/// Returns which peers a server sends to, whose clients' port is `port`.
 pub(crate) fn filter_of(
     addresses: &Addresses,
     port: u16,
     relayed: [u8; 4],
     rules: &[Rule],
 ) -> Result<PeerFilter, CommandError<'static>> {
-    let listen = addresses.listen;
-    let loopback = Loopback {
-        ipv4: listen.is_loopback(),
-        ipv6: addresses.listen6.is_some_and(|ip| ip.is_loopback()),
+    let server = ServerAddresses {
+        listen: addresses.listen,
+        listen6: addresses.listen6,
+        port,
+        relayed: Ipv4Addr::from(relayed),
     };
-    let at = |ip| ServerEndpoint::At(Addr::V4 { ip, port });
-    let own = [at(listen.octets()), at(relayed)];
-    let filter = if listen.is_unspecified() {
-        PeerFilter::new(loopback, &[ServerEndpoint::Port(port)], rules)
-    } else {
-        PeerFilter::new(loopback, &own, rules)
-    };
-    match filter {
+    match PeerFilter::of_server(&server, rules) {
         Ok(filter) => Ok(filter),
         Err(error) => Err(CommandError::Filter(error)),
     }

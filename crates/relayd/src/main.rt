@@ -4,22 +4,12 @@
 
 mod clock;
 mod confinements;
-mod counters;
-mod drops;
-mod error_lines;
 mod explanations;
-mod files;
 mod filters;
-mod metrics;
 mod options;
-mod recording;
-mod replacing;
-mod replacing_users;
 mod replay_command;
 mod server;
-mod server_log;
-mod sockets;
-mod udp;
+mod starting;
 
 use crate::explanations::explain;
 use crate::replay_command::{ReplayOptions, replay};

@@ -1,15 +1,17 @@
 //! Options that set up a relay, and why a command that takes them ends early.
 
 use crate::confinements::confinement_of;
-use crate::recording::RecordErrorKind;
-use crate::sockets::BindErrorKind;
 use command_line::{Options, RelayedError, ValueError};
 use credentials::User;
+use monitoring::RecordError;
 use peer_filter::{FilterError, NetworkError};
 use programs::{CLIENT, PEER};
 use relay::Relay;
-use setup::{ProgramError, Setup, SetupError, is_comment, relay_of, secret, user};
-use std::alloc::Global;
+use setup::{
+    ProgramError, RefusedProgram, Setup, SetupError, UsersError, add_users, add_users_of_lines,
+    relay_of, secret,
+};
+use sockets::BindErrorKind;
 use std::net::SocketAddr;
 use std::rt::Files;
 use std::{fs, io};
@@ -59,11 +61,8 @@ pub(crate) enum CommandError<'a> {
     #[error("cannot read {0}")]
     File(&'a str),
     /// The program in a file is refused.
-    #[error("{error} in {path}\nrelayd explain {path} shows why")]
-    Program {
-        path: &'a str,
-        error: ProgramError,
-    },
+    #[error("{0}")]
+    Program(RefusedProgram<'a>),
     /// The relay can't be set up.
     #[error("{0}")]
     Setup(SetupError),
@@ -72,7 +71,7 @@ pub(crate) enum CommandError<'a> {
     Bind(SocketAddr, BindErrorKind),
     /// The file of a record can't be made.
     #[error("cannot record to {0}\n{1}")]
-    Record(&'a str, RecordErrorKind),
+    Record(&'a str, RecordError),
     /// The system doesn't say which sockets are ready.
     #[error("cannot wait for sockets")]
     Wait,
@@ -99,7 +98,7 @@ impl CommandError<'_> {
         match self {
             CommandError::Users(_)
             | CommandError::Secret
-            | CommandError::Program { .. }
+            | CommandError::Program(_)
             | CommandError::Setup(_)
             | CommandError::Line(_) => 1,
             CommandError::RelayedAddress | CommandError::RelayedAddress6 => 1,
@@ -124,52 +123,13 @@ pub(crate) fn unread<'a>(error: &io::Error, path: &'a str) -> CommandError<'a> {
     }
 }
 
-/// Adds the user that a text has, and returns whether it has one.
-fn add_user(
-    alloc: Global,
-    users: &mut Vec<User>,
-    text: &str,
-) -> Result<bool, CommandError<'static>> {
-    let Ok(found) = user(alloc, text) else {
-        return Err(CommandError::Memory);
-    };
-    let Some(user) = found else {
-        return Ok(false);
-    };
-    match users.push(user) {
-        Ok(()) => Ok(true),
-        Err(_) => Err(CommandError::Memory),
+/// Returns the fault of the texts of `--user`: the first one without a colon, or that memory ran out.
+fn users_fault<'a>(error: UsersError, texts: &[&'a str]) -> CommandError<'a> {
+    let option = "--user <NAME:PASSWORD>";
+    match (error, texts.iter().find(|text| !text.contains(':'))) {
+        (UsersError::Line(_), Some(text)) => CommandError::Value(ValueError { option, text }),
+        _ => CommandError::Memory,
     }
-}
-
-/// Adds the users of `--user`.
-pub(crate) fn add_users<'a>(
-    alloc: Global,
-    users: &mut Vec<User>,
-    texts: &[&'a str],
-) -> Result<(), CommandError<'a>> {
-    for text in texts {
-        if !add_user(alloc, users, text)? {
-            let option = "--user <NAME:PASSWORD>";
-            return Err(CommandError::Value(ValueError { option, text }));
-        }
-    }
-    Ok(())
-}
-
-/// Adds the users of a file's text, one a line; empty lines and comments, which begin with `#`, have none.
-/// See docs/DECISIONS.md, "Users from a file".
-pub(crate) fn add_users_of_text(
-    alloc: Global,
-    users: &mut Vec<User>,
-    text: &str,
-) -> Result<(), CommandError<'static>> {
-    for (number, line) in (1u64..).zip(text.lines()) {
-        if !is_comment(line) && !add_user(alloc, users, line)? {
-            return Err(CommandError::Users(number));
-        }
-    }
-    Ok(())
 }
 
 /// Returns the users that the options name, and the text of the file that has some of them.
@@ -182,8 +142,9 @@ fn users_of<'a, R: Files + AllocGlobal>(
         return Err(CommandError::NoUsers);
     }
     let mut users = Vec::new(rt.alloc());
-    if let Some(texts) = options.users {
-        add_users(rt.alloc(), &mut users, texts)?;
+    let texts = options.users.unwrap_or(&[]);
+    if let Err(error) = add_users(rt.alloc(), &mut users, texts) {
+        return Err(users_fault(error, texts));
     }
     let Some(path) = options.users_file else {
         return Ok((users, None));
@@ -192,8 +153,11 @@ fn users_of<'a, R: Files + AllocGlobal>(
         Ok(text) => text,
         Err(error) => return Err(unread(&error, path)),
     };
-    add_users_of_text(rt.alloc(), &mut users, &text)?;
-    Ok((users, Some(text)))
+    match add_users_of_lines(rt.alloc(), &mut users, &text) {
+        Ok(()) => Ok((users, Some(text))),
+        Err(UsersError::Line(number)) => Err(CommandError::Users(number)),
+        Err(UsersError::Memory) => Err(CommandError::Memory),
+    }
 }
 
 /// Returns the secret of the file that the options name, if they name one.
@@ -276,7 +240,7 @@ fn program_fault(error: ProgramError, path: &str) -> CommandError<'_> {
     match error {
         ProgramError::File => CommandError::File(path),
         ProgramError::Memory => CommandError::Memory,
-        error => CommandError::Program { path, error },
+        error => CommandError::Program(RefusedProgram { path, error }),
     }
 }
 

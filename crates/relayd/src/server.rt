@@ -1,40 +1,34 @@
 //! The command `serve`: relays the datagrams of UDP sockets.
 
-use crate::clock::{Moments, elapsed};
-use crate::drops::Ports;
-use crate::error_lines::ErrorLines;
-use crate::filters::{filter_of, rules_of};
-use crate::metrics::{Metrics, MetricsFile};
-use crate::options::{CommandError, Prepared, Relayed, set_up};
-use crate::recording::{NOWHERE, RecordEnd, RecordedSockets, Recording};
-use crate::replacing::Sides;
-use crate::replacing_users::UserList;
-use crate::server_log::{EndReason, Sender, ServerLog};
-use crate::sockets::{Addresses, BindError, Endpoints, Sockets};
-use crate::udp::SocketOptions;
-use command_line::{Options, ServerOptions, defaults, relayed_ip, relayed_ip6};
-use events::Event;
+use crate::clock::{elapsed, moment};
+use crate::filters::rules_of;
+use crate::options::{CommandError, Relayed};
+use crate::starting::start;
+use arrayvec::ArrayVec;
+use command_line::{Options, ServerOptions};
 use mio::{Events, Poll, Token};
-use peer_filter::Rule;
-use rand::make_rng;
+use monitoring::{EndReason, ErrorLines, Observed, RecordEnd, Recording, Reports, Sender};
+use peer_filter::PeerFilter;
 use rand::rngs::StdRng;
 use rand_core::Rng;
-use relay::{Disposition, Relay};
-use serving::{Endpoint, draw_nonce, serve_once};
-use std::alloc::Global;
+use relay::{Disposition, Relay, Source};
+use replacing::{Sides, UserList};
+use server::{
+    Arrival, Counters, Endpoint, LinkError, Moments, Outcome, Ports, Schedule, Served, TURNS,
+    Timer, draw_nonce, serve_round, turn,
+};
+use sockets::Sockets;
 use std::fs::File;
 use std::io::{self, Write};
 use std::net::{Ipv4Addr, Ipv6Addr, Net};
 use std::random::RandomSource;
 use std::rt::{Clock, Files};
 use std::time::Duration;
-use turns::{Schedule, TURNS, Timer};
 
 /// How many events one wait reports. Further ones are reported by the next.
 const EVENTS: usize = 256;
 
-/// The seconds after which the files of programs and of users are read again, and those of the longest wait where something is
-/// looked at from time to time.
+/// The seconds of the longest wait where something is looked at from time to time.
 const PERIOD: u64 = 1;
 
 /// The microseconds for which programs are verified between two turns.
@@ -44,26 +38,34 @@ const VERIFYING: u64 = 250;
 /// The most slices of a verification between two turns.
 const SLICES: usize = 10_000;
 
+/// What the turns of a server go through, beside its relay.
+#[derive(Drop)]
+pub(crate) struct Wire<'a> {
+    pub(crate) sockets: Sockets,
+    /// The peers that nothing is sent to.
+    pub(crate) filter: Option<PeerFilter>,
+    pub(crate) recording: Recording<'a>,
+    pub(crate) counters: Counters,
+    pub(crate) rng: StdRng,
+    /// The transaction id for an indication about the next datagram.
+    pub(crate) transaction_id: [u8; 12],
+}
+
 /// A server that has bound its sockets.
 #[derive(Drop)]
-struct Server<'a> {
-    relay: Relay,
-    relayed: [u8; 4],
-    relayed6: Option<[u8; 16]>,
-    link: RecordedSockets<'a>,
-    sides: Sides<'a>,
-    users: UserList<'a>,
-    rng: StdRng,
-    moments: Moments,
-    nonces: Timer,
-    files: Timer,
-    /// When faults may be printed next.
-    faults: Timer,
-    stats: Option<Timer>,
-    metrics: Option<MetricsFile<'a>>,
-    log: Option<ServerLog>,
+pub(crate) struct Server<'a> {
+    pub(crate) relay: Relay,
+    pub(crate) relayed: Relayed,
+    pub(crate) wire: Wire<'a>,
+    pub(crate) sides: Sides<'a>,
+    pub(crate) users: UserList<'a>,
+    pub(crate) moments: Moments,
+    pub(crate) nonces: Timer,
+    /// When the files of programs and of users are read again.
+    pub(crate) files: Timer,
+    pub(crate) reports: Reports<'a>,
     /// Whether several datagrams had come at the endpoint that was served last.
-    is_busy: bool,
+    pub(crate) is_busy: bool,
 }
 
 /// What a server waits with. Its memory is taken before the server listens.
@@ -71,58 +73,37 @@ struct Server<'a> {
 struct Waiting {
     poll: Poll,
     events: Events,
+    /// The tokens of the sockets that the last wait has reported.
+    reports: ArrayVec<usize, EVENTS>,
     /// Which endpoints are served in a round.
     schedule: Schedule,
 }
 
-/// Returns whether peers can send to a relayed IPv4 address: it is one, and not of a group or of all.
-fn is_reachable(octets: [u8; 4]) -> bool {
-    let ip = Ipv4Addr::from(octets);
-    !ip.is_unspecified() && !ip.is_multicast() && !ip.is_broadcast()
-}
-
-/// Returns whether peers can send to a relayed IPv6 address: it is one, and not of a group.
-fn is_reachable6(octets: [u8; 16]) -> bool {
-    let ip = Ipv6Addr::from(octets);
-    !ip.is_unspecified() && !ip.is_multicast()
-}
-
-/// Returns the metrics of a server at a moment, with the label of their samples if they have one.
-fn metrics_of<'a, R: Files>(
-    rt: &R,
-    relay: &Relay,
-    sockets: &'a mut Sockets,
-    first_port: Option<u16>,
-    now: u64,
-) -> Metrics<'a> {
-    let dropped = sockets.dropped(rt);
-    Metrics {
-        counters: sockets.counters(),
-        dropped,
-        slots: relay.tables().slots(),
-        used: relay.tables().allocation_count(now),
-        first_port,
-    }
+/// The endpoints of a server, which are served by the system's clock.
+#[derive(Drop)]
+struct ServedEndpoints<'a, 'b, R: Clock> {
+    server: &'b mut Server<'a>,
+    rt: &'b R,
 }
 
 impl<'a> Server<'a> {
     /// Replaces the nonce by one that is drawn, which is never refused.
     fn renew_nonce(&mut self) {
-        let nonce = draw_nonce(&mut self.rng);
-        self.link.recording.record(&Event::Nonce(nonce.as_str()));
+        let nonce = draw_nonce(&mut self.wire.rng);
+        self.wire.recording.record_nonce(nonce.as_str());
         let _ = self.relay.set_nonce(nonce.as_str());
     }
 
     /// Prints the lines that say where clients are served, and which addresses are relayed.
     /// See docs/DECISIONS.md, "The port that the system chooses".
     fn announce<R: Print>(&self, rt: &R) -> io::Result<()> {
-        let address = self.link.sockets.address()?;
-        let Ports { first, last, .. } = self.link.sockets.ports();
-        let relayed = Ipv4Addr::from(self.relayed);
+        let address = self.wire.sockets.address()?;
+        let Ports { first, last, .. } = self.wire.sockets.ports();
+        let relayed = Ipv4Addr::from(self.relayed.ip);
         let mut out = io::writer(rt);
         writeln!(out, "listening {address}")?;
         writeln!(out, "relaying {relayed}:{first} to {last}")?;
-        if let Some(octets) = self.relayed6 {
+        if let Some(octets) = self.relayed.ip6 {
             writeln!(
                 out,
                 "relaying [{}]:{first} to {last}",
@@ -135,7 +116,7 @@ impl<'a> Server<'a> {
     /// Prints how large the buffers of sockets are, where the system gives less than was asked for. A failure to print is
     /// ignored.
     fn report_buffer<E: Write>(&self, err: &mut E, wanted: i32) {
-        if let Ok(bytes) = self.link.sockets.buffer()
+        if let Ok(bytes) = self.wire.sockets.buffer()
             && bytes < wanted
         {
             let _ = writeln!(
@@ -150,16 +131,18 @@ impl<'a> Server<'a> {
         &mut self,
         rt: &R,
         err: &mut E,
-        buffer: i32,
+        options: &ServerOptions<'a>,
     ) -> Result<(), CommandError<'a>> {
-        let now = self.moments.now(rt);
-        if let Some(file) = &mut self.metrics {
-            let port = file.first_port;
-            let metrics = metrics_of(rt, &self.relay, &mut self.link.sockets, port, now);
-            file.begin(rt, &metrics)?;
+        let of = Observed {
+            counters: &self.wire.counters,
+            tables: self.relay.tables(),
+            moment: moment(rt, &self.moments),
+        };
+        if self.reports.begin(rt, of).is_err() {
+            return Err(CommandError::Unwritable(options.metrics.unwrap_or("")));
         }
         self.announce(rt).map_err(|_| CommandError::Output)?;
-        self.report_buffer(err, buffer);
+        self.report_buffer(err, options.buffer);
         Ok(())
     }
 
@@ -171,8 +154,16 @@ impl<'a> Server<'a> {
                 return;
             }
             if self.sides.advance(&mut self.relay, err) {
-                self.link.recording.end(err, RecordEnd::Programs);
+                self.wire.recording.end(err, RecordEnd::Programs);
             }
+        }
+    }
+
+    /// Logs the allocations that have ended for a reason, if there is a log.
+    fn log_ends<R: Clock>(&mut self, rt: &R, reason: EndReason) {
+        let now = moment(rt, &self.moments);
+        if let Some(log) = self.reports.log() {
+            log.look(self.relay.tables(), now, reason);
         }
     }
 
@@ -182,133 +173,98 @@ impl<'a> Server<'a> {
         self.log_ends(rt, EndReason::Expired);
         if self.users.look(rt, err, &mut self.relay) {
             self.log_ends(rt, EndReason::Users);
-            self.link.recording.end(err, RecordEnd::Users);
-        }
-    }
-
-    /// Logs the allocations that have ended for a reason, if there is a log.
-    fn log_ends<R: Clock>(&mut self, rt: &R, reason: EndReason) {
-        let now = self.moments.now(rt);
-        if let Some(log) = &mut self.log {
-            log.look(self.relay.tables(), now, reason);
+            self.wire.recording.end(err, RecordEnd::Users);
         }
     }
 
     /// Logs what the response to a client's request says, if there is one.
-    fn log_response(&mut self, disposition: Disposition) {
-        let now = self.link.now;
-        if let Some(log) = &mut self.log
-            && let Disposition::Answered(response) = disposition
+    fn log_response(&mut self, served: Served, now: u64) {
+        if let Some(log) = self.reports.log()
+            && let Source::Client(client) = served.from
+            && let Outcome::Done(Disposition::Answered(response)) = served.outcome
         {
-            let sender = Sender::of(self.link.from, self.relay.area());
+            let sender = Sender::of(client, self.relay.area());
             log.answered(response, sender, self.relay.tables(), now);
-        }
-    }
-
-    /// Prints the log, if there is one; once a period the allocations that have ended too, and how many lines were left out.
-    fn tend_log<R: Clock, E: Write>(&mut self, rt: &R, err: &mut E, now: Duration) {
-        let is_due = match &mut self.log {
-            Some(log) => log.is_due(now),
-            None => false,
-        };
-        if is_due {
-            self.log_ends(rt, EndReason::Expired);
-        }
-        if let Some(log) = &mut self.log {
-            log.print(err);
-            if is_due {
-                log.begin(err);
-            }
         }
     }
 
     /// Writes what was recorded, and prints what was logged.
     fn flush<E: Write>(&mut self, err: &mut E) {
-        self.link.recording.flush(err);
-        if let Some(log) = &mut self.log {
-            log.print(err);
-        }
+        self.wire.recording.flush(err);
+        self.reports.flush(err);
     }
 
-    /// Writes the metrics, if they are wanted.
-    fn write_metrics<R: Files + Clock, E: Write>(&mut self, rt: &R, err: &mut E) {
-        let now = self.moments.now(rt);
-        if let Some(file) = &mut self.metrics {
-            let port = file.first_port;
-            let metrics = metrics_of(rt, &self.relay, &mut self.link.sockets, port, now);
-            file.write(rt, err, &metrics);
-        }
-    }
-
-    /// Does what is due: draws a nonce, looks for other programs and users, goes on verifying programs, prints faults and
-    /// counters, and writes metrics.
+    /// Does what is due: draws a nonce, prints the log, looks for other programs and users, goes on verifying programs, and
+    /// reports.
     /// See docs/DECISIONS.md, "What is looked at once a second".
     fn tend<R: Files + Clock + AllocGlobal, E: Write>(&mut self, rt: &R, err: &mut E) {
         let now = elapsed(rt);
         if self.nonces.is_due(now) {
             self.renew_nonce();
         }
-        self.tend_log(rt, err, now);
+        let of = Observed {
+            counters: &self.wire.counters,
+            tables: self.relay.tables(),
+            moment: moment(rt, &self.moments),
+        };
+        self.reports.tend_log(err, of, now);
         if self.files.is_due(now) {
             self.look_at_files(rt, err);
         }
         self.verify(rt, err, now);
-        if self.link.sockets.has_faults() && self.faults.is_due(now) {
-            self.link.sockets.report_faults(err);
-        }
-        if let Some(stats) = &mut self.stats
-            && stats.is_due(now)
-        {
-            self.link.sockets.report(rt, err);
-        }
-        if let Some(file) = &mut self.metrics
-            && file.is_due(now)
-        {
-            self.write_metrics(rt, err);
-        }
+        let of = Observed {
+            counters: &self.wire.counters,
+            tables: self.relay.tables(),
+            moment: moment(rt, &self.moments),
+        };
+        self.reports.tend(rt, err, of, now);
     }
 
     /// Returns the longest wait for a datagram. Without end where nothing but datagrams matters: a nonce that is due is
     /// drawn before the next of them is served.
     fn longest_wait(&self) -> Option<Duration> {
         let has_files = self.sides.has_files() || self.users.has_file();
-        let has_reports = self.stats.is_some() || self.metrics.is_some();
-        let is_logging = match &self.log {
-            Some(log) => log.is_waiting(),
-            None => false,
-        };
-        if has_files || has_reports || is_logging || self.link.sockets.has_faults() {
+        if has_files || self.reports.is_waiting(&self.wire.counters) {
             Some(Duration::from_secs(PERIOD))
         } else {
             None
         }
     }
 
-    /// Serves one datagram at an endpoint, if one has come there, and counts it. Returns whether one has come, or a fault. A
-    /// transaction id is drawn where the one before may have been used.
-    /// See docs/DECISIONS.md, "One function serves a datagram".
+    /// Takes one turn at an endpoint, at a moment. Returns whether a datagram has come, or a fault. A transaction id is drawn
+    /// where the one before may have been used.
     #[inline(always)]
-    fn turn(&mut self, endpoint: Endpoint) -> bool {
-        let (relay, link) = (&mut self.relay, &mut self.link);
-        let (now, transaction_id) = (link.now, link.transaction_id);
-        match serve_once(relay, link, endpoint, now, transaction_id) {
+    fn turn(&mut self, endpoint: Endpoint, now: u64) -> bool {
+        let wire = &mut self.wire;
+        let arrival = Arrival {
+            endpoint,
+            now,
+            transaction_id: wire.transaction_id,
+        };
+        let served = turn(
+            &mut self.relay,
+            &mut wire.sockets,
+            &mut wire.recording,
+            &wire.filter,
+            &mut wire.counters,
+            arrival,
+        );
+        match served {
             Ok(None) => return false,
-            Ok(Some(disposition)) => {
-                link.sockets.count_turn(Ok(disposition));
-                self.log_response(disposition);
-            }
-            Err(fault) => link.sockets.count_turn(Err(fault)),
+            Ok(Some(served)) => self.log_response(served, now),
+            Err(LinkError) => {}
         }
-        self.link.draw_id(&mut self.rng);
+        let wire = &mut self.wire;
+        wire.rng.fill_bytes(&mut wire.transaction_id);
         true
     }
 
     /// Tries one datagram at each socket: that of clients first, then those of the slots in order.
     fn round<R: Clock>(&mut self, rt: &R) {
-        self.link.now = self.moments.now(rt);
-        for token in 0..self.link.sockets.count() {
-            let endpoint = self.link.sockets.choose(token);
-            self.turn(endpoint);
+        let now = moment(rt, &self.moments);
+        for token in 0..self.wire.sockets.count() {
+            let endpoint = self.wire.sockets.choose(token);
+            self.turn(endpoint, now);
         }
     }
 
@@ -325,21 +281,20 @@ impl<'a> Server<'a> {
             self.tend(rt, err);
         }
         self.flush(err);
-        if self.link.sockets.has_faults() {
-            self.link.sockets.report_faults(err);
-        }
-        if self.stats.is_some() {
-            self.link.sockets.report(rt, err);
-        }
-        self.write_metrics(rt, err);
+        let of = Observed {
+            counters: &self.wire.counters,
+            tables: self.relay.tables(),
+            moment: moment(rt, &self.moments),
+        };
+        self.reports.end(rt, err, of);
     }
 
     /// Serves an endpoint until nothing comes there, or for as many datagrams as it may have, all at one moment. Returns how many
     /// came.
     #[inline(always)]
-    fn turns(&mut self, endpoint: Endpoint) -> usize {
+    fn turns(&mut self, endpoint: Endpoint, now: u64) -> usize {
         for count in 0..TURNS {
-            if !self.turn(endpoint) {
+            if !self.turn(endpoint, now) {
                 return count;
             }
         }
@@ -352,36 +307,17 @@ impl<'a> Server<'a> {
     /// See docs/DECISIONS.md, "A busy server receives ahead".
     #[inline(never)]
     fn drain<R: Clock>(&mut self, rt: &R, token: usize) -> bool {
-        self.link.now = self.moments.now(rt);
-        let endpoint = self.link.sockets.choose(token);
+        let now = moment(rt, &self.moments);
+        let endpoint = self.wire.sockets.choose(token);
         if self.is_busy {
-            self.link.sockets.receive_ahead(endpoint);
+            self.wire.sockets.receive_ahead(endpoint);
         }
         let count = match endpoint {
-            Endpoint::Client => self.turns(Endpoint::Client),
-            Endpoint::Slot(slot) => self.turns(Endpoint::Slot(slot)),
+            Endpoint::Client => self.turns(Endpoint::Client, now),
+            Endpoint::Slot(slot) => self.turns(Endpoint::Slot(slot), now),
         };
         self.is_busy = count > 1;
         count == TURNS
-    }
-
-    /// Serves each endpoint that a wait reports and that wasn't known to be ready.
-    fn drain_reported<R: Clock>(&mut self, rt: &R, events: &Events, schedule: &mut Schedule) {
-        for event in events.iter() {
-            let Token(token) = event.token();
-            if schedule.report(token) {
-                let more = self.drain(rt, token);
-                schedule.served(token, more);
-            }
-        }
-    }
-
-    /// Serves each endpoint that was ready before the last wait, in order.
-    fn drain_ready<R: Clock>(&mut self, rt: &R, schedule: &mut Schedule) {
-        while let Some(token) = schedule.next_ready() {
-            let more = self.drain(rt, token);
-            schedule.served(token, more);
-        }
     }
 
     /// Serves until the process is stopped, and waits while no socket is ready.
@@ -402,9 +338,11 @@ impl<'a> Server<'a> {
             self.flush(err);
             waiting.wait(wait)?;
             self.tend(rt, err);
-            waiting.schedule.begin();
-            self.drain_reported(rt, &waiting.events, &mut waiting.schedule);
-            self.drain_ready(rt, &mut waiting.schedule);
+            let mut endpoints = ServedEndpoints {
+                server: &mut *self,
+                rt,
+            };
+            serve_round(&mut endpoints, &waiting.reports, &mut waiting.schedule);
         }
         Ok(())
     }
@@ -414,17 +352,17 @@ impl<'a> Server<'a> {
         &mut self,
         rt: &R,
         err: &mut E,
-        options: &ServerOptions<'_>,
+        options: &ServerOptions<'a>,
     ) -> Result<(), CommandError<'a>> {
         match options.rounds {
             Some(rounds) => {
-                self.begin(rt, err, options.buffer)?;
+                self.begin(rt, err, options)?;
                 self.make_rounds(rt, err, rounds);
                 Ok(())
             }
             None => {
-                let waiting = Waiting::new(rt, &mut self.link.sockets)?;
-                self.begin(rt, err, options.buffer)?;
+                let waiting = Waiting::new(rt, &mut self.wire.sockets)?;
+                self.begin(rt, err, options)?;
                 self.run(rt, err, waiting)
             }
         }
@@ -446,216 +384,29 @@ impl Waiting {
         Ok(Waiting {
             poll,
             events,
+            reports: ArrayVec::new(),
             schedule,
         })
     }
 
-    /// Waits until a socket is ready, or for a time; without a time, until a socket is ready.
+    /// Waits until a socket is ready, or for a time; without a time, until a socket is ready. Keeps which sockets are reported.
     fn wait(&mut self, time: Option<Duration>) -> Result<(), CommandError<'static>> {
-        self.poll
-            .poll(&mut self.events, time)
-            .map_err(|_| CommandError::Wait)
+        if self.poll.poll(&mut self.events, time).is_err() {
+            return Err(CommandError::Wait);
+        }
+        self.reports.clear();
+        for event in self.events.iter() {
+            let Token(token) = event.token();
+            let _ = self.reports.try_push(token);
+        }
+        Ok(())
     }
 }
 
-/// Refuses relayed addresses that peers can't send to.
-fn check_reachable(ip: [u8; 4], ip6: Option<[u8; 16]>) -> Result<(), CommandError<'static>> {
-    if !is_reachable(ip) {
-        return Err(CommandError::RelayedAddress);
+impl<R: Clock> server::Endpoints for ServedEndpoints<'_, '_, R> {
+    fn serve(&mut self, token: usize) -> bool {
+        self.server.drain(self.rt, token)
     }
-    match ip6 {
-        Some(octets) if !is_reachable6(octets) => Err(CommandError::RelayedAddress6),
-        _ => Ok(()),
-    }
-}
-
-/// Returns the relayed addresses of a server.
-fn relayed_of<'a>(
-    server_options: &ServerOptions<'a>,
-    options: &Options<'a>,
-) -> Result<Relayed, CommandError<'a>> {
-    let ip6 = match relayed_ip6(server_options, options) {
-        Ok(ip6) => ip6,
-        Err(error) => return Err(CommandError::Relayed(error)),
-    };
-    match relayed_ip(server_options, options) {
-        Ok(ip) => Ok(Relayed {
-            ip: ip.octets(),
-            ip6,
-        }),
-        Err(error) => Err(CommandError::Relayed(error)),
-    }
-}
-
-/// Returns the addresses of the sockets.
-fn addresses_of(server: &ServerOptions<'_>, options: &Options<'_>) -> Addresses {
-    Addresses {
-        listen: server.listen,
-        listen6: server.listen6,
-        port: server.port,
-        first_port: options.first_port,
-        slots: options.slots,
-        options: SocketOptions {
-            buffer: server.buffer,
-            reuse_port: server.reuse_port,
-        },
-    }
-}
-
-/// Binds the sockets of a server, which relays from an IPv4 address.
-fn bind_sockets<R: Net + AllocGlobal>(
-    rt: &R,
-    addresses: Addresses,
-    relayed: [u8; 4],
-    rules: &[Rule],
-) -> Result<Sockets, CommandError<'static>> {
-    let endpoints = match Endpoints::bind(rt, addresses) {
-        Ok(endpoints) => endpoints,
-        Err(BindError::Address(address, reason)) => return Err(CommandError::Bind(address, reason)),
-        Err(BindError::Memory) => return Err(CommandError::Memory),
-    };
-    let filter = filter_of(&addresses, endpoints.client_port(), relayed, rules)?;
-    Sockets::new(rt.alloc(), endpoints, filter).map_err(|_| CommandError::Memory)
-}
-
-/// Returns the file that the metrics are written to, if one is given. Where processes share a port, each has its first port as a
-/// label: node_exporter takes no two samples with the same name and labels.
-fn metrics_file<'a>(
-    alloc: Global,
-    server_options: &ServerOptions<'a>,
-    options: &Options<'_>,
-    now: Duration,
-) -> Result<Option<MetricsFile<'a>>, CommandError<'static>> {
-    let Some(path) = server_options.metrics else {
-        return Ok(None);
-    };
-    let first_port = server_options.reuse_port.then_some(options.first_port);
-    match MetricsFile::new(alloc, path, first_port, now) {
-        Ok(file) => Ok(Some(file)),
-        Err(_) => Err(CommandError::Memory),
-    }
-}
-
-/// Returns the log, if one is wanted.
-fn log_of(
-    alloc: Global,
-    server_options: &ServerOptions<'_>,
-    options: &Options<'_>,
-    now: Duration,
-) -> Result<Option<ServerLog>, CommandError<'static>> {
-    if !server_options.log {
-        return Ok(None);
-    }
-    match ServerLog::new(alloc, options.slots, options.first_port, now) {
-        Ok(log) => Ok(Some(log)),
-        Err(_) => Err(CommandError::Memory),
-    }
-}
-
-/// Binds the sockets of a server, seeds its generator, and begins its recording, in this order.
-fn link_of<'a, R: Files<File = File> + Net + RandomSource + AllocGlobal>(
-    rt: &R,
-    server_options: &ServerOptions<'a>,
-    options: &Options<'_>,
-    relayed: [u8; 4],
-    rules: &[Rule],
-) -> Result<(RecordedSockets<'a>, StdRng), CommandError<'a>> {
-    let addresses = addresses_of(server_options, options);
-    let sockets = bind_sockets(rt, addresses, relayed, rules)?;
-    let mut rng: StdRng = make_rng(rt).map_err(|_| CommandError::Random)?;
-    let mut transaction_id = [0; 12];
-    rng.fill_bytes(&mut transaction_id);
-    let link = RecordedSockets {
-        sockets,
-        recording: Recording::begin(rt, server_options.record)?,
-        now: 0,
-        transaction_id,
-        from: NOWHERE,
-    };
-    Ok((link, rng))
-}
-
-/// What a server has beside its relay.
-#[derive(Drop)]
-struct Parts<'a> {
-    link: RecordedSockets<'a>,
-    rng: StdRng,
-    metrics: Option<MetricsFile<'a>>,
-    log: Option<ServerLog>,
-}
-
-/// Binds the sockets, and makes what is reported.
-fn parts_of<'a, R: Files<File = File> + Net + RandomSource + AllocGlobal>(
-    rt: &R,
-    server_options: &ServerOptions<'a>,
-    rules: &[Rule],
-    options: &Options<'a>,
-    relayed: Relayed,
-    now: Duration,
-) -> Result<Parts<'a>, CommandError<'a>> {
-    check_reachable(relayed.ip, relayed.ip6)?;
-    let (link, rng) = link_of(rt, server_options, options, relayed.ip, rules)?;
-    let metrics = metrics_file(rt.alloc(), server_options, options, now)?;
-    let log = log_of(rt.alloc(), server_options, options, now)?;
-    Ok(Parts {
-        link,
-        rng,
-        metrics,
-        log,
-    })
-}
-
-/// Puts a server together.
-fn server_of<'a, R: Clock>(
-    rt: &R,
-    server_options: &ServerOptions<'a>,
-    options: &Options<'a>,
-    relayed: Relayed,
-    set: Prepared,
-    parts: Parts<'a>,
-    now: Duration,
-) -> Server<'a> {
-    let Relayed { ip, ip6 } = relayed;
-    let period = Duration::from_secs(PERIOD);
-    Server {
-        relay: set.relay,
-        relayed: ip,
-        relayed6: ip6,
-        link: parts.link,
-        sides: Sides::new(options, set.programs),
-        users: UserList::new(options, set.users),
-        rng: parts.rng,
-        moments: Moments::starting_now(rt),
-        nonces: Timer::new(now, Duration::from_secs(server_options.nonce_lifetime)),
-        files: Timer::new(now, period),
-        faults: Timer::new(now, period),
-        stats: server_options
-            .stats
-            .map(|seconds| Timer::new(now, Duration::from_secs(seconds))),
-        metrics: parts.metrics,
-        log: parts.log,
-        is_busy: false,
-    }
-}
-
-/// Sets up a server: its relay, and then its sockets, all of which are bound.
-fn start<'a, R: Files<File = File> + Net + Clock + RandomSource + AllocGlobal>(
-    rt: &R,
-    server_options: &ServerOptions<'a>,
-    rules: &[Rule],
-    options: &Options<'a>,
-) -> Result<Server<'a>, CommandError<'a>> {
-    let relayed = relayed_of(server_options, options)?;
-    let set = set_up(
-        rt,
-        options,
-        defaults::NONCE,
-        relayed,
-        !server_options.unconfined,
-    )?;
-    let now = elapsed(rt);
-    let parts = parts_of(rt, server_options, rules, options, relayed, now)?;
-    Ok(server_of(rt, server_options, options, relayed, set, parts, now))
 }
 
 /// Serves, and prints faults to `err`.

@@ -35,6 +35,14 @@ impl From<LoadError> for ProgramError {
     }
 }
 
+/// The program in a file is refused. Displays as the lines for standard error.
+#[derive(Clone, Copy, Debug, Error)]
+#[error("{error} in {path}\nrelayd explain {path} shows why")]
+pub struct RefusedProgram<'a> {
+    pub path: &'a str,
+    pub error: ProgramError,
+}
+
 /// Why a relay can't be set up: the first fault, in this order.
 #[derive(Clone, Copy, Debug, PartialEq, Eq, Error)]
 pub enum SetupError {

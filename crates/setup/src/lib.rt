@@ -8,7 +8,7 @@ mod setting_up;
 mod users;
 
 pub use aliases::alias;
-pub use error::{ProgramError, SetupError};
+pub use error::{ProgramError, RefusedProgram, SetupError};
 pub use secrets::secret;
 pub use setting_up::{Setup, program, relay_of};
-pub use users::{is_comment, user};
+pub use users::{UsersError, add_users, add_users_of_lines, is_comment, user};

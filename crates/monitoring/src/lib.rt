@@ -1,0 +1,16 @@
+//! What a running server writes: its counters, metrics, log and record, and lines on standard error.
+#![tactic(auto)]
+
+mod counters;
+mod drops;
+mod error_lines;
+mod metrics;
+mod recording;
+mod reports;
+mod server_log;
+
+pub use error_lines::ErrorLines;
+pub use metrics::MetricsFile;
+pub use recording::{RecordEnd, RecordError, Recording};
+pub use reports::{Observed, Reports};
+pub use server_log::{EndReason, Sender, ServerLog};

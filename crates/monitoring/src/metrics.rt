@@ -1,0 +1,296 @@
+//! The metrics of a server, in the text format of Prometheus, for the textfile collector of its node_exporter.
+
+use crate::counters::reason_name;
+use server::{Counter, Counters, KINDS, Kind, REASONS, Timer};
+use std::alloc::{AllocError, Global};
+use std::fs;
+use std::io::{self, Write};
+use std::rt::Files;
+use std::time::Duration;
+
+/// The seconds from one write to the next.
+const PERIOD: u64 = 15;
+
+/// The bytes of memory that are taken for the text. The longest one, of counters of 20 digits, has fewer.
+const ROOM: usize = 16_384;
+
+/// What follows the name of the file in that of the new one.
+const SUFFIX: &str = ".new";
+
+/// What is written.
+#[derive(Clone, Copy)]
+pub(crate) struct Metrics<'a> {
+    pub(crate) counters: &'a Counters,
+    /// How many datagrams the system dropped, if that is known.
+    pub(crate) dropped: Option<u64>,
+    /// The number of slots.
+    pub(crate) slots: usize,
+    /// The number of slots that have an allocation.
+    pub(crate) used: usize,
+    /// The port of slot 0, which each sample has as a label where several servers may run; else `None`.
+    pub(crate) first_port: Option<u16>,
+}
+
+/// A metric: samples of one name, type and meaning.
+#[derive(Clone, Copy)]
+struct Family {
+    name: &'static str,
+    /// `counter` or `gauge`.
+    kind: &'static str,
+    help: &'static str,
+}
+
+/// The labels of a sample, in order, each with its value.
+type Labels<'a> = &'a [(&'static str, &'static str)];
+
+/// The file that metrics are written to from time to time.
+#[derive(Drop)]
+pub struct MetricsFile<'a> {
+    path: &'a str,
+    /// The path of the new file, which is in the same folder.
+    new_path: String,
+    /// See [`Metrics::first_port`].
+    first_port: Option<u16>,
+    /// The text of the new file. Its memory is taken before the server listens.
+    text: Vec<u8>,
+    timer: Timer,
+    /// Whether the last write failed.
+    is_failing: bool,
+}
+
+/// Returns the name of a kind of datagrams.
+fn kind_name(kind: Kind) -> &'static str {
+    match kind {
+        Kind::ChannelData => "channel_data",
+        Kind::Message => "message",
+        Kind::Other => "other",
+        Kind::FromPeer => "from_peer",
+    }
+}
+
+impl Family {
+    const RECEIVED: Family = Family {
+        name: "relayd_datagrams_received_total",
+        kind: "counter",
+        help: "Datagrams that came.",
+    };
+
+    const RELAYED: Family = Family {
+        name: "relayd_datagrams_relayed_total",
+        kind: "counter",
+        help: "Datagrams whose data was sent on.",
+    };
+
+    const RESPONSES: Family = Family {
+        name: "relayd_responses_total",
+        kind: "counter",
+        help: "Responses to requests.",
+    };
+
+    const DISCARDED: Family = Family {
+        name: "relayd_datagrams_discarded_total",
+        kind: "counter",
+        help: "Datagrams that nothing was sent for.",
+    };
+
+    const DENIED: Family = Family {
+        name: "relayd_datagrams_denied_total",
+        kind: "counter",
+        help: "Datagrams for peers that nothing is sent to.",
+    };
+
+    const FAULTS: Family = Family {
+        name: "relayd_faults_total",
+        kind: "counter",
+        help: "Receives and sends that failed.",
+    };
+
+    const DROPPED: Family = Family {
+        name: "relayd_datagrams_dropped_total",
+        kind: "counter",
+        help: "Datagrams that the system dropped at sockets with the ports of the server.",
+    };
+
+    const SLOTS: Family = Family {
+        name: "relayd_slots",
+        kind: "gauge",
+        help: "Slots, each for one allocation.",
+    };
+
+    const USED: Family = Family {
+        name: "relayd_slots_in_use",
+        kind: "gauge",
+        help: "Slots that have an allocation.",
+    };
+
+    /// Writes the lines before the samples.
+    fn write_head<W: Write>(&self, out: &mut W) -> io::Result<()> {
+        writeln!(out, "# HELP {} {}", self.name, self.help)?;
+        writeln!(out, "# TYPE {} {}", self.name, self.kind)
+    }
+}
+
+impl Metrics<'_> {
+    /// Writes a sample.
+    fn write_sample<W: Write>(
+        &self,
+        out: &mut W,
+        family: &Family,
+        labels: Labels<'_>,
+        value: u64,
+    ) -> io::Result<()> {
+        write!(out, "{}", family.name)?;
+        let mut before = '{';
+        if let Some(port) = self.first_port {
+            write!(out, "{before}first_port=\"{port}\"")?;
+            before = ',';
+        }
+        for (label, text) in labels {
+            write!(out, "{before}{label}=\"{text}\"")?;
+            before = ',';
+        }
+        let end = if before == ',' { "}" } else { "" };
+        writeln!(out, "{end} {value}")
+    }
+
+    /// Writes a metric of one sample, which has no label of its own.
+    fn write_one<W: Write>(&self, out: &mut W, family: &Family, value: u64) -> io::Result<()> {
+        family.write_head(out)?;
+        self.write_sample(out, family, &[], value)
+    }
+
+    /// Writes a metric of counters, each with its value of a label.
+    fn write_each<W: Write>(
+        &self,
+        out: &mut W,
+        family: &Family,
+        label: &'static str,
+        counters: &[(&'static str, Counter)],
+    ) -> io::Result<()> {
+        family.write_head(out)?;
+        for (text, counter) in counters {
+            let value = self.counters.get(*counter);
+            self.write_sample(out, family, &[(label, *text)], value)?;
+        }
+        Ok(())
+    }
+
+    /// Writes what was received, and what was sent.
+    fn write_handled<W: Write>(&self, out: &mut W) -> io::Result<()> {
+        let from = [
+            ("clients", Counter::FromClients),
+            ("peers", Counter::FromPeers),
+        ];
+        self.write_each(out, &Family::RECEIVED, "from", &from)?;
+        let to = [("peers", Counter::ToPeers), ("clients", Counter::ToClients)];
+        self.write_each(out, &Family::RELAYED, "to", &to)?;
+        let results = [
+            ("granted", Counter::Granted),
+            ("challenged", Counter::Challenged),
+            ("unauthenticated", Counter::Unauthenticated),
+            ("refused", Counter::Refused),
+        ];
+        self.write_each(out, &Family::RESPONSES, "result", &results)
+    }
+
+    /// Writes the datagrams of a kind that were discarded.
+    fn write_discarded<W: Write>(&self, out: &mut W, kind: Kind) -> io::Result<()> {
+        for reason in REASONS {
+            let value = self.counters.get(Counter::Discarded(kind, reason));
+            let labels = [("kind", kind_name(kind)), ("reason", reason_name(reason))];
+            self.write_sample(out, &Family::DISCARDED, &labels, value)?;
+        }
+        Ok(())
+    }
+
+    /// Writes what wasn't sent, and what failed.
+    fn write_unsent<W: Write>(&self, out: &mut W) -> io::Result<()> {
+        Family::DISCARDED.write_head(out)?;
+        for kind in KINDS {
+            self.write_discarded(out, kind)?;
+        }
+        self.write_one(out, &Family::DENIED, self.counters.get(Counter::Denied))?;
+        let calls = [
+            ("receive", Counter::ReceiveFaults),
+            ("send", Counter::SendFaults),
+        ];
+        self.write_each(out, &Family::FAULTS, "call", &calls)
+    }
+
+    /// Writes all metrics.
+    fn write<W: Write>(&self, out: &mut W) -> io::Result<()> {
+        self.write_handled(out)?;
+        self.write_unsent(out)?;
+        if let Some(dropped) = self.dropped {
+            self.write_one(out, &Family::DROPPED, dropped)?;
+        }
+        self.write_one(out, &Family::SLOTS, self.slots as u64)?;
+        self.write_one(out, &Family::USED, self.used as u64)
+    }
+}
+
+impl<'a> MetricsFile<'a> {
+    /// Returns the file at a path, with the label of its samples if they have one, and takes its memory. It is due one period
+    /// after `now`.
+    ///
+    /// # Errors
+    /// Where memory runs out.
+    pub fn new(
+        alloc: Global,
+        path: &'a str,
+        first_port: Option<u16>,
+        now: Duration,
+    ) -> Result<MetricsFile<'a>, AllocError> {
+        Ok(MetricsFile {
+            path,
+            new_path: format!(in alloc; "{path}{SUFFIX}")?,
+            first_port,
+            text: Vec::with_capacity(alloc, ROOM)?,
+            timer: Timer::new(now, Duration::from_secs(PERIOD)),
+            is_failing: false,
+        })
+    }
+
+    /// Returns the label of its samples, if they have one.
+    pub(crate) fn first_port(&self) -> Option<u16> {
+        self.first_port
+    }
+
+    /// Returns whether metrics are to be written now.
+    pub(crate) fn is_due(&mut self, now: Duration) -> bool {
+        self.timer.is_due(now)
+    }
+
+    /// Writes metrics to a new file, which then takes the name of the file: so a reader finds either the old ones or the new
+    /// ones, whole. What is at the new file's path is removed before, since to open a pipe may take forever.
+    /// See docs/DECISIONS.md, "Metrics are a file".
+    fn replace<R: Files>(&mut self, rt: &R, metrics: &Metrics<'_>) -> io::Result<()> {
+        self.text.clear();
+        metrics.write(&mut self.text)?;
+        let _ = fs::remove_file(rt, self.new_path.as_str());
+        let mut file = fs::File::create_new(rt, self.new_path.as_str())?;
+        file.write_all(&self.text)?;
+        let renamed = fs::rename(rt, self.new_path.as_str(), self.path);
+        if renamed.is_err() {
+            let _ = fs::remove_file(rt, self.new_path.as_str());
+        }
+        renamed
+    }
+
+    /// Writes the first metrics.
+    ///
+    /// # Errors
+    /// Where they can't be written.
+    pub(crate) fn begin<R: Files>(&mut self, rt: &R, metrics: &Metrics<'_>) -> io::Result<()> {
+        self.replace(rt, metrics)
+    }
+
+    /// Writes metrics. A failure is reported, once until a write succeeds again.
+    pub(crate) fn write<R: Files, E: Write>(&mut self, rt: &R, err: &mut E, metrics: &Metrics<'_>) {
+        let has_failed = self.replace(rt, metrics).is_err();
+        if has_failed && !self.is_failing {
+            let _ = writeln!(err, "cannot write {}", self.path);
+        }
+        self.is_failing = has_failed;
+    }
+}

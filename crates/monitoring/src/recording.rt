@@ -1,0 +1,190 @@
+//! The record of a server's events. A replay of them gives the answers of the server.
+
+use events::{Event, Meta, write_event};
+use semantics::MAX_DATAGRAM;
+use server::Recorder;
+use std::fs::{File, OpenOptions};
+use std::io::{self, ErrorKind, Write};
+use std::mem;
+use std::os::unix::fs::OpenOptionsExt;
+use std::rt::Files;
+use streams::Output;
+use thiserror::Error;
+
+/// Room for the longest line, which is that of a peer's longest datagram.
+const LONGEST: usize = 2 * MAX_DATAGRAM + 128;
+
+/// Room for the lines that are to be written to the file.
+const ROOM: usize = 4 * LONGEST;
+
+/// The permissions of the file: its owner reads and writes it, and nobody else.
+const MODE: u32 = 0o600;
+
+/// Why a recording can't begin. Displays as the reason.
+#[derive(Clone, Copy, Debug, Error)]
+pub enum RecordError {
+    #[error("the file exists")]
+    Exists,
+    #[error("no such folder")]
+    NoFolder,
+    #[error("permission denied")]
+    Denied,
+    #[error("out of memory")]
+    Memory,
+    /// Another error of the system, by its number.
+    #[error("error {0} of the system")]
+    Other(i32),
+}
+
+/// Why a recording ends. Displays as the reason.
+#[derive(Clone, Copy, Debug, Error)]
+pub enum RecordEnd {
+    /// A write failed, by the number of the system's error.
+    #[error("error {0} of the system")]
+    Write(i32),
+    #[error("out of memory")]
+    Memory,
+    #[error("a program is replaced")]
+    Programs,
+    #[error("the users are replaced")]
+    Users,
+}
+
+/// A file of events, as lines.
+#[derive(Drop)]
+struct RecordFile<'a> {
+    path: &'a str,
+    file: File,
+    /// The lines that are still to be written.
+    lines: Vec<u8>,
+    /// The bytes of those that were written.
+    written: u64,
+    /// Why no more is recorded.
+    end: Option<RecordEnd>,
+}
+
+/// The recording of a server, if there is one.
+/// See docs/DECISIONS.md, "A recording has what is served".
+#[derive(Drop)]
+pub struct Recording<'a> {
+    file: Option<RecordFile<'a>>,
+}
+
+impl From<io::Error> for RecordError {
+    fn from(error: io::Error) -> RecordError {
+        match error.kind() {
+            ErrorKind::AlreadyExists => RecordError::Exists,
+            ErrorKind::NotFound => RecordError::NoFolder,
+            ErrorKind::PermissionDenied => RecordError::Denied,
+            _ => RecordError::Other(error.raw_os_error().unwrap_or(0)),
+        }
+    }
+}
+
+impl RecordFile<'_> {
+    /// Adds the line of an event.
+    #[inline(never)]
+    fn record(&mut self, event: &Event<'_>) {
+        if self.end.is_some() {
+            return;
+        }
+        let whole = self.lines.len();
+        if write_event(&mut Output::new(&mut self.lines), event).is_err() {
+            self.lines.truncate(whole);
+            self.end = Some(RecordEnd::Memory);
+        }
+        if self.lines.len() > ROOM - LONGEST {
+            self.write();
+        }
+    }
+
+    /// Writes the lines to the file. Where that fails the file keeps the lines before them, and no more is recorded.
+    fn write(&mut self) {
+        match self.file.write_all(&self.lines) {
+            Ok(()) => self.written = self.written.saturating_add(self.lines.len() as u64),
+            Err(error) => {
+                let _ = self.file.set_len(self.written);
+                self.end = Some(RecordEnd::Write(error.raw_os_error().unwrap_or(0)));
+            }
+        }
+        self.lines.clear();
+    }
+
+    /// Writes the lines to the file, if there are any, and returns why no more is recorded.
+    fn flush(&mut self) -> Option<RecordEnd> {
+        if !self.lines.is_empty() {
+            self.write();
+        }
+        self.end
+    }
+}
+
+impl<'a> Recording<'a> {
+    /// Makes the file of a path, if one is given, for a recording, and takes its memory.
+    ///
+    /// # Errors
+    /// Where the file is there already or can't be made, and where memory runs out.
+    pub fn begin<R: Files<File = File> + AllocGlobal>(
+        rt: &R,
+        path: Option<&'a str>,
+    ) -> Result<Recording<'a>, RecordError> {
+        let Some(path) = path else {
+            return Ok(Recording { file: None });
+        };
+        let Ok(lines) = Vec::with_capacity(rt.alloc(), ROOM) else {
+            return Err(RecordError::Memory);
+        };
+        let mut options = OpenOptions::new();
+        let file = options
+            .write(true)
+            .create_new(true)
+            .mode(MODE)
+            .open(rt, path)?;
+        Ok(Recording {
+            file: Some(RecordFile {
+                path,
+                file,
+                lines,
+                written: 0,
+                end: None,
+            }),
+        })
+    }
+
+    /// Adds a nonce that was drawn.
+    pub fn record_nonce(&mut self, nonce: &str) {
+        if let Some(file) = &mut self.file {
+            file.record(&Event::Nonce(nonce));
+        }
+    }
+
+    /// Writes what was recorded to the file. Where a write has failed the recording ends, which is reported.
+    pub fn flush<E: Write>(&mut self, err: &mut E) {
+        if let Some(file) = &mut self.file
+            && let Some(why) = file.flush()
+        {
+            self.end(err, why);
+        }
+    }
+
+    /// Ends the recording, if there is one, and reports why.
+    pub fn end<E: Write>(&mut self, err: &mut E, why: RecordEnd) {
+        if let Some(mut file) = mem::replace(&mut self.file, None) {
+            let why = file.flush().unwrap_or(why);
+            let _ = writeln!(err, "recording to {} ended: {why}", file.path);
+        }
+    }
+}
+
+impl Recorder for Recording<'_> {
+    #[inline(always)]
+    fn record(&mut self, meta: &Meta, datagram: &[u8]) {
+        if let Some(file) = &mut self.file {
+            let meta = *meta;
+            file.record(&Event::Datagram {
+                meta,
+                bytes: datagram,
+            });
+        }
+    }
+}

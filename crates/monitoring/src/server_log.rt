@@ -1,0 +1,348 @@
+//! The log of a server: allocations that are made and that end, and credentials that are refused.
+
+use attributes::Addr;
+use control::{Grant, MAX_TEXT, Response};
+use credentials::AuthError;
+use server::Timer;
+use std::alloc::{AllocError, Global};
+use std::io::Write;
+use std::time::Duration;
+use std::{ascii, fmt};
+use stun::read;
+use stun::registry::ErrorCode;
+use stun::registry::attribute::USERNAME;
+use tables::{Allocation, Tables};
+use thiserror::Error;
+
+/// The most lines of a period, the line that counts the others aside.
+const LINES: usize = 100;
+
+/// The seconds of a period.
+const PERIOD: u64 = 1;
+
+/// The bytes of the header of a STUN message (RFC 8489, section 5).
+const HEADER_BYTES: usize = 20;
+
+/// The USERNAME of a request, as many of its bytes as the longest name of a user has. Displays in quotes, with escapes for quotes
+/// and for bytes that aren't printable ASCII.
+#[derive(Clone, Copy)]
+struct Name {
+    bytes: [u8; MAX_TEXT],
+    count: usize,
+}
+
+/// Who sent a request. Displays as a part of a line.
+#[derive(Clone, Copy)]
+pub struct Sender {
+    client: Addr,
+    name: Name,
+}
+
+/// Why an allocation ended. Displays as the reason.
+#[derive(Clone, Copy, Debug, Error)]
+pub enum EndReason {
+    /// It was deleted by a Refresh request.
+    #[error("refreshed to 0")]
+    Refreshed,
+    /// Its lifetime passed.
+    #[error("expired")]
+    Expired,
+    /// No user that replaced the former ones has its name and password.
+    #[error("its user was replaced")]
+    Users,
+}
+
+/// Why the credentials of a request are refused. Displays as the reason.
+#[derive(Clone, Copy, Debug, Error)]
+enum RefusalReason {
+    #[error("incomplete credentials")]
+    Incomplete,
+    #[error("unknown user")]
+    UnknownUser,
+    #[error("wrong password")]
+    WrongPassword,
+    /// They are right, but the client's allocation is another user's.
+    #[error("another user's allocation")]
+    OtherUser,
+}
+
+/// What happened.
+#[derive(Clone, Copy)]
+enum Happening {
+    /// An allocation was made at a slot, for a lifetime in seconds.
+    Made { slot: usize, lifetime: u32 },
+    /// The allocation at a slot ended.
+    Ended { slot: usize, reason: EndReason },
+    /// Credentials were refused.
+    Refused(RefusalReason),
+}
+
+/// A line of the log. Displays as that.
+#[derive(Clone, Copy)]
+struct Entry {
+    happening: Happening,
+    sender: Sender,
+    /// The relayed port of slot 0.
+    first_port: u16,
+}
+
+/// An allocation whose end is still to be logged.
+#[derive(Clone, Copy)]
+struct Open {
+    /// Who sent the request that made it.
+    sender: Sender,
+    /// That of this request.
+    transaction_id: [u8; 12],
+}
+
+/// The log of a server. Its memory is taken before the server listens.
+/// See docs/DECISIONS.md, "What the log has".
+#[derive(Drop)]
+pub struct ServerLog {
+    first_port: u16,
+    /// For each slot the allocation that was logged and whose end wasn't.
+    open: Vec<Option<Open>>,
+    /// What is still to be printed.
+    entries: Vec<Entry>,
+    /// How many were added in this period, those that were printed included.
+    count: usize,
+    /// How many weren't, since there were too many.
+    left_out: u64,
+    period: Timer,
+}
+
+/// Returns the STUN message at the start of the room for datagrams, by the length in its header.
+fn message_in(room: &[u8]) -> &[u8] {
+    let [_, _, high, low, ..] = room else {
+        return &[];
+    };
+    let length = usize::from(u16::from_be_bytes([*high, *low]));
+    room.get(..HEADER_BYTES + length).unwrap_or(&[])
+}
+
+impl Name {
+    /// Returns a name of bytes.
+    fn of(bytes: &[u8]) -> Name {
+        let mut name = Name {
+            bytes: [0; MAX_TEXT],
+            count: bytes.len().min(MAX_TEXT),
+        };
+        for (to, from) in name.bytes.iter_mut().zip(bytes) {
+            *to = *from;
+        }
+        name
+    }
+}
+
+impl fmt::Display for Name {
+    fn fmt<W: fmt::Write>(&self, f: &mut fmt::Formatter<W>) -> fmt::Result {
+        f.write_str("\"")?;
+        for byte in self.bytes.iter().take(self.count) {
+            write!(f, "{}", ascii::escape_default(*byte))?;
+        }
+        f.write_str("\"")
+    }
+}
+
+impl Sender {
+    /// Returns who sent the request that is at the start of the room for datagrams. Without a USERNAME the name is empty.
+    pub fn of(client: Addr, room: &[u8]) -> Sender {
+        let value = match read(message_in(room)) {
+            Ok(message) => message.value_of(USERNAME).unwrap_or(&[]),
+            Err(_) => &[],
+        };
+        Sender {
+            client,
+            name: Name::of(value),
+        }
+    }
+}
+
+impl fmt::Display for Sender {
+    fn fmt<W: fmt::Write>(&self, f: &mut fmt::Formatter<W>) -> fmt::Result {
+        write!(f, "client {}, user {}", self.client, self.name)
+    }
+}
+
+impl Entry {
+    /// Returns the relayed port of a slot.
+    fn port(&self, slot: usize) -> usize {
+        usize::from(self.first_port).saturating_add(slot)
+    }
+}
+
+impl fmt::Display for Entry {
+    fn fmt<W: fmt::Write>(&self, f: &mut fmt::Formatter<W>) -> fmt::Result {
+        let what = match self.happening {
+            Happening::Made { .. } => "allocation made",
+            Happening::Ended { .. } => "allocation ended",
+            Happening::Refused(_) => "credentials refused",
+        };
+        write!(f, "{what}: {}, ", self.sender)?;
+        match self.happening {
+            Happening::Made { slot, lifetime } => {
+                let port = self.port(slot);
+                write!(f, "slot {slot}, port {port}, lifetime {lifetime}")
+            }
+            Happening::Ended { slot, reason } => {
+                write!(f, "slot {slot}, port {}, {reason}", self.port(slot))
+            }
+            Happening::Refused(reason) => write!(f, "{reason}"),
+        }
+    }
+}
+
+/// Returns why a response refuses the credentials of its request, if it does. A request without credentials, or with an old
+/// nonce, is the first of a session, and is challenged.
+fn refusal_of(response: Response) -> Option<RefusalReason> {
+    match response {
+        Response::Unauthenticated(AuthError::Incomplete) => Some(RefusalReason::Incomplete),
+        Response::Unauthenticated(AuthError::UnknownUser) => Some(RefusalReason::UnknownUser),
+        Response::Unauthenticated(AuthError::WrongIntegrity) => Some(RefusalReason::WrongPassword),
+        Response::Refused(ErrorCode::WrongCredentials) => Some(RefusalReason::OtherUser),
+        _ => None,
+    }
+}
+
+impl Open {
+    /// Returns whether it is an allocation of the tables.
+    fn is(&self, allocation: &Allocation) -> bool {
+        self.sender.client == allocation.client && self.transaction_id == allocation.transaction_id
+    }
+}
+
+impl ServerLog {
+    /// Returns the log of a server, and takes its memory. Slot 0 has the relayed port `first_port`.
+    ///
+    /// # Errors
+    /// Where memory runs out.
+    pub fn new(
+        alloc: Global,
+        slots: usize,
+        first_port: u16,
+        now: Duration,
+    ) -> Result<ServerLog, AllocError> {
+        let mut open = Vec::with_capacity(alloc, slots)?;
+        for _ in 0..slots {
+            open.push(None)?;
+        }
+        Ok(ServerLog {
+            first_port,
+            open,
+            entries: Vec::with_capacity(alloc, LINES)?,
+            count: 0,
+            left_out: 0,
+            period: Timer::new(now, Duration::from_secs(PERIOD)),
+        })
+    }
+
+    /// Adds an entry, unless the period has as many as it may have.
+    fn add(&mut self, happening: Happening, sender: Sender) {
+        if self.count >= LINES {
+            self.left_out = self.left_out.saturating_add(1);
+            return;
+        }
+        self.count += 1;
+        let _ = self.entries.push(Entry {
+            happening,
+            sender,
+            first_port: self.first_port,
+        });
+    }
+
+    /// Ends the allocation that is open at a slot, if there is one.
+    fn end(&mut self, slot: usize, reason: EndReason) {
+        if let Some(place) = self.open.get_mut(slot)
+            && let Some(Open { sender, .. }) = *place
+        {
+            *place = None;
+            self.add(Happening::Ended { slot, reason }, sender);
+        }
+    }
+
+    /// Adds the allocation at a slot, unless it was added before: a repeated request is granted again.
+    fn made(&mut self, slot: usize, lifetime: u32, sender: Sender, allocation: &Allocation) {
+        if let Some(Some(open)) = self.open.get(slot)
+            && open.is(allocation)
+        {
+            return;
+        }
+        self.end(slot, EndReason::Expired);
+        if let Some(place) = self.open.get_mut(slot) {
+            *place = Some(Open {
+                sender,
+                transaction_id: allocation.transaction_id,
+            });
+            self.add(Happening::Made { slot, lifetime }, sender);
+        }
+    }
+
+    /// Ends the allocation of a client, which deleted it.
+    fn deleted(&mut self, client: Addr) {
+        let is_of_client = |place: &Option<Open>| match place {
+            Some(open) => open.sender.client == client,
+            None => false,
+        };
+        if let Some(slot) = self.open.iter().position(is_of_client) {
+            self.end(slot, EndReason::Refreshed);
+        }
+    }
+
+    /// Adds what the response to a request says, with the tables as they are after it.
+    #[inline(never)]
+    pub fn answered(&mut self, response: Response, sender: Sender, tables: &Tables, now: u64) {
+        if let Some(reason) = refusal_of(response) {
+            return self.add(Happening::Refused(reason), sender);
+        }
+        match response {
+            Response::Granted(Grant::Allocated { slot, lifetime, .. }) => {
+                if let Some(allocation) = tables.allocation_at(slot, now) {
+                    self.made(slot, lifetime, sender, &allocation);
+                }
+            }
+            Response::Granted(Grant::Refreshed { lifetime: 0 }) => self.deleted(sender.client),
+            _ => {}
+        }
+    }
+
+    /// Ends each allocation that the tables don't have any more.
+    pub fn look(&mut self, tables: &Tables, now: u64, reason: EndReason) {
+        for slot in 0..self.open.len() {
+            let is_live = match (self.open.get(slot), tables.allocation_at(slot, now)) {
+                (Some(Some(open)), Some(allocation)) => open.is(&allocation),
+                _ => false,
+            };
+            if !is_live {
+                self.end(slot, reason);
+            }
+        }
+    }
+
+    /// Returns whether there may be something to print before the next datagram comes: an allocation ends, or lines were left out.
+    pub fn is_waiting(&self) -> bool {
+        self.left_out > 0 || self.open.iter().any(|place| place.is_some())
+    }
+
+    /// Returns whether a new period begins.
+    pub fn is_due(&mut self, now: Duration) -> bool {
+        self.period.is_due(now)
+    }
+
+    /// Begins a new period, and prints how many lines of the last one were left out. A failure to print is ignored.
+    pub fn begin<E: Write>(&mut self, err: &mut E) {
+        self.print(err);
+        if self.left_out > 0 {
+            let _ = writeln!(err, "{} lines of the log left out", self.left_out);
+        }
+        self.count = 0;
+        self.left_out = 0;
+    }
+
+    /// Prints what was added since the last time. A failure to print is ignored.
+    pub fn print<E: Write>(&mut self, err: &mut E) {
+        for entry in &self.entries {
+            let _ = writeln!(err, "{entry}");
+        }
+        self.entries.clear();
+    }
+}

@@ -1,0 +1,265 @@
+//! How a server starts: its relay, its sockets, and what it reports.
+
+use crate::clock::{elapsed, starting_now};
+use crate::filters::filter_of;
+use crate::options::{CommandError, Prepared, Relayed, set_up};
+use crate::server::{Server, Wire};
+use command_line::{Options, ServerOptions, defaults, relayed_ip, relayed_ip6};
+use monitoring::{MetricsFile, RecordError, Recording, Reports, ServerLog};
+use peer_filter::{PeerFilter, Rule};
+use rand::make_rng;
+use rand::rngs::StdRng;
+use rand_core::Rng;
+use replacing::{ProgramFile, Sides, UserList};
+use server::{Counters, Timer};
+use sockets::{Addresses, BindError, Endpoints, SocketOptions, Sockets};
+use std::alloc::Global;
+use std::fs::File;
+use std::net::{Ipv4Addr, Ipv6Addr, Net};
+use std::random::RandomSource;
+use std::rt::{Clock, Files};
+use std::time::Duration;
+
+/// The seconds after which the files of programs and of users are read again.
+const FILES_PERIOD: u64 = 1;
+
+/// Returns whether peers can send to a relayed IPv4 address: it is one, and not of a group or of all.
+fn is_reachable(octets: [u8; 4]) -> bool {
+    let ip = Ipv4Addr::from(octets);
+    !ip.is_unspecified() && !ip.is_multicast() && !ip.is_broadcast()
+}
+
+/// Returns whether peers can send to a relayed IPv6 address: it is one, and not of a group.
+fn is_reachable6(octets: [u8; 16]) -> bool {
+    let ip = Ipv6Addr::from(octets);
+    !ip.is_unspecified() && !ip.is_multicast()
+}
+
+/// Refuses relayed addresses that peers can't send to.
+fn check_reachable(ip: [u8; 4], ip6: Option<[u8; 16]>) -> Result<(), CommandError<'static>> {
+    if !is_reachable(ip) {
+        return Err(CommandError::RelayedAddress);
+    }
+    match ip6 {
+        Some(octets) if !is_reachable6(octets) => Err(CommandError::RelayedAddress6),
+        _ => Ok(()),
+    }
+}
+
+/// Returns the relayed addresses of a server.
+fn relayed_of<'a>(
+    server_options: &ServerOptions<'a>,
+    options: &Options<'a>,
+) -> Result<Relayed, CommandError<'a>> {
+    let ip6 = match relayed_ip6(server_options, options) {
+        Ok(ip6) => ip6,
+        Err(error) => return Err(CommandError::Relayed(error)),
+    };
+    match relayed_ip(server_options, options) {
+        Ok(ip) => Ok(Relayed {
+            ip: ip.octets(),
+            ip6,
+        }),
+        Err(error) => Err(CommandError::Relayed(error)),
+    }
+}
+
+/// Returns the addresses of the sockets.
+fn addresses_of(server: &ServerOptions<'_>, options: &Options<'_>) -> Addresses {
+    Addresses {
+        listen: server.listen,
+        listen6: server.listen6,
+        port: server.port,
+        first_port: options.first_port,
+        slots: options.slots,
+        options: SocketOptions {
+            buffer: server.buffer,
+            reuse_port: server.reuse_port,
+        },
+    }
+}
+
+/// Binds the sockets of a server, which relays from an IPv4 address, and returns them with the peers that nothing is sent to.
+fn bind_sockets<R: Net + AllocGlobal>(
+    rt: &R,
+    addresses: Addresses,
+    relayed: [u8; 4],
+    rules: &[Rule],
+) -> Result<(Sockets, PeerFilter), CommandError<'static>> {
+    let endpoints = match Endpoints::bind(rt, addresses) {
+        Ok(endpoints) => endpoints,
+        Err(BindError::Address(address, reason)) => return Err(CommandError::Bind(address, reason)),
+        Err(BindError::Memory) => return Err(CommandError::Memory),
+    };
+    let filter = filter_of(&addresses, endpoints.client_port(), relayed, rules)?;
+    match Sockets::new(rt.alloc(), endpoints) {
+        Ok(sockets) => Ok((sockets, filter)),
+        Err(_) => Err(CommandError::Memory),
+    }
+}
+
+/// Begins the recording of a server, if one is wanted.
+fn recording_of<'a, R: Files<File = File> + AllocGlobal>(
+    rt: &R,
+    path: Option<&'a str>,
+) -> Result<Recording<'a>, CommandError<'a>> {
+    match Recording::begin(rt, path) {
+        Ok(recording) => Ok(recording),
+        Err(RecordError::Memory) => Err(CommandError::Memory),
+        Err(error) => Err(CommandError::Record(path.unwrap_or(""), error)),
+    }
+}
+
+/// Binds the sockets of a server, seeds its generator, and begins its recording, in this order.
+fn wire_of<'a, R: Files<File = File> + Net + RandomSource + AllocGlobal>(
+    rt: &R,
+    server_options: &ServerOptions<'a>,
+    options: &Options<'_>,
+    relayed: [u8; 4],
+    rules: &[Rule],
+) -> Result<Wire<'a>, CommandError<'a>> {
+    let addresses = addresses_of(server_options, options);
+    let (sockets, filter) = bind_sockets(rt, addresses, relayed, rules)?;
+    let mut rng: StdRng = make_rng(rt).map_err(|_| CommandError::Random)?;
+    let mut transaction_id = [0; 12];
+    rng.fill_bytes(&mut transaction_id);
+    Ok(Wire {
+        sockets,
+        filter: Some(filter),
+        recording: recording_of(rt, server_options.record)?,
+        counters: Counters::new(),
+        rng,
+        transaction_id,
+    })
+}
+
+/// Returns the file that the metrics are written to, if one is given. Where processes share a port, each has its first port as a
+/// label: node_exporter takes no two samples with the same name and labels.
+fn metrics_file<'a>(
+    alloc: Global,
+    server_options: &ServerOptions<'a>,
+    options: &Options<'_>,
+    now: Duration,
+) -> Result<Option<MetricsFile<'a>>, CommandError<'static>> {
+    let Some(path) = server_options.metrics else {
+        return Ok(None);
+    };
+    let first_port = server_options.reuse_port.then_some(options.first_port);
+    match MetricsFile::new(alloc, path, first_port, now) {
+        Ok(file) => Ok(Some(file)),
+        Err(_) => Err(CommandError::Memory),
+    }
+}
+
+/// Returns the log, if one is wanted.
+fn log_of(
+    alloc: Global,
+    server_options: &ServerOptions<'_>,
+    options: &Options<'_>,
+    now: Duration,
+) -> Result<Option<ServerLog>, CommandError<'static>> {
+    if !server_options.log {
+        return Ok(None);
+    }
+    match ServerLog::new(alloc, options.slots, options.first_port, now) {
+        Ok(log) => Ok(Some(log)),
+        Err(_) => Err(CommandError::Memory),
+    }
+}
+
+/// Returns what a server reports, over its sockets.
+fn reports_of<'a>(
+    alloc: Global,
+    server_options: &ServerOptions<'a>,
+    options: &Options<'_>,
+    sockets: &Sockets,
+    now: Duration,
+) -> Result<Reports<'a>, CommandError<'static>> {
+    let metrics = metrics_file(alloc, server_options, options, now)?;
+    let log = log_of(alloc, server_options, options, now)?;
+    match Reports::new(
+        alloc,
+        sockets.ports(),
+        server_options.stats,
+        metrics,
+        log,
+        now,
+    ) {
+        Ok(reports) => Ok(reports),
+        Err(_) => Err(CommandError::Memory),
+    }
+}
+
+/// What a server has beside its relay.
+#[derive(Drop)]
+struct Parts<'a> {
+    wire: Wire<'a>,
+    reports: Reports<'a>,
+}
+
+/// Binds the sockets, and makes what is reported.
+fn parts_of<'a, R: Files<File = File> + Net + RandomSource + AllocGlobal>(
+    rt: &R,
+    server_options: &ServerOptions<'a>,
+    rules: &[Rule],
+    options: &Options<'a>,
+    relayed: Relayed,
+    now: Duration,
+) -> Result<Parts<'a>, CommandError<'a>> {
+    check_reachable(relayed.ip, relayed.ip6)?;
+    let wire = wire_of(rt, server_options, options, relayed.ip, rules)?;
+    let reports = reports_of(rt.alloc(), server_options, options, &wire.sockets, now)?;
+    Ok(Parts { wire, reports })
+}
+
+/// Puts a server together.
+fn server_of<'a, R: Clock>(
+    rt: &R,
+    server_options: &ServerOptions<'a>,
+    options: &Options<'a>,
+    relayed: Relayed,
+    set: Prepared,
+    parts: Parts<'a>,
+    now: Duration,
+) -> Server<'a> {
+    let client = ProgramFile {
+        path: options.client,
+        bytes: set.programs.client,
+    };
+    let peer = ProgramFile {
+        path: options.peer,
+        bytes: set.programs.peer,
+    };
+    Server {
+        relay: set.relay,
+        relayed,
+        wire: parts.wire,
+        sides: Sides::new(client, peer),
+        users: UserList::new(options.users.unwrap_or(&[]), options.users_file, set.users),
+        moments: starting_now(rt),
+        nonces: Timer::new(now, Duration::from_secs(server_options.nonce_lifetime)),
+        files: Timer::new(now, Duration::from_secs(FILES_PERIOD)),
+        reports: parts.reports,
+        is_busy: false,
+    }
+}
+
+/// Sets up a server: its relay, and then its sockets, all of which are bound.
+pub(crate) fn start<'a, R: Files<File = File> + Net + Clock + RandomSource + AllocGlobal>(
+    rt: &R,
+    server_options: &ServerOptions<'a>,
+    rules: &[Rule],
+    options: &Options<'a>,
+) -> Result<Server<'a>, CommandError<'a>> {
+    let relayed = relayed_of(server_options, options)?;
+    let set = set_up(
+        rt,
+        options,
+        defaults::NONCE,
+        relayed,
+        !server_options.unconfined,
+    )?;
+    let now = elapsed(rt);
+    let parts = parts_of(rt, server_options, rules, options, relayed, now)?;
+    Ok(server_of(rt, server_options, options, relayed, set, parts, now))
+}

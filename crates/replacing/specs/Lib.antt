@@ -1,0 +1,2 @@
+-- Internal. The modules of this folder.
+pub mod Watched

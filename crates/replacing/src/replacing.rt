@@ -1,0 +1,247 @@
+//! Programs that are replaced while a server runs. Each is verified in slices, so that datagrams are served meanwhile.
+
+use crate::files::{UnusableFile, read_regular};
+use crate::watched::Watched;
+use insn::MAX_SLOTS;
+use loader::{LoadError, LoadProgress, Loaded, Loading, Remains};
+use relay::Relay;
+use setup::{ProgramError, RefusedProgram};
+use std::io::Write;
+use std::mem;
+use std::rt::Files;
+
+/// How many units of work of a verification are done before the clock is read again.
+const SLICE: usize = 4;
+
+/// How many units of work are done of freeing what a verification has kept, before the clock is read again.
+const FREED: usize = 64;
+
+/// The most bytes of a program: eight for each slot.
+const LONGEST: u64 = MAX_SLOTS as u64 * 8;
+
+/// The file of a side's program, if one is given, and the bytes that it had.
+#[derive(Drop)]
+pub struct ProgramFile<'a> {
+    pub path: Option<&'a str>,
+    pub bytes: Option<Vec<u8>>,
+}
+
+/// A program that is to replace the one that runs.
+#[derive(Drop)]
+enum Next {
+    /// There is none.
+    Nothing,
+    /// Its bytes are being verified.
+    Verifying { loading: Loading, bytes: Vec<u8> },
+    /// It is loaded from these bytes.
+    Ready { loaded: Loaded, bytes: Vec<u8> },
+}
+
+/// The program of a side, and the file that it is replaced from.
+#[derive(Drop)]
+struct Side<'a> {
+    /// The file, if one is given.
+    path: Option<&'a str>,
+    /// The bytes of the program that runs, if it isn't the shipped one, and those that the file had when it was last refused.
+    watched: Watched,
+    /// Why the file couldn't be used when it was last looked at.
+    unusable: Option<UnusableFile>,
+    next: Next,
+    /// What the last verification has kept, which is freed gradually.
+    remains: Option<Remains>,
+}
+
+/// The programs of both sides.
+#[derive(Drop)]
+pub struct Sides<'a> {
+    client: Side<'a>,
+    peer: Side<'a>,
+}
+
+impl Next {
+    /// Returns whether there is one, of these bytes.
+    fn is_of(&self, other: &[u8]) -> bool {
+        match self {
+            Next::Nothing => false,
+            Next::Verifying { bytes, .. } | Next::Ready { bytes, .. } => bytes.as_slice() == other,
+        }
+    }
+
+    /// Returns whether there is one.
+    fn is_some(&self) -> bool {
+        match self {
+            Next::Nothing => false,
+            _ => true,
+        }
+    }
+
+    /// Returns whether it is being verified.
+    fn is_verifying(&self) -> bool {
+        match self {
+            Next::Verifying { .. } => true,
+            _ => false,
+        }
+    }
+}
+
+impl<'a> Side<'a> {
+    fn new(file: ProgramFile<'a>) -> Side<'a> {
+        Side {
+            path: file.path,
+            watched: Watched::new(file.bytes),
+            unusable: None,
+            next: Next::Nothing,
+            remains: None,
+        }
+    }
+
+    /// Returns whether there is a next program, or what is left of a verification.
+    fn is_busy(&self) -> bool {
+        self.next.is_some() || self.remains.is_some()
+    }
+
+    /// Gives the next program up, if there is one.
+    fn withdraw(&mut self) {
+        if let Next::Verifying { loading, .. } = mem::replace(&mut self.next, Next::Nothing) {
+            self.remains = Some(loading.into_remains());
+        }
+    }
+
+    /// Frees some of what the last verification has kept.
+    fn free(&mut self) {
+        if let Some(remains) = mem::replace(&mut self.remains, None) {
+            self.remains = remains.free(FREED);
+        }
+    }
+
+    /// Reports that the file is refused, and keeps its bytes, so that it is reported once. Where memory ran out it is tried
+    /// again.
+    fn refuse<E: Write>(&mut self, err: &mut E, error: LoadError, bytes: Vec<u8>) {
+        let error = ProgramError::from(error);
+        let is_memory = error == ProgramError::Memory;
+        if let Some(path) = self.path {
+            let _ = if is_memory {
+                writeln!(err, "{error} in {path}")
+            } else {
+                writeln!(err, "{}", RefusedProgram { path, error })
+            };
+        }
+        if !is_memory {
+            self.watched.refuse(bytes);
+        }
+    }
+
+    /// Reads the file, if there is one. One that can't be used is reported once, until it can be.
+    fn read<R: Files + AllocGlobal, E: Write>(&mut self, rt: &R, err: &mut E) -> Option<Vec<u8>> {
+        let path = self.path?;
+        match read_regular(rt, path, LONGEST) {
+            Ok(bytes) => {
+                self.unusable = None;
+                bytes
+            }
+            Err(unusable) => {
+                if self.unusable != Some(unusable) {
+                    let _ = writeln!(err, "cannot use {path}: {unusable}");
+                }
+                self.unusable = Some(unusable);
+                None
+            }
+        }
+    }
+
+    /// Begins to load the program of the file, where its bytes are others than those that run, are verified, and were last
+    /// refused. A file that can't be read or used changes nothing.
+    fn look<R: Files + AllocGlobal, E: Write>(&mut self, rt: &R, err: &mut E) {
+        let Some(bytes) = self.read(rt, err) else {
+            return;
+        };
+        if self.next.is_of(&bytes) {
+            return;
+        }
+        self.withdraw();
+        if !self.watched.has_changed(&bytes) {
+            return;
+        }
+        match Loading::new(rt.alloc(), &bytes) {
+            Ok(loading) => self.next = Next::Verifying { loading, bytes },
+            Err(error) => self.refuse(err, error, bytes),
+        }
+    }
+
+    /// Goes on verifying the next program by a slice, if one is being verified, and freeing what the last verification has kept.
+    fn advance<E: Write>(&mut self, err: &mut E) {
+        self.free();
+        match mem::replace(&mut self.next, Next::Nothing) {
+            Next::Verifying { loading, bytes } => match loading.advance(SLICE) {
+                LoadProgress::Going(loading) => self.next = Next::Verifying { loading, bytes },
+                LoadProgress::Ended(result, remains) => {
+                    self.remains = Some(remains);
+                    match result {
+                        Ok(loaded) => self.next = Next::Ready { loaded, bytes },
+                        Err(refusal) => self.refuse(err, LoadError::from(refusal), bytes),
+                    }
+                }
+            },
+            next => self.next = next,
+        }
+    }
+
+    /// Takes the next program, if it is loaded, as the one that runs, and reports it.
+    fn take<E: Write>(&mut self, err: &mut E) -> Option<Loaded> {
+        match mem::replace(&mut self.next, Next::Nothing) {
+            Next::Ready { loaded, bytes } => {
+                if let Some(path) = self.path {
+                    let _ = writeln!(err, "loaded {path}");
+                }
+                self.watched.put_in_use(bytes);
+                Some(loaded)
+            }
+            next => {
+                self.next = next;
+                None
+            }
+        }
+    }
+}
+
+impl<'a> Sides<'a> {
+    /// Returns the programs of a relay, each with its file and the bytes that this had, if one is given.
+    pub fn new(client: ProgramFile<'a>, peer: ProgramFile<'a>) -> Sides<'a> {
+        Sides {
+            client: Side::new(client),
+            peer: Side::new(peer),
+        }
+    }
+
+    /// Returns whether the program of a side comes from a file.
+    pub fn has_files(&self) -> bool {
+        self.client.path.is_some() || self.peer.path.is_some()
+    }
+
+    /// Returns whether a program is to replace one that runs, or what is left of a verification is to be freed.
+    pub fn is_replacing(&self) -> bool {
+        self.client.is_busy() || self.peer.is_busy()
+    }
+
+    /// Begins to load the programs of the files that have changed.
+    pub fn look<R: Files + AllocGlobal, E: Write>(&mut self, rt: &R, err: &mut E) {
+        self.client.look(rt, err);
+        self.peer.look(rt, err);
+    }
+
+    /// Goes on verifying by a slice of each program. Where all are verified, those that are loaded replace the ones that run;
+    /// a program that is refused leaves the one that runs. Returns whether one was replaced.
+    /// See docs/DECISIONS.md, "Verification in slices".
+    pub fn advance<E: Write>(&mut self, relay: &mut Relay, err: &mut E) -> bool {
+        self.client.advance(err);
+        self.peer.advance(err);
+        if self.client.next.is_verifying() || self.peer.next.is_verifying() {
+            return false;
+        }
+        let client = self.client.take(err);
+        let peer = self.peer.take(err);
+        let is_replaced = client.is_some() || peer.is_some();
+        relay.set_programs(client, peer);
+        is_replaced
+    }
+}

@@ -1,0 +1,10 @@
+pub mod CountedOnce
+pub mod CounterValues
+pub mod Digits
+pub mod EndpointEntries
+pub mod Handled
+pub mod TokenPlaces
+pub mod Turns
+pub mod Unfiltered
+pub mod Waits
+pub mod Walks

@@ -1,0 +1,19 @@
+-- Meaning. The moments at which something is due, and those of datagrams.
+use Rattle.std.specs.Prelude.{◌≡◌, ℕ, ◌+◌, ◌-◌, ◌/◌, min, Bool, true, false}
+use Rattle.std.specs.Duration.{as_nanos, max_nanos}
+use Rattle.std.specs.declared.time.Duration.{Duration}
+use Rattle.server.specs.declared.moments.Moments.{Moments}
+use Rattle.server.specs.declared.timer.Timer.{Timer}
+
+-- one period after a moment, in nanoseconds, or the last moment that there is
+abbrev pub first_moment : Duration → Duration → ℕ
+first_moment now every = min (as_nanos now + as_nanos every) max_nanos
+
+-- a timer that was due is set for one period after the moment, and another one is as before
+abbrev pub IsTimerAfter : Timer → Duration → Bool → Timer → Type 0
+IsTimerAfter old now true new = (new.every ≡ old.every) × (as_nanos new.next ≡ first_moment now old.every)
+IsTimerAfter old now false new = new ≡ old
+
+-- the second since 1970: that of the start, and what has passed since then by a clock that isn't set
+abbrev pub second_at : Moments → Duration → ℕ
+second_at clock elapsed = min (as_nanos clock.start + (as_nanos elapsed - as_nanos clock.elapsed)) max_nanos / 1_000_000_000

@@ -1,0 +1,267 @@
+//! What a server counts: the datagrams that came, what became of them, and the receives that failed.
+
+ghost use Rattle.std.specs.Prelude.{◌≡◌, ◌<◌};
+ghost use Rattle.server.specs.Counters.{datagram_kind, arrival_counter, outcome_counter, response_counter, HasRaised, HasCounted};
+ghost use Rattle.server.specs.CounterValues.{kind_index, reason_index, counter_index, counter_value};
+
+use crate::link::Endpoint;
+use control::Response;
+use credentials::AuthError;
+use rules::{Discard, Disposition};
+
+/// What a datagram that came is (RFC 8656, section 12).
+#[derive(Clone, Copy)]
+pub enum Kind {
+    /// A client's, with the first byte of a ChannelData message: 0x40 to 0x4f.
+    ChannelData,
+    /// A client's, with the first byte of a STUN message: 0x00 to 0x3f.
+    Message,
+    /// Any other one of a client.
+    Other,
+    /// A peer's.
+    FromPeer,
+}
+
+/// What became of a datagram that came.
+#[derive(Clone, Copy)]
+pub enum Outcome {
+    /// This was done with it; what there was to send was sent.
+    Done(Disposition),
+    /// What there was to send wasn't sent, since its peer is denied.
+    Denied,
+    /// What there was to send wasn't sent, since the send failed.
+    SendFailed,
+}
+
+/// What is counted.
+#[derive(Clone, Copy)]
+pub enum Counter {
+    /// Datagrams that came from clients.
+    FromClients,
+    /// Datagrams that came from peers.
+    FromPeers,
+    /// Datagrams of clients that were relayed to peers.
+    ToPeers,
+    /// Datagrams of peers that were relayed to clients.
+    ToClients,
+    /// Requests that were granted.
+    Granted,
+    /// Requests without credentials, or with an old nonce.
+    Challenged,
+    /// Requests with a name that no user has, or with a wrong password.
+    Unauthenticated,
+    /// Requests that were answered with any other error.
+    Refused,
+    /// Datagrams of a kind that nothing was sent for, by the reason.
+    Discarded(Kind, Discard),
+    /// Datagrams that weren't sent, since their peers are denied.
+    Denied,
+    /// Sends that failed.
+    SendFaults,
+    /// Receives that failed.
+    ReceiveFaults,
+}
+
+/// The number of reasons to discard a datagram.
+const REASON_COUNT: usize = 12;
+
+/// The number of counters.
+const COUNTER_COUNT: usize = 59;
+
+/// All kinds of datagrams.
+pub const KINDS: [Kind; 4] = [
+    Kind::ChannelData,
+    Kind::Message,
+    Kind::Other,
+    Kind::FromPeer,
+];
+
+/// All reasons to discard a datagram.
+pub const REASONS: [Discard; REASON_COUNT] = [
+    Discard::NotServed,
+    Discard::ByProgram,
+    Discard::Malformed,
+    Discard::NoRequest,
+    Discard::NoAllocation,
+    Discard::NoChannel,
+    Discard::UnknownAttribute,
+    Discard::Incomplete,
+    Discard::NoPermission,
+    Discard::OtherFamily,
+    Discard::TooLong,
+    Discard::Confined,
+];
+
+/// The counters of a server, which stay at [`u64::MAX`] once they are there.
+#[derive(Drop)]
+pub struct Counters {
+    values: [u64; COUNTER_COUNT],
+}
+
+impl Kind {
+    /// Returns what a datagram is that came at an endpoint.
+    #[inline(always)]
+    pub fn of(endpoint: Endpoint, datagram: &[u8]) -> Kind
+        ensures { result ≡ datagram_kind endpoint datagram.now }
+    {
+        if let Endpoint::Slot(_) = endpoint {
+            return Kind::FromPeer;
+        }
+        match datagram.first() {
+            Some(0x00..=0x3f) => Kind::Message,
+            Some(0x40..=0x4f) => Kind::ChannelData,
+            _ => Kind::Other,
+        }
+    }
+
+    /// Returns the counter of the datagrams of this kind that came.
+    #[inline(always)]
+    fn arrival_counter(self) -> Counter
+        ensures { result ≡ arrival_counter self }
+    {
+        match self {
+            Kind::FromPeer => Counter::FromPeers,
+            _ => Counter::FromClients,
+        }
+    }
+
+    /// Returns the index of the kind, below 4.
+    fn index(self) -> usize
+        ensures index { result ≡ kind_index self }
+        ensures below { result < 4 }
+    {
+        match self {
+            Kind::ChannelData => 0,
+            Kind::Message => 1,
+            Kind::Other => 2,
+            Kind::FromPeer => 3,
+        }
+    }
+}
+
+/// Returns the counter of a response.
+fn response_counter(response: Response) -> Counter
+    ensures { result ≡ response_counter response }
+{
+    match response {
+        Response::Granted(_) => Counter::Granted,
+        Response::Unauthenticated(AuthError::Missing | AuthError::StaleNonce) => {
+            Counter::Challenged
+        }
+        Response::Unauthenticated(AuthError::UnknownUser | AuthError::WrongIntegrity) => {
+            Counter::Unauthenticated
+        }
+        Response::Unauthenticated(AuthError::Incomplete) | Response::Refused(_) => Counter::Refused,
+    }
+}
+
+impl Outcome {
+    /// Returns the counter of the datagrams of a kind with this outcome.
+    #[inline(always)]
+    fn counter(self, kind: Kind) -> Counter
+        ensures { result ≡ outcome_counter kind self }
+    {
+        match self {
+            Outcome::Denied => Counter::Denied,
+            Outcome::SendFailed => Counter::SendFaults,
+            Outcome::Done(Disposition::Discarded(reason)) => Counter::Discarded(kind, reason),
+            Outcome::Done(Disposition::Answered(response)) => response_counter(response),
+            Outcome::Done(Disposition::Relayed) => match kind {
+                Kind::FromPeer => Counter::ToClients,
+                _ => Counter::ToPeers,
+            },
+        }
+    }
+}
+
+/// Returns the index of a reason, below [`REASON_COUNT`].
+fn reason_index(reason: Discard) -> usize
+    ensures index { result ≡ reason_index reason }
+    ensures below { result < REASON_COUNT }
+{
+    match reason {
+        Discard::NotServed => 0,
+        Discard::ByProgram => 1,
+        Discard::Malformed => 2,
+        Discard::NoRequest => 3,
+        Discard::NoAllocation => 4,
+        Discard::NoChannel => 5,
+        Discard::UnknownAttribute => 6,
+        Discard::Incomplete => 7,
+        Discard::NoPermission => 8,
+        Discard::OtherFamily => 9,
+        Discard::TooLong => 10,
+        Discard::Confined => 11,
+    }
+}
+
+impl Counter {
+    /// Returns the index of the counter, below [`COUNTER_COUNT`].
+    #[inline(always)]
+    fn index(self) -> usize
+        ensures index { result ≡ counter_index self }
+        ensures below { result < COUNTER_COUNT }
+    {
+        match self {
+            Counter::FromClients => 0,
+            Counter::FromPeers => 1,
+            Counter::ToPeers => 2,
+            Counter::ToClients => 3,
+            Counter::Granted => 4,
+            Counter::Challenged => 5,
+            Counter::Unauthenticated => 6,
+            Counter::Refused => 7,
+            Counter::Denied => 8,
+            Counter::SendFaults => 9,
+            Counter::ReceiveFaults => 10,
+            Counter::Discarded(kind, reason) => {
+                11 + REASON_COUNT * kind.index() + reason_index(reason)
+            }
+        }
+    }
+}
+
+impl Counters {
+    ghost use Rattle.server.specs.declared.counters.Counter.{Counter};
+
+    /// Returns counters that are all 0.
+    pub const fn new() -> Counters
+        ensures { (c : Counter) → counter_value result c ≡ 0 }
+    {
+        Counters {
+            values: [0; COUNTER_COUNT],
+        }
+    }
+
+    /// Returns the value of a counter.
+    pub fn get(&self, counter: Counter) -> u64
+        ensures { result ≡ counter_value self.now counter }
+    {
+        self.values[counter.index()]
+    }
+
+    /// Adds one to a counter.
+    #[inline(always)]
+    fn raise(&mut self, counter: Counter)
+        ensures { HasRaised counter (counter_value self.old) (counter_value self.new) }
+    {
+        let index = counter.index();
+        self.values[index] = self.values[index].saturating_add(1);
+    }
+
+    /// Counts a datagram of a kind that came, with what became of it.
+    #[inline(always)]
+    pub fn count(&mut self, kind: Kind, outcome: Outcome)
+        ensures { HasCounted kind outcome (counter_value self.old) (counter_value self.new) }
+    {
+        self.raise(kind.arrival_counter());
+        self.raise(outcome.counter(kind));
+    }
+
+    /// Counts a receive that failed.
+    pub fn fault(&mut self)
+        ensures { HasRaised Counter.ReceiveFaults (counter_value self.old) (counter_value self.new) }
+    {
+        self.raise(Counter::ReceiveFaults);
+    }
+}

@@ -1,0 +1,8 @@
+//! The UDP sockets of a server.
+#![tactic(auto)]
+
+mod sockets;
+mod udp;
+
+pub use sockets::{Addresses, BindError, BindErrorKind, Endpoints, Sockets};
+pub use udp::SocketOptions;

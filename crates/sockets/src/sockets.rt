@@ -1,0 +1,291 @@
+//! The sockets of a server: one for clients, and one of each family for the peers of each slot.
+
+use crate::udp::{SocketOptions, bind, buffer_of, receive};
+use attributes::{Addr, Family};
+use mio::net::UdpSocket;
+use mio::{Interest, Poll, Registry, Token};
+use server::{Ahead, Endpoint, Link, LinkError, Ports, Receipt, socket_of};
+use std::alloc::{AllocError, Global};
+use std::io::{self, ErrorKind};
+use std::net::{IpAddr, Ipv4Addr, Ipv6Addr, Net, SocketAddr, SocketAddrV4, SocketAddrV6};
+use thiserror::Error;
+
+/// The addresses that the sockets of a server are bound to.
+#[derive(Clone, Copy)]
+pub struct Addresses {
+    /// The IPv4 address of the clients' socket, and of a socket of each slot.
+    pub listen: Ipv4Addr,
+    /// The IPv6 address of a further socket of each slot; `None` for none.
+    pub listen6: Option<Ipv6Addr>,
+    /// The port of the clients' socket.
+    pub port: u16,
+    /// The port of slot 0; slot i has `first_port + i`.
+    pub first_port: u16,
+    /// The number of slots.
+    pub slots: usize,
+    /// The options of the clients' socket. The others' ports aren't shared.
+    pub options: SocketOptions,
+}
+
+impl Addresses {
+    /// Returns the address of the clients' socket.
+    pub fn client(&self) -> SocketAddr {
+        SocketAddr::new(IpAddr::V4(self.listen), self.port)
+    }
+
+    /// Returns the ports, of which the clients' is `client`.
+    fn ports(&self, client: u16) -> Ports {
+        let first = self.first_port;
+        let last = usize::from(first).saturating_add(self.slots.saturating_sub(1));
+        Ports {
+            client,
+            first,
+            last: u16::try_from(last).unwrap_or(u16::MAX),
+        }
+    }
+}
+
+/// Why a socket can't be bound. Displays as the reason.
+#[derive(Clone, Copy, Debug, Error)]
+pub enum BindErrorKind {
+    #[error("address in use")]
+    InUse,
+    #[error("not an address of this machine")]
+    NotHere,
+    #[error("permission denied")]
+    Denied,
+    #[error("too many open files")]
+    Files,
+    /// Another error of the system, by its number.
+    #[error("error {0} of the system")]
+    Other(i32),
+}
+
+/// Why the sockets can't be bound.
+#[derive(Clone, Copy)]
+pub enum BindError {
+    /// The first address that can't be bound, and why.
+    Address(SocketAddr, BindErrorKind),
+    /// Memory ran out.
+    Memory,
+}
+
+/// The sockets of each endpoint. No call on them waits.
+/// See docs/DECISIONS.md, "Two sockets for each slot".
+#[derive(Drop)]
+pub struct Endpoints {
+    client: UdpSocket,
+    /// The socket of IPv4 of each slot.
+    slots: Vec<UdpSocket>,
+    /// The socket of IPv6 of each slot; empty without an IPv6 address.
+    slots6: Vec<UdpSocket>,
+    ports: Ports,
+    /// The family of the sockets at which the datagrams of slots are received.
+    family: Family,
+}
+
+/// The sockets of a server, and what was received ahead at one of them.
+#[derive(Drop)]
+pub struct Sockets {
+    endpoints: Endpoints,
+    ahead: Ahead,
+}
+
+/// The numbers of the system's errors for too many open files, of the process and of the machine.
+const EMFILE: i32 = 24;
+
+const ENFILE: i32 = 23;
+
+impl From<io::Error> for BindErrorKind {
+    fn from(error: io::Error) -> BindErrorKind {
+        match (error.kind(), error.raw_os_error()) {
+            (ErrorKind::AddrInUse, _) => BindErrorKind::InUse,
+            (ErrorKind::AddrNotAvailable, _) => BindErrorKind::NotHere,
+            (ErrorKind::PermissionDenied, _) => BindErrorKind::Denied,
+            (_, Some(EMFILE | ENFILE)) => BindErrorKind::Files,
+            (_, number) => BindErrorKind::Other(number.unwrap_or(0)),
+        }
+    }
+}
+
+/// Binds a socket to an address.
+fn bind_one<R: Net>(
+    rt: &R,
+    address: SocketAddr,
+    options: SocketOptions,
+) -> Result<UdpSocket, BindError> {
+    match bind(rt, address, options) {
+        Ok(socket) => Ok(socket),
+        Err(error) => Err(BindError::Address(address, BindErrorKind::from(error))),
+    }
+}
+
+/// Binds a socket for each of a number of slots to an IP address, that of slot 0 at the first port.
+fn bind_slots<R: Net + AllocGlobal>(
+    rt: &R,
+    ip: IpAddr,
+    addresses: Addresses,
+) -> Result<Vec<UdpSocket>, BindError> {
+    let mut options = addresses.options;
+    options.reuse_port = false;
+    let mut sockets = Vec::new(rt.alloc());
+    for port in (addresses.first_port..=u16::MAX).take(addresses.slots) {
+        let socket = bind_one(rt, SocketAddr::new(ip, port), options)?;
+        if sockets.push(socket).is_err() {
+            return Err(BindError::Memory);
+        }
+    }
+    Ok(sockets)
+}
+
+/// Has a poll report sockets under tokens in ascending order, when datagrams have come.
+fn register_all(registry: &Registry, sockets: &mut [UdpSocket], first: usize) -> io::Result<()> {
+    for (token, socket) in (first..).zip(sockets.iter_mut()) {
+        registry.register(socket, Token(token), Interest::READABLE)?;
+    }
+    Ok(())
+}
+
+impl Endpoints {
+    /// Binds the socket of clients, then those of IPv4 of the slots in order, and then those of IPv6.
+    ///
+    /// # Errors
+    /// The first address that can't be bound, and where memory runs out.
+    pub fn bind<R: Net + AllocGlobal>(
+        rt: &R,
+        addresses: Addresses,
+    ) -> Result<Endpoints, BindError> {
+        let listen = IpAddr::V4(addresses.listen);
+        let client = bind_one(rt, addresses.client(), addresses.options)?;
+        let port = match client.local_addr() {
+            Ok(address) => address.port(),
+            Err(error) => {
+                return Err(BindError::Address(addresses.client(), BindErrorKind::from(error)));
+            }
+        };
+        Ok(Endpoints {
+            client,
+            slots: bind_slots(rt, listen, addresses)?,
+            slots6: match addresses.listen6 {
+                Some(ip) => bind_slots(rt, IpAddr::V6(ip), addresses)?,
+                None => Vec::new(rt.alloc()),
+            },
+            ports: addresses.ports(port),
+            family: Family::Ipv4,
+        })
+    }
+
+    /// Returns the port of the clients' socket. Where port 0 was asked for, it is the one that the system chose.
+    pub fn client_port(&self) -> u16 {
+        self.ports.client
+    }
+
+    /// Returns the socket of a family at an endpoint. That of clients is of IPv4.
+    fn at(&self, endpoint: Endpoint, family: Family) -> Result<&UdpSocket, LinkError> {
+        let socket = match (endpoint, family) {
+            (Endpoint::Client, Family::Ipv4) => Some(&self.client),
+            (Endpoint::Client, Family::Ipv6) => None,
+            (Endpoint::Slot(slot), Family::Ipv4) => self.slots.get(slot),
+            (Endpoint::Slot(slot), Family::Ipv6) => self.slots6.get(slot),
+        };
+        socket.ok_or(LinkError)
+    }
+}
+
+impl Sockets {
+    /// Returns the sockets of a server, of which nothing is received ahead.
+    ///
+    /// # Errors
+    /// Where memory runs out.
+    pub fn new(alloc: Global, endpoints: Endpoints) -> Result<Sockets, AllocError> {
+        let ahead = Ahead::new(alloc)?;
+        Ok(Sockets { endpoints, ahead })
+    }
+
+    /// Returns the ports.
+    pub fn ports(&self) -> Ports {
+        self.endpoints.ports
+    }
+
+    /// Returns the bytes that the smaller buffer of the clients' socket has.
+    pub fn buffer(&self) -> io::Result<i32> {
+        buffer_of(&self.endpoints.client)
+    }
+
+    /// Returns the address of the clients' socket. Where port 0 was asked for, its port is the one that the system chose.
+    pub fn address(&self) -> io::Result<SocketAddr> {
+        self.endpoints.client.local_addr()
+    }
+
+    /// Returns the number of sockets.
+    pub fn count(&self) -> usize {
+        let Endpoints { slots, slots6, .. } = &self.endpoints;
+        slots.len().saturating_add(slots6.len()).saturating_add(1)
+    }
+
+    /// Has a poll report each socket under its token, when datagrams have come there: 0 is that of clients, those of IPv4 of the
+    /// slots follow in order, and then those of IPv6.
+    pub fn register(&mut self, poll: &Poll) -> io::Result<()> {
+        let Endpoints {
+            client,
+            slots,
+            slots6,
+            ..
+        } = &mut self.endpoints;
+        let registry = poll.registry();
+        registry.register(client, Token(0), Interest::READABLE)?;
+        let after = slots.len().saturating_add(1);
+        register_all(registry, slots.as_mut_slice(), 1)?;
+        register_all(registry, slots6.as_mut_slice(), after)
+    }
+
+    /// Chooses a socket by its token, and returns its endpoint. The datagrams of a slot are received at the socket that was
+    /// chosen last.
+    pub fn choose(&mut self, token: usize) -> Endpoint {
+        let (endpoint, family) = socket_of(token, self.endpoints.slots.len());
+        self.endpoints.family = family;
+        endpoint
+    }
+
+    /// Receives ahead at an endpoint.
+    pub fn receive_ahead(&mut self, endpoint: Endpoint) {
+        self.ahead.fill(&mut self.endpoints, endpoint);
+    }
+}
+
+impl Link for Endpoints {
+    #[inline(always)]
+    fn receive(&mut self, endpoint: Endpoint, into: &mut [u8]) -> Result<Receipt, LinkError> {
+        receive(self.at(endpoint, self.family)?, into)
+    }
+
+    /// Sends a datagram from an endpoint. One that would have to wait, or isn't sent whole, is a fault.
+    fn send(&mut self, endpoint: Endpoint, to: Addr, bytes: &[u8]) -> Result<(), LinkError> {
+        let (family, to) = match to {
+            Addr::V4 { ip, port } => {
+                let to = SocketAddrV4::new(Ipv4Addr::from(ip), port);
+                (Family::Ipv4, SocketAddr::V4(to))
+            }
+            Addr::V6 { ip, port } => {
+                let to = SocketAddrV6::new(Ipv6Addr::from(ip), port, 0, 0);
+                (Family::Ipv6, SocketAddr::V6(to))
+            }
+        };
+        match self.at(endpoint, family)?.send_to(bytes, to) {
+            Ok(n) if n == bytes.len() => Ok(()),
+            _ => Err(LinkError),
+        }
+    }
+}
+
+impl Link for Sockets {
+    #[inline(always)]
+    fn receive(&mut self, endpoint: Endpoint, into: &mut [u8]) -> Result<Receipt, LinkError> {
+        self.ahead.receive(&mut self.endpoints, endpoint, into)
+    }
+
+    #[inline(always)]
+    fn send(&mut self, endpoint: Endpoint, to: Addr, bytes: &[u8]) -> Result<(), LinkError> {
+        self.endpoints.send(endpoint, to, bytes)
+    }
+}

@@ -1,5 +1,0 @@
-use Rattle.turns.proofs.CountedOnce.{has_counted}
-use Rattle.turns.proofs.counters.Counters.count.Goals as goal
-
-pub returns : goal.returns
-returns c = has_counted c.args.kind c.args.outcome _ _ _ _ _ c.arrival_counter.ensures c.counter.ensures c.raise.ensures c.raise-2.ensures

@@ -1,8 +1,0 @@
-use Rattle.std.proofs.Common.{rules, ◌<◌, length}
-use Rattle.turns.proofs.CounterValues.{has_raised}
-use Rattle.turns.proofs.counters.Counters.raise.Goals as goal
-
-pub returns : goal.returns
-returns c =
-    let inside : c.index-index.result < length c.args.self.now.values = search rules in
-    has_raised c.args.counter c.args.self.now c.index-index.result c.saturating_add.result c.index-index.ensures.index inside c.saturating_add.ensures

@@ -1,5 +1,0 @@
-use Rattle.turns.proofs.CountedOnce.{counts_each_once}
-use Rattle.turns.proofs.laws.law_each_datagram_is_counted_once.Goals as goal
-
-pub returns : goal.returns
-returns c = counts_each_once

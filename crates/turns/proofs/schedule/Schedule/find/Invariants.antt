@@ -1,6 +1,0 @@
--- No endpoint before the current one is due.
-use Rattle.turns.specs.Entries.{ArePassed}
-use Rattle.turns.proofs.schedule.Schedule.find.Given as goal
-
-abbrev pub invariant-loop-token : goal.invariant-loop-token
-invariant-loop-token l = ArePassed l.token l.self
