@@ -1,12 +1,18 @@
 """Prints how many steps a second `Relay::step` takes, and how many lines a second `relayd replay` answers.
 
-    tests/relay_speed.py
+    tests/relay_speed.py [--instructions]
 
-No time is asserted. A figure is the best of several rounds. The clock starts at the last answer to the events that set
-the relay up, so that the start of the process and the setup aren't counted.
+The steps are those of unconfined and of confined programs: the shipped ones, these with an instruction more, which makes
+them programs of an operator's own, and two that C functions are compiled to. No time is asserted. A figure is the best of
+several rounds. The clock starts at the last answer to the events that set the relay up, so that the start of the process
+and the setup aren't counted.
+
+With `--instructions` it prints how many instructions a step takes, by valgrind's callgrind, as rows of a table: what so
+many steps more take, divided by their number.
 """
 
 import pathlib
+import re
 import struct
 import subprocess
 import sys
@@ -21,8 +27,11 @@ from lib.rules import (
 
 FOLDER = TOP / "crates" / "relay_speed"
 PROGRAM = FOLDER / "out" / "relay_speed"
-ROUNDS = 10
+ROUNDS = 5
 COUNT = 200_000
+# how many steps the instructions are counted of
+FEW = 1_000
+CONFINEMENTS = ["unconfined", "confined"]
 # the slots, and how many permissions and channels each of them has
 TABLES = {"1 slot": (1, 1), "256 full slots": (256, 64)}
 SIZES = [160, 1200]
@@ -97,35 +106,90 @@ def datagrams(slots, rows):
     yield "garbage of 160 bytes", from_client(stranger, b"\xff" * 160), False
 
 
+def with_one_more(folder, side):
+    """Assembles the shipped program of a side with an instruction more to a file of a folder, and returns its path."""
+    text = (TOP / "examples" / "relay" / f"{side}.s").read_text(encoding="utf-8")
+    return assembled(folder, side, f"    mov r0, 0\n{text}")
+
+
+def pairs(folder):
+    """Yields pairs of programs that relay in both directions: a title, and the files of both sides, none of the shipped ones."""
+    compiled = TOP / "examples" / "c" / "compiled"
+    yield "the shipped programs", []
+    yield "these with an instruction more", [with_one_more(folder, side) for side in ("client", "peer")]
+    yield "client.c and peer.c", [compiled / "client.bpf", compiled / "peer.bpf"]
+    yield "public_to_internal.c", [compiled / "public_to_internal.bpf"] * 2
+
+
+def relays(folder):
+    """Yields what steps: a title, and the words of the program for it."""
+    for title, files in pairs(folder):
+        for confinement in CONFINEMENTS:
+            yield f"{title}, {confinement}", [confinement, *files]
+
+
 def is_success(answer):
     """Returns whether an answer is a success response to a client."""
     words = answer.split()
     return len(words) == 3 and words[0] == "c" and int(words[2][:4], 16) & 0x110 == 0x100
 
 
-def timed(slots, lines, line, sends):
+def said_of(count, sends):
+    """Returns the line that so many steps end with."""
+    return f"{count if sends else 0} of {count} steps send a datagram\n"
+
+
+def timed(words, lines, line, sends):
     """Returns how long the steps over a line's datagram take, in seconds, after those of other lines."""
-    words = [PROGRAM, str(slots), str(COUNT)]
-    with subprocess.Popen(words, stdin=subprocess.PIPE, stdout=subprocess.PIPE, text=True) as process:
+    slots, *relay = words
+    with subprocess.Popen([PROGRAM, slots, str(COUNT), *relay], stdin=subprocess.PIPE, stdout=subprocess.PIPE, text=True) as process:
         process.stdin.write("\n".join([*lines, line, ""]))
         process.stdin.close()
         answers = [process.stdout.readline() for _ in lines]
         start = time.perf_counter()
         said = process.stdout.readline()
         taken = time.perf_counter() - start
-    if not all(map(is_success, answers)) or said != f"{COUNT if sends else 0} of {COUNT} steps send a datagram\n":
+    if not all(map(is_success, answers)) or said != said_of(COUNT, sends):
         sys.exit(f"{line[:60]}: {said}")
     return taken
 
 
-def print_steps():
-    """Prints a line for each datagram and each size of the tables."""
+def print_steps(folder):
+    """Prints a line for each datagram, each size of the tables, and each pair of programs, unconfined and confined."""
     lines = {name: setup(*tables) for name, tables in TABLES.items()}
-    cases = [(name, *case) for name, tables in TABLES.items() for case in datagrams(*tables)]
+    cases = [(f"{title}, {name}, {relay}", [str(tables[0]), *words], lines[name], line, sends)
+             for name, tables in TABLES.items() for title, line, sends in datagrams(*tables) for relay, words in relays(folder)]
     # each round runs every case, so that a slow moment of the machine doesn't fall on one of them alone
-    rounds = [[timed(TABLES[name][0], lines[name], *case) for name, _, *case in cases] for _ in range(ROUNDS)]
-    for (name, title, *_), taken in zip(cases, map(min, zip(*rounds))):
-        print(f"{title}, {name}: {COUNT / taken:,.0f} steps a second, {1e9 * taken / COUNT:,.0f} ns each")
+    rounds = [[timed(*case) for _, *case in cases] for _ in range(ROUNDS)]
+    for (title, *_), taken in zip(cases, map(min, zip(*rounds))):
+        print(f"{title}: {COUNT / taken:,.0f} steps a second, {1e9 * taken / COUNT:,.0f} ns each")
+
+
+def instructions(folder, words, text, sends):
+    """Returns how many instructions the program takes for events, by valgrind."""
+    tool = ["valgrind", "--tool=callgrind", f"--callgrind-out-file={folder / 'callgrind.out'}"]
+    ran = subprocess.run([*tool, PROGRAM, *words], input=text, capture_output=True, text=True, check=True)
+    if not ran.stdout.endswith(said_of(int(words[1]), sends)):
+        sys.exit(ran.stdout[-200:])
+    return int(re.search(r"Collected : (\d+)", ran.stderr)[1])
+
+
+def counted(folder, slots, relay, text, sends):
+    """Returns how many instructions a step over the last datagram of a text takes."""
+    one, two = (instructions(folder, [str(slots), str(count), *relay], text, sends) for count in (FEW, 2 * FEW))
+    return (two - one) / FEW
+
+
+def print_instructions(folder):
+    """Prints the instructions of a step: a row for each size of the tables and each datagram, and a column for each relay."""
+    columns = dict(relays(folder))
+    print("| Datagram |", " | ".join(columns), "|")
+    for name, tables in TABLES.items():
+        lines = setup(*tables)
+        for title, line, sends in datagrams(*tables):
+            text = "\n".join([*lines, line, ""])
+            counts = (counted(folder, tables[0], words, text, sends) for words in columns.values())
+            print(f"| {title}, {name} |", " | ".join(f"{count:,.0f}" for count in counts), "|", flush=True)
 
 
 def resident(process):
@@ -137,9 +201,7 @@ def resident(process):
 def programs(folder):
     """Yields titles of what `relayd replay` is started with, and the words for it: the shipped programs, and a client's that
     has an instruction more, confined and not."""
-    text = (TOP / "examples" / "relay" / "client.s").read_text(encoding="utf-8")
-    other = assembled(folder, "client", f"    mov r0, 0\n{text}")
-    for title, words in (("the shipped programs", []), ("another client's program", ["--client", other])):
+    for title, words in (("the shipped programs", []), ("another client's program", ["--client", with_one_more(folder, "client")])):
         yield title, words
         yield f"{title}, confined", [*words, "--confine"]
 
@@ -178,13 +240,17 @@ def print_replays(folder):
 
 
 def main():
-    """Builds both programs where they are not up to date, and prints all figures."""
+    """Builds both programs where they are not up to date, and prints all figures, or the numbers of instructions."""
     with open(FOLDER / "stdin", encoding="ascii") as events:
-        subprocess.run(["rt", "run", "--", "1", "0"], cwd=FOLDER, stdin=events, capture_output=True, check=True)
+        subprocess.run(["rt", "run", "--", "1", "0", "unconfined"], cwd=FOLDER, stdin=events, capture_output=True, check=True)
     build()
-    print_steps()
-    with tempfile.TemporaryDirectory() as folder:
-        print_replays(pathlib.Path(folder))
+    with tempfile.TemporaryDirectory() as name:
+        folder = pathlib.Path(name)
+        if sys.argv[1:] == ["--instructions"]:
+            print_instructions(folder)
+        else:
+            print_steps(folder)
+            print_replays(folder)
 
 
 if __name__ == "__main__":

@@ -2,10 +2,11 @@
 
     tests/wrong_bodies.py [NAME..]
 
-A file of `wrong-bodies/` is an edit as those of `must-fail/` are, of a crate whose proof costs so much that the gate, which
-proves a crate with edits once more, isn't to try them. Here each crate that is named, or each that has such edits, is proved
-in a copy of the repository, where they take the place of those that the gate tries. Both begin with what `rt check` kept of
-the crate. An edit that is still proved, or that can't be applied or read, fails, and so does a crate that isn't proved.
+A file of `wrong-bodies/` is an edit as those of `must-fail/` are: of a crate whose proof costs so much that the gate, which
+proves a crate with edits once more, isn't to try them, or beyond the eight of a crate that it tries. Here each crate that is
+named, or each that has such edits, is proved in a copy of the repository, where they take the place of those that the gate
+tries. Both begin with what `rt check` kept of the crate. An edit that is still proved, or that can't be applied or read,
+fails, and so does a crate that isn't proved.
 """
 
 import shutil
