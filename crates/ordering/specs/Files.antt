@@ -1,7 +1,7 @@
 -- Meaning. Files whose programs are put in order, and why others are not.
 use Rattle.std.specs.Prelude.{◌≡◌, ℕ, ◌≤◌, List, ◌++◌, codes, decimal}
 use Rattle.insn.specs.Encoding.{AllFit, Encodes, encodings, slot_count}
-use Rattle.insn.specs.Refusal.{IsRefused, decode_error_text}
+use Rattle.insn.specs.Refusal.{IsRefused, IsWhole, decode_error_text}
 use Rattle.insn.specs.declared.decoding.TheConstants.{MAX_SLOTS}
 use Rattle.insn.specs.declared.instruction.Insn.{Insn}
 use Rattle.semantics.specs.Reasons.{reason_at}
@@ -29,10 +29,11 @@ pub record IsRefusedOrder (bytes : List ℕ) (error : OrderError) : Type 0 where
   pub encodes : Encodes code bytes
   pub fault : IsOrderFault code error
 
+-- the first fault of the bytes, or the fault of the program; or memory ran out, over bytes of whole slots that are not too many
 abbrev pub IsFileFault : List ℕ → FileError → Type 0
 IsFileFault bytes (file.Program refusal) = IsRefused bytes refusal
 IsFileFault bytes (file.Order error) = IsRefusedOrder bytes error
-IsFileFault bytes file.Memory = Unit {0}
+IsFileFault bytes file.Memory = IsWhole bytes
 
 -- ---- texts
 
