@@ -6,16 +6,18 @@ use Rattle.insn.specs.declared.decoding.TheConstants.{MAX_SLOTS}
 use Rattle.insn.specs.declared.instruction.Insn.{Insn}
 use Rattle.semantics.specs.Reasons.{reason_at}
 use Rattle.verifier.specs.Layout.{HasGoodJumps}
-use Rattle.ordering.specs.Orders.{KeepsMeaning, IsOrderFault}
+use Rattle.ordering.specs.Orders.{KeepsMeaning, HasNoLoop, IsOrderFault}
 use Rattle.ordering.specs.declared.error.OrderError.{OrderError}
 use Rattle.ordering.specs.declared.error.OrderError.TheVariants as errors
 use Rattle.ordering.specs.declared.file.FileError.{FileError}
 use Rattle.ordering.specs.declared.file.FileError.TheVariants as file
 
--- the bytes of a file encode a program, and the new ones another one of the same meaning, all of whose jumps lead forward
+-- the bytes of a file encode a program of which no loop is reached, and the new ones another one of the same meaning, all of whose
+-- jumps lead forward
 pub record IsInOrder (bytes new : List ℕ) : Type 0 where
   pub code : List Insn
   pub encodes : Encodes code bytes
+  pub loopless : HasNoLoop code
   pub in_order : List Insn
   pub fit : AllFit in_order
   pub few : slot_count in_order ≤ MAX_SLOTS
