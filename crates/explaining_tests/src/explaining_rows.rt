@@ -15,7 +15,7 @@ struct Row {
 }
 
 /// Programs that are accepted.
-static ACCEPTED: [Row; 6] = [
+static ACCEPTED: [Row; 7] = [
     // an accepted program: a slot that no path reaches
     Row {
         text: "mov r0, 0\nja +1\nmov r0, 1\nexit",
@@ -56,6 +56,14 @@ static ACCEPTED: [Row; 6] = [
             "6 exit                    ; r0 0..255; r1 context; r2 datagram+4; r3 end; 4 bytes proved",
         ],
     },
+    Row {
+        text: "ldxdw r2, [r1+0]\nldxdw r3, [r1+8]\nadd r2, 1\nmov r0, 0\njgt r2, r3, +1\nldxb r0, [r2-1]\nexit",
+        slot: Some(5),
+        status: 0,
+        lines: &[
+            "5 ldxb r0, [r2-1]         ; r0 =0; r1 context; r2 datagram+1; r3 end; 1 byte proved",
+        ],
+    },
     // each state at a slot, in their order
     Row {
         text: "ldxdw r2, [r1+16]\nmov r0, 0\njset r2, 1, +1\nmov r0, 1\nexit",
@@ -82,7 +90,7 @@ static ACCEPTED: [Row; 6] = [
 ];
 
 /// Programs that are refused with V5 to V10.
-static ACCESSES: [Row; 19] = [
+static ACCESSES: [Row; 21] = [
     // what a call leaves, and V5
     Row {
         text: "mov r2, 0\nmov r3, 0\ncall 4\nmov r0, r1\nexit",
@@ -215,6 +223,31 @@ static ACCESSES: [Row; 19] = [
             "1 stw [r3+0], 0           ; refused V10: writes end+0 to +4, the tailroom is +0 to +3",
         ],
     },
+    Row {
+        text: "ldxdw r2, [r1+0]\nldxdw r3, [r1+8]\nmov r4, r2\nadd r4, 1\njgt r4, r3, +1\nldxb r0, [r2+1]\nexit",
+        slot: None,
+        status: 1,
+        lines: &[
+            "0 ldxdw r2, [r1+0]        ; r2 datagram+0",
+            "1 ldxdw r3, [r1+8]        ; r3 end",
+            "2 mov r4, r2              ; r4 datagram+0",
+            "3 add r4, 1               ; r4 datagram+1",
+            "4 jgt r4, r3, +1          ; not taken; 1 byte proved",
+            "5 ldxb r0, [r2+1]         ; refused V10: reads datagram+1 to +2, 1 byte is proved",
+        ],
+    },
+    Row {
+        text: "ldxdw r2, [r1+0]\nldxdw r4, [r1+16]\nand r4, 63\nadd r2, r4\nldxb r0, [r2+0]\nexit",
+        slot: None,
+        status: 1,
+        lines: &[
+            "0 ldxdw r2, [r1+0]        ; r2 datagram+0",
+            "1 ldxdw r4, [r1+16]       ; r4 0..65507",
+            "2 and r4, 63              ; r4 0..63",
+            "3 add r2, r4              ; r2 datagram+(0..63)+0, nothing proved after it",
+            "4 ldxb r0, [r2+0]         ; refused V10: reads datagram+(0..63)+0 to +1, nothing is proved",
+        ],
+    },
     // an anchor that is made, and the branch that is not taken
     Row {
         text: "ldxdw r2, [r1+0]\nldxdw r3, [r1+8]\nldxdw r4, [r1+16]\nand r4, 63\nadd r2, 14\nadd r2, r4\nmov r5, r2\nadd r5, 4\njgt r5, r3, +1\nldxb r0, [r2+4]\nexit",
@@ -226,9 +259,9 @@ static ACCESSES: [Row; 19] = [
             "2 ldxdw r4, [r1+16]       ; r4 0..65507",
             "3 and r4, 63              ; r4 0..63",
             "4 add r2, 14              ; r2 datagram+14",
-            "5 add r2, r4              ; r2 datagram+(14..77)+0, -77 proved after it",
-            "6 mov r5, r2              ; r5 datagram+(14..77)+0, -77 proved after it",
-            "7 add r5, 4               ; r5 datagram+(14..77)+4, -81 proved after it",
+            "5 add r2, r4              ; r2 datagram+(14..77)+0, nothing proved after it",
+            "6 mov r5, r2              ; r5 datagram+(14..77)+0, nothing proved after it",
+            "7 add r5, 4               ; r5 datagram+(14..77)+4, nothing proved after it",
             "8 jgt r5, r3, +1          ; not taken; r2 datagram+(14..77)+0, 4 proved after it; r5 datagram+(14..77)+4, 0 proved after it",
             "9 ldxb r0, [r2+4]         ; refused V10: reads datagram+(14..77)+4 to +5, 4 bytes are proved",
         ],
@@ -462,7 +495,7 @@ static FAULTS: [Fault; 6] = [
     },
     Fault {
         file: b"\x95",
-        line: "refused E2: 1 bytes are no multiple of 8",
+        line: "refused E2: 1 byte is no multiple of 8",
     },
     Fault {
         file: b"\0\0\0\0\0\0\0\0",
