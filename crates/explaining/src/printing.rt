@@ -77,6 +77,9 @@ fn fault_note(
     let slots = slots_of(program);
     match reason {
         Reason::JumpBackward => format!(in alloc; "refused {reason}: leads back to slot {to}"),
+        Reason::JumpOutside if slots == 1 => {
+            format!(in alloc; "refused {reason}: leads to slot {to}, of 1 slot")
+        }
         Reason::JumpOutside => {
             format!(in alloc; "refused {reason}: leads to slot {to}, of {slots} slots")
         }

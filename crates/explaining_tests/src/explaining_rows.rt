@@ -294,7 +294,7 @@ static ACCESSES: [Row; 21] = [
 ];
 
 /// Programs that are refused with V11 to V20, V17 aside, and with V1 to V4.
-static OTHERS: [Row; 22] = [
+static OTHERS: [Row; 23] = [
     // V11
     Row {
         text: "mul r1, 2\nexit",
@@ -466,6 +466,12 @@ static OTHERS: [Row; 22] = [
         slot: None,
         status: 1,
         lines: &["0 ja +1                   ; refused V2: leads to slot 2, of 2 slots"],
+    },
+    Row {
+        text: "ja +1",
+        slot: None,
+        status: 1,
+        lines: &["0 ja +1                   ; refused V2: leads to slot 2, of 1 slot"],
     },
     Row {
         text: "ja +1\nlddw r0, 7\nexit",
