@@ -1,7 +1,8 @@
 /* Preloaded into a program, makes its reads of standard input and its writes to standard output short or fail. Each moves
    at most IO_SHORT bytes, where that is given; read number FAIL_READ and write number FAIL_WRITE, counted from 1, fail with EIO;
-   and each read or write whose number is no multiple of IO_INTERRUPT, where that is given, is interrupted (EINTR). For each
-   failure it writes a byte to the file descriptor FAIL_REPORT. */
+   write number TAKE_NONE takes no byte; and each read or write whose number is no multiple of IO_INTERRUPT, where that is given,
+   is interrupted (EINTR). For each failure, and for a write that takes none, it writes a byte to the file descriptor
+   FAIL_REPORT. */
 #define _GNU_SOURCE
 #include <dlfcn.h>
 #include <errno.h>
@@ -35,14 +36,26 @@ static int error_of(int stream, unsigned long number) {
   return number == number_in(stream == INPUT ? "FAIL_READ" : "FAIL_WRITE") ? EIO : 0;
 }
 
+static void report(void) {
+  if (real_write((int)number_in("FAIL_REPORT"), "x", 1) != 1)
+    _exit(99);
+}
+
 /* Counts a call on a stream, and returns whether it fails. */
 static int fails(int stream) {
   int error = error_of(stream, ++counts[stream]);
   if (error == 0)
     return 0;
-  if (real_write((int)number_in("FAIL_REPORT"), "x", 1) != 1)
-    _exit(99);
+  report();
   errno = error;
+  return 1;
+}
+
+/* Returns whether the write that was counted last takes no byte. */
+static int takes_none(void) {
+  if (counts[OUTPUT] != number_in("TAKE_NONE"))
+    return 0;
+  report();
   return 1;
 }
 
@@ -64,5 +77,7 @@ ssize_t read(int fd, void *bytes, size_t count) {
 ssize_t write(int fd, const void *bytes, size_t count) {
   if (fd != STDOUT_FILENO)
     return real_write(fd, bytes, count);
-  return fails(OUTPUT) ? -1 : real_write(fd, bytes, most(count));
+  if (fails(OUTPUT))
+    return -1;
+  return takes_none() ? 0 : real_write(fd, bytes, most(count));
 }

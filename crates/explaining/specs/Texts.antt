@@ -1,5 +1,5 @@
 -- Meaning. The texts of abstract values.
-use Rattle.std.specs.Prelude.{ℕ, ◌==◌, ℤ, ◌-ℤ◌, List, ◌++◌, codes, decimal, if◌then◌else◌}
+use Rattle.std.specs.Prelude.{ℕ, ◌==◌, ℤ, pos, ◌-ℤ◌, int_lt, List, ◌++◌, codes, decimal, if◌then◌else◌}
 use Rattle.std.specs.Fmt.{signed_decimal}
 use Rattle.insn.specs.Spelling.{with_sign}
 use Rattle.interval.specs.declared.domain.Bounds.{Bounds}
@@ -18,10 +18,14 @@ abbrev pub place_text : Anchor → ℤ → List ℕ
 place_text First k = codes "datagram" ++ with_sign k
 place_text (Made id low high proved) k = codes "datagram+(" ++ signed_decimal low ++ codes ".." ++ signed_decimal high ++ codes ")" ++ with_sign k
 
--- so many bytes are proved after a place at an anchor that was made; of the first byte, the state says it itself
+-- so many bytes are proved after a place, of which fewer than none are nothing
+abbrev pub after_text : ℤ → List ℕ
+after_text n = if int_lt n (pos 0) then codes ", nothing proved after it" else codes ", " ++ signed_decimal n ++ codes " proved after it"
+
+-- how many are proved after a place at an anchor that was made; of the first byte, the state says it itself
 abbrev pub proved_text : Anchor → ℤ → List ℕ
 proved_text First k = codes ""
-proved_text (Made id low high proved) k = codes ", " ++ signed_decimal (proved -ℤ k) ++ codes " proved after it"
+proved_text (Made id low high proved) k = after_text (proved -ℤ k)
 
 -- what is known of a register, or of eight bytes of the stack
 abbrev pub value_text : AbstractValue Interval → List ℕ

@@ -76,6 +76,15 @@ pub(crate) fn access_of(insn: Insn) -> Option<Access> {
     })
 }
 
+/// Appends how many bytes are proved. Where the number is negative, nothing is.
+fn push_proved(note: &mut String, proved: i64) -> Result<(), AllocError> {
+    match proved {
+        1 => note.push_str(", 1 byte is proved"),
+        n if n < 0 => note.push_str(", nothing is proved"),
+        n => write!(note, ", {n} bytes are proved"),
+    }
+}
+
 impl Access {
     /// Returns what is known of the register whose value points to the bytes.
     fn pointer(self, state: &State) -> AbstractValue<Interval> {
@@ -143,7 +152,7 @@ impl Access {
                 if self.first(state) < headroom {
                     write!(note, ", the headroom begins at {headroom}")
                 } else {
-                    write!(note, ", {proved} bytes are proved")
+                    push_proved(note, proved)
                 }
             }
             _ => write!(note, ", the tailroom is +0 to +{TAILROOM}"),

@@ -91,9 +91,11 @@ fn push_changes(note: &mut String, from: &State, to: &State) -> Result<(), Alloc
     push_groups(note, from, to)?;
     push_marks(note, from, to)?;
     if from.proved != to.proved {
-        let proved = to.proved;
         separate(note)?;
-        write!(note, "{proved} bytes proved")?;
+        match to.proved {
+            1 => note.push_str("1 byte proved")?,
+            proved => write!(note, "{proved} bytes proved")?,
+        }
     }
     Ok(())
 }

@@ -77,6 +77,9 @@ fn fault_note(
     let slots = slots_of(program);
     match reason {
         Reason::JumpBackward => format!(in alloc; "refused {reason}: leads back to slot {to}"),
+        Reason::JumpOutside if slots == 1 => {
+            format!(in alloc; "refused {reason}: leads to slot {to}, of 1 slot")
+        }
         Reason::JumpOutside => {
             format!(in alloc; "refused {reason}: leads to slot {to}, of {slots} slots")
         }
@@ -225,6 +228,8 @@ pub(crate) fn print_fault<W: Write>(
     let slots = bytes / 8;
     match refusal {
         DecodeError::Empty => line!(out; "refused {refusal}: the file has no bytes"),
+        DecodeError::NotEights if bytes == 1 =>
+            line!(out; "refused {refusal}: 1 byte is no multiple of 8"),
         DecodeError::NotEights =>
             line!(out; "refused {refusal}: {bytes} bytes are no multiple of 8"),
         DecodeError::TooLong => line!(out; "refused {refusal}: {slots} slots are more than 4096"),

@@ -2,7 +2,7 @@
 
 ghost use Rattle.std.specs.Prelude.{◌≡◌, ◌-ℤ◌, Some};
 ghost use Rattle.insn.specs.Spelling.{with_sign};
-ghost use Rattle.explaining.specs.Texts.{bounds_text, place_text, proved_text, value_text};
+ghost use Rattle.explaining.specs.Texts.{after_text, bounds_text, place_text, proved_text, value_text};
 
 use absstate::{AbsState, AbstractValue, Anchor};
 use interval::{Bounds, Domain, Interval};
@@ -72,6 +72,23 @@ fn bytes_after(proved: i32, offset: i32) -> i64
     i64::from(proved) - i64::from(offset)
 }
 
+/// How many bytes are proved after a place. Where it is negative, nothing is.
+#[derive(Clone, Copy)]
+struct After(i64);
+
+impl fmt::Display for After {
+    ghost output = { λ a. Some (after_text a.0) };
+
+    fn fmt<W: fmt::Write>(&self, f: &mut fmt::Formatter<W>) -> fmt::Result {
+        let n = self.0;
+        if n < 0 {
+            f.write_str(", nothing proved after it")
+        } else {
+            write!(f, ", {n} proved after it")
+        }
+    }
+}
+
 /// How many bytes are proved after a place at an anchor that was made.
 #[derive(Clone, Copy)]
 struct Proved(Place);
@@ -84,8 +101,8 @@ impl fmt::Display for Proved {
         match anchor {
             Anchor::First => Ok(()),
             Anchor::Made { proved, .. } => {
-                let after = bytes_after(proved, offset);
-                write!(f, ", {after} proved after it")
+                let after = After(bytes_after(proved, offset));
+                write!(f, "{after}")
             }
         }
     }

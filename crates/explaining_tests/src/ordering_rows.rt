@@ -108,10 +108,18 @@ fn check_refused(
     Ok(())
 }
 
-/// Returns a program of 3n + 2 slots, which needs 4n + 1 in order: n conditional jumps, each with an exit after it that
-/// is placed before it, so that each fall-through except the last is lost.
-fn chain(alloc: Global, n: i16) -> Result<Vec<Insn>, AllocError> {
+/// Returns a program of `first` + 3n + 2 slots, which needs `first` + 4n + 1 in order: so many instructions that go on to
+/// the next one, and n conditional jumps, each with an exit after it that is placed before it, so that each fall-through
+/// except the last is lost.
+fn chain(alloc: Global, first: usize, n: i16) -> Result<Vec<Insn>, AllocError> {
     let mut code = Vec::new(alloc);
+    for _ in 0..first {
+        code.push(Insn::Mov {
+            width: Width::W64,
+            dst: Reg::R0,
+            operand: Operand::Imm(0),
+        })?;
+    }
     let length = n.saturating_mul(2);
     code.push(Insn::Jump { offset: length })?;
     for _ in 1..n {
@@ -152,8 +160,9 @@ fn programs_are_put_in_order(rt: HostRuntime) -> Result<(), Fail> {
     check_ordered(&rt, rt.alloc(), &rows)?;
     let empty = order(rt.alloc(), &[]);
     assert!(rt; empty.is_ok_and(|code| code.is_empty()));
-    let longest = ordered(&rt, rt.alloc(), chain(rt.alloc(), 1023)?.as_slice());
-    assert_eq!(rt; longest.map(|code| code.len()), Ok(4093));
+    // 3 + 4 * 1,023 + 1 slots are as many as a program may have.
+    let longest = ordered(&rt, rt.alloc(), chain(rt.alloc(), 3, 1023)?.as_slice());
+    assert_eq!(rt; longest.map(|code| code.len()), Ok(4096));
     Ok(())
 }
 
@@ -172,7 +181,7 @@ fn programs_without_an_order_are_refused(rt: HostRuntime) -> Result<(), Fail> {
         (">1 x ?-2", stuck(FallsOffEnd, 2)),
     ];
     check_refused(&rt, rt.alloc(), &rows)?;
-    let long = ordered(&rt, rt.alloc(), chain(rt.alloc(), 1024)?.as_slice());
+    let long = ordered(&rt, rt.alloc(), chain(rt.alloc(), 4, 1023)?.as_slice());
     assert_eq!(rt; long.err(), Some(OrderError::TooLong));
     Ok(())
 }

@@ -1,6 +1,6 @@
 //! Loading in slices: a program is decoded at once, and its verification goes on by so much work at a time.
 
-ghost use Rattle.std.specs.Prelude.{◌≡◌, ◌<◌, ℕ, List, IfOk, IfErr};
+ghost use Rattle.std.specs.Prelude.{◌≡◌, ◌+◌, ◌<◌, ℕ, List, IfOk, IfErr, IfSome, IfNone};
 ghost use Rattle.insn.specs.Encoding.{Encodes};
 ghost use Rattle.insn.specs.Refusal.{IsRefused};
 ghost use Rattle.insn.specs.declared.instruction.Insn.{Insn};
@@ -54,9 +54,20 @@ pub struct Remains {
     states: verifier::Remains<Interval>,
 }
 
+impl Model for Remains {
+    ghost use Rattle.std.specs.Prelude.{ℕ};
+
+    ghost Value = { ℕ };
+
+    ghost view = { λ r. r.states };
+}
+
 impl Remains {
     /// Frees some of it, in `count` units of work. Returns the rest, `None` where nothing is left.
-    pub fn free(self, count: usize) -> Option<Remains> {
+    pub fn free(self, count: usize) -> Option<Remains>
+        ensures left { IfSome result (λ left. left + count ≡ self) }
+        ensures none { IfNone result (self < count) }
+    {
         let states = self.states.free(count)?;
         Some(Remains { states })
     }
@@ -82,6 +93,7 @@ fn advanced(walk: Walk<Interval>, slice: usize) -> Progress<Interval>
 
 impl Loading {
     ghost use Rattle.std.specs.Prelude.{◌≡◌, ℕ, List, IfOk, IfErr};
+    ghost use Rattle.verifier.specs.Keeping.{units_to_free};
     ghost use Rattle.loader.specs.Slices.{IsLoadSlice};
 
     /// Begins to load a program: decodes its bytes (RFC 9669, sections 3 to 5), and tests its layout.
@@ -103,7 +115,9 @@ impl Loading {
     }
 
     /// Gives the loading up, and returns what its verification has kept.
-    pub fn into_remains(self) -> Remains {
+    pub fn into_remains(self) -> Remains
+        ensures { result ≡ units_to_free self.kept }
+    {
         let states = self.walk.into_remains();
         Remains { states }
     }

@@ -61,14 +61,14 @@ forward_or_not a slot true found n e is = absurd cc
 forward_or_not a slot false found n e is = (is, grind (arith, ints))
 
 -- a jump that leads forward leads there
-any_of_target : (code : List Insn) (slot n : ℕ) (d : ℤ) → target code slot d ≡ Ok n → any_target code slot d ≡ Ok n
+pub any_of_target : (code : List Insn) (slot n : ℕ) (d : ℤ) → target code slot d ≡ Ok n → any_target code slot d ≡ Ok n
 any_of_target code slot n d e =
     let a : ℤ = pos (slot + 1) +ℤ d in
     let found : Result ℕ Reason = landing (fetch code (unsigned_abs a)) (unsigned_abs a) in
     let both = forward_or_not a slot (int_le a (pos slot)) found n refl e in
     ap (λ (b : Bool). if b then found else Err JumpOutside) both.1 ∙ both.0
 
-passes : (r : Result ℕ Reason) → ◌≡◌ {A = Result (Unit {0}) Reason} (r >>= λ landed. Ok tt) (Ok tt) → (n : ℕ) × (r ≡ Ok n)
+pub passes : (r : Result ℕ Reason) → ◌≡◌ {A = Result (Unit {0}) Reason} (r >>= λ landed. Ok tt) (Ok tt) → (n : ℕ) × (r ≡ Ok n)
 passes (Ok n) e = (n, refl)
 passes (Err r) e = absurd cc
 

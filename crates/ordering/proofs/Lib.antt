@@ -8,4 +8,5 @@ pub mod Searching
 pub mod Forwards
 pub mod Effects
 pub mod Meaning
+pub mod Loops
 pub mod Running

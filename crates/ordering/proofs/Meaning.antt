@@ -30,15 +30,15 @@ use Rattle.ordering.proofs.Backs.{target_back}
 use Rattle.ordering.proofs.Effects.{EffectOf, effect_flow, redistanced, moved_effect}
 use Rattle.ordering.proofs.Placing.{same_slots, placed_begins}
 
-begins_same : (i j : Insn) → Begins i ≡ Begins j → i ≡ j
+pub begins_same : (i j : Insn) → Begins i ≡ Begins j → i ≡ j
 begins_same i j e = cc
 
-ok_same : (m n : ℕ) → ◌≡◌ {A = Result ℕ Reason} (Ok m) (Ok n) → m ≡ n
+pub ok_same : (m n : ℕ) → ◌≡◌ {A = Result ℕ Reason} (Ok m) (Ok n) → m ≡ n
 ok_same m n e = cc
 
 -- ---- where branches lead
 
-landing_is : (f : Fetched) (landed n : ℕ) → next_landing f landed ≡ Ok n → n ≡ landed
+pub landing_is : (f : Fetched) (landed n : ℕ) → next_landing f landed ≡ Ok n → n ≡ landed
 landing_is (Begins i) landed n e = cc
 landing_is Inside landed n e = absurd cc
 landing_is Past landed n e = absurd cc

@@ -5,7 +5,7 @@ use Rattle.std.specs.List.{sum_by}
 use Rattle.std.proofs.lemmas.Bool.{cases_eq}
 use Rattle.std.proofs.lemmas.List.{get_or-set_same, get_or-set_other, length-set}
 use Rattle.std.proofs.lemmas.List.Sums.{sum_by-set}
-use Rattle.insn.specs.Encoding.{slots_of, slot_count}
+use Rattle.insn.specs.Encoding.{slot_count}
 use Rattle.semantics.specs.Slots.{slots}
 use Rattle.insn.specs.declared.decoding.TheConstants.{MAX_SLOTS}
 use Rattle.insn.specs.declared.instruction.Insn.{Insn}
@@ -190,10 +190,10 @@ weight_entered marks slot lt e = omega (arith, sum_by-set weight marks slot Open
 
 -- ---- errors
 
-pub no_room : (code : List Insn) (marks : List Mark) (at : Visit) (path : List Visit) (rest : List Insn) → IsSearch code marks (at ∷ path) rest → at.slot < length marks → (e : OrderError) → IsNoRoom (slot_count rest + 1 + slots_of at.insn) e → IsOrderFault code e
-no_room code marks at path rest is lt (errors.Loop slot) h = absurd h
-no_room code marks at path rest is lt (errors.Stuck reason slot) h = absurd h
-no_room code marks at path rest is lt errors.TooLong h =
+pub no_room : (code : List Insn) (marks : List Mark) (at : Visit) (path : List Visit) (rest : List Insn) → IsSearch code marks (at ∷ path) rest → at.slot < length marks → (taken next : Option ℕ) (e : OrderError) → IsNoRoom (slot_count (put_before rest at.insn taken next)) e → IsOrderFault code e
+no_room code marks at path rest is lt taken next (errors.Loop slot) h = absurd h
+no_room code marks at path rest is lt taken next (errors.Stuck reason slot) h = absurd h
+no_room code marks at path rest is lt taken next errors.TooLong h =
     let opened_here : mark_at marks at.slot ≡ Open = is.are_open at.slot (inl refl) in
-    omega (arith, h, is.room, used_placed marks (slots code) at.slot 0 at.insn lt opened_here is.chain.0, used_few code (slice_set marks at.slot (Placed 0)))
-no_room code marks at path rest is lt errors.Memory h = tt
+    omega (arith, h, put_slots rest at.insn taken next, is.room, used_placed marks (slots code) at.slot 0 at.insn lt opened_here is.chain.0, used_few code (slice_set marks at.slot (Placed 0)))
+no_room code marks at path rest is lt taken next errors.Memory h = tt

@@ -1,21 +1,23 @@
 -- Meaning. Files whose programs are put in order, and why others are not.
 use Rattle.std.specs.Prelude.{◌≡◌, ℕ, ◌≤◌, List, ◌++◌, codes, decimal}
 use Rattle.insn.specs.Encoding.{AllFit, Encodes, encodings, slot_count}
-use Rattle.insn.specs.Refusal.{IsRefused, decode_error_text}
+use Rattle.insn.specs.Refusal.{IsRefused, IsWhole, decode_error_text}
 use Rattle.insn.specs.declared.decoding.TheConstants.{MAX_SLOTS}
 use Rattle.insn.specs.declared.instruction.Insn.{Insn}
 use Rattle.semantics.specs.Reasons.{reason_at}
 use Rattle.verifier.specs.Layout.{HasGoodJumps}
-use Rattle.ordering.specs.Orders.{KeepsMeaning, IsOrderFault}
+use Rattle.ordering.specs.Orders.{KeepsMeaning, HasNoLoop, IsOrderFault}
 use Rattle.ordering.specs.declared.error.OrderError.{OrderError}
 use Rattle.ordering.specs.declared.error.OrderError.TheVariants as errors
 use Rattle.ordering.specs.declared.file.FileError.{FileError}
 use Rattle.ordering.specs.declared.file.FileError.TheVariants as file
 
--- the bytes of a file encode a program, and the new ones another one of the same meaning, all of whose jumps lead forward
+-- the bytes of a file encode a program of which no loop is reached, and the new ones another one of the same meaning, all of whose
+-- jumps lead forward
 pub record IsInOrder (bytes new : List ℕ) : Type 0 where
   pub code : List Insn
   pub encodes : Encodes code bytes
+  pub loopless : HasNoLoop code
   pub in_order : List Insn
   pub fit : AllFit in_order
   pub few : slot_count in_order ≤ MAX_SLOTS
@@ -29,10 +31,11 @@ pub record IsRefusedOrder (bytes : List ℕ) (error : OrderError) : Type 0 where
   pub encodes : Encodes code bytes
   pub fault : IsOrderFault code error
 
+-- the first fault of the bytes, or the fault of the program; or memory ran out, over bytes of whole slots that are not too many
 abbrev pub IsFileFault : List ℕ → FileError → Type 0
 IsFileFault bytes (file.Program refusal) = IsRefused bytes refusal
 IsFileFault bytes (file.Order error) = IsRefusedOrder bytes error
-IsFileFault bytes file.Memory = Unit {0}
+IsFileFault bytes file.Memory = IsWhole bytes
 
 -- ---- texts
 

@@ -82,6 +82,9 @@ pub record IsLooped (code : List Insn) (slot : ℕ) : Type 0 where
   pub leads : Leads code slot next
   pub back : Reaches code next slot
 
+abbrev pub HasNoLoop : List Insn → Type 0
+HasNoLoop code = (slot : ℕ) → IsLooped code slot → ⊥
+
 -- a slot is reached, and a branch of the instruction there leads to no instruction
 pub record IsStuckAt (code : List Insn) (reason : Reason) (slot : ℕ) : Type 0 where
   pub reached : IsReachable code slot

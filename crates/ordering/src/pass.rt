@@ -1,10 +1,10 @@
 //! The pass.
 
-ghost use Rattle.std.specs.Prelude.{◌≡◌, ◌≤◌, IfOk, IfErr};
+ghost use Rattle.std.specs.Prelude.{◌≡◌, ◌≤◌, IfOk, IfErr, OnOk};
 ghost use Rattle.insn.specs.Encoding.{slot_count, AllFit};
 ghost use Rattle.insn.specs.declared.decoding.TheConstants.{MAX_SLOTS};
 ghost use Rattle.verifier.specs.Layout.{HasGoodJumps};
-ghost use Rattle.ordering.specs.Orders.{KeepsMeaning, IsOrderFault};
+ghost use Rattle.ordering.specs.Orders.{KeepsMeaning, HasNoLoop, IsOrderFault};
 
 use crate::error::OrderError;
 use crate::forward::is_forward;
@@ -30,6 +30,7 @@ pub fn order(alloc: Global, code: &[Insn]) -> Result<Vec<Insn>, OrderError>
     ensures meaning { IfOk result (λ new. KeepsMeaning code.now new.items) }
     ensures fits { IfOk result (λ new. AllFit new.items) }
     ensures few { IfOk result (λ new. slot_count new.items ≤ MAX_SLOTS) }
+    ensures loopless { OnOk result (HasNoLoop code.now) }
     ensures refused { IfErr result (IsOrderFault code.now) }
 {
     let program = Program::new(alloc, code)?;

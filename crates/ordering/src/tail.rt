@@ -57,7 +57,7 @@ impl Tail {
         requires begins { BeginsBack (tail_list self.old) place }
         ensures tail { OnOk result (IsTail self.new) }
         ensures list { OnOk result (tail_list self.new ≡ bridge_to (tail_list self.old) place) }
-        ensures err { IfErr result (IsNoRoom (slot_count (tail_list self.old) + 1)) }
+        ensures err { IfErr result (IsNoRoom (slot_count (bridge_to (tail_list self.old) place))) }
     {
         if place == self.slots {
             return Ok(());
@@ -75,7 +75,7 @@ impl Tail {
         requires begins { BeginsAt (tail_list self.old) next }
         ensures tail { OnOk result (IsTail self.new) }
         ensures list { OnOk result (tail_list self.new ≡ bridged (tail_list self.old) next) }
-        ensures err { IfErr result (IsNoRoom (slot_count (tail_list self.old) + 1)) }
+        ensures err { IfErr result (IsNoRoom (slot_count (bridged (tail_list self.old) next))) }
     {
         match next {
             Some(place) => self.bridge(place),
@@ -120,7 +120,7 @@ impl Tail {
         ensures tail { OnOk result (IsTail self.new) }
         ensures list { OnOk result (tail_list self.new ≡ put_before (tail_list self.old) insn taken next) }
         ensures place { IfOk result (λ place. place ≡ slot_count (tail_list self.new)) }
-        ensures err { IfErr result (IsNoRoom (slot_count (tail_list self.old) + 1 + slots_of insn)) }
+        ensures err { IfErr result (IsNoRoom (slot_count (put_before (tail_list self.old) insn taken next))) }
     {
         self.bridge_if(next)?;
         self.put_jump(insn, taken)?;

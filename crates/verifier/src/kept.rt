@@ -387,9 +387,23 @@ pub struct Remains<D: Domain> {
     states: Vec<KeptState<D>>,
 }
 
+impl<D: Domain> Model for Remains<D> {
+    ghost use Rattle.std.specs.Prelude.{ℕ, ◌+◌, length};
+    ghost use Rattle.verifier.specs.Keeping.{units_to_free};
+
+    ghost Value = { ℕ };
+
+    ghost view = { λ r. length r.states.items + units_to_free r.by_slot.items };
+}
+
 impl<D: Domain> Remains<D> {
+    ghost use Rattle.std.specs.Prelude.{◌≡◌, ◌+◌, ◌<◌, true, false, IfSome, IfNone};
+    ghost use Rattle.verifier.specs.Keeping.{units_to_free};
+
     /// Returns what is left of the states that a walk has kept.
-    pub(crate) fn new(kept: Kept<D>) -> Remains<D> {
+    pub(crate) fn new(kept: Kept<D>) -> Remains<D>
+        ensures { result ≡ units_to_free kept }
+    {
         Remains {
             by_slot: kept.by_slot,
             states: Vec::new(kept.alloc),
@@ -397,7 +411,10 @@ impl<D: Domain> Remains<D> {
     }
 
     /// Frees a state, or goes on to those of another slot, and returns whether there was anything to do.
-    fn free_one(&mut self) -> bool {
+    fn free_one(&mut self) -> bool
+        ensures freed { result ≡ true → self.new + 1 ≡ self.old }
+        ensures none { result ≡ false → self.old ≡ 0 }
+    {
         if self.states.pop().is_some() {
             return true;
         }
@@ -418,7 +435,10 @@ impl<D: Domain> Remains<D> {
     }
 
     /// Frees some of the states, in `count` units of work: a state, or a slot. Returns the others, `None` where none is left.
-    pub fn free(mut self, count: usize) -> Option<Remains<D>> {
+    pub fn free(mut self, count: usize) -> Option<Remains<D>>
+        ensures left { IfSome result (λ left. left + count ≡ self) }
+        ensures none { IfNone result (self < count) }
+    {
         for _ in 0..count {
             if !self.free_one() {
                 return None;

@@ -164,6 +164,7 @@ impl<D: Domain> Walk<D> {
     ghost use Rattle.verifier.specs.Walk.{first_pending};
     ghost use Rattle.verifier.specs.Walks.{EndsWalk};
     ghost use Rattle.verifier.specs.declared.walk.Verified.{Verified};
+    ghost use Rattle.verifier.specs.Keeping.{units_to_free};
     ghost use Rattle.verifier.specs.SliceEnds.{IsNewWalk, MayRefuseStart, IsSlice};
     ghost use Rattle.verifier.specs.Units.{IsUnit};
 
@@ -211,7 +212,9 @@ impl<D: Domain> Walk<D> {
     }
 
     /// Gives the walk up, and returns the states that it has kept.
-    pub fn into_remains(self) -> Remains<D> {
+    pub fn into_remains(self) -> Remains<D>
+        ensures { result ≡ units_to_free self.kept }
+    {
         let Walk { at, .. } = self;
         let Frontier { kept, .. } = at;
         Remains::new(kept)

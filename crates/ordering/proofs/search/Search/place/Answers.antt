@@ -41,5 +41,5 @@ returns-in_err-place-clause-err c =
     let marks = c.args.self.now.marks.items in
     let lt : c.args.at.slot < length marks = omega (arith, visit_inside c.args.program.now c.args.at MAX_SLOTS c.requires.visits.search.chain.0 c.requires.few, c.requires.visits.search.count) in
     let fault : IsOrderFault c.args.program.now c.in_err-place.field-0.0 =
-    no_room c.args.program.now marks c.args.at (path_of c.args.self.now) (tail_list c.args.self.now.tail) c.requires.visits.search lt c.in_err-place.field-0.0 c.in_err-place.ensures.err in
+    no_room c.args.program.now marks c.args.at (path_of c.args.self.now) (tail_list c.args.self.now.tail) c.requires.visits.search lt c.args.taken c.args.next c.in_err-place.field-0.0 c.in_err-place.ensures.err in
     search (rules, fault)
