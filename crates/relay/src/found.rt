@@ -54,6 +54,7 @@ fn may_come(confinement: &Option<Confinement>, live: &LiveSlot<'_>, peer: Addr) 
 /// address that isn't of the allocation's family, and where programs are confined, nothing goes to a peer, or comes from one,
 /// that the client hasn't permitted.
 /// See docs/DECISIONS.md, "One family" and "Confined programs".
+#[inline(always)]
 pub(crate) fn window_found(
     from: Source,
     live: &Option<LiveSlot<'_>>,
