@@ -33,10 +33,11 @@ from worst_programs import known_programs
 
 CLIENTS, DATAGRAMS, BATCH = 10, 200_000, 40
 # programs whose verification takes seconds, the round trips that are made meanwhile, and how long one may take, in seconds: a
-# server verifies for a quarter of a millisecond between two turns, and other processes take their time too
+# server verifies for a quarter of a millisecond between two turns, and other processes take their time too. A machine that
+# stops for a moment makes a round trip late once; a server that is held up makes one late at each attempt.
 SLOW = "sums in the last register", "marks with a chain", "64 pointers, 32 states, and 4,000 jumps"
 SLOWEST = "pointers on the stack"
-ROUND_TRIPS, MOST_TRIPS, LATE = 10_000, 1_000_000, 0.1
+ROUND_TRIPS, MOST_TRIPS, LATE, ATTEMPTS = 10_000, 1_000_000, 0.1, 3
 # The receives that fail, counted from the start. With two slots the first three are one at each socket, where nothing
 # has come yet; the next is that of the first datagram, and the one after it would find nothing more.
 FAILED_RECEIVES = range(1, 6)
@@ -618,27 +619,40 @@ def replaced_programs():
             yield from wanted("the allocation", code_of(client.signed(REFRESH, [])), 0)
 
 
+def slow_program(server, client, peer, path, title, program):
+    """Yields what is lost of datagrams that come while a program is verified that is refused; returns the longest round trip."""
+    relayed = ("127.0.0.1", server.first_port)
+    refusals = server.printed().count("refused V17")
+    put(path, program)
+    trips = []
+    while len(trips) < ROUND_TRIPS or (len(trips) < MOST_TRIPS and server.printed().count("refused V17") == refusals):
+        trips += [round_trip(client, peer, relayed, struct.pack(">I", number)) for number in range(500)]
+    yield from wanted(f"{title}: datagrams lost", trips.count(None), 0)
+    if server.awaited("refused V17", refusals + 1) != refusals + 1:
+        yield f"{title}: {server.printed()!r}"
+    return max(trip or 0 for trip in trips)
+
+
 def slow_programs():
     """Yields what is lost, or late, of datagrams that come while programs are verified that take long."""
     with tempfile.TemporaryDirectory() as name:
         folder = pathlib.Path(name)
         path = shipped(folder, "client")
+        running = path.read_bytes()
         with Server("--client", str(path)) as server, Client(server) as client, udp_socket() as peer:
             client.allocate()
             client.bind(address_of(peer))
-            relayed = ("127.0.0.1", server.first_port)
             for title in SLOW:
-                put(path, assembled(folder, "slow", "\n".join(known_programs()[title])).read_bytes())
-                refusals = server.printed().count("refused V17")
-                trips = []
-                while len(trips) < ROUND_TRIPS or (len(trips) < MOST_TRIPS and server.printed().count("refused V17") == refusals):
-                    trips += [round_trip(client, peer, relayed, struct.pack(">I", number)) for number in range(500)]
-                yield from wanted(f"{title}: datagrams lost", trips.count(None), 0)
-                slowest = max(trip or 0 for trip in trips)
-                if slowest > LATE:
-                    yield f"{title}: a round trip took {slowest * 1000:.1f} ms"
-                if server.awaited("refused V17", refusals + 1) != refusals + 1:
-                    yield f"{title}: {server.printed()!r}"
+                program = assembled(folder, "slow", "\n".join(known_programs()[title])).read_bytes()
+                for _ in range(ATTEMPTS):
+                    slowest = yield from slow_program(server, client, peer, path, title, program)
+                    if slowest <= LATE:
+                        break
+                    # once the file has the program that runs, the one that was refused is tried again
+                    put(path, running)
+                    time.sleep(1.2 * PERIOD)
+                else:
+                    yield f"{title}: a round trip took {slowest * 1000:.1f} ms, and one was late at each of {ATTEMPTS} attempts"
 
 
 def withdrawn_programs():
