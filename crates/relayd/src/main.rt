@@ -8,12 +8,12 @@ mod explanations;
 mod filters;
 mod options;
 mod replay_command;
-mod server;
+mod serve_command;
 mod starting;
 
 use crate::explanations::explain;
 use crate::replay_command::{ReplayOptions, replay};
-use crate::server::serve;
+use crate::serve_command::serve;
 use asm::{AsmError, assemble};
 use clap::ArgMatches;
 use clap::error::ErrorKind as LineErrorKind;

@@ -3,7 +3,7 @@
 use crate::clock::{elapsed, starting_now};
 use crate::filters::filter_of;
 use crate::options::{CommandError, Prepared, Relayed, set_up};
-use crate::server::{Server, Wire};
+use crate::serve_command::{Server, Wire};
 use command_line::{Options, ServerOptions, defaults, relayed_ip, relayed_ip6};
 use monitoring::{MetricsFile, RecordError, Recording, Reports, ServerLog};
 use peer_filter::{PeerFilter, Rule};
