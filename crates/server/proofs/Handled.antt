@@ -18,6 +18,7 @@ use Rattle.relay.specs.Steps.{HasStepped}
 use Rattle.rules.specs.Systems.{SystemOutcome, system_step}
 use Rattle.rules.specs.declared.disposition.Disposition.{Disposition}
 use Rattle.tables.specs.Moments.{moment_of}
+use Rattle.server.proofs.Reported.{reported_more, reported_none}
 use Rattle.server.specs.Calls.{Call, Received, HasReported}
 use Rattle.server.specs.Turns.{may_send, send_of, outcome_of_send, IsReceived, HasAnswered, IsAnswered, IsTurn, HasTurned, IsUntouched, outcome_of_bytes, ruled_outcome_of_bytes, disposition_of_bytes}
 use Rattle.server.specs.declared.counters.Outcome.{Outcome}
@@ -26,19 +27,6 @@ use Rattle.server.specs.declared.link.LinkError.{LinkError}
 use Rattle.server.specs.declared.turning.Arrival.{Arrival}
 use Rattle.server.specs.declared.turning.Arrived.{Arrived}
 use Rattle.server.specs.declared.turning.Served.{Served}
-
--- ---- what is reported
-
--- first some calls, and then others
-pub reported_more : {A : Type 0} (before between after : Option (List A)) (first more : List A) → HasReported before between first → HasReported between after more → HasReported before after (first ++ more)
-reported_more None between after first more f m = subst (λ (b : Option (List _)). HasReported b after more) f m
-reported_more (Some calls) None after first more f m = subst (λ (a : Option (List _)). HasReported (Some calls) a (first ++ more)) (sym m) tt
-reported_more (Some calls) (Some called) None first more f m = tt
-reported_more (Some calls) (Some called) (Some last) first more f m = m ∙ ap (λ (l : List _). l ++ more) f ∙ append_assoc calls first more
-
-pub reported_none : {A : Type 0} (now : Option (List A)) → HasReported now now []
-reported_none None = refl
-reported_none (Some calls) = sym (append-nil calls)
 
 -- ---- an answer
 

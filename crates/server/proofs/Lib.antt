@@ -3,6 +3,8 @@ pub mod CounterValues
 pub mod Digits
 pub mod EndpointEntries
 pub mod Handled
+pub mod Reported
+pub mod Rounds
 pub mod TokenPlaces
 pub mod Turns
 pub mod Unfiltered

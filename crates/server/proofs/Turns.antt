@@ -8,7 +8,7 @@ use Rattle.server.specs.Rounds.{Step, Report, Next, has_turn, after, after_all, 
 use Rattle.server.specs.Schedules.{no_endpoint, status_at, is_new, is_due, put, reported, handed_out, begun, unserved}
 use Rattle.server.specs.declared.schedule.Status.{Status}
 
-abbrev IsServed : List Status → ℕ → Type 0
+abbrev pub IsServed : List Status → ℕ → Type 0
 IsServed endpoints t = (status_at endpoints t).is_served ≡ true
 
 -- ---- a write
@@ -21,7 +21,7 @@ put_at endpoints t b = elim (cases_lt t (length endpoints)) [
       ∙ ap (λ (s : Status). s.is_served) (get_or_past endpoints t no_endpoint outside)
 ]
 
-put_other : (endpoints : List Status) (t k : ℕ) (b : Bool) → (k ≡ t → ⊥) → status_at (put endpoints t b) k ≡ status_at endpoints k
+pub put_other : (endpoints : List Status) (t k : ℕ) (b : Bool) → (k ≡ t → ⊥) → status_at (put endpoints t b) k ≡ status_at endpoints k
 put_other endpoints t k b other = get_or-set_other endpoints t k (record { is_ready = b; is_served = true }) no_endpoint other
 
 put_served : (endpoints : List Status) (t k : ℕ) (b : Bool) → IsServed endpoints k → IsServed (put endpoints t b) k
@@ -35,21 +35,21 @@ reported_served endpoints token k served =
     cond_both (status_at endpoints token).is_ready endpoints (put endpoints token (status_at endpoints token).is_served) (λ p. IsServed p k) (λ _. served)
     (λ _. put_served endpoints token k (status_at endpoints token).is_served served)
 
-reported_other : (endpoints : List Status) (token k : ℕ) → (k ≡ token → ⊥) → status_at (reported endpoints token) k ≡ status_at endpoints k
+pub reported_other : (endpoints : List Status) (token k : ℕ) → (k ≡ token → ⊥) → status_at (reported endpoints token) k ≡ status_at endpoints k
 reported_other endpoints token k other =
     cond_both (status_at endpoints token).is_ready endpoints (put endpoints token (status_at endpoints token).is_served) (λ p. status_at p k ≡ status_at endpoints k) (λ _. refl)
     (λ _. put_other endpoints token k (status_at endpoints token).is_served other)
 
 -- ---- a step
 
-after_served : (endpoints : List Status) (step : Step) (k : ℕ) → IsServed endpoints k → IsServed (after endpoints step) k
+pub after_served : (endpoints : List Status) (step : Step) (k : ℕ) → IsServed endpoints k → IsServed (after endpoints step) k
 after_served endpoints (Report token more) k served =
     cond_both (is_new (status_at endpoints token)) (put (reported endpoints token) token more) (reported endpoints token) (λ p. IsServed p k)
     (λ _. put_served (reported endpoints token) token k more (reported_served endpoints token k served)) (λ _. reported_served endpoints token k served)
 after_served endpoints (Next more) k served =
     put_served (handed_out endpoints) (position_or_len is_due endpoints) k more (put_served endpoints (position_or_len is_due endpoints) k true served)
 
-turn_served : (endpoints : List Status) (step : Step) (t : ℕ) → has_turn endpoints step t ≡ true → IsServed (after endpoints step) t
+pub turn_served : (endpoints : List Status) (step : Step) (t : ℕ) → has_turn endpoints step t ≡ true → IsServed (after endpoints step) t
 turn_served endpoints (Report token more) t turn =
     let (new, same) = and_parts (is_new (status_at endpoints token)) (eqb token t) turn in
     cond_both (is_new (status_at endpoints token)) (put (reported endpoints token) token more) (reported endpoints token) (λ p. IsServed p t)
@@ -71,7 +71,7 @@ turn_unserved endpoints (Next more) t turn =
     let (ready, unserved) = and_parts (status_at endpoints (position_or_len is_due endpoints)).is_ready (not (status_at endpoints (position_or_len is_due endpoints)).is_served) (passes_at_first is_due endpoints no_endpoint lt) in
     subst (λ (k : ℕ). (status_at endpoints k).is_served ≡ false) here (not-true (status_at endpoints (position_or_len is_due endpoints)).is_served unserved)
 
-no_turn_served : (endpoints : List Status) (step : Step) (t : ℕ) → IsServed endpoints t → has_turn endpoints step t ≡ false
+pub no_turn_served : (endpoints : List Status) (step : Step) (t : ℕ) → IsServed endpoints t → has_turn endpoints step t ≡ false
 no_turn_served endpoints step t served = elim (cases_Bool (has_turn endpoints step t)) [
   | inl turn ↦ absurd (both_ways (status_at endpoints t).is_served (turn_unserved endpoints step t turn) served)
   | inr none ↦ none
@@ -129,7 +129,7 @@ report_ready endpoints token t more unserved none same =
     ∙ ap (λ (b : Bool). cond b endpoints (put endpoints token (status_at endpoints token).is_served)) ready
 
 -- a step that doesn't serve an endpoint that had no turn leaves it as it is
-unchanged : (endpoints : List Status) (step : Step) (t : ℕ) → (status_at endpoints t).is_served ≡ false → has_turn endpoints step t ≡ false
+pub unchanged : (endpoints : List Status) (step : Step) (t : ℕ) → (status_at endpoints t).is_served ≡ false → has_turn endpoints step t ≡ false
     → status_at (after endpoints step) t ≡ status_at endpoints t
 unchanged endpoints (Report token more) t unserved none = elim (cases_eq t token) [
   | inl same ↦ ap (λ (p : List Status). status_at p t) (report_ready endpoints token t more unserved none (sym same))
@@ -146,7 +146,7 @@ unchanged endpoints (Next more) t unserved none = elim (cases_eq t (position_or_
 ]
 
 -- at the end of a round no endpoint is due
-over_at : (endpoints : List Status) (t : ℕ) → IsOver endpoints → is_due (status_at endpoints t) ≡ false
+pub over_at : (endpoints : List Status) (t : ℕ) → IsOver endpoints → is_due (status_at endpoints t) ≡ false
 over_at endpoints t over = elim (cases_lt (position_or_len is_due endpoints) (length endpoints)) [
   | inl inside ↦
       let some : position is_due endpoints ≡ Some (position_or_len is_due endpoints) = cond-true (ltb (position_or_len is_due endpoints) (length endpoints)) (Some (position_or_len is_due endpoints)) None (lt-ltb (position_or_len is_due endpoints) (length endpoints) inside) in
@@ -183,10 +183,10 @@ at_least_once endpoints (step ∷ steps) t unserved awaited over = elim (cases_B
 
 -- ---- any other endpoint has none
 
-unready_not_due : (s : Status) → s.is_ready ≡ false → is_due s ≡ false
+pub unready_not_due : (s : Status) → s.is_ready ≡ false → is_due s ≡ false
 unready_not_due s unready = and_left s.is_ready (not s.is_served) unready
 
-not_due_served : (s : Status) → s.is_served ≡ true → is_due s ≡ false
+pub not_due_served : (s : Status) → s.is_served ≡ true → is_due s ≡ false
 not_due_served s served = and_right s.is_ready (not s.is_served) (not_from_true s.is_served served)
 
 next_is_due : (endpoints : List Status) (more : Bool) (t : ℕ) → has_turn endpoints (Next more) t ≡ true → is_due (status_at endpoints t) ≡ true
@@ -222,7 +222,7 @@ later_reports : (t : ℕ) (step : Step) (steps : List Step) → IsReportedIn t s
 later_reports t (Report token more) steps rest = inr rest
 later_reports t (Next more) steps rest = rest
 
-no_turns : (endpoints : List Status) (steps : List Step) (t : ℕ) → is_due (status_at endpoints t) ≡ false → (IsReportedIn t steps → ⊥) → turns_of t endpoints steps ≡ 0
+pub no_turns : (endpoints : List Status) (steps : List Step) (t : ℕ) → is_due (status_at endpoints t) ≡ false → (IsReportedIn t steps → ⊥) → turns_of t endpoints steps ≡ 0
 no_turns endpoints [] t due none = refl
 no_turns endpoints (step ∷ steps) t due none =
     let without = no_turn_unawaited endpoints step steps t due none in
@@ -231,10 +231,10 @@ no_turns endpoints (step ∷ steps) t due none =
 
 -- ---- a round
 
-begun_at : (endpoints : List Status) (t : ℕ) → t < length endpoints → status_at (begun endpoints) t ≡ unserved (status_at endpoints t)
+pub begun_at : (endpoints : List Status) (t : ℕ) → t < length endpoints → status_at (begun endpoints) t ≡ unserved (status_at endpoints t)
 begun_at endpoints t inside = get_or-map unserved endpoints t no_endpoint no_endpoint inside
 
-begun_not_due : (endpoints : List Status) (t : ℕ) → (status_at endpoints t).is_ready ≡ false → is_due (status_at (begun endpoints) t) ≡ false
+pub begun_not_due : (endpoints : List Status) (t : ℕ) → (status_at endpoints t).is_ready ≡ false → is_due (status_at (begun endpoints) t) ≡ false
 begun_not_due endpoints t unready = elim (cases_lt t (length endpoints)) [
   | inl inside ↦ ap is_due (begun_at endpoints t inside) ∙ unready_not_due (unserved (status_at endpoints t)) unready
   | inr outside ↦ ap is_due (get_or_past (begun endpoints) t no_endpoint (let l = length-map endpoints unserved in omega (arith, l, outside)))

@@ -7,6 +7,7 @@ use borrow.Rule.Slice.PartMut.{put_mid}
 use native.Mathlib.Numerals.{add-one}
 use Rattle.addresses.specs.declared.address.Addr.{Addr}
 use Rattle.semantics.specs.declared.limits.TheConstants.{MAX_DATAGRAM}
+use Rattle.server.proofs.Reported.{reported_more, reported_none}
 use Rattle.server.specs.Calls.{Call, Received, HasReported}
 use Rattle.server.specs.declared.link.LinkError.{LinkError}
 use Rattle.server.specs.declared.link.Endpoint.{Endpoint}
@@ -124,16 +125,6 @@ long_waits buffer n from h = cond-false (leb n MAX_DATAGRAM) (Datagram (take n b
 
 -- ---- a filling
 
-pub none_reported : (before : Option (List Call)) → HasReported before before []
-none_reported None = refl
-none_reported (Some calls) = sym (append-nil calls)
-
-reported_more : (before between after : Option (List Call)) (first more : List Call) → HasReported before between first → HasReported between after more → HasReported before after (first ++ more)
-reported_more None between after first more f m = subst (λ (b : Option (List Call)). HasReported b after more) f m
-reported_more (Some calls) None after first more f m = subst (λ (a : Option (List Call)). HasReported (Some calls) a (first ++ more)) (sym m) tt
-reported_more (Some calls) (Some called) None first more f m = tt
-reported_more (Some calls) (Some called) (Some last) first more f m = m ∙ ap (λ (l : List Call). l ++ more) f ∙ append_assoc calls first more
-
 datagrams_push : (rs : List Receive) (r : Receive) → AreDatagrams rs → IsReceive r true → AreDatagrams (rs ++ r ∷ [])
 datagrams_push [] r all is = (is, tt)
 datagrams_push (x ∷ rs) r all is = (all.0, datagrams_push rs r all.1 is)
@@ -189,13 +180,13 @@ unfilled endpoint calls old = record {
   ending = None;
   each = tt;
   last = tt;
-  reported = none_reported calls;
+  reported = reported_none calls;
   waits = sym (append-nil old);
   unfilled = λ some. refl;
 }
 
 pub nothing_yet : (endpoint : Endpoint) (calls : Option (List Call)) (new : List Waiting) → new ≡ [] → HasFilledSoFar endpoint calls calls new
-nothing_yet endpoint calls new none = record { datagrams = []; each = tt; reported = none_reported calls; waits = none }
+nothing_yet endpoint calls new none = record { datagrams = []; each = tt; reported = reported_none calls; waits = none }
 
 pub stops : (endpoint : Endpoint) (before between after : Option (List Call)) (old waiting new : List Waiting) → HasFilledSoFar endpoint before between waiting
     → HasReceivedOne endpoint between after waiting new false → old ≡ [] → HasFilled endpoint before after old new

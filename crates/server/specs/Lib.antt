@@ -7,6 +7,7 @@ pub mod Entries
 pub mod Filling
 pub mod Nonces
 pub mod Ports
+pub mod RoundSteps
 pub mod Rounds
 pub mod Schedules
 pub mod Serving

@@ -1,5 +1,5 @@
 -- Meaning. Rounds of a server, by the calls of its schedule.
-use Rattle.std.specs.Prelude.{◌≡◌, ℕ, ◌+◌, ◌<◌, ◌≤◌, nat_lt, ◌==◌, ◌⊎◌, Bool, true, false, ◌&&◌, ◌||◌, List, [], ◌∷◌, ◌++◌, length, Option, None, if◌then◌else◌}
+use Rattle.std.specs.Prelude.{◌≡◌, ℕ, ◌+◌, ◌<◌, ◌≤◌, nat_lt, ◌==◌, ◌⊎◌, Bool, true, false, not, ◌&&◌, ◌||◌, List, [], ◌∷◌, length, Option, None, if◌then◌else◌}
 use Rattle.std.specs.List.{position, position_or_len, list_any, count_by}
 use Rattle.server.specs.Calls.{HasReported}
 use Rattle.server.specs.Schedules.{status_at, is_new, is_due, put, reported, handed_out, begun}
@@ -49,47 +49,45 @@ pub record IsFair (endpoints : List Status) : Type 0 where
   pub others : (steps : List Step) (t : ℕ) → (status_at endpoints t).is_ready ≡ false → ¬ (IsReportedIn t steps) → turns_of t (begun endpoints) steps ≡ 0
   pub twice : (rest steps : List Step) (t : ℕ) → turns_of t endpoints rest + turns_of t (begun (after_all endpoints rest)) steps ≤ 2
 
--- ---- a round, by the endpoints that had their turns
+-- ---- a round, by the turns that endpoints had
+
+-- a turn of the endpoint with a token, and whether it says that the endpoint may have more
+pub record EndpointTurn : Type 0 where
+  pub token : ℕ
+  pub more : Bool
 
 -- how many turns an endpoint had among these
-abbrev pub turn_count : ℕ → List ℕ → ℕ
-turn_count t turns = count_by (λ u. u == t) turns
+abbrev pub turn_count : ℕ → List EndpointTurn → ℕ
+turn_count t turns = count_by (λ turn. turn.token == t) turns
+
+-- whether a turn of the endpoint among these says that it may have more
+abbrev pub may_have_more : ℕ → List EndpointTurn → Bool
+may_have_more t turns = list_any (λ turn. (turn.token == t) && turn.more) turns
 
 -- an endpoint that was ready before the round, or that is reported in it
 abbrev pub is_awaited : List Status → List ℕ → ℕ → Bool
 is_awaited endpoints reports t = nat_lt t (length endpoints) && ((status_at endpoints t).is_ready || list_any (λ u. u == t) reports)
 
+-- an endpoint whose first report gives it its turn, and that is reported again
+abbrev pub is_reported_again : List Status → List ℕ → ℕ → Bool
+is_reported_again endpoints reports t = not (status_at endpoints t).is_ready && nat_lt 1 (count_by (λ u. u == t) reports)
+
 -- each of these has exactly one turn, and nothing else has any
-abbrev pub IsRound : List Status → List ℕ → List ℕ → Type 0
+abbrev pub IsRound : List Status → List ℕ → List EndpointTurn → Type 0
 IsRound endpoints reports turns = (t : ℕ) → turn_count t turns ≡ (if is_awaited endpoints reports t then 1 else 0)
 
--- the same, as the server reports its turns
-pub record HasServedRound (endpoints : List Status) (reports : List ℕ) (former latter : Option (List ℕ)) : Type 0 where
-  pub turns : List ℕ
+-- What is known of an endpoint after the round: it is ready where its turn says that it may have more, or where it was reported after
+-- its turn.
+abbrev pub status_after : List Status → List ℕ → List EndpointTurn → ℕ → Status
+status_after endpoints reports turns t = record {
+  is_ready = may_have_more t turns || is_reported_again endpoints reports t;
+  is_served = is_awaited endpoints reports t;
+}
+
+-- from some endpoints to others by a round, as the server reports its turns
+pub record HasServedRound (old new : List Status) (reports : List ℕ) (former latter : Option (List EndpointTurn)) : Type 0 where
+  pub turns : List EndpointTurn
   pub reported : HasReported former latter turns
-  pub round : IsRound endpoints reports turns
-
--- ---- steps of a round, one after the other
-
--- the endpoint that a step gives its turn, if it gives one
-abbrev pub turn_of : List Status → Step → List ℕ
-turn_of endpoints (Report token more) = if is_new (status_at endpoints token) then token ∷ [] else []
-turn_of endpoints (Next more) =
-    if nat_lt (position_or_len is_due endpoints) (length endpoints) then position_or_len is_due endpoints ∷ [] else []
-
-abbrev pub turns_in : List Status → List Step → List ℕ
-turns_in endpoints [] = []
-turns_in endpoints (step ∷ steps) = turn_of endpoints step ++ turns_in (after endpoints step) steps
-
--- what a wait reports in steps
-abbrev pub reports_in : List Step → List ℕ
-reports_in [] = []
-reports_in (Report token more ∷ steps) = token ∷ reports_in steps
-reports_in (Next more ∷ steps) = reports_in steps
-
--- from some endpoints to others by steps in which these are reported
-pub record HasGone (old new : List Status) (reports : List ℕ) (former latter : Option (List ℕ)) : Type 0 where
-  pub steps : List Step
-  pub arrives : new ≡ after_all old steps
-  pub reports_are : reports_in steps ≡ reports
-  pub reported : HasReported former latter (turns_in old steps)
+  pub round : IsRound old reports turns
+  pub count : length new ≡ length old
+  pub known : (t : ℕ) → t < length old → status_at new t ≡ status_after old reports turns t
