@@ -18,6 +18,7 @@ use Rattle.relay.specs.ByPrograms.{by_programs, by_run, of_run, of_ending, of_ve
 use Rattle.events.specs.Events.{Sending}
 use Rattle.rules.specs.ByRules.{from_client}
 use Rattle.rules.specs.Dispositions.{client_disposition}
+use Rattle.rules.specs.declared.confinement.Confinement.{Confinement}
 use Rattle.rules.specs.declared.disposition.Discard.TheVariants.{NotServed, ByProgram}
 use Rattle.rules.specs.declared.disposition.Disposition.{Disposition}
 use Rattle.rules.specs.declared.disposition.Disposition.TheVariants.{Discarded}
@@ -28,7 +29,11 @@ use Rattle.rules.specs.Systems.{SystemReply, no_answer, reply_of_relaying, outco
 use Rattle.relay.proofs.Confined.{nothing_through, nothing_sent}
 use Rattle.relay.proofs.SameNonce.{from_client_same}
 
-module _ (old : RelayContents) (given : Meta) (n moment : ℕ) where
+-- of a relay, confined by this
+module _ (was : RelayContents) (confinement : Option Confinement) (given : Meta) (n moment : ℕ) where
+  abbrev old : RelayContents
+  old = record was { programs = record was.programs { confinement = confinement } }
+
   -- the reply at a moment
   abbrev pub reply_at : SystemReply
   reply_at = if_served (by_programs old.programs) (with_nonce old.config old.config.nonce.bytes) moment given.transaction_id given.from old.rows (datagram_at old n)
@@ -46,9 +51,9 @@ module _ (old : RelayContents) (given : Meta) (n moment : ℕ) where
   run_disposition = disposition_by_run old.programs.confinement old.config moment given.from old.rows (length (datagram_at old n)) (run_at at_moment given n)
 
   -- a reply of a system makes a step
-  pub steps : (new : RelayContents) → moment ≡ moment_of old.greatest given.now → new.rows ≡ reply_at.rows → new.greatest ≡ moment → new.config ≡ old.config → new.programs ≡ old.programs → HasStepped old new (outcome_of old given n)
+  pub steps : (new : RelayContents) → moment ≡ moment_of old.greatest given.now → new.rows ≡ reply_at.rows → new.greatest ≡ moment → new.config ≡ was.config → new.programs ≡ was.programs → HasStepped was new (outcome_of old given n)
   steps new is rows greatest config programs =
-      let P : ℕ → Type 0 = λ m. HasStepped old new (outcome_at m (state_of old) (if_served (by_programs old.programs) (with_nonce old.config old.config.nonce.bytes) m given.transaction_id given.from old.rows (datagram_at old n))) in
+      let P : ℕ → Type 0 = λ m. HasStepped was new (outcome_at m (state_of old) (if_served (by_programs old.programs) (with_nonce old.config old.config.nonce.bytes) m given.transaction_id given.from old.rows (datagram_at old n))) in
       subst P is (record {
         state = λ i. record { rows = rows i; greatest = greatest i; nonce = (config i).nonce.bytes };
         config = config;
@@ -56,7 +61,7 @@ module _ (old : RelayContents) (given : Meta) (n moment : ℕ) where
       })
 
   -- where all but the frame is as it was, and the rows are
-  pub stays : (new : RelayContents) → moment ≡ moment_of old.greatest given.now → new ≡ record at_moment { frame = new.frame } → reply_at.rows ≡ old.rows → HasStepped old new (outcome_of old given n)
+  pub stays : (new : RelayContents) → moment ≡ moment_of old.greatest given.now → new ≡ record was { greatest = moment; frame = new.frame } → reply_at.rows ≡ was.rows → HasStepped was new (outcome_of old given n)
   stays new is kept rows = steps new is
       (ap (λ (r : RelayContents). r.rows) kept ∙ sym rows) (ap (λ (r : RelayContents). r.greatest) kept) (ap (λ (r : RelayContents). r.config) kept) (ap (λ (r : RelayContents). r.programs) kept)
 

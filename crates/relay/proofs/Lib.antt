@@ -1,5 +1,6 @@
 mod Advances
 mod AfterRuns
+mod Asked
 mod BoundedAnswers
 mod ChangedRows
 mod Confined
@@ -16,7 +17,6 @@ mod Played
 mod Plays
 mod Pushes
 mod ReadLines
-mod Restored
 mod SameNonce
 mod ShippedReasons
 mod ShippedRules

@@ -7,7 +7,7 @@ ghost use Rattle.events.specs.Actions.{sending_of};
 ghost use Rattle.events.specs.Events.{ToClient, ToPeer};
 ghost use Rattle.programs.specs.Runs.{planned_sending};
 ghost use Rattle.relay.specs.ByPrograms.{disposition_of_sent, let_through};
-ghost use Rattle.relay.specs.Found.{disposition_of_found, may_come, may_go, sending_of_found, held_for, window_shown, HasRoomFor};
+ghost use Rattle.relay.specs.Found.{asked, disposition_of_found, may_come, may_go, sending_of_found, held_for, window_shown, HasRoomFor};
 ghost use Rattle.relay.specs.Relays.{RelayContents};
 
 use attributes::Addr;
@@ -30,20 +30,38 @@ pub(crate) enum Found {
     Answer(Answer),
 }
 
-/// Returns whether data may go to a peer: anywhere, where programs are not confined.
-fn may_go(confinement: &Option<Confinement>, live: &LiveSlot<'_>, peer: Addr) -> bool
-    ensures { result ≡ may_go confinement.now live.now peer }
+/// Returns whether data may go to a peer: anywhere, where programs are not confined, or where that isn't asked.
+#[inline(always)]
+fn may_go(
+    confinement: &Option<Confinement>,
+    asks: bool,
+    live: &LiveSlot<'_>,
+    peer: Addr,
+) -> bool
+    ensures { result ≡ may_go (asked asks confinement.now) live.now peer }
 {
+    if !asks {
+        return true;
+    }
     match confinement {
         None => true,
         Some(confinement) => confinement.lets_reach(live, peer),
     }
 }
 
-/// Returns whether data may come from a peer: from anywhere, where programs are not confined.
-fn may_come(confinement: &Option<Confinement>, live: &LiveSlot<'_>, peer: Addr) -> bool
-    ensures { result ≡ may_come confinement.now live.now peer }
+/// Returns whether data may come from a peer: from anywhere, where programs are not confined, or where that isn't asked.
+#[inline(always)]
+fn may_come(
+    confinement: &Option<Confinement>,
+    asks: bool,
+    live: &LiveSlot<'_>,
+    peer: Addr,
+) -> bool
+    ensures { result ≡ may_come (asked asks confinement.now) live.now peer }
 {
+    if !asks {
+        return true;
+    }
     match confinement {
         None => true,
         Some(confinement) => confinement.lets_in(live, peer),
@@ -51,8 +69,8 @@ fn may_come(confinement: &Option<Confinement>, live: &LiveSlot<'_>, peer: Addr) 
 }
 
 /// Returns the finding of what verdict 2 sends, by what is live in the slot in which helpers look up. Nothing goes to an
-/// address that isn't of the allocation's family, and where programs are confined, nothing goes to a peer, or comes from one,
-/// that the client hasn't permitted.
+/// address that isn't of the allocation's family, and where programs are confined and that is asked, nothing goes to a peer, or
+/// comes from one, that the client hasn't permitted.
 /// See docs/DECISIONS.md, "One family" and "Confined programs".
 #[inline(always)]
 pub(crate) fn window_found(
@@ -60,14 +78,15 @@ pub(crate) fn window_found(
     live: &Option<LiveSlot<'_>>,
     destination: Option<Addr>,
     confinement: &Option<Confinement>,
+    asks: bool,
 ) -> Found
     ensures sends { (r : RelayContents) → AreWellFormed (rows_at r.greatest r.rows)
         → live.now ≡ held_for from (rows_at r.greatest r.rows)
-        → sending_of_found r from result ≡ let_through confinement.now from (rows_at r.greatest r.rows)
+        → sending_of_found r from result ≡ let_through (asked asks confinement.now) from (rows_at r.greatest r.rows)
         (planned_sending from (rows_at r.greatest r.rows) destination (window_shown r.frame)) }
     ensures disposition { (r : RelayContents) → AreWellFormed (rows_at r.greatest r.rows)
         → live.now ≡ held_for from (rows_at r.greatest r.rows)
-        → disposition_of_found r from result ≡ disposition_of_sent confinement.now from (rows_at r.greatest r.rows)
+        → disposition_of_found r from result ≡ disposition_of_sent (asked asks confinement.now) from (rows_at r.greatest r.rows)
         (planned_sending from (rows_at r.greatest r.rows) destination (window_shown r.frame)) }
     ensures room { (reply : List ℕ) → HasRoomFor result reply }
 {
@@ -83,7 +102,7 @@ pub(crate) fn window_found(
             if !peer.is_of_family(allocation.family) {
                 return Found::Nothing(Discard::ByProgram);
             }
-            if !may_go(confinement, live, peer) {
+            if !may_go(confinement, asks, live, peer) {
                 return Found::Stopped;
             }
             Found::WindowToPeer {
@@ -92,7 +111,7 @@ pub(crate) fn window_found(
             }
         }
         Source::Peer { addr, .. } => {
-            if !may_come(confinement, live, addr) {
+            if !may_come(confinement, asks, live, addr) {
                 return Found::Stopped;
             }
             Found::WindowToClient {

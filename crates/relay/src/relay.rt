@@ -95,6 +95,7 @@ impl Relay {
     ghost use Rattle.relay.specs.Relays.{state_of, datagram_at};
     ghost use Rattle.relay.specs.Shipped.{AreShipped};
     ghost use Rattle.rules.specs.Dispositions.{disposition_of};
+    ghost use Rattle.relay.specs.Unconfined.{asking};
     ghost use Rattle.relay.specs.Users.{after_users};
     ghost use Rattle.relay.specs.Harmless.{IsHarmless};
     ghost use Rattle.relay.specs.Steps.{disposition_of_step, outcome_of, ruled_outcome_of, after_step, lends_relay_room, HasStepped};
@@ -311,24 +312,19 @@ impl Relay {
             ≡ disposition_of_step self.old meta.entry.now n }
         ensures room { HasRoomFor result self.new.reply }
     {
-        if !self.are_shipped {
-            return self.advance(meta, n);
-        }
         self.law_shipped_are_unconfined(meta, n);
-        let confinement = self.confinement.take();
-        let found = self.advance(meta, n);
-        self.confinement = confinement;
-        found
+        self.advance(meta, n, !self.are_shipped)
     }
 
-    /// Changes all that a datagram changes, and finds what is to be sent.
+    /// As [`decide`](Relay::decide), and `asks` says whether what confines the programs is asked.
     #[inline(always)]
-    fn advance(&mut self, meta: &Meta, n: usize) -> Found
+    fn advance(&mut self, meta: &Meta, n: usize, asks: bool) -> Found
         requires { n ≤ MAX_DATAGRAM }
-        ensures stepped { HasStepped self.old self.new (outcome_of self.old meta.entry.now n) }
-        ensures found { sending_of_found self.new meta.entry.now.from result ≡ (outcome_of self.old meta.entry.now n).answer }
+        ensures stepped { HasStepped self.old self.new (outcome_of (asking asks self.old) meta.entry.now n) }
+        ensures found { sending_of_found self.new meta.entry.now.from result
+            ≡ (outcome_of (asking asks self.old) meta.entry.now n).answer }
         ensures disposition { disposition_of_found self.new meta.entry.now.from result
-            ≡ disposition_of_step self.old meta.entry.now n }
+            ≡ disposition_of_step (asking asks self.old) meta.entry.now n }
         ensures room { HasRoomFor result self.new.reply }
     {
         self.greatest = moment_of(self.greatest, meta.now);
@@ -350,6 +346,7 @@ impl Relay {
                 &helpers.live,
                 outcome.destination,
                 &self.confinement,
+                asks,
             ),
             _ => Found::Nothing(Discard::ByProgram),
         }
