@@ -12,7 +12,7 @@ use rand::rngs::StdRng;
 use rand_core::Rng;
 use replacing::{ProgramFile, Sides, UserList};
 use server::{Counters, Timer};
-use sockets::{Addresses, BindError, Endpoints, SocketOptions, Sockets};
+use sockets::{Addresses, BindError, EndpointSockets, SocketOptions, Sockets};
 use std::alloc::Global;
 use std::fs::File;
 use std::net::{Ipv4Addr, Ipv6Addr, Net};
@@ -86,7 +86,7 @@ fn bind_sockets<R: Net + AllocGlobal>(
     relayed: [u8; 4],
     rules: &[Rule],
 ) -> Result<(Sockets, PeerFilter), CommandError<'static>> {
-    let endpoints = match Endpoints::bind(rt, addresses) {
+    let endpoints = match EndpointSockets::bind(rt, addresses) {
         Ok(endpoints) => endpoints,
         Err(BindError::Address(address, reason)) => return Err(CommandError::Bind(address, reason)),
         Err(BindError::Memory) => return Err(CommandError::Memory),

@@ -4,5 +4,5 @@
 mod sockets;
 mod udp;
 
-pub use sockets::{Addresses, BindError, BindErrorKind, Endpoints, Sockets};
+pub use sockets::{Addresses, BindError, BindErrorKind, EndpointSockets, Sockets};
 pub use udp::SocketOptions;

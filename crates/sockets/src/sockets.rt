@@ -73,7 +73,7 @@ pub enum BindError {
 /// The sockets of each endpoint. No call on them waits.
 /// See docs/DECISIONS.md, "Two sockets for each slot".
 #[derive(Drop)]
-pub struct Endpoints {
+pub struct EndpointSockets {
     client: UdpSocket,
     /// The socket of IPv4 of each slot.
     slots: Vec<UdpSocket>,
@@ -87,7 +87,7 @@ pub struct Endpoints {
 /// The sockets of a server, and what was received ahead at one of them.
 #[derive(Drop)]
 pub struct Sockets {
-    endpoints: Endpoints,
+    endpoints: EndpointSockets,
     ahead: Ahead,
 }
 
@@ -146,7 +146,7 @@ fn register_all(registry: &Registry, sockets: &mut [UdpSocket], first: usize) ->
     Ok(())
 }
 
-impl Endpoints {
+impl EndpointSockets {
     /// Binds the socket of clients, then those of IPv4 of the slots in order, and then those of IPv6.
     ///
     /// # Errors
@@ -154,7 +154,7 @@ impl Endpoints {
     pub fn bind<R: Net + AllocGlobal>(
         rt: &R,
         addresses: Addresses,
-    ) -> Result<Endpoints, BindError> {
+    ) -> Result<EndpointSockets, BindError> {
         let listen = IpAddr::V4(addresses.listen);
         let client = bind_one(rt, addresses.client(), addresses.options)?;
         let port = match client.local_addr() {
@@ -163,7 +163,7 @@ impl Endpoints {
                 return Err(BindError::Address(addresses.client(), BindErrorKind::from(error)));
             }
         };
-        Ok(Endpoints {
+        Ok(EndpointSockets {
             client,
             slots: bind_slots(rt, listen, addresses)?,
             slots6: match addresses.listen6 {
@@ -197,7 +197,7 @@ impl Sockets {
     ///
     /// # Errors
     /// Where memory runs out.
-    pub fn new(alloc: Global, endpoints: Endpoints) -> Result<Sockets, AllocError> {
+    pub fn new(alloc: Global, endpoints: EndpointSockets) -> Result<Sockets, AllocError> {
         let ahead = Ahead::new(alloc)?;
         Ok(Sockets { endpoints, ahead })
     }
@@ -219,14 +219,14 @@ impl Sockets {
 
     /// Returns the number of sockets.
     pub fn count(&self) -> usize {
-        let Endpoints { slots, slots6, .. } = &self.endpoints;
+        let EndpointSockets { slots, slots6, .. } = &self.endpoints;
         slots.len().saturating_add(slots6.len()).saturating_add(1)
     }
 
     /// Has a poll report each socket under its token, when datagrams have come there: 0 is that of clients, those of IPv4 of the
     /// slots follow in order, and then those of IPv6.
     pub fn register(&mut self, poll: &Poll) -> io::Result<()> {
-        let Endpoints {
+        let EndpointSockets {
             client,
             slots,
             slots6,
@@ -253,7 +253,7 @@ impl Sockets {
     }
 }
 
-impl Link for Endpoints {
+impl Link for EndpointSockets {
     #[inline(always)]
     fn receive(&mut self, endpoint: Endpoint, into: &mut [u8]) -> Result<Receipt, LinkError> {
         receive(self.at(endpoint, self.family)?, into)
