@@ -5,13 +5,15 @@ nothing internal, and docs/DEFINITIONS.md names every file. No two files define 
 line of a page names in parentheses is in a file of definitions that it links. What a file of definitions names that
 docs/HEADLINE.md lists is listed there too, laws aside. Each file that a page links or names is there, unless it is
 one that a build makes (in a folder `out`), with as many lines as the page says, and so is each decision that the code
-names. The picture of docs/ARCHITECTURE.md is that of crates.txt. There are no more test functions than CONTRIBUTING.md
-says, and no more edits that must fail in either folder of a crate, and each edit can be applied.
+names. The picture of docs/ARCHITECTURE.md is that of crates.txt, and the calls on the path of a datagram are those of
+the sources. There are no more test functions than CONTRIBUTING.md says, and no more edits that must fail in either folder
+of a crate, and each edit can be applied.
 """
 
 import re
 import sys
 
+from lib.calls import Function, path
 from lib.crates import picture
 from lib.headline import BELIEVED, USED, is_law, named_by, words_of_tables
 from lib.program import TOP, finish
@@ -38,6 +40,8 @@ QUOTED = ("loader/src/loaded.rt", "machine/src/verified_run.rt", "relay/src/ampl
 # how many test functions there may be, and how many edits that must fail in a folder of a crate
 MOST_TESTS = 60
 MOST_EDITS = 8
+# where the path of a datagram begins
+TURN = Function("relayd", "ServedEndpoints", "serve")
 # the folders of a crate that have them: the gate tries those of the first one, tests/wrong_bodies.py those of the second one
 EDITS = ("must-fail", "wrong-bodies")
 
@@ -193,15 +197,24 @@ def failures_of_decisions():
             yield f"docs/DECISIONS.md: no code names {title}"
 
 
-def failures_of_picture():
-    """Yields the lines that the picture of docs/ARCHITECTURE.md lacks of crates.txt, or has beyond it."""
+def failures_of_lines(title, made):
+    """Yields the lines that the text after a title of docs/ARCHITECTURE.md lacks of what is made from the sources, or has beyond it."""
     text = (TOP / "docs" / "ARCHITECTURE.md").read_text(encoding="utf-8")
-    drawn = text[text.index("## Two halves"):].split("```\n")[1].splitlines()
-    made = picture()
-    for line in sorted({*drawn} ^ {*made}):
-        yield f"docs/ARCHITECTURE.md: {'crates.txt has no' if line in drawn else 'the picture lacks'} {line.strip()}"
-    if sorted(drawn) == sorted(made) and drawn != made:
-        yield "docs/ARCHITECTURE.md: the picture has another order"
+    written = text[text.index(title):].split("```\n")[1].splitlines()
+    for line in sorted({*written} ^ {*made}):
+        yield f"docs/ARCHITECTURE.md, {title}: {'not' if line in written else 'lacks'} {line.strip()}"
+    if sorted(written) == sorted(made) and written != made:
+        yield f"docs/ARCHITECTURE.md, {title}: another order"
+
+
+def failures_of_picture():
+    """Yields how the picture of docs/ARCHITECTURE.md differs from crates.txt."""
+    yield from failures_of_lines("## Two halves", picture())
+
+
+def failures_of_path():
+    """Yields how the calls on the path of a datagram differ from those of the sources."""
+    yield from failures_of_lines("## The path of a datagram", path(TURN))
 
 
 def failures_of_tests():
@@ -248,7 +261,7 @@ def main():
     """Compares all, and returns the exit status."""
     cases = (failures_of_definitions, failures_of_meaning, failures_of_names, failures_of_named_definitions,
              failures_of_pages, failures_of_searches, failures_of_functions, failures_of_headline,
-             failures_of_decisions, failures_of_picture, failures_of_tests, failures_of_edits)
+             failures_of_decisions, failures_of_picture, failures_of_path, failures_of_tests, failures_of_edits)
     failures = [found for case in cases for found in case()]
     return finish(failures, f"definitions and pages: {len(specs())} files, {len(failures)} failures")
 
