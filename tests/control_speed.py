@@ -7,14 +7,13 @@ Nothing is asserted. A figure is the best of several runs, less that of a run wi
 the process and the filling of the tables aren't counted.
 """
 
-import subprocess
 import sys
+import tempfile
 import time
 
-from lib.program import TOP, run
+from lib.measuring import built
+from lib.program import run
 
-FOLDER = TOP / "crates" / "control_speed"
-PROGRAM = FOLDER / "out" / "control_speed"
 ROUNDS = 20
 COUNT = 50_000
 CALLS = 1_000_000
@@ -28,27 +27,22 @@ REQUESTS = {
 }
 
 
-def build():
-    """Proves and builds the program where it is not up to date."""
-    subprocess.run(["rt", "run", "--", "empty", "0"], cwd=FOLDER, capture_output=True, check=True)
-
-
-def timed(method, count):
+def timed(program, method, count):
     """Returns how long a run takes, in seconds."""
     start = time.perf_counter()
-    status, _, err = run([method, str(count)], PROGRAM)
+    status, _, err = run([method, str(count)], program)
     if status:
         sys.exit(f"{method} {count}: {err}")
     return time.perf_counter() - start
 
 
-def best_times():
+def best_times(program):
     """Returns how long the work of each METHOD takes once, in seconds.
 
     Each round runs every METHOD, so that a slow moment of the machine doesn't fall on one of them alone.
     """
     rounds = [
-        {(method, count): timed(method, count) for method in ("empty", "sha1", *REQUESTS) for count in (0, COUNT)}
+        {(method, count): timed(program, method, count) for method in ("empty", "sha1", *REQUESTS) for count in (0, COUNT)}
         for _ in range(ROUNDS)
     ]
     best = {key: min(times[key] for times in rounds) for key in rounds[0]}
@@ -57,15 +51,16 @@ def best_times():
 
 
 def main():
-    """Prints a line for each kind of requests."""
-    build()
-    taken = best_times()
-    print(f"SHA-1 over a request and its reply: {taken['sha1'] * 1e6:.2f} us")
-    for method, title in REQUESTS.items():
-        part = 100 * taken["sha1"] / taken[method]
-        print(f"{title}: {1 / taken[method]:,.0f} requests a second, SHA-1 {part:.0f} %")
-    _, out, _ = run(["tables", str(CALLS)], PROGRAM)
-    print(out, end="")
+    """Builds the program, and prints a line for each kind of requests."""
+    with tempfile.TemporaryDirectory() as folder:
+        program = built("control_speed", folder)
+        taken = best_times(program)
+        print(f"SHA-1 over a request and its reply: {taken['sha1'] * 1e6:.2f} us")
+        for method, title in REQUESTS.items():
+            part = 100 * taken["sha1"] / taken[method]
+            print(f"{title}: {1 / taken[method]:,.0f} requests a second, SHA-1 {part:.0f} %")
+        _, out, _ = run(["tables", str(CALLS)], program)
+        print(out, end="")
 
 
 if __name__ == "__main__":

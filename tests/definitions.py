@@ -59,7 +59,8 @@ def sources():
 
 def pages():
     """Returns the pages."""
-    return [*TOP.glob("*.md"), *(TOP / "docs").glob("*.md"), *CRATES.glob("*/README.md")]
+    return [*TOP.glob("*.md"), *(TOP / "docs").glob("*.md"), *CRATES.glob("*/README.md"),
+            *(TOP / "tests").glob("measuring/*/README.md")]
 
 
 def failures_of_definitions():

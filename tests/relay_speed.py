@@ -19,14 +19,15 @@ import sys
 import tempfile
 import time
 
+from lib.measuring import built
 from lib.program import PROGRAM as RELAYD
 from lib.program import TOP, assembled, build
 from lib.rules import (
     ALLOCATE, CHANNEL_BIND, CHANNEL_NUMBER, CREATE_PERMISSION, LIFETIME, NONCE, REALM, TRANSPORT, USERNAME,
     XOR_PEER_ADDRESS, address_value, key_of, line_of, message)
 
-FOLDER = TOP / "crates" / "relay_speed"
-PROGRAM = FOLDER / "out" / "relay_speed"
+# the program that steps
+STEPPER = "relay_speed"
 ROUNDS = 5
 COUNT = 200_000
 # how many steps the instructions are counted of
@@ -141,8 +142,8 @@ def said_of(count, sends):
 
 def timed(words, lines, line, sends):
     """Returns how long the steps over a line's datagram take, in seconds, after those of other lines."""
-    slots, *relay = words
-    with subprocess.Popen([PROGRAM, slots, str(COUNT), *relay], stdin=subprocess.PIPE, stdout=subprocess.PIPE, text=True) as process:
+    program, slots, *relay = words
+    with subprocess.Popen([program, slots, str(COUNT), *relay], stdin=subprocess.PIPE, stdout=subprocess.PIPE, text=True) as process:
         process.stdin.write("\n".join([*lines, line, ""]))
         process.stdin.close()
         answers = [process.stdout.readline() for _ in lines]
@@ -157,7 +158,7 @@ def timed(words, lines, line, sends):
 def print_steps(folder):
     """Prints a line for each datagram, each size of the tables, and each pair of programs, unconfined and confined."""
     lines = {name: setup(*tables) for name, tables in TABLES.items()}
-    cases = [(f"{title}, {name}, {relay}", [str(tables[0]), *words], lines[name], line, sends)
+    cases = [(f"{title}, {name}, {relay}", [folder / STEPPER, str(tables[0]), *words], lines[name], line, sends)
              for name, tables in TABLES.items() for title, line, sends in datagrams(*tables) for relay, words in relays(folder)]
     # each round runs every case, so that a slow moment of the machine doesn't fall on one of them alone
     rounds = [[timed(*case) for _, *case in cases] for _ in range(ROUNDS)]
@@ -168,7 +169,7 @@ def print_steps(folder):
 def instructions(folder, words, text, sends):
     """Returns how many instructions the program takes for events, by valgrind."""
     tool = ["valgrind", "--tool=callgrind", f"--callgrind-out-file={folder / 'callgrind.out'}"]
-    ran = subprocess.run([*tool, PROGRAM, *words], input=text, capture_output=True, text=True, check=True)
+    ran = subprocess.run([*tool, folder / STEPPER, *words], input=text, capture_output=True, text=True, check=True)
     if not ran.stdout.endswith(said_of(int(words[1]), sends)):
         sys.exit(ran.stdout[-200:])
     return int(re.search(r"Collected : (\d+)", ran.stderr)[1])
@@ -240,12 +241,11 @@ def print_replays(folder):
 
 
 def main():
-    """Builds both programs where they are not up to date, and prints all figures, or the numbers of instructions."""
-    with open(FOLDER / "stdin", encoding="ascii") as events:
-        subprocess.run(["rt", "run", "--", "1", "0", "unconfined"], cwd=FOLDER, stdin=events, capture_output=True, check=True)
+    """Builds both programs, and prints all figures, or the numbers of instructions."""
     build()
     with tempfile.TemporaryDirectory() as name:
         folder = pathlib.Path(name)
+        built(STEPPER, folder)
         if sys.argv[1:] == ["--instructions"]:
             print_instructions(folder)
         else:

@@ -13,10 +13,9 @@ import sys
 import tempfile
 from typing import NamedTuple
 
+from lib.measuring import built
 from lib.program import TOP, assembled, build
 
-FOLDER = TOP / "crates" / "run_speed"
-PROGRAM = FOLDER / "out" / "run_speed"
 SOURCE = TOP / "tests" / "run_speed.c"
 COMPILED = TOP / "examples" / "c" / "compiled"
 ROUNDS = 11
@@ -90,16 +89,16 @@ class Taken(NamedTuple):
     threaded: float
 
 
-def measure(tools, side, program, datagram):
+def measure(runner, tools, side, program, datagram):
     """Returns the steps of a program over a datagram, and what it takes by the lowest times.
 
     Different verdicts end the script.
     """
-    first = printed([PROGRAM, side, program, datagram.hex(), "0"])
+    first = printed([runner, side, program, datagram.hex(), "0"])
     count = str(max(1, int(STEPS / first["steps"] / ROUNDS)))
     rounds = []
     for _ in range(ROUNDS):
-        found = printed([PROGRAM, side, program, datagram.hex(), count])
+        found = printed([runner, side, program, datagram.hex(), count])
         beside = [printed([tool, program, datagram.hex(), count]) for tool in tools]
         for other in beside:
             if found["verdict"] != other["verdict"]:
@@ -127,17 +126,16 @@ def programs():
 
 
 def main():
-    """Prints a line for each program."""
+    """Builds what is measured, and prints a line for each program."""
     build()
-    subprocess.run(["rt", "run", "--", "client", "b7000000000000009500000000000000", "00", "0"], cwd=FOLDER,
-                   capture_output=True, check=True)
     with tempfile.TemporaryDirectory() as name:
         folder = pathlib.Path(name)
+        runner = built("run_speed", folder)
         tools = folder / "switch", folder / "threaded"
         for tool, flags in zip(tools, ([], ["-DTHREADED"])):
             subprocess.run(["gcc", "-O2", *flags, "-o", tool, SOURCE], check=True)
         for title, side, text, datagram in programs():
-            taken = measure(tools, side, digits_of(folder, text), datagram)
+            taken = measure(runner, tools, side, digits_of(folder, text), datagram)
             print(f"{title}: {taken.steps} steps, a start {taken.start:.1f} ns, a run {taken.run:.1f}, "
                   f"{taken.run / taken.steps:.2f} an instruction; in C {taken.switch:.1f} and threaded {taken.threaded:.1f}; "
                   f"ratios {taken.run / taken.switch:.2f} and {taken.run / taken.threaded:.2f}", flush=True)

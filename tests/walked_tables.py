@@ -6,43 +6,20 @@ proved of the copies. The names end in `.txt`, since the merge gate refuses a fi
 """
 
 import re
-import shutil
 import subprocess
 import sys
 import tempfile
 from concurrent.futures import ThreadPoolExecutor
 from pathlib import Path
 
+from lib.crates import copy
 from lib.program import TOP
 
-CRATES = TOP / "crates"
 WALKED = TOP / "tests" / "walked_tables"
 TESTS = "control_tests"
 # the files of the crate that search, of which the walked body has none
 SEARCHES = ["clients.rt", "search.rt"]
-LINE = re.compile(r"^(\w+).*?:(.*)$", re.MULTILINE)
 PASSED = re.compile(r"^test result: ok\. (\d+) passed; 0 failed; 0 ignored; 0 filtered out$", re.MULTILINE)
-
-
-def libraries():
-    """Returns the libraries that each crate of crates.txt uses, by its name."""
-    text = (TOP / "crates.txt").read_text(encoding="utf-8")
-    return {name: used.split() for name, used in LINE.findall(text)}
-
-
-def needed(name, used):
-    """Returns the names of a crate and of those of the repository below it."""
-    return {name}.union(*(needed(library, used) for library in used[name] if library in used))
-
-
-def copy(folder):
-    """Copies the crate of the tests and those below it to a folder."""
-    used = libraries()
-    names = sorted(needed(TESTS, used))
-    for name in names:
-        shutil.copytree(CRATES / name, folder / "crates" / name, ignore=shutil.ignore_patterns("out"))
-    lines = [f"{name}: {' '.join(used[name])}\n" for name in names]
-    (folder / "crates.txt").write_text("".join(lines), encoding="utf-8")
 
 
 def walk(folder):
@@ -69,8 +46,8 @@ def main():
     """Runs the tests over both bodies at once, and returns the exit status."""
     with tempfile.TemporaryDirectory() as name, ThreadPoolExecutor() as pool:
         sorted_body, walked_body = Path(name, "sorted"), Path(name, "walked")
-        copy(sorted_body)
-        copy(walked_body)
+        copy([TESTS], sorted_body)
+        copy([TESTS], walked_body)
         walk(walked_body)
         (count, failures), (walked_count, walked_failures) = pool.map(passed, (sorted_body, walked_body))
     failures += walked_failures

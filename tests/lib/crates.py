@@ -1,4 +1,6 @@
-"""The crates of crates.txt, and their picture in docs/ARCHITECTURE.md."""
+"""The crates of crates.txt, copies of them, and their picture in docs/ARCHITECTURE.md."""
+
+import shutil
 
 from lib.program import TOP
 
@@ -9,11 +11,16 @@ PARTS = [("below both halves", (False, False)), ("programs", (True, False)), ("m
          ("where they meet", (True, True))]
 
 
-def used():
-    """Returns the crates of the repository, each with those that it names, in the order of crates.txt."""
+def named():
+    """Returns the crates of the repository, each with the libraries that it names, in the order of crates.txt."""
     lines = (TOP / "crates.txt").read_text(encoding="utf-8").splitlines()
-    named = {name: libraries.split() for name, _, libraries in (line.partition(":") for line in lines if line and line[0] != "#")}
-    return {name: [library for library in libraries if library in named] for name, libraries in named.items()}
+    return {name: libraries.split() for name, _, libraries in (line.partition(":") for line in lines if line and line[0] != "#")}
+
+
+def used():
+    """Returns the crates of the repository, each with those of them that it names, in the order of crates.txt."""
+    crates = named()
+    return {name: [library for library in libraries if library in crates] for name, libraries in crates.items()}
 
 
 def reached(crates):
@@ -22,6 +29,17 @@ def reached(crates):
     for name, libraries in crates.items():
         found[name] = set(libraries).union(*(found[library] for library in libraries))
     return found
+
+
+def copy(names, folder):
+    """Copies crates and those below them to a folder, as a repository of their own, without what is built."""
+    crates, below = named(), reached(used())
+    wanted = set(names).union(*(below[name] for name in names))
+    for name in wanted:
+        shutil.copytree(TOP / "crates" / name, folder / "crates" / name, ignore=shutil.ignore_patterns("out"))
+    lines = [f"{name}: {' '.join(libraries)}\n" for name, libraries in crates.items() if name in wanted]
+    (folder / "crates.txt").write_text("".join(lines), encoding="utf-8")
+    shutil.copy(TOP / "HANDLES", folder)
 
 
 def picture():
