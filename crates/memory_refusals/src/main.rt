@@ -9,7 +9,7 @@ use insn::{Insn, decode};
 use loader::{Loaded, load};
 use machine::Frame;
 use relay::Relay;
-use sample_relay::config;
+use setup::sample::config;
 use std::alloc::Global;
 use std::env;
 use std::fmt::Display;

@@ -3,6 +3,7 @@
 
 use control::Config;
 use relay::{Relay, ReplayError};
+use setup::sample;
 use std::alloc::{AllocError, Global};
 use std::process::Abort;
 use std::test::Fail;
@@ -117,12 +118,12 @@ pub(crate) static STORY: [(&str, &str); 23] = [
 
 /// Returns a configuration of two slots.
 pub(crate) fn config(alloc: Global) -> Result<Config, AllocError> {
-    sample_relay::config(alloc, [203, 0, 113, 1], 2)
+    sample::config(alloc, [203, 0, 113, 1], 2)
 }
 
 /// Makes a relay with the shipped programs.
 pub(crate) fn shipped(alloc: Global) -> Result<Relay, Fail> {
-    Ok(sample_relay::shipped(alloc, config(alloc)?)?)
+    Ok(sample::shipped(alloc, config(alloc)?)?)
 }
 
 /// Returns what a relay answers to an event, a line.

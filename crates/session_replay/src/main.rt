@@ -4,7 +4,7 @@
 
 use anyhow::Result;
 use relay::{Relay, ReplayError};
-use sample_relay::{config, shipped};
+use setup::sample::{config, shipped};
 use std::alloc::Global;
 use std::io::{self, BufRead, BufReader, Write};
 use streams::Output;

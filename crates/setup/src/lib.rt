@@ -3,6 +3,7 @@
 
 mod aliases;
 mod error;
+pub mod sample;
 mod secrets;
 mod setting_up;
 mod users;

@@ -1,5 +1,4 @@
 //! The relay that tests and measurements run: one user, and the shipped programs.
-#![tactic(auto)]
 
 ghost use Rattle.std.specs.Prelude.{◌≡◌, IfOk};
 ghost use Rattle.relay.specs.Shipped.{AreShipped};
