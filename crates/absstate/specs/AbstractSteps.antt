@@ -23,7 +23,7 @@ use Rattle.insn.specs.declared.instruction.Operand.{Operand}
 use Rattle.insn.specs.declared.instruction.Operand.TheVariants as operand
 use Rattle.insn.specs.declared.instruction.Insn.{Insn}
 use Rattle.insn.specs.declared.instruction.Insn.TheVariants as insn
-use Rattle.fallible.specs.Fallible.{◌>>=◌, check}
+use Rattle.basics.specs.Fallible.{◌>>=◌, check}
 use Rattle.semantics.specs.Access.{is_within, index_within, stack_first, headroom_first, group_of, second_group, third_group, last_group, is_aligned}
 use Rattle.semantics.specs.Loading.{field_at}
 use Rattle.semantics.specs.Calls.{helper_of, signature_of, argument_at}

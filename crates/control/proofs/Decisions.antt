@@ -1,7 +1,7 @@
 -- Decisions: what they grant, and the rows that follow.
 use Rattle.std.proofs.Common.{◌≡◌, ℕ, Bool, true, false, nat_eq, ok_or, List, [], ◌∷◌, Option, Some, None, option_map, Result, Ok, Err, is_ok, true≢false, sym, ap, ◌∙◌, refl, subst}
 use Rattle.std.specs.List.{list_all}
-use Rattle.fallible.specs.Fallible.{◌>>=◌, check}
+use Rattle.basics.specs.Fallible.{◌>>=◌, check}
 use Rattle.stun.specs.Attributes.{values_of}
 use Rattle.stun.specs.Messages.{Parts, message_of}
 use Rattle.stun.specs.declared.registry.attribute.TheConstants.{XOR_PEER_ADDRESS}

@@ -2,7 +2,7 @@
 -- method in their order. The first that fails gives the error. Each test is one of RFC 8489, section 9.2.4, or RFC 8656,
 -- sections 7, 8, 10 and 12; their order is this relay's own.
 use Rattle.std.specs.Prelude.{ℕ, Bool, true, false, ◌&&◌, List, [], ◌∷◌, max, min, nat_eq, bytes_eq, Option, None, Some, option_and_then, is_some, Result, Ok, Err, ok_or, if◌then◌else◌}
-use Rattle.fallible.specs.Fallible.{◌>>=◌, check}
+use Rattle.basics.specs.Fallible.{◌>>=◌, check}
 use Rattle.stun.specs.Attributes.{values_of}
 use Rattle.stun.specs.Messages.{Parts, message_of}
 use Rattle.stun.specs.Ranges.{is_between}

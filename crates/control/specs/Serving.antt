@@ -1,7 +1,7 @@
 -- Internal. What the functions give that `respond` calls.
 use Rattle.std.specs.Prelude.{◌≡◌, ℕ, ◌+◌, ◌<◌, ◌≤◌, Bool, List, drop, Result, Ok, Err}
 use Rattle.std.specs.List.{list_all}
-use Rattle.fallible.specs.Fallible.{◌>>=◌}
+use Rattle.basics.specs.Fallible.{◌>>=◌}
 use Rattle.stun.specs.Builders.{bytes_of, parts_of, used_of, capacity_of, SameBuffer}
 use Rattle.stun.specs.Messages.{Attribute, Parts}
 use Rattle.stun.specs.declared.building.Builder.{Builder}

@@ -2,7 +2,7 @@
 -- first that fails gives the error.
 use Rattle.std.specs.Prelude.{ℕ, List, bytes_eq, Option, None, Some, Result, Ok, ok_or}
 use Rattle.std.specs.List.{position}
-use Rattle.fallible.specs.Fallible.{◌>>=◌, check}
+use Rattle.basics.specs.Fallible.{◌>>=◌, check}
 use Rattle.stun.specs.Registry.{message_integrity}
 use Rattle.stun.specs.declared.registry.attribute.TheConstants.{USERNAME, REALM, NONCE}
 use Rattle.stun.specs.Messages.{Parts}

@@ -5,8 +5,8 @@ use Rattle.std.specs.List.{before_first}
 use Rattle.std.specs.Int.{w64, from_be_bytes}
 use Rattle.base64.specs.Engines.{standard}
 use Rattle.base64.specs.GeneralPurpose.{encode_of}
-use Rattle.decimal.specs.Decimals.{decimal_in}
-use Rattle.fallible.specs.Options.{◌>>=◌, guard}
+use Rattle.basics.specs.Decimals.{decimal_in}
+use Rattle.basics.specs.Options.{◌>>=◌, guard}
 use Rattle.credentials.specs.Hmac.{hmac}
 use Rattle.credentials.specs.Keys.{key_of}
 use Rattle.credentials.specs.declared.time_limited.TimeLimited.{TimeLimited}

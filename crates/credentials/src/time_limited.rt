@@ -13,7 +13,7 @@ use crate::checking::Authenticated;
 use crate::hmac::hmac_sha1;
 use crate::key::Key;
 use base64::engine::general_purpose::STANDARD;
-use decimal::number;
+use basics::decimal::number;
 
 /// The greatest length of a name, in bytes.
 const MAX_NAME: usize = 128;

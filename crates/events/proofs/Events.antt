@@ -11,7 +11,7 @@ use Rattle.credentials.specs.Texts.{is_nonce}
 use Rattle.events.specs.Events.{Event, Nonce}
 use Rattle.events.specs.Lines.{line_of, IsEvent}
 use Rattle.events.specs.Reading.{parts_around, event_in, event_by, client_in_text, peer_in, datagram_in_text, nonce_in}
-use Rattle.fallible.specs.Options.{◌>>=◌}
+use Rattle.basics.specs.Options.{◌>>=◌}
 use Rattle.events.specs.laws.Reading.{event_in-line_of, event_in-is}
 
 module _ {P : Type 0} (slots : ℕ) (line : List ℕ) (read : P → Event) (r : Option P) (same : option_map read r ≡ event_in slots line) where

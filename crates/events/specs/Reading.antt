@@ -9,9 +9,9 @@ use Rattle.addresses.specs.declared.address.Addr.{Addr}
 use Rattle.addresses.specs.declared.address.Addr.TheVariants.{V4, V6}
 use Rattle.credentials.specs.Texts.{is_nonce}
 use Rattle.semantics.specs.declared.limits.TheConstants.{MAX_DATAGRAM}
-use Rattle.decimal.specs.Decimals.{decimal_in}
+use Rattle.basics.specs.Decimals.{decimal_in}
 use Rattle.events.specs.Events.{Event, Datagram, Nonce}
-use Rattle.fallible.specs.Options.{◌>>=◌, guard}
+use Rattle.basics.specs.Options.{◌>>=◌, guard}
 use Rattle.events.specs.declared.meta.Source.{Source}
 use Rattle.events.specs.declared.meta.Source.TheVariants.{Client, Peer}
 

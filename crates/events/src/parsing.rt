@@ -2,7 +2,7 @@
 
 ghost use Rattle.std.specs.Prelude.{◌≡◌, ℕ, ◌^◌, ◌≤◌, List, IfSome, IsSomeAnd, None, Some, option_map, length, take, if◌then◌else◌};
 ghost use Rattle.semantics.specs.declared.limits.TheConstants.{MAX_DATAGRAM};
-ghost use Rattle.decimal.specs.Decimals.{decimal_in};
+ghost use Rattle.basics.specs.Decimals.{decimal_in};
 ghost use Rattle.events.specs.Events.{Event};
 ghost use Rattle.events.specs.Lines.{line_of, IsEvent};
 ghost use Rattle.events.specs.Parsing.{event_of, FitsRoom, pair_of, source_and_rest, source_of_side};
@@ -10,8 +10,8 @@ ghost use Rattle.events.specs.Reading.{parts_around, ipv4_in, is_bracketed, ipv6
 
 use crate::meta::{Meta, Source};
 use attributes::Addr;
+use basics::decimal::number;
 use credentials::is_nonce;
-use decimal::number;
 use semantics::MAX_DATAGRAM;
 
 /// An event that a line has. The bytes of a datagram are in the room that was given.

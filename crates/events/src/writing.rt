@@ -3,7 +3,7 @@
 ghost use Rattle.std.specs.Prelude.{◌≡◌, ◌≤◌, ◌++◌, ◌∷◌, [], false, is_err, length, OnOk, OnErr};
 ghost use Rattle.std.specs.Io.KnownBytes.{Appends};
 ghost use Rattle.hex.specs.Hex.{encode_lower};
-ghost use Rattle.streams.specs.Outputs.{AppendsBeginning};
+ghost use Rattle.basics.specs.Outputs.{AppendsBeginning};
 ghost use Rattle.events.specs.Actions.{sending_of};
 ghost use Rattle.events.specs.Fields.{field_text};
 ghost use Rattle.events.specs.LentEvents.{as_event};
@@ -13,8 +13,8 @@ ghost use Rattle.events.specs.declared.writing.TheConstants.{CHUNK};
 use crate::action::Action;
 use crate::event::Event;
 use crate::fronts::{client_front, datagram_front, peer_front};
+use basics::streams::{Failed, Output};
 use std::io::Write;
-use streams::{Failed, Output};
 
 /// How many bytes are written as digits at once.
 const CHUNK: usize = 512;

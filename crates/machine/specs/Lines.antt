@@ -4,7 +4,7 @@ use Rattle.std.specs.Io.KnownBytes.{Appends}
 use Rattle.std.specs.List.{flat_map}
 use Rattle.std.proofs.Common.{sym, ap, ◌∙◌, subst, append_assoc}
 use Rattle.std.proofs.lemmas.List.{append-nil}
-use Rattle.streams.specs.Outputs.{OutputState}
+use Rattle.basics.specs.Outputs.{OutputState}
 use Rattle.insn.specs.declared.instruction.Insn.{Insn}
 use Rattle.insn.specs.Spelling.{spelling}
 use Rattle.semantics.specs.declared.fetching.Visit.{Visit}

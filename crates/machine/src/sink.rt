@@ -2,12 +2,12 @@
 
 ghost use Rattle.semantics.specs.declared.fetching.Visit.{Visit};
 
+use basics::streams::Output;
 use insn::Insn;
 use semantics::Visit;
 use std::alloc::{AllocError, Global};
 use std::io::Write;
 use std::marker::Model;
-use streams::Output;
 
 /// Receives the steps of a trace, in order.
 pub trait Sink {
@@ -102,7 +102,7 @@ impl Sink for Kept {
 
 /// An output is a sink that writes each step as a line: the slot and the instruction. It writes nothing once it has failed.
 impl<W: Write> Sink for Output<W> {
-    ghost use Rattle.streams.specs.Outputs.{OutputState};
+    ghost use Rattle.basics.specs.Outputs.{OutputState};
     ghost use Rattle.machine.specs.Lines.{WritesLine};
 
     ghost Log = { OutputState };

@@ -1,5 +1,6 @@
 //! The record of a server's events. A replay of them gives the answers of the server.
 
+use basics::streams::Output;
 use events::{Event, Meta, write_event};
 use semantics::MAX_DATAGRAM;
 use server::Recorder;
@@ -8,7 +9,6 @@ use std::io::{self, ErrorKind, Write};
 use std::mem;
 use std::os::unix::fs::OpenOptionsExt;
 use std::rt::Files;
-use streams::Output;
 use thiserror::Error;
 
 /// Room for the longest line, which is that of a peer's longest datagram.

@@ -16,7 +16,7 @@ use Rattle.insn.specs.declared.size.Size.{Size}
 use Rattle.insn.specs.declared.size.Size.TheVariants as size
 use Rattle.insn.specs.declared.width.Width.{Width}
 use Rattle.insn.specs.declared.width.Width.TheVariants.{W64}
-use Rattle.fallible.specs.Fallible.{◌>>=◌, check}
+use Rattle.basics.specs.Fallible.{◌>>=◌, check}
 use Rattle.semantics.specs.Access.{index_within, stack_first, location}
 use Rattle.semantics.specs.Calls.{helper_of, signature_of}
 use Rattle.semantics.specs.laws.Effect.{every}

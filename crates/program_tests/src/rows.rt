@@ -13,12 +13,12 @@ mod semantics_rows;
 mod verifier_rows;
 
 use asm::assemble;
+use basics::streams::Output;
 use loader::load;
 use machine::{Addr, Context, Frame, Helpers, MAX_DATAGRAM, Outcome, Side, run};
 use report::{Ask, report};
 use std::process::Abort;
 use std::test::Fail;
-use streams::Output;
 
 /// Assembles the text of a program to the bytes of its file.
 pub fn assembled<R: AllocGlobal>(rt: &R, text: &str) -> Result<Vec<u8>, Fail> {

@@ -10,7 +10,7 @@ use Rattle.semantics.specs.Calls.{helper_number, no_address, widened}
 use Rattle.semantics.specs.Machine.{AddressRecord, State}
 use Rattle.semantics.specs.declared.helper.Helper.TheVariants.{ChannelPeer, Permitted}
 use Rattle.semantics.specs.declared.helper.RecordForm.TheVariants.{Narrow, Wide}
-use Rattle.fallible.specs.Options.{◌>>=◌, guard}
+use Rattle.basics.specs.Options.{◌>>=◌, guard}
 use Rattle.programs.proofs.PeerEnds.{test_number}
 use Rattle.programs.specs.PlainSends.{padded_length, IsAddressFirst, IsDataFirst}
 use Rattle.semantics.specs.Records.{address_record, wide_record}

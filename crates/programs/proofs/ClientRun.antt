@@ -36,7 +36,7 @@ use Rattle.semantics.specs.laws.Start.{part_datagram, length-empty_cells}
 use Rattle.semantics.specs.laws.Swap.{swapped_word}
 use Rattle.semantics.specs.declared.value.Value.TheVariants.{Nothing, Scalar, Ctx, Stack, Data, End}
 use Rattle.programs.specs.Client.{client_program}
-use Rattle.fallible.specs.Options.{◌>>=◌, guard}
+use Rattle.basics.specs.Options.{◌>>=◌, guard}
 use Rattle.programs.specs.PlainSends.{padded_length, IsSendHeader, IsAddressFirst, IsDataFirst}
 use Rattle.rules.specs.Rules.{channel_data}
 use Rattle.programs.proofs.ChannelMessages.{message_of, no_header, no_data, has_message, IsFound, found_narrow, found_wide, not_found, wide_back}

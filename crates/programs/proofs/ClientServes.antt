@@ -26,7 +26,7 @@ use Rattle.events.specs.Events.{ToPeer}
 use Rattle.events.specs.declared.meta.Source.TheVariants.{Client}
 use Rattle.programs.specs.Client.{client_program}
 use Rattle.rules.specs.FastPart.{begins_as_stun, begins_as_channel_data, is_plain_send}
-use Rattle.fallible.specs.Options.{◌>>=◌}
+use Rattle.basics.specs.Options.{◌>>=◌}
 use Rattle.programs.specs.PlainSends.{padded_length, PassesTests}
 use Rattle.programs.specs.Relaying.{IsRelayStart, Relays, ServesClient}
 use Rattle.rules.specs.Rules.{client_slot, channel_data, send, send_from, to_peer}

@@ -21,7 +21,7 @@ use Rattle.semantics.specs.declared.value.Value.TheVariants.{Nothing, Scalar, Ct
 use Rattle.semantics.specs.declared.limits.TheConstants.{MAX_DATAGRAM}
 use Rattle.semantics.specs.Runs.{IsDatagram}
 use Rattle.semantics.specs.laws.Swap.{stored_again_8, stored_again_4, stored_half}
-use Rattle.fallible.specs.Options.{◌>>=◌, guard}
+use Rattle.basics.specs.Options.{◌>>=◌, guard}
 use Rattle.programs.specs.Peer.{peer_program}
 use Rattle.rules.specs.Rules.{peer_data}
 use Rattle.programs.proofs.PeerEnds.{AnswersPeer, IsPeerEnd, window_sent, test_number, channel_number}

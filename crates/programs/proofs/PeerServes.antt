@@ -18,7 +18,7 @@ use Rattle.semantics.specs.Machine.{Environment, start}
 use Rattle.semantics.specs.Runs.{IsPossible, IsSafe}
 use Rattle.events.specs.Events.{ToClient}
 use Rattle.events.specs.declared.meta.Source.TheVariants.{Peer}
-use Rattle.fallible.specs.Options.{◌>>=◌}
+use Rattle.basics.specs.Options.{◌>>=◌}
 use Rattle.programs.specs.Peer.{peer_program}
 use Rattle.programs.specs.Relaying.{IsRelayStart, ServesPeer}
 use Rattle.rules.specs.Rules.{client_at}

@@ -22,7 +22,7 @@ use Rattle.insn.specs.declared.operator.UnaryOp.TheVariants.{Mov, Neg, SignExten
 use Rattle.insn.specs.declared.condition.Condition.{Condition}
 use Rattle.insn.specs.declared.instruction.Operand.{Operand}
 use Rattle.insn.specs.declared.instruction.Insn.{Insn}
-use Rattle.fallible.specs.Fallible.{◌>>=◌}
+use Rattle.basics.specs.Fallible.{◌>>=◌}
 use Rattle.semantics.specs.Access.{location, number_in, no_pointer, cells_number, cells_bytes, part, headroom_first, written_at}
 use Rattle.semantics.specs.Calls.{helper_of, helper_number, no_address, is_valid, bytes_at, record_bytes, widened}
 use Rattle.semantics.specs.Loading.{load, load_field, load_signed, reached_value, value_in}

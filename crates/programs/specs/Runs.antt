@@ -17,7 +17,7 @@ use Rattle.tables.specs.LookUps.{allocation_of}
 use Rattle.events.specs.Events.{Sending, ToClient}
 use Rattle.events.specs.declared.meta.Source.{Source}
 use Rattle.events.specs.declared.meta.Source.TheVariants.{Client, Peer}
-use Rattle.fallible.specs.Options.{◌>>=◌}
+use Rattle.basics.specs.Options.{◌>>=◌}
 use Rattle.programs.specs.declared.verdict.TheConstants.{SENDS}
 use Rattle.rules.specs.Rules.{client_slot, client_at, to_peer}
 

@@ -13,7 +13,7 @@ use Rattle.control.specs.declared.config.Config.{Config}
 use Rattle.events.specs.Events.{Event, Datagram, Nonce, Sending}
 use Rattle.events.specs.declared.meta.Source.{Source}
 use Rattle.events.specs.declared.meta.Source.TheVariants.{Client, Peer}
-use Rattle.fallible.specs.Options.{guard}
+use Rattle.basics.specs.Options.{guard}
 use Rattle.machine.specs.Tracing.{run_over}
 use Rattle.programs.specs.Runs.{datagram_in, destination_in, environment_for, planned_sending, run_for, sent_by, window_in}
 use Rattle.programs.specs.declared.verdict.TheConstants.{SENDS}

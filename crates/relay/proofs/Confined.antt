@@ -17,7 +17,7 @@ use Rattle.tables.specs.declared.held.Held.{Held}
 use Rattle.events.specs.Events.{Event, Datagram, Nonce, Sending, ToPeer, ToClient}
 use Rattle.events.specs.declared.meta.Source.{Source}
 use Rattle.events.specs.declared.meta.Source.TheVariants.{Client, Peer}
-use Rattle.fallible.specs.Options.{◌>>=◌, guard}
+use Rattle.basics.specs.Options.{◌>>=◌, guard}
 use Rattle.programs.specs.Runs.{datagram_in, destination_in, planned_sending, run_for, window_in}
 use Rattle.programs.specs.declared.verdict.TheConstants.{SENDS}
 use Rattle.rules.specs.Permitted.{holds_as, is_permitted, is_permitted_peer, IsPermitted}

@@ -27,7 +27,7 @@ use Rattle.addresses.specs.declared.address.Addr.TheVariants.{V4, V6}
 use Rattle.attributes.specs.Values.{number_of_value}
 use Rattle.credentials.specs.Checks.{first_value, user_in}
 use Rattle.credentials.specs.declared.checking.AuthError.{AuthError}
-use Rattle.fallible.specs.Fallible.{◌>>=◌, check}
+use Rattle.basics.specs.Fallible.{◌>>=◌, check}
 use Rattle.control.specs.Control.{Decision, rows_of, result_of_change, acceptable, allocate_beside, allocate_decision, own_allocation, refresh_decision, refresh_for, requested_family, requested_lifetime, create_permission, peers_in, channel_bind, is_repeated, user_or_error, attribute_test, decision_for_user, decision, binding}
 use Rattle.control.specs.Values.{required_value}
 use Rattle.control.specs.declared.config.Config.{Config}

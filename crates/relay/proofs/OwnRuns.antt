@@ -22,7 +22,7 @@ use Rattle.tables.specs.declared.held.Held.{Held}
 use Rattle.tables.specs.laws.WellFormed.{rows_at-well_formed}
 use Rattle.events.specs.Events.{Sending, ToPeer, ToClient}
 use Rattle.events.specs.declared.meta.Source.TheVariants.{Client, Peer}
-use Rattle.fallible.specs.Options.{◌>>=◌, guard}
+use Rattle.basics.specs.Options.{◌>>=◌, guard}
 use Rattle.programs.specs.Runs.{context_for, datagram_in, destination_in, planned_sending, run_for, sent_by, slot_for, window_in}
 use Rattle.programs.specs.declared.verdict.TheConstants.{PASSES, SENDS}
 use Rattle.rules.specs.ByRules.{from_client}

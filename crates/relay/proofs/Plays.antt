@@ -7,7 +7,7 @@ use Rattle.semantics.specs.declared.limits.TheConstants.{MAX_DATAGRAM}
 use Rattle.control.specs.declared.config.Config.{Config}
 use Rattle.tables.specs.Moments.{moment_of}
 use Rattle.events.specs.Events.{Event, Datagram, Sending}
-use Rattle.streams.specs.Outputs.{AppendsBeginning}
+use Rattle.basics.specs.Outputs.{AppendsBeginning}
 use Rattle.events.specs.Lines.{answer_line}
 use Rattle.events.specs.Parsing.{event_of}
 use Rattle.events.specs.Reading.{event_in}

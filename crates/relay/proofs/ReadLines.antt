@@ -9,7 +9,7 @@ use Rattle.std.proofs.Transfers.{StopsAt-append, All-of_StopsAt}
 use Rattle.std.proofs.lemmas.List.{take_all, take_more, get_or_default, nil_from_length}
 use Rattle.std.proofs.lemmas.Option.{slice_get-get_or, slice_get_within, same_Some}
 use Rattle.std.proofs.lemmas.List.Elements.{All-nil, All-append}
-use Rattle.streams.specs.Shown.{HasShown}
+use Rattle.basics.specs.Shown.{HasShown}
 use Rattle.relay.specs.ReadLines.{IsLine}
 use Rattle.relay.specs.declared.lines.TheConstants.{MAX_LINE}
 use Rattle.relay.proofs.FirstLines.{line_in, piece_ended, piece_last}

@@ -27,7 +27,7 @@ use Rattle.tables.specs.WellFormed.{AreWellFormed}
 use Rattle.tables.specs.laws.WellFormed.{rows_at-well_formed}
 use Rattle.tables.specs.declared.held.Held.{Held}
 use Rattle.events.specs.Events.{Sending, ToClient}
-use Rattle.fallible.specs.Options.{◌>>=◌}
+use Rattle.basics.specs.Options.{◌>>=◌}
 use Rattle.events.specs.declared.meta.Source.{Source}
 use Rattle.events.specs.declared.meta.Source.TheVariants.{Client, Peer}
 use Rattle.rules.specs.declared.confinement.Confinement.{Confinement}

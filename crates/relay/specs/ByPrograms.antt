@@ -10,7 +10,7 @@ use Rattle.control.specs.declared.config.Config.{Config}
 use Rattle.events.specs.Events.{Sending}
 use Rattle.events.specs.declared.meta.Source.{Source}
 use Rattle.events.specs.declared.meta.Source.TheVariants.{Client, Peer}
-use Rattle.fallible.specs.Options.{◌>>=◌, guard}
+use Rattle.basics.specs.Options.{◌>>=◌, guard}
 use Rattle.programs.specs.Runs.{run_for, datagram_in, sent_by}
 use Rattle.programs.specs.declared.verdict.TheConstants.{PASSES}
 use Rattle.rules.specs.ByRules.{from_client}

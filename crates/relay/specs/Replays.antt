@@ -4,7 +4,7 @@ use Rattle.std.specs.Io.BufRead.{first_piece}
 use Rattle.std.specs.Io.KnownBytes.{Appends}
 use Rattle.control.specs.declared.config.Config.{Config}
 use Rattle.events.specs.Events.{Event}
-use Rattle.streams.specs.Outputs.{AppendsBeginning}
+use Rattle.basics.specs.Outputs.{AppendsBeginning}
 use Rattle.events.specs.Lines.{line_of, answer_line, IsEvent}
 use Rattle.relay.specs.ByPrograms.{Programs, by_programs}
 use Rattle.relay.specs.Reasons.{reason_of_event}

@@ -9,8 +9,8 @@ ghost use Rattle.relay.specs.declared.lines.TheConstants.{MAX_LINE};
 ghost use Rattle.relay.specs.declared.replaying.ReplayError.TheVariants as errors;
 
 use crate::replaying::ReplayError;
+use basics::streams::{Input, InputError};
 use std::io::BufRead;
-use streams::{Input, InputError};
 
 /// A line that is longer, in bytes, is no event's.
 pub const MAX_LINE: usize = 131_200;

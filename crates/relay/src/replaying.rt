@@ -2,7 +2,7 @@
 
 ghost use Rattle.std.specs.Prelude.{◌≡◌, ◌<◌, ◌^◌, ◌⊎◌, ◌++◌, ℕ, List, All, false, IfSome, is_some, is_err, IfOk, IfErr, OnOk, OnErr};
 ghost use Rattle.std.specs.Io.KnownBytes.{Appends};
-ghost use Rattle.streams.specs.Outputs.{AppendsBeginning};
+ghost use Rattle.basics.specs.Outputs.{AppendsBeginning};
 ghost use Rattle.events.specs.Actions.{sending_of};
 ghost use Rattle.events.specs.Lines.{answer_line};
 ghost use Rattle.relay.specs.ReasonTexts.{line_ending};
@@ -12,10 +12,10 @@ use crate::explaining::{reason_by, reason_if};
 use crate::lines::next_line;
 use crate::reason::{Reason, ending};
 use crate::relay::Relay;
+use basics::streams::{Failed, Input, Output};
 use events::{Action, Parsed, parse, write_answer};
 use std::alloc::Global;
 use std::io::{BufRead, Write};
-use streams::{Failed, Input, Output};
 use thiserror::Error;
 
 /// Why a replay stopped.

@@ -1,13 +1,13 @@
 //! A relay with the shipped programs, from the first request to the end of a channel. The messages and codes are worked by
 //! hand, and with the HMAC of Python's library.
 
+use basics::streams::{Input, Output};
 use control::Config;
 use relay::{Relay, ReplayError};
 use setup::sample;
 use std::alloc::{AllocError, Global};
 use std::process::Abort;
 use std::test::Fail;
-use streams::{Input, Output};
 
 /// Each event with its answer.
 pub(crate) static STORY: [(&str, &str); 23] = [

@@ -4,11 +4,11 @@
 ghost use Rattle.std.specs.Prelude.{◌≡◌, IfOk};
 
 use attributes::Addr;
+use basics::streams::Output;
 use events::{Action, write_answer};
 use semantics::MAX_DATAGRAM;
 use server::{Endpoint, Link, LinkError};
 use std::alloc::{AllocError, Global};
-use streams::Output;
 
 /// What happens to a datagram.
 #[derive(Clone, Copy, Debug, PartialEq, Eq)]

@@ -15,6 +15,7 @@ use crate::explanations::explain;
 use crate::replay_command::{ReplayOptions, replay};
 use crate::serve_command::serve;
 use asm::{AsmError, assemble};
+use basics::streams::Output;
 use clap::ArgMatches;
 use clap::error::ErrorKind as LineErrorKind;
 use command_line::{Subcommand, ValueError, line, subcommand_of};
@@ -28,7 +29,6 @@ use std::process::ExitCode;
 use std::random::RandomSource;
 use std::rt::{Clock, Env, Files};
 use std::{env, fs};
-use streams::Output;
 
 /// The exit status where a file cannot be read or written.
 const FILE_FAULT: u8 = 3;

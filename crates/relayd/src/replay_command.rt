@@ -1,12 +1,12 @@
 //! The command `replay`: replays the events of a file through a relay.
 
 use crate::options::{CommandError, Relayed, set_up, unread};
+use basics::streams::{self, Output};
 use command_line::{Options, defaults};
 use relay::{Relay, ReplayError};
 use std::fs;
 use std::io::{self, BufRead, BufReader, BufWriter, Write};
 use std::rt::Files;
-use streams::Output;
 
 /// What is replayed.
 #[derive(Clone, Copy)]

@@ -15,13 +15,13 @@ ghost use Rattle.report.specs.Texts.{end_text, program_text};
 
 use crate::error::{ReportError, fail};
 use crate::text::{Destination, Window};
+use basics::streams::Output;
 use disasm::{disassemble, disassemble_with_slots};
 use insn::{DecodeError, Insn, decode};
 use loader::{LoadError, load};
 use machine::{Addr, Context, Frame, MAX_DATAGRAM, NoAllocation, Outcome, Side, Stuck, trace};
 use std::alloc::{AllocError, Global};
 use std::io::Write;
-use streams::Output;
 use verifier::Refusal;
 
 /// The report to print on a program file.

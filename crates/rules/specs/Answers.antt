@@ -5,7 +5,7 @@ use Rattle.stun.specs.declared.registry.attribute.TheConstants.{DATA}
 use Rattle.addresses.specs.declared.address.Addr.{Addr}
 use Rattle.credentials.specs.Checks.{first_value}
 use Rattle.events.specs.Events.{Sending, ToPeer, ToClient}
-use Rattle.fallible.specs.Options.{◌>>=◌}
+use Rattle.basics.specs.Options.{◌>>=◌}
 use Rattle.rules.specs.declared.answer.Answer.{Answer}
 use Rattle.rules.specs.declared.answer.Answer.TheVariants as answer
 

@@ -9,7 +9,7 @@ use Rattle.tables.specs.LookUps.{allocation_at, channel_of, has_permission}
 use Rattle.semantics.specs.declared.limits.TheConstants.{MAX_DATAGRAM}
 use Rattle.events.specs.declared.meta.Source.{Source}
 use Rattle.events.specs.declared.meta.Source.TheVariants.{Client, Peer}
-use Rattle.fallible.specs.Fallible.{◌>>=◌, check}
+use Rattle.basics.specs.Fallible.{◌>>=◌, check}
 use Rattle.rules.specs.Rules.{message_to_client}
 use Rattle.rules.specs.Dispositions.{client_disposition, relayed_if}
 use Rattle.rules.specs.declared.disposition.Discard.{Discard}

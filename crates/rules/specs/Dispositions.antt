@@ -17,7 +17,7 @@ use Rattle.control.specs.declared.request.Request.TheVariants as request
 use Rattle.control.specs.declared.response.Response.{Response}
 use Rattle.tables.specs.Rows.{Rows, rows_at}
 use Rattle.tables.specs.LookUps.{allocation_of, peer_of, has_permission}
-use Rattle.fallible.specs.Fallible.{◌>>=◌, check}
+use Rattle.basics.specs.Fallible.{◌>>=◌, check}
 use Rattle.rules.specs.ByRules.{request_of, check_of}
 use Rattle.rules.specs.FastPart.{begins_as_stun}
 use Rattle.rules.specs.Rules.{send_indication}

@@ -18,7 +18,7 @@ use Rattle.tables.specs.LookUps.{allocation_of, allocation_at, peer_of, channel_
 use Rattle.semantics.specs.declared.limits.TheConstants.{MAX_DATAGRAM}
 use Rattle.tables.specs.declared.allocation.Allocation.{Allocation}
 use Rattle.events.specs.Events.{Sending, ToPeer, ToClient}
-use Rattle.fallible.specs.Options.{◌>>=◌, guard}
+use Rattle.basics.specs.Options.{◌>>=◌, guard}
 
 -- the type of a Send indication, and of a Data indication
 abbrev pub send_indication : ℕ

@@ -3,11 +3,11 @@
 #![tactic(auto)]
 
 use anyhow::Result;
+use basics::streams::{self, Output};
 use relay::{Relay, ReplayError};
 use setup::sample::{config, shipped};
 use std::alloc::Global;
 use std::io::{self, BufRead, BufReader, Write};
-use streams::Output;
 
 /// Room for the line of any answer, in bytes.
 const LONGEST: usize = 131_200;

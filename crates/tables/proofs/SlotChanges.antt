@@ -7,7 +7,7 @@ use Rattle.std.specs.FinMap.{FinMap, IsAntisymmetric, get, insert, len, get-inse
 use Rattle.std.proofs.lemmas.Bool.{cases_Bool, cond-true, cond-false, lt-ltb, le-ltb, le-leb}
 use Rattle.std.proofs.lemmas.List.{set-get_or}
 use Rattle.std.proofs.lemmas.Option.{same_Some, slice_get_read}
-use Rattle.fallible.specs.Fallible.{◌>>=◌, check}
+use Rattle.basics.specs.Fallible.{◌>>=◌, check}
 use Rattle.std.specs.List.{list_all}
 use Rattle.addresses.specs.Addresses.{IsAddress, ip_of, is_of_family}
 use Rattle.addresses.specs.laws.AddressOrder.{ip_total, ip_antisymmetric}

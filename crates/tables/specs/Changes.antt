@@ -1,7 +1,7 @@
 -- Meaning. Changes of the live rows at the moment of the change, or the first refusal that applies.
 use Rattle.std.specs.Prelude.{◌≡◌, ℕ, ◌+◌, List, Option, Result, Ok, Err, ok_or, slice_set, position, nat_le, is_none}
 use Rattle.std.specs.FinMap.{insert, empty, len}
-use Rattle.fallible.specs.Fallible.{◌>>=◌, check}
+use Rattle.basics.specs.Fallible.{◌>>=◌, check}
 use Rattle.std.specs.List.{list_all}
 use Rattle.addresses.specs.Addresses.{ip_of, is_of_family}
 use Rattle.addresses.specs.declared.address.Family.{Family}

@@ -5,7 +5,7 @@ use Rattle.std.specs.Option.{option_map, option_flatten}
 use Rattle.std.specs.FinMap.{insert, len}
 use Rattle.std.specs.List.{list_all}
 use Rattle.std.specs.declared.cmp.Ordering.TheVariants.{Less}
-use Rattle.fallible.specs.Fallible.{◌>>=◌, check}
+use Rattle.basics.specs.Fallible.{◌>>=◌, check}
 use Rattle.addresses.specs.Addresses.{ip_of, is_of_family}
 use Rattle.addresses.specs.declared.address.Addr.{Addr}
 use Rattle.addresses.specs.AddressOrder.{order_by_parts}

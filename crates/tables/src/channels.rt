@@ -9,10 +9,10 @@ use crate::refusal::TableError;
 use crate::search::{Row, place_of, put_at, search};
 use arrayvec::ArrayVec;
 use attributes::{Addr, law_is_address};
+use basics::steps::Steps;
 use std::cmp::Ordering;
 use std::marker::Model;
 use std::sync::ledger::Ledger;
-use steps::Steps;
 
 /// The lifetime of a channel, in seconds (RFC 8656, section 12).
 pub const CHANNEL_LIFETIME: u64 = 600;

@@ -9,8 +9,8 @@ ghost use Rattle.tables.specs.LookUps.{allocation_of, allocation_at, peer_of, ch
 use crate::allocation::Allocation;
 use crate::storage::Tables;
 use attributes::Addr;
+use basics::steps::Steps;
 use std::sync::ledger::Ledger;
-use steps::Steps;
 
 /// As [`Tables::allocation_of`]. At most 9 of the clients' addresses are compared.
 pub fn allocation_of<'a, L: Ledger>(

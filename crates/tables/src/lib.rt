@@ -22,11 +22,11 @@ mod users;
 
 pub use address::is_ipv4;
 pub use allocation::Allocation;
+pub use basics::steps::Steps;
 pub use channels::{Binding, CHANNEL_LIFETIME, Channel, FIRST_CHANNEL, LAST_CHANNEL, MAX_CHANNELS};
 pub use limits::{law_capacities, law_lifetimes};
 pub use live_slot::LiveSlot;
 pub use moment::{LATEST, moment_of};
 pub use permissions::{MAX_PERMISSIONS, PERMISSION_LIFETIME, Permission};
 pub use refusal::TableError;
-pub use steps::Steps;
 pub use storage::{MAX_ALLOCATIONS, Tables};

@@ -8,9 +8,9 @@ use crate::held::Held;
 use crate::permissions::{MAX_PERMISSIONS, Permission};
 use arrayvec::ArrayVec;
 use attributes::Addr;
+use basics::steps::Steps;
 use std::marker::{Brand, Model};
 use std::sync::ledger::{Blank, Ledger};
-use steps::Steps;
 
 /// A slot whose allocation is live at a moment, found once for several look-ups.
 ///

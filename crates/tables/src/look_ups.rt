@@ -5,9 +5,9 @@ use crate::allocation::Allocation;
 use crate::live_slot::LiveSlot;
 use crate::storage::Tables;
 use attributes::Addr;
+use basics::steps::Steps;
 use std::marker::Brand;
 use std::sync::ledger::{Blank, Ledger};
-use steps::Steps;
 
 impl Tables {
     ghost use Rattle.std.specs.Prelude.{◌≡◌, ◌<◌, IfSome, Some, length};

@@ -4,10 +4,10 @@ use crate::refusal::TableError;
 use crate::search::{Row, place_of, search};
 use arrayvec::ArrayVec;
 use attributes::Addr;
+use basics::steps::Steps;
 use std::cmp::Ordering;
 use std::marker::Model;
 use std::sync::ledger::Ledger;
-use steps::Steps;
 
 /// The lifetime of a permission, in seconds (RFC 8656, section 9).
 pub const PERMISSION_LIFETIME: u64 = 300;

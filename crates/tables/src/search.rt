@@ -5,10 +5,10 @@ ghost use Rattle.std.specs.declared.cmp.Ordering.{Ordering};
 ghost use Rattle.tables.specs.Search.{AreAscending, IsPlace, with_row};
 
 use arrayvec::ArrayVec;
+use basics::steps::Steps;
 use std::cmp::Ordering;
 use std::marker::Brand;
 use std::sync::ledger::{Blank, Ledger};
-use steps::Steps;
 
 /// A row of a list that is in the order of keys of the type `K`.
 pub(crate) trait Row<K> {

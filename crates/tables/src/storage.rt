@@ -10,10 +10,10 @@ use crate::search::{place_of, put_at, search};
 use crate::users::replace_each_user;
 use arrayvec::ArrayVec;
 use attributes::Addr;
+use basics::steps::Steps;
 use std::alloc::{AllocError, Global};
 use std::marker::{Brand, Model};
 use std::sync::ledger::{Blank, Ledger};
-use steps::Steps;
 
 /// The greatest number of slots, each of which has one allocation or none.
 pub const MAX_ALLOCATIONS: usize = 256;

@@ -5,7 +5,7 @@ use Rattle.std.proofs.lemmas.Int.{ints}
 use Rattle.insn.specs.Encoding.{slots_of, slot_count}
 use Rattle.insn.specs.declared.decoding.TheConstants.{MAX_SLOTS}
 use Rattle.insn.specs.declared.instruction.Insn.{Insn}
-use Rattle.fallible.specs.Fallible.{◌>>=◌}
+use Rattle.basics.specs.Fallible.{◌>>=◌}
 use Rattle.semantics.specs.Slots.{fetch, target, landing}
 use Rattle.semantics.specs.laws.Slot.{some_slots, begins_inside}
 use Rattle.semantics.specs.Flow.{Flow, Straight, Jumps, Forks, flow_of, flow_distance, flow_slot, branch_slot}

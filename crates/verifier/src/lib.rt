@@ -7,9 +7,9 @@ mod refusal;
 mod slices;
 mod walk;
 
+pub use basics::steps::Steps;
 pub use kept::Remains;
 pub use layout::distance;
 pub use refusal::Refusal;
 pub use slices::{Progress, Walk, verify_in_slices};
-pub use steps::Steps;
 pub use walk::{Pending, Verified, verify, verify_with};

@@ -16,6 +16,7 @@ use crate::layout::check_layout;
 use crate::refusal::Refusal;
 use crate::walk::{Path, Pending, Verified, make_step};
 use absstate::AbsState;
+use basics::steps::Steps;
 use insn::Insn;
 use interval::Domain;
 use operations::Translation;
@@ -23,7 +24,6 @@ use semantics::Program;
 use std::alloc::Global;
 use std::marker::Model;
 use std::sync::ledger::Ledger;
-use steps::Steps;
 
 /// The states of a walk between two units of work: those that wait, and those that are kept.
 #[derive(Drop)]

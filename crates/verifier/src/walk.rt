@@ -19,6 +19,7 @@ use crate::kept::Kept;
 use crate::refusal::Refusal;
 use crate::slices::verify_in_slices;
 use absstate::{AbsState, Change, Transition};
+use basics::steps::Steps;
 use insn::Insn;
 use interval::{Domain, Interval};
 use operations::Translation;
@@ -26,7 +27,6 @@ use semantics::{Branch, Fetched, Program};
 use std::alloc::{AllocError, Global};
 use std::marker::Model;
 use std::sync::ledger::Ledger;
-use steps::Steps;
 
 /// An abstract state at a slot, from which paths are still to be followed.
 #[derive(Debug, PartialEq, Eq)]

@@ -24,9 +24,9 @@ use Rattle.events.specs.Lines.{bytes_text, side_text, source_text, datagram_text
 use Rattle.events.specs.declared.meta.Meta.{Meta}
 use Rattle.events.specs.declared.meta.Source.{Source}
 use Rattle.events.specs.declared.meta.Source.TheVariants.{Client, Peer}
-use Rattle.fallible.specs.Options.{◌>>=◌, guard}
-use Rattle.decimal.specs.Decimals.{decimal_in}
-use Rattle.decimal.specs.laws.Decimals.{decimal_in-decimal, decimal_in-is}
+use Rattle.basics.specs.Options.{◌>>=◌, guard}
+use Rattle.basics.specs.Decimals.{decimal_in}
+use Rattle.basics.specs.laws.Decimals.{decimal_in-decimal, decimal_in-is}
 use Rattle.events.specs.Reading.{parts_around, has_upper, digits_in, ipv4_in, is_bracketed, ipv6_in, host_in, address_in_text, content_in, client_in_text, peer_in, datagram_in_text, nonce_in, event_in}
 
 -- ---- texts without a separator

@@ -1,12 +1,12 @@
 //! How instructions are spelled, and which file is refused by which refusal of a decoder.
 
 use super::decoded;
+use basics::streams::Output;
 use disasm::disassemble;
 use insn::{Insn, decode, encode, read_back};
 use machine::Sink;
 use std::process::Abort;
 use std::test::Fail;
-use streams::Output;
 
 /// Encoded instructions, and their lines.
 #[derive(Clone, Copy)]

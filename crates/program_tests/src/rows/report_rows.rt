@@ -1,6 +1,7 @@
 //! Bad data, bad files, outputs that fail, and outputs that keep their bytes until they are flushed.
 
 use super::{Expected, assembled, decoded, expect_printed, reported};
+use basics::streams::Output;
 use insn::Insn;
 use machine::Sink;
 use report::{Ask, report};
@@ -8,7 +9,6 @@ use std::alloc::Global;
 use std::io::{self, Write};
 use std::process::Abort;
 use std::test::Fail;
-use streams::Output;
 
 const EXITS_WITH_TWO: &str = "mov r0, 2\nexit";
 

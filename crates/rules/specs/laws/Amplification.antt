@@ -33,7 +33,7 @@ use Rattle.tables.specs.LookUps.{allocation_of, has_permission, peer_of}
 use Rattle.tables.specs.Rows.{Rows, rows_at}
 use Rattle.tables.specs.declared.allocation.Allocation.{Allocation}
 use Rattle.events.specs.Events.{Sending}
-use Rattle.fallible.specs.Options.{◌>>=◌, guard}
+use Rattle.basics.specs.Options.{◌>>=◌, guard}
 use Rattle.rules.specs.Amplification.{IsRelayed, RespondsTo, bytes_sent, challenge_length, longest_unauthenticated}
 use Rattle.rules.specs.Authentication.{IsAuthenticated}
 use Rattle.rules.specs.ByRules.{check_of, control, from_client, message, reply_to_request, reply_with, request_of}

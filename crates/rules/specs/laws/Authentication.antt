@@ -15,7 +15,7 @@ use Rattle.control.specs.declared.reply.Grant.TheVariants.{Mapped}
 use Rattle.control.specs.declared.request.Request.{Request}
 use Rattle.control.specs.declared.request.Request.TheVariants as request
 use Rattle.control.specs.declared.request.TurnRequest.{TurnRequest}
-use Rattle.fallible.specs.Fallible.{◌>>=◌, check}
+use Rattle.basics.specs.Fallible.{◌>>=◌, check}
 use Rattle.tables.specs.Rows.{Rows, rows_at}
 use Rattle.rules.specs.Authentication.{IsAuthenticated}
 use Rattle.rules.specs.ByRules.{check_of, control, from_client, message, reply_to_request, reply_with, request_of}

@@ -16,7 +16,7 @@ use Rattle.control.specs.declared.allocate.TheConstants.{UDP}
 use Rattle.control.specs.declared.config.Config.{Config}
 use Rattle.control.specs.declared.request.TurnRequest.{TurnRequest}
 use Rattle.control.specs.declared.request.TurnRequest.TheVariants as turn
-use Rattle.fallible.specs.Fallible.{◌>>=◌, check}
+use Rattle.basics.specs.Fallible.{◌>>=◌, check}
 use Rattle.tables.specs.Changes.{Change, allocation_change, bind_change, permit_change, refresh_change}
 use Rattle.tables.specs.Channels.{is_none_or}
 use Rattle.tables.specs.LookUps.{allocation_of}

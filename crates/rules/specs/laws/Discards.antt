@@ -20,9 +20,9 @@ use Rattle.semantics.specs.declared.limits.TheConstants.{MAX_DATAGRAM}
 use Rattle.events.specs.Events.{Sending, ToPeer, ToClient}
 use Rattle.events.specs.declared.meta.Source.{Source}
 use Rattle.events.specs.declared.meta.Source.TheVariants.{Client, Peer}
-use Rattle.fallible.specs.Fallible as fallible
-use Rattle.fallible.specs.Fallible.{check}
-use Rattle.fallible.specs.Options.{◌>>=◌, guard}
+use Rattle.basics.specs.Fallible as fallible
+use Rattle.basics.specs.Fallible.{check}
+use Rattle.basics.specs.Options.{◌>>=◌, guard}
 use Rattle.rules.specs.ByRules.{by_rules, message, reply_to_request, request_of}
 use Rattle.rules.specs.Discards.{discard_in, peer_test, ruled_disposition}
 use Rattle.rules.specs.Dispositions.{channel_data_test, disposition_of_message, disposition_of_request, relayed_if, send_test}

@@ -26,7 +26,7 @@ use Rattle.tables.specs.declared.held.Held.{Held}
 use Rattle.events.specs.Events.{Sending, ToClient}
 use Rattle.events.specs.declared.meta.Source.{Source}
 use Rattle.events.specs.declared.meta.Source.TheVariants.{Client, Peer}
-use Rattle.fallible.specs.Options.{◌>>=◌}
+use Rattle.basics.specs.Options.{◌>>=◌}
 use Rattle.rules.specs.ByRules.{by_rules, check_of, control, from_client, message, reply_to_request, reply_with, request_of}
 use Rattle.rules.specs.FastPart.{begins_as_stun}
 use Rattle.rules.specs.Isolation.{ActsOnItsOwn, KeepsUsersApart, LookAlike, of_client, of_other, own_rows}

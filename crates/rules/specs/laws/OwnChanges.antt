@@ -4,7 +4,7 @@ use Rattle.std.specs.Prelude.{◌≡◌, ℕ, ◌+◌, Bool, true, false, List, 
 use Rattle.std.specs.FinMap.{len}
 use Rattle.std.specs.List.{list_all}
 use Rattle.std.proofs.Common.{sym, ap, subst, ◌∙◌}
-use Rattle.fallible.specs.Fallible.{◌>>=◌, check}
+use Rattle.basics.specs.Fallible.{◌>>=◌, check}
 use Rattle.stun.specs.Messages.{Parts}
 use Rattle.stun.specs.declared.registry.ErrorCode.{ErrorCode}
 use Rattle.stun.specs.declared.registry.ErrorCode.TheVariants.{AllocationMismatch, BadRequest, PeerAddressFamilyMismatch, WrongCredentials}

@@ -21,7 +21,7 @@ use Rattle.semantics.specs.declared.limits.TheConstants.{MAX_DATAGRAM}
 use Rattle.events.specs.Events.{Sending, ToPeer, ToClient}
 use Rattle.events.specs.declared.meta.Source.{Source}
 use Rattle.events.specs.declared.meta.Source.TheVariants.{Client, Peer}
-use Rattle.fallible.specs.Options.{◌>>=◌, guard}
+use Rattle.basics.specs.Options.{◌>>=◌, guard}
 use Rattle.rules.specs.ByRules.{by_rules, control, from_client, message, reply_to_request, request_of}
 use Rattle.rules.specs.FastPart.{begins_as_stun}
 use Rattle.rules.specs.Permitted.{counted_as, holds_as, is_alias_of, is_permitted, is_permitted_peer, IsPermitted}

@@ -7,7 +7,7 @@ use Rattle.std.specs.FinMap.{get, insert, remove, len, contains_key, get-insert,
 use Rattle.std.proofs.Common.{sym, ap, subst, ◌∙◌, inl, inr, arith, is_some, is_eq}
 use Rattle.std.proofs.lemmas.Bool.{cases_Bool, cond-true, cond-false, false_from_ne_true, leb-true}
 use Rattle.std.proofs.lemmas.Option.{none-some}
-use Rattle.fallible.specs.Fallible.{◌>>=◌, check}
+use Rattle.basics.specs.Fallible.{◌>>=◌, check}
 use Rattle.addresses.specs.Addresses.{ip_of, is_of_family}
 use Rattle.addresses.specs.AddressOrder.{ip_cmp}
 use Rattle.addresses.specs.laws.AddressOrder.{ip_total, ip_antisymmetric}

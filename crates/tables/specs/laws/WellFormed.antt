@@ -8,7 +8,7 @@ use Rattle.std.proofs.Common.{sym, ap, subst, ◌∙◌, inl, inr, arith}
 use Rattle.std.proofs.lemmas.Bool.{cases_Bool, cases_eq, cond-true, cond-false, leb-true}
 use Rattle.std.proofs.lemmas.List.{length-map, length-replicate, length-set}
 use Rattle.std.proofs.lemmas.Option.{none-some, same_Some, slice_get-map}
-use Rattle.fallible.specs.Fallible.{◌>>=◌, check}
+use Rattle.basics.specs.Fallible.{◌>>=◌, check}
 use Rattle.std.specs.List.{list_all}
 use Rattle.addresses.specs.Addresses.{IsAddress, IsIpv4Address, is_of_family}
 use Rattle.addresses.specs.declared.address.Family.{Family}

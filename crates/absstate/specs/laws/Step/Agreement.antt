@@ -1,7 +1,7 @@
 -- Internal. Abstract answers that agree with the machine's: an accepted step where the machine goes on, and a refusal
 -- where it is stuck for the same reason, as far as that is claimed.
 use Rattle.std.proofs.Common.{◌≡◌, Result, Ok, Err, refl}
-use Rattle.fallible.specs.Fallible.{◌>>=◌}
+use Rattle.basics.specs.Fallible.{◌>>=◌}
 use Rattle.semantics.specs.declared.reason.Reason.{Reason}
 
 -- an accepted step is related to the machine's; a claimed refusal is the machine's own

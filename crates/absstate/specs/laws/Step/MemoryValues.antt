@@ -3,7 +3,7 @@ use Rattle.std.proofs.Common.{◌≡◌, ℕ, zero, suc, ◌+◌, ◌*◌, ◌/�
 use Rattle.std.specs.Prelude.{is_some, int_le, slice_index_or, unsigned_abs, if◌then◌else◌}
 use Rattle.std.specs.Option.{ok_or, option_map}
 use Rattle.std.proofs.lemmas.Int.{ints}
-use Rattle.fallible.specs.Fallible.{◌>>=◌, check}
+use Rattle.basics.specs.Fallible.{◌>>=◌, check}
 use Rattle.semantics.specs.Access.{is_within, index_within, part, cells_number, number_in, stack_first, headroom_first, is_pointer, is_aligned, group_of, second_group, third_group, last_group, pointer_in, touches_pointer}
 use Rattle.semantics.specs.laws.Group.{second_of_aligned, third_of_aligned, last_of_aligned}
 use Rattle.semantics.specs.Access as access

@@ -25,7 +25,7 @@ use Rattle.semantics.specs.Calls.{helper_of, signature_of, record_bytes}
 use Rattle.semantics.specs.declared.helper.Room.{Room}
 use Rattle.semantics.specs.Effects.{writable, moved_place, is_group_place}
 use Rattle.semantics.specs.Access.{index_within, stack_first, group_of, second_group, third_group, last_group}
-use Rattle.fallible.specs.Fallible.{◌>>=◌, check}
+use Rattle.basics.specs.Fallible.{◌>>=◌, check}
 use Rattle.insn.specs.declared.size.Size.TheVariants as size
 use Rattle.absstate.specs.AbstractSteps.{abstract_load_value}
 use Rattle.semantics.specs.Loading.{field_at}

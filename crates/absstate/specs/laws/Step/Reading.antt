@@ -13,7 +13,7 @@ use Rattle.insn.specs.declared.register.Reg.TheVariants as reg
 use Rattle.insn.specs.declared.size.Size.{Size}
 use Rattle.insn.specs.declared.size.Size.TheVariants as size
 use Rattle.insn.specs.declared.instruction.Insn.{Insn}
-use Rattle.fallible.specs.Fallible.{◌>>=◌}
+use Rattle.basics.specs.Fallible.{◌>>=◌}
 use Rattle.semantics.specs.Access.{index_within, stack_first, location}
 use Rattle.semantics.specs.laws.Access.{index_short}
 use Rattle.semantics.specs.Calls.{argument_at, context_value, number_value, stack_value, bytes_at, record_bytes, widened, no_inputs}

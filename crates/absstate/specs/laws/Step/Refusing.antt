@@ -20,7 +20,7 @@ use Rattle.insn.specs.declared.operator.AluOp.TheVariants.{Add, Sub}
 use Rattle.insn.specs.declared.instruction.Operand.TheVariants as operand
 use Rattle.insn.specs.declared.instruction.Insn.{Insn}
 use Rattle.insn.specs.declared.instruction.Insn.TheVariants as insn
-use Rattle.fallible.specs.Fallible.{◌>>=◌}
+use Rattle.basics.specs.Fallible.{◌>>=◌}
 use Rattle.semantics.specs.laws.Kept.{in_eleven}
 use Rattle.semantics.specs.Machine.{Context, IsContext, State}
 use Rattle.semantics.specs.Effects as effects

@@ -7,7 +7,7 @@ use Rattle.insn.specs.declared.size.Size.{Size}
 use Rattle.insn.specs.declared.size.Size.TheVariants as size
 use Rattle.semantics.specs.Access.{part}
 use Rattle.semantics.specs.laws.Context.{length_field, side_field, context_fits}
-use Rattle.fallible.specs.Fallible.{◌>>=◌}
+use Rattle.basics.specs.Fallible.{◌>>=◌}
 use Rattle.semantics.specs.Loading as loading
 use Rattle.semantics.specs.Loading.{field_at, field_value}
 use Rattle.semantics.specs.Machine.{Context, IsContext, context_bytes}

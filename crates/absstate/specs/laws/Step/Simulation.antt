@@ -19,7 +19,7 @@ use Rattle.insn.specs.declared.instruction.Operand.{Operand}
 use Rattle.insn.specs.declared.instruction.Operand.TheVariants as operand
 use Rattle.insn.specs.declared.instruction.Insn.{Insn}
 use Rattle.insn.specs.declared.instruction.Insn.TheVariants as insn
-use Rattle.fallible.specs.Fallible.{◌>>=◌, check}
+use Rattle.basics.specs.Fallible.{◌>>=◌, check}
 use Rattle.semantics.specs.Access.{location, index_within, stack_first, group_of}
 use Rattle.semantics.specs.laws.Access.{index_short}
 use Rattle.semantics.specs.declared.limits.TheConstants.{GROUPS}

@@ -16,7 +16,7 @@ use Rattle.asm.specs.declared.mnemonic.Mnemonic.{Mnemonic}
 use Rattle.asm.specs.declared.mnemonic.Mnemonic.TheVariants.{Alu, Mov, Neg, SignExtend, Swap, Jump, LongJump, JumpIf, Load, LoadSigned, StoreImm, StoreReg, LoadImm, Call, Exit}
 use Rattle.asm.specs.Lines.{Token}
 use Rattle.asm.specs.Statements.{Name, WrittenArgument, Plain, AreWritten, spelling_of, IsUnlinked, Statement, Instruction}
-use Rattle.fallible.specs.Options.{◌>>=◌}
+use Rattle.basics.specs.Options.{◌>>=◌}
 use Rattle.asm.specs.Reading.{Parse, end, register_in, number, integer, operand_in, Target, jump_target, MemoryOperand, address, name_of, only_target, one, jump, jump_if, load_statement, store_imm, store_register, exit, instruction}
 use Rattle.asm.specs.laws.Grammar.Steps.{bound, onward}
 use Rattle.asm.specs.laws.Grammar.Arguments.{register_reads, number_reads, integer_reads, operand_reads, target_reads, address_reads, SpellsTarget}

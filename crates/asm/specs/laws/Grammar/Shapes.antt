@@ -3,7 +3,7 @@ use Rattle.std.proofs.Common.{◌≡◌, List, [], ◌∷◌, ◌++◌, Option, 
 use Rattle.std.specs.Prelude.{codes, option_map}
 use Rattle.std.proofs.lemmas.Option.{none-some, same_Some}
 use Rattle.asm.specs.Lines.{Token}
-use Rattle.fallible.specs.Options.{◌>>=◌}
+use Rattle.basics.specs.Options.{◌>>=◌}
 use Rattle.asm.specs.Reading.{Parse, sign, end}
 use Rattle.asm.specs.laws.Grammar.Steps.{bound, onward, steps_grouping}
 use Rattle.asm.specs.laws.Grammar.Arguments.{Reader, before, IsReader, sign_taken}

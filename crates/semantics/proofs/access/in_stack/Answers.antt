@@ -1,6 +1,6 @@
 use Rattle.std.proofs.Common.{◌≡◌, ℕ, Result, Ok, ◌+ℤ◌, pos, to_z, of_z, w64, w16, sym, ap, ◌∙◌}
 use Rattle.std.specs.Option.{ok_or}
-use Rattle.fallible.specs.Fallible.{◌>>=◌}
+use Rattle.basics.specs.Fallible.{◌>>=◌}
 use Rattle.std.proofs.lemmas.Int.{to_z-of_z}
 use Rattle.std.proofs.lemmas.Result.{err_from_is_err_and}
 use Rattle.semantics.specs.Access.{index_within, stack_first}

@@ -1,5 +1,5 @@
 use Rattle.std.proofs.Common.{rules, ◌≡◌, ℕ, List, Result, Ok, Err, ap, sym, refl, ◌∙◌}
-use Rattle.fallible.specs.Fallible.{◌>>=◌}
+use Rattle.basics.specs.Fallible.{◌>>=◌}
 use Rattle.insn.specs.declared.register.Reg.{Reg}
 use Rattle.semantics.specs.Calls.{bytes_at, record_bytes, widened}
 use Rattle.semantics.specs.Effects.{stack_argument, record_argument}

@@ -4,7 +4,7 @@ use Rattle.std.specs.Io.KnownBytes.{Appends}
 use Rattle.events.specs.Actions.{sending_of}
 use Rattle.events.specs.Lines.{answer_line}
 use Rattle.events.specs.Reading.{event_in}
-use Rattle.streams.specs.Outputs.{AppendsBeginning}
+use Rattle.basics.specs.Outputs.{AppendsBeginning}
 use Rattle.relay.specs.ReasonTexts.{line_ending}
 use Rattle.relay.specs.declared.reason.Reason.{Reason}
 use Rattle.rules.specs.Systems.{with_nonce}

@@ -1,3 +1,0 @@
--- Internal. The modules of this folder.
-pub mod Decimals
-pub mod laws

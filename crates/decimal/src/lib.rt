@@ -1,6 +1,0 @@
-//! Decimal numbers in texts.
-#![tactic(auto)]
-
-mod digits;
-
-pub use digits::number;

@@ -1,2 +1,0 @@
-pub mod Fallible
-pub mod Options

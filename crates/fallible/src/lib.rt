@@ -1,2 +1,0 @@
-//! Steps that may fail, one after the other, as the definitions of other crates write them. It has no code.
-#![tactic(auto)]
